@@ -1,0 +1,83 @@
+-- What the crates above need to know of capacities.
+use Rattle.std.proofs.Common.{if◌then◌else◌, Option, Bool, true, false, IsTrue, ◌≡◌, ℕ, ◌*◌, ◌^◌, ◌<◌, ◌≤◌, refl, sym, ◌∙◌, arith}
+use Rattle.std.specs.declared.option.Option.TheVariants.{Some, None}
+use borrow.Author.Tests.{lt-ltb, le-ltb, le-leb, lt-leb}
+use native.Mathlib.Nat.{mul-le-mul_right}
+use native.Mathlib.Decide.{dec_lt}
+use denote.RattleType.{RattleType}
+use Rattle.std.specs.Mem.{type_size}
+use Rattle.std.specs.Align.{type_align}
+use Rattle.thin_block.specs.Capacity.{fits, Fits}
+use Rattle.thin_block.specs.Growth.{Rule, KeepsLaw, exact_capacity, fitting, ruled_capacity}
+use Rattle.thin_block.proofs.SizeFacts.{opened, closed, fits_tells, fits_yes}
+
+-- a capacity that suffices stays
+pub ruled-same : (rule : Rule) (R : RattleType) (c w : ℕ) → w ≤ c → ruled_capacity rule R c w ≡ Some c
+unfolding ruled_capacity
+ruled-same rule R c w enough = rw (le-leb w c enough) refl
+
+-- a want that no `usize` holds overflows
+pub ruled-overflow : (rule : Rule) (R : RattleType) (c w : ℕ) → c < w → 2 ^ 64 ≤ w → ruled_capacity rule R c w ≡ None
+unfolding ruled_capacity
+ruled-overflow rule R c w more high = rw (lt-leb w c more) (rw (le-ltb w (2 ^ 64) high) refl)
+
+-- for any other want the rule decides
+pub ruled-rule : (rule : Rule) (R : RattleType) (c w : ℕ) → c < w → w < 2 ^ 64 → ruled_capacity rule R c w ≡ rule (type_size R) (type_align R) c w
+unfolding ruled_capacity
+ruled-rule rule R c w more word = rw (lt-leb w c more) (rw (lt-ltb w (2 ^ 64) word) refl)
+
+-- a capacity n that grew from c for w items
+pub record Grown (R : RattleType) (c w n : ℕ) : Type 0 where
+  pub enough : w ≤ n
+  pub doubled : 2 * c ≤ n
+  pub fits : Fits R n
+
+none_some : {A B : Type 0} (x : A) → None ≡ Some x → B
+none_some x e = cc
+
+-- a growth has room for what was wanted, at least doubles, and fits
+pub ruled-grows : (rule : Rule) (R : RattleType) (c w n : ℕ) → KeepsLaw rule → c < w → ruled_capacity rule R c w ≡ Some n → Grown R c w n
+ruled-grows rule R c w n law more e = elim (dec_lt w (2 ^ 64)) [
+  | yes word ↦ (let grown = law (type_size R) (type_align R) c w n more word (sym (ruled-rule rule R c w more word) ∙ e) in record { enough = grown.enough; doubled = grown.doubled; fits = grown.fits })
+  | no high ↦ none_some n (sym (ruled-overflow rule R c w more (omega arith)) ∙ e)
+]
+
+-- a capacity that fits is below 2 ^ 63
+pub fits-small : (R : RattleType) (c : ℕ) → Fits R c → c < 2 ^ 63
+fits-small R c e = (fits_tells R c (opened R c e)).few
+
+-- what is less than a capacity that fits, fits
+pub fits-less : (R : RattleType) (c d : ℕ) → Fits R d → c ≤ d → Fits R c
+fits-less R c d e less =
+    let told = fits_tells R d (opened R d e) in
+    let few = told.few in
+    let room = told.room in
+    let under : c * type_size R ≤ d * type_size R = mul-le-mul_right (type_size R) less in
+    closed R c (fits_yes R c (omega arith) (omega arith))
+
+-- an exact capacity that suffices stays
+pub exact-same : (R : RattleType) (c w : ℕ) → w ≤ c → exact_capacity R c w ≡ Some c
+unfolding exact_capacity
+exact-same R c w enough = rw (le-leb w c enough) refl
+
+-- one that fits is the want
+pub exact-fits : (R : RattleType) (c w : ℕ) → c < w → Fits R w → exact_capacity R c w ≡ Some w
+unfolding exact_capacity fitting
+exact-fits R c w more fit = rw (lt-leb w c more, fit) refl
+
+-- and one that does not fit overflows
+pub exact-overflow : (R : RattleType) (c w : ℕ) → c < w → (Fits R w → ⊥) → exact_capacity R c w ≡ None
+unfolding exact_capacity fitting
+exact-overflow R c w more never = rw (lt-leb w c more) (not_fitting (fits (type_size R) (type_align R) w) never)
+  where
+    not_fitting : (b : Bool) → (IsTrue b → ⊥) → (if b then Some w else None) ≡ None
+    not_fitting true wrong = absurd (wrong refl)
+    not_fitting false wrong = refl
+
+-- no want past `usize::MAX` fits
+pub exact-past : (R : RattleType) (c w : ℕ) → c < w → 2 ^ 64 ≤ w → exact_capacity R c w ≡ None
+exact-past R c w more high = exact-overflow R c w more (λ fit. let small = fits-small R w fit in absurd (omega arith))
+
+pub ruleset ruled = (ruled-same, ruled-overflow, ruled-rule)
+
+pub ruleset exact = (exact-same, exact-fits, exact-overflow, exact-past)

@@ -1,0 +1,7 @@
+mod SizeFacts
+mod Walks
+mod HeaderMemory
+mod SlotMemory
+mod Sharing
+pub mod CapacityLemmas
+pub mod SlotsLemmas

@@ -1,0 +1,206 @@
+-- When a block fits: the arithmetic.
+use Rattle.std.proofs.Common.{◌≡◌, ℕ, zero, suc, ◌+◌, ◌-◌, ◌*◌, ◌/◌, ◌^◌, ◌<◌, ◌≤◌, Bool, true, false, refl, sym, ap, subst, ◌∙◌, arith, ltb, zero-mul, suc-mul}
+use borrow.Author.Tests.{lt-ltb, le-ltb, ltb-true}
+use mathlib.Core.Bool.{◌&&◌}
+use mir.Syntax.{Width, w8, w16, w32, w64, w128}
+use mir.Val.{bytes}
+use prog.Memory.{capped}
+use prog.Align.{align_w, align-bytes}
+use prog.Capped.{capped_is, capped_small}
+use denote.RattleType.{RattleType}
+use denote.Param.{layout}
+use native.Mathlib.Nat.{mul-le-mul_right}
+use Rattle.std.specs.Prelude.{max, ◌==◌, if◌then◌else◌}
+use Rattle.std.specs.declared.option.Option.TheVariants.{Some, None}
+use Rattle.std.specs.Int.{next_multiple_of}
+use Rattle.std.specs.Mem.{type_size}
+use Rattle.std.specs.Align.{type_align}
+use Rattle.std.proofs.lemmas.Nat.{div-add-mod', le-div}
+use Rattle.std.proofs.lemmas.Bool.Decides.{nat_tests}
+use Rattle.thin_block.specs.Capacity.{IsAlign, items_offset, block_align, block_bytes, is_small, fits, Fits, first}
+use Rattle.thin_block.specs.Growth.{fitting, doubling}
+
+-- ---- rounding up
+
+-- what is known of a block whose items have the alignment a and take x bytes
+pub record Rounded (a x : ℕ) : Type 0 where
+  pub least : 8 ≤ block_align a
+  pub most : block_align a ≤ 16
+  pub offset : items_offset a ≡ 16
+  pub above : x + 16 ≤ next_multiple_of (items_offset a + x) (block_align a)
+  pub tells : next_multiple_of (items_offset a + x) (block_align a) < 2 ^ 63 → x + 16 + block_align a ≤ 2 ^ 63
+  pub short : x + 16 + block_align a ≤ 2 ^ 63 → next_multiple_of (items_offset a + x) (block_align a) < 2 ^ 63
+
+rounded_to : (w : Width) (x : ℕ) → Rounded (bytes w) x
+rounded_to w8 x = record { least = omega arith; most = omega arith; offset = refl; above = omega arith; tells = λ h. omega arith; short = λ h. omega arith }
+rounded_to w16 x = record { least = omega arith; most = omega arith; offset = refl; above = omega arith; tells = λ h. omega arith; short = λ h. omega arith }
+rounded_to w32 x = record { least = omega arith; most = omega arith; offset = refl; above = omega arith; tells = λ h. omega arith; short = λ h. omega arith }
+rounded_to w64 x = record { least = omega arith; most = omega arith; offset = refl; above = omega arith; tells = λ h. omega arith; short = λ h. omega arith }
+rounded_to w128 x = record { least = omega arith; most = omega arith; offset = refl; above = omega arith; tells = λ h. omega arith; short = λ h. omega arith }
+
+-- the alignment of each type is one of the five
+pub align_known : (R : RattleType) → IsAlign (type_align R)
+align_known R = (align_w (layout R), align-bytes (layout R))
+
+pub rounded_at : (a x : ℕ) → IsAlign a → Rounded a x
+rounded_at a x is = subst (λ (k : ℕ). Rounded k x) (sym is.1) (rounded_to is.0 x)
+
+pub rounded : (R : RattleType) (x : ℕ) → Rounded (type_align R) x
+rounded R x = rounded_at (type_align R) x (align_known R)
+
+-- ---- sizes past `usize::MAX`, which the code sees as `usize::MAX`
+
+-- a product that is small has no capped factor
+pub whole_product : (c s : ℕ) → c * capped s < 2 ^ 63 → c * s ≡ c * capped s
+whole_product zero s h = zero-mul s ∙ sym (zero-mul (capped s))
+whole_product (suc c) s h =
+    let more = suc-mul c (capped s) in
+    let low : s < 2 ^ 63 = capped_small s (omega arith) in
+    ap (λ (k : ℕ). suc c * k) (sym (capped_is s (omega arith)))
+
+pub capped_product : (c s : ℕ) → c * s < 2 ^ 63 → c * capped s ≡ c * s
+capped_product zero s h = zero-mul (capped s) ∙ sym (zero-mul s)
+capped_product (suc c) s h = let more = suc-mul c s in ap (λ (k : ℕ). suc c * k) (capped_is s (omega arith))
+
+-- ---- tests
+
+both_true : (x y : Bool) → x ≡ true → y ≡ true → (x && y) ≡ true
+both_true true y e f = f
+both_true false y e f = e
+
+tells_first : (x y : Bool) → (x && y) ≡ true → x ≡ true
+tells_first true y f = refl
+tells_first false y f = f
+
+tells_second : (x y : Bool) → (x && y) ≡ true → y ≡ true
+tells_second true y f = f
+tells_second false y f = cc
+
+pub positive : (n : ℕ) → (n ≡ 0 → ⊥) → 0 < n
+positive zero never = absurd (never refl)
+positive (suc n) never = omega arith
+
+lt_of_not : (a b : ℕ) → (a ≤ b → ⊥) → b < a
+lt_of_not a b never = omega arith
+
+-- ---- when it fits
+
+-- the bytes of c items of the size s leave room for the header and the padding
+abbrev pub Small : ℕ → ℕ → ℕ → Type 0
+Small s a c = c * s + 16 + block_align a ≤ 2 ^ 63
+
+-- what a capacity that fits tells
+pub record Told (s a c : ℕ) : Type 0 where
+  pub few : c < 2 ^ 63
+  pub room : Small s a c
+  pub short : block_bytes s a c < 2 ^ 63
+
+module _ (s a c : ℕ) (is : IsAlign a) where
+  pub small_yes : c < 2 ^ 63 → Small s a c → is_small s a c ≡ true
+  small_yes few room =
+      let whole : block_bytes s a c < 2 ^ 63 = (rounded_at a (c * s) is).short room in
+      both_true (ltb c (2 ^ 63)) (ltb (block_bytes s a c) (2 ^ 63)) (lt-ltb c (2 ^ 63) few) (lt-ltb (block_bytes s a c) (2 ^ 63) whole)
+
+  pub small_tells : is_small s a c ≡ true → Told s a c
+  small_tells e =
+      let few : c < 2 ^ 63 = ltb-true c (2 ^ 63) (tells_first (ltb c (2 ^ 63)) (ltb (block_bytes s a c) (2 ^ 63)) e) in
+      let short : block_bytes s a c < 2 ^ 63 = ltb-true (block_bytes s a c) (2 ^ 63) (tells_second (ltb c (2 ^ 63)) (ltb (block_bytes s a c) (2 ^ 63)) e) in
+      record { few = few; room = (rounded_at a (c * s) is).tells short; short = short }
+
+-- the same of a type
+module _ (R : RattleType) (c : ℕ) where
+  abbrev IsSmall : Type 0
+  IsSmall = is_small (type_size R) (type_align R) c ≡ true
+
+  pub fits_yes : c < 2 ^ 63 → Small (type_size R) (type_align R) c → IsSmall
+  fits_yes few room = small_yes (type_size R) (type_align R) c (align_known R) few room
+
+  pub fits_tells : IsSmall → Told (type_size R) (type_align R) c
+  fits_tells e = small_tells (type_size R) (type_align R) c (align_known R) e
+
+  -- the closed word and the open one
+  pub opened : Fits R c → IsSmall
+  unfolding fits
+  opened e = e
+
+  pub closed : IsSmall → Fits R c
+  unfolding fits
+  closed e = e
+
+  -- the test by a division
+  pub divided : (size : ℕ) → size ≡ capped (type_size R) → 0 < size → c ≤ (2 ^ 63 - block_align (type_align R) - 16) / size → Small (type_size R) (type_align R) c
+  divided size is some few =
+      let about = rounded R 0 in
+      let q : ℕ = (2 ^ 63 - block_align (type_align R) - 16) / size in
+      let parts = div-add-mod' (2 ^ 63 - block_align (type_align R) - 16) size in
+      let under : c * size ≤ q * size = mul-le-mul_right size few in
+      let low : c * capped (type_size R) < 2 ^ 63 = subst (λ (k : ℕ). c * k < 2 ^ 63) is (omega arith) in
+      let same : c * type_size R ≡ c * size = whole_product c (type_size R) low ∙ ap (λ (k : ℕ). c * k) (sym is) in
+      omega arith
+
+  pub dividing : (size : ℕ) → size ≡ capped (type_size R) → 0 < size → Small (type_size R) (type_align R) c → c ≤ (2 ^ 63 - block_align (type_align R) - 16) / size
+  dividing size is some room =
+      let about = rounded R 0 in
+      let same : c * capped (type_size R) ≡ c * type_size R = capped_product c (type_size R) (omega arith) in
+      let same' : c * size ≡ c * type_size R = ap (λ (k : ℕ). c * k) is ∙ same in
+      le-div c (2 ^ 63 - block_align (type_align R) - 16) size some (omega arith)
+
+-- the capacity 0 fits
+pub fits_none : (R : RattleType) → is_small (type_size R) (type_align R) 0 ≡ true
+fits_none R =
+    let about = rounded R 0 in
+    let nothing = zero-mul (type_size R) in
+    fits_yes R 0 (omega arith) (omega arith)
+
+-- ---- the first capacity
+
+pub first_one : (s : ℕ) → 2 ^ 61 - 1 < capped s → 1 ≡ first s
+unfolding first
+first_one s large =
+    let above : 2 ^ 61 - 1 < s = lt_of_not s (2 ^ 61 - 1) (λ h. let same = capped_is s (omega arith) in absurd (omega arith)) in
+    rw (lt-ltb (2 ^ 61 - 1) s above) refl
+
+pub first_many : (s : ℕ) → capped s ≤ 2 ^ 61 - 1 → 4 ≡ first s
+unfolding first
+first_many s small =
+    let low = capped_small s (omega arith) in
+    let same = capped_is s (omega arith) in
+    rw (le-ltb (2 ^ 61 - 1) s (omega arith)) refl
+
+-- ---- what doubling rules
+
+first_false : (x y : Bool) → x ≡ false → (x && y) ≡ false
+first_false true y f = cc
+first_false false y f = refl
+
+fits_no : (s a c : ℕ) → 2 ^ 63 ≤ c → fits s a c ≡ false
+unfolding fits
+fits_no s a c many = first_false (ltb c (2 ^ 63)) (ltb (block_bytes s a c) (2 ^ 63)) (le-ltb c (2 ^ 63) many)
+
+-- a test that failed told that what it tests for is not so
+pub told_not : (r t : Bool) → (t ≡ true → r ≡ true) → r ≡ false → t ≡ false
+told_not r true tells e = sym (tells refl) ∙ e
+told_not r false tells e = refl
+
+-- the capacity that doubling tries
+abbrev pub tried : ℕ → ℕ → ℕ → ℕ
+tried s c w = max w (if c == 0 then first s else 2 * c)
+
+pub tried_first : (s c w d : ℕ) → c ≡ 0 → d ≡ first s → max w d ≡ tried s c w
+tried_first s c w d none is = grind (arith, nat_tests)
+
+pub tried_twice : (s c w d : ℕ) → (c ≡ 0 → ⊥) → d ≡ 2 * c → max w d ≡ tried s c w
+tried_twice s c w d some is = grind (arith, nat_tests)
+
+pub doubling_some : (s a c w n : ℕ) → n ≡ tried s c w → fits s a n ≡ true → Some n ≡ doubling s a c w
+unfolding doubling fitting
+doubling_some s a c w n is small = (λ i. if sym small i then Some n else None) ∙ ap (λ (k : ℕ). if fits s a k then Some k else None) is
+
+pub doubling_none : (s a c w n : ℕ) → n ≡ tried s c w → fits s a n ≡ false → None ≡ doubling s a c w
+unfolding doubling fitting
+doubling_none s a c w n is large = (λ i. if sym large i then Some n else None) ∙ ap (λ (k : ℕ). if fits s a k then Some k else None) is
+
+pub doubling_past : (s a c w : ℕ) → c < w → 2 ^ 63 ≤ c → None ≡ doubling s a c w
+doubling_past s a c w more many =
+    let high : w ≤ tried s c w = omega arith in
+    doubling_none s a c w (tried s c w) refl (fits_no s a (tried s c w) (omega arith))

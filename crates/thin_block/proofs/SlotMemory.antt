@@ -1,0 +1,147 @@
+-- Slots come out of a block's row of slots and go back. Assumes `Logic`.
+--     slot_out, slot_in        one slot
+--     run_out, run_in          the k slots from i on
+--     to_items, of_items       slots that hold the items xs are an array of them
+--     to_room, of_room         empty slots are room for an array; to_raw, of_raw: for one of no type
+--     reach                    how far behind the first slot a slot begins: a number that a word holds
+use Rattle.std.proofs.Common.{◌≡◌, true, ℕ, zero, suc, None, ◌+◌, ◌*◌, ◌^◌, ◌<◌, ◌≤◌, List, [], ◌∷◌, ◌++◌, length, refl, sym, ap, ◌∙◌, arith}
+use native.Mathlib.Nat.{zero-mul, suc-mul}
+use lib.ListN.{take, drop, set, get_or, take-append-drop, length-take, length-drop}
+use lib.Seq.{drop-cons, drop-drop, set_split}
+use seplogic.Ra.Ura.{Ura}
+use base.Fraction.{full_share}
+use mir.Syntax.{ty_array}
+use mir.Raw.{raw as bare}
+use base.Logic.{ent, sep, emp, via, id⊢, mono_r}
+use base.Fml.{Fml, ftrue, fsep, froom}
+use types.Logic.{Logic, sem}
+use types.Kit.{‵, ◌⊛◌, given, ◌$◌, ◌∵◌, !, qed, by, move, keep, drop as skip, use1, use2, split, learn, rewrite, frame as keeps, fsplit, fjoin, done}
+use denote.Array.{Array}
+use denote.Memory.{part_at}
+use denote.RattleType.{RattleType}
+use denote.Index.{row}
+use denote.Steps.{nothing}
+use Rattle.std.specs.Mem.{type_size}
+use Rattle.std.specs.Prelude.{Option}
+use Rattle.core.proofs.mem.Param.{El, R, el_x, elτ}
+use Rattle.core.proofs.ptr.Rows as arrays
+use Rattle.core.proofs.ptr.Rows.{times_below}
+use Rattle.thin_block.specs.Ownership.{fits_block, place, places}
+use Rattle.thin_block.specs.Slots.{full, empty, run, laid}
+use Rattle.thin_block.proofs.SizeFacts.{fits_tells}
+
+pub reach : (Rw : RattleType) (i c : ℕ) → fits_block Rw c ≡ true → i ≤ c → i * type_size Rw < 2 ^ 63
+reach Rw i c fits le =
+    let small = (fits_tells Rw c fits).room in
+    let all : c * type_size Rw < 2 ^ 63 = omega arith in
+    times_below i c (type_size Rw) (2 ^ 63) le all
+
+module _ (E : El) where
+  abbrev pub Slot : Type 0
+  Slot = Option (el_x E)
+
+  -- the bytes of an item
+  abbrev pub sz : ℕ
+  sz = type_size (R E)
+
+module _ (E : El) {M : Type 1} {𝓤 : Ura M} (𝓛 : Logic 𝓤) (b : ℕ) where
+  open 𝓛 use {H}
+
+  abbrev s : ℕ
+  s = sz E
+
+  abbrev Row : ℕ → List (Slot E) → Fml
+  Row o xs = places (R E) xs b o
+
+  cut : (xs ys : List (Slot E)) (o at : ℕ) → at ≡ length xs * s + o → ent 𝓤 (sem 𝓛 (Row o (xs ++ ys))) (sep 𝓤 (sem 𝓛 (Row o xs)) (sem 𝓛 (Row at ys)))
+  cut [] ys o at e = qed 𝓛 (‵ (Row o ys) ∷ []) ∵ rewrite ! 0 (λ (k : ℕ). ‵ (Row k ys)) {x = at} (omega (arith, zero-mul s)) refl $ nothing ! $ done !
+  cut (x ∷ xs) ys o at e =
+      let more : at ≡ suc (length xs) * s + o = e in
+      qed 𝓛 (‵ (Row o (x ∷ xs ++ ys)) ∷ []) ∵ fsplit ! $ move ! (1 ∷ []) $
+      use1 𝓛 (‵ (Row (o + s) xs) ⊛ ‵ (Row at ys)) (cut xs ys (o + s) at (omega (arith, suc-mul (length xs) s))) $ split ! $ move ! (2 ∷ 0 ∷ []) $ fjoin ! $ done !
+
+  glue : (xs ys : List (Slot E)) (o at : ℕ) → at ≡ length xs * s + o → ent 𝓤 (sep 𝓤 (sem 𝓛 (Row o xs)) (sem 𝓛 (Row at ys))) (sem 𝓛 (Row o (xs ++ ys)))
+  glue [] ys o at e = qed 𝓛 (‵ ftrue ∷ ‵ (Row at ys) ∷ []) ∵ skip ! $ rewrite ! 0 (λ (k : ℕ). ‵ (Row k ys)) {x = o} (omega (arith, zero-mul s)) refl $ done !
+  glue (x ∷ xs) ys o at e =
+      let more : at ≡ suc (length xs) * s + o = e in
+      qed 𝓛 (‵ (Row o (x ∷ xs)) ∷ ‵ (Row at ys) ∷ []) ∵ fsplit ! $ move ! (1 ∷ 2 ∷ []) $
+      use2 𝓛 (‵ (Row (o + s) (xs ++ ys))) (glue xs ys (o + s) at (omega (arith, suc-mul (length xs) s))) $ move ! (1 ∷ 0 ∷ []) $ fjoin ! $ done !
+
+  module _ (o : ℕ) (xs : List (Slot E)) (i : ℕ) where
+    before : i ≤ length xs → i * s + o ≡ length (take i xs) * s + o
+    before le = let long : i ≡ length (take i xs) = omega (arith, length-take i xs) in ap (λ k. k * s + o) long
+
+    -- the slots but for the i-th
+    abbrev pub besides : Fml
+    besides = fsep (Row o (take i xs)) (Row (i * s + o + s) (drop (suc i) xs))
+
+    pub slot_out : i < length xs → ent 𝓤 (sem 𝓛 (Row o xs)) (sep 𝓤 (sem 𝓛 (place (R E) (get_or xs i None) b (i * s + o))) (sem 𝓛 besides))
+    slot_out lt = qed 𝓛 (‵ (Row o xs) ∷ []) ∵
+        rewrite ! 0 (λ (l : List (Slot E)). ‵ (Row o l)) (sym (take-append-drop i xs) ∙ ap (λ l. take i xs ++ l) (drop-cons xs i None lt)) refl $
+        use1 𝓛 (‵ (Row o (take i xs)) ⊛ ‵ (Row (i * s + o) (get_or xs i None ∷ drop (suc i) xs))) (cut (take i xs) (get_or xs i None ∷ drop (suc i) xs) o (i * s + o) (before (omega arith))) $
+        split ! $ move ! (1 ∷ []) $ fsplit ! $ move ! (2 ∷ 1 ∷ []) $ fjoin ! $ move ! (1 ∷ []) $ done !
+
+    pub slot_in : i < length xs → (x : Slot E) → ent 𝓤 (sep 𝓤 (sem 𝓛 (place (R E) x b (i * s + o))) (sem 𝓛 besides)) (sem 𝓛 (Row o (set xs i x)))
+    slot_in lt x = qed 𝓛 (‵ (place (R E) x b (i * s + o)) ∷ ‵ besides ∷ []) ∵ move ! (1 ∷ []) $ fsplit ! $ move ! (2 ∷ 1 ∷ []) $ fjoin ! $ move ! (1 ∷ 0 ∷ []) $
+        use2 𝓛 (‵ (Row o (take i xs ++ x ∷ drop (suc i) xs))) (glue (take i xs) (x ∷ drop (suc i) xs) o (i * s + o) (before (omega arith))) $
+        rewrite ! 0 (λ (l : List (Slot E)). ‵ (Row o l)) (sym (set_split xs i x lt)) refl $ done !
+
+    module _ (k : ℕ) where
+      -- the slots but for the k from the i-th on
+      abbrev pub around : Fml
+      around = fsep (Row o (take i xs)) (Row (k * s + (i * s + o)) (drop (i + k) xs))
+
+      pub run_out : i + k ≤ length xs → (ys : List (Slot E)) → run i k xs ≡ ys → ent 𝓤 (sem 𝓛 (Row o xs)) (sep 𝓤 (sem 𝓛 (Row (i * s + o) ys)) (sem 𝓛 around))
+      run_out le ys is =
+          let rest = drop (i + k) xs in
+          let long : k ≡ length (run i k xs) = omega (arith, length-take k (drop i xs), length-drop i xs) in
+          let parted : xs ≡ take i xs ++ (run i k xs ++ rest) = sym (take-append-drop i xs) ∙ ap (λ l. take i xs ++ l) (sym (take-append-drop k (drop i xs)) ∙ ap (λ l. run i k xs ++ l) (drop-drop k i xs)) in
+          qed 𝓛 (‵ (Row o xs) ∷ []) ∵ rewrite ! 0 (λ (l : List (Slot E)). ‵ (Row o l)) parted refl $
+          use1 𝓛 (‵ (Row o (take i xs)) ⊛ ‵ (Row (i * s + o) (run i k xs ++ rest))) (cut (take i xs) (run i k xs ++ rest) o (i * s + o) (before (omega arith))) $ split ! $ move ! (1 ∷ []) $
+          use1 𝓛 (‵ (Row (i * s + o) (run i k xs)) ⊛ ‵ (Row (k * s + (i * s + o)) rest)) (cut (run i k xs) rest (i * s + o) (k * s + (i * s + o)) (ap (λ k. k * s + (i * s + o)) long)) $
+          split ! $ rewrite ! 0 (λ (l : List (Slot E)). ‵ (Row (i * s + o) l)) is refl $ move ! (2 ∷ 1 ∷ []) $ fjoin ! $ move ! (1 ∷ []) $ done !
+
+      pub run_in : i + k ≤ length xs → (ys : List (Slot E)) → length ys ≡ k → ent 𝓤 (sep 𝓤 (sem 𝓛 (Row (i * s + o) ys)) (sem 𝓛 around)) (sem 𝓛 (Row o (laid i ys xs)))
+      run_in le ys long =
+          let rest = drop (i + k) xs in
+          qed 𝓛 (‵ (Row (i * s + o) ys) ∷ ‵ around ∷ []) ∵ move ! (1 ∷ []) $ fsplit ! $ move ! (2 ∷ 1 ∷ []) $
+          use2 𝓛 (‵ (Row (i * s + o) (ys ++ rest))) (glue ys rest (i * s + o) (k * s + (i * s + o)) (ap (λ k. k * s + (i * s + o)) (sym long))) $ move ! (1 ∷ 0 ∷ []) $
+          use2 𝓛 (‵ (Row o (take i xs ++ (ys ++ rest)))) (glue (take i xs) (ys ++ rest) o (i * s + o) (before (omega arith))) $
+          rewrite ! 0 (λ (k : ℕ). ‵ (Row o (take i xs ++ (ys ++ drop (i + k) xs)))) (sym long) refl $ done !
+
+  abbrev E' : arrays.El
+  E' = record { row = E.row; laws = E.laws }
+
+  to_row : (xs : List (el_x E)) (o : ℕ) → ent 𝓤 (sem 𝓛 (Row o (full xs))) (sem 𝓛 (row (R E) full_share xs b o))
+  to_row [] o = id⊢ 𝓤 (emp 𝓤)
+  to_row (x ∷ xs) o = mono_r 𝓤 (sem 𝓛 (part_at (R E) full_share x b o)) (to_row xs (o + s))
+
+  of_row : (xs : List (el_x E)) (o : ℕ) → ent 𝓤 (sem 𝓛 (row (R E) full_share xs b o)) (sem 𝓛 (Row o (full xs)))
+  of_row [] o = id⊢ 𝓤 (emp 𝓤)
+  of_row (x ∷ xs) o = mono_r 𝓤 (sem 𝓛 (part_at (R E) full_share x b o)) (of_row xs (o + s))
+
+  pub to_items : (k : ℕ) (xs : List (el_x E)) (o : ℕ) → length xs ≡ k → ent 𝓤 (sem 𝓛 (Row o (full xs))) (sem 𝓛 (part_at (Array (R E) k) full_share xs b o))
+  to_items k xs o long = qed 𝓛 (‵ (Row o (full xs)) ∷ []) ∵ use1 𝓛 (‵ (row (R E) full_share xs b o)) (to_row xs o) $ by ! (arrays.whole E' 𝓛 full_share k xs b o long)
+
+  pub of_items : (k : ℕ) (xs : List (el_x E)) (o : ℕ) → ent 𝓤 (sem 𝓛 (part_at (Array (R E) k) full_share xs b o)) (sem 𝓛 (Row o (full xs)))
+  of_items k xs o = qed 𝓛 (‵ (part_at (Array (R E) k) full_share xs b o) ∷ []) ∵
+      use1 𝓛 (given (length xs ≡ k) (‵ (row (R E) full_share xs b o))) (arrays.apart E' 𝓛 full_share k xs b o) $ learn ! (λ _. by ! (of_row xs o))
+
+  pub of_room : (k o : ℕ) → ent 𝓤 (H.room (ty_array (elτ E) k) b o) (sem 𝓛 (Row o (empty k)))
+  of_room zero o = qed 𝓛 (‵ (froom (ty_array (elτ E) 0) b o) ∷ []) ∵ keep ! [] $ done !
+  of_room (suc k) o = qed 𝓛 (‵ (froom (ty_array (elτ E) (suc k)) b o) ∷ []) ∵
+      use1 𝓛 (‵ (froom (elτ E) b o) ⊛ ‵ (froom (ty_array (elτ E) k) b (o + s))) (𝓛.laws.room_uncons (elτ E) k b o) $ split ! $
+      use1 𝓛 (‵ (place (R E) None b o)) (𝓛.laws.room-raw (elτ E) b o) $ keeps ! $ by ! (of_room k (o + s))
+
+  pub to_room : (k o : ℕ) → ent 𝓤 (sem 𝓛 (Row o (empty k))) (H.room (ty_array (elτ E) k) b o)
+  to_room zero o = 𝓛.laws.room_nil (elτ E) b o
+  to_room (suc k) o = qed 𝓛 (‵ (Row o (empty (suc k))) ∷ []) ∵ fsplit ! $
+      use1 𝓛 (‵ (froom (elτ E) b o)) (𝓛.laws.raw-room (elτ E) b o) $ move ! (1 ∷ []) $
+      use1 𝓛 (‵ (froom (ty_array (elτ E) k) b (o + s))) (to_room k (o + s)) $ move ! (1 ∷ []) $ by ! (𝓛.laws.room_cons (elτ E) k b o)
+
+  -- the same for room of no type
+  pub of_raw : (k o : ℕ) → ent 𝓤 (H.room (bare (ty_array (elτ E) k)) b o) (sem 𝓛 (Row o (empty k)))
+  of_raw k o = via 𝓤 (H.room (ty_array (elτ E) k) b o) (𝓛.laws.raw-room (ty_array (elτ E) k) b o) (of_room k o)
+
+  pub to_raw : (k o : ℕ) → ent 𝓤 (sem 𝓛 (Row o (empty k))) (H.room (bare (ty_array (elτ E) k)) b o)
+  to_raw k o = via 𝓤 (H.room (ty_array (elτ E) k) b o) (to_room k o) (𝓛.laws.room-raw (ty_array (elτ E) k) b o)

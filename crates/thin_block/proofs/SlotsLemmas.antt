@@ -1,0 +1,122 @@
+-- What the words of `specs/Slots.antt` give.
+use Rattle.std.proofs.Common.{◌≡◌, ℕ, zero, suc, ◌+◌, ◌-◌, ◌<◌, ◌≤◌, List, [], ◌∷◌, ◌++◌, length, Some, None, refl, sym, ap, subst, ◌∙◌, arith, append_assoc}
+use Rattle.std.proofs.lemmas.List.{length-replicate, length-map, length-append, length-take, length-drop, take_at, drop_at, drop-replicate, replicate-append-replicate}
+use borrow.Author.Tests.{clash}
+use Rattle.std.specs.Prelude.{Option, IsSome, take, drop}
+use Rattle.thin_block.specs.Slots.{full, empty, slot, items_in, IsPacked, run, laid, emptied}
+
+module _ {T : Type 0} where
+  -- the item that a filled slot holds
+  pub the_item : (x : Option T) → IsSome x → (y : T) × (x ≡ Some y)
+  the_item (Some y) is = (y, refl)
+  the_item None is = absurd (clash is)
+
+  -- a filled slot is one of the row's
+  pub filled-within : (s : List (Option T)) (i : ℕ) → IsSome (slot s i) → i < length s
+  filled-within [] i is = absurd (clash is)
+  filled-within (x ∷ s) zero is = omega arith
+  filled-within (x ∷ s) (suc i) is = let low = filled-within s i is in omega arith
+
+  -- a run of filled slots holds a list of items
+  pub full-run : (s : List (Option T)) (i k : ℕ) → i + k ≤ length s → ((j : ℕ) → i ≤ j → j < i + k → IsSome (slot s j)) → (xs : List T) × (run i k s ≡ full xs)
+  full-run [] zero zero le filled = ([], refl)
+  full-run [] (suc i) k le filled = absurd (omega arith)
+  full-run [] zero (suc k) le filled = absurd (omega arith)
+  full-run (x ∷ s) (suc i) k le filled = full-run s i k (omega arith) (λ j p q. filled (suc j) (omega arith) (omega arith))
+  full-run (x ∷ s) zero zero le filled = ([], refl)
+  full-run (x ∷ s) zero (suc k) le filled =
+      let item = the_item x (filled zero (omega arith) (omega arith)) in
+      let rest = full-run s zero k (omega arith) (λ j p q. filled (suc j) (omega arith) (omega arith)) in
+      (item.0 ∷ rest.0, λ n. item.1 n ∷ rest.1 n)
+
+  -- a run of empty slots
+  pub empty-run : (s : List (Option T)) (i k : ℕ) → i + k ≤ length s → ((j : ℕ) → i ≤ j → j < i + k → slot s j ≡ None) → run i k s ≡ empty k
+  empty-run [] zero zero le bare = refl
+  empty-run [] (suc i) k le bare = absurd (omega arith)
+  empty-run [] zero (suc k) le bare = absurd (omega arith)
+  empty-run (x ∷ s) (suc i) k le bare = empty-run s i k (omega arith) (λ j p q. bare (suc j) (omega arith) (omega arith))
+  empty-run (x ∷ s) zero zero le bare = refl
+  empty-run (x ∷ s) zero (suc k) le bare =
+      λ n. bare zero (omega arith) (omega arith) n ∷ empty-run s zero k (omega arith) (λ j p q. bare (suc j) (omega arith) (omega arith)) n
+
+  pub length-run : (s : List (Option T)) (i k : ℕ) → i + k ≤ length s → length (run i k s) ≡ k
+  length-run s i k le = omega (arith, length-take k (drop i s), length-drop i s)
+
+  pub length-laid : (i : ℕ) (ys s : List (Option T)) → i + length ys ≤ length s → length (laid i ys s) ≡ length s
+  length-laid i ys s le =
+      omega (arith, length-append (take i s) (ys ++ drop (i + length ys) s), length-append ys (drop (i + length ys) s), length-take i s, length-drop (i + length ys) s)
+
+  pub slot-empty : (k i : ℕ) → slot (empty {T = T} k) i ≡ None
+  slot-empty zero i = refl
+  slot-empty (suc k) zero = refl
+  slot-empty (suc k) (suc i) = slot-empty k i
+
+  full-filled : (xs : List T) (rest : List (Option T)) (i : ℕ) → i < length xs → IsSome (slot (full xs ++ rest) i)
+  full-filled [] rest i low = absurd (omega arith)
+  full-filled (x ∷ xs) rest zero low = refl
+  full-filled (x ∷ xs) rest (suc i) low = full-filled xs rest i (let low' : suc i < suc (length xs) = low in omega arith)
+
+  -- empty slots at the end, in two parts
+  tail-split : (xs : List T) (a b c : ℕ) → c ≡ a + b → full xs ++ empty c ≡ (full xs ++ empty a) ++ empty b
+  tail-split xs a b c e =
+      let Row : Type 0 = List (Option T) in
+      ap (λ (k : ℕ). full xs ++ empty k) e
+      ∙ (ap (λ (l : Row). full xs ++ l) (sym (replicate-append-replicate a b None)) ∙ sym (append_assoc (full xs) (empty a) (empty b)))
+
+-- a row whose items lie in the first n slots
+module _ {T : Type 0} (s : List (Option T)) (n : ℕ) (packed : IsPacked s n) where
+  abbrev xs : List T
+  xs = items_in s
+
+  abbrev Row : Type 0
+  Row = List (Option T)
+
+  full-long : length (full xs) ≡ n
+  full-long = length-map xs Some ∙ sym packed.len
+
+  parted : s ≡ full xs ++ empty (length s - n)
+  parted = packed.row ∙ ap (λ (k : ℕ). full xs ++ empty (length s - k)) (sym packed.len)
+
+  pub packed-le : n ≤ length s
+  packed-le =
+      let whole : length s ≡ length (full xs ++ empty {T = T} (length s - n)) = ap length parted in
+      let long = full-long in
+      omega (arith, length-append (full xs) (empty {T = T} (length s - n)))
+
+  pub packed-filled : (i : ℕ) → i < n → IsSome (slot s i)
+  packed-filled i low =
+      let len = packed.len in
+      subst (λ (l : Row). IsSome (slot l i)) (sym packed.row) (full-filled xs (empty (length s - length xs)) i (omega arith))
+
+  packed-run : run 0 n s ≡ full xs
+  packed-run = ap (λ (l : Row). take n l) parted ∙ take_at (full xs) (empty (length s - n)) n full-long
+
+  packed-rest : drop n s ≡ empty (length s - n)
+  packed-rest = ap (λ (l : Row). drop n l) parted ∙ drop_at (full xs) (empty (length s - n)) n full-long
+
+  pub packed-emptied : emptied 0 n s ≡ empty (length s)
+  packed-emptied =
+      let le = packed-le in
+      let long : 0 + length (empty {T = T} n) ≡ n = omega (arith, length-replicate n (let o : Option T = None in o)) in
+      ap (λ (k : ℕ). empty n ++ drop k s) long
+      ∙ (ap (λ (l : Row). empty n ++ l) packed-rest
+      ∙ (replicate-append-replicate n (length s - n) None ∙ ap (λ (k : ℕ). empty k) (let e : n + (length s - n) ≡ length s = omega arith in e)))
+
+  -- the items in a row of c slots
+  carried : (c : ℕ) → laid 0 (run 0 n s) (empty c) ≡ full xs ++ empty (c - n)
+  carried c =
+      let long : 0 + length (full xs) ≡ n = omega (arith, full-long) in
+      ap (λ (ys : Row). ys ++ drop (0 + length ys) (empty c)) packed-run
+      ∙ (ap (λ (k : ℕ). full xs ++ drop k (empty c)) long ∙ ap (λ (l : Row). full xs ++ l) (drop-replicate n c None))
+
+  pub packed-grown : (c : ℕ) → length s ≤ c → laid 0 (run 0 n s) (empty c) ≡ s ++ empty (c - length s)
+  packed-grown c more =
+      let le = packed-le in
+      carried c ∙ (tail-split xs (length s - n) (c - length s) (c - n) (omega arith) ∙ ap (λ (l : Row). l ++ empty (c - length s)) (sym parted))
+
+  pub packed-shrunk : (c : ℕ) → n ≤ c → c ≤ length s → laid 0 (run 0 n s) (empty c) ≡ take c s
+  packed-shrunk c enough less =
+      let kept : Row = full xs ++ empty (c - n) in
+      let split : s ≡ kept ++ empty (length s - c) = parted ∙ tail-split xs (c - n) (length s - c) (length s - n) (omega arith) in
+      let long : length kept ≡ c = omega (arith, full-long, length-append (full xs) (empty (c - n)), length-replicate (c - n) (let o : Option T = None in o)) in
+      carried c ∙ sym (ap (λ (l : Row). take c l) split ∙ take_at kept (empty (length s - c)) c long)

@@ -1,0 +1,91 @@
+-- What the walks share: the parts of a body, what follows a part, and a walk that holds the thread's token. Assumes `Logic`.
+pub use Rattle.core.proofs.alloc.Shapes.{after, head, inside, arm_body}
+use Rattle.std.proofs.Common.{◌≡◌, ℕ, zero, suc, ◌<◌, List, [], ◌∷◌, refl, T, not, eqb, subst, arith, T_not}
+use lib.Dec.{eqb_refl}
+use seplogic.Ra.Ura.{Ura}
+use mir.Syntax.{Body, skip, seq, assign, block, loop, cond, switch, exit, return, call, call_v, unreachable, lend_static}
+use base.Logic.{SProp, ent, emp, sep, via, id⊢, comm∗, emp∗, mono_l, mono_r}
+use prog.Wp.{Env, Calls, Loops, Wp, after_seq, after_block}
+use types.Logic.{Logic, sem}
+use mir.Val.{vstruct, vnil}
+use denote.Struct.Struct.{Struct, Struct-Makes}
+use denote.Struct.Declared as Declared
+use denote.Steps.{owned}
+use Rattle.core.specs.contracts.alloc.AllocError as AE
+use types.Kit.{◌$◌, ◌∵◌, !, qed, done, Item, Post, Step, step, prop, any_q, post}
+use contract.Monad.{fact, fact_i}
+use denote.Laws.{Is}
+use denote.Builtin.{unit}
+use denote.Signature.{Slot, plain}
+
+pub apart : (a b : ℕ) → T (not (eqb a b)) → a ≡ b → ⊥
+apart a b t e = T_not (eqb a b) t (subst (λ (k : ℕ). T (eqb a k)) e (eqb_refl a))
+
+pub positive : (n : ℕ) → T (not (eqb n 0)) → 0 < n
+positive n t = let some = apart n 0 t in omega arith
+
+abbrev pub slot_at : {n : ℕ} → ℕ → List (Slot n) → Slot n
+slot_at k [] = plain (λ _. unit)
+slot_at zero (s ∷ ss) = s
+slot_at (suc k) (s ∷ ss) = slot_at k ss
+
+abbrev arms : Body → Body × Body
+arms skip = (skip, skip)
+arms (seq x₀ x₁) = (skip, skip)
+arms (assign x₀ x₁) = (skip, skip)
+arms (block x₀) = (skip, skip)
+arms (loop x₀) = (skip, skip)
+arms (cond x₀ x₁ x₂) = (x₁, x₂)
+arms (switch x₀ x₁) = (skip, skip)
+arms (exit x₀) = (skip, skip)
+arms return = (skip, skip)
+arms (call x₀ x₁ x₂) = (skip, skip)
+arms (call_v x₀ x₁ x₂ x₃) = (skip, skip)
+arms unreachable = (skip, skip)
+arms (lend_static x₀ x₁ x₂) = (skip, skip)
+
+abbrev pub if_true : Body → Body
+if_true b = (arms b).0
+
+abbrev pub if_false : Body → Body
+if_false b = (arms b).1
+
+module _ {M : Type 1} {𝓤 : Ura M} (𝓛 : Logic 𝓤) where
+  open 𝓛 use {H}
+
+  abbrev pub then_runs : Calls 𝓤 H → Loops 𝓤 H → Env 𝓤 H → Body → Post 𝓤 H → Post 𝓤 H
+  then_runs C Λ E b q = any_q (after_seq 𝓤 H (Wp 𝓤 H C Λ E b (post 𝓤 H q)) (post 𝓤 H q))
+
+  abbrev pub out_of_block : Post 𝓤 H → Post 𝓤 H
+  out_of_block q = any_q (after_block 𝓤 H (post 𝓤 H q))
+
+-- an `ensures` of several clauses
+abbrev pub Facts : {M : Type 1} (𝓤 : Ura M) → List (Type 0) → SProp 𝓤
+Facts 𝓤 [] = emp 𝓤
+Facts 𝓤 (φ ∷ []) = fact 𝓤 φ
+Facts 𝓤 (φ ∷ ψ ∷ φs) = sep 𝓤 (fact 𝓤 φ) (Facts 𝓤 (ψ ∷ φs))
+
+-- their proofs
+abbrev pub Shown : List (Type 0) → Type 0
+Shown [] = Unit {0}
+Shown (φ ∷ []) = φ
+Shown (φ ∷ ψ ∷ φs) = φ × (Shown (ψ ∷ φs))
+
+facts_i : {M : Type 1} (𝓤 : Ura M) (φs : List (Type 0)) → Shown φs → ent 𝓤 (emp 𝓤) (Facts 𝓤 φs)
+facts_i 𝓤 [] x = id⊢ 𝓤 _
+facts_i 𝓤 (φ ∷ []) x = fact_i 𝓤 φ (emp 𝓤) x
+facts_i 𝓤 (φ ∷ ψ ∷ φs) x =
+    via 𝓤 (sep 𝓤 (emp 𝓤) (emp 𝓤)) (emp∗ 𝓤 (emp 𝓤))
+    (via 𝓤 (sep 𝓤 (fact 𝓤 φ) (emp 𝓤)) (mono_l 𝓤 (emp 𝓤) (fact_i 𝓤 φ (emp 𝓤) x.0)) (mono_r 𝓤 (fact 𝓤 φ) (facts_i 𝓤 (ψ ∷ φs) x.1)))
+
+-- an `ensures` of several clauses is shown, and what stands before it is left
+pub says_all : {M : Type 1} {𝓤 : Ura M} {𝓛 : Logic 𝓤} {K : Type 0} {Γ : List (Item 𝓤)} → K → (φs : List (Type 0)) {P : SProp 𝓤}
+    → Shown φs → Step K 𝓛 Γ (prop P) Γ (prop (sep 𝓤 P (Facts 𝓤 φs)))
+says_all {𝓤 = 𝓤} k φs {P} x = step (λ s. record {
+  prf = via 𝓤 P s.prf (via 𝓤 (sep 𝓤 (emp 𝓤) P) (emp∗ 𝓤 P) (via 𝓤 (sep 𝓤 (Facts 𝓤 φs) P) (mono_l 𝓤 P (facts_i 𝓤 φs x)) (comm∗ 𝓤 (Facts 𝓤 φs) P)));
+})
+
+-- an `AllocError` is made of nothing
+pub refused_made : {M : Type 1} {𝓤 : Ura M} (𝓛 : Logic 𝓤) → ent 𝓤 (emp 𝓤) (sem 𝓛 (AE.the_row.own_val (record {}) (vstruct vnil ∷ [])))
+refused_made 𝓛 = qed 𝓛 [] ∵
+    owned ! (Struct (Declared.shape AE.the_type)) (Is (Struct (Declared.shape AE.the_type))) (Struct-Makes 𝓛 (Declared.shape AE.the_type) tt) tt (vstruct vnil ∷ []) (tt, (refl, tt)) $ done !

@@ -1,0 +1,11 @@
+use Rattle.std.proofs.Common.{arith}
+use Rattle.std.specs.Mem.{type_size}
+use Rattle.thin_block.proofs.SizeFacts.{first_one, first_many}
+use denote.Param.{param}
+use Rattle.thin_block.proofs.growth.first_capacity.Goals as goal
+
+pub returns-then-item_size : goal.returns-then-item_size
+returns-then-item_size g c = let is = c.item_size.ensures.value in record { value = first_one (type_size (param 0 g.row.T)) (omega arith) }
+
+pub returns-else-item_size : goal.returns-else-item_size
+returns-else-item_size g c = let is = c.item_size.ensures.value in record { value = first_many (type_size (param 0 g.row.T)) (omega arith) }

@@ -1,0 +1,47 @@
+-- A row of slots, each empty or holding an item. (std: `[Option<T>]`)
+use Rattle.std.specs.Prelude.{◌≡◌, ℕ, ◌+◌, ◌-◌, List, [], ◌∷◌, ◌++◌, Option, length, map, replicate, slice_index_or, take, drop}
+use Rattle.std.specs.declared.option.Option.TheVariants.{Some, None}
+
+module _ {T : Type 0} where
+  -- slots that hold the items of xs, in order
+  abbrev pub full : List T → List (Option T)
+  full xs = map Some xs
+
+  -- k empty slots
+  abbrev pub empty : ℕ → List (Option T)
+  empty k = replicate k None
+
+  -- what the slot i holds: nothing where there is no such slot
+  abbrev pub slot : List (Option T) → ℕ → Option T
+  slot s i = slice_index_or s i None
+
+  -- the items that the slots hold, in order
+  abbrev pub items_in : List (Option T) → List T
+  items_in [] = []
+  items_in (None ∷ s) = items_in s
+  items_in (Some x ∷ s) = x ∷ items_in s
+
+  -- c slots, of which the first hold the items of xs
+  abbrev pub front : List T → ℕ → List (Option T)
+  front xs c = full xs ++ empty (c - length xs)
+
+  -- the items lie in the first n slots, and in no other
+  pub record IsPacked (s : List (Option T)) (n : ℕ) : Type 0 where
+    pub row : s ≡ front (items_in s) (length s)
+    pub len : n ≡ length (items_in s)
+
+  -- the k slots from i on
+  abbrev pub run : ℕ → ℕ → List (Option T) → List (Option T)
+  run i k s = take k (drop i s)
+
+  -- s with the slots ys in place of as many from i on
+  abbrev pub laid : ℕ → List (Option T) → List (Option T) → List (Option T)
+  laid i ys s = take i s ++ (ys ++ drop (i + length ys) s)
+
+  -- s with the k slots from i on emptied
+  abbrev pub emptied : ℕ → ℕ → List (Option T) → List (Option T)
+  emptied i k s = laid i (empty k) s
+
+  -- s after the run of k slots from `from` on went to `to`
+  unfoldable pub moved : ℕ → ℕ → ℕ → List (Option T) → List (Option T)
+  moved from to k s = laid to (run from k s) (emptied from k s)

@@ -1,0 +1,108 @@
+//! The block: what its pointer points to, and its two numbers.
+ghost use Rattle.std.specs.Prelude.{◌≡◌, ℕ, ◌^◌, ◌<◌, ◌≤◌, List, [], length, Option};
+ghost use Rattle.std.specs.declared.option.Option.TheVariants.{None};
+ghost use Rattle.std.specs.Coded.{coded_list, coded_option};
+ghost use Rattle.thin_block.specs.Capacity.{Fits};
+ghost use Rattle.thin_block.specs.Cost.{Cost, cost_code, no_cost};
+ghost use Rattle.thin_block.specs.Ownership.{block_owns, block_lent, any, there};
+
+use std::alloc::Allocator;
+use std::marker::{Model, PhantomData};
+
+// What the pointer of a list without a block points to. Every such list shares it, and nothing writes it.
+static NO_BLOCK: Header = Header {
+    cap: 0,
+    len: 0,
+    aligned: [],
+};
+
+// A capacity and a length, behind which an item of any alignment may stand.
+struct Header {
+    cap: usize,
+    len: usize,
+    aligned: [u128; 0],
+}
+
+/// At most one allocation that holds a capacity, a stored length and that many slots, each empty or holding an item.
+///
+/// A block is one pointer wide. It is no owner that drops: `release` gives the memory back, once every slot is empty.
+/// Contracts see the slots, the stored length, the allocator that the memory came from and three counters, none of which
+/// but the first two takes a byte at run time.
+pub struct Block<T, A: Allocator> {
+    // It points to the capacity, behind which the length and then the slots lie: of the allocation, or of `NO_BLOCK`.
+    pub(crate) at: *mut usize,
+    pub(crate) item: PhantomData<T>,
+    pub(crate) handle: PhantomData<A>,
+    pub ghost slots: { List (Option T) } by { coded_list (coded_option T.code) },
+    pub ghost len: { ℕ },
+    pub ghost heap: { Option A } by { coded_option A.code },
+    pub ghost cost: { Cost } by { cost_code },
+    ghost sound: { (len ≤ length slots) × (there heap ≡ any slots) },
+}
+
+impl<T, A: Allocator> Model for Block<T, A> {
+    ghost also_owns = { λ b. block_owns A.dealloc_token T.row b.at b.len b.slots b.heap };
+
+    ghost also_shares = { λ b _ κ. block_lent T.row b.at b.len b.slots b.heap κ };
+}
+
+impl<T, A: Allocator> Block<T, A> {
+    /// No block: no slot, length 0. It takes no memory, and there is nothing to give back.
+    pub fn none() -> Block<T, A>
+        ensures slots { result.slots ≡ [] }
+        ensures len { result.len ≡ 0 }
+        ensures heap { result.heap ≡ None }
+        ensures cost { result.cost ≡ no_cost }
+    {
+        Block {
+            at: (&raw const NO_BLOCK) as *mut usize,
+            item: PhantomData,
+            handle: PhantomData,
+        }
+    }
+
+    /// The stored length, in items.
+    pub fn len(&self) -> usize
+        ensures value { result ≡ self.now.len }
+        ensures in_bounds { result ≤ length self.now.slots }
+        ensures small { length self.now.slots < 2 ^ 63 }
+    {
+        let at = self.at;
+        unsafe { *at.add(1) }
+    }
+
+    /// The number of slots: 0 exactly where there is no block.
+    pub fn cap(&self) -> usize
+        ensures value { result ≡ length self.now.slots }
+        ensures fits { Fits T.row result }
+    {
+        let at = self.at;
+        unsafe { *at }
+    }
+
+    /// Stores a length, in items. No slot changes.
+    pub fn set_len(&mut self, len: usize)
+        requires { len ≤ length self.old.slots }
+        ensures slots { self.new.slots ≡ self.old.slots }
+        ensures len { self.new.len ≡ len }
+        ensures heap { self.new.heap ≡ self.old.heap }
+        ensures cost { self.new.cost ≡ self.old.cost }
+    {
+        if self.cap() > 0 {
+            self.store_len(len);
+        }
+    }
+
+    /// `set_len` where there is a block, with no test.
+    pub fn store_len(&mut self, len: usize)
+        requires block { 0 < length self.old.slots }
+        requires in_bounds { len ≤ length self.old.slots }
+        ensures slots { self.new.slots ≡ self.old.slots }
+        ensures len { self.new.len ≡ len }
+        ensures heap { self.new.heap ≡ self.old.heap }
+        ensures cost { self.new.cost ≡ self.old.cost }
+    {
+        let at = self.at;
+        unsafe { *at.add(1) = len }
+    }
+}

@@ -1,0 +1,17 @@
+//! One allocation that holds a length, a capacity and slots for items: the only crate with raw pointers.
+#![tactic(auto)]
+
+mod block;
+mod errors;
+mod growth;
+mod lends;
+mod memory;
+mod sizes;
+mod slots;
+#[cfg(test)]
+mod tests;
+
+pub use block::Block;
+pub use errors::ThinVecError;
+pub use growth::{Doubling, Growth, first_capacity, next_capacity};
+pub use sizes::fits;

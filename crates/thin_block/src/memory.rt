@@ -1,0 +1,118 @@
+//! A block as a whole: how its memory is had, made larger and given back.
+ghost use Rattle.std.specs.Prelude.{◌≡◌, ◌-◌, ◌++◌, ◌<◌, IfErr, IfOk, OnErr, OnOk, length};
+ghost use Rattle.std.specs.declared.option.Option.TheVariants.{Some};
+ghost use Rattle.std.specs.Mem.{type_size};
+ghost use Rattle.std.specs.Align.{type_align};
+ghost use Rattle.thin_block.specs.Capacity.{Fits, block_align, block_bytes};
+ghost use Rattle.thin_block.specs.Cost.{growing, no_cost};
+ghost use Rattle.thin_block.specs.Slots.{IsPacked, empty};
+
+use crate::block::Block;
+use crate::errors::ThinVecError;
+use crate::sizes::{align_of_block, bytes_of_block};
+use std::alloc::{AllocError, Allocator};
+use std::marker::PhantomData;
+use std::mem::{ManuallyDrop, replace};
+
+impl<T, A: Allocator> Block<T, A> {
+    ghost use Rattle.thin_block.specs.Block.{IsFrom};
+
+    /// A block of `cap` empty slots and length 0, by one allocation. Refused only where memory is.
+    pub fn allocate(alloc: &A, cap: usize) -> Result<Block<T, A>, ThinVecError>
+        requires some { 0 < cap }
+        requires fits { Fits T.row cap }
+        ensures slots { IfOk result (λ block. block.slots ≡ empty cap) }
+        ensures len { IfOk result (λ block. block.len ≡ 0) }
+        ensures heap { IfOk result (λ block. block.heap ≡ Some alloc.now) }
+        ensures cost { IfOk result (λ block. block.cost ≡ growing 0 no_cost) }
+        ensures err { IfErr result (λ cause. cause ≡ ThinVecError.OutOfMemory) }
+    {
+        match Block::take_block(alloc, cap, bytes_of_block::<T>(cap), align_of_block::<T>()) {
+            Ok(block) => Ok(block),
+            Err(_refused) => Err(ThinVecError::OutOfMemory),
+        }
+    }
+
+    /// Makes room for `cap` slots, by one allocation and one copy. Refused only where memory is, and then nothing changes.
+    pub fn grow(&mut self, alloc: &A, cap: usize) -> Result<(), ThinVecError>
+        requires from { IsFrom self.old alloc.now }
+        requires larger { length self.old.slots < cap }
+        requires fits { Fits T.row cap }
+        requires packed { IsPacked self.old.slots self.old.len }
+        ensures slots { OnOk result (self.new.slots ≡ self.old.slots ++ empty (cap - length self.old.slots)) }
+        ensures len { self.new.len ≡ self.old.len }
+        ensures heap { OnOk result (self.new.heap ≡ Some alloc.now) }
+        ensures cost { OnOk result (self.new.cost ≡ growing self.old.len self.old.cost) }
+        ensures err { OnErr result (self.new ≡ self.old) }
+        ensures cause { IfErr result (λ cause. cause ≡ ThinVecError.OutOfMemory) }
+    {
+        let mut larger = Block::allocate(alloc, cap)?;
+        let len = self.len();
+        larger.store_len(len);
+        self.carry_run(0, &mut larger, 0, len);
+        let old = replace(self, larger);
+        old.release(alloc);
+        Ok(())
+    }
+
+    /// Gives the memory back, where there is a block. Every slot is empty.
+    pub fn release(self, alloc: &A)
+        requires from { IsFrom self alloc.now }
+        requires empty { self.slots ≡ empty (length self.slots) }
+    {
+        let cap = self.cap();
+        if cap == 0 {
+            let _none = unsafe { ManuallyDrop::new_unchecked(self) };
+        } else {
+            self.free_block(alloc, bytes_of_block::<T>(cap), align_of_block::<T>());
+        }
+    }
+
+    // `allocate` at the block's size and alignment.
+    fn take_block(
+        alloc: &A,
+        cap: usize,
+        bytes: usize,
+        align: usize,
+    ) -> Result<Block<T, A>, AllocError>
+        requires some { 0 < cap }
+        requires fits { Fits T.row cap }
+        requires bytes { bytes ≡ block_bytes (type_size T.row) (type_align T.row) cap }
+        requires align { align ≡ block_align (type_align T.row) }
+        ensures slots { IfOk result (λ block. block.slots ≡ empty cap) }
+        ensures len { IfOk result (λ block. block.len ≡ 0) }
+        ensures heap { IfOk result (λ block. block.heap ≡ Some alloc.now) }
+        ensures cost { IfOk result (λ block. block.cost ≡ growing 0 no_cost) }
+    {
+        match alloc.allocate(bytes, align) {
+            Ok(start) => {
+                let at = start as *mut usize;
+                unsafe {
+                    *at = cap;
+                    *at.add(1) = 0;
+                }
+                Ok(Block {
+                    at,
+                    item: PhantomData,
+                    handle: PhantomData,
+                })
+            }
+            Err(refused) => Err(refused),
+        }
+    }
+
+    // `release` where there is a block, at its size and alignment.
+    fn free_block(self, alloc: &A, bytes: usize, align: usize)
+        requires from { self.heap ≡ Some alloc.now }
+        requires empty { self.slots ≡ empty (length self.slots) }
+        requires bytes { bytes ≡ block_bytes (type_size T.row) (type_align T.row) (length self.slots) }
+        requires align { align ≡ block_align (type_align T.row) }
+    {
+        let Block {
+            at,
+            item: _,
+            handle: _,
+        } = self;
+        unsafe { alloc.deallocate(at as *mut u8, bytes, align) }
+    }
+}

@@ -1,0 +1,55 @@
+//! How many bytes a block takes, and which capacities fit: numbers only.
+ghost use Rattle.std.specs.Prelude.{◌≡◌, ◌↔◌, IsTrue};
+ghost use Rattle.std.specs.Mem.{type_size};
+ghost use Rattle.std.specs.Align.{type_align};
+ghost use prog.Memory.{capped};
+ghost use Rattle.thin_block.specs.Capacity.{IsAlign, block_align, block_bytes, Fits};
+
+use std::mem::{align_of, size_of};
+
+// The bytes of the capacity and the length. No type has an alignment above 16, so the items always begin here.
+const HEADER: usize = 16;
+
+// The size of an item in bytes. One past `usize::MAX` counts as `usize::MAX`.
+pub(crate) fn item_size<T>() -> usize
+    ensures value { result ≡ capped (type_size T.row) }
+{
+    size_of::<T>()
+}
+
+// The alignment of an item in bytes.
+pub(crate) fn item_align<T>() -> usize
+    ensures value { result ≡ type_align T.row }
+    ensures known { IsAlign result }
+{
+    align_of::<T>()
+}
+
+// The alignment of a block in bytes.
+pub(crate) fn align_of_block<T>() -> usize
+    ensures value { result ≡ block_align (type_align T.row) }
+{
+    item_align::<T>().max(8)
+}
+
+// The bytes of a block for `cap` items.
+pub(crate) fn bytes_of_block<T>(cap: usize) -> usize
+    requires { Fits T.row cap }
+    ensures value { result ≡ block_bytes (type_size T.row) (type_align T.row) cap }
+{
+    (HEADER + cap * item_size::<T>()).next_multiple_of(align_of_block::<T>())
+}
+
+/// Whether a block for `cap` items is small enough to be asked for: neither `cap` nor the block's bytes are past `isize::MAX`.
+pub fn fits<T>(cap: usize) -> bool
+    ensures value { IsTrue result ↔ Fits T.row cap }
+{
+    if cap > isize::MAX as usize {
+        return false;
+    }
+    let size = item_size::<T>();
+    if size == 0 {
+        return true;
+    }
+    cap <= (isize::MAX as usize + 1 - align_of_block::<T>() - HEADER) / size
+}

@@ -1,0 +1,4 @@
+mod ListLemmas
+mod CostLemmas
+pub mod ThinVecLemmas
+mod EditLemmas

@@ -1,0 +1,54 @@
+-- What follows from the words of `specs/ThinVec.antt` and `specs/Costs.antt`, for callers.
+use Rattle.std.proofs.Common.{◌≡◌, ◌≢◌, ℕ, zero, suc, ◌+◌, ◌*◌, ◌^◌, ◌<◌, ◌≤◌, Bool, true, false, Some, None, ap, arith, cond, eqb, inl, inr, length, refl, sym, ◌∙◌}
+use Rattle.std.specs.Prelude.{Option, ◌==◌, if◌then◌else◌}
+use Rattle.std.specs.Borrow.{RattleType}
+use Rattle.std.proofs.lemmas.Bool.{cases_lt}
+use Rattle.std.proofs.lemmas.Bool.Decides.{nat_tests}
+use Rattle.std.proofs.lemmas.Grind.{pow_more}
+use Rattle.thin_block.specs.Cost.{Cost, growing, moving}
+use Rattle.thin_block.specs.Growth.{Rule, KeepsLaw, IsGrown}
+use Rattle.thin_block.proofs.CapacityLemmas.{ruled-same, ruled-grows}
+use Rattle.thin_vec.specs.Costs.{IsCheap, IsCheapAt}
+use Rattle.thin_vec.specs.ThinVec.{Thin, capacity_for, cost_at}
+
+some-same : {X : Type 0} {x y : X} → Some x ≡ Some y → x ≡ y
+some-same e = cc
+
+module _ {T A : Type 0} (rule : Rule) (R : RattleType) (law : KeepsLaw rule) (v : Thin T A) (k c : ℕ) where
+  -- where there is room, the ruled capacity is the one that is there, and nothing is paid
+  pub cap-kept : length v.items + k ≤ v.cap → capacity_for rule R v k ≡ Some c → c ≡ v.cap
+  cap-kept room e = some-same (sym e ∙ ruled-same rule R v.cap (length v.items + k) room)
+
+  pub cost_at-kept : length v.items + k ≤ v.cap → capacity_for rule R v k ≡ Some c → cost_at v c ≡ v.cost
+  cost_at-kept room e = let same : c ≡ v.cap = cap-kept room e in let t : eqb c v.cap ≡ true = grind (arith, nat_tests) in rw t refl
+
+  -- where there is none, the capacity grows, and each item is copied
+  pub cap-grown : v.cap < length v.items + k → capacity_for rule R v k ≡ Some c → (length v.items + k ≤ c) × (2 * v.cap ≤ c)
+  cap-grown more e = let g = ruled-grows rule R v.cap (length v.items + k) c law more e in (g.enough, g.doubled)
+
+  pub cost_at-grown : v.cap < length v.items + k → capacity_for rule R v k ≡ Some c → cost_at v c ≡ growing (length v.items) v.cost
+  cost_at-grown more e =
+      let g = cap-grown more e in
+      let larger : v.cap < c = omega (arith, g.0) in
+      let t : eqb c v.cap ≡ false = grind (arith, nat_tests) in rw t refl
+
+-- a cheap cost stays cheap over a growth for more than there was room for
+pub cheap-growing : (c n c' : ℕ) (k : Cost) → IsCheapAt c k → n ≤ c → c < c' → 2 * c ≤ c' → IsCheapAt c' (growing n k)
+cheap-growing zero n c' k h le larger doubled =
+    let z = h.none refl in
+    let two : 2 ^ (k.blocks + 1) ≡ 2 = ap (λ q. 2 ^ (q + 1)) z.0 in
+    record { none = λ q. absurd (omega (arith, larger)); grown = λ q. omega (arith, z.1, larger, le); blocks = λ q. omega (arith, two, larger) }
+cheap-growing (suc c) n c' k h le larger doubled =
+    let few : k.grown < suc c = h.grown (omega arith) in
+    let half : 2 ^ k.blocks ≤ 2 * suc c = h.blocks (omega arith) in
+    let twice : 2 ^ (k.blocks + 1) ≡ 2 ^ k.blocks * 2 = pow_more 2 k.blocks in
+    record { none = λ q. absurd (omega (arith, larger)); grown = λ q. omega (arith, doubled, few, le); blocks = λ q. omega (arith, twice, half, doubled) }
+
+-- a cheap list stays cheap where its capacity becomes the ruled one
+pub cheap-regrown : {T A : Type 0} (rule : Rule) (R : RattleType) → KeepsLaw rule → (v : Thin T A) (k c : ℕ) → IsCheap v → length v.items ≤ v.cap → capacity_for rule R v k ≡ Some c → IsCheapAt c (cost_at v c)
+cheap-regrown rule R law v k c h room e =
+    elim (cases_lt v.cap (length v.items + k)) [
+      | inl more ↦ let g = cap-grown rule R law v k c more e in
+          rw (cost_at-grown rule R law v k c more e) (cheap-growing v.cap (length v.items) c v.cost h room (omega (arith, g.0)) g.1)
+      | inr spare ↦ rw (cost_at-kept rule R law v k c spare e, cap-kept rule R law v k c spare e) h
+    ]

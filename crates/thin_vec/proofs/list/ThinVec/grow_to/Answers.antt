@@ -1,0 +1,16 @@
+use Rattle.std.proofs.Common.{◌≡◌, ◌<◌, sym, ap, ◌∙◌, length, arith}
+use Rattle.thin_vec.proofs.ListLemmas.{Settled, settle-grow}
+use Rattle.thin_block.specs.Slots.{items_in}
+use Rattle.thin_vec.proofs.list.ThinVec.grow_to.Goals as goal
+use Rattle.thin_vec.proofs.list.ThinVec.grow_to.Goals.{In-Ok}
+
+facts : (g : _) (c : In-Ok g) → Settled c.grow.new.self c.self.inside.alloc (items_in c.self.inside.block.slots) c.args.cap
+facts g c =
+    settle-grow c.self.inside.block c.grow.new.self c.self.inside.alloc c.args.cap c.self.invariant
+    (omega (arith, c.requires.larger, ap (λ v. v.cap) c.self.view_is)) c.in-Ok.ensures.slots c.grow.ensures.len c.in-Ok.ensures.heap
+
+pub invariant_of-self-2 : goal.invariant_of-self-2
+invariant_of-self-2 g c = (facts g c).thin
+
+pub returns-clause-items : goal.returns-clause-items
+returns-clause-items g c = (facts g c).items ∙ ap (λ v. v.items) c.self.view_is

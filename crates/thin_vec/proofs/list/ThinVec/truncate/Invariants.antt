@@ -1,0 +1,14 @@
+-- The slots before i are those of the shorter list, and those from i on still hold items.
+use Rattle.std.proofs.Common.{◌≡◌}
+use Rattle.thin_block.specs.Block.{IsFrom}
+use Rattle.thin_vec.proofs.EditLemmas.{emptying}
+use Rattle.thin_vec.proofs.list.ThinVec.truncate.Given as goal
+
+abbrev pub invariant-loop-i : goal.invariant-loop-i
+invariant-loop-i g l = record {
+  slots : l.self-inside.block.slots ≡ emptying l.fn.self.items l.len l.i l.fn.self.cap;
+  len : l.self-inside.block.len ≡ l.len;
+  from : IsFrom l.self-inside.block l.self-inside.alloc;
+  alloc : l.self-inside.alloc ≡ l.fn.self.alloc;
+  cost : l.self-inside.block.cost ≡ l.fn.self.cost;
+}

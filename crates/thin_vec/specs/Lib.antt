@@ -1,0 +1,6 @@
+pub mod ThinVec
+pub mod Costs
+-- the words of the block that the clauses above cite
+pub use Rattle.thin_block.specs.Capacity
+pub use Rattle.thin_block.specs.Cost
+pub use Rattle.thin_block.specs.Growth

@@ -1,0 +1,165 @@
+//! How a list's capacity changes: the one function that computes a ruled capacity, and the one that makes a growth.
+ghost use Rattle.std.specs.Prelude.{◌≡◌, ◌+◌, ◌<◌, ◌≤◌, [], IfErr, IfOk, IfSome, IsErrOf, IsOk, None, OnErr, OnOk, Some, length};
+ghost use Rattle.thin_block.specs.Capacity.{Fits};
+ghost use Rattle.thin_block.specs.Cost.{growing, no_cost};
+ghost use Rattle.thin_block.specs.Growth.{exact_capacity};
+
+use crate::list::ThinVec;
+use std::alloc::Allocator;
+use std::marker::PhantomData;
+use thin_block::{Block, Growth, ThinVecError, fits};
+
+impl<T, A: Allocator, G: Growth> ThinVec<T, A, G> {
+    ghost use Rattle.thin_vec.specs.Costs.{IsCheap, Grows};
+    ghost use Rattle.thin_vec.specs.ThinVec.{capacity_for, cost_at, cost_new, exact_for};
+
+    /// Makes room for `additional` more items: where there is not room enough, the capacity becomes the ruled one.
+    ///
+    /// It is refused where that capacity overflows, or where memory is refused, and then nothing changes.
+    #[tactic(auto, using(thin_block::proofs::CapacityLemmas::ruled))]
+    pub fn reserve(&mut self, additional: usize) -> Result<(), ThinVecError>
+        ensures succeeds { length self.old.items + additional ≤ self.old.cap → IsOk result }
+        ensures overflow { capacity_for G.rule T.row self.old additional ≡ None → IsErrOf result ThinVecError.CapacityOverflow }
+        ensures cause { IfErr result (λ cause. cause ≡ ThinVecError.CapacityOverflow → capacity_for G.rule T.row self.old additional ≡ None) }
+        ensures items { self.new.items ≡ self.old.items }
+        ensures capacity { OnOk result (capacity_for G.rule T.row self.old additional ≡ Some self.new.cap) }
+        ensures room { OnOk result (length self.old.items + additional ≤ self.new.cap) }
+        ensures alloc { self.new.alloc ≡ self.old.alloc }
+        ensures cost { OnOk result (self.new.cost ≡ cost_at self.old self.new.cap) }
+        ensures err { OnErr result (self.new ≡ self.old) }
+        ensures cheap { IsCheap self.old → IsCheap self.new }
+    {
+        if additional <= self.capacity() - self.len() {
+            return Ok(());
+        }
+        self.grow_for(additional)
+    }
+
+    /// Makes room for `additional` more items and no further one: where there is not room enough, the capacity becomes the
+    /// length and `additional`.
+    ///
+    /// It is refused where that capacity does not fit, or where memory is refused, and then nothing changes. A list that
+    /// grows by this call alone copies its items each time: see `reserve`.
+    #[tactic(auto, using(thin_block::proofs::CapacityLemmas::exact))]
+    pub fn reserve_exact(&mut self, additional: usize) -> Result<(), ThinVecError>
+        ensures succeeds { length self.old.items + additional ≤ self.old.cap → IsOk result }
+        ensures overflow { exact_for T.row self.old additional ≡ None → IsErrOf result ThinVecError.CapacityOverflow }
+        ensures cause { IfErr result (λ cause. cause ≡ ThinVecError.CapacityOverflow → exact_for T.row self.old additional ≡ None) }
+        ensures items { self.new.items ≡ self.old.items }
+        ensures capacity { OnOk result (exact_for T.row self.old additional ≡ Some self.new.cap) }
+        ensures room { OnOk result (length self.old.items + additional ≤ self.new.cap) }
+        ensures alloc { self.new.alloc ≡ self.old.alloc }
+        ensures cost { OnOk result (self.new.cost ≡ cost_at self.old self.new.cap) }
+        ensures err { OnErr result (self.new ≡ self.old) }
+    {
+        if additional <= self.capacity() - self.len() {
+            return Ok(());
+        }
+        match self.len().checked_add(additional) {
+            Some(want) if fits::<T>(want) => self.grow_to(want),
+            _ => Err(ThinVecError::CapacityOverflow),
+        }
+    }
+
+    // `reserve` where there is not room enough.
+    #[cold]
+    fn grow_for(&mut self, additional: usize) -> Result<(), ThinVecError>
+        requires more { self.old.cap < length self.old.items + additional }
+        ensures overflow { capacity_for G.rule T.row self.old additional ≡ None → IsErrOf result ThinVecError.CapacityOverflow }
+        ensures cause { IfErr result (λ cause. cause ≡ ThinVecError.CapacityOverflow → capacity_for G.rule T.row self.old additional ≡ None) }
+        ensures items { self.new.items ≡ self.old.items }
+        ensures capacity { OnOk result (capacity_for G.rule T.row self.old additional ≡ Some self.new.cap) }
+        ensures grown { OnOk result (Grows self.old.cap (length self.old.items + additional) self.new.cap) }
+        ensures alloc { self.new.alloc ≡ self.old.alloc }
+        ensures cost { OnOk result (self.new.cost ≡ growing (length self.old.items) self.old.cost) }
+        ensures err { OnErr result (self.new ≡ self.old) }
+    {
+        match self.next_capacity(additional) {
+            Some(next) => self.grow_to(next),
+            None => Err(ThinVecError::CapacityOverflow),
+        }
+    }
+
+    // The ruled capacity. Every one is computed here.
+    #[tactic(auto, using(thin_block::proofs::CapacityLemmas::ruled))]
+    fn next_capacity(&self, additional: usize) -> Option<usize>
+        requires more { self.now.cap < length self.now.items + additional }
+        ensures value { result ≡ capacity_for G.rule T.row self.now additional }
+        ensures grown { IfSome result (λ next. Grows self.now.cap (length self.now.items + additional) next) }
+        ensures fits { IfSome result (λ next. Fits T.row next) }
+    {
+        match self.len().checked_add(additional) {
+            Some(want) => G::next_capacity::<T>(self.capacity(), want),
+            None => None,
+        }
+    }
+
+    // Every growth is made here.
+    pub(crate) fn grow_to(&mut self, cap: usize) -> Result<(), ThinVecError>
+        requires larger { self.old.cap < cap }
+        requires fits { Fits T.row cap }
+        ensures items { self.new.items ≡ self.old.items }
+        ensures capacity { OnOk result (self.new.cap ≡ cap) }
+        ensures alloc { self.new.alloc ≡ self.old.alloc }
+        ensures cost { OnOk result (self.new.cost ≡ growing (length self.old.items) self.old.cost) }
+        ensures err { OnErr result (self.new ≡ self.old) }
+        ensures cause { IfErr result (λ cause. cause ≡ ThinVecError.OutOfMemory) }
+    {
+        match self.block.grow(&self.alloc, cap) {
+            Ok(()) => (),
+            Err(cause) => return Err(cause),
+        }
+        Ok(())
+    }
+
+    // An empty list with a block of exactly `capacity` slots, or without one at 0. Every list of an exact capacity begins here.
+    #[tactic(auto, using(thin_block::proofs::CapacityLemmas::exact))]
+    pub(crate) fn with_exact_capacity(
+        alloc: A,
+        capacity: usize,
+    ) -> Result<ThinVec<T, A, G>, ThinVecError>
+        ensures succeeds { capacity ≡ 0 → IsOk result }
+        ensures overflow { exact_capacity T.row 0 capacity ≡ None → IsErrOf result ThinVecError.CapacityOverflow }
+        ensures cause { IfErr result (λ cause. cause ≡ ThinVecError.CapacityOverflow → exact_capacity T.row 0 capacity ≡ None) }
+        ensures items { IfOk result (λ list. list.items ≡ []) }
+        ensures capacity { IfOk result (λ list. list.cap ≡ capacity) }
+        ensures alloc { IfOk result (λ list. list.alloc ≡ alloc) }
+        ensures cost { IfOk result (λ list. list.cost ≡ cost_new capacity) }
+    {
+        if capacity == 0 {
+            return Ok(ThinVec::ruled(alloc));
+        }
+        if !fits::<T>(capacity) {
+            return Err(ThinVecError::CapacityOverflow);
+        }
+        match Block::allocate(&alloc, capacity) {
+            Ok(block) => Ok(ThinVec {
+                block,
+                alloc,
+                growth: PhantomData,
+            }),
+            Err(cause) => Err(cause),
+        }
+    }
+}
+
+impl<T, A: Allocator> ThinVec<T, A> {
+    ghost use Rattle.thin_vec.specs.ThinVec.{cost_new};
+    ghost use Rattle.thin_vec.specs.Costs.{IsCheap};
+
+    /// An empty list with room for exactly `capacity` items. At 0 it owns no block.
+    ///
+    /// It is refused where that capacity does not fit, or where memory is refused.
+    pub fn with_capacity(alloc: A, capacity: usize) -> Result<ThinVec<T, A>, ThinVecError>
+        ensures succeeds { capacity ≡ 0 → IsOk result }
+        ensures overflow { exact_capacity T.row 0 capacity ≡ None → IsErrOf result ThinVecError.CapacityOverflow }
+        ensures cause { IfErr result (λ cause. cause ≡ ThinVecError.CapacityOverflow → exact_capacity T.row 0 capacity ≡ None) }
+        ensures items { IfOk result (λ list. list.items ≡ []) }
+        ensures capacity { IfOk result (λ list. list.cap ≡ capacity) }
+        ensures alloc { IfOk result (λ list. list.alloc ≡ alloc) }
+        ensures cost { IfOk result (λ list. list.cost ≡ cost_new capacity) }
+        ensures cheap { IfOk result (λ list. IsCheap list) }
+    {
+        ThinVec::with_exact_capacity(alloc, capacity)
+    }
+}

@@ -1,0 +1,11 @@
+//! A growable list that is one pointer wide: its length and its capacity stand in the block that it allocates.
+#![tactic(auto)]
+
+mod capacity;
+mod edits;
+mod errors;
+mod list;
+
+pub use errors::Rejected;
+pub use list::ThinVec;
+pub use thin_block::{Doubling, Growth, ThinVecError, fits};

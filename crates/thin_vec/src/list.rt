@@ -1,0 +1,182 @@
+//! The list: its type, what a contract sees of it, and the calls that most callers make.
+ghost use Rattle.std.specs.Prelude.{◌≡◌, ◌↔◌, ◌+◌, ◌-◌, ◌<◌, ◌≤◌, [], ◌∷◌, ◌++◌, IfErr, IfOk, IsErrAnd, IsOk, IsSome, IsTrue, None, OnErr, OnOk, Some, length, slice_get, take};
+ghost use Rattle.std.specs.Option.{option_to_list};
+ghost use Rattle.thin_block.specs.Cost.{growing, moving, no_cost};
+
+use crate::errors::Rejected;
+use std::alloc::{Allocator, Global};
+use std::marker::{Model, PhantomData};
+use thin_block::{Block, Doubling, Growth, ThinVecError};
+
+/// A growable list that is one pointer wide, beside its allocator. A new list owns no block.
+///
+/// It is std's `Vec` under `Vec`'s names. `G` is the rule by which its capacity grows.
+pub struct ThinVec<T, A: Allocator = Global, G: Growth = Doubling> {
+    pub(crate) block: Block<T, A>,
+    pub(crate) alloc: A,
+    pub(crate) growth: PhantomData<G>,
+}
+
+impl<T, A: Allocator, G: Growth> Model for ThinVec<T, A, G> {
+    ghost use Rattle.thin_vec.specs.ThinVec.{Thin, thin_code, thin_of, IsThin};
+
+    ghost Value = { Thin T A };
+
+    ghost coded = { thin_code T.code A.code };
+
+    ghost view = { λ v. thin_of v.block v.alloc };
+
+    ghost invariant = { λ v. IsThin v.block v.alloc };
+}
+
+impl<T, A: Allocator> ThinVec<T, A> {
+    ghost use Rattle.thin_vec.specs.ThinVec.{IsNew};
+
+    /// An empty list of capacity 0, without a block. It takes no memory.
+    pub fn new(alloc: A) -> ThinVec<T, A>
+        ensures new { IsNew result alloc }
+    {
+        ThinVec::ruled(alloc)
+    }
+
+    /// The same as `new`, in the place of `Default`, which has no allocator to give.
+    pub fn default_in(alloc: A) -> ThinVec<T, A>
+        ensures new { IsNew result alloc }
+    {
+        ThinVec::new(alloc)
+    }
+}
+
+impl<T, A: Allocator, G: Growth> ThinVec<T, A, G> {
+    ghost use Rattle.thin_vec.specs.ThinVec.{IsNew, capacity_for, cost_at};
+    ghost use Rattle.thin_vec.specs.Costs.{IsCheap};
+
+    /// `new` under any growth rule.
+    pub fn ruled(alloc: A) -> ThinVec<T, A, G>
+        ensures new { IsNew result alloc }
+    {
+        ThinVec {
+            block: Block::none(),
+            alloc,
+            growth: PhantomData,
+        }
+    }
+
+    /// The number of items.
+    pub fn len(&self) -> usize
+        ensures value { result ≡ length self.now.items }
+        ensures in_bounds { result ≤ self.now.cap }
+    {
+        self.block.len()
+    }
+
+    /// Whether there is no item.
+    pub fn is_empty(&self) -> bool
+        ensures value { IsTrue result ↔ (self.now.items ≡ []) }
+    {
+        self.len() == 0
+    }
+
+    /// How many items there is room for.
+    pub fn capacity(&self) -> usize
+        ensures value { result ≡ self.now.cap }
+        ensures in_bounds { length self.now.items ≤ result }
+    {
+        self.block.cap()
+    }
+
+    /// Whether the list owns a block.
+    pub fn has_capacity(&self) -> bool
+        ensures value { IsTrue result ↔ (0 < self.now.cap) }
+    {
+        self.capacity() != 0
+    }
+
+    /// Appends `value`, which the list owns afterwards.
+    ///
+    /// It is refused only where there is no spare room, and then because the ruled capacity overflows, or because memory
+    /// is refused.
+    pub fn push(&mut self, value: T) -> Result<(), Rejected<T>>
+        ensures succeeds { length self.old.items < self.old.cap → IsOk result }
+        ensures overflow { capacity_for G.rule T.row self.old 1 ≡ None → IsErrAnd result (λ refused. refused.cause ≡ ThinVecError.CapacityOverflow) }
+        ensures cause { IfErr result (λ refused. refused.cause ≡ ThinVecError.CapacityOverflow → capacity_for G.rule T.row self.old 1 ≡ None) }
+
+        // The capacity is the ruled one.
+        ensures items { OnOk result (self.new.items ≡ self.old.items ++ value ∷ []) }
+        ensures capacity { OnOk result (capacity_for G.rule T.row self.old 1 ≡ Some self.new.cap) }
+        ensures cost { OnOk result (self.new.cost ≡ moving 1 (cost_at self.old self.new.cap)) }
+        ensures alloc { self.new.alloc ≡ self.old.alloc }
+        ensures cheap { IsCheap self.old → IsCheap self.new }
+
+        // Refused, the caller has the value back, and nothing changed.
+        ensures err { OnErr result (self.new ≡ self.old) }
+        ensures value_returned { IfErr result (λ refused. refused.value ≡ value) }
+    {
+        if let Err(cause) = self.reserve(1) {
+            return Err(Rejected { value, cause });
+        }
+        self.push_reserved(value);
+        Ok(())
+    }
+
+    /// The items, in order.
+    pub fn as_slice(&self) -> &[T]
+        ensures value { result.now ≡ self.now.items }
+    {
+        self.block.slice(0, self.block.len())
+    }
+
+    // `push` into spare room.
+    pub(crate) fn push_reserved(&mut self, value: T)
+        requires room { length self.old.items < self.old.cap }
+        ensures items { self.new.items ≡ self.old.items ++ value ∷ [] }
+        ensures capacity { self.new.cap ≡ self.old.cap }
+        ensures alloc { self.new.alloc ≡ self.old.alloc }
+        ensures cost { self.new.cost ≡ moving 1 self.old.cost }
+    {
+        let len = self.block.len();
+        self.block.put(len, value);
+        self.block.store_len(len + 1);
+    }
+
+    /// Removes the last item and hands it out, or answers `None` where there is none. The capacity stays.
+    pub fn pop(&mut self) -> Option<T>
+        ensures variant { IsSome result ↔ (0 < length self.old.items) }
+        ensures items { self.old.items ≡ self.new.items ++ option_to_list result }
+        ensures capacity { self.new.cap ≡ self.old.cap }
+        ensures alloc { self.new.alloc ≡ self.old.alloc }
+        ensures cost { self.new.cost ≡ self.old.cost }
+    {
+        if self.is_empty() {
+            return None;
+        }
+        Some(self.pop_last())
+    }
+
+    // `pop` of a list that is not empty.
+    pub(crate) fn pop_last(&mut self) -> T
+        requires some { 0 < length self.old.items }
+        ensures items { self.old.items ≡ self.new.items ++ result ∷ [] }
+        ensures capacity { self.new.cap ≡ self.old.cap }
+        ensures alloc { self.new.alloc ≡ self.old.alloc }
+        ensures cost { self.new.cost ≡ self.old.cost }
+    {
+        let last = self.block.len() - 1;
+        let value = self.block.take(last);
+        self.block.store_len(last);
+        value
+    }
+}
+
+impl<T: Drop, A: Allocator, G: Growth> Drop for ThinVec<T, A, G> {
+    // Each item is dropped, and then the block is given back.
+    fn drop(mut self) {
+        self.clear();
+        let ThinVec {
+            block,
+            alloc,
+            growth: _,
+        } = self;
+        block.release(&alloc);
+    }
+}

@@ -1,0 +1,11 @@
+//! The tests of the list, in a crate of their own: a crate that has tests is proved twice, and the list is proved once.
+#![tactic(auto)]
+
+#[cfg(test)]
+mod counted;
+#[cfg(test)]
+mod drops;
+#[cfg(test)]
+mod refusals;
+#[cfg(test)]
+mod sizes;
