@@ -5,6 +5,8 @@ mod command;
 mod reporting;
 mod rows;
 mod runner;
+#[cfg(test)]
+mod tests;
 
 use crate::reporting::report;
 use std::io;
