@@ -14,7 +14,7 @@ pub type Outcome = Result<bool, ThinVecError>;
 /// Does the row of that number.
 pub fn row<A: Allocator + Copy>(alloc: A, number: u32) -> Outcome {
     match number {
-        1 => Ok(row_1(alloc)),
+        1 => row_1(alloc),
         2 => row_2(alloc),
         _ => Ok(false),
     }

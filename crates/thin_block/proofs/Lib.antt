@@ -3,5 +3,6 @@ mod Walks
 mod HeaderMemory
 mod SlotMemory
 mod Sharing
+mod Lending
 pub mod CapacityLemmas
 pub mod SlotsLemmas

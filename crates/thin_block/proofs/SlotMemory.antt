@@ -1,23 +1,28 @@
 -- Slots come out of a block's row of slots and go back. Assumes `Logic`.
 --     slot_out, slot_in        one slot
 --     run_out, run_in          the k slots from i on
+--     two_slots                two different slots, in either order
 --     to_items, of_items       slots that hold the items xs are an array of them
+--     to_cells, of_cells       slots that hold the items xs are the cells of a slice
 --     to_room, of_room         empty slots are room for an array; to_raw, of_raw: for one of no type
 --     reach                    how far behind the first slot a slot begins: a number that a word holds
 use Rattle.std.proofs.Common.{◌≡◌, true, ℕ, zero, suc, None, ◌+◌, ◌*◌, ◌^◌, ◌<◌, ◌≤◌, List, [], ◌∷◌, ◌++◌, length, refl, sym, ap, ◌∙◌, arith}
 use native.Mathlib.Nat.{zero-mul, suc-mul}
-use lib.ListN.{take, drop, set, get_or, take-append-drop, length-take, length-drop}
-use lib.Seq.{drop-cons, drop-drop, set_split}
+use lib.ListN.{take, drop, set, get_or, take-append-drop, length-take, length-drop, length-set}
+use mathlib.Core.Logic.{⊎_elim}
+use Rattle.core.proofs.str.Laws.{order}
+use lib.Seq.{drop-cons, drop-drop, set_split, set_comm, get_or-take, take-set-lt, drop-set-lt}
 use seplogic.Ra.Ura.{Ura}
 use base.Fraction.{full_share}
 use mir.Syntax.{ty_array}
 use mir.Raw.{raw as bare}
-use base.Logic.{ent, sep, emp, via, id⊢, mono_r}
+use base.Logic.{ent, sep, guard, emp, via, id⊢, mono_r}
 use base.Fml.{Fml, ftrue, fsep, froom}
 use types.Logic.{Logic, sem}
-use types.Kit.{‵, ◌⊛◌, given, ◌$◌, ◌∵◌, !, qed, by, move, keep, drop as skip, use1, use2, split, learn, rewrite, frame as keeps, fsplit, fjoin, done}
+use types.Kit.{‵, ◌⊛◌, given, ◌$◌, ◌∵◌, !, qed, by, move, keep, drop as skip, use1, use2, use3, split, split3, learn, check, rewrite, frame as keeps, fsplit, fjoin, done}
 use denote.Array.{Array}
-use denote.Memory.{part_at}
+use denote.Memory.{part_at, mem}
+use types.SemTy.{cells}
 use denote.RattleType.{RattleType}
 use denote.Index.{row}
 use denote.Steps.{nothing}
@@ -127,6 +132,19 @@ module _ (E : El) {M : Type 1} {𝓤 : Ura M} (𝓛 : Logic 𝓤) (b : ℕ) wher
   of_items k xs o = qed 𝓛 (‵ (part_at (Array (R E) k) full_share xs b o) ∷ []) ∵
       use1 𝓛 (given (length xs ≡ k) (‵ (row (R E) full_share xs b o))) (arrays.apart E' 𝓛 full_share k xs b o) $ learn ! (λ _. by ! (of_row xs o))
 
+  -- an array has as many items as its type says
+  pub counted : (k : ℕ) (xs : List (el_x E)) (o : ℕ) → ent 𝓤 (sem 𝓛 (part_at (Array (R E) k) full_share xs b o)) (guard 𝓤 (length xs ≡ k) (sem 𝓛 (part_at (Array (R E) k) full_share xs b o)))
+  counted k xs o = qed 𝓛 (‵ (part_at (Array (R E) k) full_share xs b o) ∷ []) ∵
+      use1 𝓛 (given (length xs ≡ k) (‵ (row (R E) full_share xs b o))) (arrays.apart E' 𝓛 full_share k xs b o) $ learn ! (λ long. check ! long $ by ! (arrays.whole E' 𝓛 full_share k xs b o long))
+
+  pub to_cells : (xs : List (el_x E)) (o : ℕ) → ent 𝓤 (sem 𝓛 (Row o (full xs))) (sem 𝓛 (cells (mem (R E)) xs b o))
+  to_cells [] o = id⊢ 𝓤 (emp 𝓤)
+  to_cells (x ∷ xs) o = mono_r 𝓤 (sem 𝓛 (part_at (R E) full_share x b o)) (to_cells xs (o + s))
+
+  pub of_cells : (xs : List (el_x E)) (o : ℕ) → ent 𝓤 (sem 𝓛 (cells (mem (R E)) xs b o)) (sem 𝓛 (Row o (full xs)))
+  of_cells [] o = id⊢ 𝓤 (emp 𝓤)
+  of_cells (x ∷ xs) o = mono_r 𝓤 (sem 𝓛 (part_at (R E) full_share x b o)) (of_cells xs (o + s))
+
   pub of_room : (k o : ℕ) → ent 𝓤 (H.room (ty_array (elτ E) k) b o) (sem 𝓛 (Row o (empty k)))
   of_room zero o = qed 𝓛 (‵ (froom (ty_array (elτ E) 0) b o) ∷ []) ∵ keep ! [] $ done !
   of_room (suc k) o = qed 𝓛 (‵ (froom (ty_array (elτ E) (suc k)) b o) ∷ []) ∵
@@ -145,3 +163,56 @@ module _ (E : El) {M : Type 1} {𝓤 : Ura M} (𝓛 : Logic 𝓤) (b : ℕ) wher
 
   pub to_raw : (k o : ℕ) → ent 𝓤 (sem 𝓛 (Row o (empty k))) (H.room (bare (ty_array (elτ E) k)) b o)
   to_raw k o = via 𝓤 (H.room (ty_array (elτ E) k) b o) (to_room k o) (𝓛.laws.room-raw (ty_array (elτ E) k) b o)
+
+  -- two slots, of which the i-th comes first
+  abbrev Others : ℕ → List (Slot E) → ℕ → ℕ → Fml
+  Others o xs i j = fsep (besides o (take j xs) i) (Row (j * s + o + s) (drop (suc j) xs))
+
+  front_long : (xs : List (Slot E)) (j : ℕ) → j < length xs → length (take j xs) ≡ j
+  front_long xs j within = omega (arith, length-take j xs)
+
+  ordered_out : (o : ℕ) (xs : List (Slot E)) (i j : ℕ) → i < j → j < length xs
+      → ent 𝓤 (sem 𝓛 (Row o xs)) (sep 𝓤 (sem 𝓛 (place (R E) (get_or xs i None) b (i * s + o))) (sep 𝓤 (sem 𝓛 (place (R E) (get_or xs j None) b (j * s + o))) (sem 𝓛 (Others o xs i j))))
+  ordered_out o xs i j first within =
+      let front : List (Slot E) = take j xs in
+      let low : i < length front = omega (arith, front_long xs j within) in
+      qed 𝓛 (‵ (Row o xs) ∷ []) ∵
+      use1 𝓛 (‵ (place (R E) (get_or xs j None) b (j * s + o)) ⊛ ‵ (besides o xs j)) (slot_out o xs j within) $ split ! $ move ! (1 ∷ []) $ fsplit ! $
+      use1 𝓛 (‵ (place (R E) (get_or front i None) b (i * s + o)) ⊛ ‵ (besides o front i)) (slot_out o front i low) $ split ! $
+      rewrite ! 0 (λ (x : Slot E). ‵ (place (R E) x b (i * s + o))) (get_or-take j xs i None first) refl $
+      move ! (1 ∷ 2 ∷ []) $ fjoin ! $ move ! (1 ∷ 2 ∷ 0 ∷ []) $ done !
+
+  ordered_in : (o : ℕ) (xs : List (Slot E)) (i j : ℕ) → i < j → j < length xs → (x y : Slot E)
+      → ent 𝓤 (sep 𝓤 (sem 𝓛 (place (R E) x b (i * s + o))) (sep 𝓤 (sem 𝓛 (place (R E) y b (j * s + o))) (sem 𝓛 (Others o xs i j)))) (sem 𝓛 (Row o (set (set xs i x) j y)))
+  ordered_in o xs i j first within x y =
+      let front : List (Slot E) = take j xs in
+      let low : i < length front = omega (arith, front_long xs j within) in
+      let low' : j < length (set xs i x) = omega (arith, length-set xs i x) in
+      qed 𝓛 (‵ (place (R E) x b (i * s + o)) ∷ ‵ (place (R E) y b (j * s + o)) ∷ ‵ (Others o xs i j) ∷ []) ∵ move ! (2 ∷ []) $ fsplit ! $ move ! (2 ∷ 0 ∷ []) $
+      use2 𝓛 (‵ (Row o (set front i x))) (slot_in o front i low x) $
+      rewrite ! 0 (λ (l : List (Slot E)). ‵ (Row o l)) (sym (take-set-lt j xs i x first)) refl $
+      rewrite ! 1 (λ (l : List (Slot E)). ‵ (Row (j * s + o + s) l)) (sym (drop-set-lt (suc j) xs i x (omega arith))) refl $ fjoin ! $ move ! (1 ∷ 0 ∷ []) $
+      by ! (slot_in o (set xs i x) j low' y)
+
+  -- two slots of a row come out, and any two go back
+  pub record Two (o : ℕ) (xs : List (Slot E)) (i j : ℕ) : Type 1 where
+    pub Rest : Fml
+    pub out : ent 𝓤 (sem 𝓛 (Row o xs)) (sep 𝓤 (sem 𝓛 (place (R E) (get_or xs i None) b (i * s + o))) (sep 𝓤 (sem 𝓛 (place (R E) (get_or xs j None) b (j * s + o))) (sem 𝓛 Rest)))
+    pub back : (x y : Slot E) → ent 𝓤 (sep 𝓤 (sem 𝓛 (place (R E) x b (i * s + o))) (sep 𝓤 (sem 𝓛 (place (R E) y b (j * s + o))) (sem 𝓛 Rest))) (sem 𝓛 (Row o (set (set xs i x) j y)))
+
+  in_order : (o : ℕ) (xs : List (Slot E)) (i j : ℕ) → i < j → j < length xs → Two o xs i j
+  in_order o xs i j first within = record { Rest = Others o xs i j; out = ordered_out o xs i j first within; back = ordered_in o xs i j first within }
+
+  turned : (o : ℕ) (xs : List (Slot E)) (i j : ℕ) → j < i → i < length xs → Two o xs i j
+  turned o xs i j first within =
+      let P : Slot E → ℕ → Fml = λ x k. place (R E) x b (k * s + o) in
+      let Rest : Fml = Others o xs j i in
+      record {
+        Rest = Rest;
+        out = qed 𝓛 (‵ (Row o xs) ∷ []) ∵ use1 𝓛 (‵ (P (get_or xs j None) j) ⊛ ‵ (P (get_or xs i None) i) ⊛ ‵ Rest) (ordered_out o xs j i first within) $ split3 ! $ move ! (1 ∷ 0 ∷ []) $ done !;
+        back = λ x y. qed 𝓛 (‵ (P x i) ∷ ‵ (P y j) ∷ ‵ Rest ∷ []) ∵ move ! (1 ∷ 0 ∷ []) $ use3 𝓛 (‵ (Row o (set (set xs j y) i x))) (ordered_in o xs j i first within y x) $
+            rewrite ! 0 (λ (l : List (Slot E)). ‵ (Row o l)) (set_comm xs j i y x (λ e. absurd (let e' : j ≡ i = e in omega arith))) refl $ done !;
+      }
+
+  pub two_slots : (o : ℕ) (xs : List (Slot E)) (i j : ℕ) → (i ≡ j → ⊥) → i < length xs → j < length xs → Two o xs i j
+  two_slots o xs i j apart low low' = ⊎_elim (λ (p : i < j). in_order o xs i j p low') (λ (p : j ≤ i). turned o xs i j (omega arith) low) (order i j)

@@ -1,11 +1,32 @@
 -- What the words of `specs/Slots.antt` give.
-use Rattle.std.proofs.Common.{◌≡◌, ℕ, zero, suc, ◌+◌, ◌-◌, ◌<◌, ◌≤◌, List, [], ◌∷◌, ◌++◌, length, Some, None, refl, sym, ap, subst, ◌∙◌, arith, append_assoc}
-use Rattle.std.proofs.lemmas.List.{length-replicate, length-map, length-append, length-take, length-drop, take_at, drop_at, drop-replicate, replicate-append-replicate}
+use Rattle.std.proofs.Common.{Result, Ok, Err, ◌⊎◌, ◌≡◌, ℕ, zero, suc, ◌+◌, ◌-◌, ◌<◌, ◌≤◌, List, [], ◌∷◌, ◌++◌, length, Some, None, refl, sym, ap, subst, ◌∙◌, arith, append_assoc}
+use Rattle.std.proofs.lemmas.List.{take-append-drop, set_at, get_or-append_right, get_or-drop, map-append, length-replicate, length-map, length-append, length-take, length-drop, take_at, drop_at, drop-replicate, replicate-append-replicate}
+use mathlib.Core.Logic.{inl, inr, ⊎_elim}
+use lib.ListN.{set, get_or}
+use lib.Seq.{set-set, drop-cons}
+use Rattle.std.proofs.lemmas.Grind.{take_at_read}
+use Rattle.core.proofs.str.Laws.{order}
 use borrow.Author.Tests.{clash}
-use Rattle.std.specs.Prelude.{Option, IsSome, take, drop}
+use Rattle.std.specs.Prelude.{OnOk, Option, IsSome, take, drop}
+use Rattle.thin_block.specs.Lends.{over}
 use Rattle.thin_block.specs.Slots.{full, empty, slot, items_in, IsPacked, run, laid, emptied}
 
+-- a fact of `Ok` gives another
+pub on-ok : {T E P Q : Type 0} (r : Result T E) → (P → Q) → OnOk r P → OnOk r Q
+on-ok (Ok x) h p = h p
+on-ok (Err e) h p = p
+
+pub same_or_not : (i j : ℕ) → (i ≡ j) ⊎ (i ≡ j → ⊥)
+same_or_not i j =
+    ⊎_elim (λ (p : i < j). inr (λ (e : i ≡ j). absurd (omega arith)))
+    (λ (p : j ≤ i). ⊎_elim (λ (q : j < i). inr (λ (e : i ≡ j). absurd (omega arith))) (λ (q : i ≤ j). inl (let e : i ≡ j = omega arith in e)) (order j i)) (order i j)
+
 module _ {T : Type 0} where
+  -- a slot that is swapped with itself
+  pub set-same : (s : List (Option T)) (i j : ℕ) → i ≡ j → set s i (slot s i) ≡ set (set s i (slot s j)) j (slot s i)
+  set-same s i j same =
+      sym (set-set s i (slot s i) (slot s i)) ∙ (λ n. set (set s i (slot s (same n))) (same n) (slot s i))
+
   -- the item that a filled slot holds
   pub the_item : (x : Option T) → IsSome x → (y : T) × (x ≡ Some y)
   the_item (Some y) is = (y, refl)
@@ -45,6 +66,51 @@ module _ {T : Type 0} where
   pub length-laid : (i : ℕ) (ys s : List (Option T)) → i + length ys ≤ length s → length (laid i ys s) ≡ length s
   length-laid i ys s le =
       omega (arith, length-append (take i s) (ys ++ drop (i + length ys) s), length-append ys (drop (i + length ys) s), length-take i s, length-drop (i + length ys) s)
+
+  -- items written over a run of as many slots
+  pub over-laid : (s : List (Option T)) (i : ℕ) (ws : List T) → i + length ws ≤ length s → ((j : ℕ) → i ≤ j → j < i + length ws → IsSome (slot s j)) → over s i ws ≡ laid i (full ws) s
+  over-laid [] zero [] le held = refl
+  over-laid [] (suc i) ws le held = absurd (omega arith)
+  over-laid [] zero (w ∷ ws) le held = absurd (omega arith)
+  over-laid (x ∷ s) (suc i) ws le held =
+      let more : suc (i + length (full ws)) ≡ suc i + length (full ws) = omega arith in
+      ap (λ (l : List (Option T)). x ∷ l) (over-laid s i ws (let le' : suc i + length ws ≤ suc (length s) = le in omega arith) (λ j low high. held (suc j) (omega arith) (omega arith)))
+      ∙ ap (λ (k : ℕ). x ∷ (take i s ++ (full ws ++ drop k (x ∷ s)))) more
+  over-laid (None ∷ s) zero [] le held = refl
+  over-laid (None ∷ s) zero (w ∷ ws) le held = let wrong : IsSome (let none : Option T = None in none) = held zero (omega arith) (omega arith) in absurd (clash wrong)
+  over-laid (Some x ∷ s) zero [] le held = refl
+  over-laid (Some x ∷ s) zero (w ∷ ws) le held =
+      let more : suc (0 + length (full ws)) ≡ 0 + suc (length (full ws)) = omega arith in
+      ap (λ (l : List (Option T)). Some w ∷ l) (over-laid s zero ws (let le' : 0 + suc (length ws) ≤ suc (length s) = le in omega arith) (λ j low high. held (suc j) (omega arith) (omega arith)))
+      ∙ ap (λ (k : ℕ). Some w ∷ (full ws ++ drop k (Some x ∷ s))) more
+
+  -- nothing is laid, or one slot more
+  pub laid-none : (i : ℕ) (s : List (Option T)) → laid i [] s ≡ s
+  laid-none i s = ap (λ (k : ℕ). take i s ++ drop k s) (let e : i + 0 ≡ i = omega arith in e) ∙ take-append-drop i s
+
+  pub laid-one : (i : ℕ) (ys s : List (Option T)) (k : ℕ) (y : Option T) → k ≡ i + length ys → k < length s → set (laid i ys s) k y ≡ laid i (ys ++ y ∷ []) s
+  laid-one i ys s k y e within =
+      let at : length (take i s ++ ys) ≡ k = omega (arith, length-append (take i s) ys, length-take i s) in
+      let rest : drop (i + length ys) s ≡ get_or s k None ∷ drop (suc k) s = ap (λ (n : ℕ). drop n s) (sym e) ∙ drop-cons s k None within in
+      let long : suc k ≡ i + length (ys ++ y ∷ []) = omega (arith, length-append ys (y ∷ [])) in
+      ap (λ (l : List (Option T)). set (take i s ++ (ys ++ l)) k y) rest
+      ∙ (ap (λ (l : List (Option T)). set l k y) (sym (append_assoc (take i s) ys (get_or s k None ∷ drop (suc k) s)))
+      ∙ (set_at (take i s ++ ys) (get_or s k None) (drop (suc k) s) y k at
+      ∙ (append_assoc (take i s) ys (y ∷ drop (suc k) s)
+      ∙ (ap (λ (l : List (Option T)). take i s ++ l) (sym (append_assoc ys (y ∷ []) (drop (suc k) s))) ∙ ap (λ (n : ℕ). take i s ++ ((ys ++ y ∷ []) ++ drop n s)) long))))
+
+  -- behind what is laid
+  pub slot-laid : (i : ℕ) (ys s : List (Option T)) (k : ℕ) → i ≤ length s → i + length ys ≤ k → slot (laid i ys s) k ≡ slot s k
+  slot-laid i ys s k low past =
+      let front : length (take i s) ≡ i = omega (arith, length-take i s) in
+      get_or-append_right (take i s) (ys ++ drop (i + length ys) s) i k None front (omega arith)
+      ∙ (get_or-append_right ys (drop (i + length ys) s) (length ys) (k - i) None refl (omega arith)
+      ∙ (get_or-drop (i + length ys) s (k - i - length ys) None ∙ ap (λ (n : ℕ). slot s n) (let e : i + length ys + (k - i - length ys) ≡ k = omega arith in e)))
+
+  -- one item of xs more is copied
+  pub full-more : (xs : List T) (k : ℕ) (x : T) → k < length xs → x ≡ get_or xs k x → full (take (k + 1) xs) ≡ full (take k xs) ++ Some x ∷ []
+  full-more xs k x low is =
+      ap (λ (l : List T). full l) ((take_at_read xs k x low).1 ∙ ap (λ (y : T). take k xs ++ y ∷ []) (sym is)) ∙ map-append Some (take k xs) (x ∷ [])
 
   pub slot-empty : (k i : ℕ) → slot (empty {T = T} k) i ≡ None
   slot-empty zero i = refl

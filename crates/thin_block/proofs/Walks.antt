@@ -7,14 +7,17 @@ use mir.Syntax.{Body, skip, seq, assign, block, loop, cond, switch, exit, return
 use base.Logic.{SProp, ent, emp, sep, via, id⊢, comm∗, emp∗, mono_l, mono_r}
 use prog.Wp.{Env, Calls, Loops, Wp, after_seq, after_block}
 use types.Logic.{Logic, sem}
-use mir.Val.{vstruct, vnil}
+use mir.Syntax.{Ty}
+use mir.Val.{Val, WT, has_ty, vstruct, vnil}
+use base.Fml.{ftrue}
 use denote.Struct.Struct.{Struct, Struct-Makes}
 use denote.Struct.Declared as Declared
-use denote.Steps.{owned}
+use denote.Steps.{nothing, owned}
 use Rattle.core.specs.contracts.alloc.AllocError as AE
-use types.Kit.{◌$◌, ◌∵◌, !, qed, done, Item, Post, Step, step, prop, any_q, post}
+use types.Kit.{‵, use1, fjoin, ◌$◌, ◌∵◌, !, qed, done, Item, Post, Step, step, prop, any_q, post}
 use contract.Monad.{fact, fact_i}
-use denote.Laws.{Is}
+use denote.Exit.{Entries, all_last}
+use denote.Laws.{Is, Typed}
 use denote.Builtin.{unit}
 use denote.Signature.{Slot, plain}
 
@@ -89,3 +92,15 @@ says_all {𝓤 = 𝓤} k φs {P} x = step (λ s. record {
 pub refused_made : {M : Type 1} {𝓤 : Ura M} (𝓛 : Logic 𝓤) → ent 𝓤 (emp 𝓤) (sem 𝓛 (AE.the_row.own_val (record {}) (vstruct vnil ∷ [])))
 refused_made 𝓛 = qed 𝓛 [] ∵
     owned ! (Struct (Declared.shape AE.the_type)) (Is (Struct (Declared.shape AE.the_type))) (Struct-Makes 𝓛 (Declared.shape AE.the_type) tt) tt (vstruct vnil ∷ []) (tt, (refl, tt)) $ done !
+
+-- what a type says of the machine values that it takes: they are one, of its layout
+pub alone : (τ : Ty) (vs : List Val) → Typed (τ ∷ []) vs → (v : Val) × ((vs ≡ v ∷ []) × (T (has_ty τ v) × WT v))
+alone τ [] t = absurd t
+alone τ (v ∷ []) t = (v, (refl, t.0))
+alone τ (v ∷ w ∷ vs) t = absurd t.1
+
+-- the items of an array that was passed leave nothing behind
+pub nothing_left : {M : Type 1} {𝓤 : Ura M} (𝓛 : Logic 𝓤) {X : Type 0} (xs : List X) (fs : Entries (λ _. Unit {0}) xs)
+    → ent 𝓤 (sem 𝓛 ftrue) (sem 𝓛 (all_last (λ _. Unit {0}) (λ _ _. ftrue) xs fs))
+nothing_left 𝓛 [] fs = qed 𝓛 (‵ ftrue ∷ []) ∵ done !
+nothing_left 𝓛 {X} (x ∷ xs) fs = qed 𝓛 (‵ ftrue ∷ []) ∵ use1 𝓛 (‵ (all_last (λ _. Unit {0}) (λ _ _. ftrue) xs fs.1)) (nothing_left 𝓛 xs fs.1) $ nothing ! $ fjoin ! $ done !

@@ -1,8 +1,29 @@
 -- What a block holds once a `&mut` to some of its items ends.
-use Rattle.std.specs.Prelude.{◌≡◌, ℕ, ◌≤◌, List, length, Option}
-use mathlib.Core.Path.{sym, subst, ◌∙◌}
+use Rattle.std.specs.Prelude.{◌≡◌, ℕ, zero, suc, ◌≤◌, List, [], ◌∷◌, length, Option, slice_set}
+use Rattle.std.specs.declared.option.Option.TheVariants.{None, Some}
+use Rattle.core.specs.declared.alloc.Allocator.{Ghosts}
+use Rattle.core.specs.Borrow.{Lends, LendsBoth, MutBor, Fml, RattleType, Array}
+use mathlib.Core.Path.{refl, sym, ap, subst, ◌∙◌}
+use lib.ListN.{length-set}
 use Rattle.thin_block.specs.Ownership.{any_same}
 use Rattle.thin_block.specs.declared.block.Block.{Block}
+use Rattle.thin_block.specs.contracts.block.Block.{the_row}
+
+module _ {X : Type 0} where
+  -- s with the items ws in the filled slots from i on, as far as both go
+  abbrev pub over : List (Option X) → ℕ → List X → List (Option X)
+  over [] i ws = []
+  over (x ∷ s) (suc i) ws = x ∷ over s i ws
+  over (None ∷ s) zero ws = None ∷ s
+  over (Some x ∷ s) zero [] = Some x ∷ s
+  over (Some x ∷ s) zero (w ∷ ws) = Some w ∷ over s zero ws
+
+  pub length-over : (s : List (Option X)) (i : ℕ) (ws : List X) → length (over s i ws) ≡ length s
+  length-over [] i ws = refl
+  length-over (x ∷ s) (suc i) ws = ap suc (length-over s i ws)
+  length-over (None ∷ s) zero ws = refl
+  length-over (Some x ∷ s) zero [] = refl
+  length-over (Some x ∷ s) zero (w ∷ ws) = ap suc (length-over s zero ws)
 
 module _ {X Z : Type 0} where
   -- b with the slots s in place of as many
@@ -12,3 +33,30 @@ module _ {X Z : Type 0} where
         slots = s;
         sound = (subst (λ (n : ℕ). b.len ≤ n) (sym same) b.sound.0, b.sound.1 ∙ sym (any_same b.slots s same));
       }
+
+  -- b with the item w in the slot i
+  abbrev pub with_item : Block X Z → ℕ → X → Block X Z
+  with_item b i w = with_slots b (slice_set b.slots i (Some w)) (length-set b.slots i (Some w))
+
+  -- b with the items v and w in the slots i and j
+  abbrev pub with_two : Block X Z → ℕ → ℕ → X → X → Block X Z
+  with_two b i j v w =
+      let s : List (Option X) = slice_set b.slots i (Some v) in
+      with_slots b (slice_set s j (Some w)) (length-set s j (Some w) ∙ length-set b.slots i (Some v))
+
+  -- b with the items ws in the slots from i on
+  abbrev pub with_items : Block X Z → ℕ → List X → Block X Z
+  with_items b i ws = with_slots b (over b.slots i ws) (length-over b.slots i ws)
+
+module _ (T A : RattleType) (g : Ghosts A.Denot) (b : MutBor (Block T.Denot A.Denot)) where
+  -- r is the item in the slot i of b
+  abbrev pub LendsItem : ℕ → MutBor T.Denot → Fml
+  LendsItem i r = Lends (the_row T A g) T b r (with_item b.now i)
+
+  -- r is the items in the slots i and j of b
+  abbrev pub LendsTwo : ℕ → ℕ → MutBor T.Denot × MutBor T.Denot → Fml
+  LendsTwo i j r = LendsBoth (the_row T A g) T T b r (with_two b.now i j)
+
+  -- r is the items in the slots from i on
+  abbrev pub LendsItems : ℕ → MutBor (List T.Denot) → Fml
+  LendsItems i r = Lends (the_row T A g) (Array T 0) b r (with_items b.now i)

@@ -1,11 +1,15 @@
 //! What a block lends: its items in place.
-ghost use Rattle.std.specs.Prelude.{◌≡◌, ℕ, ◌<◌, ◌≤◌, IsSome, length, slice_range};
+ghost use Rattle.std.specs.Prelude.{◌≡◌, ◌≢◌, ℕ, ◌<◌, ◌≤◌, IsSome, length, slice_range};
+ghost use Rattle.std.specs.declared.option.Option.TheVariants.{Some};
+ghost use types.Logic.{sem};
 ghost use Rattle.thin_block.specs.Slots.{full, slot};
 
 use crate::block::Block;
 use std::alloc::Allocator;
 
 impl<T, A: Allocator> Block<T, A> {
+    ghost use Rattle.thin_block.specs.Lends.{LendsItem, LendsItems, LendsTwo};
+
     /// The items in the slots from `start` up to `end`. The range may be empty, also without a block.
     pub fn slice(&self, start: usize, end: usize) -> &[T]
         requires start_le_end { start ≤ end }
@@ -17,6 +21,47 @@ impl<T, A: Allocator> Block<T, A> {
         unsafe {
             let items = at.add(2) as *const T;
             std::slice::from_raw_parts(items.add(start), end - start)
+        }
+    }
+
+    /// The item in the slot `i`, to be written.
+    pub fn slot_mut(&mut self, i: usize) -> &mut T
+        requires filled { IsSome (slot self.old.slots i) }
+        ensures* writes_back { sem 𝓛 (LendsItem T.row A.row A.Allocator self.entry i result) }
+        ensures value { slot self.old.slots i ≡ Some result.now }
+    {
+        let at = self.at;
+        unsafe { &mut *(at.add(2) as *mut T).add(i) }
+    }
+
+    /// The items in two different slots, to be written.
+    pub fn two_mut(&mut self, i: usize, j: usize) -> (&mut T, &mut T)
+        requires different { i ≢ j }
+        requires first { IsSome (slot self.old.slots i) }
+        requires second { IsSome (slot self.old.slots j) }
+        ensures* writes_back { sem 𝓛 (LendsTwo T.row A.row A.Allocator self.entry i j result) }
+        ensures first { slot self.old.slots i ≡ Some result.0.now }
+        ensures second { slot self.old.slots j ≡ Some result.1.now }
+    {
+        let at = self.at;
+        unsafe {
+            let items = at.add(2) as *mut T;
+            (&mut *items.add(i), &mut *items.add(j))
+        }
+    }
+
+    /// The items in the slots from `start` up to `end`, to be written. The range may be empty, also without a block.
+    pub fn slice_mut(&mut self, start: usize, end: usize) -> &mut [T]
+        requires start_le_end { start ≤ end }
+        requires in_bounds { end ≤ length self.old.slots }
+        requires filled { (i : ℕ) → start ≤ i → i < end → IsSome (slot self.old.slots i) }
+        ensures* writes_back { sem 𝓛 (LendsItems T.row A.row A.Allocator self.entry start result) }
+        ensures value { full result.now ≡ slice_range self.old.slots start end }
+    {
+        let at = self.at;
+        unsafe {
+            let items = at.add(2) as *mut T;
+            std::slice::from_raw_parts_mut(items.add(start), end - start)
         }
     }
 }

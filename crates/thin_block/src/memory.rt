@@ -1,11 +1,11 @@
 //! A block as a whole: how its memory is had, made larger and given back.
-ghost use Rattle.std.specs.Prelude.{◌≡◌, ◌-◌, ◌++◌, ◌<◌, IfErr, IfOk, OnErr, OnOk, length};
+ghost use Rattle.std.specs.Prelude.{◌≡◌, ◌-◌, ◌++◌, ◌<◌, ◌≤◌, take, IfErr, IfOk, OnErr, OnOk, length};
 ghost use Rattle.std.specs.declared.option.Option.TheVariants.{Some};
 ghost use Rattle.std.specs.Mem.{type_size};
 ghost use Rattle.std.specs.Align.{type_align};
 ghost use Rattle.thin_block.specs.Capacity.{Fits, block_align, block_bytes};
 ghost use Rattle.thin_block.specs.Cost.{growing, no_cost};
-ghost use Rattle.thin_block.specs.Slots.{IsPacked, empty};
+ghost use Rattle.thin_block.specs.Slots.{IsPacked, empty, run, laid};
 
 use crate::block::Block;
 use crate::errors::ThinVecError;
@@ -46,11 +46,47 @@ impl<T, A: Allocator> Block<T, A> {
         ensures err { OnErr result (self.new ≡ self.old) }
         ensures cause { IfErr result (λ cause. cause ≡ ThinVecError.OutOfMemory) }
     {
-        let mut larger = Block::allocate(alloc, cap)?;
+        self.remake(alloc, cap)
+    }
+
+    /// Gives up all slots but the first `cap`, by one allocation and one copy. Refused only where memory is, and then nothing changes.
+    pub fn shrink(&mut self, alloc: &A, cap: usize) -> Result<(), ThinVecError>
+        requires from { IsFrom self.old alloc.now }
+        requires some { 0 < cap }
+        requires smaller { cap < length self.old.slots }
+        requires packed { IsPacked self.old.slots self.old.len }
+        requires room { self.old.len ≤ cap }
+        ensures slots { OnOk result (self.new.slots ≡ take cap self.old.slots) }
+        ensures len { self.new.len ≡ self.old.len }
+        ensures heap { OnOk result (self.new.heap ≡ Some alloc.now) }
+        ensures cost { OnOk result (self.new.cost ≡ growing self.old.len self.old.cost) }
+        ensures err { OnErr result (self.new ≡ self.old) }
+        ensures cause { IfErr result (λ cause. cause ≡ ThinVecError.OutOfMemory) }
+    {
+        // Each block fits, and so does a smaller one.
+        let _whole = self.cap();
+        self.remake(alloc, cap)
+    }
+
+    // The items in a block of `cap` slots.
+    fn remake(&mut self, alloc: &A, cap: usize) -> Result<(), ThinVecError>
+        requires from { IsFrom self.old alloc.now }
+        requires some { 0 < cap }
+        requires fits { Fits T.row cap }
+        requires packed { IsPacked self.old.slots self.old.len }
+        requires room { self.old.len ≤ cap }
+        ensures slots { OnOk result (self.new.slots ≡ laid 0 (run 0 self.old.len self.old.slots) (empty cap)) }
+        ensures len { self.new.len ≡ self.old.len }
+        ensures heap { OnOk result (self.new.heap ≡ Some alloc.now) }
+        ensures cost { OnOk result (self.new.cost ≡ growing self.old.len self.old.cost) }
+        ensures err { OnErr result (self.new ≡ self.old) }
+        ensures cause { IfErr result (λ cause. cause ≡ ThinVecError.OutOfMemory) }
+    {
+        let mut other = Block::allocate(alloc, cap)?;
         let len = self.len();
-        larger.store_len(len);
-        self.carry_run(0, &mut larger, 0, len);
-        let old = replace(self, larger);
+        other.store_len(len);
+        self.carry_run(0, &mut other, 0, len);
+        let old = replace(self, other);
         old.release(alloc);
         Ok(())
     }

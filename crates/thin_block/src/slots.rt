@@ -2,7 +2,7 @@
 ghost use Rattle.std.specs.Prelude.{◌≡◌, ℕ, ◌+◌, ◌<◌, ◌≤◌, IsSome, length, slice_set};
 ghost use Rattle.std.specs.declared.option.Option.TheVariants.{None, Some};
 ghost use Rattle.thin_block.specs.Cost.{Cost, moving};
-ghost use Rattle.thin_block.specs.Slots.{slot, run, laid, emptied};
+ghost use Rattle.thin_block.specs.Slots.{full, slot, run, laid, emptied};
 
 use crate::block::Block;
 use std::alloc::Allocator;
@@ -34,6 +34,74 @@ impl<T, A: Allocator> Block<T, A> {
         unsafe { (at.add(2) as *mut T).add(i).read() }
     }
 
+    /// Swaps the items in the slots `i` and `j`, which may be the same.
+    pub fn swap(&mut self, i: usize, j: usize)
+        requires first { IsSome (slot self.old.slots i) }
+        requires second { IsSome (slot self.old.slots j) }
+        ensures slots { self.new.slots ≡ slice_set (slice_set self.old.slots i (slot self.old.slots j)) j (slot self.old.slots i) }
+        ensures len { self.new.len ≡ self.old.len }
+        ensures heap { self.new.heap ≡ self.old.heap }
+        ensures cost { self.new.cost ≡ moving 1 self.old.cost }
+    {
+        let at = self.at;
+        unsafe {
+            let one = (at.add(2) as *mut T).add(i);
+            let two = (at.add(2) as *mut T).add(j);
+            let first = one.read();
+            one.write(two.read());
+            two.write(first)
+        }
+    }
+
+    /// Moves the items of `values` into the empty slots from `i` on.
+    pub fn put_array<const N: usize>(&mut self, i: usize, values: [T; N])
+        requires in_bounds { i + N ≤ length self.old.slots }
+        requires empty { (k : ℕ) → i ≤ k → k < i + N → slot self.old.slots k ≡ None }
+        ensures slots { self.new.slots ≡ laid i (full values) self.old.slots }
+        ensures len { self.new.len ≡ self.old.len }
+        ensures heap { self.new.heap ≡ self.old.heap }
+        ensures cost { self.new.cost ≡ moving N self.old.cost }
+    {
+        let at = self.at;
+        unsafe { ((at.add(2) as *mut T).add(i) as *mut [T; N]).write(values) }
+    }
+
+    /// Moves the `N` items out of the slots from `i` on, which are empty afterwards.
+    pub fn take_array<const N: usize>(&mut self, i: usize) -> [T; N]
+        requires in_bounds { i + N ≤ length self.old.slots }
+        requires filled { (k : ℕ) → i ≤ k → k < i + N → IsSome (slot self.old.slots k) }
+        ensures value { full result ≡ run i N self.old.slots }
+        ensures slots { self.new.slots ≡ emptied i N self.old.slots }
+        ensures len { self.new.len ≡ self.old.len }
+        ensures heap { self.new.heap ≡ self.old.heap }
+        ensures cost { self.new.cost ≡ self.old.cost }
+    {
+        let at = self.at;
+        unsafe { ((at.add(2) as *mut T).add(i) as *mut [T; N]).read() }
+    }
+
+    /// Moves the `k` items in the slots from `from` on to the empty slots of `other` from `to` on.
+    pub fn move_run_to(&mut self, from: usize, k: usize, other: &mut Block<T, A>, to: usize)
+        requires source { from + k ≤ length self.old.slots }
+        requires target { to + k ≤ length other.old.slots }
+        requires filled { (i : ℕ) → from ≤ i → i < from + k → IsSome (slot self.old.slots i) }
+        requires empty { (i : ℕ) → to ≤ i → i < to + k → slot other.old.slots i ≡ None }
+
+        // This block's run is empty, and all else of it is kept.
+        ensures slots { self.new.slots ≡ emptied from k self.old.slots }
+        ensures len { self.new.len ≡ self.old.len }
+        ensures heap { self.new.heap ≡ self.old.heap }
+        ensures cost { self.new.cost ≡ self.old.cost }
+
+        // The other block holds the run.
+        ensures other_slots { other.new.slots ≡ laid to (run from k self.old.slots) other.old.slots }
+        ensures other_len { other.new.len ≡ other.old.len }
+        ensures other_heap { other.new.heap ≡ other.old.heap }
+        ensures other_cost { other.new.cost ≡ moving k other.old.cost }
+    {
+        self.carry_run(from, other, to, k);
+    }
+
     // Moves the `k` items in the slots from `from` on to those of `to_block` from `to` on, and says what `to_block` has
     // cost by then.
     pub(crate) fn carry_run(&mut self, from: usize, to_block: &mut Block<T, A>, to: usize, k: usize)
@@ -57,6 +125,24 @@ impl<T, A: Allocator> Block<T, A> {
             let source = (from_at.add(2) as *const T).add(from);
             let target = (to_at.add(2) as *mut T).add(to);
             std::ptr::copy_nonoverlapping(source, target, k)
+        }
+    }
+}
+
+impl<T: Copy, A: Allocator> Block<T, A> {
+    /// Copies `items` into the empty slots from `i` on.
+    pub fn copy_in(&mut self, i: usize, items: &[T])
+        requires in_bounds { i + length items.now ≤ length self.old.slots }
+        requires empty { (k : ℕ) → i ≤ k → k < i + length items.now → slot self.old.slots k ≡ None }
+        ensures slots { self.new.slots ≡ laid i (full items.now) self.old.slots }
+        ensures len { self.new.len ≡ self.old.len }
+        ensures heap { self.new.heap ≡ self.old.heap }
+        ensures cost { self.new.cost ≡ moving (length items.now) self.old.cost }
+    {
+        // No capacity is past `isize::MAX`, so no index is.
+        let _whole = self.cap();
+        for k in 0..items.len() {
+            self.put(i + k, items[k]);
         }
     }
 }

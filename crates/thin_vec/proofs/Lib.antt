@@ -1,4 +1,5 @@
 mod ListLemmas
-mod CostLemmas
+mod GrowthLemmas
 pub mod ThinVecLemmas
 mod EditLemmas
+mod LendLemmas

@@ -83,9 +83,6 @@ module _ {T : Type 0} where
       append_assoc (full xs) (replicate (c - length xs) None) (replicate (d - c) None)
       ∙ ap (λ (r : List (Option T)). full xs ++ r) (replicate-append-replicate (c - length xs) (d - c) None ∙ ap (λ (q : ℕ). replicate q None) m)
 
-  pub length-remove : (xs : List T) (i : ℕ) → i < length xs → length (remove xs i) + 1 ≡ length xs
-  length-remove xs i h = omega (arith, length-append (take i xs) (drop (suc i) xs), length-take i xs, length-drop (suc i) xs)
-
   pub slot-get : (xs : List T) (s : List (Option T)) (i : ℕ) → i < length xs → slot (full xs ++ s) i ≡ slice_get xs i
   slot-get [] s i h = absurd (omega arith)
   slot-get (x ∷ xs) s zero h = refl

@@ -1,5 +1,6 @@
 pub mod ThinVec
 pub mod Costs
+pub mod Lends
 -- the words of the block that the clauses above cite
 pub use Rattle.thin_block.specs.Capacity
 pub use Rattle.thin_block.specs.Cost

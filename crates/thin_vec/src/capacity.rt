@@ -7,11 +7,12 @@ ghost use Rattle.thin_block.specs.Growth.{exact_capacity};
 use crate::list::ThinVec;
 use std::alloc::Allocator;
 use std::marker::PhantomData;
+use std::mem;
 use thin_block::{Block, Growth, ThinVecError, fits};
 
 impl<T, A: Allocator, G: Growth> ThinVec<T, A, G> {
     ghost use Rattle.thin_vec.specs.Costs.{IsCheap, Grows};
-    ghost use Rattle.thin_vec.specs.ThinVec.{capacity_for, cost_at, cost_new, exact_for};
+    ghost use Rattle.thin_vec.specs.ThinVec.{capacity_for, cost_at, cost_new, cost_shrunk, exact_for};
 
     /// Makes room for `additional` more items: where there is not room enough, the capacity becomes the ruled one.
     ///
@@ -23,6 +24,7 @@ impl<T, A: Allocator, G: Growth> ThinVec<T, A, G> {
         ensures cause { IfErr result (λ cause. cause ≡ ThinVecError.CapacityOverflow → capacity_for G.rule T.row self.old additional ≡ None) }
         ensures items { self.new.items ≡ self.old.items }
         ensures capacity { OnOk result (capacity_for G.rule T.row self.old additional ≡ Some self.new.cap) }
+        ensures had_room { length self.old.items + additional ≤ self.old.cap → self.new.cap ≡ self.old.cap }
         ensures room { OnOk result (length self.old.items + additional ≤ self.new.cap) }
         ensures alloc { self.new.alloc ≡ self.old.alloc }
         ensures cost { OnOk result (self.new.cost ≡ cost_at self.old self.new.cap) }
@@ -47,6 +49,7 @@ impl<T, A: Allocator, G: Growth> ThinVec<T, A, G> {
         ensures cause { IfErr result (λ cause. cause ≡ ThinVecError.CapacityOverflow → exact_for T.row self.old additional ≡ None) }
         ensures items { self.new.items ≡ self.old.items }
         ensures capacity { OnOk result (exact_for T.row self.old additional ≡ Some self.new.cap) }
+        ensures had_room { length self.old.items + additional ≤ self.old.cap → self.new.cap ≡ self.old.cap }
         ensures room { OnOk result (length self.old.items + additional ≤ self.new.cap) }
         ensures alloc { self.new.alloc ≡ self.old.alloc }
         ensures cost { OnOk result (self.new.cost ≡ cost_at self.old self.new.cap) }
@@ -59,6 +62,30 @@ impl<T, A: Allocator, G: Growth> ThinVec<T, A, G> {
             Some(want) if fits::<T>(want) => self.grow_to(want),
             _ => Err(ThinVecError::CapacityOverflow),
         }
+    }
+
+    /// Makes the capacity the length: a full list stays, and an empty one gives its block back.
+    ///
+    /// It is refused only where memory is, and then nothing changes. A list without a block begins its counters again.
+    pub fn shrink_to_fit(&mut self) -> Result<(), ThinVecError>
+        ensures succeeds_empty { self.old.items ≡ [] → IsOk result }
+        ensures succeeds_full { length self.old.items ≡ self.old.cap → IsOk result }
+        ensures items { self.new.items ≡ self.old.items }
+        ensures capacity { OnOk result (self.new.cap ≡ length self.old.items) }
+        ensures alloc { self.new.alloc ≡ self.old.alloc }
+        ensures cost { OnOk result (self.new.cost ≡ cost_shrunk self.old) }
+        ensures err { OnErr result (self.new ≡ self.old) }
+        ensures cause { IfErr result (λ cause. cause ≡ ThinVecError.OutOfMemory) }
+    {
+        let len = self.len();
+        if len == self.capacity() {
+            return Ok(());
+        }
+        if len == 0 {
+            self.give_block_back();
+            return Ok(());
+        }
+        self.shrink_to(len)
     }
 
     // `reserve` where there is not room enough.
@@ -110,6 +137,37 @@ impl<T, A: Allocator, G: Growth> ThinVec<T, A, G> {
             Err(cause) => return Err(cause),
         }
         Ok(())
+    }
+
+    // `shrink_to_fit` of a list of `len` items that is neither empty nor full.
+    fn shrink_to(&mut self, len: usize) -> Result<(), ThinVecError>
+        requires some { 0 < len }
+        requires all { len ≡ length self.old.items }
+        requires smaller { len < self.old.cap }
+        ensures items { self.new.items ≡ self.old.items }
+        ensures capacity { OnOk result (self.new.cap ≡ len) }
+        ensures alloc { self.new.alloc ≡ self.old.alloc }
+        ensures cost { OnOk result (self.new.cost ≡ growing len self.old.cost) }
+        ensures err { OnErr result (self.new ≡ self.old) }
+        ensures cause { IfErr result (λ cause. cause ≡ ThinVecError.OutOfMemory) }
+    {
+        match self.block.shrink(&self.alloc, len) {
+            Ok(()) => (),
+            Err(cause) => return Err(cause),
+        }
+        Ok(())
+    }
+
+    // The block of an empty list is given back.
+    fn give_block_back(&mut self)
+        requires empty { self.old.items ≡ [] }
+        ensures items { self.new.items ≡ [] }
+        ensures capacity { self.new.cap ≡ 0 }
+        ensures alloc { self.new.alloc ≡ self.old.alloc }
+        ensures cost { self.new.cost ≡ no_cost }
+    {
+        let block = mem::replace(&mut self.block, Block::none());
+        block.release(&self.alloc);
     }
 
     // An empty list with a block of exactly `capacity` slots, or without one at 0. Every list of an exact capacity begins here.

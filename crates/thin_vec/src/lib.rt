@@ -2,10 +2,13 @@
 #![tactic(auto)]
 
 mod capacity;
+mod conversions;
 mod edits;
 mod errors;
 mod list;
+mod macros;
 
+pub use conversions::written_out;
 pub use errors::Rejected;
 pub use list::ThinVec;
 pub use thin_block::{Doubling, Growth, ThinVecError, fits};

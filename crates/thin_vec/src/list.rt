@@ -48,6 +48,8 @@ impl<T, A: Allocator> ThinVec<T, A> {
 }
 
 impl<T, A: Allocator, G: Growth> ThinVec<T, A, G> {
+    ghost use types.Logic.{sem};
+    ghost use Rattle.thin_vec.specs.Lends.{LendsItems};
     ghost use Rattle.thin_vec.specs.ThinVec.{IsNew, capacity_for, cost_at};
     ghost use Rattle.thin_vec.specs.Costs.{IsCheap};
 
@@ -104,6 +106,7 @@ impl<T, A: Allocator, G: Growth> ThinVec<T, A, G> {
         // The capacity is the ruled one.
         ensures items { OnOk result (self.new.items ≡ self.old.items ++ value ∷ []) }
         ensures capacity { OnOk result (capacity_for G.rule T.row self.old 1 ≡ Some self.new.cap) }
+        ensures had_room { length self.old.items < self.old.cap → self.new.cap ≡ self.old.cap }
         ensures cost { OnOk result (self.new.cost ≡ moving 1 (cost_at self.old self.new.cap)) }
         ensures alloc { self.new.alloc ≡ self.old.alloc }
         ensures cheap { IsCheap self.old → IsCheap self.new }
@@ -124,6 +127,15 @@ impl<T, A: Allocator, G: Growth> ThinVec<T, A, G> {
         ensures value { result.now ≡ self.now.items }
     {
         self.block.slice(0, self.block.len())
+    }
+
+    /// The items, in order, to be written. What is written is what the list then holds.
+    pub fn as_mut_slice(&mut self) -> &mut [T]
+        ensures* writes_back { sem 𝓛 (LendsItems T.row A.row G.row A.Allocator G.Growth self.entry result) }
+        ensures value { result.now ≡ self.old.items }
+    {
+        let len = self.block.len();
+        self.block.slice_mut(0, len)
     }
 
     // `push` into spare room.

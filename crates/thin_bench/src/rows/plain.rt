@@ -1,14 +1,21 @@
 //! Rows of the plain calls.
 use crate::command::{Command, Reply};
 use crate::rows::Outcome;
-use crate::runner::step;
+use crate::runner::{run, step};
 use std::alloc::Allocator;
-use thin_vec::ThinVec;
+use thin_vec::{ThinVec, ThinVecError};
 
-pub fn row_1<A: Allocator + Copy>(alloc: A) -> bool {
+pub fn row_1<A: Allocator + Copy>(alloc: A) -> Outcome {
     let mut list: ThinVec<i32, A> = ThinVec::new(alloc);
     let new = list.len() == 0 && list.capacity() == 0 && list.as_slice().is_empty();
-    new && list.pop().is_none() && list.capacity() == 0
+    let mut replies = Vec::new(alloc);
+    let pop = match vec![in alloc; Command::Pop] {
+        Ok(commands) => commands,
+        Err(_refused) => return Err(ThinVecError::OutOfMemory),
+    };
+    run(alloc, &mut list, pop, &mut replies)?;
+    let none = matches!(replies.as_slice(), [Reply::Item(None)]);
+    Ok(new && none && list.capacity() == 0)
 }
 
 pub fn row_2<A: Allocator + Copy>(alloc: A) -> Outcome {

@@ -2,7 +2,7 @@ use Rattle.std.proofs.Common.{◌≡◌, ◌+◌, arith, sym}
 use Rattle.std.specs.Mem.{type_size}
 use Rattle.std.specs.Align.{type_align}
 use denote.Param.{param}
-use Rattle.thin_vec.proofs.CostLemmas.{grows-rule}
+use Rattle.thin_vec.proofs.GrowthLemmas.{grows-rule}
 use Rattle.thin_vec.proofs.list.ThinVec.next_capacity.Goals as goal
 
 pub returns-in-Some-clause-grown : goal.returns-in-Some-clause-grown

@@ -1,0 +1,18 @@
+use Rattle.std.proofs.Common.{◌≡◌, ◌<◌, ◌≤◌, ◌∙◌, arith}
+use denote.Param.{param}
+use Rattle.thin_block.proofs.CapacityLemmas.{fits-less}
+use Rattle.thin_block.proofs.SlotsLemmas.{on-ok, packed-shrunk}
+use Rattle.thin_block.proofs.block.Block.shrink.Goals as goal
+
+-- a smaller block fits where the block does
+pub remake-requires-clause-fits : goal.remake-requires-clause-fits
+remake-requires-clause-fits g c =
+    let smaller = c.requires.smaller in
+    let whole = c.cap-whole.ensures.value in
+    fits-less (param 0 g.row.T) c.args.cap c.cap-whole.result c.cap-whole.ensures.fits (omega arith)
+
+-- the items in a smaller row are the first slots of the old one
+pub returns-clause-slots : goal.returns-clause-slots
+returns-clause-slots g c =
+    let smaller = c.requires.smaller in
+    on-ok c.remake.result (λ e. e ∙ packed-shrunk c.args.self.now.slots c.args.self.now.len c.requires.packed c.args.cap c.requires.room (omega arith)) c.remake.ensures.slots

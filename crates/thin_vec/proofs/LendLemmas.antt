@@ -1,0 +1,39 @@
+-- What a list is once what was lent of it has been written.
+use Rattle.std.proofs.Common.{◌≡◌, ℕ, zero, suc, ◌+◌, ◌-◌, ◌≤◌, List, [], ◌∷◌, ◌++◌, length, take, drop, Some, None, ap, arith, refl, sym, ◌∙◌}
+use Rattle.std.proofs.Math.Seq.{take-length}
+use lib.ListN.{length-append, length-drop, length-take}
+use Rattle.std.proofs.lemmas.List.{length-take-le}
+use Rattle.thin_block.specs.Block.{IsFrom}
+use Rattle.thin_block.specs.Lends.{over, with_items as block_with_items}
+use Rattle.thin_block.specs.Slots.{empty, front, full, items_in}
+use Rattle.thin_block.specs.declared.block.Block.{Block}
+use Rattle.thin_vec.specs.Lends.{rewritten, with_items}
+use Rattle.thin_vec.specs.ThinVec.{IsThin, thin_of}
+use Rattle.thin_vec.proofs.ListLemmas.{Settled, from-same, settled, thin-room}
+
+module _ {T : Type 0} where
+  -- what is written past the items is lost
+  over-front : (xs : List T) (k : ℕ) (ws : List T) → over (full xs ++ empty k) 0 ws ≡ full (rewritten xs ws) ++ empty k
+  over-front [] zero ws = refl
+  over-front [] (suc k) ws = refl
+  over-front (x ∷ xs) k [] = ap (λ l. full l ++ empty k) (sym (take-length (x ∷ xs)))
+  over-front (x ∷ xs) k (w ∷ ws) = ap (λ l. Some w ∷ l) (over-front xs k ws)
+
+  pub length-rewritten : (xs ws : List T) → length (rewritten xs ws) ≡ length xs
+  length-rewritten xs ws =
+      length-take-le (length xs) (ws ++ drop (length ws) xs) (omega (arith, length-append ws (drop (length ws) xs), length-drop (length ws) xs))
+
+module _ {T A : Type 0} where
+  pub settle-over : (b b' : Block T A) (a : A) (ws : List T) → IsThin b a → b'.slots ≡ over b.slots 0 ws → b'.len ≡ b.len → b'.heap ≡ b.heap → Settled b' a (rewritten (items_in b.slots) ws) (length b.slots)
+  settle-over b b' a ws t s l f =
+      let xs = items_in b.slots in
+      let same = length-rewritten xs ws in
+      settled b' a (rewritten xs ws) (length b.slots)
+      (s ∙ (ap (λ r. over r 0 ws) t.packed.row ∙ (over-front xs (length b.slots - length xs) ws ∙ ap (λ n. full (rewritten xs ws) ++ empty (length b.slots - n)) (sym same))))
+      (l ∙ (t.packed.len ∙ sym same)) (omega (arith, same, thin-room b a t)) (from-same b b' a t.from f)
+
+  -- the list behind a block whose items were written
+  pub view-with_items : (b : Block T A) (a : A) (ws : List T) → IsThin b a → thin_of (block_with_items b 0 ws) a ≡ with_items (thin_of b a) ws
+  view-with_items b a ws t =
+      let f = settle-over b (block_with_items b 0 ws) a ws t refl refl refl in
+      λ i. record { items = f.items i; cap = f.cap i; alloc = a; cost = b.cost }

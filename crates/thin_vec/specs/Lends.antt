@@ -1,0 +1,29 @@
+-- What a list holds once a `&mut` to its items ends.
+use Rattle.std.specs.Prelude.{◌++◌, List, ℕ, length, take, drop, slice_set}
+use Rattle.std.specs.declared.alloc.Allocator.{Ghosts as AllocatorGhosts}
+use Rattle.std.specs.Borrow.{Lends, MutBor, Fml, RattleType, Array}
+use Rattle.thin_block.specs.declared.growth.Growth.{Ghosts as GrowthGhosts}
+use Rattle.thin_vec.specs.ThinVec.{Thin}
+use Rattle.thin_vec.specs.contracts.list.ThinVec.{the_row}
+
+-- xs with those of ws in place of its own, as far as both go
+abbrev pub rewritten : {T : Type 0} → List T → List T → List T
+rewritten xs ws = take (length xs) (ws ++ drop (length ws) xs)
+
+module _ {T A : Type 0} where
+  -- v with the items ws in place of its own
+  abbrev pub with_items : Thin T A → List T → Thin T A
+  with_items v ws = record v { items = rewritten v.items ws }
+
+  -- v with the item w at i
+  abbrev pub with_item : Thin T A → ℕ → T → Thin T A
+  with_item v i w = record v { items = slice_set v.items i w }
+
+module _ (T A G : RattleType) (a : AllocatorGhosts A.Denot) (g : GrowthGhosts G.Denot) (v : MutBor (Thin T.Denot A.Denot)) where
+  -- r is the items of v
+  abbrev pub LendsItems : MutBor (List T.Denot) → Fml
+  LendsItems r = Lends (the_row T A G a g) (Array T 0) v r (with_items v.now)
+
+  -- r is the item of v at i
+  abbrev pub LendsItem : ℕ → MutBor T.Denot → Fml
+  LendsItem i r = Lends (the_row T A G a g) T v r (with_item v.now i)

@@ -1,0 +1,16 @@
+//! `thin_vec!`: a list written out.
+
+/// Makes a list: `thin_vec![alloc =>]` is `Ok` of `new`, and `thin_vec![alloc => x, y]` has the items in order and the
+/// capacity of their count.
+///
+/// Each form gives a `Result<ThinVec<T, A>, ThinVecError>`, and is used inside a function's body. A trailing comma is
+/// allowed. Refused, the items are dropped.
+#[macro_export]
+macro_rules! thin_vec {
+    ($alloc:expr =>) => {
+        Ok($crate::ThinVec::new($alloc))
+    };
+    ($alloc:expr => $($item:expr),+ $(,)?) => {
+        $crate::written_out($alloc, [$($item),+])
+    };
+}
