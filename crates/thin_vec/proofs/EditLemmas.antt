@@ -78,7 +78,7 @@ module _ {T : Type 0} where
       drop-all (y ∷ ys) = drop-all ys
 
   -- an item that is written over
-  full-set : (xs : List T) (s : List (Option T)) (i : ℕ) (m : T) → i < length xs → set (full xs ++ s) i (Some m) ≡ full (set xs i m) ++ s
+  pub full-set : (xs : List T) (s : List (Option T)) (i : ℕ) (m : T) → i < length xs → set (full xs ++ s) i (Some m) ≡ full (set xs i m) ++ s
   full-set [] s i m h = absurd (omega arith)
   full-set (x ∷ xs) s zero m h = refl
   full-set (x ∷ xs) s (suc i) m h = ap (λ (r : List (Option T)). Some x ∷ r) (full-set xs s i m (omega arith))

@@ -1,14 +1,15 @@
 -- What a list is once what was lent of it has been written.
-use Rattle.std.proofs.Common.{◌≡◌, ℕ, zero, suc, ◌+◌, ◌-◌, ◌≤◌, List, [], ◌∷◌, ◌++◌, length, take, drop, Some, None, ap, arith, refl, sym, ◌∙◌}
+use Rattle.std.proofs.Common.{◌≡◌, ℕ, zero, suc, ◌+◌, ◌-◌, ◌<◌, ◌≤◌, List, [], ◌∷◌, ◌++◌, length, take, drop, Some, None, ap, arith, refl, sym, ◌∙◌}
 use Rattle.std.proofs.Math.Seq.{take-length}
-use lib.ListN.{length-append, length-drop, length-take}
+use lib.ListN.{set, length-set, length-append, length-drop, length-take}
 use Rattle.std.proofs.lemmas.List.{length-take-le}
 use Rattle.thin_block.specs.Block.{IsFrom}
-use Rattle.thin_block.specs.Lends.{over, with_items as block_with_items}
+use Rattle.thin_block.specs.Lends.{over, with_item as block_with_item, with_items as block_with_items}
 use Rattle.thin_block.specs.Slots.{empty, front, full, items_in}
 use Rattle.thin_block.specs.declared.block.Block.{Block}
-use Rattle.thin_vec.specs.Lends.{rewritten, with_items}
+use Rattle.thin_vec.specs.Lends.{rewritten, with_item, with_items}
 use Rattle.thin_vec.specs.ThinVec.{IsThin, thin_of}
+use Rattle.thin_vec.proofs.EditLemmas.{full-set}
 use Rattle.thin_vec.proofs.ListLemmas.{Settled, from-same, settled, thin-room}
 
 module _ {T : Type 0} where
@@ -37,3 +38,18 @@ module _ {T A : Type 0} where
   view-with_items b a ws t =
       let f = settle-over b (block_with_items b 0 ws) a ws t refl refl refl in
       λ i. record { items = f.items i; cap = f.cap i; alloc = a; cost = b.cost }
+
+  -- and behind one of which an item was written
+  pub settle-set : (b b' : Block T A) (a : A) (i : ℕ) (w : T) → IsThin b a → i < length (items_in b.slots) → b'.slots ≡ set b.slots i (Some w) → b'.len ≡ b.len → b'.heap ≡ b.heap
+      → Settled b' a (set (items_in b.slots) i w) (length b.slots)
+  settle-set b b' a i w t within s l f =
+      let xs = items_in b.slots in
+      let same = length-set xs i w in
+      settled b' a (set xs i w) (length b.slots)
+      (s ∙ (ap (λ r. set r i (Some w)) t.packed.row ∙ (full-set xs (empty (length b.slots - length xs)) i w within ∙ ap (λ n. full (set xs i w) ++ empty (length b.slots - n)) (sym same))))
+      (l ∙ (t.packed.len ∙ sym same)) (omega (arith, same, thin-room b a t)) (from-same b b' a t.from f)
+
+  pub view-with_item : (b : Block T A) (a : A) (i : ℕ) (w : T) → IsThin b a → i < length (items_in b.slots) → thin_of (block_with_item b i w) a ≡ with_item (thin_of b a) i w
+  view-with_item b a i w t within =
+      let f = settle-set b (block_with_item b i w) a i w t within refl refl refl in
+      λ k. record { items = f.items k; cap = f.cap k; alloc = a; cost = b.cost }

@@ -1,7 +1,9 @@
 -- What a list holds once a `&mut` to its items ends.
 use Rattle.std.specs.Prelude.{◌++◌, List, ℕ, length, take, drop, slice_set}
 use Rattle.std.specs.declared.alloc.Allocator.{Ghosts as AllocatorGhosts}
-use Rattle.std.specs.Borrow.{Lends, MutBor, Fml, RattleType, Array}
+use Rattle.std.specs.Borrow.{Lends, MutBor, Fml, RattleType, Array, follows}
+use Rattle.std.specs.declared.slice.IterMut.{IterMut}
+use Rattle.std.specs.Slice.Iter.{iter_mut_name}
 use Rattle.thin_block.specs.declared.growth.Growth.{Ghosts as GrowthGhosts}
 use Rattle.thin_vec.specs.ThinVec.{Thin}
 use Rattle.thin_vec.specs.contracts.list.ThinVec.{the_row}
@@ -27,3 +29,7 @@ module _ (T A G : RattleType) (a : AllocatorGhosts A.Denot) (g : GrowthGhosts G.
   -- r is the item of v at i
   abbrev pub LendsItem : ℕ → MutBor T.Denot → Fml
   LendsItem i r = Lends (the_row T A G a g) T v r (with_item v.now i)
+
+  -- the items of v are those that the iteration it goes over
+  abbrev pub LendsIter : IterMut T.Denot → Fml
+  LendsIter it = follows (the_row T A G a g) (Array T 0) v.ghost_name (iter_mut_name it) (with_items v.now)

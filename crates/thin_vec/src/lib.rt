@@ -5,6 +5,7 @@ mod capacity;
 mod conversions;
 mod edits;
 mod errors;
+mod impls;
 mod list;
 mod macros;
 

@@ -1,0 +1,66 @@
+//! The standard traits at `ThinVec`: indexing, and iteration over a borrowed list.
+ghost use Rattle.std.specs.Prelude.{◌≡◌, ◌^◌, ◌<◌, Some, length, slice_get};
+ghost use Rattle.std.specs.Iterator.Runs.{EveryRun, ItemsMapTo};
+ghost use Rattle.std.specs.Slice.Iter.{iter_mut_rest, iter_mut_steps, iter_rest, iter_steps};
+ghost use types.Logic.{sem};
+ghost use Rattle.thin_vec.specs.Lends.{LendsItem, LendsIter};
+
+use crate::list::ThinVec;
+use std::alloc::Allocator;
+use std::ops::{Index, IndexMut};
+use std::slice::{Iter, IterMut};
+use thin_block::Growth;
+
+impl<T, A: Allocator, G: Growth> Index<usize> for ThinVec<T, A, G> {
+    type Output = T;
+
+    ghost can_index = { λ list index. index < length list.items };
+
+    ghost index_gives = { λ list index item. slice_get list.items index ≡ Some item };
+
+    fn index(&self, index: usize) -> &T {
+        &self.as_slice()[index]
+    }
+}
+
+impl<T, A: Allocator, G: Growth> IndexMut<usize> for ThinVec<T, A, G> {
+    // What is written is what the list then holds at `index`.
+    fn index_mut(&mut self, index: usize) -> &mut T
+        requires { index < length self.old.items }
+        ensures* writes_back { sem 𝓛 (LendsItem T.row A.row G.row A.Allocator G.Growth self.entry index result) }
+        ensures value { slice_get self.old.items index ≡ Some result.now }
+    {
+        self.block.slot_mut(index)
+    }
+}
+
+impl<'a, T, A: Allocator, G: Growth> IntoIterator for &'a ThinVec<T, A, G> {
+    type Item = &'a T;
+
+    type IntoIter = Iter<'a, T>;
+
+    ghost into_iter_gives = { λ list it. (iter_rest it ≡ list.now.items) × (length (iter_rest it) < 2 ^ 64)
+        × EveryRun (iter_steps {A = T}) (λ p. ItemsMapTo p (λ x. x.now) (iter_rest p.from)) };
+
+    fn into_iter(self) -> Iter<'a, T> {
+        self.as_slice().iter()
+    }
+}
+
+impl<'a, T, A: Allocator, G: Growth> IntoIterator for &'a mut ThinVec<T, A, G> {
+    type Item = &'a mut T;
+
+    type IntoIter = IterMut<'a, T>;
+
+    ghost into_iter_gives = { λ list it. (iter_mut_rest it ≡ list.now.items) × (length (iter_mut_rest it) < 2 ^ 64)
+        × EveryRun (iter_mut_steps {A = T}) (λ p. ItemsMapTo p (λ x. x.now) (iter_mut_rest p.from)) };
+
+    // What is written to the items is what the list then holds.
+    fn into_iter(self) -> IterMut<'a, T>
+        ensures* writes_back { sem 𝓛 (LendsIter T.row A.row G.row A.Allocator G.Growth self.entry result) }
+        ensures into_iter_gives { (iter_mut_rest result ≡ self.old.items) × (length (iter_mut_rest result) < 2 ^ 64)
+            × EveryRun (iter_mut_steps {A = T}) (λ p. ItemsMapTo p (λ x. x.now) (iter_mut_rest p.from)) }
+    {
+        self.as_mut_slice().iter_mut()
+    }
+}
