@@ -1,1 +1,2 @@
 mod Asks
+mod Counting

@@ -3,8 +3,10 @@
 //! Take it by reference, as `&Refusing<Global>`: a `&` to an allocator is one too, and `Copy`. A growth asks for a new block,
 //! so each growth of a list is one request.
 //!
-//! A contract can't say what a cell holds, so none says which request is refused, or what `requests` answers: the tests show
-//! it. What is proved is that the blocks are those of `inner`, and go back to it.
+//! `blocks` counts the blocks that are out, so that a test sees a leak: no contract says that a list gives its block back.
+//!
+//! A contract can't say what a cell holds, so none says which request is refused, or what `requests` and `blocks` answer: the
+//! tests show it. What is proved is that the blocks are those of `inner`, and go back to it.
 #![tactic(auto)]
 
 use std::alloc::{AllocError, Allocator};
@@ -13,11 +15,13 @@ use std::cell::Cell;
 #[cfg(test)]
 mod tests;
 
-// How many requests were made, and the number of the one that is refused, counting from 1. At 0 none is.
+// How many requests were made, the number of the one that is refused, counting from 1 (at 0 none is), and how many blocks
+// are out.
 #[derive(Drop)]
 struct Counts {
     requests: Cell<u64>,
     refused: Cell<u64>,
+    blocks: Cell<u64>,
 }
 
 // Counts a request, and says whether it is refused.
@@ -25,6 +29,18 @@ fn refuses(counts: &Counts) -> bool {
     let request = counts.requests.get().saturating_add(1);
     counts.requests.set(request);
     request == counts.refused.get()
+}
+
+// Counts the block of an answer that has one.
+fn granted(counts: &Counts, answer: Result<*mut u8, AllocError>) {
+    if answer.is_ok() {
+        counts.blocks.set(counts.blocks.get().saturating_add(1));
+    }
+}
+
+// Takes a block that came back off the count.
+fn returned(counts: &Counts) {
+    counts.blocks.set(counts.blocks.get().saturating_sub(1));
 }
 
 /// An allocator that passes each request on to `inner`, but for one, which it refuses.
@@ -41,11 +57,12 @@ impl<B: Allocator> Refusing<B> {
             counts: Counts {
                 requests: Cell::new(0),
                 refused: Cell::new(refused),
+                blocks: Cell::new(0),
             },
         }
     }
 
-    /// Counts anew from here, and refuses the request of that number.
+    /// Counts requests anew from here, and refuses the request of that number.
     pub fn refuse(&self, refused: u64) {
         self.counts.requests.set(0);
         self.counts.refused.set(refused);
@@ -54,6 +71,11 @@ impl<B: Allocator> Refusing<B> {
     /// How many requests were made since this was made, or since the last `refuse`. A refused one counts too.
     pub fn requests(&self) -> u64 {
         self.counts.requests.get()
+    }
+
+    /// How many blocks were handed out and not given back yet. `refuse` leaves it.
+    pub fn blocks(&self) -> u64 {
+        self.counts.blocks.get()
     }
 }
 
@@ -73,10 +95,13 @@ unsafe impl<B: Allocator> Allocator for Refusing<B> {
         if refuses(&self.counts) {
             return Err(AllocError);
         }
-        self.inner.allocate(size, align)
+        let answer = self.inner.allocate(size, align);
+        granted(&self.counts, answer);
+        answer
     }
 
     unsafe fn deallocate(&self, ptr: *mut u8, size: usize, align: usize) {
+        returned(&self.counts);
         self.inner.deallocate(ptr, size, align);
     }
 }

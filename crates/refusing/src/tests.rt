@@ -39,3 +39,43 @@ fn a_refused_growth_changes_nothing(rt: HostRuntime) -> Result<(), Fail> {
     assert_eq!(rt; refusing.requests(), 2);
     Ok(())
 }
+
+#[test]
+fn counts_the_blocks_that_are_out(rt: HostRuntime) -> Result<(), Fail> {
+    let refusing = Refusing::new(rt.alloc(), 0);
+    {
+        let mut one = Vec::new(&refusing);
+        assert_eq!(rt; refusing.blocks(), 0);
+        one.push(1u8)?;
+        assert_eq!(rt; refusing.blocks(), 1);
+        one.reserve(1000)?;
+        assert_eq!(rt; refusing.blocks(), 1);
+
+        refusing.refuse(1);
+        let mut other = Vec::new(&refusing);
+        assert!(rt; other.push(2u8).is_err());
+        assert_eq!(rt; refusing.blocks(), 1);
+        other.push(2u8)?;
+        assert_eq!(rt; refusing.blocks(), 2);
+    }
+    assert_eq!(rt; refusing.blocks(), 0);
+    Ok(())
+}
+
+#[test]
+fn a_block_that_inner_refuses_is_not_counted(rt: HostRuntime) -> Result<(), Fail> {
+    let inner = Refusing::new(rt.alloc(), 1);
+    let outer = Refusing::new(&inner, 0);
+    let mut items = Vec::new(&outer);
+    assert!(rt; items.push(1u8).is_err());
+    assert_eq!(rt;
+        (outer.requests(), outer.blocks(), inner.blocks()),
+        (1, 0, 0)
+    );
+    items.push(1u8)?;
+    assert_eq!(rt;
+        (outer.requests(), outer.blocks(), inner.blocks()),
+        (2, 1, 1)
+    );
+    Ok(())
+}
