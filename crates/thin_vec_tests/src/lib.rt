@@ -2,9 +2,15 @@
 #![tactic(auto)]
 
 #[cfg(test)]
+mod capacities;
+#[cfg(test)]
 mod counted;
 #[cfg(test)]
 mod drops;
+#[cfg(test)]
+mod filling;
+#[cfg(test)]
+mod growth_rules;
 #[cfg(test)]
 mod refusals;
 #[cfg(test)]

@@ -1,10 +1,31 @@
-//! How wide a list is.
+//! How wide a list is, and items that are not wide at all.
 use std::alloc::Global;
 use std::mem::size_of;
+use std::test::Fail;
 use thin_vec::ThinVec;
 
 #[test]
 fn a_list_is_one_pointer_wide(rt: HostRuntime) {
     assert_eq!(rt; size_of::<ThinVec<u8, Global>>(), size_of::<*const u8>());
     assert!(rt; size_of::<ThinVec<u8, Global>>() < size_of::<Vec<u8, Global>>());
+}
+
+#[test]
+fn zero_sized_values(rt: HostRuntime) -> Result<(), Fail> {
+    let mut list = ThinVec::new(rt.alloc());
+    for _ in 0..2 {
+        list.push(()).ok().ok_or("memory")?;
+    }
+    assert_eq!(rt;
+        [list.pop(), list.pop(), list.pop()],
+        [Some(()), Some(()), None]
+    );
+
+    for _ in 0..4 {
+        list.push(()).ok().ok_or("memory")?;
+    }
+    assert_eq!(rt; list.as_slice().iter().count(), 4);
+    list.clear();
+    assert_eq!(rt; list.as_slice().iter().count(), 0);
+    Ok(())
 }

@@ -1,0 +1,52 @@
+//! Each generic call at a second growth rule.
+use std::alloc::Global;
+use std::test::Fail;
+use thin_vec::{Growth, ThinVec, fits};
+
+/// At least four times the capacity.
+pub struct Fourfold {}
+
+impl Growth for Fourfold {
+    ghost use Rattle.thin_vec_tests.specs.FourfoldRule.{fourfold, fourfold_law};
+
+    ghost rule = { fourfold };
+
+    #[tactic(auto, unfolding(crate::specs::FourfoldRule::fourfold, thin_block::specs::Growth::fitting))]
+    fn next_capacity<T>(cap: usize, want: usize) -> Option<usize> {
+        if cap >= 1 << 61 {
+            return None;
+        }
+        let next = want.max(4 * cap);
+        if fits::<T>(next) { Some(next) } else { None }
+    }
+
+    ghost law = { fourfold_law };
+}
+
+#[test]
+fn grows_fourfold(rt: HostRuntime) -> Result<(), Fail> {
+    let mut list = ThinVec::<u32, Global, Fourfold>::ruled(rt.alloc());
+    assert!(rt; !list.has_capacity());
+    assert!(rt; list.is_empty());
+    for (item, capacity) in [(10, 1), (20, 4), (30, 4), (40, 4), (50, 16)] {
+        list.push(item).ok().ok_or("memory")?;
+        assert_eq!(rt; list.capacity(), capacity, "with {item}");
+    }
+    assert_eq!(rt; list.as_slice(), [10, 20, 30, 40, 50].as_slice());
+    assert!(rt; list.has_capacity());
+
+    list.reserve(12)?;
+    assert_eq!(rt; list.capacity(), 64);
+    list.reserve_exact(60)?;
+    assert_eq!(rt; list.capacity(), 65);
+
+    assert_eq!(rt; list.len(), 5);
+    assert_eq!(rt; list.swap_remove(0), 10);
+    assert_eq!(rt; list.pop(), Some(40));
+    assert_eq!(rt; list.as_slice(), [50, 20, 30].as_slice());
+    list.truncate(1);
+    assert_eq!(rt; list.as_slice(), [50].as_slice());
+    list.clear();
+    assert_eq!(rt; (list.len(), list.capacity()), (0, 65));
+    Ok(())
+}
