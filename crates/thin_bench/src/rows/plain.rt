@@ -3,7 +3,7 @@ use crate::command::{Command, Reply};
 use crate::rows::Outcome;
 use crate::runner::{run, step};
 use std::alloc::Allocator;
-use thin_vec::{ThinVec, ThinVecError};
+use thin_vec::{ThinVec, ThinVecError, thin_vec};
 
 pub fn row_1<A: Allocator + Copy>(alloc: A) -> Outcome {
     let mut list: ThinVec<i32, A> = ThinVec::new(alloc);
@@ -29,4 +29,54 @@ pub fn row_2<A: Allocator + Copy>(alloc: A) -> Outcome {
         }
     }
     Ok(ruled && list.as_slice() == [1, 2, 3, 4, 5].as_slice())
+}
+
+pub fn row_4<A: Allocator + Copy>(alloc: A) -> Outcome {
+    let mut ruled = thin_vec![alloc => 1, 2, 3]?;
+    ruled.reserve(1)?;
+    let mut far = thin_vec![alloc => 1, 2, 3]?;
+    far.reserve(10)?;
+    let mut exact = thin_vec![alloc => 1, 2, 3]?;
+    exact.reserve_exact(1)?;
+    Ok(ruled.capacity() == 6 && far.capacity() == 13 && exact.capacity() == 4)
+}
+
+pub fn row_6<A: Allocator + Copy>(alloc: A) -> Outcome {
+    let mut list = thin_vec![alloc => "foo", "bar", "baz", "qux"]?;
+    let bar = list.swap_remove(1) == "bar" && list.as_slice() == ["foo", "qux", "baz"].as_slice();
+    if list.is_empty() {
+        return Ok(false);
+    }
+    let foo = list.swap_remove(0) == "foo" && list.as_slice() == ["baz", "qux"].as_slice();
+    Ok(bar && foo && list.capacity() == 4)
+}
+
+pub fn row_17<A: Allocator + Copy>(alloc: A) -> Outcome {
+    let mut list = thin_vec![alloc => 1]?;
+    let refused = list.reserve(usize::MAX) == Err(ThinVecError::CapacityOverflow);
+    let unchanged = list.as_slice() == [1].as_slice() && list.capacity() == 1;
+    let bytes = overflows(ThinVec::<u8, A>::with_capacity(alloc, isize::MAX as usize - 16));
+    let words = overflows(ThinVec::<u16, A>::with_capacity(alloc, isize::MAX as usize / 2 + 1));
+    Ok(refused && unchanged && bytes && words)
+}
+
+fn overflows<T: Drop, A: Allocator>(made: Result<ThinVec<T, A>, ThinVecError>) -> bool {
+    match made {
+        Ok(_list) => false,
+        Err(cause) => cause == ThinVecError::CapacityOverflow,
+    }
+}
+
+pub fn row_23<A: Allocator + Copy>(alloc: A) -> Outcome {
+    let mut list = ThinVec::with_capacity(alloc, 10)?;
+    for item in 1..4 {
+        list.push(item)?;
+    }
+    let room = list.capacity() == 10;
+    list.shrink_to_fit()?;
+    let fit = list.capacity() == 3;
+    list.clear();
+    let cleared = list.is_empty() && list.capacity() == 3;
+    list.shrink_to_fit()?;
+    Ok(room && fit && cleared && list.capacity() == 0)
 }
