@@ -2,6 +2,7 @@ mod SizeFacts
 mod Walks
 mod HeaderMemory
 mod SlotMemory
+mod ShiftMemory
 mod Sharing
 mod Lending
 pub mod CapacityLemmas

@@ -1,15 +1,15 @@
 -- What the words of `specs/Slots.antt` give.
 use Rattle.std.proofs.Common.{Result, Ok, Err, ◌⊎◌, ◌≡◌, ℕ, zero, suc, ◌+◌, ◌-◌, ◌<◌, ◌≤◌, List, [], ◌∷◌, ◌++◌, length, Some, None, refl, sym, ap, subst, ◌∙◌, arith, append_assoc}
-use Rattle.std.proofs.lemmas.List.{take-append-drop, set_at, get_or-append_right, get_or-drop, map-append, length-replicate, length-map, length-append, length-take, length-drop, take_at, drop_at, drop-replicate, replicate-append-replicate}
+use Rattle.std.proofs.lemmas.List.{take-append-drop, drop-drop, set_at, get_or-append_right, get_or-drop, map-append, length-replicate, length-map, length-append, length-take, length-drop, take_at, drop_at, drop-replicate, replicate-append-replicate}
 use mathlib.Core.Logic.{inl, inr, ⊎_elim}
 use lib.ListN.{set, get_or}
-use lib.Seq.{set-set, drop-cons}
+use lib.Seq.{set-set, drop-cons, take-add}
 use Rattle.std.proofs.lemmas.Grind.{take_at_read}
 use Rattle.core.proofs.str.Laws.{order}
 use borrow.Author.Tests.{clash}
-use Rattle.std.specs.Prelude.{OnOk, Option, IsSome, take, drop}
+use Rattle.std.specs.Prelude.{OnOk, Option, IsSome, take, drop, replicate}
 use Rattle.thin_block.specs.Lends.{over}
-use Rattle.thin_block.specs.Slots.{full, empty, slot, items_in, IsPacked, run, laid, emptied}
+use Rattle.thin_block.specs.Slots.{full, empty, slot, items_in, IsPacked, run, laid, emptied, moved}
 
 -- a fact of `Ok` gives another
 pub on-ok : {T E P Q : Type 0} (r : Result T E) → (P → Q) → OnOk r P → OnOk r Q
@@ -111,6 +111,113 @@ module _ {T : Type 0} where
   pub full-more : (xs : List T) (k : ℕ) (x : T) → k < length xs → x ≡ get_or xs k x → full (take (k + 1) xs) ≡ full (take k xs) ++ Some x ∷ []
   full-more xs k x low is =
       ap (λ (l : List T). full l) ((take_at_read xs k x low).1 ∙ ap (λ (y : T). take k xs ++ y ∷ []) (sym is)) ∙ map-append Some (take k xs) (x ∷ [])
+
+  -- a row, by what lies before, in and behind a run
+  pub parted-run : (s : List (Option T)) (i k : ℕ) → s ≡ take i s ++ (run i k s ++ drop (i + k) s)
+  parted-run s i k =
+      sym (take-append-drop i s)
+      ∙ ap (λ (l : List (Option T)). take i s ++ l) (sym (take-append-drop k (drop i s)) ∙ ap (λ (l : List (Option T)). run i k s ++ l) (drop-drop k i s))
+
+  pub run-split : (s : List (Option T)) (i a k : ℕ) → run i (a + k) s ≡ run i a s ++ run (i + a) k s
+  run-split s i a k = take-add a k (drop i s) ∙ ap (λ (l : List (Option T)). run i a s ++ take k l) (drop-drop a i s)
+
+  pub laid-at : (i : ℕ) (pre ys old post : List (Option T)) → i ≡ length pre → length ys ≡ length old → laid i ys (pre ++ (old ++ post)) ≡ pre ++ (ys ++ post)
+  laid-at i pre ys old post e n =
+      let Row : Type 0 = List (Option T) in
+      let rest : drop (i + length ys) (pre ++ (old ++ post)) ≡ post =
+      ap (λ (l : Row). drop (i + length ys) l) (sym (append_assoc pre old post)) ∙ drop_at (pre ++ old) post (i + length ys) (length-append pre old ∙ omega arith) in
+      λ m. take_at pre (old ++ post) i (sym e) m ++ (ys ++ rest m)
+
+  run-at : (i k : ℕ) (pre ys post : List (Option T)) → i ≡ length pre → k ≡ length ys → run i k (pre ++ (ys ++ post)) ≡ ys
+  run-at i k pre ys post e n = ap (λ (l : List (Option T)). take k l) (drop_at pre (ys ++ post) i (sym e)) ∙ take_at ys post k (sym n)
+
+  moved-by : (from to k : ℕ) (s ys bare result : List (Option T)) → run from k s ≡ ys → emptied from k s ≡ bare → laid to ys bare ≡ result → moved from to k s ≡ result
+  unfolding moved
+  moved-by from to k s ys bare result e f g = (λ n. laid to (e n) (f n)) ∙ g
+
+  pub length-moved : (from to k : ℕ) (s : List (Option T)) → from + k ≤ length s → to + k ≤ length s → length (moved from to k s) ≡ length s
+  unfolding moved
+  length-moved from to k s source target =
+      let count : length (empty {T = T} k) ≡ k = length-replicate k (let o : Option T = None in o) in
+      let left : length (emptied from k s) ≡ length s = length-laid from (empty k) s (omega arith) in
+      length-laid to (run from k s) (emptied from k s) (omega (arith, left, length-run s from k source)) ∙ left
+
+  empty-turn : (a k : ℕ) (post : List (Option T)) → empty a ++ (empty k ++ post) ≡ empty k ++ (empty a ++ post)
+  empty-turn a k post =
+      let turned : a + k ≡ k + a = omega arith in
+      sym (append_assoc (empty a) (empty k) post)
+      ∙ (ap (λ (e : List (Option T)). e ++ post) (replicate-append-replicate a k None ∙ (ap (λ (m : ℕ). replicate m None) turned ∙ sym (replicate-append-replicate k a None)))
+      ∙ append_assoc (empty k) (empty a) post)
+
+  -- a run goes to the front of the gap before it
+  pub moved_left : (from to k d : ℕ) (pre ys post : List (Option T)) → to ≡ length pre → from ≡ to + d → k ≡ length ys
+      → moved from to k (pre ++ (empty d ++ (ys ++ post))) ≡ pre ++ (ys ++ (empty d ++ post))
+  moved_left from to k d pre ys post t f n =
+      let Row : Type 0 = List (Option T) in
+      let s : Row = pre ++ (empty d ++ (ys ++ post)) in
+      let e : s ≡ (pre ++ empty d) ++ (ys ++ post) = sym (append_assoc pre (empty d) (ys ++ post)) in
+      let l : from ≡ length (pre ++ empty {T = T} d) = omega (arith, length-append pre (empty d), length-replicate d (let o : Option T = None in o)) in
+      let m : length (empty {T = T} k) ≡ length ys = length-replicate k (let o : Option T = None in o) ∙ n in
+      moved-by from to k s ys (pre ++ (empty k ++ (empty d ++ post))) _
+      (ap (λ (r : Row). run from k r) e ∙ run-at from k (pre ++ empty d) ys post l n)
+      (ap (λ (r : Row). emptied from k r) e ∙ (laid-at from (pre ++ empty d) (empty k) ys post l m
+      ∙ (append_assoc pre (empty d) (empty k ++ post) ∙ ap (λ (r : Row). pre ++ r) (empty-turn d k post))))
+      (laid-at to pre ys (empty k) (empty d ++ post) t (sym m))
+
+  -- a run goes to the end of the gap behind it
+  pub moved_right : (from to k d : ℕ) (pre ys post : List (Option T)) → from ≡ length pre → to ≡ from + d → k ≡ length ys
+      → moved from to k (pre ++ (ys ++ (empty d ++ post))) ≡ pre ++ (empty d ++ (ys ++ post))
+  moved_right from to k d pre ys post f t n =
+      let Row : Type 0 = List (Option T) in
+      let s : Row = pre ++ (ys ++ (empty d ++ post)) in
+      let l : to ≡ length (pre ++ empty {T = T} d) = omega (arith, length-append pre (empty d), length-replicate d (let o : Option T = None in o)) in
+      let m : length (empty {T = T} k) ≡ length ys = length-replicate k (let o : Option T = None in o) ∙ n in
+      moved-by from to k s ys ((pre ++ empty d) ++ (empty k ++ post)) _
+      (run-at from k pre ys (empty d ++ post) f n)
+      (laid-at from pre (empty k) ys (empty d ++ post) f m ∙ (ap (λ (r : Row). pre ++ r) (empty-turn k d post) ∙ sym (append_assoc pre (empty d) (empty k ++ post))))
+      (laid-at to (pre ++ empty d) ys (empty k) post l (sym m) ∙ append_assoc pre (empty d) (ys ++ post))
+
+  -- a run stays where it is
+  pub moved_same : (s : List (Option T)) (from k : ℕ) → from + k ≤ length s → moved from from k s ≡ s
+  moved_same s from k source =
+      let pre : List (Option T) = take from s in
+      let ys : List (Option T) = run from k s in
+      let post : List (Option T) = drop (from + k) s in
+      let e : s ≡ pre ++ (ys ++ post) = parted-run s from k in
+      let l : from ≡ length pre = omega (arith, length-take from s) in
+      let n : k ≡ length ys = sym (length-run s from k source) in
+      let still : from ≡ from + 0 = omega arith in
+      ap (λ (r : List (Option T)). moved from from k r) e ∙ (moved_right from from k 0 pre ys post l still n ∙ sym e)
+
+  -- a run goes over what lies behind it, to empty slots
+  pub moved_over : (from to k : ℕ) (pre ys mid post : List (Option T)) → from ≡ length pre → to ≡ from + k + length mid → k ≡ length ys
+      → moved from to k (pre ++ (ys ++ (mid ++ (empty k ++ post)))) ≡ pre ++ (empty k ++ (mid ++ (ys ++ post)))
+  moved_over from to k pre ys mid post f t n =
+      let Row : Type 0 = List (Option T) in
+      let front : Row = pre ++ (empty k ++ mid) in
+      let joined : (r : Row) → front ++ r ≡ pre ++ (empty k ++ (mid ++ r)) =
+      λ r. append_assoc pre (empty k ++ mid) r ∙ ap (λ (l : Row). pre ++ l) (append_assoc (empty k) mid r) in
+      let m : length (empty {T = T} k) ≡ length ys = length-replicate k (let o : Option T = None in o) ∙ n in
+      let l : to ≡ length front = omega (arith, m, length-append pre (empty k ++ mid), length-append (empty k) mid) in
+      moved-by from to k _ ys (front ++ (empty k ++ post)) _
+      (run-at from k pre ys (mid ++ (empty k ++ post)) f n)
+      (laid-at from pre (empty k) ys (mid ++ (empty k ++ post)) f m ∙ sym (joined (empty k ++ post)))
+      (laid-at to front ys (empty k) post l (sym m) ∙ joined (ys ++ post))
+
+  -- a run goes back over what lies before it
+  pub moved_back : (from to k : ℕ) (pre ys mid post : List (Option T)) → to ≡ length pre → from ≡ to + k + length mid → k ≡ length ys
+      → moved from to k (pre ++ (empty k ++ (mid ++ (ys ++ post)))) ≡ pre ++ (ys ++ (mid ++ (empty k ++ post)))
+  moved_back from to k pre ys mid post t f n =
+      let Row : Type 0 = List (Option T) in
+      let front : Row = pre ++ (empty k ++ mid) in
+      let joined : (r : Row) → front ++ r ≡ pre ++ (empty k ++ (mid ++ r)) =
+      λ r. append_assoc pre (empty k ++ mid) r ∙ ap (λ (l : Row). pre ++ l) (append_assoc (empty k) mid r) in
+      let m : length (empty {T = T} k) ≡ length ys = length-replicate k (let o : Option T = None in o) ∙ n in
+      let l : from ≡ length front = omega (arith, m, n, length-append pre (empty k ++ mid), length-append (empty k) mid) in
+      moved-by from to k _ ys (pre ++ (empty k ++ (mid ++ (empty k ++ post)))) _
+      (ap (λ (r : Row). run from k r) (sym (joined (ys ++ post))) ∙ run-at from k front ys post l n)
+      (ap (λ (r : Row). emptied from k r) (sym (joined (ys ++ post))) ∙ (laid-at from front (empty k) ys post l m ∙ joined (empty k ++ post)))
+      (laid-at to pre ys (empty k) (mid ++ (empty k ++ post)) t (sym m))
 
   pub slot-empty : (k i : ℕ) → slot (empty {T = T} k) i ≡ None
   slot-empty zero i = refl

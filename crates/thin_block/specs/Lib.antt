@@ -6,3 +6,5 @@ pub mod Cost
 pub mod Ownership
 pub mod Block
 pub mod Lends
+pub mod Shifts
+pub mod formers

@@ -6,6 +6,7 @@ mod errors;
 mod growth;
 mod lends;
 mod memory;
+mod shifts;
 mod sizes;
 mod slots;
 #[cfg(test)]

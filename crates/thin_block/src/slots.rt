@@ -1,10 +1,11 @@
 //! One slot, or a run of them: each call is one raw expression.
-ghost use Rattle.std.specs.Prelude.{◌≡◌, ℕ, ◌+◌, ◌<◌, ◌≤◌, IsSome, length, slice_set};
+ghost use Rattle.std.specs.Prelude.{◌≡◌, ◌⊎◌, ℕ, ◌+◌, ◌<◌, ◌≤◌, IsSome, length, slice_set};
 ghost use Rattle.std.specs.declared.option.Option.TheVariants.{None, Some};
 ghost use Rattle.thin_block.specs.Cost.{Cost, moving};
-ghost use Rattle.thin_block.specs.Slots.{full, slot, run, laid, emptied};
+ghost use Rattle.thin_block.specs.Slots.{full, slot, run, laid, emptied, moved};
 
 use crate::block::Block;
+use crate::shifts::slide;
 use std::alloc::Allocator;
 
 impl<T, A: Allocator> Block<T, A> {
@@ -78,6 +79,64 @@ impl<T, A: Allocator> Block<T, A> {
     {
         let at = self.at;
         unsafe { ((at.add(2) as *mut T).add(i) as *mut [T; N]).read() }
+    }
+
+    /// Moves the `k` items in the slots from `from` on to those from `to` on. The two runs may overlap.
+    pub fn move_run(&mut self, from: usize, to: usize, k: usize)
+        requires source { from + k ≤ length self.old.slots }
+        requires target { to + k ≤ length self.old.slots }
+        requires filled { (i : ℕ) → from ≤ i → i < from + k → IsSome (slot self.old.slots i) }
+        requires empty { (i : ℕ) → to ≤ i → i < to + k → (i < from) ⊎ (from + k ≤ i) → slot self.old.slots i ≡ None }
+        ensures slots { self.new.slots ≡ moved from to k self.old.slots }
+        ensures cap { length self.new.slots ≡ length self.old.slots }
+        ensures len { self.new.len ≡ self.old.len }
+        ensures heap { self.new.heap ≡ self.old.heap }
+        ensures cost { self.new.cost ≡ moving k self.old.cost }
+    {
+        if from.abs_diff(to) < k {
+            self.slide_run(from, to, k);
+        } else {
+            self.copy_run(from, to, k);
+        }
+    }
+
+    // `move_run` where the runs overlap.
+    fn slide_run(&mut self, from: usize, to: usize, k: usize)
+        requires source { from + k ≤ length self.old.slots }
+        requires target { to + k ≤ length self.old.slots }
+        requires filled { (i : ℕ) → from ≤ i → i < from + k → IsSome (slot self.old.slots i) }
+        requires empty { (i : ℕ) → to ≤ i → i < to + k → (i < from) ⊎ (from + k ≤ i) → slot self.old.slots i ≡ None }
+        requires above { to < from + k }
+        requires below { from < to + k }
+        ensures slots { self.new.slots ≡ moved from to k self.old.slots }
+        ensures len { self.new.len ≡ self.old.len }
+        ensures heap { self.new.heap ≡ self.old.heap }
+        ensures cost { self.new.cost ≡ moving k self.old.cost }
+    {
+        let at = self.at;
+        unsafe {
+            let items = at.add(2) as *mut T;
+            slide(items.add(from) as *const T, items.add(to), k, from < to)
+        }
+    }
+
+    // `move_run` where the runs lie apart.
+    fn copy_run(&mut self, from: usize, to: usize, k: usize)
+        requires source { from + k ≤ length self.old.slots }
+        requires target { to + k ≤ length self.old.slots }
+        requires filled { (i : ℕ) → from ≤ i → i < from + k → IsSome (slot self.old.slots i) }
+        requires empty { (i : ℕ) → to ≤ i → i < to + k → (i < from) ⊎ (from + k ≤ i) → slot self.old.slots i ≡ None }
+        requires apart { (from + k ≤ to) ⊎ (to + k ≤ from) }
+        ensures slots { self.new.slots ≡ moved from to k self.old.slots }
+        ensures len { self.new.len ≡ self.old.len }
+        ensures heap { self.new.heap ≡ self.old.heap }
+        ensures cost { self.new.cost ≡ moving k self.old.cost }
+    {
+        let at = self.at;
+        unsafe {
+            let items = at.add(2) as *mut T;
+            std::ptr::copy_nonoverlapping(items.add(from) as *const T, items.add(to), k)
+        }
     }
 
     /// Moves the `k` items in the slots from `from` on to the empty slots of `other` from `to` on.
