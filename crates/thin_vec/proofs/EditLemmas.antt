@@ -1,10 +1,10 @@
 -- What a block holds while items leave it, and once they have left.
-use Rattle.std.proofs.Common.{◌≡◌, ◌≢◌, ℕ, zero, suc, ◌+◌, ◌-◌, ◌<◌, ◌≤◌, List, [], ◌∷◌, ◌++◌, length, take, drop, map, Option, Some, None, refl, sym, ap, ◌∙◌, subst, arith, get_or, length-append, append_assoc}
+use Rattle.std.proofs.Common.{◌≡◌, ◌≢◌, ℕ, zero, suc, ◌+◌, ◌-◌, ◌<◌, ◌≤◌, List, [], ◌∷◌, ◌++◌, length, take, drop, Option, Some, None, refl, sym, ap, ◌∙◌, subst, arith, get_or, length-append, append_assoc}
 use Rattle.std.proofs.Math.Seq.{take-append_seam}
-use Rattle.std.proofs.lemmas.List.{append-nil, drop-replicate, get_or-set_other, set_comm, set-append_left, length-replicate, length-take-le, length_push, take-append-drop, replicate-append-replicate, replicate_more, set_at, get_or_at, map-append}
+use Rattle.std.proofs.lemmas.List.{append-nil, drop-replicate, get_or-set_other, set_comm, set-append_left, length-replicate, length-take-le, length_push, take-append-drop, replicate-append-replicate, set_at, get_or_at, map-append}
 use Rattle.std.specs.Prelude.{IsSome, slice_get}
 use Rattle.std.specs.List.{swap_remove}
-use lib.ListN.{set, length-set, replicate}
+use lib.ListN.{set, length-set}
 use Rattle.thin_block.specs.Block.{IsFrom}
 use Rattle.thin_block.specs.Slots.{full, empty, slot, items_in, front, laid}
 use Rattle.thin_block.specs.declared.block.Block.{Block}

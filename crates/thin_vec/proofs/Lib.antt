@@ -2,4 +2,5 @@ mod ListLemmas
 mod GrowthLemmas
 pub mod ThinVecLemmas
 mod EditLemmas
+mod ShiftLemmas
 mod LendLemmas

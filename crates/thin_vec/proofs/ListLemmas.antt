@@ -1,8 +1,8 @@
 -- What a block holds whose items all lie in front, after each step on it.
-use Rattle.std.proofs.Common.{◌≡◌, ◌≢◌, ℕ, zero, suc, ◌+◌, ◌-◌, ◌<◌, ◌≤◌, List, [], ◌∷◌, ◌++◌, length, take, drop, map, Option, Some, None, refl, sym, ap, ◌∙◌, subst, arith, get_or, length-append, append_assoc, add-one}
-use Rattle.std.proofs.lemmas.List.{length-replicate, length-map, length-take, length-drop, take_at, drop_at, take-append-drop, replicate-append-replicate, take-append-le, drop-append-le, take-replicate, drop-replicate, set_at, get_or_at, get_or_append_left, get_or-append-add, get_or-append_right, get_or-replicate, get_or-map, map-append, map_push, append-nil, drop-drop, length-take-le, replicate_more, take_all, drop_more, length_push, get_or-set_other}
+use Rattle.std.proofs.Common.{◌≡◌, ◌≢◌, ℕ, zero, suc, ◌+◌, ◌-◌, ◌<◌, ◌≤◌, List, [], ◌∷◌, ◌++◌, length, take, drop, Option, Some, None, refl, sym, ap, ◌∙◌, arith, get_or, length-append, append_assoc, add-one}
+use Rattle.std.proofs.lemmas.List.{length-replicate, length-map, length-take, length-drop, take-append-drop, replicate-append-replicate, set_at, get_or_append_left, get_or-append_right, get_or-replicate, get_or-map, map_push, append-nil, length-take-le, drop_more, length_push, get_or-set_other}
 use Rattle.std.proofs.Math.Seq.{take-append_seam}
-use Rattle.std.specs.Prelude.{IsSome, insert, remove, slice_get, slice_range}
+use Rattle.std.specs.Prelude.{IsSome, insert, slice_get, slice_range}
 use lib.ListN.{set, replicate}
 use Rattle.thin_block.specs.Slots.{full, empty, slot, items_in, front}
 use Rattle.thin_block.specs.Block.{IsFrom}

@@ -1,12 +1,11 @@
 -- What follows from the words of `specs/ThinVec.antt` and `specs/Costs.antt`, for callers.
-use Rattle.std.proofs.Common.{◌≡◌, ◌≢◌, ℕ, zero, suc, ◌+◌, ◌*◌, ◌^◌, ◌<◌, ◌≤◌, Bool, true, false, Some, None, ap, arith, cond, eqb, inl, inr, length, refl, sym, ◌∙◌}
-use Rattle.std.specs.Prelude.{Option, ◌==◌, if◌then◌else◌}
+use Rattle.std.proofs.Common.{◌≡◌, ℕ, zero, suc, ◌+◌, ◌*◌, ◌^◌, ◌<◌, ◌≤◌, true, false, Some, ap, arith, eqb, inl, inr, length, refl, sym, ◌∙◌}
 use Rattle.std.specs.Borrow.{RattleType}
 use Rattle.std.proofs.lemmas.Bool.{cases_lt}
 use Rattle.std.proofs.lemmas.Bool.Decides.{nat_tests}
 use Rattle.std.proofs.lemmas.Grind.{pow_more}
-use Rattle.thin_block.specs.Cost.{Cost, growing, moving}
-use Rattle.thin_block.specs.Growth.{Rule, KeepsLaw, IsGrown}
+use Rattle.thin_block.specs.Cost.{Cost, growing}
+use Rattle.thin_block.specs.Growth.{Rule, KeepsLaw}
 use Rattle.thin_block.proofs.CapacityLemmas.{ruled-same, ruled-grows}
 use Rattle.thin_vec.specs.Costs.{IsCheap, IsCheapAt}
 use Rattle.thin_vec.specs.ThinVec.{Thin, capacity_for, cost_at}

@@ -1,6 +1,8 @@
 pub mod ThinVec
 pub mod Costs
 pub mod Lends
+pub mod Shapes
+pub mod formers
 -- the words of the block that the clauses above cite
 pub use Rattle.thin_block.specs.Capacity
 pub use Rattle.thin_block.specs.Cost

@@ -13,7 +13,10 @@ impl<T, A: Allocator> ThinVec<T, A> {
     /// A list of the array's items, of capacity N. An array of nothing takes no memory.
     ///
     /// It is refused where N does not fit, or where memory is refused, and then the array is handed back.
-    pub fn from_array<const N: usize>(alloc: A, items: [T; N]) -> Result<ThinVec<T, A>, Rejected<[T; N]>>
+    pub fn from_array<const N: usize>(
+        alloc: A,
+        items: [T; N],
+    ) -> Result<ThinVec<T, A>, Rejected<[T; N]>>
         ensures succeeds { N ≡ 0 → IsOk result }
         ensures overflow { exact_capacity T.row 0 N ≡ None → IsErrAnd result (λ refused. refused.cause ≡ ThinVecError.CapacityOverflow) }
         ensures cause { IfErr result (λ refused. refused.cause ≡ ThinVecError.CapacityOverflow → exact_capacity T.row 0 N ≡ None) }
@@ -48,7 +51,10 @@ fn count<T, const N: usize>(items: &[T; N]) -> usize
 
 /// What `thin_vec!` calls: `from_array`, whose array is dropped where it is refused.
 #[doc(hidden)]
-pub fn written_out<T: Drop, A: Allocator, const N: usize>(alloc: A, items: [T; N]) -> Result<ThinVec<T, A>, ThinVecError>
+pub fn written_out<T: Drop, A: Allocator, const N: usize>(
+    alloc: A,
+    items: [T; N],
+) -> Result<ThinVec<T, A>, ThinVecError>
     ensures succeeds { N ≡ 0 → IsOk result }
     ensures overflow { exact_capacity T.row 0 N ≡ None → IsErrOf result ThinVecError.CapacityOverflow }
     ensures cause { IfErr result (λ cause. cause ≡ ThinVecError.CapacityOverflow → exact_capacity T.row 0 N ≡ None) }

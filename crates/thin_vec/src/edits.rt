@@ -1,13 +1,76 @@
 //! The plain edits: an item or the rest of a list goes in or out.
-ghost use Rattle.std.specs.Prelude.{◌≡◌, ◌+◌, ◌-◌, ◌<◌, ◌≤◌, ◌==◌, [], Some, if◌then◌else◌, length, slice_get, take};
+ghost use Rattle.std.specs.Prelude.{◌≡◌, ◌+◌, ◌-◌, ◌<◌, ◌≤◌, ◌==◌, [], IfErr, IsErrAnd, IsOk, None, OnErr, OnOk, Some, if◌then◌else◌, insert, length, remove, slice_get, take};
 ghost use Rattle.std.specs.List.{swap_remove};
 ghost use Rattle.thin_block.specs.Cost.{moving};
 
+use crate::errors::Rejected;
 use crate::list::ThinVec;
 use std::alloc::Allocator;
-use thin_block::Growth;
+use thin_block::{Growth, ThinVecError};
 
 impl<T, A: Allocator, G: Growth> ThinVec<T, A, G> {
+    ghost use Rattle.thin_vec.specs.Costs.{IsCheap};
+    ghost use Rattle.thin_vec.specs.ThinVec.{capacity_for, cost_at};
+
+    /// Puts `value` at `index`, and moves the items from there on one place back. The list owns it afterwards.
+    ///
+    /// It is refused as `push` is.
+    pub fn insert(&mut self, index: usize, value: T) -> Result<(), Rejected<T>>
+        requires in_bounds { index ≤ length self.old.items }
+        ensures succeeds { length self.old.items < self.old.cap → IsOk result }
+        ensures overflow { capacity_for G.rule T.row self.old 1 ≡ None → IsErrAnd result (λ refused. refused.cause ≡ ThinVecError.CapacityOverflow) }
+        ensures cause { IfErr result (λ refused. refused.cause ≡ ThinVecError.CapacityOverflow → capacity_for G.rule T.row self.old 1 ≡ None) }
+
+        // The capacity is the ruled one.
+        ensures items { OnOk result (self.new.items ≡ insert self.old.items index value) }
+        ensures capacity { OnOk result (capacity_for G.rule T.row self.old 1 ≡ Some self.new.cap) }
+        ensures had_room { length self.old.items < self.old.cap → self.new.cap ≡ self.old.cap }
+        ensures cost { OnOk result (self.new.cost ≡ moving (length self.old.items - index + 1) (cost_at self.old self.new.cap)) }
+        ensures alloc { self.new.alloc ≡ self.old.alloc }
+        ensures cheap { IsCheap self.old → IsCheap self.new }
+
+        // Refused, the caller has the value back, and nothing changed.
+        ensures err { OnErr result (self.new ≡ self.old) }
+        ensures value_returned { IfErr result (λ refused. refused.value ≡ value) }
+    {
+        if let Err(cause) = self.reserve(1) {
+            return Err(Rejected { value, cause });
+        }
+        self.insert_reserved(index, value);
+        Ok(())
+    }
+
+    // `insert` into spare room.
+    fn insert_reserved(&mut self, index: usize, value: T)
+        requires in_bounds { index ≤ length self.old.items }
+        requires room { length self.old.items < self.old.cap }
+        ensures items { self.new.items ≡ insert self.old.items index value }
+        ensures capacity { self.new.cap ≡ self.old.cap }
+        ensures alloc { self.new.alloc ≡ self.old.alloc }
+        ensures cost { self.new.cost ≡ moving (length self.old.items - index + 1) self.old.cost }
+    {
+        let len = self.block.len();
+        self.block.move_run(index, index + 1, len - index);
+        self.block.put(index, value);
+        self.block.store_len(len + 1);
+    }
+
+    /// Removes the item at `index` and hands it out. The items behind it move one place forward.
+    pub fn remove(&mut self, index: usize) -> T
+        requires in_bounds { index < length self.old.items }
+        ensures value { slice_get self.old.items index ≡ Some result }
+        ensures items { self.new.items ≡ remove self.old.items index }
+        ensures capacity { self.new.cap ≡ self.old.cap }
+        ensures alloc { self.new.alloc ≡ self.old.alloc }
+        ensures cost { self.new.cost ≡ moving (length self.old.items - (index + 1)) self.old.cost }
+    {
+        let len = self.block.len();
+        let value = self.block.take(index);
+        self.block.move_run(index + 1, index, len - (index + 1));
+        self.block.store_len(len - 1);
+        value
+    }
+
     /// Removes the item at `index` and hands it out. The last item takes its place: none moves but this one.
     pub fn swap_remove(&mut self, index: usize) -> T
         requires in_bounds { index < length self.old.items }

@@ -1,5 +1,4 @@
-use Rattle.std.proofs.Common.{◌≡◌, ◌≤◌, ap, arith, length, sym, ◌∙◌}
-use Rattle.thin_block.specs.Slots.{items_in}
+use Rattle.std.proofs.Common.{ap, arith, length, ◌∙◌}
 use Rattle.thin_vec.proofs.EditLemmas.{settle-fill}
 use Rattle.thin_vec.proofs.ListLemmas.{Settled}
 use Rattle.thin_vec.proofs.conversions.ThinVec+T+A.from_array.Goals as goal

@@ -1,10 +1,10 @@
-use Rattle.std.proofs.Common.{◌≡◌, ◌<◌, ap, arith, length, refl, sym, ◌∙◌}
+use Rattle.std.proofs.Common.{◌<◌, ap, arith, length, refl, sym, ◌∙◌}
 use Rattle.std.specs.List.{slice_get}
 use Rattle.thin_block.specs.Lends.{with_item as block_with_item}
 use Rattle.thin_block.specs.Slots.{items_in}
 use Rattle.thin_vec.specs.Lends.{with_item}
 use Rattle.thin_vec.proofs.LendLemmas.{settle-set, view-with_item}
-use Rattle.thin_vec.proofs.ListLemmas.{Settled, thin-filled, thin-get}
+use Rattle.thin_vec.proofs.ListLemmas.{thin-filled, thin-get}
 use Rattle.thin_vec.proofs.impls.ThinVecIndexMutUsize.index_mut.Goals as goal
 
 pub slot_mut-requires : goal.slot_mut-requires
@@ -19,8 +19,7 @@ invariant_of-self-lent g c = λ w.
 
 pub returns : goal.returns
 returns g c =
-    let within : c.args.index < length (items_in c.self.inside.block.slots) = omega (arith, c.requires, ap (λ v. length v.items) c.self.view_is) in
-    (
+    let within : c.args.index < length (items_in c.self.inside.block.slots) = omega (arith, c.requires, ap (λ v. length v.items) c.self.view_is) in (
       (refl, λ w. view-with_item c.self.inside.block c.self.inside.alloc c.args.index w c.self.invariant within ∙ ap (λ v. with_item v c.args.index w) c.self.view_is),
       record {
         writes_back = tt;

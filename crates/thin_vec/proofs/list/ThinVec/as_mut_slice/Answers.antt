@@ -1,9 +1,8 @@
-use Rattle.std.proofs.Common.{◌≡◌, List, ap, arith, length, refl, ◌∙◌}
+use Rattle.std.proofs.Common.{ap, arith, refl, ◌∙◌}
 use Rattle.thin_block.specs.Lends.{with_items as block_with_items}
-use Rattle.thin_block.specs.Slots.{items_in}
 use Rattle.thin_vec.specs.Lends.{with_items}
 use Rattle.thin_vec.proofs.LendLemmas.{settle-over, view-with_items}
-use Rattle.thin_vec.proofs.ListLemmas.{Settled, thin-filled, thin-run}
+use Rattle.thin_vec.proofs.ListLemmas.{thin-filled, thin-run}
 use Rattle.thin_vec.proofs.list.ThinVec.as_mut_slice.Goals as goal
 
 pub slice_mut-requires-clause-filled : goal.slice_mut-requires-clause-filled
@@ -14,11 +13,10 @@ pub invariant_of-self-lent : goal.invariant_of-self-lent
 invariant_of-self-lent g c = λ w. (settle-over c.self.inside.block (block_with_items c.self.inside.block 0 w) c.self.inside.alloc w c.self.invariant refl refl refl).thin
 
 pub returns : goal.returns
-returns g c =
-    (
-      (refl, λ w. view-with_items c.self.inside.block c.self.inside.alloc w c.self.invariant ∙ ap (λ v. with_items v w) c.self.view_is),
-      record {
-        writes_back = tt;
-        value = thin-run c.self.inside.block c.self.inside.alloc c.slice_mut.result.now c.len-len.result c.self.invariant c.len-len.ensures.value c.slice_mut.ensures.value ∙ ap (λ v. v.items) c.self.view_is;
-      },
-    )
+returns g c = (
+  (refl, λ w. view-with_items c.self.inside.block c.self.inside.alloc w c.self.invariant ∙ ap (λ v. with_items v w) c.self.view_is),
+  record {
+    writes_back = tt;
+    value = thin-run c.self.inside.block c.self.inside.alloc c.slice_mut.result.now c.len-len.result c.self.invariant c.len-len.ensures.value c.slice_mut.ensures.value ∙ ap (λ v. v.items) c.self.view_is;
+  },
+)

@@ -1,4 +1,4 @@
-use Rattle.std.proofs.Common.{◌≡◌, ap, arith, length, ◌∙◌}
+use Rattle.std.proofs.Common.{ap, arith, ◌∙◌}
 use Rattle.thin_vec.proofs.ListLemmas.{thin-filled, thin-run}
 use Rattle.thin_vec.proofs.list.ThinVec.as_slice.Goals as goal
 

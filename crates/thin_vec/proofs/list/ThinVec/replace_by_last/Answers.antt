@@ -1,4 +1,4 @@
-use Rattle.std.proofs.Common.{◌≡◌, ◌<◌, ◌+◌, ◌-◌, sym, ap, ◌∙◌, length, arith}
+use Rattle.std.proofs.Common.{◌-◌, sym, ap, ◌∙◌, length, arith}
 use Rattle.std.specs.List.{slice_get, swap_remove}
 use Rattle.thin_block.specs.Slots.{items_in}
 use Rattle.thin_vec.proofs.EditLemmas.{settle-swap_remove}

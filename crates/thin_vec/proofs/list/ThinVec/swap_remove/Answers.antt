@@ -1,4 +1,4 @@
-use Rattle.std.proofs.Common.{◌≡◌, ◌+◌, arith, length}
+use Rattle.std.proofs.Common.{arith}
 use Rattle.thin_vec.proofs.EditLemmas.{get-last}
 use Rattle.thin_vec.proofs.list.ThinVec.swap_remove.Goals as goal
 

@@ -1,5 +1,5 @@
 -- The items from `len` on leave one by one; once all have left, the list is the shorter one.
-use Rattle.std.proofs.Common.{◌≡◌, ◌+◌, ◌≤◌, ◌<◌, sym, ap, ◌∙◌, length, take, arith, None}
+use Rattle.std.proofs.Common.{◌≡◌, ◌≤◌, sym, ap, ◌∙◌, length, take, arith, None}
 use lib.ListN.{set}
 use Rattle.thin_block.specs.Slots.{front}
 use Rattle.thin_vec.proofs.EditLemmas.{emptying, emptying-none, emptying-filled, emptying-take, settle-truncate}

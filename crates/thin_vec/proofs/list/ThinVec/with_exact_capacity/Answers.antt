@@ -1,4 +1,4 @@
-use Rattle.std.proofs.Common.{◌≡◌, sym, ◌∙◌, [], length}
+use Rattle.std.proofs.Common.{[]}
 use Rattle.thin_vec.proofs.EditLemmas.{settle-new}
 use Rattle.thin_vec.proofs.ListLemmas.{Settled}
 use Rattle.thin_vec.proofs.list.ThinVec.with_exact_capacity.Goals as goal

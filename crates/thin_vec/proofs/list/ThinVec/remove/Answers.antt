@@ -1,0 +1,32 @@
+use Rattle.std.proofs.Common.{◌+◌, ◌-◌, ap, ◌∙◌, length, arith, refl}
+use Rattle.std.specs.Prelude.{remove}
+use Rattle.thin_vec.proofs.ListLemmas.{Settled, thin-filled, thin-get, kept-filled}
+use Rattle.thin_vec.proofs.ShiftLemmas.{settle-remove}
+use Rattle.thin_block.specs.Slots.{items_in}
+use Rattle.thin_vec.proofs.list.ThinVec.remove.Goals as goal
+use Rattle.thin_vec.proofs.list.ThinVec.remove.Goals.{After-store_len}
+
+pub take-value-requires : goal.take-value-requires
+take-value-requires g c =
+    record { filled = thin-filled c.self.inside.block c.self.inside.alloc c.args.index c.self.invariant (omega (arith, c.requires.in_bounds, ap (λ v. length v.items) c.self.view_is)) }
+
+pub move_run-requires-clause-filled : goal.move_run-requires-clause-filled
+move_run-requires-clause-filled g c = λ j low high.
+    kept-filled c.self.inside.block c.self.inside.alloc c.args.index j _ c.self.invariant (omega arith) (omega (arith, high, c.len-len.ensures.value, c.self.invariant.packed.len)) c.take-value.ensures.slots
+
+pub returns-clause-value : goal.returns-clause-value
+returns-clause-value g c =
+    rw (← ap (λ v. v.items) c.self.view_is) (thin-get c.self.inside.block c.self.inside.alloc c.args.index c.take-value.result c.self.invariant (omega (arith, c.requires.in_bounds, ap (λ v. length v.items) c.self.view_is)) c.take-value.ensures.value)
+
+facts : (g : _) (c : After-store_len g) → Settled c.store_len.new.self c.self.inside.alloc (remove (items_in c.self.inside.block.slots) c.args.index) (length c.self.inside.block.slots)
+facts g c =
+    settle-remove c.self.inside.block c.store_len.new.self c.self.inside.alloc c.args.index _ _ c.take-value.new.self.slots c.self.invariant
+    (omega (arith, c.requires.in_bounds, ap (λ v. length v.items) c.self.view_is)) refl (ap (λ n. n - (c.args.index + 1)) c.len-len.ensures.value)
+    c.take-value.ensures.slots (c.store_len.ensures.slots ∙ c.move_run.ensures.slots) (c.store_len.ensures.len ∙ ap (λ n. n - 1) c.len-len.ensures.value)
+    (c.store_len.ensures.heap ∙ (c.move_run.ensures.heap ∙ c.take-value.ensures.heap))
+
+pub invariant_of-self : goal.invariant_of-self
+invariant_of-self g c = (facts g c).thin
+
+pub returns-clause-items : goal.returns-clause-items
+returns-clause-items g c = (facts g c).items ∙ ap (λ v. remove v.items c.args.index) c.self.view_is
