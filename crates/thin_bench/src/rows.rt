@@ -1,12 +1,12 @@
 //! The worked rows: a function each, which does what the row says and compares.
 mod plain;
 
-use crate::rows::plain::{row_1, row_2, row_4, row_6, row_17, row_23};
+use crate::rows::plain::{row_1, row_2, row_4, row_5, row_6, row_17, row_19, row_23};
 use std::alloc::Allocator;
 use thin_vec::ThinVecError;
 
 /// The rows that the program runs, by number.
-pub const ROWS: [u32; 6] = [1, 2, 4, 6, 17, 23];
+pub const ROWS: [u32; 8] = [1, 2, 4, 5, 6, 17, 19, 23];
 
 /// Whether a row gave what it is to give, or why a call of it was refused that is not to be.
 pub type Outcome = Result<bool, ThinVecError>;
@@ -17,8 +17,10 @@ pub fn row<A: Allocator + Copy>(alloc: A, number: u32) -> Outcome {
         1 => row_1(alloc),
         2 => row_2(alloc),
         4 => row_4(alloc),
+        5 => row_5(alloc),
         6 => row_6(alloc),
         17 => row_17(alloc),
+        19 => row_19(alloc),
         23 => row_23(alloc),
         _ => Ok(false),
     }

@@ -13,12 +13,22 @@ fn runs_commands_in_order(rt: HostRuntime) -> Result<(), Fail> {
     let alloc = rt.alloc();
     let mut list = ThinVec::new(alloc);
     let mut replies = Vec::new(alloc);
-    let commands = vec![in alloc; Command::Push(1), Command::Push(2), Command::Pop, Command::Push(3)]?;
-    run(alloc, &mut list, commands, &mut replies).ok().ok_or("memory")?;
+    let commands = vec![in alloc;
+        Command::Push(1),
+        Command::Push(2),
+        Command::Pop,
+        Command::Push(3),
+    ]?;
+    run(alloc, &mut list, commands, &mut replies)
+        .ok()
+        .ok_or("memory")?;
     assert_eq!(rt; list.as_slice(), [1, 3].as_slice());
     assert_eq!(rt; list.capacity(), 4);
     assert_eq!(rt; replies.len(), 4);
-    let items = replies.iter().filter(|reply| matches!(reply, Reply::Item(Some(2)))).count();
+    let items = replies
+        .iter()
+        .filter(|reply| matches!(reply, Reply::Item(Some(2))))
+        .count();
     assert_eq!(rt; items, 1);
     Ok(())
 }
@@ -68,7 +78,8 @@ impl Write for Failing<'_> {
     }
 }
 
-const REPORT: &str = "row 1 ok\nrow 2 ok\n2 rows ok\n";
+const REPORT: &str =
+    "row 1 ok\nrow 2 ok\nrow 4 ok\nrow 5 ok\nrow 6 ok\nrow 17 ok\nrow 19 ok\nrow 23 ok\n8 rows ok\n";
 
 #[test]
 fn reports_until_a_line_is_refused(rt: HostRuntime) -> Result<(), Fail> {
@@ -76,7 +87,11 @@ fn reports_until_a_line_is_refused(rt: HostRuntime) -> Result<(), Fail> {
     let mut whole = String::new(alloc);
     let mut calls = 0;
     {
-        let mut out = Failing { text: &mut whole, calls: 0, failing: 0 };
+        let mut out = Failing {
+            text: &mut whole,
+            calls: 0,
+            failing: 0,
+        };
         assert_eq!(rt; report(alloc, &mut out), 0);
         calls = out.calls;
     }
@@ -84,7 +99,11 @@ fn reports_until_a_line_is_refused(rt: HostRuntime) -> Result<(), Fail> {
     for failing in 1..calls.saturating_add(1) {
         let mut text = String::new(alloc);
         {
-            let mut out = Failing { text: &mut text, calls: 0, failing };
+            let mut out = Failing {
+                text: &mut text,
+                calls: 0,
+                failing,
+            };
             assert_eq!(rt; report(alloc, &mut out), 3, "at call {failing}");
             assert_eq!(rt; out.calls, failing);
         }
@@ -94,13 +113,35 @@ fn reports_until_a_line_is_refused(rt: HostRuntime) -> Result<(), Fail> {
 }
 
 #[test]
-fn reports_memory_refused(rt: HostRuntime) -> Result<(), Fail> {
-    let refusing = Refusing::new(rt.alloc(), 2);
-    let mut text = String::new(rt.alloc());
+fn reports_memory_refused_at_any_request(rt: HostRuntime) -> Result<(), Fail> {
+    let granted = Refusing::new(rt.alloc(), 0);
+    let mut whole = String::new(rt.alloc());
     {
-        let mut out = Failing { text: &mut text, calls: 0, failing: 0 };
-        assert_eq!(rt; report(&refusing, &mut out), 2);
+        let mut out = Failing {
+            text: &mut whole,
+            calls: 0,
+            failing: 0,
+        };
+        assert_eq!(rt; report(&granted, &mut out), 0);
     }
-    assert_eq!(rt; text.as_str(), "row 1 ok\nout of memory\n");
+    let requests = granted.requests();
+    assert!(rt; requests > 0);
+    for nth in 1..requests.saturating_add(1) {
+        let refusing = Refusing::new(rt.alloc(), nth);
+        let mut text = String::new(rt.alloc());
+        {
+            let mut out = Failing {
+                text: &mut text,
+                calls: 0,
+                failing: 0,
+            };
+            assert_eq!(rt; report(&refusing, &mut out), 2, "at request {nth}");
+        }
+        let rows = text
+            .as_str()
+            .strip_suffix("out of memory\n")
+            .ok_or("another end")?;
+        assert!(rt; REPORT.starts_with(rows), "at request {nth}");
+    }
     Ok(())
 }

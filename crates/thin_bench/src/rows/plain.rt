@@ -41,6 +41,16 @@ pub fn row_4<A: Allocator + Copy>(alloc: A) -> Outcome {
     Ok(ruled.capacity() == 6 && far.capacity() == 13 && exact.capacity() == 4)
 }
 
+pub fn row_5<A: Allocator + Copy>(alloc: A) -> Outcome {
+    let mut list = thin_vec![alloc => 1, 2, 3]?;
+    list.insert(1, 4)?;
+    if list.len() != 4 {
+        return Ok(false);
+    }
+    list.insert(4, 5)?;
+    Ok(list.as_slice() == [1, 4, 2, 3, 5].as_slice() && list.capacity() == 6)
+}
+
 pub fn row_6<A: Allocator + Copy>(alloc: A) -> Outcome {
     let mut list = thin_vec![alloc => "foo", "bar", "baz", "qux"]?;
     let bar = list.swap_remove(1) == "bar" && list.as_slice() == ["foo", "qux", "baz"].as_slice();
@@ -65,6 +75,18 @@ fn overflows<T: Drop, A: Allocator>(made: Result<ThinVec<T, A>, ThinVecError>) -
         Ok(_list) => false,
         Err(cause) => cause == ThinVecError::CapacityOverflow,
     }
+}
+
+pub fn row_19<A: Allocator + Copy>(alloc: A) -> Outcome {
+    let mut list = ThinVec::new(alloc);
+    for _ in 0..3 {
+        list.push(())?;
+    }
+    if list.len() != 3 || list.capacity() != 4 {
+        return Ok(false);
+    }
+    list.insert(1, ())?;
+    Ok(list.len() == 4 && list.capacity() == 4)
 }
 
 pub fn row_23<A: Allocator + Copy>(alloc: A) -> Outcome {
