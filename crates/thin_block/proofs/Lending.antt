@@ -22,10 +22,10 @@ use types.SemTy.{cells, Body}
 use types.Kit.{some as exists, later, ◌⊛◌, await, pick, updating, now, show, group, split, split3, feq_i, fjoin3, raw, use3, ‵, ◌$◌, ◌∵◌, !, qed, by, move, use1, use2, rewrite, fsplit, fjoin, fpack, done}
 use denote.Memory.{cell_at, part_of, mem}
 use denote.RawPtr.{block_ptr}
-use Rattle.std.specs.Prelude.{Option, slice_set}
+use Rattle.std.specs.Prelude.{slice_set}
 use Rattle.core.proofs.alloc.Calls.{Al}
 use Rattle.core.proofs.mem.Param.{El, R, el_x}
-use Rattle.thin_block.specs.Lends.{over, length-over, with_slots, with_item, with_items, with_two}
+use Rattle.thin_block.specs.Lends.{length-over, with_slots, with_item, with_items, with_two}
 use Rattle.thin_block.specs.Ownership.{place, places}
 use Rattle.std.specs.Prelude.{IsSome}
 use Rattle.thin_block.specs.Slots.{full, laid, slot}

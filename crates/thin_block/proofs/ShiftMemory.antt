@@ -2,7 +2,7 @@
 --     Moves            the way out of the row of what a copy takes, and the way back of what it leaves
 --     apart            where the two runs lie apart: the items, and room for them
 --     slides           where they overlap: the items, and room beside them as far as they go
-use Rattle.std.proofs.Common.{◌≡◌, ◌⊎◌, Bool, true, false, ℕ, Some, None, ◌+◌, ◌-◌, ◌*◌, ◌<◌, ◌≤◌, List, [], ◌∷◌, ◌++◌, length, refl, sym, ap, subst, ◌∙◌, arith, append_assoc}
+use Rattle.std.proofs.Common.{◌≡◌, ◌⊎◌, Bool, true, false, ℕ, Some, None, ◌+◌, ◌-◌, ◌*◌, ◌<◌, ◌≤◌, List, [], ◌∷◌, ◌++◌, length, refl, sym, ap, ◌∙◌, arith, append_assoc}
 use Rattle.std.proofs.lemmas.List.{length-map, length-replicate, length-append, length-take}
 use mathlib.Core.Logic.{inl, inr, ⊎_elim}
 use borrow.Author.Tests.{ltb-true, ltb-false}
@@ -17,7 +17,7 @@ use types.Kit.{‵, ◌⊛◌, ◌$◌, ◌∵◌, !, qed, by, move, use1, use2,
 use denote.Array.{Array}
 use denote.Memory.{part_at}
 use denote.RawPtr.{block_ptr}
-use Rattle.std.specs.Prelude.{Option, take, drop, replicate}
+use Rattle.std.specs.Prelude.{Option, take, drop}
 use Rattle.core.proofs.mem.Param.{El, R, el_x, elτ}
 use Rattle.core.proofs.ptr.Rows.{add_times}
 use Rattle.core.specs.Ptr.{memory_before_copy, memory_after_copy}

@@ -16,6 +16,7 @@ pub on-ok : {T E P Q : Type 0} (r : Result T E) → (P → Q) → OnOk r P → O
 on-ok (Ok x) h p = h p
 on-ok (Err e) h p = p
 
+-- two slots are the same or not
 pub same_or_not : (i j : ℕ) → (i ≡ j) ⊎ (i ≡ j → ⊥)
 same_or_not i j =
     ⊎_elim (λ (p : i < j). inr (λ (e : i ≡ j). absurd (omega arith)))
@@ -60,9 +61,11 @@ module _ {T : Type 0} where
   empty-run (x ∷ s) zero (suc k) le bare =
       λ n. bare zero (omega arith) (omega arith) n ∷ empty-run s zero k (omega arith) (λ j p q. bare (suc j) (omega arith) (omega arith)) n
 
+  -- a run has as many slots as asked
   pub length-run : (s : List (Option T)) (i k : ℕ) → i + k ≤ length s → length (run i k s) ≡ k
   length-run s i k le = omega (arith, length-take k (drop i s), length-drop i s)
 
+  -- a row over which slots are laid stays as long
   pub length-laid : (i : ℕ) (ys s : List (Option T)) → i + length ys ≤ length s → length (laid i ys s) ≡ length s
   length-laid i ys s le =
       omega (arith, length-append (take i s) (ys ++ drop (i + length ys) s), length-append ys (drop (i + length ys) s), length-take i s, length-drop (i + length ys) s)
@@ -118,9 +121,11 @@ module _ {T : Type 0} where
       sym (take-append-drop i s)
       ∙ ap (λ (l : List (Option T)). take i s ++ l) (sym (take-append-drop k (drop i s)) ∙ ap (λ (l : List (Option T)). run i k s ++ l) (drop-drop k i s))
 
+  -- a run of two runs
   pub run-split : (s : List (Option T)) (i a k : ℕ) → run i (a + k) s ≡ run i a s ++ run (i + a) k s
   run-split s i a k = take-add a k (drop i s) ∙ ap (λ (l : List (Option T)). run i a s ++ take k l) (drop-drop a i s)
 
+  -- what is laid takes the place of as many slots
   pub laid-at : (i : ℕ) (pre ys old post : List (Option T)) → i ≡ length pre → length ys ≡ length old → laid i ys (pre ++ (old ++ post)) ≡ pre ++ (ys ++ post)
   laid-at i pre ys old post e n =
       let Row : Type 0 = List (Option T) in
@@ -128,13 +133,16 @@ module _ {T : Type 0} where
       ap (λ (l : Row). drop (i + length ys) l) (sym (append_assoc pre old post)) ∙ drop_at (pre ++ old) post (i + length ys) (length-append pre old ∙ omega arith) in
       λ m. take_at pre (old ++ post) i (sym e) m ++ (ys ++ rest m)
 
+  -- a run, by what lies before and behind it
   run-at : (i k : ℕ) (pre ys post : List (Option T)) → i ≡ length pre → k ≡ length ys → run i k (pre ++ (ys ++ post)) ≡ ys
   run-at i k pre ys post e n = ap (λ (l : List (Option T)). take k l) (drop_at pre (ys ++ post) i (sym e)) ∙ take_at ys post k (sym n)
 
+  -- `moved`, by its three steps
   moved-by : (from to k : ℕ) (s ys bare result : List (Option T)) → run from k s ≡ ys → emptied from k s ≡ bare → laid to ys bare ≡ result → moved from to k s ≡ result
   unfolding moved
   moved-by from to k s ys bare result e f g = (λ n. laid to (e n) (f n)) ∙ g
 
+  -- a row stays as long when a run moves
   pub length-moved : (from to k : ℕ) (s : List (Option T)) → from + k ≤ length s → to + k ≤ length s → length (moved from to k s) ≡ length s
   unfolding moved
   length-moved from to k s source target =
@@ -142,6 +150,7 @@ module _ {T : Type 0} where
       let left : length (emptied from k s) ≡ length s = length-laid from (empty k) s (omega arith) in
       length-laid to (run from k s) (emptied from k s) (omega (arith, left, length-run s from k source)) ∙ left
 
+  -- two runs of empty slots in either order
   empty-turn : (a k : ℕ) (post : List (Option T)) → empty a ++ (empty k ++ post) ≡ empty k ++ (empty a ++ post)
   empty-turn a k post =
       let turned : a + k ≡ k + a = omega arith in
@@ -219,11 +228,13 @@ module _ {T : Type 0} where
       (ap (λ (r : Row). emptied from k r) (sym (joined (ys ++ post))) ∙ (laid-at from front (empty k) ys post l m ∙ joined (empty k ++ post)))
       (laid-at to pre ys (empty k) (mid ++ (empty k ++ post)) t (sym m))
 
+  -- a slot of an empty row
   pub slot-empty : (k i : ℕ) → slot (empty {T = T} k) i ≡ None
   slot-empty zero i = refl
   slot-empty (suc k) zero = refl
   slot-empty (suc k) (suc i) = slot-empty k i
 
+  -- a slot of a row that begins with items
   full-filled : (xs : List T) (rest : List (Option T)) (i : ℕ) → i < length xs → IsSome (slot (full xs ++ rest) i)
   full-filled [] rest i low = absurd (omega arith)
   full-filled (x ∷ xs) rest zero low = refl
@@ -250,23 +261,27 @@ module _ {T : Type 0} (s : List (Option T)) (n : ℕ) (packed : IsPacked s n) wh
   parted : s ≡ full xs ++ empty (length s - n)
   parted = packed.row ∙ ap (λ (k : ℕ). full xs ++ empty (length s - k)) (sym packed.len)
 
+  -- there are no more items than slots
   pub packed-le : n ≤ length s
   packed-le =
       let whole : length s ≡ length (full xs ++ empty {T = T} (length s - n)) = ap length parted in
       let long = full-long in
       omega (arith, length-append (full xs) (empty {T = T} (length s - n)))
 
+  -- the slots below n are filled
   pub packed-filled : (i : ℕ) → i < n → IsSome (slot s i)
   packed-filled i low =
       let len = packed.len in
       subst (λ (l : Row). IsSome (slot l i)) (sym packed.row) (full-filled xs (empty (length s - length xs)) i (omega arith))
 
+  -- the first n slots hold the items, and the rest hold none
   packed-run : run 0 n s ≡ full xs
   packed-run = ap (λ (l : Row). take n l) parted ∙ take_at (full xs) (empty (length s - n)) n full-long
 
   packed-rest : drop n s ≡ empty (length s - n)
   packed-rest = ap (λ (l : Row). drop n l) parted ∙ drop_at (full xs) (empty (length s - n)) n full-long
 
+  -- with the items taken the row is empty
   pub packed-emptied : emptied 0 n s ≡ empty (length s)
   packed-emptied =
       let le = packed-le in
@@ -282,11 +297,13 @@ module _ {T : Type 0} (s : List (Option T)) (n : ℕ) (packed : IsPacked s n) wh
       ap (λ (ys : Row). ys ++ drop (0 + length ys) (empty c)) packed-run
       ∙ (ap (λ (k : ℕ). full xs ++ drop k (empty c)) long ∙ ap (λ (l : Row). full xs ++ l) (drop-replicate n c None))
 
+  -- the items in a longer row
   pub packed-grown : (c : ℕ) → length s ≤ c → laid 0 (run 0 n s) (empty c) ≡ s ++ empty (c - length s)
   packed-grown c more =
       let le = packed-le in
       carried c ∙ (tail-split xs (length s - n) (c - length s) (c - n) (omega arith) ∙ ap (λ (l : Row). l ++ empty (c - length s)) (sym parted))
 
+  -- the items in a shorter row that has room for them
   pub packed-shrunk : (c : ℕ) → n ≤ c → c ≤ length s → laid 0 (run 0 n s) (empty c) ≡ take c s
   packed-shrunk c enough less =
       let kept : Row = full xs ++ empty (c - n) in

@@ -35,6 +35,7 @@ impl<T, A: Allocator> Block<T, A> {
     }
 
     /// The items in two different slots, to be written.
+    // Callers learn what the block holds afterwards from `slice_mut` and `split_at_mut`, and not yet from this pair.
     pub fn two_mut(&mut self, i: usize, j: usize) -> (&mut T, &mut T)
         requires different { i ≢ j }
         requires first { IsSome (slot self.old.slots i) }

@@ -1,12 +1,12 @@
 -- `slide` moves the items one by one: from the last on for a move up, and from the first on for a move down. It is core's proof of `ptr::copy`, without its test. Assumes `Logic`.
-use mathlib.Core.Path.{◌≡◌, refl, sym, subst, ap}
+use mathlib.Core.Path.{◌≡◌, refl, sym, subst}
 use mathlib.Core.Bool.{Bool, true, false}
 use mathlib.Core.List.{List, [], ◌∷◌}
 use mathlib.Core.WellFounded.InvImage
 use Prim.Native.Nat.{ℕ, zero, suc, ◌+◌, ◌-◌, ◌*◌, ◌≤◌, ◌<◌, ◌^◌}
 use native.Mathlib.Omega.{arith}
 use seplogic.Ra.Ura.{Ura}
-use lib.Dec.{T, ltb, lit<, ltb→lt, lt→ltb, nltb→le}
+use lib.Dec.{lit<, ltb→lt, nltb→le}
 use lib.ListN.{length}
 use lib.WfN.{lt-wf_rel}
 use base.Fraction.{full_share}
@@ -41,7 +41,7 @@ use denote.Triple.Clauses.{Ended, Clauses}
 use denote.Triple.Spec.{triple_of}
 use denote.Triple.Table.{entered}
 use denote.Triple.Walked.{Stays, stay_dropped, walk_of, ends_at, walked, Goes-dropped, walk_Meets}
-use Rattle.core.proofs.ptr.Rows.{El, R, el_x, elτ, el_own, sz, Good, el_out, el_in, apart, whole, one_more, add_times, times_below, one_below}
+use Rattle.core.proofs.ptr.Rows.{El, R, el_x, elτ, el_own, sz, Good, el_out, el_in, apart, whole, one_more, times_below, one_below}
 use mir.Syntax.{seq, assign, block, cond, skip, return, place, deref, copy, rv_opd, opd_unit, op2, mul, add, sub, offset, unsigned, size_of, int}
 use Rattle.core.specs.Ptr.{memory_before_copy, memory_after_copy}
 use Rattle.thin_block.specs.Shifts.{IsShifted}

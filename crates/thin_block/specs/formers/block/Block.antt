@@ -1,10 +1,9 @@
 -- `Block` as a type that may hold the type that holds it, by the items in its slots.
-use Rattle.std.specs.Prelude.{◌≡◌, ℕ, suc, max, ◌+◌, ◌≤◌, List, [], ◌∷◌, map, length, Bool, true, Option}
+use Rattle.std.specs.Prelude.{◌≡◌, ℕ, suc, max, ◌+◌, ◌≤◌, List, [], ◌∷◌, map, length, Option}
 use Rattle.std.specs.declared.option.Option.TheVariants.{Some, None}
 use mathlib.Core.Path.{PathP, refl, sym, ap, ◌∙◌}
 use mathlib.Core.HLevel.{is_prop→PathP}
 use mathlib.Core.Former.{Former, Count, Row, over, this, list, list_count, list_get, children}
-use native.Mathlib.Nat.{ℕ_set}
 use native.Mathlib.Bridge.{le_prop}
 use native.Mathlib.Omega.{arith}
 use lib.ListN.{length-map}
@@ -13,13 +12,11 @@ use mir.Raw.{raw}
 use prog.Memory.{size}
 use base.Stored.{Gv, gcons, code_l, Coded-set, coded_bool}
 use base.Fraction.{full_share}
-use base.Fml.{Fml, Lft, feq, fsep}
+use base.Fml.{Fml, fsep}
 use denote.RattleType.{RattleType}
 use denote.Memory.{lone}
-use denote.Builtin.{usize}
 use denote.RawPtr.{Ptr, block_ptr, null_ptr, room_for}
-use denote.Sharing.{beside, nothing, said}
-use denote.Struct.Lending.{lent_at}
+use denote.Sharing.{beside}
 use denote.Struct.Struct.{Struct}
 use denote.Struct.Owning.{shape, to}
 use denote.HoleLaws.{Alike}
@@ -33,7 +30,7 @@ use Rattle.thin_block.specs.Ownership.{any, any_same, block_lent, block_owns, fr
 use Rattle.thin_block.specs.Cost.{no_cost}
 use Rattle.thin_block.specs.Slots.{items_in}
 use Rattle.std.specs.Mem.{type_size}
-use Rattle.std.specs.Coded.{coded_list, coded_option}
+use Rattle.std.specs.Coded.{coded_option}
 use Rattle.thin_block.specs.declared.block.Block.{Block}
 use Rattle.thin_block.specs.contracts.block.Block as C
 

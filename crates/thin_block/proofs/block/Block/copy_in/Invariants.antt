@@ -1,4 +1,4 @@
-use Rattle.std.proofs.Common.{◌≡◌, ℕ, ◌≤◌, length, take}
+use Rattle.std.proofs.Common.{◌≡◌, take}
 use Rattle.thin_block.specs.Cost.{moving}
 use Rattle.thin_block.specs.Slots.{full, laid}
 use Rattle.thin_block.proofs.block.Block.copy_in.Given as goal

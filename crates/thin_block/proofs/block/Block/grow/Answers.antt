@@ -1,5 +1,4 @@
-use Rattle.std.proofs.Common.{◌≡◌, ◌<◌, ◌≤◌, Result, Ok, Err, ◌∙◌, arith}
-use Rattle.std.specs.Prelude.{OnOk}
+use Rattle.std.proofs.Common.{◌∙◌, arith}
 use Rattle.thin_block.proofs.SlotsLemmas.{on-ok, packed-grown}
 use Rattle.thin_block.proofs.block.Block.grow.Goals as goal
 

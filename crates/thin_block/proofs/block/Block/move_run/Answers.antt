@@ -1,4 +1,4 @@
-use Rattle.std.proofs.Common.{◌≡◌, length, ap, ◌∙◌}
+use Rattle.std.proofs.Common.{length, ap, ◌∙◌}
 use Rattle.thin_block.proofs.SlotsLemmas.{length-moved}
 use Rattle.thin_block.proofs.block.Block.move_run.Goals as goal
 

@@ -1,66 +1,46 @@
 -- `put_array` takes the room of a run of slots out of the row as room for one array, writes the array there, and puts the filled run back. Assumes `Logic`.
-use Rattle.std.proofs.Common.{◌≡◌, ℕ, Some, None, ◌+◌, ◌-◌, ◌*◌, ◌^◌, ◌<◌, ◌≤◌, List, ◌∷◌, [], ◌++◌, length, refl, sym, ap, subst, ◌∙◌, arith, w64}
-use lib.ListN.{set, length-set, get_or, length-map, length-replicate}
-use lib.Dec.{T as Holds}
-use mir.Syntax.{Fn, Args, named, ty_int, ty_array, ty_unit, a_type, a_number, dcons, dnil}
-use mir.Val.{Val, WT, has_ty, vint, vptr, vunit, vstruct, vcons, vnil}
+use Rattle.std.proofs.Common.{◌≡◌, ℕ, Some, None, ◌+◌, ◌*◌, ◌^◌, ◌<◌, ◌≤◌, List, ◌∷◌, [], ◌++◌, length, refl, sym, ap, subst, ◌∙◌, arith, w64}
+use lib.ListN.{length-map}
+use mir.Syntax.{Fn, Args, ty_array, a_type, a_number, dcons, dnil}
+use mir.Val.{Val, vint, vptr, vunit}
 use mir.MapTy.{inst_fn}
 use base.Fraction.{full_share}
-use base.Logic.{SProp, ent, sep, emp}
-use base.Fml.{Lft, Share, GName, Fml, ftrue, fsep, fat, froom, fhide, flft}
+use base.Logic.{SProp}
+use base.Fml.{Lft, Share, ftrue, froom, flft}
 use prog.Wp.{Env, WpFn}
 use contract.BorrowLft.{◌⊑◌}
-use contract.Monad.{fact, fact_i}
+use contract.Monad.{fact}
 use contract.Running.{tables}
-use types.Logic.{sem}
-use types.Kit.{‵, raw, ◌⊛◌, some as exists, given, later, pick, learn, await, prop, at_ret, ◌$◌, ◌∵◌, !, qed, by, move, keep, drop, use0, use1, use2, use3, split, split3, join, group, fsplit, fsplit3, fjoin, fjoin3, feq_i, flt_i, rewrite, regoal, suffices, done}
-use types.Part.{whole, sub, look_in, agg}
-use types.Run.{stop, fld, look, load, lit, bin, size_word, init, store, unit_lit, addr, of_opd, no_more, and_then, assigns, assigns_last, first, blocks, exec, returns, enter}
-use types.ByLocal.{alloc_all, pass_all, free_all, look_at, through, is, sets, sets_last, lands_last, env, get, get_in}
-use types.SemTy.{cells}
+use types.Kit.{‵, raw, ◌⊛◌, given, learn, prop, at_ret, ◌$◌, ◌∵◌, !, qed, move, keep, drop, use1, use2, split, split3, join, fsplit, fsplit3, fjoin, fjoin3, feq_i, rewrite, regoal, suffices, done}
+use types.Part.{whole, sub, look_in}
+use types.Run.{stop, fld, load, lit, bin, size_word, init, unit_lit, of_opd, assigns_last, first, blocks, exec, returns, enter}
+use types.ByLocal.{alloc_all, pass_all, free_all, look_at, through, is, sets, env, get}
 use denote.Array.{Array}
-use denote.Builtin.{usize}
-use denote.Follow.{follows, lends_Part}
-use denote.FollowSlice.{lends_Elements}
-use denote.Memory.{part_at, cell_at, mem}
+use denote.Memory.{part_at}
 use denote.RattleType.{RattleType, owns}
 use denote.Param.{layout, param, number, bounded}
-use denote.Plain.{uint_in, uint_out}
-use denote.RawPtr.{Ptr, RawPtr, block_ptr, lies_at}
-use denote.Ref.{MutRef}
-use denote.Signature.{plain, types_at, type_at}
-use denote.Slice.{MutSlice, elements_shared, slice_val}
+use denote.Signature.{plain, types_at}
 use denote.Steps.{nothing, heard}
-use denote.Triple.Call.{calls_at_last}
-use denote.Triple.Walked.{Stays, stay_ref, stay_dropped, walk_of, Goes-dropped, Goes-ref, Goes-spent_ref, says, ends_at}
-use Rattle.std.specs.Prelude.{Option, IsSome, slice_range, slice_set}
-use Rattle.std.proofs.raw_atomic.Walks.{proved_at, leaves}
+use denote.Triple.Walked.{Stays, stay_ref, stay_dropped, walk_of, Goes-dropped, Goes-ref, ends_at}
+use Rattle.std.specs.Prelude.{Option}
+use Rattle.std.proofs.raw_atomic.Walks.{proved_at}
 use Rattle.core.proofs.alloc.Calls.{Al}
-use Rattle.core.proofs.alloc.Moves.{Copies, at_copies, Copies-goes, Copies-gives}
-use Rattle.core.proofs.atomic.Steps.{fm as framed}
-use Rattle.core.proofs.mem.Param.{El, R, Good, lawful, one}
-use Rattle.core.proofs.ptr.copy_nonoverlapping.Met as copy_met
-use Rattle.core.proofs.slice.Rows.{el_in, el_out}
+use Rattle.core.proofs.mem.Param.{El, R}
 use Rattle.core.proofs.slots.Leases.{uncapped}
-use Rattle.core.proofs.slots.Lent.{pointer_in, pointer_out, word_in, word_out}
-use Rattle.thin_block.specs.Cost.{Cost, moving}
-use Rattle.thin_block.specs.Lends.{with_slots, with_item, with_items, with_two}
-use Rattle.thin_block.specs.Ownership.{place, places}
-use Rattle.thin_block.specs.Slots.{full, empty, slot, run, laid, emptied, moved}
+use Rattle.thin_block.specs.Cost.{moving}
+use Rattle.thin_block.specs.Lends.{with_slots}
+use Rattle.thin_block.specs.Ownership.{places}
+use Rattle.thin_block.specs.Slots.{full, empty, slot, laid}
 use Rattle.thin_block.proofs.Walks.{slot_at, after, says_all}
-use Rattle.thin_block.proofs.SlotsLemmas.{the_item, filled-within, full-run, empty-run, length-run, length-laid}
-use Rattle.thin_block.proofs.HeaderMemory.{args, Br, Header, header, t, block_val, block_opens, block_closes}
-use Rattle.thin_block.proofs.SlotMemory.{sz, reach, besides, slot_out, slot_in, around, run_out, run_in, to_items, of_items, to_cells, of_cells, to_room, of_room}
-use Rattle.thin_block.proofs.Lending.{Waiting, item_back, items_back}
-use mir.Val.{Fits}
+use Rattle.thin_block.proofs.SlotsLemmas.{empty-run, length-laid}
+use Rattle.thin_block.proofs.HeaderMemory.{Br, header, t, block_opens, block_closes}
+use Rattle.thin_block.proofs.SlotMemory.{sz, reach, around, run_out, run_in, of_items, to_room}
 use denote.Exit.{all_rest}
-use denote.Laws.{Is, shows}
 use denote.Param.{ArrayAt}
 use denote.Param.Laws.{param_laws, array_at_laws}
-use denote.Steps.{peeks}
 use base.Logic.{via}
 use prog.Memory.{size}
-use borrow.Table.OneValue.{part_in, part_out}
+use borrow.Table.OneValue.{part_in}
 use Rattle.thin_block.proofs.Walks.{alone, nothing_left}
 use Rattle.thin_block.proofs.SlotMemory.{counted}
 use Rattle.thin_block.specs.contracts.block.Block.put_array.{ended, clauses}
