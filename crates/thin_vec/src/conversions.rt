@@ -1,6 +1,9 @@
 //! Lists made from other types.
 ghost use Rattle.std.specs.Prelude.{◌≡◌, IfErr, IfOk, IsErrAnd, IsErrOf, IsOk, None, length};
+ghost use Rattle.thin_block.specs.Cost.{moving};
 ghost use Rattle.thin_block.specs.Growth.{exact_capacity};
+ghost use Rattle.thin_vec.specs.Costs.{IsCheap};
+ghost use Rattle.thin_vec.specs.ThinVec.{cost_new};
 
 use crate::errors::Rejected;
 use crate::list::ThinVec;
@@ -8,8 +11,6 @@ use std::alloc::Allocator;
 use thin_block::ThinVecError;
 
 impl<T, A: Allocator> ThinVec<T, A> {
-    ghost use Rattle.thin_vec.specs.Costs.{IsCheap};
-
     /// A list of the array's items, of capacity N. An array of nothing takes no memory.
     ///
     /// It is refused where N does not fit, or where memory is refused, and then the array is handed back.
@@ -23,6 +24,7 @@ impl<T, A: Allocator> ThinVec<T, A> {
         ensures items { IfOk result (λ list. list.items ≡ items) }
         ensures capacity { IfOk result (λ list. list.cap ≡ N) }
         ensures alloc { IfOk result (λ list. list.alloc ≡ alloc) }
+        ensures cost { IfOk result (λ list. list.cost ≡ moving N (cost_new N)) }
         ensures cheap { IfOk result (λ list. IsCheap list) }
         ensures value_returned { IfErr result (λ refused. refused.value ≡ items) }
     {
@@ -61,6 +63,8 @@ pub fn written_out<T: Drop, A: Allocator, const N: usize>(
     ensures items { IfOk result (λ list. list.items ≡ items) }
     ensures capacity { IfOk result (λ list. list.cap ≡ N) }
     ensures alloc { IfOk result (λ list. list.alloc ≡ alloc) }
+    ensures cost { IfOk result (λ list. list.cost ≡ moving N (cost_new N)) }
+    ensures cheap { IfOk result (λ list. IsCheap list) }
 {
     match ThinVec::from_array(alloc, items) {
         Ok(list) => Ok(list),
