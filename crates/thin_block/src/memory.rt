@@ -25,7 +25,7 @@ impl<T, A: Allocator> Block<T, A> {
         ensures len { IfOk result (λ block. block.len ≡ 0) }
         ensures heap { IfOk result (λ block. block.heap ≡ Some alloc.now) }
         ensures cost { IfOk result (λ block. block.cost ≡ growing 0 no_cost) }
-        ensures err { IfErr result (λ cause. cause ≡ ThinVecError.OutOfMemory) }
+        ensures cause { IfErr result (λ cause. cause ≡ ThinVecError.OutOfMemory) }
     {
         match Block::take_block(alloc, cap, bytes_of_block::<T>(cap), align_of_block::<T>()) {
             Ok(block) => Ok(block),
