@@ -14,4 +14,8 @@ mod growth_rules;
 #[cfg(test)]
 mod refusals;
 #[cfg(test)]
+mod shifts;
+#[cfg(test)]
 mod sizes;
+#[cfg(test)]
+mod trees;

@@ -1,0 +1,79 @@
+//! A list inside the type that it holds.
+use crate::counted::Counted;
+use std::alloc::Global;
+use std::cell::Cell;
+use std::test::Fail;
+use thin_vec::ThinVec;
+
+#[derive(Drop)]
+struct Node<'a> {
+    tag: u32,
+    drops: Counted<'a>,
+    children: ThinVec<Node<'a>, Global>,
+}
+
+fn leaf<'a>(alloc: Global, tag: u32, drops: &'a Cell<u32>) -> Node<'a> {
+    Node {
+        tag,
+        drops: Counted::new(drops),
+        children: ThinVec::new(alloc),
+    }
+}
+
+fn count(node: &Node<'_>) -> u32 {
+    let mut nodes = 1u32;
+    for child in node.children.as_slice() {
+        nodes = nodes.saturating_add(count(child));
+    }
+    nodes
+}
+
+fn sum_of_tags(node: &Node<'_>) -> u32 {
+    let mut sum = node.tag;
+    for child in node.children.as_slice() {
+        sum = sum.saturating_add(sum_of_tags(child));
+    }
+    sum
+}
+
+#[test]
+fn a_tree_drops_each_node_once(rt: HostRuntime) -> Result<(), Fail> {
+    let alloc = rt.alloc();
+    let drops = Cell::new(0);
+    {
+        let mut root = leaf(alloc, 1, &drops);
+        for tag in 2..5 {
+            let mut child = leaf(alloc, tag, &drops);
+            for inner in 2..tag {
+                child
+                    .children
+                    .push(leaf(alloc, 10 * inner, &drops))
+                    .ok()
+                    .ok_or("memory")?;
+            }
+            root.children.push(child).ok().ok_or("memory")?;
+        }
+        assert_eq!(rt; count(&root), 7);
+        assert_eq!(rt; sum_of_tags(&root), 80);
+        assert_eq!(rt; drops.get(), 0);
+    }
+    assert_eq!(rt; drops.get(), 7);
+    Ok(())
+}
+
+#[test]
+fn a_leaf_owns_no_block(rt: HostRuntime) -> Result<(), Fail> {
+    let alloc = rt.alloc();
+    let drops = Cell::new(0);
+    let mut root = leaf(alloc, 1, &drops);
+    assert!(rt; !root.children.has_capacity());
+    root.children
+        .push(leaf(alloc, 2, &drops))
+        .ok()
+        .ok_or("memory")?;
+    assert!(rt; root.children.has_capacity());
+    for child in root.children.as_slice() {
+        assert!(rt; !child.children.has_capacity());
+    }
+    Ok(())
+}
