@@ -8,7 +8,7 @@
 #[macro_export]
 macro_rules! thin_vec {
     ($alloc:expr =>) => {
-        Ok($crate::ThinVec::new($alloc))
+        Ok::<_, $crate::ThinVecError>($crate::ThinVec::new($alloc))
     };
     ($alloc:expr => $($item:expr),+ $(,)?) => {
         $crate::written_out($alloc, [$($item),+])
