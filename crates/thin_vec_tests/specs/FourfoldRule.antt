@@ -1,5 +1,5 @@
 -- A second rule by which a capacity grows, for tests: at least four times the capacity.
-use Rattle.std.specs.Prelude.{◌≡◌, ℕ, ◌*◌, ◌^◌, ◌<◌, ◌≤◌, Bool, true, false, IsTrue, if◌then◌else◌, max, nat_lt, refl}
+use Rattle.std.specs.Prelude.{◌≡◌, ℕ, ◌*◌, ◌^◌, ◌≤◌, Bool, true, false, IsTrue, if◌then◌else◌, max, nat_lt, refl}
 use Rattle.std.specs.declared.option.Option.TheVariants.{Some, None}
 use Rattle.std.proofs.Common.{subst, arith}
 use Rattle.thin_block.specs.Capacity.{fits}

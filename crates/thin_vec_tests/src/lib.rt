@@ -12,10 +12,18 @@ mod filling;
 #[cfg(test)]
 mod growth_rules;
 #[cfg(test)]
+mod making;
+#[cfg(test)]
 mod refusals;
 #[cfg(test)]
 mod shifts;
 #[cfg(test)]
+mod shrinks;
+#[cfg(test)]
 mod sizes;
 #[cfg(test)]
+mod slices;
+#[cfg(test)]
 mod trees;
+#[cfg(test)]
+mod walks;

@@ -1,0 +1,67 @@
+//! What is written through a lent slice or a lent item is in the list afterwards.
+use crate::filling::push_all;
+use crate::growth_rules::Fourfold;
+use std::alloc::Global;
+use std::test::Fail;
+use thin_vec::ThinVec;
+
+fn add(amount: i32, items: &mut [i32]) {
+    for item in items {
+        *item = item.saturating_add(amount);
+    }
+}
+
+#[test]
+fn test_slice_from_mut(rt: HostRuntime) -> Result<(), Fail> {
+    let mut list = ThinVec::new(rt.alloc());
+    push_all(&mut list, 1..6)?;
+    assert_eq!(rt; list.len(), 5);
+    add(2, &mut list.as_mut_slice()[2..]);
+    assert_eq!(rt; list.as_slice(), [1, 2, 5, 6, 7].as_slice());
+    Ok(())
+}
+
+#[test]
+fn test_slice_to_mut(rt: HostRuntime) -> Result<(), Fail> {
+    let mut list = ThinVec::new(rt.alloc());
+    push_all(&mut list, 1..6)?;
+    assert_eq!(rt; list.len(), 5);
+    add(1, &mut list.as_mut_slice()[..2]);
+    assert_eq!(rt; list.as_slice(), [2, 3, 3, 4, 5].as_slice());
+    Ok(())
+}
+
+#[test]
+fn test_split_at_mut(rt: HostRuntime) -> Result<(), Fail> {
+    let mut list = ThinVec::new(rt.alloc());
+    push_all(&mut list, 1..6)?;
+    assert_eq!(rt; list.len(), 5);
+    let (left, right) = list.as_mut_slice().split_at_mut(2);
+    add(1, left);
+    add(2, right);
+    assert_eq!(rt; list.as_slice(), [2, 3, 5, 6, 7].as_slice());
+    Ok(())
+}
+
+#[test]
+fn test_index_mut(rt: HostRuntime) -> Result<(), Fail> {
+    let mut list = ThinVec::new(rt.alloc());
+    push_all(&mut list, 1..4)?;
+    assert_eq!(rt; list.len(), 3);
+    assert_eq!(rt; list[1], 2);
+    list[1] = 22;
+    assert_eq!(rt; list.as_slice(), [1, 22, 3].as_slice());
+    Ok(())
+}
+
+#[test]
+fn lends_at_a_second_growth_rule(rt: HostRuntime) -> Result<(), Fail> {
+    let mut list = ThinVec::<i32, Global, Fourfold>::ruled(rt.alloc());
+    push_all(&mut list, 1..4)?;
+    add(1, list.as_mut_slice());
+    assert_eq!(rt; list.len(), 3);
+    list[0] = 7;
+    assert_eq!(rt; list[1], 3);
+    assert_eq!(rt; list.as_slice(), [7, 3, 4].as_slice());
+    Ok(())
+}

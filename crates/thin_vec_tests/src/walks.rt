@@ -1,0 +1,38 @@
+//! Walks over a lent list, by `for`.
+use crate::filling::push_all;
+use crate::growth_rules::Fourfold;
+use std::alloc::Global;
+use std::test::Fail;
+use thin_vec::ThinVec;
+
+#[test]
+fn walks_in_order_and_writes_through(rt: HostRuntime) -> Result<(), Fail> {
+    let alloc = rt.alloc();
+    let mut list = ThinVec::new(alloc);
+    push_all(&mut list, 1..4)?;
+    for item in &mut list {
+        *item = item.saturating_add(1);
+    }
+    let mut seen = Vec::new(alloc);
+    for item in &list {
+        seen.push(*item)?;
+    }
+    assert_eq!(rt; seen.as_slice(), [2, 3, 4].as_slice());
+    assert_eq!(rt; list.as_slice(), [2, 3, 4].as_slice());
+    Ok(())
+}
+
+#[test]
+fn walks_at_a_second_growth_rule(rt: HostRuntime) -> Result<(), Fail> {
+    let mut list = ThinVec::<i32, Global, Fourfold>::ruled(rt.alloc());
+    push_all(&mut list, 1..4)?;
+    for item in &mut list {
+        *item = item.saturating_add(1);
+    }
+    let mut sum = 0i32;
+    for item in &list {
+        sum = sum.saturating_add(*item);
+    }
+    assert_eq!(rt; sum, 9);
+    Ok(())
+}
