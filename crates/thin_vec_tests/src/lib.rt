@@ -1,6 +1,8 @@
 //! The tests of the list, in a crate of their own: a crate that has tests is proved twice, and the list is proved once.
 #![tactic(auto)]
 
+pub mod examples;
+
 #[cfg(test)]
 mod capacities;
 #[cfg(test)]
