@@ -1,5 +1,5 @@
 //! Does commands on a list: the only functions that do.
-ghost use Rattle.std.specs.Prelude.{◌≡◌, IfErr, IsOk, OnErr, OnOk, vec_len};
+ghost use Rattle.std.specs.Prelude.{◌≡◌, ◌+◌, ◌≤◌, IfErr, IsOk, OnErr, OnOk, vec_capacity, vec_len};
 ghost use Rattle.thin_bench.specs.Command.{Steps};
 ghost use Rattle.thin_bench.specs.Headline.{Headline};
 
@@ -37,6 +37,7 @@ pub fn run<T: Drop, A: Allocator + Copy, G: Growth>(
     commands: Vec<Command<T>, A>,
     replies: &mut Vec<Reply<T>, A>,
 ) -> Result<(), ThinVecError>
+    ensures succeeds { vec_len replies.old + vec_len commands ≤ vec_capacity replies.old → IsOk result }
     ensures ok { OnOk result (Headline G.rule T.row list.old commands.items replies.old.items replies.new.items list.new) }
     ensures err { OnErr result ((list.new ≡ list.old) × (replies.new.items ≡ replies.old.items)) }
     ensures cause { IfErr result (λ cause. cause ≡ ThinVecError.OutOfMemory) }
