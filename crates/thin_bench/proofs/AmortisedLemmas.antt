@@ -1,14 +1,14 @@
 -- What a run from a new list has cost.
-use Rattle.std.proofs.Common.{◌≡◌, ℕ, zero, suc, ◌+◌, ◌*◌, ◌<◌, ◌≤◌, List, [], ◌∷◌, ◌++◌, length, Some, None, arith, ap, sym, subst, ◌∙◌, refl, inl, inr}
+use Rattle.std.proofs.Common.{◌≡◌, ℕ, zero, suc, ◌+◌, ◌*◌, ◌<◌, ◌≤◌, List, [], ◌∷◌, ◌++◌, length, arith, ap, sym, subst, ◌∙◌, refl, inl, inr}
 use Rattle.std.proofs.lemmas.Bool.{cases_lt}
 use Rattle.std.proofs.lemmas.List.{length_push, length-append}
 use Rattle.std.specs.Prelude.{◌⊎◌, Option}
 use Rattle.std.specs.Borrow.{RattleType}
 use Rattle.std.specs.Option.{option_to_list}
-use Rattle.thin_vec.specs.Cost.{Cost, moving}
+use Rattle.thin_vec.specs.Cost.{Cost}
 use Rattle.thin_vec.specs.Costs.{IsCheap, IsCheapAt}
 use Rattle.thin_vec.specs.Growth.{Rule, KeepsLaw}
-use Rattle.thin_vec.specs.ThinVec.{Thin, IsNew, cost_at, capacity_for}
+use Rattle.thin_vec.specs.ThinVec.{Thin, IsNew, cost_at}
 use Rattle.thin_vec.proofs.ThinVecLemmas.{cap-kept, cap-grown, cost_at-kept, cost_at-grown, cheap-regrown}
 use Rattle.thin_bench.specs.Command.{IsPushed, IsPopped, Steps}
 use Rattle.thin_bench.specs.Headline.{Headline}

@@ -8,6 +8,8 @@ use std::alloc::Allocator;
 use thin_vec::{Growth, Rejected, ThinVec, ThinVecError};
 
 /// Does one command. The reply owns what the call handed out or back.
+///
+/// No command makes a list or a vector of its own yet, so the allocator is not asked.
 pub fn step<T: Drop, A: Allocator + Copy, G: Growth>(
     _alloc: A,
     list: &mut ThinVec<T, A, G>,

@@ -82,7 +82,7 @@ impl<T, A: Allocator> Block<T, A> {
 
     /// Stores a length, in items. No slot changes.
     pub fn set_len(&mut self, len: usize)
-        requires { len ≤ length self.old.slots }
+        requires in_bounds { len ≤ length self.old.slots }
         ensures slots { self.new.slots ≡ self.old.slots }
         ensures len { self.new.len ≡ len }
         ensures heap { self.new.heap ≡ self.old.heap }

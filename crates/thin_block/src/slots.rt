@@ -1,4 +1,4 @@
-//! One slot, or a run of them: each call is one raw expression.
+//! One slot, or a run of them: items go in, out and along.
 ghost use Rattle.std.specs.Prelude.{◌≡◌, ◌⊎◌, ℕ, ◌+◌, ◌<◌, ◌≤◌, IsSome, length, slice_set};
 ghost use Rattle.std.specs.declared.option.Option.TheVariants.{None, Some};
 ghost use Rattle.thin_block.specs.Cost.{Cost, moving};

@@ -7,14 +7,11 @@ use Rattle.thin_block.specs.Slots.{full, slot, moved, items_in, front}
 use Rattle.thin_block.specs.declared.block.Block.{Block}
 use Rattle.thin_block.proofs.SlotsLemmas.{moved_left, moved_right}
 use Rattle.thin_vec.specs.ThinVec.{IsThin}
-use Rattle.thin_vec.proofs.ListLemmas.{Settled, settled, from-same, full-take, length-full, thin-room}
+use Rattle.thin_vec.proofs.ListLemmas.{Settled, settled, from-same, full-take, length-full, thin-room, length-insert}
 
 module _ {T : Type 0} where
   pub length-remove : (xs : List T) (i : ℕ) → i < length xs → length (remove xs i) + 1 ≡ length xs
   length-remove xs i h = omega (arith, length-append (take i xs) (drop (suc i) xs), length-take i xs, length-drop (suc i) xs)
-
-  pub length-insert : (xs : List T) (i : ℕ) (v : T) → i ≤ length xs → length (insert xs i v) ≡ length xs + 1
-  length-insert xs i v h = omega (arith, length-append (take i xs) (v ∷ drop i xs), length-take i xs, length-drop i xs, add-one (length (drop i xs)))
 
   -- one item is taken, and those behind it close the gap
   pub front-remove : (xs : List T) (c i j k : ℕ) → i < length xs → length xs ≤ c → j ≡ i + 1 → k ≡ length xs - j → moved j i k (set (front xs c) i None) ≡ front (remove xs i) c

@@ -46,7 +46,7 @@ impl<T, A: Allocator> ThinVec<T, A> {
 // How many items an array has.
 fn count<T, const N: usize>(items: &[T; N]) -> usize
     ensures value { result ≡ N }
-    ensures items { result ≡ length items.now }
+    ensures length { result ≡ length items.now }
 {
     items.len()
 }

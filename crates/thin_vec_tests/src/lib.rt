@@ -1,14 +1,13 @@
 //! The tests of the list, in a crate of their own: a crate that has tests is proved twice, and the list is proved once.
 #![tactic(auto)]
 
-pub mod examples;
-
 #[cfg(test)]
 mod capacities;
 #[cfg(test)]
 mod counted;
 #[cfg(test)]
 mod drops;
+pub mod examples;
 #[cfg(test)]
 mod filling;
 #[cfg(test)]

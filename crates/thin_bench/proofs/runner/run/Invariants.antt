@@ -1,4 +1,4 @@
-use Rattle.std.proofs.Common.{◌≡◌, ◌≤◌, ◌+◌, ◌++◌, List, length, vec_len}
+use Rattle.std.proofs.Common.{◌≤◌, ◌+◌, length, vec_len}
 use Rattle.std.specs.Vec.{vec_capacity}
 use Rattle.std.specs.Vec.Iter.{into_iter_items}
 use Rattle.thin_bench.proofs.RunLemmas.{HasRun}

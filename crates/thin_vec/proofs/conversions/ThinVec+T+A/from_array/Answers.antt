@@ -6,8 +6,8 @@ use Rattle.thin_vec.proofs.conversions.ThinVec+T+A.from_array.Goals as goal
 facts : (g : _) (c : goal.After-set_len g) → Settled c.set_len.new.self c.list.inside.alloc c.args.items (length c.list.inside.block.slots)
 facts g c =
     settle-fill c.list.inside.block c.set_len.new.self c.list.inside.alloc c.args.items c.list.invariant (ap (λ v. v.items) c.list.view_is ∙ c.in-Ok.ensures.items)
-    (omega (arith, c.count-len.ensures.value, c.count-len.ensures.items, c.in-Ok.ensures.capacity, ap (λ v. v.cap) c.list.view_is))
-    (c.set_len.ensures.slots ∙ c.put_array.ensures.slots) (c.set_len.ensures.len ∙ c.count-len.ensures.items) (c.set_len.ensures.heap ∙ c.put_array.ensures.heap)
+    (omega (arith, c.count-len.ensures.value, c.count-len.ensures.length, c.in-Ok.ensures.capacity, ap (λ v. v.cap) c.list.view_is))
+    (c.set_len.ensures.slots ∙ c.put_array.ensures.slots) (c.set_len.ensures.len ∙ c.count-len.ensures.length) (c.set_len.ensures.heap ∙ c.put_array.ensures.heap)
 
 pub invariant_of-list : goal.invariant_of-list
 invariant_of-list g c = (facts g c).thin
