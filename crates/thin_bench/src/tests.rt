@@ -1,6 +1,6 @@
 //! What no clause says of the runner and of the report.
 use crate::command::{Command, Reply};
-use crate::reporting::report;
+use crate::reporting::{report, report_rows};
 use crate::runner::run;
 use refusing::Refusing;
 use std::io;
@@ -143,5 +143,21 @@ fn reports_memory_refused_at_any_request(rt: HostRuntime) -> Result<(), Fail> {
             .ok_or("another end")?;
         assert!(rt; REPORT.starts_with(rows), "at request {nth}");
     }
+    Ok(())
+}
+
+#[test]
+fn counts_the_rows_that_failed(rt: HostRuntime) -> Result<(), Fail> {
+    let mut text = String::new(rt.alloc());
+    {
+        let mut out = Failing {
+            text: &mut text,
+            calls: 0,
+            failing: 0,
+        };
+        // There is no row 0, which therefore fails.
+        assert_eq!(rt; report_rows(rt.alloc(), [0, 1].as_slice(), &mut out), 1);
+    }
+    assert_eq!(rt; text.as_str(), "row 0 failed\nrow 1 ok\n1 rows failed\n");
     Ok(())
 }
