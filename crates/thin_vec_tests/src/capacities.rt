@@ -1,5 +1,6 @@
 //! Which capacity a list has after each call, against numbers worked out by hand.
 use crate::filling::push_all;
+use crate::standing::assert_list;
 use refusing::Refusing;
 use std::alloc::Global;
 use std::test::Fail;
@@ -25,19 +26,16 @@ fn a_list_without_items_owns_no_block(rt: HostRuntime) -> Result<(), Fail> {
 fn test_clear(rt: HostRuntime) -> Result<(), Fail> {
     let mut list = ThinVec::new(rt.alloc());
     list.clear();
-    assert_eq!(rt; list.capacity(), 0);
-
+    assert_list(&rt, &list, &[], 0);
     push_all(&mut list, 1..3)?;
-    assert_eq!(rt; list.as_slice(), [1, 2].as_slice());
+    assert_list(&rt, &list, &[1, 2], 4);
     list.clear();
-    assert_eq!(rt; (list.len(), list.capacity()), (0, 4));
-
+    assert_list(&rt, &list, &[], 4);
     push_all(&mut list, 3..5)?;
-    assert_eq!(rt; list.as_slice(), [3, 4].as_slice());
+    assert_list(&rt, &list, &[3, 4], 4);
     for _ in 0..2 {
         list.clear();
-        assert!(rt; list.is_empty());
-        assert_eq!(rt; list.capacity(), 4);
+        assert_list(&rt, &list, &[], 4);
     }
     Ok(())
 }

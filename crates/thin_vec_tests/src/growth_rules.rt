@@ -1,4 +1,5 @@
 //! Each generic call at a second growth rule.
+use crate::standing::assert_list;
 use std::alloc::Global;
 use std::test::Fail;
 use thin_vec::{Growth, ThinVec, fits};
@@ -25,28 +26,24 @@ impl Growth for Fourfold {
 
 #[test]
 fn grows_fourfold(rt: HostRuntime) -> Result<(), Fail> {
-    let mut list = ThinVec::<u32, Global, Fourfold>::ruled(rt.alloc());
-    assert!(rt; !list.has_capacity());
+    let mut list = ThinVec::<i32, Global, Fourfold>::ruled(rt.alloc());
     assert!(rt; list.is_empty());
+    assert!(rt; !list.has_capacity());
     for (item, capacity) in [(10, 1), (20, 4), (30, 4), (40, 4), (50, 16)] {
         list.push(item).ok().ok_or("memory")?;
         assert_eq!(rt; list.capacity(), capacity, "with {item}");
     }
-    assert_eq!(rt; list.as_slice(), [10, 20, 30, 40, 50].as_slice());
-    assert!(rt; list.has_capacity());
-
     list.reserve(12)?;
-    assert_eq!(rt; list.capacity(), 64);
+    assert_list(&rt, &list, &[10, 20, 30, 40, 50], 64);
     list.reserve_exact(60)?;
-    assert_eq!(rt; list.capacity(), 65);
+    assert_list(&rt, &list, &[10, 20, 30, 40, 50], 65);
 
-    assert_eq!(rt; list.len(), 5);
     assert_eq!(rt; list.swap_remove(0), 10);
     assert_eq!(rt; list.pop(), Some(40));
-    assert_eq!(rt; list.as_slice(), [50, 20, 30].as_slice());
+    assert_list(&rt, &list, &[50, 20, 30], 65);
     list.truncate(1);
-    assert_eq!(rt; list.as_slice(), [50].as_slice());
+    assert_list(&rt, &list, &[50], 65);
     list.clear();
-    assert_eq!(rt; (list.len(), list.capacity()), (0, 65));
+    assert_list(&rt, &list, &[], 65);
     Ok(())
 }

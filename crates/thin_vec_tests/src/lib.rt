@@ -25,6 +25,8 @@ mod sizes;
 #[cfg(test)]
 mod slices;
 #[cfg(test)]
+mod standing;
+#[cfg(test)]
 mod trees;
 #[cfg(test)]
 mod walks;

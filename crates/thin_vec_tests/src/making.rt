@@ -1,5 +1,6 @@
 //! Lists that are written out, and lists made from an array.
 use crate::counted::Counted;
+use crate::standing::{assert_counts, assert_list};
 use refusing::Refusing;
 use std::cell::Cell;
 use std::test::Fail;
@@ -13,8 +14,7 @@ fn a_list_written_out_has_no_spare_room(rt: HostRuntime) -> Result<(), Fail> {
         thin_vec![alloc => 1, 2, 3,]?,
         ThinVec::from_array(alloc, [1, 2, 3]).ok().ok_or("memory")?,
     ] {
-        assert_eq!(rt; list.as_slice(), [1, 2, 3].as_slice());
-        assert_eq!(rt; list.capacity(), 3);
+        assert_list(&rt, &list, &[1, 2, 3], 3);
     }
     Ok(())
 }
@@ -31,7 +31,7 @@ fn a_list_of_nothing_makes_no_request(rt: HostRuntime) -> Result<(), Fail> {
         assert!(rt; list.is_empty());
         assert_eq!(rt; list.capacity(), 0);
     }
-    assert_eq!(rt; (refusing.requests(), refusing.blocks()), (0, 0));
+    assert_counts(&rt, &refusing, 0, 0);
     Ok(())
 }
 
@@ -43,13 +43,13 @@ fn a_refused_from_array_hands_the_array_back(rt: HostRuntime) -> Result<(), Fail
         .ok_or("accepted")?;
     assert_eq!(rt; refused.value, [1, 2, 3]);
     assert_eq!(rt; refused.cause, ThinVecError::OutOfMemory);
-    assert_eq!(rt; (refusing.requests(), refusing.blocks()), (1, 0));
+    assert_counts(&rt, &refusing, 1, 0);
 
     let list = ThinVec::from_array(&refusing, refused.value)
         .ok()
         .ok_or("memory")?;
-    assert_eq!(rt; list.as_slice(), [1, 2, 3].as_slice());
-    assert_eq!(rt; (refusing.requests(), refusing.blocks()), (2, 1));
+    assert_list(&rt, &list, &[1, 2, 3], 3);
+    assert_counts(&rt, &refusing, 2, 1);
     Ok(())
 }
 
@@ -60,11 +60,11 @@ fn a_refused_list_written_out_drops_its_items(rt: HostRuntime) -> Result<(), Fai
     let refused = thin_vec![&refusing => Counted::new(&drops), Counted::new(&drops)].err();
     assert_eq!(rt; refused, Some(ThinVecError::OutOfMemory));
     assert_eq!(rt; drops.get(), 2);
-    assert_eq!(rt; (refusing.requests(), refusing.blocks()), (1, 0));
+    assert_counts(&rt, &refusing, 1, 0);
     {
         let list = thin_vec![&refusing => Counted::new(&drops), Counted::new(&drops)]?;
         assert_eq!(rt; (list.len(), drops.get()), (2, 2));
-        assert_eq!(rt; (refusing.requests(), refusing.blocks()), (2, 1));
+        assert_counts(&rt, &refusing, 2, 1);
     }
     assert_eq!(rt; (drops.get(), refusing.blocks()), (4, 0));
     Ok(())

@@ -1,5 +1,6 @@
 //! Memory that is refused, request by request, and what stands afterwards.
 use crate::filling::push_all;
+use crate::standing::{assert_counts, assert_list};
 use refusing::Refusing;
 use std::test::Fail;
 use thin_vec::{ThinVec, ThinVecError};
@@ -9,19 +10,17 @@ fn row_16_push_refused(rt: HostRuntime) -> Result<(), Fail> {
     let refusing = Refusing::new(rt.alloc(), 2);
     let mut list = ThinVec::new(&refusing);
     push_all(&mut list, 1..5)?;
-    assert_eq!(rt; (refusing.requests(), refusing.blocks()), (1, 1));
+    assert_counts(&rt, &refusing, 1, 1);
 
     let refused = list.push(5).err().ok_or("accepted")?;
     assert_eq!(rt; refused.value, 5);
     assert_eq!(rt; refused.cause, ThinVecError::OutOfMemory);
-    assert_eq!(rt; list.as_slice(), [1, 2, 3, 4].as_slice());
-    assert_eq!(rt; list.capacity(), 4);
-    assert_eq!(rt; (refusing.requests(), refusing.blocks()), (2, 1));
+    assert_list(&rt, &list, &[1, 2, 3, 4], 4);
+    assert_counts(&rt, &refusing, 2, 1);
 
     list.push(5).ok().ok_or("memory")?;
-    assert_eq!(rt; list.as_slice(), [1, 2, 3, 4, 5].as_slice());
-    assert_eq!(rt; list.capacity(), 8);
-    assert_eq!(rt; (refusing.requests(), refusing.blocks()), (3, 1));
+    assert_list(&rt, &list, &[1, 2, 3, 4, 5], 8);
+    assert_counts(&rt, &refusing, 3, 1);
     Ok(())
 }
 
@@ -31,24 +30,24 @@ fn a_refused_first_push_leaves_no_block(rt: HostRuntime) -> Result<(), Fail> {
     let mut list = ThinVec::new(&refusing);
     assert!(rt; list.push(()).is_err());
     assert_eq!(rt; (list.len(), list.capacity()), (0, 0));
-    assert_eq!(rt; (refusing.requests(), refusing.blocks()), (1, 0));
+    assert_counts(&rt, &refusing, 1, 0);
 
     list.push(()).ok().ok_or("memory")?;
     assert_eq!(rt; (list.len(), list.capacity()), (1, 4));
-    assert_eq!(rt; (refusing.requests(), refusing.blocks()), (2, 1));
+    assert_counts(&rt, &refusing, 2, 1);
     Ok(())
 }
 
 #[test]
 fn with_capacity_is_refused(rt: HostRuntime) -> Result<(), Fail> {
     let refusing = Refusing::new(rt.alloc(), 1);
-    let refused = ThinVec::<u16, &Refusing<_>>::with_capacity(&refusing, 10).err();
+    let refused = ThinVec::<i32, &Refusing<_>>::with_capacity(&refusing, 10).err();
     assert_eq!(rt; refused, Some(ThinVecError::OutOfMemory));
-    assert_eq!(rt; (refusing.requests(), refusing.blocks()), (1, 0));
+    assert_counts(&rt, &refusing, 1, 0);
 
-    let list = ThinVec::<u16, &Refusing<_>>::with_capacity(&refusing, 10)?;
-    assert_eq!(rt; (list.len(), list.capacity()), (0, 10));
-    assert_eq!(rt; (refusing.requests(), refusing.blocks()), (2, 1));
+    let list = ThinVec::with_capacity(&refusing, 10)?;
+    assert_list(&rt, &list, &[], 10);
+    assert_counts(&rt, &refusing, 2, 1);
     Ok(())
 }
 
@@ -65,18 +64,16 @@ fn a_refused_reserve_changes_nothing(rt: HostRuntime) -> Result<(), Fail> {
             list.reserve(2)
         };
         assert_eq!(rt; refused, Err(ThinVecError::OutOfMemory));
-        assert_eq!(rt; list.as_slice(), [1, 2, 3].as_slice());
-        assert_eq!(rt; list.capacity(), 4);
-        assert_eq!(rt; (refusing.requests(), refusing.blocks()), (1, 1));
+        assert_list(&rt, &list, &[1, 2, 3], 4);
+        assert_counts(&rt, &refusing, 1, 1);
 
         if is_exact {
             list.reserve_exact(2)?;
         } else {
             list.reserve(2)?;
         }
-        assert_eq!(rt; list.as_slice(), [1, 2, 3].as_slice());
-        assert_eq!(rt; list.capacity(), capacity);
-        assert_eq!(rt; (refusing.requests(), refusing.blocks()), (2, 1));
+        assert_list(&rt, &list, &[1, 2, 3], capacity);
+        assert_counts(&rt, &refusing, 2, 1);
     }
     Ok(())
 }
@@ -90,8 +87,7 @@ fn an_overflow_makes_no_request(rt: HostRuntime) -> Result<(), Fail> {
     for additional in [usize::MAX, usize::MAX - 1, isize::MAX as usize] {
         let refused = [list.reserve(additional), list.reserve_exact(additional)];
         assert_eq!(rt; refused, [Err(ThinVecError::CapacityOverflow); 2]);
-        assert_eq!(rt; list.as_slice(), [1].as_slice());
-        assert_eq!(rt; list.capacity(), 4);
+        assert_list(&rt, &list, &[1], 4);
     }
     assert_eq!(rt; refusing.requests(), 0);
     Ok(())
@@ -113,10 +109,9 @@ fn makes_no_request_where_there_is_room(rt: HostRuntime) -> Result<(), Fail> {
     list.truncate(1);
     list.reserve(3)?;
     list.reserve_exact(3)?;
-    assert_eq!(rt; list.as_slice(), [0].as_slice());
-    assert_eq!(rt; list.capacity(), 4);
+    assert_list(&rt, &list, &[0], 4);
 
     assert!(rt; ThinVec::<u8, &Refusing<_>>::with_capacity(&refusing, 0).is_ok());
-    assert_eq!(rt; (refusing.requests(), refusing.blocks()), (0, 1));
+    assert_counts(&rt, &refusing, 0, 1);
     Ok(())
 }

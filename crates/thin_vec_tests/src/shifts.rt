@@ -2,6 +2,7 @@
 use crate::counted::Counted;
 use crate::filling::push_all;
 use crate::growth_rules::Fourfold;
+use crate::standing::{assert_counts, assert_list};
 use refusing::Refusing;
 use std::alloc::Global;
 use std::cell::Cell;
@@ -12,14 +13,11 @@ use thin_vec::{ThinVec, ThinVecError};
 fn inserts_and_removes_at_a_second_growth_rule(rt: HostRuntime) -> Result<(), Fail> {
     let mut list = ThinVec::<i32, Global, Fourfold>::ruled(rt.alloc());
     push_all(&mut list, 1..5)?;
-    assert_eq!(rt; list.len(), 4);
+    assert_list(&rt, &list, &[1, 2, 3, 4], 4);
     list.insert(1, 9).ok().ok_or("memory")?;
-    assert_eq!(rt; list.as_slice(), [1, 9, 2, 3, 4].as_slice());
-    assert_eq!(rt; list.capacity(), 16);
-    assert_eq!(rt; list.len(), 5);
+    assert_list(&rt, &list, &[1, 9, 2, 3, 4], 16);
     assert_eq!(rt; list.remove(0), 1);
-    assert_eq!(rt; list.as_slice(), [9, 2, 3, 4].as_slice());
-    assert_eq!(rt; list.capacity(), 16);
+    assert_list(&rt, &list, &[9, 2, 3, 4], 16);
     Ok(())
 }
 
@@ -51,19 +49,16 @@ fn a_refused_insert_hands_the_item_back(rt: HostRuntime) -> Result<(), Fail> {
     let refusing = Refusing::new(rt.alloc(), 2);
     let mut list = ThinVec::new(&refusing);
     push_all(&mut list, 1..5)?;
-    assert_eq!(rt; list.len(), 4);
+    assert_list(&rt, &list, &[1, 2, 3, 4], 4);
     let refused = list.insert(1, 9).err().ok_or("accepted")?;
     assert_eq!(rt; refused.value, 9);
     assert_eq!(rt; refused.cause, ThinVecError::OutOfMemory);
-    assert_eq!(rt; list.as_slice(), [1, 2, 3, 4].as_slice());
-    assert_eq!(rt; list.capacity(), 4);
-    assert_eq!(rt; (refusing.requests(), refusing.blocks()), (2, 1));
+    assert_list(&rt, &list, &[1, 2, 3, 4], 4);
+    assert_counts(&rt, &refusing, 2, 1);
 
-    assert_eq!(rt; list.len(), 4);
     list.insert(1, refused.value).ok().ok_or("memory")?;
-    assert_eq!(rt; list.as_slice(), [1, 9, 2, 3, 4].as_slice());
-    assert_eq!(rt; list.capacity(), 8);
-    assert_eq!(rt; (refusing.requests(), refusing.blocks()), (3, 1));
+    assert_list(&rt, &list, &[1, 9, 2, 3, 4], 8);
+    assert_counts(&rt, &refusing, 3, 1);
     Ok(())
 }
 
@@ -75,10 +70,9 @@ fn shifts_make_no_request_where_there_is_room(rt: HostRuntime) -> Result<(), Fai
     for item in 1..4 {
         list.insert(0, item).ok().ok_or("memory")?;
     }
-    assert_eq!(rt; list.as_slice(), [3, 2, 1].as_slice());
-    assert_eq!(rt; list.len(), 3);
+    assert_list(&rt, &list, &[3, 2, 1], 3);
     assert_eq!(rt; list.remove(1), 2);
-    assert_eq!(rt; list.as_slice(), [3, 1].as_slice());
-    assert_eq!(rt; refusing.requests(), 0);
+    assert_list(&rt, &list, &[3, 1], 3);
+    assert_counts(&rt, &refusing, 0, 1);
     Ok(())
 }

@@ -1,6 +1,7 @@
 //! `shrink_to_fit`: what it leaves, and when it asks for memory.
 use crate::filling::push_all;
 use crate::growth_rules::Fourfold;
+use crate::standing::{assert_counts, assert_list};
 use refusing::Refusing;
 use std::alloc::Global;
 use std::test::Fail;
@@ -52,8 +53,7 @@ fn shrinks_at_a_second_growth_rule(rt: HostRuntime) -> Result<(), Fail> {
     push_all(&mut list, 1..6)?;
     assert_eq!(rt; list.capacity(), 16);
     list.shrink_to_fit()?;
-    assert_eq!(rt; list.as_slice(), [1, 2, 3, 4, 5].as_slice());
-    assert_eq!(rt; list.capacity(), 5);
+    assert_list(&rt, &list, &[1, 2, 3, 4, 5], 5);
     Ok(())
 }
 
@@ -63,14 +63,12 @@ fn a_refused_shrink_to_fit_changes_nothing(rt: HostRuntime) -> Result<(), Fail> 
     let mut list = ThinVec::with_capacity(&refusing, 10)?;
     push_all(&mut list, 1..4)?;
     assert_eq!(rt; list.shrink_to_fit(), Err(ThinVecError::OutOfMemory));
-    assert_eq!(rt; list.as_slice(), [1, 2, 3].as_slice());
-    assert_eq!(rt; list.capacity(), 10);
-    assert_eq!(rt; (refusing.requests(), refusing.blocks()), (2, 1));
+    assert_list(&rt, &list, &[1, 2, 3], 10);
+    assert_counts(&rt, &refusing, 2, 1);
 
     list.shrink_to_fit()?;
-    assert_eq!(rt; list.as_slice(), [1, 2, 3].as_slice());
-    assert_eq!(rt; list.capacity(), 3);
-    assert_eq!(rt; (refusing.requests(), refusing.blocks()), (3, 1));
+    assert_list(&rt, &list, &[1, 2, 3], 3);
+    assert_counts(&rt, &refusing, 3, 1);
     Ok(())
 }
 
@@ -81,15 +79,14 @@ fn shrinks_a_full_or_an_empty_list_without_a_request(rt: HostRuntime) -> Result<
     push_all(&mut list, 1..4)?;
     refusing.refuse(1);
     list.shrink_to_fit()?;
-    assert_eq!(rt; list.capacity(), 3);
-    assert_eq!(rt; refusing.blocks(), 1);
+    assert_list(&rt, &list, &[1, 2, 3], 3);
+    assert_counts(&rt, &refusing, 0, 1);
 
     list.clear();
     for _ in 0..2 {
         list.shrink_to_fit()?;
-        assert_eq!(rt; list.capacity(), 0);
-        assert_eq!(rt; refusing.blocks(), 0);
+        assert_list(&rt, &list, &[], 0);
+        assert_counts(&rt, &refusing, 0, 0);
     }
-    assert_eq!(rt; refusing.requests(), 0);
     Ok(())
 }
