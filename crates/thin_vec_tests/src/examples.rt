@@ -1,5 +1,5 @@
 //! What a program may write over a list, and the clauses that it may promise.
-ghost use Rattle.std.specs.Prelude.{◌≡◌, ◌++◌, [], ◌∷◌, OnErr, OnOk};
+ghost use Rattle.std.specs.Prelude.{◌≡◌, ◌+◌, ◌≤◌, ◌++◌, [], ◌∷◌, IsOk, OnErr, OnOk, length};
 
 use std::alloc::Allocator;
 use thin_vec::{ThinVec, ThinVecError};
@@ -10,6 +10,7 @@ pub fn push_both<T: Drop, A: Allocator>(
     first: T,
     second: T,
 ) -> Result<(), ThinVecError>
+    ensures succeeds { length list.old.items + 2 ≤ list.old.cap → IsOk result }
     ensures items { OnOk result (list.new.items ≡ list.old.items ++ first ∷ second ∷ []) }
     ensures err { OnErr result (list.new ≡ list.old) }
 {
