@@ -1,16 +1,19 @@
 //! What a program may write over a list, and the clauses that it may promise.
-ghost use Rattle.std.specs.Prelude.{◌≡◌, ◌+◌, ◌≤◌, ◌++◌, [], ◌∷◌, IsOk, OnErr, OnOk, length};
+ghost use Rattle.std.specs.Prelude.{◌≡◌, ◌+◌, ◌≤◌, ◌++◌, [], ◌∷◌, IfErr, IsErrOf, IsOk, None, OnErr, OnOk, length};
+ghost use Rattle.thin_vec.specs.ThinVec.{capacity_for};
 
 use std::alloc::Allocator;
-use thin_vec::{ThinVec, ThinVecError};
+use thin_vec::{Growth, ThinVec, ThinVecError};
 
 /// Appends both items, or neither. Memory is asked for once: no push into reserved room is refused.
-pub fn push_both<T: Drop, A: Allocator>(
-    list: &mut ThinVec<T, A>,
+pub fn push_both<T: Drop, A: Allocator, G: Growth>(
+    list: &mut ThinVec<T, A, G>,
     first: T,
     second: T,
 ) -> Result<(), ThinVecError>
     ensures succeeds { length list.old.items + 2 ≤ list.old.cap → IsOk result }
+    ensures overflow { capacity_for G.rule T.row list.old 2 ≡ None → IsErrOf result ThinVecError.CapacityOverflow }
+    ensures cause { IfErr result (λ cause. cause ≡ ThinVecError.CapacityOverflow → capacity_for G.rule T.row list.old 2 ≡ None) }
     ensures items { OnOk result (list.new.items ≡ list.old.items ++ first ∷ second ∷ []) }
     ensures err { OnErr result (list.new ≡ list.old) }
 {
