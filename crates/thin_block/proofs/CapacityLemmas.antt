@@ -1,5 +1,5 @@
 -- What the crates above need to know of capacities.
-use Rattle.std.proofs.Common.{if◌then◌else◌, Bool, true, false, IsTrue, ◌≡◌, ℕ, ◌*◌, ◌^◌, ◌<◌, ◌≤◌, refl, sym, ◌∙◌, arith}
+use Rattle.std.proofs.Common.{if◌then◌else◌, Bool, true, false, IsTrue, ◌≡◌, ℕ, zero, suc, ◌*◌, ◌^◌, ◌<◌, ◌≤◌, refl, sym, ◌∙◌, arith}
 use Rattle.std.specs.declared.option.Option.TheVariants.{Some, None}
 use borrow.Author.Tests.{lt-ltb, le-ltb, le-leb, lt-leb}
 use native.Mathlib.Nat.{mul-le-mul_right}
@@ -9,7 +9,7 @@ use Rattle.std.specs.Mem.{type_size}
 use Rattle.std.specs.Align.{type_align}
 use Rattle.thin_block.specs.Capacity.{fits, Fits}
 use Rattle.thin_block.specs.Growth.{Rule, KeepsLaw, exact_capacity, fitting, ruled_capacity}
-use Rattle.thin_block.proofs.SizeFacts.{opened, closed, fits_tells, fits_yes}
+use Rattle.thin_block.proofs.SizeFacts.{opened, closed, fits_none, fits_tells, fits_yes}
 
 -- a capacity that suffices stays
 pub ruled-same : (rule : Rule) (R : RattleType) (c w : ℕ) → w ≤ c → ruled_capacity rule R c w ≡ Some c
@@ -55,6 +55,10 @@ fits-less R c d e less =
     let under : c * type_size R ≤ d * type_size R = mul-le-mul_right (type_size R) less in
     closed R c (fits_yes R c (omega arith) (omega arith))
 
+-- no capacity at all fits
+pub fits-none : (R : RattleType) → Fits R 0
+fits-none R = closed R 0 (fits_none R)
+
 -- an exact capacity that suffices stays
 pub exact-same : (R : RattleType) (c w : ℕ) → w ≤ c → exact_capacity R c w ≡ Some c
 unfolding exact_capacity
@@ -73,6 +77,11 @@ exact-overflow R c w more never = rw (lt-leb w c more) (not_fitting (fits (type_
     not_fitting : (b : Bool) → (IsTrue b → ⊥) → (if b then Some w else None) ≡ None
     not_fitting true wrong = absurd (wrong refl)
     not_fitting false wrong = refl
+
+-- where there was no block, as well at a want of nothing, which fits
+pub exact-none : (R : RattleType) (w : ℕ) → (Fits R w → ⊥) → exact_capacity R 0 w ≡ None
+exact-none R zero never = absurd (never (fits-none R))
+exact-none R (suc w) never = exact-overflow R 0 (suc w) (omega arith) never
 
 -- no want past `usize::MAX` fits
 pub exact-past : (R : RattleType) (c w : ℕ) → c < w → 2 ^ 64 ≤ w → exact_capacity R c w ≡ None

@@ -134,7 +134,7 @@ module _ {T : Type 0} where
       λ m. take_at pre (old ++ post) i (sym e) m ++ (ys ++ rest m)
 
   -- a run, by what lies before and behind it
-  run-at : (i k : ℕ) (pre ys post : List (Option T)) → i ≡ length pre → k ≡ length ys → run i k (pre ++ (ys ++ post)) ≡ ys
+  pub run-at : (i k : ℕ) (pre ys post : List (Option T)) → i ≡ length pre → k ≡ length ys → run i k (pre ++ (ys ++ post)) ≡ ys
   run-at i k pre ys post e n = ap (λ (l : List (Option T)). take k l) (drop_at pre (ys ++ post) i (sym e)) ∙ take_at ys post k (sym n)
 
   -- `moved`, by its three steps

@@ -66,6 +66,7 @@ impl<T, A: Allocator> Block<T, A> {
         ensures value { result ≡ self.now.len }
         ensures in_bounds { result ≤ length self.now.slots }
         ensures small { length self.now.slots < 2 ^ 63 }
+        ensures fits { Fits T.row result }
     {
         let at = self.at;
         unsafe { *at.add(1) }

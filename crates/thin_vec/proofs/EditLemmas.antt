@@ -25,7 +25,7 @@ module _ {T : Type 0} where
       let same : i + 1 + 1 ≡ suc i + 1 = omega arith in
       (r.0, r.1 ∙ ap (λ k. r.0 ∷ drop k (x ∷ xs)) (let e : suc (i + 1) ≡ suc i + 1 = omega arith in e))
 
-  full-append : (xs ys : List T) → full (xs ++ ys) ≡ full xs ++ full ys
+  pub full-append : (xs ys : List T) → full (xs ++ ys) ≡ full xs ++ full ys
   full-append xs ys = map-append (λ (x : T). Some x) xs ys
 
   pub emptying-none : (xs : List T) (k c : ℕ) → emptying xs k k c ≡ front xs c

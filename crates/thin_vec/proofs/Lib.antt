@@ -4,3 +4,4 @@ pub mod ThinVecLemmas
 mod EditLemmas
 mod ShiftLemmas
 mod LendLemmas
+mod JoinLemmas

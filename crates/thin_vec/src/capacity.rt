@@ -170,7 +170,7 @@ impl<T, A: Allocator, G: Growth> ThinVec<T, A, G> {
         block.release(&self.alloc);
     }
 
-    // An empty list with a block of exactly `capacity` slots, or without one at 0. Every list of an exact capacity begins here.
+    // An empty list with a block of exactly `capacity` slots, or without one at 0.
     #[tactic(auto, using(thin_block::proofs::CapacityLemmas::exact))]
     pub(crate) fn with_exact_capacity(
         alloc: A,
@@ -184,11 +184,27 @@ impl<T, A: Allocator, G: Growth> ThinVec<T, A, G> {
         ensures alloc { IfOk result (λ list. list.alloc ≡ alloc) }
         ensures cost { IfOk result (λ list. list.cost ≡ cost_new capacity) }
     {
-        if capacity == 0 {
-            return Ok(ThinVec::ruled(alloc));
-        }
         if !fits::<T>(capacity) {
             return Err(ThinVecError::CapacityOverflow);
+        }
+        ThinVec::with_fitting_capacity(alloc, capacity)
+    }
+
+    // `with_exact_capacity` of a capacity that fits. Every list of an exact capacity begins here.
+    pub(crate) fn with_fitting_capacity(
+        alloc: A,
+        capacity: usize,
+    ) -> Result<ThinVec<T, A, G>, ThinVecError>
+        requires fits { Fits T.row capacity }
+        ensures succeeds { capacity ≡ 0 → IsOk result }
+        ensures cause { IfErr result (λ cause. cause ≡ ThinVecError.OutOfMemory) }
+        ensures items { IfOk result (λ list. list.items ≡ []) }
+        ensures capacity { IfOk result (λ list. list.cap ≡ capacity) }
+        ensures alloc { IfOk result (λ list. list.alloc ≡ alloc) }
+        ensures cost { IfOk result (λ list. list.cost ≡ cost_new capacity) }
+    {
+        if capacity == 0 {
+            return Ok(ThinVec::ruled(alloc));
         }
         match Block::allocate(&alloc, capacity) {
             Ok(block) => Ok(ThinVec {

@@ -6,6 +6,7 @@ mod conversions;
 mod edits;
 mod errors;
 mod impls;
+mod joins;
 mod list;
 mod macros;
 

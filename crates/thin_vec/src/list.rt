@@ -1,6 +1,7 @@
 //! The list: its type, what a contract sees of it, and the calls that most callers make.
 ghost use Rattle.std.specs.Prelude.{◌≡◌, ◌↔◌, ◌+◌, ◌-◌, ◌<◌, ◌≤◌, [], ◌∷◌, ◌++◌, IfErr, IfOk, IsErrAnd, IsOk, IsSome, IsTrue, None, OnErr, OnOk, Some, length, slice_get, take};
 ghost use Rattle.std.specs.Option.{option_to_list};
+ghost use Rattle.thin_block.specs.Capacity.{Fits};
 ghost use Rattle.thin_block.specs.Cost.{growing, moving, no_cost};
 
 use crate::errors::Rejected;
@@ -68,6 +69,7 @@ impl<T, A: Allocator, G: Growth> ThinVec<T, A, G> {
     pub fn len(&self) -> usize
         ensures value { result ≡ length self.now.items }
         ensures in_bounds { result ≤ self.now.cap }
+        ensures fits { Fits T.row result }
     {
         self.block.len()
     }
@@ -83,6 +85,7 @@ impl<T, A: Allocator, G: Growth> ThinVec<T, A, G> {
     pub fn capacity(&self) -> usize
         ensures value { result ≡ self.now.cap }
         ensures in_bounds { length self.now.items ≤ result }
+        ensures fits { Fits T.row result }
     {
         self.block.cap()
     }

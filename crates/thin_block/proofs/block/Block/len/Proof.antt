@@ -23,7 +23,8 @@ use Rattle.core.proofs.slots.Lent.{pointer_in, pointer_out, word_in, word_out}
 use Rattle.thin_block.proofs.Walks.{slot_at, after, says_all}
 use Rattle.thin_block.proofs.HeaderMemory.{args}
 use Rattle.thin_block.proofs.Sharing.{block_seen}
-use Rattle.thin_block.proofs.SizeFacts.{fits_tells}
+use Rattle.thin_block.proofs.CapacityLemmas.{fits-less}
+use Rattle.thin_block.proofs.SizeFacts.{closed, fits_tells}
 use Rattle.thin_block.specs.contracts.block.Block.len.{ended, clauses}
 use Rattle.thin_block.specs.contracts.block.Block.len.Key.{name as #self}
 use Rattle.thin_block.proofs.block.Block.len.Statement.{statement}
@@ -73,4 +74,5 @@ len_spec 𝓤 𝓛 𝓜 𝓡 wired T A LT LA g d dd met md =
     returns ! (look_at ! 0 refl) $ free_all ! refl $
     flt_i ! n (2 ^ 64) fits $ feq_i ! (List Val) (vint w64 n ∷ []) (vint w64 n ∷ []) refl $ fjoin ! $
     nothing ! $ nothing ! $ fjoin ! $ move ! (0 ∷ 1 ∷ []) $ join ! $ move ! (1 ∷ 2 ∷ []) $ join ! $ join ! $
-    suffices ! _ (ends_at 𝓛 En₀ hs c z (vint w64 n) n (tt, tt) (tt, tt)) $ says_all ! (_ ∷ _ ∷ _ ∷ []) (refl, (x.sound.0, (fits_tells (R E) (length x.slots) small).few)) $ done !)))))
+    suffices ! _ (ends_at 𝓛 En₀ hs c z (vint w64 n) n (tt, tt) (tt, tt)) $ says_all ! (_ ∷ _ ∷ _ ∷ _ ∷ [])
+    (refl, (x.sound.0, ((fits_tells (R E) (length x.slots) small).few, fits-less (R E) n (length x.slots) (closed (R E) (length x.slots) small) x.sound.0))) $ done !)))))

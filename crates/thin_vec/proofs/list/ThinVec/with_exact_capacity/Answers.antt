@@ -1,14 +1,14 @@
-use Rattle.std.proofs.Common.{[]}
-use Rattle.thin_vec.proofs.EditLemmas.{settle-new}
-use Rattle.thin_vec.proofs.ListLemmas.{Settled}
+use Rattle.std.proofs.Common.{ap, subst, sym}
+use denote.Param.{param}
+use Rattle.thin_block.specs.Capacity.{Fits}
+use Rattle.thin_block.proofs.CapacityLemmas.{exact-none, fits-none}
 use Rattle.thin_vec.proofs.list.ThinVec.with_exact_capacity.Goals as goal
-use Rattle.thin_vec.proofs.list.ThinVec.with_exact_capacity.Goals.{In-Ok}
 
-facts : (g : _) (c : In-Ok g) → Settled c.in-Ok.block c.args.alloc [] c.args.capacity
-facts g c = settle-new c.in-Ok.block c.args.alloc c.args.capacity c.in-Ok.ensures.slots c.in-Ok.ensures.len c.in-Ok.ensures.heap
+never : (g : _) (c : goal.After-drop-alloc g) → Fits (param 0 g.row.T) c.args.capacity → ⊥
+never g c fit = let told = c.fits.ensures.value.1 fit in let not = c.if-not-fits.true in cc
 
-pub invariant_of-result : goal.invariant_of-result
-invariant_of-result g c = (facts g c).thin
+pub returns-then-not-fits-clause-succeeds : goal.returns-then-not-fits-clause-succeeds
+returns-then-not-fits-clause-succeeds g c = λ none. absurd (never g c (subst (Fits (param 0 g.row.T)) (sym none) (fits-none (param 0 g.row.T))))
 
-pub returns-in-Ok-clause-items : goal.returns-in-Ok-clause-items
-returns-in-Ok-clause-items g c = (facts g c).items
+pub returns-then-not-fits-clause-cause : goal.returns-then-not-fits-clause-cause
+returns-then-not-fits-clause-cause g c = λ _. exact-none (param 0 g.row.T) c.args.capacity (never g c)

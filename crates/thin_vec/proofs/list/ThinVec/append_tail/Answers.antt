@@ -1,0 +1,35 @@
+use Rattle.std.proofs.Common.{◌+◌, ◌-◌, ◌++◌, ◌∙◌, ap, arith, drop, length, take}
+use Rattle.thin_block.specs.Slots.{items_in}
+use Rattle.thin_vec.proofs.JoinLemmas.{settle-cut, settle-joined}
+use Rattle.thin_vec.proofs.ListLemmas.{Settled, thin-filled}
+use Rattle.thin_vec.proofs.list.ThinVec.append_tail.Goals as goal
+
+pub move_run_to-requires-clause-filled : goal.move_run_to-requires-clause-filled
+move_run_to-requires-clause-filled g c = λ i low high.
+    thin-filled c.other.inside.block c.other.inside.alloc i c.other.invariant (omega (arith, low, high, c.len.ensures.value, c.other.invariant.packed.len, c.requires.in_bounds, ap (λ v. length v.items) c.other.view_is))
+
+cut : (g : _) (c : goal.After-set_len-2 g) → Settled c.set_len.new.self c.other.inside.alloc (take c.args.start (items_in c.other.inside.block.slots)) (length c.other.inside.block.slots)
+cut g c =
+    settle-cut c.other.inside.block c.set_len.new.self c.other.inside.alloc c.args.start _ c.other.invariant
+    (omega (arith, c.requires.in_bounds, ap (λ v. length v.items) c.other.view_is)) (ap (λ n. n - c.args.start) c.len.ensures.value)
+    (c.set_len.ensures.slots ∙ c.move_run_to.ensures.slots) c.set_len.ensures.len (c.set_len.ensures.heap ∙ c.move_run_to.ensures.heap)
+
+joined : (g : _) (c : goal.After-set_len-2 g)
+    → Settled c.set_len-2.new.self c.self.inside.alloc (items_in c.self.inside.block.slots ++ drop c.args.start (items_in c.other.inside.block.slots)) (length c.self.inside.block.slots)
+joined g c =
+    settle-joined c.self.inside.block c.set_len-2.new.self c.other.inside.block c.self.inside.alloc c.other.inside.alloc c.args.start _ _ c.self.invariant c.other.invariant
+    (omega (arith, c.requires.in_bounds, ap (λ v. length v.items) c.other.view_is)) (ap (λ n. n - c.args.start) c.len.ensures.value) c.len-len.ensures.value
+    (omega (arith, c.requires.room, c.len.ensures.value, c.len-len.ensures.value, c.self.invariant.packed.len, c.other.invariant.packed.len, ap (λ v. length v.items) c.self.view_is, ap (λ v. length v.items) c.other.view_is, ap (λ v. v.cap) c.self.view_is))
+    (c.set_len-2.ensures.slots ∙ c.move_run_to.ensures.other_slots) c.set_len-2.ensures.len (c.set_len-2.ensures.heap ∙ c.move_run_to.ensures.other_heap)
+
+pub invariant_of-self : goal.invariant_of-self
+invariant_of-self g c = (joined g c).thin
+
+pub invariant_of-other : goal.invariant_of-other
+invariant_of-other g c = (cut g c).thin
+
+pub returns-clause-items : goal.returns-clause-items
+returns-clause-items g c = (joined g c).items ∙ (λ i. (c.self.view_is i).items ++ drop c.args.start (c.other.view_is i).items)
+
+pub returns-clause-other_items : goal.returns-clause-other_items
+returns-clause-other_items g c = (cut g c).items ∙ ap (λ v. take c.args.start v.items) c.other.view_is

@@ -1,0 +1,96 @@
+//! Two lists: one goes behind the other, or one is cut in two.
+ghost use Rattle.std.specs.Prelude.{◌≡◌, ◌+◌, ◌-◌, ◌≤◌, ◌++◌, [], IfErr, IfOk, IsErrOf, IsOk, None, OnErr, OnOk, Some, drop, length, take};
+ghost use Rattle.thin_block.specs.Cost.{moving};
+
+use crate::list::ThinVec;
+use std::alloc::Allocator;
+use thin_block::{Growth, ThinVecError};
+
+impl<T, A: Allocator, G: Growth> ThinVec<T, A, G> {
+    ghost use Rattle.thin_vec.specs.Costs.{IsCheap};
+    ghost use Rattle.thin_vec.specs.ThinVec.{capacity_for, cost_at, cost_new};
+
+    /// Moves all items of `other` behind those of this list. `other` is left empty, with its capacity.
+    ///
+    /// It is refused as `reserve` is, before either list changes.
+    pub fn append(&mut self, other: &mut ThinVec<T, A, G>) -> Result<(), ThinVecError>
+        ensures succeeds { length self.old.items + length other.old.items ≤ self.old.cap → IsOk result }
+        ensures overflow { capacity_for G.rule T.row self.old (length other.old.items) ≡ None → IsErrOf result ThinVecError.CapacityOverflow }
+        ensures cause { IfErr result (λ cause. cause ≡ ThinVecError.CapacityOverflow → capacity_for G.rule T.row self.old (length other.old.items) ≡ None) }
+
+        // The capacity is the ruled one.
+        ensures items { OnOk result (self.new.items ≡ self.old.items ++ other.old.items) }
+        ensures capacity { OnOk result (capacity_for G.rule T.row self.old (length other.old.items) ≡ Some self.new.cap) }
+        ensures had_room { length self.old.items + length other.old.items ≤ self.old.cap → self.new.cap ≡ self.old.cap }
+        ensures cost { OnOk result (self.new.cost ≡ moving (length other.old.items) (cost_at self.old self.new.cap)) }
+        ensures alloc { self.new.alloc ≡ self.old.alloc }
+        ensures cheap { IsCheap self.old → IsCheap self.new }
+
+        // The other list keeps its block.
+        ensures other_items { OnOk result (other.new.items ≡ []) }
+        ensures other_capacity { other.new.cap ≡ other.old.cap }
+        ensures other_cost { other.new.cost ≡ other.old.cost }
+        ensures other_alloc { other.new.alloc ≡ other.old.alloc }
+
+        // Refused, nothing changed.
+        ensures err { OnErr result (self.new ≡ self.old) }
+        ensures other_err { OnErr result (other.new ≡ other.old) }
+    {
+        match self.reserve(other.len()) {
+            Ok(()) => (),
+            Err(cause) => return Err(cause),
+        }
+        self.append_tail(other, 0);
+        Ok(())
+    }
+
+    /// Cuts the list at `at`: it keeps the first `at` items and its capacity, and the answer has the others, and the
+    /// capacity of their count.
+    ///
+    /// It is refused only where memory is, and then nothing changes. At the length it takes no memory.
+    pub fn split_off(&mut self, alloc: A, at: usize) -> Result<ThinVec<T, A, G>, ThinVecError>
+        requires in_bounds { at ≤ length self.old.items }
+        ensures succeeds { at ≡ length self.old.items → IsOk result }
+        ensures cause { IfErr result (λ cause. cause ≡ ThinVecError.OutOfMemory) }
+        ensures items { OnOk result (self.new.items ≡ take at self.old.items) }
+        ensures capacity { self.new.cap ≡ self.old.cap }
+        ensures cost { self.new.cost ≡ self.old.cost }
+        ensures alloc { self.new.alloc ≡ self.old.alloc }
+        ensures err { OnErr result (self.new ≡ self.old) }
+
+        // The second list.
+        ensures other_items { IfOk result (λ tail. tail.items ≡ drop at self.old.items) }
+        ensures other_capacity { IfOk result (λ tail. tail.cap ≡ length self.old.items - at) }
+        ensures other_cost { IfOk result (λ tail. tail.cost ≡ moving (length self.old.items - at) (cost_new (length self.old.items - at))) }
+        ensures other_alloc { IfOk result (λ tail. tail.alloc ≡ alloc) }
+        ensures other_cheap { IfOk result (λ tail. IsCheap tail) }
+    {
+        match ThinVec::with_fitting_capacity(alloc, self.len() - at) {
+            Ok(mut tail) => {
+                tail.append_tail(self, at);
+                Ok(tail)
+            }
+            Err(cause) => Err(cause),
+        }
+    }
+
+    // Moves the items of `other` from `start` on behind those of this list, into spare room, as one run.
+    fn append_tail(&mut self, other: &mut ThinVec<T, A, G>, start: usize)
+        requires in_bounds { start ≤ length other.old.items }
+        requires room { length self.old.items + (length other.old.items - start) ≤ self.old.cap }
+        ensures items { self.new.items ≡ self.old.items ++ drop start other.old.items }
+        ensures capacity { self.new.cap ≡ self.old.cap }
+        ensures cost { self.new.cost ≡ moving (length other.old.items - start) self.old.cost }
+        ensures alloc { self.new.alloc ≡ self.old.alloc }
+        ensures other_items { other.new.items ≡ take start other.old.items }
+        ensures other_capacity { other.new.cap ≡ other.old.cap }
+        ensures other_cost { other.new.cost ≡ other.old.cost }
+        ensures other_alloc { other.new.alloc ≡ other.old.alloc }
+    {
+        let len = self.block.len();
+        let count = other.block.len() - start;
+        other.block.move_run_to(start, count, &mut self.block, len);
+        other.block.set_len(start);
+        self.block.set_len(len + count);
+    }
+}
