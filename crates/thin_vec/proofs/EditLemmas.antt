@@ -1,12 +1,12 @@
 -- What a block holds while items leave it, and once they have left.
 use Rattle.std.proofs.Common.{◌≡◌, ◌≢◌, ℕ, zero, suc, ◌+◌, ◌-◌, ◌<◌, ◌≤◌, List, [], ◌∷◌, ◌++◌, length, take, drop, Option, Some, None, refl, sym, ap, ◌∙◌, subst, arith, get_or, length-append, append_assoc}
 use Rattle.std.proofs.Math.Seq.{take-append_seam}
-use Rattle.std.proofs.lemmas.List.{append-nil, drop-replicate, get_or-set_other, set_comm, set-append_left, length-replicate, length-take-le, length_push, take-append-drop, replicate-append-replicate, set_at, get_or_at, map-append}
+use Rattle.std.proofs.lemmas.List.{append-nil, get_or-set_other, set_comm, set-append_left, length-replicate, length-take-le, length_push, take-append-drop, replicate-append-replicate, set_at, get_or_at, map-append}
 use Rattle.std.specs.Prelude.{IsSome, slice_get}
 use Rattle.std.specs.List.{swap_remove}
 use lib.ListN.{set, length-set}
 use Rattle.thin_block.specs.Block.{IsFrom}
-use Rattle.thin_block.specs.Slots.{full, empty, slot, items_in, front, laid}
+use Rattle.thin_block.specs.Slots.{full, empty, slot, items_in, front}
 use Rattle.thin_block.specs.declared.block.Block.{Block}
 use Rattle.thin_vec.specs.ThinVec.{IsThin}
 use Rattle.thin_vec.proofs.ListLemmas.{Settled, settled, from-same, front-pop, last-item, length-full, thin-room}
@@ -164,14 +164,3 @@ module _ {T A : Type 0} where
           let xs : List T = ys ++ m ∷ [] in
           let s : List T = set xs i (get_or xs (length xs - 1) v) in
           omega (arith, length-take-le (length xs - 1) s (omega (arith, length-set xs i (get_or xs (length xs - 1) v))), length_push ys m, long)
-
-  -- a list of no items that is filled from its first slot on
-  pub settle-fill : (b b' : Block T A) (a : A) (xs : List T) → IsThin b a → items_in b.slots ≡ [] → length xs ≤ length b.slots → b'.slots ≡ laid 0 (full xs) b.slots → b'.len ≡ length xs → b'.heap ≡ b.heap
-      → Settled b' a xs (length b.slots)
-  settle-fill b b' a xs t none room s l f =
-      let c : ℕ = length b.slots in
-      let n : 0 + length (full xs) ≡ length xs = omega (arith, length-full xs) in
-      let blank : b.slots ≡ empty c = t.packed.row ∙ (ap (λ (ys : List T). front ys c) none ∙ sym (front-none c)) in
-      settled b' a xs c
-      (s ∙ (ap (λ (r : List (Option T)). full xs ++ drop (0 + length (full xs)) r) blank ∙ ap (λ (r : List (Option T)). full xs ++ r) (ap (λ (k : ℕ). drop k (empty c)) n ∙ drop-replicate (length xs) c None)))
-      l room (from-same b b' a t.from f)

@@ -1,5 +1,5 @@
 -- What two blocks hold once the last items of one went behind those of the other.
-use Rattle.std.proofs.Common.{◌≡◌, ℕ, ◌+◌, ◌-◌, ◌≤◌, List, ◌++◌, length, take, drop, Option, Some, None, sym, ap, ◌∙◌, arith, length-append, append_assoc}
+use Rattle.std.proofs.Common.{◌≡◌, ℕ, ◌+◌, ◌-◌, ◌≤◌, List, ◌++◌, length, take, drop, Option, None, sym, ap, ◌∙◌, arith, length-append, append_assoc}
 use Rattle.std.proofs.lemmas.List.{length-drop, length-replicate, length-take-le, take-append-drop, replicate-append-replicate}
 use Rattle.thin_block.specs.Slots.{empty, emptied, front, full, items_in, laid, run}
 use Rattle.thin_block.specs.declared.block.Block.{Block}
@@ -48,20 +48,24 @@ module _ {T : Type 0} where
         ∙ ap (λ (s : List (Option T)). full (take i ys) ++ s) (replicate-append-replicate k (c - length ys) None ∙ ap (λ (m : ℕ). empty m) bare))
 
 module _ {T A : Type 0} where
+  -- items that are laid behind those of a list
+  pub settle-more : (b b' : Block T A) (a : A) (xs : List T) (n : ℕ) → IsThin b a → n ≡ b.len → n + length xs ≤ length b.slots → b'.slots ≡ laid n (full xs) b.slots → b'.len ≡ n + length xs → b'.heap ≡ b.heap
+      → Settled b' a (items_in b.slots ++ xs) (length b.slots)
+  settle-more b b' a xs n t len room s l f =
+      let ys : List T = items_in b.slots in
+      let end : n ≡ length ys = len ∙ t.packed.len in
+      settled b' a (ys ++ xs) (length b.slots) (s ∙ ((λ m. laid (end m) (full xs) (t.packed.row m)) ∙ front-more ys xs (length b.slots) (omega (arith, room, end))))
+      (omega (arith, l, end, length-append ys xs)) (omega (arith, room, end, length-append ys xs)) (from-same b b' a t.from f)
+
   -- the list that the items from i on of another go to
   pub settle-joined : (b b' o : Block T A) (a p : A) (i k n : ℕ) → IsThin b a → IsThin o p → i ≤ length (items_in o.slots) → k ≡ o.len - i → n ≡ b.len → n + k ≤ length b.slots
       → b'.slots ≡ laid n (run i k o.slots) b.slots → b'.len ≡ n + k → b'.heap ≡ b.heap → Settled b' a (items_in b.slots ++ drop i (items_in o.slots)) (length b.slots)
   settle-joined b b' o a p i k n t u order count len room s l f =
-      let xs : List T = items_in b.slots in
       let ys : List T = items_in o.slots in
-      let c : ℕ = length b.slots in
       let all : k ≡ length ys - i = omega (arith, count, u.packed.len) in
-      let end : n ≡ length xs = len ∙ t.packed.len in
       let more : length (drop i ys) ≡ k = omega (arith, all, length-drop i ys) in
-      settled b' a (xs ++ drop i ys) c
-      (s ∙ ((λ m. laid (end m) ((ap (λ (r : List (Option T)). run i k r) u.packed.row ∙ front-run ys (length o.slots) i k order (thin-room o p u) all) m) (t.packed.row m))
-      ∙ front-more xs (drop i ys) c (omega (arith, room, end, more))))
-      (omega (arith, l, end, more, length-append xs (drop i ys))) (omega (arith, room, end, more, length-append xs (drop i ys))) (from-same b b' a t.from f)
+      let same : run i k o.slots ≡ full (drop i ys) = ap (λ (r : List (Option T)). run i k r) u.packed.row ∙ front-run ys (length o.slots) i k order (thin-room o p u) all in
+      settle-more b b' a (drop i ys) n t len (omega (arith, room, more)) (s ∙ ap (λ (r : List (Option T)). laid n r b.slots) same) (omega (arith, l, more)) f
 
   -- and the one that they left
   pub settle-cut : (o o' : Block T A) (p : A) (i k : ℕ) → IsThin o p → i ≤ length (items_in o.slots) → k ≡ o.len - i → o'.slots ≡ emptied i k o.slots → o'.len ≡ i → o'.heap ≡ o.heap

@@ -5,3 +5,4 @@ mod EditLemmas
 mod ShiftLemmas
 mod LendLemmas
 mod JoinLemmas
+mod FillLemmas

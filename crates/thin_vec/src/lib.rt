@@ -5,12 +5,13 @@ mod capacity;
 mod conversions;
 mod edits;
 mod errors;
+mod filling;
 mod impls;
 mod joins;
 mod list;
 mod macros;
 
 pub use conversions::written_out;
-pub use errors::Rejected;
+pub use errors::{CollectRefused, ExtendRefused, Rejected};
 pub use list::ThinVec;
 pub use thin_block::{Doubling, Growth, ThinVecError, fits};

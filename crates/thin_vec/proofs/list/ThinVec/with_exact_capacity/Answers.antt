@@ -1,4 +1,4 @@
-use Rattle.std.proofs.Common.{ap, subst, sym}
+use Rattle.std.proofs.Common.{subst, sym}
 use denote.Param.{param}
 use Rattle.thin_block.specs.Capacity.{Fits}
 use Rattle.thin_block.proofs.CapacityLemmas.{exact-none, fits-none}

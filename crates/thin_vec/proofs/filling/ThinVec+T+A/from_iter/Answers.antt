@@ -1,0 +1,11 @@
+use Rattle.std.proofs.Common.{◌+◌, ◌≡◌, ◌∙◌, ap, arith, length, sym}
+use denote.Param.{param}
+use Rattle.thin_block.specs.Growth.{exact_capacity}
+use Rattle.thin_vec.proofs.filling.ThinVec+T+A.from_iter.Goals as goal
+
+pub returns-in-Err-clause-cause : goal.returns-in-Err-clause-cause
+returns-in-Err-clause-cause g c = λ over.
+    let h = c.size_hint.result.0 in
+    let none = c.new-list.ensures.new in
+    let want : length c.new-list.result.items + h ≡ h = omega (arith, ap length none.items) in
+    (h, c.size_hint.ensures.lower, sym (λ i. exact_capacity (param 0 g.row.T) (none.capacity i) (want i)) ∙ c.in-Err.ensures.cause over)

@@ -1,0 +1,22 @@
+-- The list holds what the iterator has given, and is full after each turn or has grown.
+use Rattle.std.proofs.Common.{◌≡◌, ◌+◌, ◌≤◌, List, ◌++◌, length}
+use Rattle.std.specs.Iterator.{IsFinite, Yields, size}
+use denote.Param.{param}
+use Rattle.thin_vec.specs.Costs.{IsCheap}
+use Rattle.thin_vec.specs.Filling.{IsFilled, IsLoose}
+use Rattle.thin_vec.proofs.list.ThinVec.fill.Given as goal
+
+abbrev pub invariant-loop-item : goal.invariant-loop-item
+invariant-loop-item g l = record {
+  can : g.I.Iterator.can_next l.rest;
+  finite : IsFinite (g.I.Iterator.remaining l.rest);
+  placed : (xs : List g.row.T.Denot) × (l.self.items ≡ l.fn.self.items ++ xs) × Yields g.I.Iterator.next_gives l.fn.iter xs l.rest;
+  nearer : length l.self.items + size (g.I.Iterator.remaining l.rest) ≤ length l.fn.self.items + size (g.I.Iterator.remaining l.fn.iter);
+  capacity : IsLoose g.G.Growth.rule (param 0 g.row.T) l.fn.self.cap l.self.cap;
+  cost : IsFilled l.fn.self l.self;
+  alloc : l.self.alloc ≡ l.fn.self.alloc;
+  cheap : IsCheap l.fn.self → IsCheap l.self;
+}
+
+abbrev pub decreases-loop-item : goal.decreases-loop-item
+decreases-loop-item g l = size (g.I.Iterator.remaining l.rest)

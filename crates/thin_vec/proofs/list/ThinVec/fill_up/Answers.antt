@@ -1,0 +1,47 @@
+use Rattle.std.proofs.Common.{◌++◌, ◌-◌, ◌+◌, ◌<◌, ◌≡◌, ◌∙◌, ap, arith, length, length-append}
+use Rattle.std.specs.Iterator.{size}
+use Rattle.thin_block.specs.Cost.{moving}
+use Rattle.thin_block.specs.Slots.{items_in}
+use Rattle.thin_vec.proofs.FillLemmas.{on-some}
+use Rattle.thin_vec.proofs.JoinLemmas.{settle-more}
+use Rattle.thin_vec.proofs.ListLemmas.{Settled, thin-room}
+use Rattle.thin_vec.proofs.list.ThinVec.fill_up.Goals as goal
+
+facts : (g : _) (c : goal.After-set_len g) → Settled c.set_len.new.self c.self.inside.alloc (items_in c.self.inside.block.slots ++ c.fill_slots-rest.ensures.slots.0) (length c.self.inside.block.slots)
+facts g c =
+    let gave = c.fill_slots-rest.ensures.slots in
+    settle-more c.self.inside.block c.set_len.new.self c.self.inside.alloc gave.0 c.len-len.result c.self.invariant c.len-len.ensures.value
+    (omega (arith, gave.2, c.fill_slots-rest.ensures.within, c.cap-cap.ensures.value)) (c.set_len.ensures.slots ∙ gave.1) (c.set_len.ensures.len ∙ gave.2) (c.set_len.ensures.heap ∙ c.fill_slots-rest.ensures.heap)
+
+-- where the items end
+ends : (g : _) (c : goal.After-set_len g) → length (items_in c.set_len.new.self.slots) ≡ c.fill_slots-rest.result.1
+ends g c =
+    let gave = c.fill_slots-rest.ensures.slots in
+    omega (arith, ap length (facts g c).items, length-append (items_in c.self.inside.block.slots) gave.0, gave.2, c.len-len.ensures.value, c.self.invariant.packed.len)
+
+begins : (g : _) (c : goal.After-set_len g) → c.len-len.result ≡ length c.args.self.now.items
+begins g c = c.len-len.ensures.value ∙ (c.self.invariant.packed.len ∙ ap (λ v. length v.items) c.self.view_is)
+
+pub invariant_of-self : goal.invariant_of-self
+invariant_of-self g c = (facts g c).thin
+
+pub returns-clause-items : goal.returns-clause-items
+returns-clause-items g c =
+    let gave = c.fill_slots-rest.ensures.slots in
+    (gave.0, (facts g c).items ∙ ap (λ v. v.items ++ gave.0) c.self.view_is, gave.3)
+
+pub returns-clause-room : goal.returns-clause-room
+returns-clause-room g c = thin-room c.set_len.new.self c.self.inside.alloc (facts g c).thin
+
+pub returns-clause-cost : goal.returns-clause-cost
+returns-clause-cost g c =
+    c.set_len.ensures.cost ∙ (c.fill_slots-rest.ensures.cost ∙ (ap (λ v. moving (c.fill_slots-rest.result.1 - c.len-len.result) v.cost) c.self.view_is
+    ∙ ap (λ k. moving k c.args.self.now.cost) (omega (arith, ends g c, begins g c))))
+
+pub returns-clause-nearer : goal.returns-clause-nearer
+returns-clause-nearer g c =
+    on-some c.fill_slots-rest.result.2 (λ (less : c.fill_slots-rest.result.1 + size (g.I.Iterator.remaining c.fill_slots-rest.result.0) < c.len-len.result + size (g.I.Iterator.remaining c.args.iter)). omega (arith, less, ends g c, begins g c)) c.fill_slots-rest.ensures.nearer
+
+pub returns-clause-full : goal.returns-clause-full
+returns-clause-full g c =
+    on-some c.fill_slots-rest.result.2 (λ (end : c.fill_slots-rest.result.1 ≡ c.cap-cap.result). omega (arith, end, ends g c, (facts g c).cap, c.cap-cap.ensures.value)) c.fill_slots-rest.ensures.full

@@ -1,0 +1,36 @@
+-- What a list may have become once the items of an iterator went behind its own. (std: `Vec::extend`)
+use Rattle.std.specs.Prelude.{◌≡◌, ◌⊎◌, ℕ, ◌+◌, ◌<◌, ◌≤◌, List, ◌++◌, Option, length}
+use Rattle.std.specs.Iterator.{Count, Yields}
+use Rattle.std.specs.Iterator.SizeHint.{IsWithinCount}
+use Rattle.std.specs.Option.{option_to_list}
+use Rattle.std.specs.declared.option.Option.TheVariants.{None, Some}
+use Rattle.std.specs.Borrow.{RattleType}
+use Rattle.thin_block.specs.Growth.{Rule, exact_capacity, ruled_capacity}
+use Rattle.thin_vec.specs.ThinVec.{Thin, capacity_for}
+
+-- the capacity d after c: as before, or at least one that the rule names after c
+abbrev pub IsLoose : Rule → RattleType → ℕ → ℕ → Type 0
+IsLoose rule R c d = (d ≡ c) ⊎ ((w : ℕ) × (n : ℕ) × (c < w) × (ruled_capacity rule R c w ≡ Some n) × (n ≤ d))
+
+module _ {T A : Type 0} where
+  -- what w has cost that was v, before items went in behind: one move for each of them; where the capacity grew, at least one
+  -- block more, into which at least the items of v were copied
+  pub record IsFilled (v w : Thin T A) : Type 0 where
+    pub moves : w.cost.moves + length v.items ≡ v.cost.moves + length w.items
+    pub kept : w.cap ≡ v.cap → (w.cost.blocks ≡ v.cost.blocks) × (w.cost.grown ≡ v.cost.grown)
+    pub grown : v.cap < w.cap → (v.cost.blocks < w.cost.blocks) × (v.cost.grown + length v.items ≤ w.cost.grown)
+
+  -- no capacity is ruled for what was wanted: one place more, for the item in hand, or, where no item was drawn, as many more
+  -- as a hint allows that has `left` to give
+  abbrev pub Overflows : Rule → RattleType → Thin T A → Option T → Count → Type 0
+  Overflows rule R v (Some x) left = capacity_for rule R v 1 ≡ None
+  Overflows rule R v None left = (h : ℕ) × IsWithinCount h left × (capacity_for rule R v h ≡ None)
+
+  -- the same of a new list, which takes exactly what the hint says
+  abbrev pub OverflowsNew : Rule → RattleType → Thin T A → Option T → Count → Type 0
+  OverflowsNew rule R v (Some x) left = capacity_for rule R v 1 ≡ None
+  OverflowsNew rule R v None left = (h : ℕ) × IsWithinCount h left × (exact_capacity R 0 h ≡ None)
+
+-- calls of `next` from s gave what was placed, then the item in hand, and led to the rest
+abbrev pub GaveUp : {S X : Type 0} → (S → Option X → S → Type 0) → S → List X → Option X → S → Type 0
+GaveUp steps s placed in_hand rest = Yields steps s (placed ++ option_to_list in_hand) rest

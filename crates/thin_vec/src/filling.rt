@@ -1,0 +1,205 @@
+//! Lists that take the items of an iterator.
+ghost use Rattle.std.specs.Prelude.{◌≡◌, ℕ, ◌+◌, ◌-◌, ◌<◌, ◌≤◌, List, ◌++◌, [], IfErr, IfOk, IsOk, IsSome, None, OnErr, OnOk, OnSome, length};
+ghost use Rattle.std.specs.Iterator.{Drains, IsFinite, Yields, YieldsThen, size};
+ghost use Rattle.std.specs.Option.{option_to_list};
+ghost use Rattle.thin_block.specs.Cost.{moving};
+ghost use Rattle.thin_block.specs.Growth.{doubling};
+ghost use Rattle.thin_block.specs.Slots.{full, laid, slot};
+ghost use Rattle.thin_vec.specs.Costs.{IsCheap};
+ghost use Rattle.thin_vec.specs.Filling.{GaveUp, IsFilled, IsLoose, Overflows, OverflowsNew};
+ghost use Rattle.thin_vec.specs.ThinVec.{IsNew, capacity_for};
+
+use crate::errors::{CollectRefused, ExtendRefused, Rejected};
+use crate::list::ThinVec;
+use std::alloc::Allocator;
+use std::iter::Iterator;
+use thin_block::{Block, Growth, ThinVecError};
+
+impl<T, A: Allocator, G: Growth> ThinVec<T, A, G> {
+    /// Appends the items that `iter` gives before its first `None`, after which it is not asked again.
+    ///
+    /// Its hint is asked once, and room is made for its lower bound. Then items are placed while there is room, and each
+    /// further one is pushed. It is refused as `reserve` and `push` are: what was placed stays, the item for which there was
+    /// no room is handed back, and the rest of the iterator with it.
+    pub fn extend<I: Iterator<Item = T>>(&mut self, iter: I) -> Result<(), ExtendRefused<T, I>>
+        requires can_next { I.can_next iter }
+        requires finite { IsFinite (I.remaining iter) }
+        ensures succeeds { length self.old.items + size (I.remaining iter) ≤ self.old.cap → IsOk result }
+        ensures overflow { IfErr result (λ refused. IsSome refused.in_hand → capacity_for G.rule T.row self.new 1 ≡ None → refused.cause ≡ ThinVecError.CapacityOverflow) }
+        ensures cause { IfErr result (λ refused. refused.cause ≡ ThinVecError.CapacityOverflow → Overflows G.rule T.row self.new refused.in_hand (I.remaining refused.rest)) }
+        ensures items { OnOk result ((xs : List T) × Drains I.next_gives iter xs × (self.new.items ≡ self.old.items ++ xs)) }
+
+        // Accepted or refused, each item that came in has moved once.
+        ensures capacity { IsLoose G.rule T.row self.old.cap self.new.cap }
+        ensures cost { IsFilled self.old self.new }
+        ensures alloc { self.new.alloc ≡ self.old.alloc }
+        ensures cheap { IsCheap self.old → IsCheap self.new }
+
+        // Refused, no item is lost. One is in hand only where the list is full, and else nothing happened.
+        ensures placed { IfErr result (λ refused. (xs : List T) × (self.new.items ≡ self.old.items ++ xs) × GaveUp I.next_gives iter xs refused.in_hand refused.rest) }
+        ensures rest { IfErr result (λ refused. I.can_next refused.rest × IsFinite (I.remaining refused.rest)) }
+        ensures full { IfErr result (λ refused. IsSome refused.in_hand → length self.new.items ≡ self.new.cap) }
+        ensures err { IfErr result (λ refused. refused.in_hand ≡ None → (self.new ≡ self.old) × (refused.rest ≡ iter)) }
+    {
+        match self.reserve(iter.size_hint().0) {
+            Ok(()) => self.fill(iter),
+            Err(cause) => Err(ExtendRefused {
+                cause,
+                in_hand: None,
+                rest: iter,
+            }),
+        }
+    }
+
+    // `extend` that asks for no hint.
+    pub(crate) fn fill<I: Iterator<Item = T>>(&mut self, iter: I) -> Result<(), ExtendRefused<T, I>>
+        requires can_next { I.can_next iter }
+        requires finite { IsFinite (I.remaining iter) }
+        ensures succeeds { length self.old.items + size (I.remaining iter) ≤ self.old.cap → IsOk result }
+        ensures overflow { IfErr result (λ refused. capacity_for G.rule T.row self.new 1 ≡ None → refused.cause ≡ ThinVecError.CapacityOverflow) }
+        ensures cause { IfErr result (λ refused. refused.cause ≡ ThinVecError.CapacityOverflow → capacity_for G.rule T.row self.new 1 ≡ None) }
+        ensures items { OnOk result ((xs : List T) × Drains I.next_gives iter xs × (self.new.items ≡ self.old.items ++ xs)) }
+        ensures capacity { IsLoose G.rule T.row self.old.cap self.new.cap }
+        ensures cost { IsFilled self.old self.new }
+        ensures alloc { self.new.alloc ≡ self.old.alloc }
+        ensures cheap { IsCheap self.old → IsCheap self.new }
+        ensures placed { IfErr result (λ refused. (xs : List T) × (self.new.items ≡ self.old.items ++ xs) × GaveUp I.next_gives iter xs refused.in_hand refused.rest) }
+        ensures rest { IfErr result (λ refused. I.can_next refused.rest × IsFinite (I.remaining refused.rest)) }
+        ensures in_hand { IfErr result (λ refused. IsSome refused.in_hand) }
+        ensures full { OnErr result (length self.new.items ≡ self.new.cap) }
+    {
+        let mut rest = iter;
+        loop {
+            let (left, over) = self.fill_up(rest);
+            rest = left;
+            let Some(item) = over else {
+                return Ok(());
+            };
+            match self.push(item) {
+                Ok(()) => (),
+                Err(refused) => {
+                    let Rejected { value, cause } = refused;
+                    return Err(ExtendRefused {
+                        cause,
+                        in_hand: Some(value),
+                        rest,
+                    });
+                }
+            }
+        }
+    }
+
+    // Fills the spare room, and stores the length once. Hands back the iterator, and the item that found no room.
+    fn fill_up<I: Iterator<Item = T>>(&mut self, iter: I) -> (I, Option<T>)
+        requires can_next { I.can_next iter }
+        requires finite { IsFinite (I.remaining iter) }
+        ensures items { (xs : List T) × (self.new.items ≡ self.old.items ++ xs) × YieldsThen I.next_gives iter xs result.1 result.0 }
+        ensures capacity { self.new.cap ≡ self.old.cap }
+        ensures room { length self.new.items ≤ self.new.cap }
+        ensures alloc { self.new.alloc ≡ self.old.alloc }
+        ensures cost { self.new.cost ≡ moving (length self.new.items - length self.old.items) self.old.cost }
+        ensures cheap { IsCheap self.old → IsCheap self.new }
+        ensures rest { OnSome result.1 (I.can_next result.0 × IsFinite (I.remaining result.0)) }
+        ensures nearer { OnSome result.1 (length self.new.items + size (I.remaining result.0) < length self.old.items + size (I.remaining iter)) }
+        ensures full { OnSome result.1 (length self.new.items ≡ self.new.cap) }
+    {
+        let len = self.block.len();
+        let cap = self.block.cap();
+        let (rest, end, over) = fill_slots(&mut self.block, len, cap, iter);
+        self.block.set_len(end);
+        (rest, over)
+    }
+}
+
+impl<T, A: Allocator> ThinVec<T, A> {
+    /// A list of the items that `iter` gives before its first `None`, after which it is not asked again.
+    ///
+    /// Its hint is asked once, and the list begins with the capacity that its lower bound says. It is refused as
+    /// `with_capacity` and `push` are, and hands back the list of what was placed, the item for which there was no room, and
+    /// the rest of the iterator.
+    pub fn from_iter<I: Iterator<Item = T>>(
+        alloc: A,
+        iter: I,
+    ) -> Result<ThinVec<T, A>, CollectRefused<T, I, A>>
+        requires can_next { I.can_next iter }
+        requires finite { IsFinite (I.remaining iter) }
+        ensures succeeds { size (I.remaining iter) ≡ 0 → IsOk result }
+        ensures overflow { IfErr result (λ refused. IsSome refused.in_hand → capacity_for doubling T.row refused.list 1 ≡ None → refused.cause ≡ ThinVecError.CapacityOverflow) }
+        ensures cause { IfErr result (λ refused. refused.cause ≡ ThinVecError.CapacityOverflow → OverflowsNew doubling T.row refused.list refused.in_hand (I.remaining refused.rest)) }
+        ensures items { IfOk result (λ list. Drains I.next_gives iter list.items) }
+        ensures moves { IfOk result (λ list. list.cost.moves ≡ length list.items) }
+        ensures alloc { IfOk result (λ list. list.alloc ≡ alloc) }
+        ensures cheap { IfOk result (λ list. IsCheap list) }
+
+        // Refused, no item is lost. One is in hand only where the list is full, and else nothing happened.
+        ensures placed { IfErr result (λ refused. GaveUp I.next_gives iter refused.list.items refused.in_hand refused.rest) }
+        ensures rest { IfErr result (λ refused. I.can_next refused.rest × IsFinite (I.remaining refused.rest)) }
+        ensures full { IfErr result (λ refused. IsSome refused.in_hand → length refused.list.items ≡ refused.list.cap) }
+        ensures err { IfErr result (λ refused. refused.in_hand ≡ None → IsNew refused.list alloc × (refused.rest ≡ iter)) }
+        ensures err_alloc { IfErr result (λ refused. refused.list.alloc ≡ alloc) }
+        ensures err_cheap { IfErr result (λ refused. IsCheap refused.list) }
+    {
+        let mut list = ThinVec::new(alloc);
+        match list.reserve_exact(iter.size_hint().0) {
+            Ok(()) => (),
+            Err(cause) => {
+                return Err(CollectRefused {
+                    list,
+                    cause,
+                    in_hand: None,
+                    rest: iter,
+                });
+            }
+        }
+        match list.fill(iter) {
+            Ok(()) => Ok(list),
+            Err(refused) => {
+                let ExtendRefused {
+                    cause,
+                    in_hand,
+                    rest,
+                } = refused;
+                Err(CollectRefused {
+                    list,
+                    cause,
+                    in_hand,
+                    rest,
+                })
+            }
+        }
+    }
+}
+
+// Puts what `iter` gives into the empty slots from `start` up to `end`. Hands back the iterator, where it stopped, and the
+// item that found no slot.
+fn fill_slots<T, A: Allocator, I: Iterator<Item = T>>(
+    block: &mut Block<T, A>,
+    start: usize,
+    end: usize,
+    iter: I,
+) -> (I, usize, Option<T>)
+    requires start_le_end { start ≤ end }
+    requires in_bounds { end ≤ length block.old.slots }
+    requires empty { (k : ℕ) → start ≤ k → k < end → slot block.old.slots k ≡ None }
+    requires can_next { I.can_next iter }
+    requires finite { IsFinite (I.remaining iter) }
+    ensures slots { (xs : List T) × (block.new.slots ≡ laid start (full xs) block.old.slots) × (result.1 ≡ start + length xs) × YieldsThen I.next_gives iter xs result.2 result.0 }
+    ensures within { result.1 ≤ end }
+    ensures len { block.new.len ≡ block.old.len }
+    ensures heap { block.new.heap ≡ block.old.heap }
+    ensures cost { block.new.cost ≡ moving (result.1 - start) block.old.cost }
+    ensures rest { OnSome result.2 (I.can_next result.0 × IsFinite (I.remaining result.0)) }
+    ensures nearer { OnSome result.2 (result.1 + size (I.remaining result.0) < start + size (I.remaining iter)) }
+    ensures full { OnSome result.2 (result.1 ≡ end) }
+{
+    let mut rest = iter;
+    let mut i = start;
+    while let Some(item) = rest.next() {
+        if i == end {
+            return (rest, i, Some(item));
+        }
+        block.put(i, item);
+        i += 1;
+    }
+    (rest, i, None)
+}
