@@ -89,4 +89,4 @@ exact-past R c w more high = exact-overflow R c w more (λ fit. let small = fits
 
 pub ruleset ruled = (ruled-same, ruled-overflow, ruled-rule)
 
-pub ruleset exact = (exact-same, exact-fits, exact-overflow, exact-past)
+pub ruleset exact = (exact-same, exact-fits, exact-overflow, exact-none, exact-past, fits-none)

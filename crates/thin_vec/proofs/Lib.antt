@@ -2,6 +2,7 @@ mod ListLemmas
 mod GrowthLemmas
 pub mod ThinVecLemmas
 mod EditLemmas
+mod CloneLemmas
 mod ShiftLemmas
 mod LendLemmas
 mod JoinLemmas

@@ -1,5 +1,6 @@
 pub mod ThinVec
 pub mod Costs
+pub mod Clones
 pub mod Filling
 pub mod Lends
 pub mod Shapes

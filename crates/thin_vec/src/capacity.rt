@@ -20,6 +20,7 @@ impl<T, A: Allocator, G: Growth> ThinVec<T, A, G> {
     #[tactic(auto, using(thin_block::proofs::CapacityLemmas::ruled))]
     pub fn reserve(&mut self, additional: usize) -> Result<(), ThinVecError>
         ensures succeeds { length self.old.items + additional ≤ self.old.cap → IsOk result }
+        ensures succeeds_empty { additional ≡ 0 → IsOk result }
         ensures overflow { capacity_for G.rule T.row self.old additional ≡ None → IsErrOf result ThinVecError.CapacityOverflow }
         ensures cause { IfErr result (λ cause. cause ≡ ThinVecError.CapacityOverflow → capacity_for G.rule T.row self.old additional ≡ None) }
         ensures items { self.new.items ≡ self.old.items }
@@ -45,6 +46,7 @@ impl<T, A: Allocator, G: Growth> ThinVec<T, A, G> {
     #[tactic(auto, using(thin_block::proofs::CapacityLemmas::exact))]
     pub fn reserve_exact(&mut self, additional: usize) -> Result<(), ThinVecError>
         ensures succeeds { length self.old.items + additional ≤ self.old.cap → IsOk result }
+        ensures succeeds_empty { additional ≡ 0 → IsOk result }
         ensures overflow { exact_for T.row self.old additional ≡ None → IsErrOf result ThinVecError.CapacityOverflow }
         ensures cause { IfErr result (λ cause. cause ≡ ThinVecError.CapacityOverflow → exact_for T.row self.old additional ≡ None) }
         ensures items { self.new.items ≡ self.old.items }

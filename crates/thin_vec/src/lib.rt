@@ -2,6 +2,7 @@
 #![tactic(auto)]
 
 mod capacity;
+mod clones;
 mod conversions;
 mod edits;
 mod errors;
@@ -11,7 +12,7 @@ mod joins;
 mod list;
 mod macros;
 
-pub use conversions::written_out;
+pub use conversions::{repeated, written_out};
 pub use errors::{CollectRefused, ExtendRefused, Rejected};
 pub use list::ThinVec;
 pub use thin_block::{Doubling, Growth, ThinVecError, fits};

@@ -1,7 +1,8 @@
 //! `thin_vec!`: a list written out.
 
 /// Makes a list: `thin_vec![alloc =>]` is `Ok` of `new`, and `thin_vec![alloc => x, y]` has the items in order and the
-/// capacity of their count.
+/// capacity of their count. `thin_vec![alloc => x; k]` is `new` and then `resize(k, x)`: clones of x, of which the last of k
+/// is x itself, at the capacity that the growth rule names.
 ///
 /// Each form gives a `Result<ThinVec<T, A>, ThinVecError>`, and is used inside a function's body. A trailing comma is
 /// allowed. Refused, the items are dropped.
@@ -9,6 +10,9 @@
 macro_rules! thin_vec {
     ($alloc:expr =>) => {
         Ok::<_, $crate::ThinVecError>($crate::ThinVec::new($alloc))
+    };
+    ($alloc:expr => $item:expr; $count:expr) => {
+        $crate::repeated($alloc, $item, $count)
     };
     ($alloc:expr => $($item:expr),+ $(,)?) => {
         $crate::written_out($alloc, [$($item),+])

@@ -1,0 +1,77 @@
+-- What a block holds while clones go into its spare slots, and once the list counts them.
+use Rattle.std.proofs.Common.{◌≡◌, ℕ, zero, suc, ◌+◌, ◌-◌, ◌<◌, ◌≤◌, List, [], ◌∷◌, ◌++◌, length, take, get_or, Option, Some, refl, sym, ap, ◌∙◌, append_assoc, arith}
+use Rattle.std.proofs.lemmas.List.{length-take-le, map_push, replicate-append-replicate}
+use Rattle.std.proofs.lemmas.List.Elements.{All-from_recursion, all_zip_more, length_all_zip, recursion_from_All}
+use Rattle.std.specs.List.{AllByRecursion, AllZip}
+use Rattle.std.specs.Borrow.{RattleType}
+use Rattle.std.specs.Prelude.{All, Err, HoldsAt, Ok, OnErr, Result, replicate}
+use lib.ListN.{set}
+use Rattle.thin_block.specs.Cost.{Cost, moving}
+use Rattle.thin_block.specs.Growth.{Rule, ruled_capacity}
+use Rattle.thin_block.specs.Slots.{full, laid}
+use Rattle.thin_block.proofs.SlotsLemmas.{laid-one}
+use Rattle.thin_vec.specs.Clones.{AppendsRepeats, CloneEquals, LaysClones}
+use Rattle.thin_vec.specs.ThinVec.{IsNew, Thin, capacity_for}
+use Rattle.thin_vec.proofs.ListLemmas.{length-full}
+
+module _ {T : Type 0} (clones : T → T → Type 0) (sources : List T) (n i : ℕ) (s s' : List (Option T)) where
+  -- as many clones as sources
+  pub length-copies : n ≤ length sources → (lays : LaysClones clones sources n i s s') → length lays.copies ≡ n
+  length-copies few lays = sym (length_all_zip clones (take n sources) lays.copies lays.cloned) ∙ length-take-le n sources few
+
+  -- a clone of the next source is put behind those that are there
+  pub lays-more : (x y : T) (s'' : List (Option T)) → n < length sources → i + length sources ≤ length s → x ≡ get_or sources n x → clones x y → LaysClones clones sources n i s s'
+      → s'' ≡ set s' (i + n) (Some y) → LaysClones clones sources (n + 1) i s s''
+  lays-more x y s'' more room is is_clone lays put =
+      let ys = lays.copies in
+      let long : i + n ≡ i + length (full ys) = omega (arith, length-copies (omega arith) lays, length-full ys) in
+      record {
+        copies = ys ++ y ∷ [];
+        cloned = all_zip_more clones sources ys n x y more is lays.cloned is_clone;
+        slots = put ∙ (ap (λ r. set r (i + n) (Some y)) lays.slots ∙ (laid-one i (full ys) s (i + n) (Some y) long (omega arith) ∙ ap (λ r. laid i r s) (sym (map_push Some ys y))));
+      }
+
+-- clones of n of the same items, all x, are n clones of x
+pub all-repeated : {T : Type 0} (clones : T → T → Type 0) (x : T) (n m : ℕ) (ys : List T) → AllZip clones (take n (replicate m x)) ys → All (clones x) ys
+all-repeated {T} clones x n m ys cloned = All-from_recursion (clones x) ys (each n m ys cloned)
+  where
+    each : (n m : ℕ) (ys : List T) → AllZip clones (take n (replicate m x)) ys → AllByRecursion (clones x) ys
+    each zero m [] e = tt
+    each zero m (y ∷ ys) e = absurd e
+    each (suc n) zero [] e = tt
+    each (suc n) zero (y ∷ ys) e = absurd e
+    each (suc n) (suc m) [] e = absurd e
+    each (suc n) (suc m) (y ∷ ys) e = (e.0, each n m ys e.1)
+
+-- where each clone of x is equal to it, n clones and x itself are x so often and once more
+pub equal-repeated : {T : Type 0} (clones : T → T → Type 0) (x : T) (n m : ℕ) (xs ys zs : List T) → CloneEquals clones x → AppendsRepeats clones x n xs ys → zs ≡ ys ++ x ∷ [] → m ≡ n + 1
+    → zs ≡ xs ++ replicate m x
+equal-repeated {T} clones x n m xs ys zs equal repeats last one =
+    let copies = repeats.copies in
+    let same : copies ≡ replicate n x = each copies (recursion_from_All (clones x) copies repeats.cloned) ∙ ap (λ k. replicate k x) repeats.count in
+    last
+    ∙ (ap (λ (l : List T). l ++ x ∷ []) (repeats.items ∙ ap (λ (l : List T). xs ++ l) same)
+    ∙ (append_assoc xs (replicate n x) (x ∷ []) ∙ ap (λ (l : List T). xs ++ l) (replicate-append-replicate n 1 x ∙ ap (λ k. replicate k x) (sym one))))
+  where
+    each : (ys : List T) → AllByRecursion (clones x) ys → ys ≡ replicate (length ys) x
+    each [] e = refl
+    each (y ∷ ys) e = λ i. equal y e.0 i ∷ each ys e.1 i
+
+-- what follows where a call was refused
+pub on-err : {X E P Q : Type 0} (r : Result X E) → (P → Q) → OnErr r P → OnErr r Q
+on-err (Ok x) f p = tt
+on-err (Err e) f p = f p
+
+-- the capacity at which a new list gets the length k
+pub capacity-new : {T A : Type 0} (rule : Rule) (R : RattleType) (v : Thin T A) (a : A) (k : ℕ) → IsNew v a → capacity_for rule R v (k - length v.items) ≡ ruled_capacity rule R 0 k
+capacity-new rule R v a k new =
+    ap (λ c. ruled_capacity rule R c (length v.items + (k - length v.items))) new.capacity ∙ ap (λ n. ruled_capacity rule R 0 n) (let e : length v.items + (k - length v.items) ≡ k = omega (arith, ap length new.items) in e)
+
+-- not every clone succeeds where one may be refused
+pub not-all : {X : Type 0} (P : X → Type 0) (xs : List X) (i : ℕ) → i < length xs → HoldsAt (λ x. ¬ (P x)) xs i → All P xs → ⊥
+not-all P [] i low never all = absurd (omega arith)
+not-all P (x ∷ xs) i low never all = never x (all i x low)
+
+-- one move more is counted
+pub moving-one : (n : ℕ) (c : Cost) → moving 1 (moving n c) ≡ moving (n + 1) c
+moving-one n c = ap (λ m. let d : Cost = record c { moves = m } in d) (let e : c.moves + n + 1 ≡ c.moves + (n + 1) = omega arith in e)

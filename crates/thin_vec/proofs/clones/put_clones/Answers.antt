@@ -1,0 +1,19 @@
+use Rattle.std.proofs.Common.{ap, arith, ◌∙◌}
+use Rattle.thin_block.specs.Cost.{moving}
+use Rattle.thin_vec.proofs.CloneLemmas.{lays-more, moving-one}
+use Rattle.thin_vec.proofs.clones.put_clones.Goals as goal
+
+-- one more item is cloned behind those that are
+pub loop-i-preserved : goal.loop-i-preserved
+loop-i-preserved g c =
+    let was = c.loop-i.invariant in
+    let items = c.args.items.now in
+    let start = c.args.start in
+    let old = c.args.block.now in
+    let n = c.loop-i.i in
+    record {
+      slots = lays-more g.T.Clone.is_clone items n start old.slots c.loop-i.block.slots _ c.in-Ok.item _ (omega arith) c.requires.in_bounds c.index-items-i.is c.in-Ok.ensures.cases was.slots c.put.ensures.slots;
+      len = c.put.ensures.len ∙ was.len;
+      heap = c.put.ensures.heap ∙ was.heap;
+      cost = c.put.ensures.cost ∙ (ap (λ d. moving 1 d) was.cost ∙ moving-one n old.cost);
+    }

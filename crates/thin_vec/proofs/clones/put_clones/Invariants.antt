@@ -1,0 +1,14 @@
+use Rattle.std.proofs.Common.{◌≡◌}
+use Rattle.thin_block.specs.Cost.{moving}
+use Rattle.thin_vec.specs.Clones.{LaysClones}
+use Rattle.thin_vec.proofs.clones.put_clones.Given as goal
+
+-- the first i items are cloned, and as many moves counted
+abbrev pub invariant-loop-i : goal.invariant-loop-i
+invariant-loop-i g l =
+    record {
+      slots : LaysClones g.T.Clone.is_clone l.items l.i l.start l.fn.block.slots l.block.slots;
+      len : l.block.len ≡ l.fn.block.len;
+      heap : l.block.heap ≡ l.fn.block.heap;
+      cost : l.block.cost ≡ moving l.i l.fn.block.cost;
+    }

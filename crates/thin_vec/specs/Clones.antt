@@ -1,0 +1,48 @@
+-- What the calls that clone items say of clones, and of a clone that is refused. (std: `Clone`)
+use Rattle.std.specs.Prelude.{◌≡◌, ℕ, ◌<◌, ◌≤◌, List, [], ◌∷◌, ◌++◌, All, HoldsAt, Option, Some, length, take}
+use Rattle.std.specs.Borrow.{RattleType}
+use Rattle.std.specs.List.{AllZip}
+use Rattle.thin_block.specs.Cost.{Cost, moving}
+use Rattle.thin_block.specs.Growth.{Rule}
+use Rattle.thin_block.specs.Slots.{full, laid}
+use Rattle.thin_vec.specs.ThinVec.{Thin, capacity_for, cost_at}
+
+module _ {T : Type 0} (clones : T → T → Type 0) where
+  -- each clone of x is equal to it
+  abbrev pub CloneEquals : T → Type 0
+  CloneEquals x = (y : T) → clones x y → y ≡ x
+
+  -- each clone is equal to its source
+  abbrev pub ClonesEqual : Type 0
+  ClonesEqual = (x : T) → CloneEquals x
+
+  -- s' is s with clones of the first n sources in the slots from i on
+  pub record LaysClones (sources : List T) (n i : ℕ) (s s' : List (Option T)) : Type 0 where
+    pub copies : List T
+    pub cloned : AllZip clones (take n sources) copies
+    pub slots : s' ≡ laid i (full copies) s
+
+-- ys is xs, and behind it n clones of x
+pub record AppendsRepeats {T : Type 0} (clones : T → T → Type 0) (x : T) (n : ℕ) (xs ys : List T) : Type 0 where
+  pub copies : List T
+  pub cloned : All (clones x) copies
+  pub count : length copies ≡ n
+  pub items : ys ≡ xs ++ copies
+
+-- ys is xs at the length n: cut short, or with clones of x behind it, the last one x itself
+pub record IsResized {T : Type 0} (clones : T → T → Type 0) (xs : List T) (n : ℕ) (x : T) (ys : List T) : Type 0 where
+  pub shorter : n ≤ length xs → ys ≡ take n xs
+  pub longer : length xs < n → (copies : List T) × All (clones x) copies × (ys ≡ xs ++ (copies ++ x ∷ []))
+  pub len : length ys ≡ n
+
+-- those before the source at `at` were cloned, a move each, and then the clone of this one was refused, as it may be
+pub record StopsAtClone {T : Type 0} (infallible : T → Type 0) (sources : List T) (before after : Cost) : Type 0 where
+  pub at : ℕ
+  pub in_bounds : at < length sources
+  pub fallible : HoldsAt (λ x. ¬ (infallible x)) sources at
+  pub cost : after ≡ moving at before
+
+-- there was room for k items more than those of v, or it was made, and then the clone of a source was refused
+pub record IsCloneRefused {T A : Type 0} (rule : Rule) (R : RattleType) (infallible : T → Type 0) (sources : List T) (k : ℕ) (v w : Thin T A) : Type 0 where
+  pub capacity : capacity_for rule R v k ≡ Some w.cap
+  pub stopped : StopsAtClone infallible sources (cost_at v w.cap) w.cost

@@ -1,0 +1,249 @@
+//! The calls that clone items.
+ghost use Rattle.std.specs.Prelude.{◌≡◌, ◌⊎◌, ℕ, ◌+◌, ◌-◌, ◌<◌, ◌≤◌, List, [], ◌∷◌, ◌++◌, All, HoldsAt, IfErr, IfOk, IsErrOf, IsOk, None, OnErr, OnOk, Some, length, replicate, take};
+ghost use Rattle.std.specs.List.{AllZip, AppendsClones};
+ghost use Rattle.thin_block.specs.Cost.{moving};
+ghost use Rattle.thin_block.specs.Slots.{slot};
+ghost use Rattle.thin_vec.specs.Clones.{AppendsRepeats, CloneEquals, ClonesEqual, IsCloneRefused, IsResized, LaysClones, StopsAtClone};
+
+use crate::list::ThinVec;
+use std::alloc::Allocator;
+use thin_block::{Block, Growth, ThinVecError};
+
+impl<T: Clone, A: Allocator, G: Growth> ThinVec<T, A, G> {
+    ghost use Rattle.thin_vec.specs.Costs.{IsCheap};
+    ghost use Rattle.thin_vec.specs.ThinVec.{capacity_for, cost_at, cost_new};
+
+    /// Appends a clone of each of `items`, in order.
+    ///
+    /// It is refused as `reserve` is, and then nothing changes. It is refused as `OutOfMemory` also where a clone is: the
+    /// clones made until then are dropped, the list has its old items, and the room that was made stays.
+    pub fn extend_from_slice(&mut self, items: &[T]) -> Result<(), ThinVecError>
+        ensures succeeds { length self.old.items + length items.now ≤ self.old.cap → All T.is_infallible items.now → IsOk result }
+        ensures succeeds_empty { items.now ≡ [] → IsOk result }
+        ensures overflow { capacity_for G.rule T.row self.old (length items.now) ≡ None → IsErrOf result ThinVecError.CapacityOverflow }
+        ensures cause { IfErr result (λ cause. cause ≡ ThinVecError.CapacityOverflow → capacity_for G.rule T.row self.old (length items.now) ≡ None) }
+
+        // The capacity is the ruled one.
+        ensures items { OnOk result (AppendsClones T.is_clone self.old.items self.new.items items.now) }
+        ensures items_if_clones_equal { OnOk result (ClonesEqual T.is_clone → self.new.items ≡ self.old.items ++ items.now) }
+        ensures capacity { OnOk result (capacity_for G.rule T.row self.old (length items.now) ≡ Some self.new.cap) }
+        ensures had_room { length self.old.items + length items.now ≤ self.old.cap → self.new.cap ≡ self.old.cap }
+        ensures cost { OnOk result (self.new.cost ≡ moving (length items.now) (cost_at self.old self.new.cap)) }
+        ensures alloc { self.new.alloc ≡ self.old.alloc }
+        ensures cheap { IsCheap self.old → IsCheap self.new }
+
+        // Refused, nothing changed, or there was room and a clone was refused.
+        ensures err_items { OnErr result (self.new.items ≡ self.old.items) }
+        ensures refused { OnErr result ((self.new ≡ self.old) ⊎ IsCloneRefused G.rule T.row T.is_infallible items.now (length items.now) self.old self.new) }
+    {
+        match self.reserve(items.len()) {
+            Ok(()) => (),
+            Err(cause) => return Err(cause),
+        }
+        self.append_clones(items)
+    }
+
+    /// Keeps the first `len` items and drops the rest, or appends clones of `value` up to the length `len`, of which the last
+    /// is `value` itself. It is dropped where none is appended.
+    ///
+    /// It is refused only where the list is to be longer, as `reserve` is, and then nothing changes. It is refused as
+    /// `OutOfMemory` also where a clone is: the clones made until then are dropped, the list has its old items, and the room
+    /// that was made stays. Refused, `value` is dropped.
+    #[tactic(auto, using(thin_block::proofs::CapacityLemmas::ruled))]
+    pub fn resize(&mut self, len: usize, value: T) -> Result<(), ThinVecError>
+        ensures succeeds { len ≤ self.old.cap → T.is_infallible value → IsOk result }
+        ensures succeeds_shorter { len ≤ length self.old.items → IsOk result }
+        ensures succeeds_by_one { len ≡ length self.old.items + 1 → length self.old.items < self.old.cap → IsOk result }
+        ensures overflow { capacity_for G.rule T.row self.old (len - length self.old.items) ≡ None → IsErrOf result ThinVecError.CapacityOverflow }
+        ensures cause { IfErr result (λ cause. cause ≡ ThinVecError.CapacityOverflow → capacity_for G.rule T.row self.old (len - length self.old.items) ≡ None) }
+
+        // The capacity is the ruled one: the same where the list is not to be longer.
+        ensures items { OnOk result (IsResized T.is_clone self.old.items len value self.new.items) }
+        ensures items_if_clones_equal { OnOk result (CloneEquals T.is_clone value → self.new.items ≡ take len self.old.items ++ replicate (len - length self.old.items) value) }
+        ensures capacity { OnOk result (capacity_for G.rule T.row self.old (len - length self.old.items) ≡ Some self.new.cap) }
+        ensures had_room { len ≤ self.old.cap → self.new.cap ≡ self.old.cap }
+        ensures cost { OnOk result (self.new.cost ≡ moving (len - length self.old.items) (cost_at self.old self.new.cap)) }
+        ensures alloc { self.new.alloc ≡ self.old.alloc }
+        ensures cheap { IsCheap self.old → IsCheap self.new }
+
+        // Refused, nothing changed, or there was room and a clone was refused.
+        ensures err_items { OnErr result (self.new.items ≡ self.old.items) }
+        ensures refused { OnErr result ((self.new ≡ self.old) ⊎ IsCloneRefused G.rule T.row T.is_infallible (replicate (len - length self.old.items - 1) value) (len - length self.old.items) self.old self.new) }
+    {
+        let old = self.len();
+        if len <= old {
+            self.truncate(len);
+            return Ok(());
+        }
+        match self.reserve(len - old) {
+            Ok(()) => (),
+            Err(cause) => return Err(cause),
+        }
+        self.append_repeated(value, len - old)
+    }
+
+    /// A list on `alloc` of a clone of each item, in order, under the same growth rule. Its capacity is the length: the clone
+    /// of an empty list owns no block.
+    ///
+    /// It is refused where memory is, also that of an item's clone, and then the clones made until then are dropped.
+    pub fn clone(&self, alloc: A) -> Result<ThinVec<T, A, G>, ThinVecError>
+        ensures succeeds_empty { self.now.items ≡ [] → IsOk result }
+        ensures cause { IfErr result (λ cause. cause ≡ ThinVecError.OutOfMemory) }
+        ensures items { IfOk result (λ list. AllZip T.is_clone self.now.items list.items) }
+        ensures items_if_clones_equal { IfOk result (λ list. ClonesEqual T.is_clone → list.items ≡ self.now.items) }
+        ensures capacity { IfOk result (λ list. list.cap ≡ length self.now.items) }
+        ensures alloc { IfOk result (λ list. list.alloc ≡ alloc) }
+        ensures cost { IfOk result (λ list. list.cost ≡ moving (length self.now.items) (cost_new (length self.now.items))) }
+        ensures cheap { IfOk result (λ list. IsCheap list) }
+    {
+        match ThinVec::with_fitting_capacity(alloc, self.len()) {
+            Ok(list) => list.with_clones(self.as_slice()),
+            Err(cause) => Err(cause),
+        }
+    }
+
+    // This list with clones of `items` behind its own. It is dropped where one is refused.
+    pub(crate) fn with_clones(mut self, items: &[T]) -> Result<ThinVec<T, A, G>, ThinVecError>
+        requires room { length self.items + length items.now ≤ self.cap }
+        ensures succeeds { All T.is_infallible items.now → IsOk result }
+        ensures cause { IfErr result (λ cause. cause ≡ ThinVecError.OutOfMemory) }
+        ensures items { IfOk result (λ list. AppendsClones T.is_clone self.items list.items items.now) }
+        ensures items_if_clones_equal { IfOk result (λ list. ClonesEqual T.is_clone → list.items ≡ self.items ++ items.now) }
+        ensures capacity { IfOk result (λ list. list.cap ≡ self.cap) }
+        ensures alloc { IfOk result (λ list. list.alloc ≡ self.alloc) }
+        ensures cost { IfOk result (λ list. list.cost ≡ moving (length items.now) self.cost) }
+    {
+        match self.append_clones(items) {
+            Ok(()) => Ok(self),
+            Err(cause) => Err(cause),
+        }
+    }
+
+    // Clones of `items` go into the spare room. Where one is refused, those made before it are dropped.
+    pub(crate) fn append_clones(&mut self, items: &[T]) -> Result<(), ThinVecError>
+        requires room { length self.old.items + length items.now ≤ self.old.cap }
+        ensures succeeds { All T.is_infallible items.now → IsOk result }
+        ensures items { OnOk result (AppendsClones T.is_clone self.old.items self.new.items items.now) }
+        ensures items_if_clones_equal { OnOk result (ClonesEqual T.is_clone → self.new.items ≡ self.old.items ++ items.now) }
+        ensures cost { OnOk result (self.new.cost ≡ moving (length items.now) self.old.cost) }
+        ensures capacity { self.new.cap ≡ self.old.cap }
+        ensures alloc { self.new.alloc ≡ self.old.alloc }
+        ensures err_items { OnErr result (self.new.items ≡ self.old.items) }
+        ensures refused { OnErr result (StopsAtClone T.is_infallible items.now self.old.cost self.new.cost) }
+        ensures cause { IfErr result (λ cause. cause ≡ ThinVecError.OutOfMemory) }
+    {
+        let len = self.len();
+        if self.place_clones(items) < items.len() {
+            self.truncate(len);
+            return Err(ThinVecError::OutOfMemory);
+        }
+        Ok(())
+    }
+
+    // Clones of `value`, and then `value` itself, go into `count` places of the spare room. Where a clone is refused, those
+    // made before it are dropped, and `value` is.
+    fn append_repeated(&mut self, value: T, count: usize) -> Result<(), ThinVecError>
+        requires some { 0 < count }
+        requires room { length self.old.items + count ≤ self.old.cap }
+        ensures succeeds { T.is_infallible value → IsOk result }
+        ensures succeeds_by_one { count ≡ 1 → IsOk result }
+        ensures items { OnOk result (IsResized T.is_clone self.old.items (length self.old.items + count) value self.new.items) }
+        ensures items_if_clones_equal { OnOk result (CloneEquals T.is_clone value → self.new.items ≡ self.old.items ++ replicate count value) }
+        ensures cost { OnOk result (self.new.cost ≡ moving count self.old.cost) }
+        ensures capacity { self.new.cap ≡ self.old.cap }
+        ensures alloc { self.new.alloc ≡ self.old.alloc }
+        ensures err_items { OnErr result (self.new.items ≡ self.old.items) }
+        ensures refused { OnErr result (StopsAtClone T.is_infallible (replicate (count - 1) value) self.old.cost self.new.cost) }
+        ensures cause { IfErr result (λ cause. cause ≡ ThinVecError.OutOfMemory) }
+    {
+        let len = self.len();
+        if self.place_repeated(&value, count - 1) < count - 1 {
+            self.truncate(len);
+            return Err(ThinVecError::OutOfMemory);
+        }
+        self.push_reserved(value);
+        Ok(())
+    }
+
+    // Clones of `items` go into the spare room, as many as it answers: it ends before a clone that is refused.
+    fn place_clones(&mut self, items: &[T]) -> usize
+        requires room { length self.old.items + length items.now ≤ self.old.cap }
+        ensures in_bounds { result ≤ length items.now }
+        ensures items { AppendsClones T.is_clone self.old.items self.new.items (take result items.now) }
+        ensures capacity { self.new.cap ≡ self.old.cap }
+        ensures alloc { self.new.alloc ≡ self.old.alloc }
+        ensures cost { self.new.cost ≡ moving result self.old.cost }
+        ensures refused { result < length items.now → HoldsAt (λ x. ¬ (T.is_infallible x)) items.now result }
+    {
+        let len = self.block.len();
+        let placed = put_clones(&mut self.block, len, items);
+        self.block.set_len(len + placed);
+        placed
+    }
+
+    // The same with up to `count` clones of `value`.
+    fn place_repeated(&mut self, value: &T, count: usize) -> usize
+        requires room { length self.old.items + count ≤ self.old.cap }
+        ensures in_bounds { result ≤ count }
+        ensures items { AppendsRepeats T.is_clone value.now result self.old.items self.new.items }
+        ensures capacity { self.new.cap ≡ self.old.cap }
+        ensures alloc { self.new.alloc ≡ self.old.alloc }
+        ensures cost { self.new.cost ≡ moving result self.old.cost }
+        ensures refused { result < count → ¬ (T.is_infallible value.now) }
+    {
+        let len = self.block.len();
+        let placed = put_repeated(&mut self.block, len, value, count);
+        self.block.set_len(len + placed);
+        placed
+    }
+}
+
+// Puts clones of `items` into the empty slots from `start` on, and answers how many: it ends before a clone that is refused.
+fn put_clones<T: Clone, A: Allocator>(block: &mut Block<T, A>, start: usize, items: &[T]) -> usize
+    requires in_bounds { start + length items.now ≤ length block.old.slots }
+    requires empty { (k : ℕ) → start ≤ k → k < start + length items.now → slot block.old.slots k ≡ None }
+    ensures in_bounds { result ≤ length items.now }
+    ensures slots { LaysClones T.is_clone items.now result start block.old.slots block.new.slots }
+    ensures len { block.new.len ≡ block.old.len }
+    ensures heap { block.new.heap ≡ block.old.heap }
+    ensures cost { block.new.cost ≡ moving result block.old.cost }
+    ensures refused { result < length items.now → HoldsAt (λ x. ¬ (T.is_infallible x)) items.now result }
+{
+    // No capacity is past `isize::MAX`, so no index is.
+    let _whole = block.cap();
+    for i in 0..items.len() {
+        match items[i].clone() {
+            Ok(item) => block.put(start + i, item),
+            Err(_) => return i,
+        }
+    }
+    items.len()
+}
+
+// Puts clones of `value` into the `count` empty slots from `start` on, and answers how many: it ends before a clone that is
+// refused.
+fn put_repeated<T: Clone, A: Allocator>(
+    block: &mut Block<T, A>,
+    start: usize,
+    value: &T,
+    count: usize,
+) -> usize
+    requires in_bounds { start + count ≤ length block.old.slots }
+    requires empty { (k : ℕ) → start ≤ k → k < start + count → slot block.old.slots k ≡ None }
+    ensures in_bounds { result ≤ count }
+    ensures slots { LaysClones T.is_clone (replicate count value.now) result start block.old.slots block.new.slots }
+    ensures len { block.new.len ≡ block.old.len }
+    ensures heap { block.new.heap ≡ block.old.heap }
+    ensures cost { block.new.cost ≡ moving result block.old.cost }
+    ensures refused { result < count → ¬ (T.is_infallible value.now) }
+{
+    // No capacity is past `isize::MAX`, so no index is.
+    let _whole = block.cap();
+    for i in 0..count {
+        match value.clone() {
+            Ok(item) => block.put(start + i, item),
+            Err(_) => return i,
+        }
+    }
+    count
+}
