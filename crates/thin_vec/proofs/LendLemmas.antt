@@ -13,7 +13,7 @@ use Rattle.thin_vec.proofs.ListLemmas.{Settled, from-same, settled, thin-room}
 
 module _ {T : Type 0} where
   -- what is written past the items is lost
-  over-front : (xs : List T) (k : ℕ) (ws : List T) → over (full xs ++ empty k) 0 ws ≡ full (rewritten xs ws) ++ empty k
+  pub over-front : (xs : List T) (k : ℕ) (ws : List T) → over (full xs ++ empty k) 0 ws ≡ full (rewritten xs ws) ++ empty k
   over-front [] zero ws = refl
   over-front [] (suc k) ws = refl
   over-front (x ∷ xs) k [] = ap (λ l. full l ++ empty k) (sym (take-length (x ∷ xs)))

@@ -7,3 +7,4 @@ mod ShiftLemmas
 mod LendLemmas
 mod JoinLemmas
 mod FillLemmas
+mod WalkLemmas

@@ -6,6 +6,7 @@ use Rattle.std.specs.declared.slice.IterMut.{IterMut}
 use Rattle.std.specs.Slice.Iter.{iter_mut_name}
 use Rattle.thin_block.specs.declared.growth.Growth.{Ghosts as GrowthGhosts}
 use Rattle.thin_vec.specs.ThinVec.{Thin}
+use Rattle.thin_vec.specs.contracts.into_iter.IntoIter.{the_row as iterator_row}
 use Rattle.thin_vec.specs.contracts.list.ThinVec.{the_row}
 
 -- xs with those of ws in place of its own, as far as both go
@@ -33,3 +34,7 @@ module _ (T A G : RattleType) (a : AllocatorGhosts A.Denot) (g : GrowthGhosts G.
   -- the items of v are those that the iteration it goes over
   abbrev pub LendsIter : IterMut T.Denot → Fml
   LendsIter it = follows (the_row T A G a g) (Array T 0) v.ghost_name (iter_mut_name it) (with_items v.now)
+
+  -- r is the items that remain of v, where v is the iterator that a list became
+  abbrev pub LendsRest : MutBor (List T.Denot) → Fml
+  LendsRest r = Lends (iterator_row T A G a g) (Array T 0) v r (with_items v.now)

@@ -3,6 +3,7 @@ pub mod Costs
 pub mod Clones
 pub mod Filling
 pub mod Lends
+pub mod IntoIter
 pub mod Shapes
 pub mod formers
 -- the words of the block that the clauses above cite

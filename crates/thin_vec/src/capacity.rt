@@ -204,6 +204,7 @@ impl<T, A: Allocator, G: Growth> ThinVec<T, A, G> {
         ensures capacity { IfOk result (λ list. list.cap ≡ capacity) }
         ensures alloc { IfOk result (λ list. list.alloc ≡ alloc) }
         ensures cost { IfOk result (λ list. list.cost ≡ cost_new capacity) }
+        ensures cheap { IfOk result (λ list. IsCheap list) }
     {
         if capacity == 0 {
             return Ok(ThinVec::ruled(alloc));

@@ -96,10 +96,7 @@ impl<T: Clone, A: Allocator, G: Growth> ThinVec<T, A, G> {
         ensures cost { IfOk result (λ list. list.cost ≡ moving (length self.now.items) (cost_new (length self.now.items))) }
         ensures cheap { IfOk result (λ list. IsCheap list) }
     {
-        match ThinVec::with_fitting_capacity(alloc, self.len()) {
-            Ok(list) => list.with_clones(self.as_slice()),
-            Err(cause) => Err(cause),
-        }
+        ThinVec::with_fitting_capacity(alloc, self.len())?.with_clones(self.as_slice())
     }
 
     // This list with clones of `items` behind its own. It is dropped where one is refused.
@@ -112,11 +109,10 @@ impl<T: Clone, A: Allocator, G: Growth> ThinVec<T, A, G> {
         ensures capacity { IfOk result (λ list. list.cap ≡ self.cap) }
         ensures alloc { IfOk result (λ list. list.alloc ≡ self.alloc) }
         ensures cost { IfOk result (λ list. list.cost ≡ moving (length items.now) self.cost) }
+        ensures cheap { IsCheap self → IfOk result (λ list. IsCheap list) }
     {
-        match self.append_clones(items) {
-            Ok(()) => Ok(self),
-            Err(cause) => Err(cause),
-        }
+        self.append_clones(items)?;
+        Ok(self)
     }
 
     // Clones of `items` go into the spare room. Where one is refused, those made before it are dropped.

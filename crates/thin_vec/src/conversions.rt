@@ -61,10 +61,7 @@ impl<T: Clone, A: Allocator> ThinVec<T, A> {
         ensures cost { IfOk result (λ list. list.cost ≡ moving (length items.now) (cost_new (length items.now))) }
         ensures cheap { IfOk result (λ list. IsCheap list) }
     {
-        match ThinVec::with_capacity(alloc, items.len()) {
-            Ok(list) => list.with_clones(items),
-            Err(cause) => Err(cause),
-        }
+        ThinVec::with_capacity(alloc, items.len())?.with_clones(items)
     }
 }
 

@@ -3,16 +3,19 @@
 
 mod capacity;
 mod clones;
+mod compare;
 mod conversions;
 mod edits;
 mod errors;
 mod filling;
 mod impls;
+mod into_iter;
 mod joins;
 mod list;
 mod macros;
 
 pub use conversions::{repeated, written_out};
 pub use errors::{CollectRefused, ExtendRefused, Rejected};
+pub use into_iter::IntoIter;
 pub use list::ThinVec;
 pub use thin_block::{Doubling, Growth, ThinVecError, fits};

@@ -50,6 +50,8 @@ impl<T, A: Allocator> ThinVec<T, A> {
 
 impl<T, A: Allocator, G: Growth> ThinVec<T, A, G> {
     ghost use types.Logic.{sem};
+    ghost use Rattle.thin_block.specs.Block.{IsFrom};
+    ghost use Rattle.thin_block.specs.Slots.{front};
     ghost use Rattle.thin_vec.specs.Lends.{LendsItems};
     ghost use Rattle.thin_vec.specs.ThinVec.{IsNew, capacity_for, cost_at};
     ghost use Rattle.thin_vec.specs.Costs.{IsCheap};
@@ -180,6 +182,22 @@ impl<T, A: Allocator, G: Growth> ThinVec<T, A, G> {
         let value = self.block.take(last);
         self.block.store_len(last);
         value
+    }
+
+    // The block and the allocator. The caller owns them, and the items in the block.
+    pub(crate) fn into_parts(self) -> (Block<T, A>, A)
+        ensures slots { result.0.slots ≡ front self.items self.cap }
+        ensures len { result.0.len ≡ length self.items }
+        ensures from { IsFrom result.0 result.1 }
+        ensures cost { result.0.cost ≡ self.cost }
+        ensures alloc { result.1 ≡ self.alloc }
+    {
+        let ThinVec {
+            block,
+            alloc,
+            growth: _,
+        } = self;
+        (block, alloc)
     }
 }
 

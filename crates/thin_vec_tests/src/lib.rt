@@ -14,6 +14,7 @@ mod filling;
 mod growth_rules;
 #[cfg(test)]
 mod making;
+pub mod owned_walks;
 #[cfg(test)]
 mod refusals;
 #[cfg(test)]

@@ -1,0 +1,25 @@
+use Rattle.std.proofs.Common.{◌-◌, ◌<◌, ◌∷◌, ◌++◌, [], ap, sym, ◌∙◌, arith, length, take}
+use Rattle.thin_block.specs.Slots.{items_in}
+use Rattle.thin_vec.proofs.WalkLemmas.{Walking, last-item, settle-last, walked-filled}
+use Rattle.thin_vec.proofs.into_iter.IntoIter.take_last.Goals as goal
+
+some : (g : _) (c : goal.After-take g) → c.self.inside.start < c.self.inside.end
+some g c = omega (arith, c.self.invariant.len, c.requires.some, ap (λ v. length v.items) c.self.view_is)
+
+pub take-requires : goal.take-requires
+take-requires g c =
+    record { filled = walked-filled c.self.inside.block c.self.inside.alloc c.self.inside.start c.self.inside.end (c.self.inside.end - 1) c.self.invariant (omega (arith, c.self.invariant.len, c.requires.some, ap (λ v. length v.items) c.self.view_is)) (omega (arith, c.self.invariant.len, c.requires.some, ap (λ v. length v.items) c.self.view_is)) }
+
+facts : (g : _) (c : goal.After-take g) → Walking c.take.new.self c.self.inside.alloc (take (c.self.inside.end - 1 - c.self.inside.start) (items_in c.self.inside.block.slots)) c.self.inside.start (c.self.inside.end - 1) (length c.self.inside.block.slots)
+facts g c =
+    settle-last c.self.inside.block c.take.new.self c.self.inside.alloc c.self.inside.start c.self.inside.end c.take.result c.self.invariant (some g c)
+    c.take.ensures.slots c.take.ensures.heap
+
+pub invariant_of-self : goal.invariant_of-self
+invariant_of-self g c = (facts g c).walked
+
+pub returns-clause-items : goal.returns-clause-items
+returns-clause-items g c =
+    sym (ap (λ v. v.items) c.self.view_is)
+    ∙ (last-item c.self.inside.block c.take.new.self c.self.inside.alloc c.self.inside.start c.self.inside.end c.take.result c.self.invariant (some g c) c.take.ensures.value
+    ∙ ap (λ xs. xs ++ c.take.result ∷ []) (sym (facts g c).items))

@@ -1,0 +1,8 @@
+use Rattle.thin_vec.proofs.WalkLemmas.{rest_in_order, rest_in_reverse}
+use Rattle.thin_vec.proofs.list.ThinVec.into_iter.Goals as goal
+
+pub returns-clause-runs : goal.returns-clause-runs
+returns-clause-runs g c = rest_in_order g.row.T.Denot g.row.A.Denot
+
+pub returns-clause-runs_back : goal.returns-clause-runs_back
+returns-clause-runs_back g c = rest_in_reverse g.row.T.Denot g.row.A.Denot

@@ -1,0 +1,28 @@
+-- The iterator that a list becomes. It is seen as a list is, by the items that remain. (std: `vec::IntoIter`)
+use Rattle.std.specs.Prelude.{◌≡◌, ◌++◌, ℕ, ◌+◌, ◌-◌, List, length}
+use Rattle.std.specs.Iterator.{YieldsFirst, YieldsLast}
+use Rattle.std.specs.Iterator.Runs.{YieldsInOrder, YieldsInReverse}
+use Rattle.thin_block.specs.Block.{IsFrom}
+use Rattle.thin_block.specs.Slots.{empty, full, items_in}
+use Rattle.thin_block.specs.declared.block.Block.{Block}
+use Rattle.thin_vec.specs.ThinVec.{Thin}
+
+module _ {T A : Type 0} where
+  -- the items lie in the slots from `start` up to `end` and in no other, and the memory came from the allocator a
+  pub record IsWalked (b : Block T A) (a : A) (start end : ℕ) : Type 0 where
+    pub row : b.slots ≡ empty start ++ (full (items_in b.slots) ++ empty (length b.slots - end))
+    pub len : start + length (items_in b.slots) ≡ end
+    pub from : IsFrom b a
+
+  -- what remains
+  abbrev pub rest : Thin T A → List T
+  rest v = v.items
+
+module _ (T A : Type 0) where
+  -- however often `next` is called, it gives what remained, in order
+  abbrev pub RestInOrder : Type 0
+  RestInOrder = YieldsInOrder (YieldsFirst (rest {T = T} {A = A})) rest
+
+  -- and so does `next_back`, in reverse
+  abbrev pub RestInReverse : Type 0
+  RestInReverse = YieldsInReverse (YieldsLast (rest {T = T} {A = A})) rest

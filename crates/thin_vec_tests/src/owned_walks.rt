@@ -1,0 +1,168 @@
+//! Walks over a list that is used up: what a program may promise of them, and how they end.
+ghost use Rattle.std.specs.Prelude.{◌≡◌, IfOk, length, min, reverse};
+ghost use Rattle.std.specs.List.{fold};
+
+#[cfg(test)]
+use crate::counted::Counted;
+#[cfg(test)]
+use refusing::Refusing;
+use std::alloc::{AllocError, Allocator, Global};
+#[cfg(test)]
+use std::cell::Cell;
+#[cfg(test)]
+use std::test::Fail;
+#[cfg(test)]
+use thin_vec::thin_vec;
+use thin_vec::{Growth, ThinVec};
+
+/// How many items there are, counted one by one.
+pub fn count<T: Drop, A: Allocator, G: Growth>(list: ThinVec<T, A, G>) -> usize
+    ensures value { result ≡ length list.items }
+{
+    let mut count = 0;
+    for _item in list {
+        count += 1;
+    }
+    count
+}
+
+/// The least item, or `start` where that is less.
+pub fn least(list: ThinVec<u32, Global>, start: u32) -> u32
+    ensures value { result ≡ fold min start list.items }
+{
+    let mut least = start;
+    for item in list {
+        least = least.min(item);
+    }
+    least
+}
+
+/// The items, in a `Vec`.
+pub fn collected(list: ThinVec<u32, Global>, alloc: Global) -> Result<Vec<u32>, AllocError>
+    ensures items { IfOk result (λ vec. vec.items ≡ list.items) }
+{
+    list.into_iter().collect(alloc)
+}
+
+/// The items, last first.
+pub fn reversed(list: ThinVec<u32, Global>, alloc: Global) -> Result<Vec<u32>, AllocError>
+    ensures items { IfOk result (λ vec. vec.items ≡ reverse list.items) }
+{
+    list.into_iter().rev().collect(alloc)
+}
+
+/// The same under any allocator and rule, one by one.
+pub fn reversed_singly<A: Allocator, G: Growth>(
+    list: ThinVec<u32, A, G>,
+    alloc: Global,
+) -> Result<Vec<u32>, AllocError>
+    ensures items { IfOk result (λ vec. vec.items ≡ reverse list.items) }
+{
+    let mut vec = Vec::new(alloc);
+    for item in list.into_iter().rev() {
+        vec.push(item)?;
+    }
+    Ok(vec)
+}
+
+/// The items, in a `Vec`, one by one.
+pub fn carried_over(list: ThinVec<u32, Global>, alloc: Global) -> Result<Vec<u32>, AllocError>
+    ensures items { IfOk result (λ vec. vec.items ≡ list.items) }
+{
+    let mut vec = Vec::new(alloc);
+    let mut items = list.into_iter();
+    while let Some(item) = items.next() {
+        vec.push(item)?;
+    }
+    Ok(vec)
+}
+
+#[test]
+fn test_into_iter_as_slice(rt: HostRuntime) -> Result<(), Fail> {
+    let mut items = thin_vec![rt.alloc() => 'a', 'b', 'c']?.into_iter();
+    assert_eq!(rt; items.as_slice(), ['a', 'b', 'c'].as_slice());
+    assert_eq!(rt; items.next(), Some('a'));
+    assert_eq!(rt; items.as_slice(), ['b', 'c'].as_slice());
+    assert_eq!(rt; items.next_back(), Some('c'));
+    assert_eq!(rt; items.next_back(), Some('b'));
+    assert_eq!(rt; items.next_back(), None);
+    assert_eq!(rt; items.next(), None);
+    assert_eq!(rt; items.as_slice(), [].as_slice());
+    Ok(())
+}
+
+#[test]
+fn test_into_iter_as_mut_slice(rt: HostRuntime) -> Result<(), Fail> {
+    let mut items = thin_vec![rt.alloc() => 'a', 'b', 'c']?.into_iter();
+    assert_eq!(rt; items.len(), 3);
+    items.as_mut_slice()[0] = 'x';
+    items.as_mut_slice()[1] = 'y';
+    assert_eq!(rt; items.next(), Some('x'));
+    assert_eq!(rt; items.as_slice(), ['y', 'c'].as_slice());
+    Ok(())
+}
+
+#[test]
+fn test_into_iter_debug(rt: HostRuntime) -> Result<(), Fail> {
+    let alloc = rt.alloc();
+    let items = thin_vec![alloc => 'a', 'b', 'c']?.into_iter();
+    assert_eq!(rt;
+        format!(in alloc; "{items:?}")?.as_str(),
+        "IntoIter(['a', 'b', 'c'])"
+    );
+    Ok(())
+}
+
+#[test]
+fn a_walk_that_ends_early_drops_what_remains(rt: HostRuntime) -> Result<(), Fail> {
+    let refusing = Refusing::new(rt.alloc(), 0);
+    let drops = Cell::new(0);
+    {
+        let mut list = ThinVec::new(&refusing);
+        for _ in 0..6 {
+            list.push(Counted::new(&drops)).ok().ok_or("memory")?;
+        }
+        let mut items = list.into_iter();
+        drop(items.next());
+        drop(items.next_back());
+        assert_eq!(rt; drops.get(), 2);
+        assert_eq!(rt; items.size_hint(), (4, Some(4)));
+        assert_eq!(rt; refusing.blocks(), 1);
+    }
+    assert_eq!(rt; drops.get(), 6);
+    assert_eq!(rt; refusing.blocks(), 0);
+    Ok(())
+}
+
+#[test]
+fn a_walk_over_nothing_makes_no_request(rt: HostRuntime) -> Result<(), Fail> {
+    let refusing = Refusing::new(rt.alloc(), 1);
+    let list = ThinVec::<u64, _>::new(&refusing);
+    assert_eq!(rt; count(list), 0);
+    assert_eq!(rt; refusing.requests(), 0);
+    Ok(())
+}
+
+#[test]
+fn walks_by_value(rt: HostRuntime) -> Result<(), Fail> {
+    let alloc = rt.alloc();
+    assert_eq!(rt; count(thin_vec![alloc => 4u32, 3, 5]?), 3);
+    assert_eq!(rt; least(thin_vec![alloc => 4, 3, 5]?, 9), 3);
+    assert_eq!(rt;
+        collected(thin_vec![alloc => 4, 3, 5]?, alloc)?.as_slice(),
+        [4, 3, 5].as_slice()
+    );
+    assert_eq!(rt;
+        reversed(thin_vec![alloc => 4, 3, 5]?, alloc)?.as_slice(),
+        [5, 3, 4].as_slice()
+    );
+    assert_eq!(rt;
+        reversed_singly(thin_vec![alloc => 4, 3, 5]?, alloc)?.as_slice(),
+        [5, 3, 4].as_slice()
+    );
+    assert_eq!(rt;
+        carried_over(thin_vec![alloc => 4, 3, 5]?, alloc)?.as_slice(),
+        [4, 3, 5].as_slice()
+    );
+    Ok(())
+}
