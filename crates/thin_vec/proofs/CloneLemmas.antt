@@ -67,7 +67,7 @@ pub capacity-new : {T A : Type 0} (rule : Rule) (R : RattleType) (v : Thin T A) 
 capacity-new rule R v a k new =
     ap (λ c. ruled_capacity rule R c (length v.items + (k - length v.items))) new.capacity ∙ ap (λ n. ruled_capacity rule R 0 n) (let e : length v.items + (k - length v.items) ≡ k = omega (arith, ap length new.items) in e)
 
--- not every clone succeeds where one may be refused
+-- not all clones succeed where one may be refused
 pub not-all : {X : Type 0} (P : X → Type 0) (xs : List X) (i : ℕ) → i < length xs → HoldsAt (λ x. ¬ (P x)) xs i → All P xs → ⊥
 not-all P [] i low never all = absurd (omega arith)
 not-all P (x ∷ xs) i low never all = never x (all i x low)
@@ -75,3 +75,5 @@ not-all P (x ∷ xs) i low never all = never x (all i x low)
 -- one move more is counted
 pub moving-one : (n : ℕ) (c : Cost) → moving 1 (moving n c) ≡ moving (n + 1) c
 moving-one n c = ap (λ m. let d : Cost = record c { moves = m } in d) (let e : c.moves + n + 1 ≡ c.moves + (n + 1) = omega arith in e)
+
+pub ruleset new_lists = (capacity-new)
