@@ -1,12 +1,14 @@
 //! The worked rows: a function each, which does what the row says and compares.
+mod bulk;
 mod plain;
 
+use crate::rows::bulk::{row_15, row_24, row_25, row_27, row_28};
 use crate::rows::plain::{row_1, row_2, row_4, row_5, row_6, row_17, row_19, row_23};
 use std::alloc::Allocator;
 use thin_vec::ThinVecError;
 
 /// The rows that the program runs, by number.
-pub const ROWS: [u32; 8] = [1, 2, 4, 5, 6, 17, 19, 23];
+pub const ROWS: [u32; 13] = [1, 2, 4, 5, 6, 15, 17, 19, 23, 24, 25, 27, 28];
 
 /// Whether a row gave what it is to give, or why a call of it was refused that is not to be.
 pub type Outcome = Result<bool, ThinVecError>;
@@ -19,9 +21,14 @@ pub fn row<A: Allocator + Copy>(alloc: A, number: u32) -> Outcome {
         4 => row_4(alloc),
         5 => row_5(alloc),
         6 => row_6(alloc),
+        15 => row_15(alloc),
         17 => row_17(alloc),
         19 => row_19(alloc),
         23 => row_23(alloc),
+        24 => row_24(alloc),
+        25 => row_25(alloc),
+        27 => row_27(alloc),
+        28 => row_28(alloc),
         _ => Ok(false),
     }
 }

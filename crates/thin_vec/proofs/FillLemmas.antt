@@ -4,8 +4,12 @@ use Rattle.std.proofs.lemmas.Bool.{cases_lt}
 use Rattle.std.proofs.lemmas.Bool.Decides.{nat_tests}
 use Rattle.std.proofs.lemmas.List.{map-append}
 use Rattle.std.specs.Borrow.{RattleType}
-use Rattle.std.specs.Iterator.{Yields}
-use Rattle.std.specs.Prelude.{OnSome}
+use Rattle.std.proofs.iter.runs.Made.{run, to_end}
+use Rattle.std.specs.Iterator.{Drains, Yields}
+use Rattle.std.specs.Iterator.Runs.{WholeRun}
+use Rattle.std.specs.declared.result.Result.{Result}
+use Rattle.std.specs.declared.result.Result.TheVariants.{Ok, Err}
+use Rattle.std.specs.Prelude.{OnOk, OnSome}
 use lib.ListN.{set}
 use Rattle.thin_block.specs.Cost.{Cost, growing, moving}
 use Rattle.thin_block.specs.Growth.{Rule, KeepsLaw}
@@ -27,6 +31,15 @@ module _ {S X : Type 0} (steps : S → Option X → S → Type 0) where
   pub yields-join : (s t u : S) (xs ys : List X) → Yields steps s xs t → Yields steps t ys u → Yields steps s (xs ++ ys) u
   yields-join s t u [] ys e more = subst (λ r. Yields steps r ys u) (sym e) more
   yields-join s t u (x ∷ xs) ys e more = (e.0, e.1, yields-join e.0 t u xs ys e.2 more)
+
+  -- calls that went on to `None`, as a run
+  pub run_of : (s : S) (P : List X → Type 0) → (xs : List X) × Drains steps s xs × P xs → WholeRun steps s (λ p. P p.items)
+  run_of s P all = (run steps s all.0 true (to_end steps s all.0 all.1), refl, refl, all.2)
+
+  -- the same, where the answer is `Ok`
+  pub run_of_ok : {E : Type 0} (s : S) (P : List X → Type 0) (r : Result (Unit {0}) E) → OnOk r ((xs : List X) × Drains steps s xs × P xs) → OnOk r (WholeRun steps s (λ p. P p.items))
+  run_of_ok s P (Ok _) all = run_of s P all
+  run_of_ok s P (Err _) all = tt
 
 -- a fact of an item gives another
 pub on-some : {X P Q : Type 0} (o : Option X) → (P → Q) → OnSome o P → OnSome o Q

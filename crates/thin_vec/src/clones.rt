@@ -1,4 +1,4 @@
-//! The calls that clone items.
+//! The calls that clone items. Each clones into spare room that it has made before, with no test an item.
 ghost use Rattle.std.specs.Prelude.{◌≡◌, ◌⊎◌, ℕ, ◌+◌, ◌-◌, ◌<◌, ◌≤◌, List, [], ◌∷◌, ◌++◌, All, HoldsAt, IfErr, IfOk, IsErrOf, IsOk, None, OnErr, OnOk, Some, length, replicate, take};
 ghost use Rattle.std.specs.List.{AllZip, AppendsClones};
 ghost use Rattle.thin_block.specs.Cost.{moving};
@@ -15,8 +15,8 @@ impl<T: Clone, A: Allocator, G: Growth> ThinVec<T, A, G> {
 
     /// Appends a clone of each of `items`, in order.
     ///
-    /// It is refused as `reserve` is, and then nothing changes. It is refused as `OutOfMemory` also where a clone is: the
-    /// clones made until then are dropped, the list has its old items, and the room that was made stays.
+    /// It is refused as `reserve` is, and then nothing changes. It is refused as `OutOfMemory` also where a clone is:
+    /// the clones made until then are dropped, the list has its old items, and the room that was made stays.
     pub fn extend_from_slice(&mut self, items: &[T]) -> Result<(), ThinVecError>
         ensures succeeds { length self.old.items + length items.now ≤ self.old.cap → All T.is_infallible items.now → IsOk result }
         ensures succeeds_empty { items.now ≡ [] → IsOk result }
@@ -36,19 +36,16 @@ impl<T: Clone, A: Allocator, G: Growth> ThinVec<T, A, G> {
         ensures err_items { OnErr result (self.new.items ≡ self.old.items) }
         ensures refused { OnErr result ((self.new ≡ self.old) ⊎ IsCloneRefused G.rule T.row T.is_infallible items.now (length items.now) self.old self.new) }
     {
-        match self.reserve(items.len()) {
-            Ok(()) => (),
-            Err(cause) => return Err(cause),
-        }
+        self.reserve(items.len())?;
         self.append_clones(items)
     }
 
-    /// Keeps the first `len` items and drops the rest, or appends clones of `value` up to the length `len`, of which the last
-    /// is `value` itself. It is dropped where none is appended.
+    /// Makes the length `len`: drops the items from there on, or appends clones of `value`, the last one `value` itself.
+    /// Where none is appended, `value` is dropped.
     ///
     /// It is refused only where the list is to be longer, as `reserve` is, and then nothing changes. It is refused as
-    /// `OutOfMemory` also where a clone is: the clones made until then are dropped, the list has its old items, and the room
-    /// that was made stays. Refused, `value` is dropped.
+    /// `OutOfMemory` also where a clone is: the clones made until then are dropped, the list has its old items, and the
+    /// room that was made stays. Refused, `value` is dropped.
     #[tactic(auto, using(thin_block::proofs::CapacityLemmas::ruled))]
     pub fn resize(&mut self, len: usize, value: T) -> Result<(), ThinVecError>
         ensures succeeds { len ≤ self.old.cap → T.is_infallible value → IsOk result }
@@ -75,15 +72,12 @@ impl<T: Clone, A: Allocator, G: Growth> ThinVec<T, A, G> {
             self.truncate(len);
             return Ok(());
         }
-        match self.reserve(len - old) {
-            Ok(()) => (),
-            Err(cause) => return Err(cause),
-        }
+        self.reserve(len - old)?;
         self.append_repeated(value, len - old)
     }
 
-    /// A list on `alloc` of a clone of each item, in order, under the same growth rule. Its capacity is the length: the clone
-    /// of an empty list owns no block.
+    /// A list on `alloc` of a clone of each item, in order, under the same growth rule. Its capacity is the length: the
+    /// clone of an empty list owns no block.
     ///
     /// It is refused where memory is, also that of an item's clone, and then the clones made until then are dropped.
     pub fn clone(&self, alloc: A) -> Result<ThinVec<T, A, G>, ThinVecError>
@@ -136,8 +130,8 @@ impl<T: Clone, A: Allocator, G: Growth> ThinVec<T, A, G> {
         Ok(())
     }
 
-    // Clones of `value`, and then `value` itself, go into `count` places of the spare room. Where a clone is refused, those
-    // made before it are dropped, and `value` is.
+    // Clones of `value`, and then `value` itself, go into `count` places of the spare room. Where a clone is refused,
+    // those made before it are dropped, and `value` is.
     fn append_repeated(&mut self, value: T, count: usize) -> Result<(), ThinVecError>
         requires some { 0 < count }
         requires room { length self.old.items + count ≤ self.old.cap }
@@ -194,7 +188,8 @@ impl<T: Clone, A: Allocator, G: Growth> ThinVec<T, A, G> {
     }
 }
 
-// Puts clones of `items` into the empty slots from `start` on, and answers how many: it ends before a clone that is refused.
+// Puts clones of `items` into the empty slots from `start` on, and answers how many: it ends before a clone that is
+// refused.
 fn put_clones<T: Clone, A: Allocator>(block: &mut Block<T, A>, start: usize, items: &[T]) -> usize
     requires in_bounds { start + length items.now ≤ length block.old.slots }
     requires empty { (k : ℕ) → start ≤ k → k < start + length items.now → slot block.old.slots k ≡ None }
@@ -216,8 +211,8 @@ fn put_clones<T: Clone, A: Allocator>(block: &mut Block<T, A>, start: usize, ite
     items.len()
 }
 
-// Puts clones of `value` into the `count` empty slots from `start` on, and answers how many: it ends before a clone that is
-// refused.
+// Puts clones of `value` into the `count` empty slots from `start` on, and answers how many: it ends before a clone that
+// is refused.
 fn put_repeated<T: Clone, A: Allocator>(
     block: &mut Block<T, A>,
     start: usize,

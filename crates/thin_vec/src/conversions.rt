@@ -48,8 +48,8 @@ impl<T, A: Allocator> ThinVec<T, A> {
 impl<T: Clone, A: Allocator> ThinVec<T, A> {
     /// A list of a clone of each of `items`, in order, of capacity as many. A slice of nothing takes no memory.
     ///
-    /// It is refused where that capacity does not fit, or where memory is refused, also that of an item's clone, and then the
-    /// clones made until then are dropped.
+    /// It is refused where that capacity does not fit, or where memory is refused, also that of an item's clone, and then
+    /// the clones made until then are dropped.
     pub fn from_slice(alloc: A, items: &[T]) -> Result<ThinVec<T, A>, ThinVecError>
         ensures succeeds_empty { items.now ≡ [] → IsOk result }
         ensures overflow { exact_capacity T.row 0 (length items.now) ≡ None → IsErrOf result ThinVecError.CapacityOverflow }
@@ -113,8 +113,6 @@ pub fn repeated<T: Clone, A: Allocator>(
     ensures cheap { IfOk result (λ list. IsCheap list) }
 {
     let mut list = ThinVec::new(alloc);
-    match list.resize(count, value) {
-        Ok(()) => Ok(list),
-        Err(cause) => Err(cause),
-    }
+    list.resize(count, value)?;
+    Ok(list)
 }

@@ -1,5 +1,6 @@
 //! Lists that take the items of an iterator.
 ghost use Rattle.std.specs.Prelude.{◌≡◌, ℕ, ◌+◌, ◌-◌, ◌<◌, ◌≤◌, List, ◌++◌, [], IfErr, IfOk, IsOk, IsSome, None, OnErr, OnOk, OnSome, length};
+ghost use Rattle.std.specs.Iterator.Runs.{WholeRun};
 ghost use Rattle.std.specs.Iterator.{Drains, IsFinite, Yields, YieldsThen, size};
 ghost use Rattle.std.specs.Option.{option_to_list};
 ghost use Rattle.thin_block.specs.Cost.{moving};
@@ -28,6 +29,7 @@ impl<T, A: Allocator, G: Growth> ThinVec<T, A, G> {
         ensures overflow { IfErr result (λ refused. IsSome refused.in_hand → capacity_for G.rule T.row self.new 1 ≡ None → refused.cause ≡ ThinVecError.CapacityOverflow) }
         ensures cause { IfErr result (λ refused. refused.cause ≡ ThinVecError.CapacityOverflow → Overflows G.rule T.row self.new refused.in_hand (I.remaining refused.rest)) }
         ensures items { OnOk result ((xs : List T) × Drains I.next_gives iter xs × (self.new.items ≡ self.old.items ++ xs)) }
+        ensures runs { OnOk result (WholeRun I.next_gives iter (λ p. self.new.items ≡ self.old.items ++ p.items)) }
 
         // Accepted or refused, each item that came in has moved once.
         ensures capacity { IsLoose G.rule T.row self.old.cap self.new.cap }
@@ -127,6 +129,7 @@ impl<T, A: Allocator> ThinVec<T, A> {
         ensures overflow { IfErr result (λ refused. IsSome refused.in_hand → capacity_for doubling T.row refused.list 1 ≡ None → refused.cause ≡ ThinVecError.CapacityOverflow) }
         ensures cause { IfErr result (λ refused. refused.cause ≡ ThinVecError.CapacityOverflow → OverflowsNew doubling T.row refused.list refused.in_hand (I.remaining refused.rest)) }
         ensures items { IfOk result (λ list. Drains I.next_gives iter list.items) }
+        ensures runs { IfOk result (λ list. WholeRun I.next_gives iter (λ p. list.items ≡ p.items)) }
         ensures moves { IfOk result (λ list. list.cost.moves ≡ length list.items) }
         ensures alloc { IfOk result (λ list. list.alloc ≡ alloc) }
         ensures cheap { IfOk result (λ list. IsCheap list) }

@@ -1,10 +1,10 @@
 //! The iterator that a list becomes: it hands its items out from either end.
 ghost use Rattle.std.specs.Prelude.{◌≡◌, ◌↔◌, ◌^◌, ◌<◌, [], ◌∷◌, ◌++◌, IfErr, IfOk, IsOk, IsSome, Some, length};
+ghost use Rattle.std.specs.Iterator.{YieldsFirst, YieldsLast, item_count};
 ghost use Rattle.std.specs.List.{AllZip};
+ghost use Rattle.std.specs.Option.{option_to_list};
 ghost use Rattle.thin_block.specs.Cost.{moving};
 ghost use Rattle.thin_vec.specs.Clones.{ClonesEqual};
-ghost use Rattle.std.specs.Iterator.{YieldsFirst, YieldsLast, item_count};
-ghost use Rattle.std.specs.Option.{option_to_list};
 ghost use Rattle.thin_vec.specs.IntoIter.{RestInOrder, RestInReverse, rest};
 
 use crate::list::ThinVec;
@@ -16,7 +16,7 @@ use thin_block::{Block, Doubling, Growth, ThinVecError};
 
 /// The items of a list, handed out from either end. It owns those that remain, and the list's block and allocator.
 ///
-/// Contracts see it as the list of the items that remain. No item is moved within the block.
+/// Contracts see it as they see a list, of the items that remain. An item stays in its place until it is handed out.
 pub struct IntoIter<T, A: Allocator = Global, G: Growth = Doubling> {
     // The items that remain lie in the slots from `start` up to `end`. The block's stored length is not read again.
     block: Block<T, A>,
@@ -40,7 +40,7 @@ impl<T, A: Allocator, G: Growth> Model for IntoIter<T, A, G> {
 }
 
 impl<T, A: Allocator, G: Growth> ThinVec<T, A, G> {
-    /// The items, to be handed out from either end. It takes no memory.
+    /// The items, to be handed out from either end. It takes no memory: the block stays as it is.
     pub fn into_iter(self) -> IntoIter<T, A, G>
         ensures value { result ≡ self }
         ensures small { length result.items < 2 ^ 64 }
@@ -195,7 +195,9 @@ impl<T: Drop, A: Allocator, G: Growth> Iterator for IntoIter<T, A, G> {
         IntoIter::next(self)
     }
 
-    fn size_hint(&self) -> (usize, Option<usize>) {
+    fn size_hint(&self) -> (usize, Option<usize>)
+        ensures value { result ≡ (length self.now.items, Some (length self.now.items)) }
+    {
         IntoIter::size_hint(self)
     }
 }

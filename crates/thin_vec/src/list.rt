@@ -188,7 +188,7 @@ impl<T, A: Allocator, G: Growth> ThinVec<T, A, G> {
     pub(crate) fn into_parts(self) -> (Block<T, A>, A)
         ensures slots { result.0.slots ≡ front self.items self.cap }
         ensures len { result.0.len ≡ length self.items }
-        ensures from { IsFrom result.0 result.1 }
+        ensures heap { IsFrom result.0 result.1 }
         ensures cost { result.0.cost ≡ self.cost }
         ensures alloc { result.1 ≡ self.alloc }
     {

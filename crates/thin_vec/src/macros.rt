@@ -1,11 +1,11 @@
 //! `thin_vec!`: a list written out.
 
 /// Makes a list: `thin_vec![alloc =>]` is `Ok` of `new`, and `thin_vec![alloc => x, y]` has the items in order and the
-/// capacity of their count. `thin_vec![alloc => x; k]` is `new` and then `resize(k, x)`: clones of x, of which the last of k
-/// is x itself, at the capacity that the growth rule names.
+/// capacity of their count. `thin_vec![alloc => x; k]` is `new` and then `resize(k, x)`: clones of x, and x itself as the
+/// last of k, at the capacity that `Doubling` names for k items.
 ///
 /// Each form gives a `Result<ThinVec<T, A>, ThinVecError>`, and is used inside a function's body. A trailing comma is
-/// allowed. Refused, the items are dropped.
+/// allowed, but not behind k. Refused, the items are dropped.
 #[macro_export]
 macro_rules! thin_vec {
     ($alloc:expr =>) => {

@@ -2,21 +2,32 @@
 #![tactic(auto)]
 
 #[cfg(test)]
+mod answers;
+#[cfg(test)]
 mod capacities;
+#[cfg(test)]
+mod clones;
+pub mod comparisons;
 #[cfg(test)]
 mod counted;
 #[cfg(test)]
 mod drops;
 pub mod examples;
 #[cfg(test)]
+mod extending;
+#[cfg(test)]
 mod filling;
 #[cfg(test)]
 mod growth_rules;
+#[cfg(test)]
+mod joins;
 #[cfg(test)]
 mod making;
 pub mod owned_walks;
 #[cfg(test)]
 mod refusals;
+#[cfg(test)]
+mod scarce;
 #[cfg(test)]
 mod shifts;
 #[cfg(test)]

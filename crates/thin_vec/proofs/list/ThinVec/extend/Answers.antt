@@ -1,7 +1,9 @@
-use Rattle.std.proofs.Common.{◌∙◌, ap, arith, length}
+use Rattle.std.proofs.Common.{◌≡◌, ◌++◌, ◌∙◌, ap, arith, length, subst}
+use Rattle.std.specs.Iterator.Runs.{WholeRun}
+use Rattle.std.specs.Prelude.{OnOk}
 use denote.Param.{param}
 use Rattle.thin_vec.specs.ThinVec.{capacity_for}
-use Rattle.thin_vec.proofs.FillLemmas.{filled-join, filled-reserved, loose-join, loose-le, loose-ruled}
+use Rattle.thin_vec.proofs.FillLemmas.{run_of_ok, filled-join, filled-reserved, loose-join, loose-le, loose-ruled}
 use Rattle.thin_vec.proofs.list.ThinVec.extend.Goals as goal
 
 pub returns-in-Ok-clause-capacity : goal.returns-in-Ok-clause-capacity
@@ -20,3 +22,9 @@ returns-in-Ok-clause-cost g c =
 pub returns-in-Err-clause-cause : goal.returns-in-Err-clause-cause
 returns-in-Err-clause-cause g c = λ over.
     (c.size_hint.result.0, c.size_hint.ensures.lower, ap (λ v. capacity_for g.G.Growth.rule (param 0 g.row.T) v c.size_hint.result.0) c.in-Err.ensures.err ∙ c.in-Err.ensures.cause over)
+
+pub returns-in-Ok-clause-runs : goal.returns-in-Ok-clause-runs
+returns-in-Ok-clause-runs g c =
+    let steps = g.I.Iterator.next_gives in let w = c.fill.new.self in
+    subst (λ old. OnOk c.fill.result (WholeRun steps c.args.iter (λ p. w.items ≡ old ++ p.items))) c.reserve.ensures.items
+    (run_of_ok steps c.args.iter (λ xs. w.items ≡ c.reserve.new.self.items ++ xs) c.fill.result c.fill.ensures.items)

@@ -1,0 +1,181 @@
+//! `extend` and `from_iter`: how often the iterator is asked, and what a refusal hands back.
+use crate::answers::Answers;
+use crate::counted::Counted;
+use crate::standing::{assert_counts, assert_list};
+use refusing::Refusing;
+use std::cell::Cell;
+use std::iter::once;
+use std::test::Fail;
+use thin_vec::{CollectRefused, ExtendRefused, ThinVec, ThinVecError};
+
+#[test]
+fn test_extend(rt: HostRuntime) -> Result<(), Fail> {
+    let alloc = rt.alloc();
+    let mut list = ThinVec::new(alloc);
+    for items in [0..0, 0..3, 3..10] {
+        list.extend(items).ok().ok_or("memory")?;
+    }
+    let clone = list.clone(alloc)?;
+    list.extend(clone.as_slice().iter().copied())
+        .ok()
+        .ok_or("memory")?;
+    let twice = [0, 1, 2, 3, 4, 5, 6, 7, 8, 9, 0, 1, 2, 3, 4, 5, 6, 7, 8, 9];
+    assert_list(&rt, &list, &twice, 20);
+
+    let drops = Cell::new(0);
+    {
+        let mut counted = ThinVec::new(alloc);
+        counted
+            .extend(once(Counted::new(&drops)))
+            .ok()
+            .ok_or("memory")?;
+    }
+    assert_eq!(rt; drops.get(), 1);
+
+    let mut units = ThinVec::new(alloc);
+    units.extend((0..2).map(|_| ())).ok().ok_or("memory")?;
+    assert_eq!(rt; (units.len(), units.capacity()), (2, 4));
+    Ok(())
+}
+
+#[test]
+fn test_collect_capacity(rt: HostRuntime) -> Result<(), Fail> {
+    for count in 0..20 {
+        let list = ThinVec::from_iter(rt.alloc(), 0..count)
+            .ok()
+            .ok_or("memory")?;
+        assert_eq!(rt; (list.len(), list.capacity()), (count, count));
+    }
+    Ok(())
+}
+
+#[test]
+fn asks_no_more_after_the_first_none(rt: HostRuntime) -> Result<(), Fail> {
+    let alloc = rt.alloc();
+    let asked = Cell::new(0);
+    let answers = [Some(1), None, Some(2)];
+    let mut list = ThinVec::new(alloc);
+    list.extend(Answers::new(&answers, 3, &asked))
+        .ok()
+        .ok_or("memory")?;
+    assert_list(&rt, &list, &[1], 4);
+    assert_eq!(rt; asked.get(), 2);
+
+    let list = ThinVec::from_iter(alloc, Answers::new(&answers, 3, &asked))
+        .ok()
+        .ok_or("memory")?;
+    assert_list(&rt, &list, &[1], 3);
+    assert_eq!(rt; asked.get(), 4);
+    Ok(())
+}
+
+#[test]
+fn row_26_extend_refused(rt: HostRuntime) -> Result<(), Fail> {
+    let refusing = Refusing::new(rt.alloc(), 2);
+    let asked = Cell::new(0);
+    let answers = [Some(1), Some(2), Some(3), Some(4), Some(5)];
+    let mut list = ThinVec::new(&refusing);
+    let refused = list
+        .extend(Answers::new(&answers, 0, &asked))
+        .err()
+        .ok_or("accepted")?;
+    assert_list(&rt, &list, &[1, 2, 3, 4], 4);
+    assert_counts(&rt, &refusing, 2, 1);
+    let ExtendRefused {
+        cause,
+        in_hand,
+        mut rest,
+    } = refused;
+    assert_eq!(rt;
+        (cause, in_hand, rest.next()),
+        (ThinVecError::OutOfMemory, Some(5), None)
+    );
+    Ok(())
+}
+
+const TO_NINE: [Option<i32>; 9] = [
+    Some(1),
+    Some(2),
+    Some(3),
+    Some(4),
+    Some(5),
+    Some(6),
+    Some(7),
+    Some(8),
+    Some(9),
+];
+
+// The lower bound that is claimed, the request that is refused, the items that the list has by then, and the one in hand.
+const REFUSALS: [(usize, u64, usize, Option<i32>); 4] = [
+    (9, 1, 0, None),
+    (0, 1, 0, Some(1)),
+    (0, 2, 4, Some(5)),
+    (0, 3, 8, Some(9)),
+];
+
+#[test]
+fn goes_on_after_a_refused_extend(rt: HostRuntime) -> Result<(), Fail> {
+    for (lower, request, len, next) in REFUSALS {
+        let refusing = Refusing::new(rt.alloc(), request);
+        let asked = Cell::new(0);
+        let mut list = ThinVec::new(&refusing);
+        let refused = list
+            .extend(Answers::new(&TO_NINE, lower, &asked))
+            .err()
+            .ok_or("accepted")?;
+        assert_eq!(rt; (list.len(), refused.in_hand), (len, next));
+        assert_eq!(rt; (list.capacity(), refusing.requests()), (len, request));
+        let ExtendRefused {
+            cause: _,
+            in_hand,
+            rest,
+        } = refused;
+        if let Some(item) = in_hand {
+            list.push(item).ok().ok_or("memory")?;
+        }
+        list.extend(rest).ok().ok_or("memory")?;
+        assert_eq!(rt; list.as_slice(), [1, 2, 3, 4, 5, 6, 7, 8, 9].as_slice());
+        assert_eq!(rt; refusing.blocks(), 1);
+    }
+    Ok(())
+}
+
+#[test]
+fn goes_on_after_a_refused_from_iter(rt: HostRuntime) -> Result<(), Fail> {
+    for (lower, request, len, next) in REFUSALS {
+        let refusing = Refusing::new(rt.alloc(), request);
+        let asked = Cell::new(0);
+        let refused = ThinVec::from_iter(&refusing, Answers::new(&TO_NINE, lower, &asked))
+            .err()
+            .ok_or("accepted")?;
+        let CollectRefused {
+            mut list,
+            cause,
+            in_hand,
+            rest,
+        } = refused;
+        assert_eq!(rt; (cause, in_hand), (ThinVecError::OutOfMemory, next));
+        assert_eq!(rt; (list.len(), list.capacity()), (len, len));
+        if let Some(item) = in_hand {
+            list.push(item).ok().ok_or("memory")?;
+        }
+        list.extend(rest).ok().ok_or("memory")?;
+        assert_eq!(rt; list.as_slice(), [1, 2, 3, 4, 5, 6, 7, 8, 9].as_slice());
+        assert_eq!(rt; refusing.blocks(), 1);
+    }
+    Ok(())
+}
+
+#[test]
+fn a_refused_from_iter_drops_what_it_hands_back(rt: HostRuntime) -> Result<(), Fail> {
+    let refusing = Refusing::new(rt.alloc(), 2);
+    let drops = Cell::new(0);
+    let items = (0..9).map(|_| Counted::new(&drops)).filter(|_| true);
+    let refused = ThinVec::from_iter(&refusing, items)
+        .err()
+        .ok_or("accepted")?;
+    assert_eq!(rt; (drops.get(), refusing.blocks()), (0, 1));
+    drop(refused);
+    assert_eq!(rt; (drops.get(), refusing.blocks()), (5, 0));
+    Ok(())
+}
