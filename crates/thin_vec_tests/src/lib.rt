@@ -3,6 +3,7 @@
 
 #[cfg(test)]
 mod answers;
+pub mod callers;
 #[cfg(test)]
 mod capacities;
 #[cfg(test)]
