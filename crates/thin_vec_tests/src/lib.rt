@@ -13,7 +13,6 @@ pub mod comparisons;
 mod counted;
 #[cfg(test)]
 mod drops;
-pub mod examples;
 #[cfg(test)]
 mod extending;
 #[cfg(test)]

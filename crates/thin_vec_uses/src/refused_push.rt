@@ -1,0 +1,21 @@
+//! A refused push hands its value back.
+ghost use Rattle.std.specs.Prelude.{◌≡◌, ◌<◌, [], ◌∷◌, ◌++◌, IfNone, IfSome, IsNone, OnSome, length};
+
+use std::alloc::Allocator;
+use thin_vec::{Growth, ThinVec};
+
+/// Appends `value`, or hands it back where memory is refused: no value is lost.
+pub fn push_or_return<T: Drop, A: Allocator, G: Growth>(
+    list: &mut ThinVec<T, A, G>,
+    value: T,
+) -> Option<T>
+    ensures succeeds { length list.old.items < list.old.cap → IsNone result }
+    ensures items { IfNone result (list.new.items ≡ list.old.items ++ value ∷ []) }
+    ensures err { OnSome result (list.new ≡ list.old) }
+    ensures value_returned { IfSome result (λ returned. returned ≡ value) }
+{
+    match list.push(value) {
+        Ok(()) => None,
+        Err(refused) => Some(refused.value),
+    }
+}

@@ -1,0 +1,16 @@
+//! A write through the slice.
+ghost use Rattle.std.specs.Prelude.{◌≡◌, IsPermutation, IsSorted};
+
+use std::alloc::Allocator;
+use thin_vec::{Growth, ThinVec};
+
+/// Sorts the items in place, by the slice's own call. The list keeps its block.
+pub fn sort<T: Ord, A: Allocator, G: Growth>(list: &mut ThinVec<T, A, G>)
+    ensures sorted { IsSorted T.cmp list.new.items }
+    ensures permutation { IsPermutation list.old.items list.new.items }
+    ensures capacity { list.new.cap ≡ list.old.cap }
+    ensures alloc { list.new.alloc ≡ list.old.alloc }
+    ensures cost { list.new.cost ≡ list.old.cost }
+{
+    list.as_mut_slice().sort_unstable();
+}

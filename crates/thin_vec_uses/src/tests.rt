@@ -1,0 +1,64 @@
+//! Each use, once.
+use crate::refused_push::push_or_return;
+use crate::reserved_room::push_both;
+use crate::sorting::sort;
+use crate::style_lists::{same_style, style_hash};
+use crate::syntax_tree::Node;
+use refusing::Refusing;
+use std::test::Fail;
+use thin_vec::{ThinVec, thin_vec};
+
+#[test]
+fn a_leaf_owns_no_block(rt: HostRuntime) -> Result<(), Fail> {
+    let alloc = rt.alloc();
+    let mut sum = Node::leaf(alloc, 1);
+    sum.add_child(Node::leaf(alloc, 2)).ok().ok_or("memory")?;
+    sum.add_child(Node::leaf(alloc, 3)).ok().ok_or("memory")?;
+    assert!(rt; sum.children.has_capacity());
+    for child in &sum.children {
+        assert!(rt; !child.children.has_capacity());
+    }
+    Ok(())
+}
+
+#[test]
+fn styles_are_compared_and_hashed_by_their_rules(rt: HostRuntime) -> Result<(), Fail> {
+    let alloc = rt.alloc();
+    let exact = thin_vec![alloc => 3, 1, 2]?;
+    let mut roomy = ThinVec::with_capacity(alloc, 10)?;
+    for rule in [3, 1, 2] {
+        roomy.push(rule).ok().ok_or("memory")?;
+    }
+    assert!(rt; same_style(&exact, &roomy));
+    assert_eq!(rt; style_hash(&exact), style_hash(&roomy));
+    assert!(rt; !same_style(&exact, &thin_vec![alloc => 1, 2, 3]?));
+    Ok(())
+}
+
+#[test]
+fn reserved_room_takes_both(rt: HostRuntime) -> Result<(), Fail> {
+    let refusing = Refusing::new(rt.alloc(), 2);
+    let mut list = ThinVec::new(&refusing);
+    push_both(&mut list, 1, 2)?;
+    assert_eq!(rt; (list.as_slice(), refusing.requests()), ([1, 2].as_slice(), 1));
+    Ok(())
+}
+
+#[test]
+fn sorts_in_place(rt: HostRuntime) -> Result<(), Fail> {
+    let mut list = thin_vec![rt.alloc() => 3, 1, 2]?;
+    sort(&mut list);
+    assert_eq!(rt; list.as_slice(), [1, 2, 3].as_slice());
+    Ok(())
+}
+
+#[test]
+fn a_refused_push_hands_its_value_back(rt: HostRuntime) -> Result<(), Fail> {
+    let refusing = Refusing::new(rt.alloc(), 1);
+    let mut list = ThinVec::new(&refusing);
+    let returned = push_or_return(&mut list, 7);
+    assert_eq!(rt; returned, Some(7));
+    assert_eq!(rt; push_or_return(&mut list, 7), None);
+    assert_eq!(rt; list.as_slice(), [7].as_slice());
+    Ok(())
+}
