@@ -8,7 +8,8 @@ pub mod callers;
 mod capacities;
 #[cfg(test)]
 mod clones;
-pub mod comparisons;
+#[cfg(test)]
+mod comparisons;
 #[cfg(test)]
 mod counted;
 #[cfg(test)]

@@ -6,6 +6,5 @@ pub mod reserved_room;
 pub mod sorting;
 pub mod style_lists;
 pub mod syntax_tree;
-
 #[cfg(test)]
 mod tests;

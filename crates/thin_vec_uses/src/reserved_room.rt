@@ -1,4 +1,4 @@
-//! What a program may write over a list, and the clauses that it may promise.
+//! Two pushes into reserved room, which no allocator can refuse.
 ghost use Rattle.std.specs.Prelude.{◌≡◌, ◌+◌, ◌≤◌, ◌++◌, [], ◌∷◌, IfErr, IsErrOf, IsOk, None, OnErr, OnOk, length};
 ghost use Rattle.thin_vec.specs.ThinVec.{capacity_for};
 

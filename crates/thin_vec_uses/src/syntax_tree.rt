@@ -29,7 +29,7 @@ impl Node {
     /// Appends `child`, which this node owns afterwards. Refused, it is handed back with all that is below it.
     pub fn add_child(&mut self, child: Node) -> Result<(), Rejected<Node>>
         ensures succeeds { length (out-Node self.old).children.items < (out-Node self.old).children.cap → IsOk result }
-        ensures items { OnOk result ((out-Node self.new).children.items ≡ (out-Node self.old).children.items ++ child ∷ []) }
+        ensures children { OnOk result ((out-Node self.new).children.items ≡ (out-Node self.old).children.items ++ child ∷ []) }
         ensures kind { (out-Node self.new).kind ≡ (out-Node self.old).kind }
         ensures err { OnErr result (self.new ≡ self.old) }
         ensures value_returned { IfErr result (λ refused. refused.value ≡ child) }

@@ -40,7 +40,8 @@ fn reserved_room_takes_both(rt: HostRuntime) -> Result<(), Fail> {
     let refusing = Refusing::new(rt.alloc(), 2);
     let mut list = ThinVec::new(&refusing);
     push_both(&mut list, 1, 2)?;
-    assert_eq!(rt; (list.as_slice(), refusing.requests()), ([1, 2].as_slice(), 1));
+    assert_eq!(rt; list.as_slice(), [1, 2].as_slice());
+    assert_eq!(rt; refusing.requests(), 1);
     Ok(())
 }
 
