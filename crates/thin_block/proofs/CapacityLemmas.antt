@@ -46,6 +46,10 @@ ruled-grows rule R c w n law more e = elim (dec_lt w (2 ^ 64)) [
 pub fits-small : (R : RattleType) (c : ℕ) → Fits R c → c < 2 ^ 63
 fits-small R c e = (fits_tells R c (opened R c e)).few
 
+-- and so are the bytes of as many items
+pub fits-bytes : (R : RattleType) (c : ℕ) → Fits R c → c * type_size R < 2 ^ 63
+fits-bytes R c e = let room = (fits_tells R c (opened R c e)).room in omega arith
+
 -- what is less than a capacity that fits, fits
 pub fits-less : (R : RattleType) (c d : ℕ) → Fits R d → c ≤ d → Fits R c
 fits-less R c d e less =

@@ -275,7 +275,7 @@ module _ {T : Type 0} (s : List (Option T)) (n : ℕ) (packed : IsPacked s n) wh
       subst (λ (l : Row). IsSome (slot l i)) (sym packed.row) (full-filled xs (empty (length s - length xs)) i (omega arith))
 
   -- the first n slots hold the items, and the rest hold none
-  packed-run : run 0 n s ≡ full xs
+  pub packed-run : run 0 n s ≡ full xs
   packed-run = ap (λ (l : Row). take n l) parted ∙ take_at (full xs) (empty (length s - n)) n full-long
 
   packed-rest : drop n s ≡ empty (length s - n)

@@ -128,6 +128,10 @@ module _ {T A : Type 0} where
   pub settle-new : (b : Block T A) (a : A) (c : ℕ) → b.slots ≡ empty c → b.len ≡ 0 → b.heap ≡ Some a → Settled b a [] c
   settle-new b a c s l f = settled b a [] c (s ∙ front-none c) l (omega arith) (λ x e. cc)
 
+  -- once all items are out
+  pub settle-emptied : (b b' : Block T A) (a : A) → IsFrom b a → b'.slots ≡ empty (length b.slots) → b'.len ≡ 0 → b'.heap ≡ b.heap → Settled b' a [] (length b.slots)
+  settle-emptied b b' a from s l f = settled b' a [] (length b.slots) (s ∙ front-none (length b.slots)) l (omega arith) (from-same b b' a from f)
+
   pub settle-shrink : (b b' : Block T A) (a : A) (k : ℕ) → IsThin b a → k ≡ length (items_in b.slots) → b'.slots ≡ take k b.slots → b'.len ≡ b.len → b'.heap ≡ Some a → Settled b' a (items_in b.slots) k
   settle-shrink b b' a k t all s l f =
       let xs : List T = items_in b.slots in

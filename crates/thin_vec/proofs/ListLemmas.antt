@@ -4,7 +4,7 @@ use Rattle.std.proofs.lemmas.List.{length-replicate, length-map, length-take, le
 use Rattle.std.proofs.Math.Seq.{take-append_seam}
 use Rattle.std.specs.Prelude.{IsSome, insert, slice_get, slice_range}
 use lib.ListN.{set, replicate}
-use Rattle.thin_block.specs.Slots.{full, empty, slot, items_in, front}
+use Rattle.thin_block.specs.Slots.{IsPacked, full, empty, slot, items_in, front}
 use Rattle.thin_block.specs.Block.{IsFrom}
 use Rattle.thin_block.specs.declared.block.Block.{Block}
 use Rattle.thin_vec.specs.ThinVec.{IsThin}
@@ -125,6 +125,10 @@ module _ {T A : Type 0} where
       let xs : List T = items_in b.slots in
       let e : List (Option T) = replicate (length b.slots - length xs) None in
       omega (arith, ap length t.packed.row, length-append (full xs) e, length-full xs)
+
+  -- the slots of n items
+  pub thin-packed : (b : Block T A) (a : A) (n : ℕ) → IsThin b a → length (items_in b.slots) ≡ n → IsPacked b.slots n
+  thin-packed b a n t long = record { row = t.packed.row; len = sym long }
 
   pub from-same : (b b' : Block T A) (a : A) → IsFrom b a → b'.heap ≡ b.heap → IsFrom b' a
   from-same b b' a f e = λ x h. f x (sym e ∙ h)

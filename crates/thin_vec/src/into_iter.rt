@@ -157,6 +157,20 @@ impl<T, A: Allocator, G: Growth> IntoIter<T, A, G> {
     {
         self.block.slice_mut(self.start, self.end)
     }
+
+    // The end of an iterator of which nothing remains: the block is given back.
+    pub(crate) fn release(self)
+        requires empty { self.items ≡ [] }
+    {
+        let IntoIter {
+            block,
+            alloc,
+            start: _,
+            end: _,
+            growth: _,
+        } = self;
+        block.release(&alloc);
+    }
 }
 
 impl<T: Clone, A: Allocator, G: Growth> IntoIter<T, A, G> {
@@ -228,13 +242,6 @@ impl<T: Drop, A: Allocator, G: Growth> Drop for IntoIter<T, A, G> {
     // Each item that remains is dropped, and then the block is given back.
     fn drop(mut self) {
         while let Some(_item) = self.next() {}
-        let IntoIter {
-            block,
-            alloc,
-            start: _,
-            end: _,
-            growth: _,
-        } = self;
-        block.release(&alloc);
+        self.release();
     }
 }

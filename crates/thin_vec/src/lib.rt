@@ -9,6 +9,7 @@ mod edits;
 mod errors;
 mod filling;
 mod impls;
+mod into;
 mod into_iter;
 mod joins;
 mod list;

@@ -199,17 +199,24 @@ impl<T, A: Allocator, G: Growth> ThinVec<T, A, G> {
         } = self;
         (block, alloc)
     }
-}
 
-impl<T: Drop, A: Allocator, G: Growth> Drop for ThinVec<T, A, G> {
-    // Each item is dropped, and then the block is given back.
-    fn drop(mut self) {
-        self.clear();
+    // The end of an empty list: its block is given back.
+    pub(crate) fn release(self)
+        requires empty { self.items ≡ [] }
+    {
         let ThinVec {
             block,
             alloc,
             growth: _,
         } = self;
         block.release(&alloc);
+    }
+}
+
+impl<T: Drop, A: Allocator, G: Growth> Drop for ThinVec<T, A, G> {
+    // Each item is dropped, and then the block is given back.
+    fn drop(mut self) {
+        self.clear();
+        self.release();
     }
 }

@@ -1,8 +1,8 @@
 use Rattle.std.proofs.Common.{ap, arith, length}
 use Rattle.thin_vec.proofs.WalkLemmas.{walked-empty}
-use Rattle.thin_vec.proofs.into_iter.IntoIter.drop.Goals as goal
+use Rattle.thin_vec.proofs.into_iter.IntoIter.release.Goals as goal
 
 pub release-requires-clause-empty : goal.release-requires-clause-empty
 release-requires-clause-empty g c =
     walked-empty c.self.inside.block c.self.inside.alloc c.self.inside.start c.self.inside.end c.self.invariant
-    (grind (arith, ap (λ v. length v.items) c.self.view_is, ap length c.in_default.ensures.items, c.in_default.ensures.variant))
+    (grind (arith, ap (λ v. length v.items) c.self.view_is, ap length c.requires.empty))

@@ -1,0 +1,92 @@
+//! Other types that a list is turned into.
+ghost use Rattle.std.specs.Prelude.{◌≡◌, ◌↔◌, ◌≤◌, [], IfErr, IfOk, IsOk, length, vec_capacity, vec_len};
+ghost use Rattle.std.specs.Box.{boxed_slice_items, boxed_slice_len};
+
+use crate::errors::Rejected;
+use crate::list::ThinVec;
+use std::alloc::Allocator;
+use std::boxed::BoxedSlice;
+use thin_block::{Growth, ThinVecError};
+
+impl<T, A: Allocator, G: Growth> ThinVec<T, A, G> {
+    /// The items, in order, as a `Vec` on `alloc` whose capacity is their number. The list's block is given back.
+    ///
+    /// It is refused only where memory is, and then the list is handed back. A list of no item takes no memory.
+    pub fn into_vec(self, alloc: A) -> Result<Vec<T, A>, Rejected<ThinVec<T, A, G>>>
+        ensures succeeds_empty { self.items ≡ [] → IsOk result }
+        ensures cause { IfErr result (λ refused. refused.cause ≡ ThinVecError.OutOfMemory) }
+        ensures items { IfOk result (λ vec. vec.items ≡ self.items) }
+        ensures len { IfOk result (λ vec. vec_len vec ≡ length self.items) }
+        ensures capacity { IfOk result (λ vec. vec_capacity vec ≡ length self.items) }
+        ensures value_returned { IfErr result (λ refused. refused.value ≡ self) }
+    {
+        match Vec::with_capacity(alloc, self.len()) {
+            Ok(vec) => Ok(self.moved_to(vec)),
+            Err(_refused) => Err(Rejected {
+                value: self,
+                cause: ThinVecError::OutOfMemory,
+            }),
+        }
+    }
+
+    // `vec` with the list's items. It held none, and has room for them.
+    fn moved_to(self, mut vec: Vec<T, A>) -> Vec<T, A>
+        requires empty { vec.items ≡ [] }
+        requires room { length self.items ≤ vec_capacity vec }
+        ensures items { result.items ≡ self.items }
+        ensures len { vec_len result ≡ length self.items }
+        ensures capacity { vec_capacity result ≡ vec_capacity vec }
+    {
+        let mut rest = self.into_iter();
+        while let Some(item) = rest.next() {
+            vec.push_reserved(item);
+        }
+        rest.release();
+        vec
+    }
+
+    /// The items, in order, as a boxed slice on `alloc`. The list's block is given back.
+    ///
+    /// It is refused only where memory is, and then the list is handed back. A list of no item takes no memory.
+    pub fn into_boxed_slice(self, alloc: A) -> Result<BoxedSlice<T, A>, Rejected<ThinVec<T, A, G>>>
+        ensures succeeds_empty { self.items ≡ [] → IsOk result }
+        ensures cause { IfErr result (λ refused. refused.cause ≡ ThinVecError.OutOfMemory) }
+        ensures items { IfOk result (λ boxed. boxed_slice_items boxed ≡ self.items) }
+        ensures len { IfOk result (λ boxed. boxed_slice_len boxed ≡ length self.items) }
+        ensures value_returned { IfErr result (λ refused. refused.value ≡ self) }
+    {
+        match self.into_vec(alloc) {
+            Ok(vec) => Ok(vec.into_boxed_slice()),
+            Err(refused) => Err(refused),
+        }
+    }
+
+    /// The items, in order, as an array, where there are N of them. It takes no memory, and the list's block is given back.
+    ///
+    /// A list of any other length is handed back as it was.
+    pub fn into_array<const N: usize>(mut self) -> Result<[T; N], ThinVec<T, A, G>>
+        ensures variant { IsOk result ↔ (length self.items ≡ N) }
+        ensures items { IfOk result (λ items. items ≡ self.items) }
+        ensures value_returned { IfErr result (λ list. list ≡ self) }
+    {
+        if self.len() != N {
+            return Err(self);
+        }
+        let items = self.take_all();
+        self.release();
+        Ok(items)
+    }
+
+    // All items, as an array of their number. The list is left empty, with its block.
+    fn take_all<const N: usize>(&mut self) -> [T; N]
+        requires all { length self.old.items ≡ N }
+        ensures value { result ≡ self.old.items }
+        ensures items { self.new.items ≡ [] }
+    {
+        // An array of them is small enough, as the capacity is.
+        let _len = self.len();
+        let items = self.block.take_array(0);
+        self.block.set_len(0);
+        items
+    }
+}
