@@ -6,5 +6,6 @@ mod CloneLemmas
 mod ShiftLemmas
 mod LendLemmas
 mod JoinLemmas
+mod ConversionLemmas
 mod FillLemmas
 mod WalkLemmas

@@ -1,8 +1,10 @@
 //! Lists made from other types.
-ghost use Rattle.std.specs.Prelude.{◌≡◌, [], IfErr, IfOk, IsErrAnd, IsErrOf, IsOk, None, Some, length, replicate};
+ghost use Rattle.std.specs.Prelude.{◌≡◌, ◌≤◌, [], IfErr, IfOk, IsErrAnd, IsErrOf, IsOk, None, Some, length, replicate};
+ghost use Rattle.std.specs.Box.{boxed_slice_items};
 ghost use Rattle.std.specs.List.{AllZip};
 ghost use Rattle.thin_block.specs.Cost.{moving};
 ghost use Rattle.thin_block.specs.Growth.{doubling, exact_capacity, ruled_capacity};
+ghost use Rattle.thin_block.specs.Slots.{empty, front};
 ghost use Rattle.thin_vec.specs.Clones.{CloneEquals, ClonesEqual, IsResized};
 ghost use Rattle.thin_vec.specs.Costs.{IsCheap};
 ghost use Rattle.thin_vec.specs.ThinVec.{cost_new};
@@ -10,7 +12,8 @@ ghost use Rattle.thin_vec.specs.ThinVec.{cost_new};
 use crate::errors::Rejected;
 use crate::list::ThinVec;
 use std::alloc::Allocator;
-use thin_block::ThinVecError;
+use std::boxed::BoxedSlice;
+use thin_block::{Block, ThinVecError};
 
 impl<T, A: Allocator> ThinVec<T, A> {
     /// A list of the array's items, of capacity N. An array of nothing takes no memory.
@@ -42,6 +45,89 @@ impl<T, A: Allocator> ThinVec<T, A> {
                 cause,
             }),
         }
+    }
+
+    /// A list of the items of `items`, in order, of capacity as many. A `Vec` of no item takes no memory.
+    ///
+    /// It is refused where that capacity does not fit, or where memory is refused, and then the `Vec` is handed back.
+    pub fn from_vec<B: Allocator>(
+        alloc: A,
+        items: Vec<T, B>,
+    ) -> Result<ThinVec<T, A>, Rejected<Vec<T, B>>>
+        ensures succeeds_empty { items.items ≡ [] → IsOk result }
+        ensures overflow { exact_capacity T.row 0 (length items.items) ≡ None → IsErrAnd result (λ refused. refused.cause ≡ ThinVecError.CapacityOverflow) }
+        ensures cause { IfErr result (λ refused. refused.cause ≡ ThinVecError.CapacityOverflow → exact_capacity T.row 0 (length items.items) ≡ None) }
+        ensures items { IfOk result (λ list. list.items ≡ items.items) }
+        ensures capacity { IfOk result (λ list. list.cap ≡ length items.items) }
+        ensures alloc { IfOk result (λ list. list.alloc ≡ alloc) }
+        ensures cost { IfOk result (λ list. list.cost ≡ moving (length items.items) (cost_new (length items.items))) }
+        ensures cheap { IfOk result (λ list. IsCheap list) }
+        ensures value_returned { IfErr result (λ refused. refused.value ≡ items) }
+    {
+        match ThinVec::with_capacity(alloc, items.len()) {
+            Ok(list) => Ok(list.with_moved(items)),
+            Err(cause) => Err(Rejected {
+                value: items,
+                cause,
+            }),
+        }
+    }
+
+    /// A list of the items of a boxed slice, in order, of capacity as many. A slice of no item takes no memory.
+    ///
+    /// It is refused where that capacity does not fit, or where memory is refused, and then the boxed slice is handed back.
+    pub fn from_boxed_slice<B: Allocator>(
+        alloc: A,
+        items: BoxedSlice<T, B>,
+    ) -> Result<ThinVec<T, A>, Rejected<BoxedSlice<T, B>>>
+        ensures succeeds_empty { boxed_slice_items items ≡ [] → IsOk result }
+        ensures overflow { exact_capacity T.row 0 (length (boxed_slice_items items)) ≡ None → IsErrAnd result (λ refused. refused.cause ≡ ThinVecError.CapacityOverflow) }
+        ensures cause { IfErr result (λ refused. refused.cause ≡ ThinVecError.CapacityOverflow → exact_capacity T.row 0 (length (boxed_slice_items items)) ≡ None) }
+        ensures items { IfOk result (λ list. list.items ≡ boxed_slice_items items) }
+        ensures capacity { IfOk result (λ list. list.cap ≡ length (boxed_slice_items items)) }
+        ensures alloc { IfOk result (λ list. list.alloc ≡ alloc) }
+        ensures cost { IfOk result (λ list. list.cost ≡ moving (length (boxed_slice_items items)) (cost_new (length (boxed_slice_items items)))) }
+        ensures cheap { IfOk result (λ list. IsCheap list) }
+        ensures value_returned { IfErr result (λ refused. refused.value ≡ items) }
+    {
+        match ThinVec::with_capacity(alloc, items.len()) {
+            Ok(list) => Ok(list.with_moved(items.into_vec())),
+            Err(cause) => Err(Rejected {
+                value: items,
+                cause,
+            }),
+        }
+    }
+
+    // The list with the items of `items`. It held none, and has room for them.
+    fn with_moved<B: Allocator>(mut self, mut items: Vec<T, B>) -> ThinVec<T, A>
+        requires empty { self.items ≡ [] }
+        requires room { length items.items ≤ self.cap }
+        ensures items { result.items ≡ items.items }
+        ensures capacity { result.cap ≡ self.cap }
+        ensures alloc { result.alloc ≡ self.alloc }
+        ensures cost { result.cost ≡ moving (length items.items) self.cost }
+    {
+        let len = items.len();
+        move_in(&mut self.block, &mut items);
+        self.block.set_len(len);
+        items.destroy_empty();
+        self
+    }
+}
+
+// Moves the items of `items` into the first slots of an empty block. A `Vec` gives its items up from the last on.
+fn move_in<T, A: Allocator, B: Allocator>(block: &mut Block<T, A>, items: &mut Vec<T, B>)
+    requires empty { block.old.slots ≡ empty (length block.old.slots) }
+    requires room { length items.old.items ≤ length block.old.slots }
+    ensures slots { block.new.slots ≡ front items.old.items (length block.old.slots) }
+    ensures len { block.new.len ≡ block.old.len }
+    ensures heap { block.new.heap ≡ block.old.heap }
+    ensures cost { block.new.cost ≡ moving (length items.old.items) block.old.cost }
+    ensures rest { items.new.items ≡ [] }
+{
+    while let Some(item) = items.pop() {
+        block.put(items.len(), item);
     }
 }
 
