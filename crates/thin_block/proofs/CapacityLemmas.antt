@@ -91,6 +91,16 @@ exact-none R (suc w) never = exact-overflow R 0 (suc w) (omega arith) never
 pub exact-past : (R : RattleType) (c w : ℕ) → c < w → 2 ^ 64 ≤ w → exact_capacity R c w ≡ None
 exact-past R c w more high = exact-overflow R c w more (λ fit. let small = fits-small R w fit in absurd (omega arith))
 
+-- of a type these words see its size and its alignment alone
+module _ (R S : RattleType) (c w : ℕ) (size : type_size R ≡ type_size S) (align : type_align R ≡ type_align S) where
+  pub exact-at : exact_capacity R c w ≡ exact_capacity S c w
+  unfolding exact_capacity fitting
+  exact-at = rw (size, align) refl
+
+  pub ruled-at : (rule : Rule) → ruled_capacity rule R c w ≡ ruled_capacity rule S c w
+  unfolding ruled_capacity
+  ruled-at rule = rw (size, align) refl
+
 pub ruleset ruled = (ruled-same, ruled-overflow, ruled-rule)
 
 pub ruleset exact = (exact-same, exact-fits, exact-overflow, exact-none, exact-past, fits-none)

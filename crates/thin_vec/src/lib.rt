@@ -1,6 +1,7 @@
 //! A growable list that is one pointer wide: its length and its capacity stand in the block that it allocates.
 #![tactic(auto)]
 
+mod bytes;
 mod capacity;
 mod clones;
 mod compare;

@@ -1,0 +1,17 @@
+use Rattle.std.proofs.Common.{◌++◌, ◌∙◌, ap, arith, length}
+use Rattle.thin_block.specs.Slots.{items_in}
+use Rattle.thin_vec.proofs.JoinLemmas.{settle-more}
+use Rattle.thin_vec.proofs.ListLemmas.{Settled}
+use Rattle.thin_vec.proofs.list.ThinVec.append_copies.Goals as goal
+
+facts : (g : _) (c : goal.After-set_len g) → Settled c.set_len.new.self c.self.inside.alloc (items_in c.self.inside.block.slots ++ c.args.items.now) (length c.self.inside.block.slots)
+facts g c =
+    settle-more c.self.inside.block c.set_len.new.self c.self.inside.alloc c.args.items.now _ c.self.invariant c.len-len.ensures.value
+    (omega (arith, c.requires.room, c.len-len.ensures.value, c.self.invariant.packed.len, ap (λ v. length v.items) c.self.view_is, ap (λ v. v.cap) c.self.view_is))
+    (c.set_len.ensures.slots ∙ c.copy_in.ensures.slots) c.set_len.ensures.len (c.set_len.ensures.heap ∙ c.copy_in.ensures.heap)
+
+pub invariant_of-self : goal.invariant_of-self
+invariant_of-self g c = (facts g c).thin
+
+pub returns-clause-items : goal.returns-clause-items
+returns-clause-items g c = (facts g c).items ∙ ap (λ v. v.items ++ c.args.items.now) c.self.view_is

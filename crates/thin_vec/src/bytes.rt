@@ -1,0 +1,114 @@
+//! Lists of bytes: made from text, and written to.
+ghost use Rattle.std.specs.Prelude.{◌≡◌, ◌+◌, ◌≤◌, [], ◌++◌, IfErr, IfOk, IsErrAnd, IsErrOf, IsOk, None, OnErr, OnOk, Some, length};
+ghost use Rattle.std.specs.Borrow.{u8};
+ghost use Rattle.std.specs.IoError.{error_kind};
+ghost use Rattle.thin_block.specs.Cost.{moving};
+ghost use Rattle.thin_block.specs.Growth.{exact_capacity};
+ghost use Rattle.thin_vec.specs.Costs.{IsCheap};
+
+use crate::list::ThinVec;
+use std::alloc::Allocator;
+use std::io;
+use std::io::{ErrorKind, Write};
+use thin_block::{Growth, ThinVecError};
+
+impl<A: Allocator> ThinVec<u8, A> {
+    ghost use Rattle.thin_vec.specs.ThinVec.{cost_new};
+
+    /// A list of the text's bytes, of capacity as many. No text takes no memory.
+    ///
+    /// It is refused where that capacity does not fit, or where memory is refused.
+    pub fn from_str(alloc: A, text: &str) -> Result<ThinVec<u8, A>, ThinVecError>
+        ensures succeeds_empty { text.now ≡ [] → IsOk result }
+        ensures overflow { exact_capacity u8 0 (length text.now) ≡ None → IsErrOf result ThinVecError.CapacityOverflow }
+        ensures cause { IfErr result (λ cause. cause ≡ ThinVecError.CapacityOverflow → exact_capacity u8 0 (length text.now) ≡ None) }
+        ensures items { IfOk result (λ list. list.items ≡ text.now) }
+        ensures capacity { IfOk result (λ list. list.cap ≡ length text.now) }
+        ensures alloc { IfOk result (λ list. list.alloc ≡ alloc) }
+        ensures cost { IfOk result (λ list. list.cost ≡ moving (length text.now) (cost_new (length text.now))) }
+        ensures cheap { IfOk result (λ list. IsCheap list) }
+    {
+        match ThinVec::with_capacity(alloc, text.len()) {
+            Ok(mut list) => {
+                list.append_copies(text.as_bytes());
+                Ok(list)
+            }
+            Err(cause) => Err(cause),
+        }
+    }
+}
+
+impl<T: Copy, A: Allocator, G: Growth> ThinVec<T, A, G> {
+    // Copies `items` into the spare room, as one run.
+    fn append_copies(&mut self, items: &[T])
+        requires room { length self.old.items + length items.now ≤ self.old.cap }
+        ensures items { self.new.items ≡ self.old.items ++ items.now }
+        ensures capacity { self.new.cap ≡ self.old.cap }
+        ensures alloc { self.new.alloc ≡ self.old.alloc }
+        ensures cost { self.new.cost ≡ moving (length items.now) self.old.cost }
+    {
+        let len = self.block.len();
+        self.block.copy_in(len, items);
+        self.block.set_len(len + items.len());
+    }
+}
+
+impl<A: Allocator, G: Growth> Write for ThinVec<u8, A, G> {
+    ghost use Rattle.thin_vec.specs.ThinVec.{capacity_for, cost_at};
+
+    ghost contents = { λ list. Some list.items };
+
+    /// Appends all of `buf`, and answers how many bytes it has.
+    ///
+    /// It is refused as `reserve` is, and then nothing changes. The error's kind is `OutOfMemory` also where the ruled
+    /// capacity overflows.
+    fn write(&mut self, buf: &[u8]) -> io::Result<usize>
+        ensures succeeds { length self.old.items + length buf.now ≤ self.old.cap → IsOk result }
+        ensures succeeds_empty { buf.now ≡ [] → IsOk result }
+        ensures overflow { capacity_for G.rule u8 self.old (length buf.now) ≡ None → IsErrAnd result (λ error. error_kind error ≡ ErrorKind.OutOfMemory) }
+        ensures cause { IfErr result (λ error. error_kind error ≡ ErrorKind.OutOfMemory) }
+        ensures value { IfOk result (λ count. count ≡ length buf.now) }
+        ensures items { OnOk result (self.new.items ≡ self.old.items ++ buf.now) }
+        ensures capacity { OnOk result (capacity_for G.rule u8 self.old (length buf.now) ≡ Some self.new.cap) }
+        ensures had_room { length self.old.items + length buf.now ≤ self.old.cap → self.new.cap ≡ self.old.cap }
+        ensures cost { OnOk result (self.new.cost ≡ moving (length buf.now) (cost_at self.old self.new.cap)) }
+        ensures alloc { self.new.alloc ≡ self.old.alloc }
+        ensures cheap { IsCheap self.old → IsCheap self.new }
+        ensures err { OnErr result (self.new ≡ self.old) }
+    {
+        self.write_all(buf)?;
+        Ok(buf.len())
+    }
+
+    /// Appends all of `buf`.
+    ///
+    /// It is refused as `write` is.
+    fn write_all(&mut self, buf: &[u8]) -> io::Result<()>
+        ensures succeeds { length self.old.items + length buf.now ≤ self.old.cap → IsOk result }
+        ensures succeeds_empty { buf.now ≡ [] → IsOk result }
+        ensures overflow { capacity_for G.rule u8 self.old (length buf.now) ≡ None → IsErrAnd result (λ error. error_kind error ≡ ErrorKind.OutOfMemory) }
+        ensures cause { IfErr result (λ error. error_kind error ≡ ErrorKind.OutOfMemory) }
+        ensures items { OnOk result (self.new.items ≡ self.old.items ++ buf.now) }
+        ensures capacity { OnOk result (capacity_for G.rule u8 self.old (length buf.now) ≡ Some self.new.cap) }
+        ensures had_room { length self.old.items + length buf.now ≤ self.old.cap → self.new.cap ≡ self.old.cap }
+        ensures cost { OnOk result (self.new.cost ≡ moving (length buf.now) (cost_at self.old self.new.cap)) }
+        ensures alloc { self.new.alloc ≡ self.old.alloc }
+        ensures cheap { IsCheap self.old → IsCheap self.new }
+        ensures err { OnErr result (self.new ≡ self.old) }
+    {
+        match self.reserve(buf.len()) {
+            Ok(()) => (),
+            Err(_refused) => return Err(io::Error::from(ErrorKind::OutOfMemory)),
+        }
+        self.append_copies(buf);
+        Ok(())
+    }
+
+    /// Does nothing: what was written is in the list.
+    fn flush(&mut self) -> io::Result<()>
+        ensures succeeds { IsOk result }
+        ensures unchanged { self.new ≡ self.old }
+    {
+        Ok(())
+    }
+}
