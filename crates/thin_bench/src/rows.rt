@@ -1,14 +1,18 @@
 //! The worked rows: a function each, which does what the row says and compares.
 mod bulk;
+mod forms;
 mod plain;
 
 use crate::rows::bulk::{row_15, row_24, row_25, row_27, row_28};
+use crate::rows::forms::{row_3, row_20, row_29, row_30, row_31, row_36};
 use crate::rows::plain::{row_1, row_2, row_4, row_5, row_6, row_17, row_19, row_23};
 use std::alloc::Allocator;
-use thin_vec::ThinVecError;
+use thin_vec::{ThinVec, ThinVecError};
 
 /// The rows that the program runs, by number.
-pub const ROWS: [u32; 13] = [1, 2, 4, 5, 6, 15, 17, 19, 23, 24, 25, 27, 28];
+pub const ROWS: [u32; 19] = [
+    1, 2, 3, 4, 5, 6, 15, 17, 19, 20, 23, 24, 25, 27, 28, 29, 30, 31, 36,
+];
 
 /// Whether a row gave what it is to give, or why a call of it was refused that is not to be.
 pub type Outcome = Result<bool, ThinVecError>;
@@ -18,17 +22,28 @@ pub fn row<A: Allocator + Copy>(alloc: A, number: u32) -> Outcome {
     match number {
         1 => row_1(alloc),
         2 => row_2(alloc),
+        3 => row_3(alloc),
         4 => row_4(alloc),
         5 => row_5(alloc),
         6 => row_6(alloc),
         15 => row_15(alloc),
         17 => row_17(alloc),
         19 => row_19(alloc),
+        20 => row_20(alloc),
         23 => row_23(alloc),
         24 => row_24(alloc),
         25 => row_25(alloc),
         27 => row_27(alloc),
         28 => row_28(alloc),
+        29 => row_29(alloc),
+        30 => row_30(alloc),
+        31 => row_31(alloc),
+        36 => row_36(alloc),
         _ => Ok(false),
     }
+}
+
+// Whether the list has these items and this capacity.
+fn holds<T: PartialEq, A: Allocator>(list: &ThinVec<T, A>, items: &[T], capacity: usize) -> bool {
+    list.as_slice() == items && list.capacity() == capacity
 }

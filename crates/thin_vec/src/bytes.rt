@@ -39,7 +39,7 @@ impl<A: Allocator> ThinVec<u8, A> {
 }
 
 impl<T: Copy, A: Allocator, G: Growth> ThinVec<T, A, G> {
-    // Copies `items` into the spare room, as one run.
+    // Copies `items` into the spare room.
     fn append_copies(&mut self, items: &[T])
         requires room { length self.old.items + length items.now ≤ self.old.cap }
         ensures items { self.new.items ≡ self.old.items ++ items.now }
