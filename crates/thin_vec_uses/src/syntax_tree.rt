@@ -1,6 +1,7 @@
 //! A syntax tree, whose leaves own no block.
-ghost use Rattle.std.specs.Prelude.{◌≡◌, ◌<◌, [], ◌∷◌, ◌++◌, IfErr, IsOk, OnErr, OnOk, length};
+ghost use Rattle.std.specs.Prelude.{◌≡◌, ◌-◌, ◌^◌, ◌<◌, [], ◌∷◌, ◌++◌, IfErr, IsOk, OnErr, OnOk, length, min};
 ghost use Rattle.thin_vec.specs.ThinVec.{IsNew};
+ghost use Rattle.thin_vec_uses.specs.SyntaxTree.{node_count};
 // What a clause reads of a type that holds itself: its fields.
 ghost use Rattle.thin_vec_uses.specs.declared.syntax_tree.Node.{out-Node};
 
@@ -35,5 +36,17 @@ impl Node {
         ensures value_returned { IfErr result (λ refused. refused.value ≡ child) }
     {
         self.children.push(child)
+    }
+
+    /// How many nodes there are, this one and all below it, or `u64::MAX` where there are more.
+    #[tactic(auto, using(crate::proofs::TreeLemmas::node_count_is))]
+    pub fn count(&self) -> u64
+        ensures value { result ≡ min (node_count self.now) (2 ^ 64 - 1) }
+    {
+        let mut count = 1u64;
+        for child in &self.children {
+            count = count.saturating_add(child.count());
+        }
+        count
     }
 }

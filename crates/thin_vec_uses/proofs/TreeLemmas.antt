@@ -1,0 +1,8 @@
+-- The equation of `node_count`.
+use Rattle.std.proofs.Common.{◌≡◌, ◌+◌, map, sum}
+use Rattle.thin_vec_uses.specs.SyntaxTree.{count_step, node_count}
+use Rattle.thin_vec_uses.specs.declared.syntax_tree.Node.{Node, out-Node}
+use Rattle.thin_vec_uses.specs.declared.syntax_tree.Node.TheFolds.{fold_out-Node}
+
+pub node_count_is : (node : Node) → node_count node ≡ 1 + sum (map node_count (out-Node node).children.items)
+node_count_is = fold_out-Node _ count_step
