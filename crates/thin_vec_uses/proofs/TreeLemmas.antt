@@ -1,8 +1,8 @@
--- The equation of `node_count`.
+-- How many nodes a tree has, by the counts of its children.
 use Rattle.std.proofs.Common.{◌≡◌, ◌+◌, map, sum}
-use Rattle.thin_vec_uses.specs.SyntaxTree.{count_step, node_count}
-use Rattle.thin_vec_uses.specs.declared.syntax_tree.Node.{Node, out-Node}
+use Rattle.thin_vec_uses.specs.SyntaxTree.{children_of, count_step, node_count}
+use Rattle.thin_vec_uses.specs.declared.syntax_tree.Node.{Node}
 use Rattle.thin_vec_uses.specs.declared.syntax_tree.Node.TheFolds.{fold_out-Node}
 
-pub node_count_is : (node : Node) → node_count node ≡ 1 + sum (map node_count (out-Node node).children.items)
+pub node_count_is : (node : Node) → node_count node ≡ 1 + sum (map node_count (children_of node).items)
 node_count_is = fold_out-Node _ count_step

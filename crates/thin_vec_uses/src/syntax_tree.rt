@@ -1,9 +1,7 @@
 //! A syntax tree, whose leaves own no block.
-ghost use Rattle.std.specs.Prelude.{◌≡◌, ◌-◌, ◌^◌, ◌<◌, [], ◌∷◌, ◌++◌, IfErr, IsOk, OnErr, OnOk, length, min};
+ghost use Rattle.std.specs.Prelude.{◌≡◌, ◌+◌, ◌-◌, ◌^◌, ◌<◌, [], ◌∷◌, ◌++◌, IfErr, IsOk, OnErr, OnOk, length, min};
 ghost use Rattle.thin_vec.specs.ThinVec.{IsNew};
-ghost use Rattle.thin_vec_uses.specs.SyntaxTree.{node_count};
-// What a clause reads of a type that holds itself: its fields.
-ghost use Rattle.thin_vec_uses.specs.declared.syntax_tree.Node.{out-Node};
+ghost use Rattle.thin_vec_uses.specs.SyntaxTree.{children_of, kind_of, node_count};
 
 use std::alloc::Global;
 use thin_vec::{Rejected, ThinVec};
@@ -15,11 +13,13 @@ pub struct Node {
     pub children: ThinVec<Node, Global>,
 }
 
+#[tactic(auto, using(crate::proofs::TreeLemmas::node_count_is))]
 impl Node {
     /// A node without children. Its list owns no block, so no memory is asked for.
     pub fn leaf(alloc: Global, kind: u32) -> Node
-        ensures kind { (out-Node result).kind ≡ kind }
-        ensures children { IsNew (out-Node result).children alloc }
+        ensures kind { kind_of result ≡ kind }
+        ensures children { IsNew (children_of result) alloc }
+        ensures count { node_count result ≡ 1 }
     {
         Node {
             kind,
@@ -29,9 +29,10 @@ impl Node {
 
     /// Appends `child`, which this node owns afterwards. Refused, it is handed back with all that is below it.
     pub fn add_child(&mut self, child: Node) -> Result<(), Rejected<Node>>
-        ensures succeeds { length (out-Node self.old).children.items < (out-Node self.old).children.cap → IsOk result }
-        ensures children { OnOk result ((out-Node self.new).children.items ≡ (out-Node self.old).children.items ++ child ∷ []) }
-        ensures kind { (out-Node self.new).kind ≡ (out-Node self.old).kind }
+        ensures succeeds { length (children_of self.old).items < (children_of self.old).cap → IsOk result }
+        ensures kind { kind_of self.new ≡ kind_of self.old }
+        ensures children { OnOk result ((children_of self.new).items ≡ (children_of self.old).items ++ child ∷ []) }
+        ensures count { OnOk result (node_count self.new ≡ node_count self.old + node_count child) }
         ensures err { OnErr result (self.new ≡ self.old) }
         ensures value_returned { IfErr result (λ refused. refused.value ≡ child) }
     {
@@ -39,7 +40,6 @@ impl Node {
     }
 
     /// How many nodes there are, this one and all below it, or `u64::MAX` where there are more.
-    #[tactic(auto, using(crate::proofs::TreeLemmas::node_count_is))]
     pub fn count(&self) -> u64
         ensures value { result ≡ min (node_count self.now) (2 ^ 64 - 1) }
     {

@@ -14,6 +14,7 @@ fn a_leaf_owns_no_block(rt: HostRuntime) -> Result<(), Fail> {
     let mut sum = Node::leaf(alloc, 1);
     sum.add_child(Node::leaf(alloc, 2)).ok().ok_or("memory")?;
     sum.add_child(Node::leaf(alloc, 3)).ok().ok_or("memory")?;
+    assert_eq!(rt; sum.count(), 3);
     assert!(rt; sum.children.has_capacity());
     for child in &sum.children {
         assert!(rt; !child.children.has_capacity());
