@@ -4,7 +4,7 @@ ghost use Rattle.std.specs.Prelude.{◌≡◌, ◌<◌, [], ◌∷◌, ◌++◌,
 use std::alloc::Allocator;
 use thin_vec::{Growth, ThinVec};
 
-/// Appends `value`, or hands it back where memory is refused: no value is lost.
+/// Appends `value`, or hands it back where the push is refused: no value is lost.
 pub fn push_or_return<T: Drop, A: Allocator, G: Growth>(
     list: &mut ThinVec<T, A, G>,
     value: T,
