@@ -78,7 +78,8 @@ impl Write for Failing<'_> {
     }
 }
 
-const REPORT: &str = "row 1 ok\nrow 2 ok\nrow 3 ok\nrow 4 ok\nrow 5 ok\nrow 6 ok\nrow 15 ok\nrow 17 ok\n\
+const REPORT: &str =
+    "row 1 ok\nrow 2 ok\nrow 3 ok\nrow 4 ok\nrow 5 ok\nrow 6 ok\nrow 15 ok\nrow 17 ok\n\
     row 19 ok\nrow 20 ok\nrow 23 ok\nrow 24 ok\nrow 25 ok\nrow 27 ok\nrow 28 ok\nrow 29 ok\n\
     row 30 ok\nrow 31 ok\nrow 36 ok\n19 rows ok\n";
 

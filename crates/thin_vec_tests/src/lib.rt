@@ -11,6 +11,8 @@ mod clones;
 #[cfg(test)]
 mod comparisons;
 #[cfg(test)]
+mod converting;
+#[cfg(test)]
 mod counted;
 #[cfg(test)]
 mod drops;
