@@ -133,3 +133,13 @@ fn gives_the_blocks_of_inner_lists_back(rt: HostRuntime) -> Result<(), Fail> {
     assert_eq!(rt; refusing.blocks(), 0);
     Ok(())
 }
+
+#[test]
+fn test_drop_empty(rt: HostRuntime) -> Result<(), Fail> {
+    let refusing = Refusing::new(rt.alloc(), 1);
+    {
+        let _list = ThinVec::<u64, _>::new(&refusing);
+    }
+    assert_eq!(rt; refusing.requests(), 0);
+    Ok(())
+}

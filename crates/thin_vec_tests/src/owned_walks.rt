@@ -5,6 +5,8 @@ ghost use Rattle.std.specs.List.{fold};
 #[cfg(test)]
 use crate::counted::Counted;
 #[cfg(test)]
+use crate::standing::assert_list;
+#[cfg(test)]
 use refusing::Refusing;
 use std::alloc::{AllocError, Allocator, Global};
 #[cfg(test)]
@@ -99,6 +101,46 @@ fn test_into_iter_as_mut_slice(rt: HostRuntime) -> Result<(), Fail> {
     items.as_mut_slice()[1] = 'y';
     assert_eq!(rt; items.next(), Some('x'));
     assert_eq!(rt; items.as_slice(), ['y', 'c'].as_slice());
+    Ok(())
+}
+
+#[test]
+fn test_into_iter_clone(rt: HostRuntime) -> Result<(), Fail> {
+    let refusing = Refusing::new(rt.alloc(), 2);
+    let alloc = &refusing;
+    let mut items = thin_vec![alloc => 1, 2, 3]?.into_iter();
+    assert!(rt; items.clone(alloc).is_err());
+    assert_eq!(rt; refusing.blocks(), 1);
+    assert_eq!(rt; items.clone(alloc)?.as_slice(), [1, 2, 3].as_slice());
+    assert_eq!(rt; items.next(), Some(1));
+    assert_eq!(rt; items.clone(alloc)?.as_slice(), [2, 3].as_slice());
+    assert_eq!(rt; items.next_back(), Some(3));
+    assert_eq!(rt; items.next(), Some(2));
+    refusing.refuse(1);
+    assert_eq!(rt; items.clone(alloc)?.as_slice(), [].as_slice());
+    Ok(())
+}
+
+#[test]
+fn test_move_items(rt: HostRuntime) -> Result<(), Fail> {
+    let alloc = rt.alloc();
+    let mut moved = ThinVec::new(alloc);
+    moved
+        .extend(thin_vec![alloc => 1, 2, 3]?.into_iter())
+        .ok()
+        .ok_or("memory")?;
+    moved
+        .extend(thin_vec![alloc => 1, 2, 3]?.into_iter().rev())
+        .ok()
+        .ok_or("memory")?;
+    assert_list(&rt, &moved, &[1, 2, 3, 3, 2, 1], 8);
+
+    let mut units = ThinVec::new(alloc);
+    units
+        .extend(thin_vec![alloc => (), (), ()]?.into_iter())
+        .ok()
+        .ok_or("memory")?;
+    assert_eq!(rt; units.len(), 3);
     Ok(())
 }
 
