@@ -147,10 +147,16 @@ fn test_move_items(rt: HostRuntime) -> Result<(), Fail> {
 #[test]
 fn test_into_iter_debug(rt: HostRuntime) -> Result<(), Fail> {
     let alloc = rt.alloc();
-    let items = thin_vec![alloc => 'a', 'b', 'c']?.into_iter();
+    let letters = thin_vec![alloc => 'a', 'b', 'c']?.into_iter();
     assert_eq!(rt;
-        format!(in alloc; "{items:?}")?.as_str(),
+        format!(in alloc; "{letters:?}")?.as_str(),
         "IntoIter(['a', 'b', 'c'])"
+    );
+    let mut numbers = thin_vec![alloc => 1, 2, 3]?.into_iter();
+    assert_eq!(rt; numbers.next(), Some(1));
+    assert_eq!(rt;
+        format!(in alloc; "{numbers:?}")?.as_str(),
+        "IntoIter([2, 3])"
     );
     Ok(())
 }
