@@ -61,9 +61,9 @@ impl<T, A: Allocator, G: Growth> ThinVec<T, A, G> {
         }
     }
 
-    /// The items, in order, as an array, where there are N of them. It takes no memory, and the list's block is given back.
+    /// The items, in order, as an array, where there are N of them. The list's block is given back.
     ///
-    /// A list of any other length is handed back as it was.
+    /// A list of any other length is handed back as it was. No memory is asked for.
     pub fn into_array<const N: usize>(mut self) -> Result<[T; N], ThinVec<T, A, G>>
         ensures variant { IsOk result ↔ (length self.items ≡ N) }
         ensures items { IfOk result (λ items. items ≡ self.items) }
@@ -83,7 +83,7 @@ impl<T, A: Allocator, G: Growth> ThinVec<T, A, G> {
         ensures value { result ≡ self.old.items }
         ensures items { self.new.items ≡ [] }
     {
-        // An array of them is small enough, as the capacity is.
+        // Their number fits, as the capacity does.
         let _len = self.len();
         let items = self.block.take_array(0);
         self.block.set_len(0);
