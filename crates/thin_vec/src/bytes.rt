@@ -109,6 +109,7 @@ impl<A: Allocator, G: Growth> Write for ThinVec<u8, A, G> {
         ensures succeeds { IsOk result }
         ensures unchanged { self.new ≡ self.old }
     {
+        // No byte is held back.
         Ok(())
     }
 }
