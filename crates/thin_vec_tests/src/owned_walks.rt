@@ -140,7 +140,11 @@ fn test_move_items(rt: HostRuntime) -> Result<(), Fail> {
         .extend(thin_vec![alloc => (), (), ()]?.into_iter())
         .ok()
         .ok_or("memory")?;
-    assert_eq!(rt; units.len(), 3);
+    units
+        .extend(thin_vec![alloc => (), (), ()]?.into_iter().rev())
+        .ok()
+        .ok_or("memory")?;
+    assert_eq!(rt; units.len(), 6);
     Ok(())
 }
 
