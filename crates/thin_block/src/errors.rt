@@ -11,7 +11,7 @@ pub enum ThinVecError {
     /// The capacity that the call needs does not fit. It is found before memory is asked for.
     #[error("capacity overflow")]
     CapacityOverflow,
-    /// The allocator was refused memory.
+    /// Memory was refused, or the clone of an item.
     #[error("out of memory")]
     OutOfMemory,
 }

@@ -18,6 +18,7 @@ use Rattle.thin_block.proofs.CapacityLemmas.{ruled-grows}
 use Rattle.thin_block.proofs.SlotsLemmas.{laid-one}
 use Rattle.thin_vec.specs.Filling.{IsFilled, IsLoose}
 use Rattle.thin_vec.specs.ThinVec.{Thin, capacity_for, cost_at}
+use Rattle.thin_vec.proofs.CloneLemmas.{moving-one}
 use Rattle.thin_vec.proofs.ListLemmas.{length-full}
 use Rattle.thin_vec.proofs.ThinVecLemmas.{cap-kept}
 
@@ -60,8 +61,7 @@ module _ {T : Type 0} where
 -- one move more
 pub moving-more : (i k : ℕ) (now before : Cost) → k ≤ i → now ≡ moving (i - k) before → moving 1 now ≡ moving (i + 1 - k) before
 moving-more i k now before order e =
-    let n : before.moves + (i - k) + 1 ≡ before.moves + (i + 1 - k) = omega (arith, order) in
-    ap (λ c. moving 1 c) e ∙ (λ j. record { blocks = before.blocks; grown = before.grown; moves = n j })
+    ap (λ c. moving 1 c) e ∙ (moving-one (i - k) before ∙ ap (λ n. moving n before) (let f : i - k + 1 ≡ i + 1 - k = omega (arith, order) in f))
 
 -- ---- how a capacity grows over several calls
 

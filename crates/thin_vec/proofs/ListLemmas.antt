@@ -10,7 +10,8 @@ use Rattle.thin_block.specs.declared.block.Block.{Block}
 use Rattle.thin_vec.specs.ThinVec.{IsThin}
 
 module _ {T : Type 0} where
-  items-empty : (k : ℕ) → items_in {T = T} (replicate k None) ≡ []
+  -- empty slots hold no item
+  pub items-empty : (k : ℕ) → items_in {T = T} (replicate k None) ≡ []
   items-empty zero = refl
   items-empty (suc k) = items-empty k
 

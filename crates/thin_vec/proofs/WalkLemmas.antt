@@ -14,7 +14,7 @@ use Rattle.thin_vec.specs.IntoIter.{IsWalked, RestInOrder, RestInReverse, rest}
 use Rattle.thin_vec.specs.Lends.{rewritten, with_items}
 use Rattle.thin_vec.specs.ThinVec.{thin_of}
 use Rattle.thin_vec.proofs.LendLemmas.{length-rewritten, over-front}
-use Rattle.thin_vec.proofs.ListLemmas.{from-same, full-same, get-some, items-full, length-full, slot-get}
+use Rattle.thin_vec.proofs.ListLemmas.{from-same, full-same, get-some, items-empty, items-full, length-full, slot-get}
 
 length-empty : (T : Type 0) (k : ℕ) → length (empty {T = T} k) ≡ k
 length-empty T k = length-replicate {A = Option T} k None
@@ -23,10 +23,6 @@ module _ {T : Type 0} where
   items-behind : (k : ℕ) (s : List (Option T)) → items_in (empty k ++ s) ≡ items_in s
   items-behind zero s = refl
   items-behind (suc k) s = items-behind k s
-
-  items-none : (k : ℕ) → items_in (empty {T = T} k) ≡ []
-  items-none zero = refl
-  items-none (suc k) = items-none k
 
   -- the first item leaves
   set-first : (start k : ℕ) (x : T) (xs : List T) → set (empty start ++ (full (x ∷ xs) ++ empty k)) start None ≡ empty (start + 1) ++ (full xs ++ empty k)
@@ -77,7 +73,7 @@ module _ {T A : Type 0} where
   walking b a xs start end c e n h f =
       let behind : List (Option T) = empty (c - end) in
       let i : items_in b.slots ≡ xs =
-      ap items_in e ∙ (items-behind start (full xs ++ behind) ∙ (items-full xs behind ∙ (ap (λ (ys : List T). xs ++ ys) (items-none (c - end)) ∙ append-nil xs))) in
+      ap items_in e ∙ (items-behind start (full xs ++ behind) ∙ (items-full xs behind ∙ (ap (λ (ys : List T). xs ++ ys) (items-empty (c - end)) ∙ append-nil xs))) in
       let l : length b.slots ≡ c =
       omega (arith, ap length e, length-append (empty start) (full xs ++ behind), length-append (full xs) behind, length-empty T start, length-full xs, length-empty T (c - end)) in
       record {

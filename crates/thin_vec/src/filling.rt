@@ -139,6 +139,7 @@ impl<T, A: Allocator> ThinVec<T, A> {
         ensures rest { IfErr result (λ refused. I.can_next refused.rest × IsFinite (I.remaining refused.rest)) }
         ensures full { IfErr result (λ refused. IsSome refused.in_hand → length refused.list.items ≡ refused.list.cap) }
         ensures err { IfErr result (λ refused. refused.in_hand ≡ None → IsNew refused.list alloc × (refused.rest ≡ iter)) }
+        ensures err_moves { IfErr result (λ refused. refused.list.cost.moves ≡ length refused.list.items) }
         ensures err_alloc { IfErr result (λ refused. refused.list.alloc ≡ alloc) }
         ensures err_cheap { IfErr result (λ refused. IsCheap refused.list) }
     {
