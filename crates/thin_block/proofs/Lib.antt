@@ -3,6 +3,7 @@ mod Walks
 mod HeaderMemory
 mod SlotMemory
 mod ShiftMemory
+mod CopyCall
 mod Sharing
 mod Lending
 pub mod CapacityLemmas

@@ -1,11 +1,13 @@
 //! One slot, or a run of them: items go in, out and along.
 ghost use Rattle.std.specs.Prelude.{◌≡◌, ◌⊎◌, ℕ, ◌+◌, ◌<◌, ◌≤◌, IsSome, length, slice_set};
+ghost use Rattle.core.specs.Mem.Slots.{IsFull, SamePlaces, slots_items, slots_len};
 ghost use Rattle.std.specs.declared.option.Option.TheVariants.{None, Some};
 ghost use Rattle.thin_block.specs.Cost.{Cost, moving};
 ghost use Rattle.thin_block.specs.Slots.{full, slot, run, laid, emptied, moved};
 
 use crate::block::Block;
 use crate::shifts::slide;
+use core::slots::Slots;
 use std::alloc::Allocator;
 
 impl<T, A: Allocator> Block<T, A> {
@@ -198,10 +200,21 @@ impl<T: Copy, A: Allocator> Block<T, A> {
         ensures heap { self.new.heap ≡ self.old.heap }
         ensures cost { self.new.cost ≡ moving (length items.now) self.old.cost }
     {
-        // No capacity is past `isize::MAX`, so no index is.
-        let _whole = self.cap();
-        for k in 0..items.len() {
-            self.put(i + k, items[k]);
+        let at = self.at;
+        unsafe {
+            let room = Slots::from_raw_parts((at.add(2) as *mut T).add(i), items.len());
+            let _copied = copied(room, items).into_raw_parts();
         }
     }
+}
+
+// `row` with a copy of each of `items`, as many as it has places. It is one copy, by std's `Slots::copy_in`.
+fn copied<T: Copy>(mut row: Slots<T>, items: &[T]) -> Slots<T>
+    requires places { slots_len row ≡ length items.now }
+    ensures same { SamePlaces row result }
+    ensures items { slots_items result ≡ items.now }
+    ensures full { IsFull result }
+{
+    row.copy_in(0, items);
+    row
 }
