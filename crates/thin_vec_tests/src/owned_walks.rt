@@ -105,6 +105,12 @@ fn test_into_iter_as_mut_slice(rt: HostRuntime) -> Result<(), Fail> {
 }
 
 #[test]
+fn test_into_iter_count(rt: HostRuntime) -> Result<(), Fail> {
+    assert_eq!(rt; thin_vec![rt.alloc() => 1, 2, 3]?.into_iter().count(), 3);
+    Ok(())
+}
+
+#[test]
 fn test_into_iter_clone(rt: HostRuntime) -> Result<(), Fail> {
     let refusing = Refusing::new(rt.alloc(), 2);
     let alloc = &refusing;

@@ -3,7 +3,7 @@ use crate::filling::push_all;
 use crate::growth_rules::Fourfold;
 use std::alloc::Global;
 use std::test::Fail;
-use thin_vec::ThinVec;
+use thin_vec::{ThinVec, thin_vec};
 
 fn add(amount: i32, items: &mut [i32]) {
     for item in items {
@@ -44,11 +44,15 @@ fn test_split_at_mut(rt: HostRuntime) -> Result<(), Fail> {
 }
 
 #[test]
-fn test_index_mut(rt: HostRuntime) -> Result<(), Fail> {
-    let mut list = ThinVec::new(rt.alloc());
-    push_all(&mut list, 1..4)?;
-    assert_eq!(rt; list.len(), 3);
+fn test_index(rt: HostRuntime) -> Result<(), Fail> {
+    let list = thin_vec![rt.alloc() => 1, 2, 3]?;
     assert_eq!(rt; list[1], 2);
+    Ok(())
+}
+
+#[test]
+fn test_index_mut(rt: HostRuntime) -> Result<(), Fail> {
+    let mut list = thin_vec![rt.alloc() => 1, 2, 3]?;
     list[1] = 22;
     assert_eq!(rt; list.as_slice(), [1, 22, 3].as_slice());
     Ok(())
