@@ -198,12 +198,13 @@ fn fill_slots<T, A: Allocator, I: Iterator<Item = T>>(
 {
     let mut rest = iter;
     let mut i = start;
-    while let Some(item) = rest.next() {
-        if i == end {
-            return (rest, i, Some(item));
-        }
+    while i < end {
+        let Some(item) = rest.next() else {
+            return (rest, i, None);
+        };
         block.put(i, item);
         i += 1;
     }
-    (rest, i, None)
+    let over = rest.next();
+    (rest, i, over)
 }

@@ -5,8 +5,8 @@ use Rattle.thin_block.specs.Cost.{moving}
 use Rattle.thin_block.specs.Slots.{full, laid}
 use Rattle.thin_vec.proofs.filling.fill_slots.Given as goal
 
-abbrev pub invariant-loop-item : goal.invariant-loop-item
-invariant-loop-item g l = record {
+abbrev pub invariant-loop-i : goal.invariant-loop-i
+invariant-loop-i g l = record {
   can : g.I.Iterator.can_next l.rest;
   finite : IsFinite (g.I.Iterator.remaining l.rest);
   placed : (xs : List g.row.T.Denot) × (l.block.slots ≡ laid l.start (full xs) l.fn.block.slots) × (l.i ≡ l.start + length xs) × Yields g.I.Iterator.next_gives l.fn.iter xs l.rest;
