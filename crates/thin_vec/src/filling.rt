@@ -33,6 +33,7 @@ impl<T, A: Allocator, G: Growth> ThinVec<T, A, G> {
 
         // Accepted or refused, each item that came in has moved once.
         ensures capacity { IsLoose G.rule T.row self.old.cap self.new.cap }
+        ensures had_room { length self.old.items + size (I.remaining iter) ≤ self.old.cap → self.new.cap ≡ self.old.cap }
         ensures cost { IsFilled self.old self.new }
         ensures alloc { self.new.alloc ≡ self.old.alloc }
         ensures cheap { IsCheap self.old → IsCheap self.new }
@@ -62,6 +63,7 @@ impl<T, A: Allocator, G: Growth> ThinVec<T, A, G> {
         ensures cause { IfErr result (λ refused. refused.cause ≡ ThinVecError.CapacityOverflow → capacity_for G.rule T.row self.new 1 ≡ None) }
         ensures items { OnOk result ((xs : List T) × Drains I.next_gives iter xs × (self.new.items ≡ self.old.items ++ xs)) }
         ensures capacity { IsLoose G.rule T.row self.old.cap self.new.cap }
+        ensures had_room { length self.old.items + size (I.remaining iter) ≤ self.old.cap → self.new.cap ≡ self.old.cap }
         ensures cost { IsFilled self.old self.new }
         ensures alloc { self.new.alloc ≡ self.old.alloc }
         ensures cheap { IsCheap self.old → IsCheap self.new }

@@ -59,6 +59,7 @@ loop-item-preserved g c =
       );
       nearer = omega (arith, held.nearer, nearer, long);
       capacity = loose-join rule T law v.cap u.cap z.cap held.capacity (subst (λ n. IsLoose rule T n z.cap) c.fill_up-left.ensures.capacity grown);
+      had_room = λ fit. let same = held.had_room fit in pushed.had_room (omega (arith, fit, held.nearer, nearer, same, c.fill_up-left.ensures.capacity)) ∙ (c.fill_up-left.ensures.capacity ∙ same);
       cost = filled-join v u z low (omega (arith, high, c.fill_up-left.ensures.capacity)) (omega (arith, some)) held.cost
           (filled-join u w z (omega (arith, c.fill_up-left.ensures.capacity)) high (omega (arith, more)) spare push);
       alloc = pushed.alloc ∙ (c.fill_up-left.ensures.alloc ∙ held.alloc);

@@ -13,6 +13,7 @@ invariant-loop-item g l = record {
   placed : (xs : List g.row.T.Denot) × (l.self.items ≡ l.fn.self.items ++ xs) × Yields g.I.Iterator.next_gives l.fn.iter xs l.rest;
   nearer : length l.self.items + size (g.I.Iterator.remaining l.rest) ≤ length l.fn.self.items + size (g.I.Iterator.remaining l.fn.iter);
   capacity : IsLoose g.G.Growth.rule (param 0 g.row.T) l.fn.self.cap l.self.cap;
+  had_room : length l.fn.self.items + size (g.I.Iterator.remaining l.fn.iter) ≤ l.fn.self.cap → l.self.cap ≡ l.fn.self.cap;
   cost : IsFilled l.fn.self l.self;
   alloc : l.self.alloc ≡ l.fn.self.alloc;
   cheap : IsCheap l.fn.self → IsCheap l.self;
