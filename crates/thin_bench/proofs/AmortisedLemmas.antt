@@ -1,11 +1,11 @@
 -- What a run from a new list has cost.
-use Rattle.std.proofs.Common.{◌≡◌, ℕ, zero, suc, ◌+◌, ◌*◌, ◌<◌, ◌≤◌, List, [], ◌∷◌, ◌++◌, length, arith, ap, sym, subst, ◌∙◌, refl, inl, inr}
+use Rattle.std.proofs.Common.{if◌then◌else◌, Bool, true, false, eqb, ◌≡◌, ℕ, zero, suc, ◌+◌, ◌*◌, ◌<◌, ◌≤◌, List, [], ◌∷◌, ◌++◌, length, arith, ap, sym, subst, ◌∙◌, refl, inl, inr}
 use Rattle.std.proofs.lemmas.Bool.{cases_lt}
 use Rattle.std.proofs.lemmas.List.{length_push, length-append}
 use Rattle.std.specs.Prelude.{◌⊎◌, Option}
 use Rattle.std.specs.Borrow.{RattleType}
 use Rattle.std.specs.Option.{option_to_list}
-use Rattle.thin_vec.specs.Cost.{Cost}
+use Rattle.thin_vec.specs.Cost.{Cost, growing}
 use Rattle.thin_vec.specs.Costs.{IsCheap, IsCheapAt}
 use Rattle.thin_vec.specs.Growth.{Rule, KeepsLaw}
 use Rattle.thin_vec.specs.ThinVec.{Thin, IsNew, cost_at}
@@ -24,11 +24,70 @@ accepted-cons (Push x) commands (Item o) replies = omega arith
 accepted-cons (Push x) commands (Returned y cause) replies = omega arith
 accepted-cons Pop commands reply replies = omega arith
 
+module _ {T A : Type 0} (rule : Rule) (R : RattleType) where
+  cost_at-moves : (v : Thin T A) (c : ℕ) → (cost_at v c).moves ≡ v.cost.moves
+  cost_at-moves v c = go (eqb c v.cap)
+    where
+      go : (b : Bool) → (if b then v.cost else growing (length v.items) v.cost).moves ≡ v.cost.moves
+      go true = refl
+      go false = refl
+
+  step-moves : (v w : Thin T A) (command : Command T) (reply : Reply T) → Steps rule R v command reply w → w.cost.moves ≡ v.cost.moves + accepted (command ∷ []) (reply ∷ [])
+  step-moves v w (Push x) Done s = omega (arith, ap (λ c. c.moves) s.cost, cost_at-moves v w.cap)
+  step-moves v w (Push x) (Returned y cause) s = omega (arith, ap (λ z. z.cost.moves) s.unchanged)
+  step-moves v w (Push x) (Item o) s = absurd s
+  step-moves v w Pop (Item o) s = omega (arith, ap (λ c. c.moves) s.cost)
+  step-moves v w Pop Done s = absurd s
+  step-moves v w Pop (Returned y cause) s = absurd s
+
+  pub runs-moves : (v w : Thin T A) (commands : List (Command T)) (replies : List (Reply T)) → Runs rule R v commands replies w → w.cost.moves ≡ v.cost.moves + accepted commands replies
+  runs-moves v w [] [] r = omega (arith, ap (λ z. z.cost.moves) r)
+  runs-moves v w [] (reply ∷ replies) r = absurd r
+  runs-moves v w (command ∷ commands) [] r = absurd r
+  runs-moves v w (command ∷ commands) (reply ∷ replies) r =
+      omega (arith, accepted-cons command commands reply replies, step-moves v r.0 command reply r.1.0, runs-moves r.0 w commands replies r.1.1)
+
 module _ {T A : Type 0} (rule : Rule) (R : RattleType) (law : KeepsLaw rule) where
-  -- after m accepted pushes: the list is cheap, holds at most m items, and its growths have copied fewer than 2m, or none
-  pub record IsAmortised (v : Thin T A) (m : ℕ) : Type 0 where
+  -- a cheap list that has room for its items
+  pub record IsPaid (v : Thin T A) : Type 0 where
     pub cheap : IsCheap v
     pub room : length v.items ≤ v.cap
+
+  pushed-paid : (v w : Thin T A) (x : T) → IsPaid v → IsPushed rule R v x w → IsPaid w
+  pushed-paid v w x a s =
+      let cheap = cheap-regrown rule R law v 1 w.cap a.cheap a.room s.capacity in
+      let more : length w.items ≡ length v.items + 1 = ap length s.items ∙ length_push v.items x in
+      record {
+        cheap = rw s.cost (record { none = cheap.none; grown = cheap.grown; blocks = cheap.blocks });
+        room = elim (cases_lt v.cap (length v.items + 1)) [
+          | inl full ↦ let g = cap-grown rule R law v 1 w.cap full s.capacity in omega (arith, more, g.0)
+          | inr spare ↦ let same = cap-kept rule R law v 1 w.cap spare s.capacity in omega (arith, more, same)
+        ];
+      }
+
+  popped-paid : (v w : Thin T A) (o : Option T) → IsPaid v → IsPopped rule R v o w → IsPaid w
+  popped-paid v w o a s =
+      let fewer : length v.items ≡ length w.items + length (option_to_list o) = ap length s.items ∙ length-append w.items (option_to_list o) in
+      let kept : length v.items ≤ v.cap = a.room in
+      record { cheap = rw (s.cost, s.capacity) a.cheap; room = omega (arith, fewer, kept, s.capacity) }
+
+  step-paid : (v w : Thin T A) (command : Command T) (reply : Reply T) → IsPaid v → Steps rule R v command reply w → IsPaid w
+  step-paid v w (Push x) Done a s = pushed-paid v w x a s
+  step-paid v w (Push x) (Returned y cause) a s = rw s.unchanged a
+  step-paid v w (Push x) (Item o) a s = absurd s
+  step-paid v w Pop (Item o) a s = popped-paid v w o a s
+  step-paid v w Pop Done a s = absurd s
+  step-paid v w Pop (Returned y cause) a s = absurd s
+
+  runs-paid : (v w : Thin T A) (commands : List (Command T)) (replies : List (Reply T)) → IsPaid v → Runs rule R v commands replies w → IsPaid w
+  runs-paid v w [] [] a r = rw r a
+  runs-paid v w [] (reply ∷ replies) a r = absurd r
+  runs-paid v w (command ∷ commands) [] a r = absurd r
+  runs-paid v w (command ∷ commands) (reply ∷ replies) a r = runs-paid r.0 w commands replies (step-paid v r.0 command reply a r.1.0) r.1.1
+
+  -- after m accepted pushes: the list is cheap, holds at most m items, and its growths have copied fewer than 2m, or none
+  pub record IsAmortised (v : Thin T A) (m : ℕ) : Type 0 where
+    pub paid : IsPaid v
     pub items : length v.items ≤ m
     pub copied : (v.cost.grown < 2 * m) ⊎ (v.cost.grown ≡ 0)
 
@@ -38,27 +97,24 @@ module _ {T A : Type 0} (rule : Rule) (R : RattleType) (law : KeepsLaw rule) whe
       let grown : v.cost.grown ≡ 0 = ap (λ c. c.grown) new.cost in
       let none : length v.items ≡ 0 = ap length new.items in
       record {
-        cheap = record { none = λ _. (blocks, grown); grown = λ some. absurd (omega (arith, new.capacity, some)); blocks = λ some. absurd (omega (arith, new.capacity, some)) };
-        room = omega (arith, none);
+        paid = record {
+          cheap = record { none = λ _. (blocks, grown); grown = λ some. absurd (omega (arith, new.capacity, some)); blocks = λ some. absurd (omega (arith, new.capacity, some)) };
+          room = omega (arith, none);
+        };
         items = omega (arith, none);
         copied = inr grown;
       }
 
   pushed-amortised : (v w : Thin T A) (m : ℕ) (x : T) → IsAmortised v m → IsPushed rule R v x w → IsAmortised w (m + 1)
   pushed-amortised v w m x a s =
-      let cheap = cheap-regrown rule R law v 1 w.cap a.cheap a.room s.capacity in
       let paid : w.cost.grown ≡ (cost_at v w.cap).grown = ap (λ c. c.grown) s.cost in
       let more : length w.items ≡ length v.items + 1 = ap length s.items ∙ length_push v.items x in
       record {
-        cheap = rw s.cost (record { none = cheap.none; grown = cheap.grown; blocks = cheap.blocks });
-        room = elim (cases_lt v.cap (length v.items + 1)) [
-          | inl full ↦ let g = cap-grown rule R law v 1 w.cap full s.capacity in omega (arith, more, g.0)
-          | inr spare ↦ let same = cap-kept rule R law v 1 w.cap spare s.capacity in omega (arith, more, same)
-        ];
+        paid = pushed-paid v w x a.paid s;
         items = let few = a.items in omega (arith, more, few);
         copied = elim (cases_lt v.cap (length v.items + 1)) [
           | inl full ↦ let grown : w.cost.grown ≡ v.cost.grown + length v.items = paid ∙ ap (λ c. c.grown) (cost_at-grown rule R law v 1 w.cap full s.capacity) in
-              inl (copied-growing v.cap (length v.items) m v.cost w.cost.grown a.cheap a.room (omega arith) a.items grown)
+              inl (copied-growing v.cap (length v.items) m v.cost w.cost.grown a.paid.cheap a.paid.room (omega arith) a.items grown)
           | inr spare ↦ copied-kept m v.cost.grown w.cost.grown a.copied (paid ∙ ap (λ c. c.grown) (cost_at-kept rule R law v 1 w.cap spare s.capacity))
         ];
       }
@@ -78,9 +134,8 @@ module _ {T A : Type 0} (rule : Rule) (R : RattleType) (law : KeepsLaw rule) whe
   popped-amortised v w m o a s =
       let e : m + 0 ≡ m = omega arith in
       let fewer : length v.items ≡ length w.items + length (option_to_list o) = ap length s.items ∙ length-append w.items (option_to_list o) in
-      let kept : length v.items ≤ v.cap = a.room in
       let few : length v.items ≤ m = a.items in
-      rw e (record { cheap = rw (s.cost, s.capacity) a.cheap; room = omega (arith, fewer, kept, s.capacity); items = omega (arith, fewer, few); copied = rw s.cost a.copied })
+      rw e (record { paid = popped-paid v w o a.paid s; items = omega (arith, fewer, few); copied = rw s.cost a.copied })
 
   step-amortised : (v w : Thin T A) (m : ℕ) (command : Command T) (reply : Reply T) → IsAmortised v m → Steps rule R v command reply w → IsAmortised w (m + accepted (command ∷ []) (reply ∷ []))
   step-amortised v w m (Push x) Done a s = pushed-amortised v w m x a s
@@ -117,6 +172,8 @@ module _ {T A : Type 0} (rule : Rule) (R : RattleType) (law : KeepsLaw rule) whe
         replies = replies;
         appended = appended;
         allowed = run;
-        cheap = λ is_new. (amortised is_new).cheap;
+        moves = runs-moves rule R old new commands replies run;
+        cheap = λ is_new. (amortised is_new).paid.cheap;
+        stays_cheap = λ room cheap. (runs-paid old new commands replies (record { cheap = cheap; room = room }) run).cheap;
         amortised = λ is_new some. copied-run old new m (amortised is_new) some;
       }

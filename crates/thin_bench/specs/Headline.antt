@@ -1,5 +1,5 @@
 -- The headline: what is known of every list of commands on a list, for every item type that may be dropped and every growth rule.
-use Rattle.std.specs.Prelude.{◌≡◌, ◌*◌, ◌<◌, List, ◌++◌}
+use Rattle.std.specs.Prelude.{◌≡◌, ◌+◌, ◌*◌, ◌<◌, ◌≤◌, List, ◌++◌, length}
 use Rattle.std.specs.Borrow.{RattleType}
 use Rattle.thin_vec.specs.Costs.{IsCheap}
 use Rattle.thin_vec.specs.Growth.{Rule}
@@ -14,8 +14,11 @@ module _ {T A : Type 0} (rule : Rule) (R : RattleType) where
     pub replies : List (Reply T)
     pub appended : after ≡ before ++ replies
     pub allowed : Runs rule R old commands replies new
+    -- each accepted push is one move, and no other command makes any
+    pub moves : new.cost.moves ≡ old.cost.moves + accepted commands replies
     -- from a new list, a capacity c other than 0 has cost fewer than c copied items and at most as many blocks as c has
-    -- binary digits
+    -- binary digits; and so it is from any list of which this was true before
     pub cheap : IsNew old old.alloc → IsCheap new
+    pub stays_cheap : length old.items ≤ old.cap → IsCheap old → IsCheap new
     -- and m accepted pushes have cost fewer than 2m copied items
     pub amortised : IsNew old old.alloc → 0 < accepted commands replies → new.cost.grown < 2 * accepted commands replies

@@ -41,7 +41,7 @@ pub fn run<T: Drop, A: Allocator + Copy, G: Growth>(
 ) -> Result<(), ThinVecError>
     ensures succeeds { vec_len replies.old + vec_len commands ≤ vec_capacity replies.old → IsOk result }
     ensures ok { OnOk result (Headline G.rule T.row list.old commands.items replies.old.items replies.new.items list.new) }
-    ensures err { OnErr result ((list.new ≡ list.old) × (replies.new.items ≡ replies.old.items)) }
+    ensures err { OnErr result ((list.new ≡ list.old) × (replies.new.items ≡ replies.old.items) × (vec_capacity replies.new ≡ vec_capacity replies.old)) }
     ensures cause { IfErr result (λ cause. cause ≡ ThinVecError.OutOfMemory) }
 {
     match replies.reserve(commands.len()) {

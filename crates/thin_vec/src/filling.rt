@@ -132,6 +132,7 @@ impl<T, A: Allocator> ThinVec<T, A> {
         ensures cause { IfErr result (λ refused. refused.cause ≡ ThinVecError.CapacityOverflow → OverflowsNew doubling T.row refused.list refused.in_hand (I.remaining refused.rest)) }
         ensures items { IfOk result (λ list. Drains I.next_gives iter list.items) }
         ensures runs { IfOk result (λ list. WholeRun I.next_gives iter (λ p. list.items ≡ p.items)) }
+        ensures capacity { size (I.remaining iter) ≡ 0 → IfOk result (λ list. list.cap ≡ 0) }
         ensures moves { IfOk result (λ list. list.cost.moves ≡ length list.items) }
         ensures alloc { IfOk result (λ list. list.alloc ≡ alloc) }
         ensures cheap { IfOk result (λ list. IsCheap list) }
