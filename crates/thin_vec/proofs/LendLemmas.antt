@@ -6,30 +6,27 @@ use Rattle.std.proofs.lemmas.List.{length-take-le}
 use Rattle.thin_block.specs.Lends.{over, with_item as block_with_item, with_items as block_with_items}
 use Rattle.thin_block.specs.Slots.{empty, full, items_in}
 use Rattle.thin_block.specs.declared.block.Block.{Block}
-use Rattle.thin_vec.specs.Lends.{rewritten, with_item, with_items}
+use Rattle.std.specs.List.{length_refill, refill}
+use Rattle.thin_vec.specs.Lends.{with_item, with_items}
 use Rattle.thin_vec.specs.ThinVec.{IsThin, thin_of}
 use Rattle.thin_vec.proofs.EditLemmas.{full-set}
 use Rattle.thin_vec.proofs.ListLemmas.{Settled, from-same, settled, thin-room}
 
 module _ {T : Type 0} where
   -- what is written past the items is lost
-  pub over-front : (xs : List T) (k : ℕ) (ws : List T) → over (full xs ++ empty k) 0 ws ≡ full (rewritten xs ws) ++ empty k
+  pub over-front : (xs : List T) (k : ℕ) (ws : List T) → over (full xs ++ empty k) 0 ws ≡ full (refill (length xs) xs ws) ++ empty k
   over-front [] zero ws = refl
   over-front [] (suc k) ws = refl
   over-front (x ∷ xs) k [] = ap (λ l. full l ++ empty k) (sym (take-length (x ∷ xs)))
   over-front (x ∷ xs) k (w ∷ ws) = ap (λ l. Some w ∷ l) (over-front xs k ws)
 
-  pub length-rewritten : (xs ws : List T) → length (rewritten xs ws) ≡ length xs
-  length-rewritten xs ws =
-      length-take-le (length xs) (ws ++ drop (length ws) xs) (omega (arith, length-append ws (drop (length ws) xs), length-drop (length ws) xs))
-
 module _ {T A : Type 0} where
-  pub settle-over : (b b' : Block T A) (a : A) (ws : List T) → IsThin b a → b'.slots ≡ over b.slots 0 ws → b'.len ≡ b.len → b'.heap ≡ b.heap → Settled b' a (rewritten (items_in b.slots) ws) (length b.slots)
+  pub settle-over : (b b' : Block T A) (a : A) (ws : List T) → IsThin b a → b'.slots ≡ over b.slots 0 ws → b'.len ≡ b.len → b'.heap ≡ b.heap → Settled b' a (refill (length (items_in b.slots)) (items_in b.slots) ws) (length b.slots)
   settle-over b b' a ws t s l f =
       let xs = items_in b.slots in
-      let same = length-rewritten xs ws in
-      settled b' a (rewritten xs ws) (length b.slots)
-      (s ∙ (ap (λ r. over r 0 ws) t.packed.row ∙ (over-front xs (length b.slots - length xs) ws ∙ ap (λ n. full (rewritten xs ws) ++ empty (length b.slots - n)) (sym same))))
+      let same = sym (length_refill (length xs) xs ws refl) in
+      settled b' a (refill (length xs) xs ws) (length b.slots)
+      (s ∙ (ap (λ r. over r 0 ws) t.packed.row ∙ (over-front xs (length b.slots - length xs) ws ∙ ap (λ n. full (refill (length xs) xs ws) ++ empty (length b.slots - n)) (sym same))))
       (l ∙ (t.packed.len ∙ sym same)) (omega (arith, same, thin-room b a t)) (from-same b b' a t.from f)
 
   -- the list behind a block whose items were written

@@ -11,9 +11,10 @@ use Rattle.thin_block.specs.Lends.{over, with_items as block_with_items}
 use Rattle.thin_block.specs.Slots.{empty, full, items_in, slot}
 use Rattle.thin_block.specs.declared.block.Block.{Block}
 use Rattle.thin_vec.specs.IntoIter.{IsWalked, RestInOrder, RestInReverse, rest}
-use Rattle.thin_vec.specs.Lends.{rewritten, with_items}
+use Rattle.std.specs.List.{length_refill, refill}
+use Rattle.thin_vec.specs.Lends.{with_items}
 use Rattle.thin_vec.specs.ThinVec.{thin_of}
-use Rattle.thin_vec.proofs.LendLemmas.{length-rewritten, over-front}
+use Rattle.thin_vec.proofs.LendLemmas.{over-front}
 use Rattle.thin_vec.proofs.ListLemmas.{from-same, full-same, get-some, items-empty, items-full, length-full, slot-get}
 
 length-empty : (T : Type 0) (k : ℕ) → length (empty {T = T} k) ≡ k
@@ -173,13 +174,13 @@ module _ {T A : Type 0} where
 
   -- what remains was written
   pub settle-written : (b b' : Block T A) (a : A) (start end : ℕ) (ws : List T) → IsWalked b a start end → b'.slots ≡ over b.slots start ws → b'.heap ≡ b.heap
-      → Walking b' a (rewritten (items_in b.slots) ws) start end (length b.slots)
+      → Walking b' a (refill (length (items_in b.slots)) (items_in b.slots) ws) start end (length b.slots)
   settle-written b b' a start end ws t s f =
       let xs : List T = items_in b.slots in
       let gap : ℕ = length b.slots - end in
-      walking b' a (rewritten xs ws) start end (length b.slots)
+      walking b' a (refill (length xs) xs ws) start end (length b.slots)
       (s ∙ (ap (λ (r : List (Option T)). over r start ws) t.row ∙ (over-behind start (full xs ++ empty gap) ws ∙ ap (λ (r : List (Option T)). empty start ++ r) (over-front xs gap ws))))
-      (omega (arith, t.len, length-rewritten xs ws)) (walked-room b a start end t) (from-same b b' a t.from f)
+      (omega (arith, t.len, length_refill (length xs) xs ws refl)) (walked-room b a start end t) (from-same b b' a t.from f)
 
   -- the iterator behind a block whose items were written
   pub view-written : (b : Block T A) (a : A) (start end : ℕ) (ws : List T) → IsWalked b a start end → thin_of (block_with_items b start ws) a ≡ with_items (thin_of b a) ws

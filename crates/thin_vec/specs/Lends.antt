@@ -1,6 +1,7 @@
 -- What a list holds once a `&mut` to its items ends.
-use Rattle.std.specs.Prelude.{◌++◌, List, ℕ, length, take, drop, slice_set}
+use Rattle.std.specs.Prelude.{List, ℕ, length, slice_set}
 use Rattle.std.specs.declared.alloc.Allocator.{Ghosts as AllocatorGhosts}
+use Rattle.std.specs.List.{refill}
 use Rattle.std.specs.Borrow.{Lends, MutBor, Fml, RattleType, Array, follows}
 use Rattle.std.specs.declared.slice.IterMut.{IterMut}
 use Rattle.std.specs.Slice.Iter.{iter_mut_name}
@@ -9,14 +10,10 @@ use Rattle.thin_vec.specs.ThinVec.{Thin}
 use Rattle.thin_vec.specs.contracts.into_iter.IntoIter.{the_row as iterator_row}
 use Rattle.thin_vec.specs.contracts.list.ThinVec.{the_row}
 
--- xs with those of ws in place of its own, as far as both go
-abbrev pub rewritten : {T : Type 0} → List T → List T → List T
-rewritten xs ws = take (length xs) (ws ++ drop (length ws) xs)
-
 module _ {T A : Type 0} where
-  -- v with the items ws in place of its own
+  -- v with the items ws in place of its own, as far as both go
   abbrev pub with_items : Thin T A → List T → Thin T A
-  with_items v ws = record v { items = rewritten v.items ws }
+  with_items v ws = record v { items = refill (length v.items) v.items ws }
 
   -- v with the item w at i
   abbrev pub with_item : Thin T A → ℕ → T → Thin T A
