@@ -35,7 +35,7 @@ pub record IsResized {T : Type 0} (clones : T → T → Type 0) (xs : List T) (n
   pub longer : length xs < n → (copies : List T) × All (clones x) copies × (ys ≡ xs ++ (copies ++ x ∷ []))
   pub len : length ys ≡ n
 
--- those before the source at `at` were cloned, a move each, and then the clone of this one was refused, as it may be
+-- the clone of the source at `at` may be refused, and there was one move for each source before it
 pub record StopsAtClone {T : Type 0} (infallible : T → Type 0) (sources : List T) (before after : Cost) : Type 0 where
   pub at : ℕ
   pub in_bounds : at < length sources

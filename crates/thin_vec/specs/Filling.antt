@@ -13,8 +13,8 @@ abbrev pub IsLoose : Rule → RattleType → ℕ → ℕ → Type 0
 IsLoose rule R c d = (d ≡ c) ⊎ ((w : ℕ) × (n : ℕ) × (c < w) × (ruled_capacity rule R c w ≡ Some n) × (n ≤ d))
 
 module _ {T A : Type 0} where
-  -- what w has cost that was v, before items went in behind: one move for each of them; where the capacity grew, at least one
-  -- block more, into which at least the items of v were copied
+  -- what w has cost that was v, before items went in behind: one move for each of them; no block and no copied item more where
+  -- the capacity stayed; where it grew, at least one block more, into which at least the items of v were copied
   pub record IsFilled (v w : Thin T A) : Type 0 where
     pub moves : w.cost.moves + length v.items ≡ v.cost.moves + length w.items
     pub kept : w.cap ≡ v.cap → (w.cost.blocks ≡ v.cost.blocks) × (w.cost.grown ≡ v.cost.grown)
