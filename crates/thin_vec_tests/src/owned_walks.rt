@@ -5,14 +5,14 @@ ghost use Rattle.std.specs.List.{fold};
 #[cfg(test)]
 use crate::counted::Counted;
 #[cfg(test)]
-use crate::standing::assert_list;
+use crate::standing::{assert_items, assert_list, assert_same};
 #[cfg(test)]
 use refusing::Refusing;
 use std::alloc::{AllocError, Allocator, Global};
 #[cfg(test)]
 use std::cell::Cell;
 #[cfg(test)]
-use std::test::Fail;
+use std::process::Abort;
 #[cfg(test)]
 use thin_vec::thin_vec;
 use thin_vec::{Growth, ThinVec};
@@ -80,147 +80,164 @@ pub fn carried_over(list: ThinVec<u32, Global>, alloc: Global) -> Result<Vec<u32
 }
 
 #[test]
-fn test_into_iter_as_slice(rt: HostRuntime) -> Result<(), Fail> {
-    let mut items = thin_vec![rt.alloc() => 'a', 'b', 'c']?.into_iter();
-    assert_eq!(rt; items.as_slice(), ['a', 'b', 'c'].as_slice());
-    assert_eq!(rt; items.next(), Some('a'));
-    assert_eq!(rt; items.as_slice(), ['b', 'c'].as_slice());
-    assert_eq!(rt; items.next_back(), Some('c'));
-    assert_eq!(rt; items.next_back(), Some('b'));
-    assert_eq!(rt; items.next_back(), None);
-    assert_eq!(rt; items.next(), None);
-    assert_eq!(rt; items.as_slice(), [].as_slice());
-    Ok(())
+fn test_into_iter_as_slice(rt: HostRuntime) {
+    let mut items = thin_vec![rt.alloc() => 'a', 'b', 'c']
+        .expect(&rt, "memory")
+        .into_iter();
+    assert_items(&rt, items.as_slice(), &['a', 'b', 'c']);
+    assert_same(&rt, items.next(), Some('a'));
+    assert_items(&rt, items.as_slice(), &['b', 'c']);
+    assert_same(&rt, items.next_back(), Some('c'));
+    assert_same(&rt, items.next_back(), Some('b'));
+    assert_same(&rt, items.next_back(), None);
+    assert_same(&rt, items.next(), None);
+    assert_items(&rt, items.as_slice(), &[]);
 }
 
 #[test]
-fn test_into_iter_as_mut_slice(rt: HostRuntime) -> Result<(), Fail> {
-    let mut items = thin_vec![rt.alloc() => 'a', 'b', 'c']?.into_iter();
+fn test_into_iter_as_mut_slice(rt: HostRuntime) {
+    let mut items = thin_vec![rt.alloc() => 'a', 'b', 'c']
+        .expect(&rt, "memory")
+        .into_iter();
     assert_eq!(rt; items.len(), 3);
     items.as_mut_slice()[0] = 'x';
     items.as_mut_slice()[1] = 'y';
-    assert_eq!(rt; items.next(), Some('x'));
-    assert_eq!(rt; items.as_slice(), ['y', 'c'].as_slice());
-    Ok(())
+    assert_same(&rt, items.next(), Some('x'));
+    assert_items(&rt, items.as_slice(), &['y', 'c']);
 }
 
 #[test]
-fn test_into_iter_count(rt: HostRuntime) -> Result<(), Fail> {
-    assert_eq!(rt; thin_vec![rt.alloc() => 1, 2, 3]?.into_iter().count(), 3);
-    Ok(())
+fn test_into_iter_count(rt: HostRuntime) {
+    let items = thin_vec![rt.alloc() => 1, 2, 3]
+        .expect(&rt, "memory")
+        .into_iter();
+    assert_same(&rt, items.count(), 3);
 }
 
 #[test]
-fn test_into_iter_clone(rt: HostRuntime) -> Result<(), Fail> {
+fn test_into_iter_clone(rt: HostRuntime) {
     let refusing = Refusing::new(rt.alloc(), 2);
     let alloc = &refusing;
-    let mut items = thin_vec![alloc => 1, 2, 3]?.into_iter();
+    let mut items = thin_vec![alloc => 1, 2, 3]
+        .expect(&rt, "memory")
+        .into_iter();
     assert!(rt; items.clone(alloc).is_err());
-    assert_eq!(rt; refusing.blocks(), 1);
-    assert_eq!(rt; items.clone(alloc)?.as_slice(), [1, 2, 3].as_slice());
-    assert_eq!(rt; items.next(), Some(1));
-    assert_eq!(rt; items.clone(alloc)?.as_slice(), [2, 3].as_slice());
-    assert_eq!(rt; items.next_back(), Some(3));
-    assert_eq!(rt; items.next(), Some(2));
+    assert_same(&rt, refusing.blocks(), 1);
+    assert_items(
+        &rt,
+        items.clone(alloc).expect(&rt, "memory").as_slice(),
+        &[1, 2, 3],
+    );
+    assert_same(&rt, items.next(), Some(1));
+    assert_items(
+        &rt,
+        items.clone(alloc).expect(&rt, "memory").as_slice(),
+        &[2, 3],
+    );
+    assert_same(&rt, items.next_back(), Some(3));
+    assert_same(&rt, items.next(), Some(2));
     refusing.refuse(1);
-    assert_eq!(rt; items.clone(alloc)?.as_slice(), [].as_slice());
-    Ok(())
+    assert_items(
+        &rt,
+        items.clone(alloc).expect(&rt, "memory").as_slice(),
+        &[],
+    );
 }
 
 #[test]
-fn test_move_items(rt: HostRuntime) -> Result<(), Fail> {
+fn test_move_items(rt: HostRuntime) {
     let alloc = rt.alloc();
     let mut moved = ThinVec::new(alloc);
+    let list = thin_vec![alloc => 1, 2, 3].expect(&rt, "memory");
+    moved.extend(list.into_iter()).ok().expect(&rt, "memory");
+    let list = thin_vec![alloc => 1, 2, 3].expect(&rt, "memory");
     moved
-        .extend(thin_vec![alloc => 1, 2, 3]?.into_iter())
+        .extend(list.into_iter().rev())
         .ok()
-        .ok_or("memory")?;
-    moved
-        .extend(thin_vec![alloc => 1, 2, 3]?.into_iter().rev())
-        .ok()
-        .ok_or("memory")?;
+        .expect(&rt, "memory");
     assert_list(&rt, &moved, &[1, 2, 3, 3, 2, 1], 8);
 
     let mut units = ThinVec::new(alloc);
+    let list = thin_vec![alloc => (), (), ()].expect(&rt, "memory");
+    units.extend(list.into_iter()).ok().expect(&rt, "memory");
+    let list = thin_vec![alloc => (), (), ()].expect(&rt, "memory");
     units
-        .extend(thin_vec![alloc => (), (), ()]?.into_iter())
+        .extend(list.into_iter().rev())
         .ok()
-        .ok_or("memory")?;
-    units
-        .extend(thin_vec![alloc => (), (), ()]?.into_iter().rev())
-        .ok()
-        .ok_or("memory")?;
-    assert_eq!(rt; units.len(), 6);
-    Ok(())
+        .expect(&rt, "memory");
+    assert_same(&rt, units.len(), 6);
 }
 
 #[test]
-fn test_into_iter_debug(rt: HostRuntime) -> Result<(), Fail> {
+fn test_into_iter_debug(rt: HostRuntime) {
     let alloc = rt.alloc();
-    let letters = thin_vec![alloc => 'a', 'b', 'c']?.into_iter();
-    assert_eq!(rt;
-        format!(in alloc; "{letters:?}")?.as_str(),
-        "IntoIter(['a', 'b', 'c'])"
+    let letters = thin_vec![alloc => 'a', 'b', 'c']
+        .expect(&rt, "memory")
+        .into_iter();
+    assert_same(
+        &rt,
+        format!(in alloc; "{letters:?}")
+            .expect(&rt, "memory")
+            .as_str(),
+        "IntoIter(['a', 'b', 'c'])",
     );
-    let mut numbers = thin_vec![alloc => 1, 2, 3]?.into_iter();
-    assert_eq!(rt; numbers.next(), Some(1));
-    assert_eq!(rt;
-        format!(in alloc; "{numbers:?}")?.as_str(),
-        "IntoIter([2, 3])"
+    let mut numbers = thin_vec![alloc => 1, 2, 3]
+        .expect(&rt, "memory")
+        .into_iter();
+    assert_same(&rt, numbers.next(), Some(1));
+    assert_same(
+        &rt,
+        format!(in alloc; "{numbers:?}")
+            .expect(&rt, "memory")
+            .as_str(),
+        "IntoIter([2, 3])",
     );
-    Ok(())
 }
 
 #[test]
-fn a_walk_that_ends_early_drops_what_remains(rt: HostRuntime) -> Result<(), Fail> {
+fn a_walk_that_ends_early_drops_what_remains(rt: HostRuntime) {
     let refusing = Refusing::new(rt.alloc(), 0);
     let drops = Cell::new(0);
     {
         let mut list = ThinVec::new(&refusing);
         for _ in 0..6 {
-            list.push(Counted::new(&drops)).ok().ok_or("memory")?;
+            list.push(Counted::new(&drops)).ok().expect(&rt, "memory");
         }
         let mut items = list.into_iter();
         drop(items.next());
         drop(items.next_back());
-        assert_eq!(rt; drops.get(), 2);
-        assert_eq!(rt; items.size_hint(), (4, Some(4)));
-        assert_eq!(rt; refusing.blocks(), 1);
+        assert_same(&rt, drops.get(), 2);
+        assert_same(&rt, items.size_hint(), (4, Some(4)));
+        assert_same(&rt, refusing.blocks(), 1);
     }
-    assert_eq!(rt; drops.get(), 6);
-    assert_eq!(rt; refusing.blocks(), 0);
-    Ok(())
+    assert_same(&rt, drops.get(), 6);
+    assert_same(&rt, refusing.blocks(), 0);
 }
 
 #[test]
-fn a_walk_over_nothing_makes_no_request(rt: HostRuntime) -> Result<(), Fail> {
+fn a_walk_over_nothing_makes_no_request(rt: HostRuntime) {
     let refusing = Refusing::new(rt.alloc(), 1);
     let list = ThinVec::<u64, _>::new(&refusing);
-    assert_eq!(rt; count(list), 0);
-    assert_eq!(rt; refusing.requests(), 0);
-    Ok(())
+    assert_same(&rt, count(list), 0);
+    assert_same(&rt, refusing.requests(), 0);
+}
+
+#[cfg(test)]
+fn three(rt: &impl Abort, alloc: Global) -> ThinVec<u32, Global> {
+    thin_vec![alloc => 4, 3, 5].expect(rt, "memory")
 }
 
 #[test]
-fn walks_by_value(rt: HostRuntime) -> Result<(), Fail> {
+fn walks_by_value(rt: HostRuntime) {
     let alloc = rt.alloc();
-    assert_eq!(rt; count(thin_vec![alloc => 4u32, 3, 5]?), 3);
-    assert_eq!(rt; least(thin_vec![alloc => 4, 3, 5]?, 9), 3);
-    assert_eq!(rt;
-        collected(thin_vec![alloc => 4, 3, 5]?, alloc)?.as_slice(),
-        [4, 3, 5].as_slice()
-    );
-    assert_eq!(rt;
-        reversed(thin_vec![alloc => 4, 3, 5]?, alloc)?.as_slice(),
-        [5, 3, 4].as_slice()
-    );
-    assert_eq!(rt;
-        reversed_singly(thin_vec![alloc => 4, 3, 5]?, alloc)?.as_slice(),
-        [5, 3, 4].as_slice()
-    );
-    assert_eq!(rt;
-        carried_over(thin_vec![alloc => 4, 3, 5]?, alloc)?.as_slice(),
-        [4, 3, 5].as_slice()
-    );
-    Ok(())
+    assert_same(&rt, count(three(&rt, alloc)), 3);
+    assert_same(&rt, least(three(&rt, alloc), 9), 3);
+    for (walked, wanted) in [
+        (collected(three(&rt, alloc), alloc), [4, 3, 5]),
+        (reversed(three(&rt, alloc), alloc), [5, 3, 4]),
+        (reversed_singly(three(&rt, alloc), alloc), [5, 3, 4]),
+        (carried_over(three(&rt, alloc), alloc), [4, 3, 5]),
+    ] {
+        assert_items(&rt, walked.expect(&rt, "memory").as_slice(), &wanted);
+    }
 }

@@ -1,7 +1,7 @@
 //! How wide a list is, and items that are not wide at all.
+use crate::standing::assert_same;
 use std::alloc::Global;
 use std::mem::size_of;
-use std::test::Fail;
 use thin_vec::ThinVec;
 
 #[test]
@@ -11,21 +11,21 @@ fn a_list_is_one_pointer_wide(rt: HostRuntime) {
 }
 
 #[test]
-fn zero_sized_values(rt: HostRuntime) -> Result<(), Fail> {
+fn zero_sized_values(rt: HostRuntime) {
     let mut list = ThinVec::new(rt.alloc());
     for _ in 0..2 {
-        list.push(()).ok().ok_or("memory")?;
+        list.push(()).ok().expect(&rt, "memory");
     }
-    assert_eq!(rt;
+    assert_same(
+        &rt,
         [list.pop(), list.pop(), list.pop()],
-        [Some(()), Some(()), None]
+        [Some(()), Some(()), None],
     );
 
     for _ in 0..4 {
-        list.push(()).ok().ok_or("memory")?;
+        list.push(()).ok().expect(&rt, "memory");
     }
-    assert_eq!(rt; list.as_slice().iter().count(), 4);
+    assert_same(&rt, list.as_slice().iter().count(), 4);
     list.clear();
-    assert_eq!(rt; list.as_slice().iter().count(), 0);
-    Ok(())
+    assert_same(&rt, list.as_slice().iter().count(), 0);
 }

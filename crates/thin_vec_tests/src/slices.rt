@@ -1,8 +1,8 @@
 //! What is written through a lent slice or a lent item is in the list afterwards.
 use crate::filling::push_all;
 use crate::growth_rules::Fourfold;
+use crate::standing::{assert_items, assert_same};
 use std::alloc::Global;
-use std::test::Fail;
 use thin_vec::{ThinVec, thin_vec};
 
 fn add(amount: i32, items: &mut [i32]) {
@@ -12,60 +12,54 @@ fn add(amount: i32, items: &mut [i32]) {
 }
 
 #[test]
-fn test_slice_from_mut(rt: HostRuntime) -> Result<(), Fail> {
+fn test_slice_from_mut(rt: HostRuntime) {
     let mut list = ThinVec::new(rt.alloc());
-    push_all(&mut list, 1..6)?;
+    push_all(&rt, &mut list, 1..6);
     assert_eq!(rt; list.len(), 5);
     add(2, &mut list.as_mut_slice()[2..]);
-    assert_eq!(rt; list.as_slice(), [1, 2, 5, 6, 7].as_slice());
-    Ok(())
+    assert_items(&rt, list.as_slice(), &[1, 2, 5, 6, 7]);
 }
 
 #[test]
-fn test_slice_to_mut(rt: HostRuntime) -> Result<(), Fail> {
+fn test_slice_to_mut(rt: HostRuntime) {
     let mut list = ThinVec::new(rt.alloc());
-    push_all(&mut list, 1..6)?;
+    push_all(&rt, &mut list, 1..6);
     assert_eq!(rt; list.len(), 5);
     add(1, &mut list.as_mut_slice()[..2]);
-    assert_eq!(rt; list.as_slice(), [2, 3, 3, 4, 5].as_slice());
-    Ok(())
+    assert_items(&rt, list.as_slice(), &[2, 3, 3, 4, 5]);
 }
 
 #[test]
-fn test_split_at_mut(rt: HostRuntime) -> Result<(), Fail> {
+fn test_split_at_mut(rt: HostRuntime) {
     let mut list = ThinVec::new(rt.alloc());
-    push_all(&mut list, 1..6)?;
+    push_all(&rt, &mut list, 1..6);
     assert_eq!(rt; list.len(), 5);
     let (left, right) = list.as_mut_slice().split_at_mut(2);
     add(1, left);
     add(2, right);
-    assert_eq!(rt; list.as_slice(), [2, 3, 5, 6, 7].as_slice());
-    Ok(())
+    assert_items(&rt, list.as_slice(), &[2, 3, 5, 6, 7]);
 }
 
 #[test]
-fn test_index(rt: HostRuntime) -> Result<(), Fail> {
-    let list = thin_vec![rt.alloc() => 1, 2, 3]?;
-    assert_eq!(rt; list[1], 2);
-    Ok(())
+fn test_index(rt: HostRuntime) {
+    let list = thin_vec![rt.alloc() => 1, 2, 3].expect(&rt, "memory");
+    assert_same(&rt, list[1], 2);
 }
 
 #[test]
-fn test_index_mut(rt: HostRuntime) -> Result<(), Fail> {
-    let mut list = thin_vec![rt.alloc() => 1, 2, 3]?;
+fn test_index_mut(rt: HostRuntime) {
+    let mut list = thin_vec![rt.alloc() => 1, 2, 3].expect(&rt, "memory");
     list[1] = 22;
-    assert_eq!(rt; list.as_slice(), [1, 22, 3].as_slice());
-    Ok(())
+    assert_items(&rt, list.as_slice(), &[1, 22, 3]);
 }
 
 #[test]
-fn lends_at_a_second_growth_rule(rt: HostRuntime) -> Result<(), Fail> {
+fn lends_at_a_second_growth_rule(rt: HostRuntime) {
     let mut list = ThinVec::<i32, Global, Fourfold>::ruled(rt.alloc());
-    push_all(&mut list, 1..4)?;
+    push_all(&rt, &mut list, 1..4);
     add(1, list.as_mut_slice());
     assert_eq!(rt; list.len(), 3);
     list[0] = 7;
-    assert_eq!(rt; list[1], 3);
-    assert_eq!(rt; list.as_slice(), [7, 3, 4].as_slice());
-    Ok(())
+    assert_same(&rt, list[1], 3);
+    assert_items(&rt, list.as_slice(), &[7, 3, 4]);
 }

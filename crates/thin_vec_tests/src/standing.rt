@@ -1,10 +1,22 @@
-//! What a list and its allocator are to show, asserted at once: each assertion in a test takes seconds to prove.
+//! What many tests assert. An assertion that is written out takes a second or two to prove in each test, and a call of one of
+//! these hardly any time.
 ghost use Rattle.std.specs.Prelude.{◌≡◌, length};
 
 use refusing::Refusing;
 use std::alloc::{Allocator, Global};
+use std::fmt::Debug;
 use std::process::Abort;
 use thin_vec::{Growth, ThinVec};
+
+/// Asserts that both are the same. Nothing is known of them afterwards.
+pub fn assert_same<T: PartialEq + Debug + Drop>(rt: &impl Abort, value: T, wanted: T) {
+    assert_eq!(rt; value, wanted);
+}
+
+/// Asserts that both slices hold the same.
+pub fn assert_items<T: PartialEq + Debug>(rt: &impl Abort, items: &[T], wanted: &[T]) {
+    assert_eq!(rt; items, wanted);
+}
 
 /// Asserts what the list holds, and its capacity.
 pub fn assert_list<A: Allocator, G: Growth>(
@@ -16,14 +28,11 @@ pub fn assert_list<A: Allocator, G: Growth>(
     ensures len { length list.now.items ≡ length items.now }
 {
     assert_eq!(rt; list.len(), items.len());
-    assert_eq!(rt; list.as_slice(), items);
-    assert_eq!(rt; list.capacity(), capacity, "of {items:?}");
+    assert_same(rt, (list.as_slice(), list.capacity()), (items, capacity));
 }
 
 /// Asserts how many requests were made, and how many blocks are out.
 pub fn assert_counts(rt: &impl Abort, refusing: &Refusing<Global>, requests: u64, blocks: u64) {
-    assert_eq!(rt;
-        (refusing.requests(), refusing.blocks()),
-        (requests, blocks)
-    );
+    let counts = (refusing.requests(), refusing.blocks());
+    assert_same(rt, counts, (requests, blocks));
 }

@@ -1,8 +1,8 @@
 //! A list inside the type that it holds.
 use crate::counted::Counted;
+use crate::standing::assert_same;
 use std::alloc::Global;
 use std::cell::Cell;
-use std::test::Fail;
 use thin_vec::ThinVec;
 
 #[derive(Drop)]
@@ -37,7 +37,7 @@ fn sum_of_tags(node: &Node<'_>) -> u32 {
 }
 
 #[test]
-fn a_tree_drops_each_node_once(rt: HostRuntime) -> Result<(), Fail> {
+fn a_tree_drops_each_node_once(rt: HostRuntime) {
     let alloc = rt.alloc();
     let drops = Cell::new(0);
     {
@@ -49,20 +49,19 @@ fn a_tree_drops_each_node_once(rt: HostRuntime) -> Result<(), Fail> {
                     .children
                     .push(leaf(alloc, 10 * inner, &drops))
                     .ok()
-                    .ok_or("memory")?;
+                    .expect(&rt, "memory");
             }
-            root.children.push(child).ok().ok_or("memory")?;
+            root.children.push(child).ok().expect(&rt, "memory");
         }
-        assert_eq!(rt; count(&root), 7);
-        assert_eq!(rt; sum_of_tags(&root), 80);
-        assert_eq!(rt; drops.get(), 0);
+        assert_same(&rt, count(&root), 7);
+        assert_same(&rt, sum_of_tags(&root), 80);
+        assert_same(&rt, drops.get(), 0);
     }
-    assert_eq!(rt; drops.get(), 7);
-    Ok(())
+    assert_same(&rt, drops.get(), 7);
 }
 
 #[test]
-fn a_leaf_owns_no_block(rt: HostRuntime) -> Result<(), Fail> {
+fn a_leaf_owns_no_block(rt: HostRuntime) {
     let alloc = rt.alloc();
     let drops = Cell::new(0);
     let mut root = leaf(alloc, 1, &drops);
@@ -70,10 +69,9 @@ fn a_leaf_owns_no_block(rt: HostRuntime) -> Result<(), Fail> {
     root.children
         .push(leaf(alloc, 2, &drops))
         .ok()
-        .ok_or("memory")?;
+        .expect(&rt, "memory");
     assert!(rt; root.children.has_capacity());
     for child in root.children.as_slice() {
         assert!(rt; !child.children.has_capacity());
     }
-    Ok(())
 }
