@@ -1,8 +1,7 @@
 -- What a list is once what was lent of it has been written.
-use Rattle.std.proofs.Common.{◌≡◌, ℕ, zero, suc, ◌-◌, ◌<◌, List, [], ◌∷◌, ◌++◌, length, drop, Some, ap, arith, refl, sym, ◌∙◌}
+use Rattle.std.proofs.Common.{◌≡◌, ℕ, zero, suc, ◌-◌, ◌<◌, List, [], ◌∷◌, ◌++◌, length, Some, ap, arith, refl, sym, ◌∙◌}
 use Rattle.std.proofs.Math.Seq.{take-length}
-use lib.ListN.{set, length-set, length-append, length-drop}
-use Rattle.std.proofs.lemmas.List.{length-take-le}
+use lib.ListN.{set, length-set}
 use Rattle.thin_block.specs.Lends.{over, with_item as block_with_item, with_items as block_with_items}
 use Rattle.thin_block.specs.Slots.{empty, full, items_in}
 use Rattle.thin_block.specs.declared.block.Block.{Block}
