@@ -210,10 +210,10 @@ impl<T: Copy, A: Allocator> Block<T, A> {
 
 // `row` with a copy of each of `items`, as many as it has places. It is one copy, by std's `Slots::copy_in`.
 fn copied<T: Copy>(mut row: Slots<T>, items: &[T]) -> Slots<T>
-    requires places { slots_len row ≡ length items.now }
-    ensures same { SamePlaces row result }
+    requires room { slots_len row ≡ length items.now }
+    ensures cap { SamePlaces row result }
     ensures items { slots_items result ≡ items.now }
-    ensures full { IsFull result }
+    ensures filled { IsFull result }
 {
     row.copy_in(0, items);
     row

@@ -68,7 +68,8 @@ impl<T, A: Allocator, G: Growth> ThinVec<T, A, G> {
 
     /// Makes the capacity the length: a full list stays, and an empty one gives its block back.
     ///
-    /// It is refused only where memory is, and then nothing changes. An empty list that gives its block back begins its counters again.
+    /// It is refused only where memory is, and then nothing changes. An empty list that gives its block back begins its
+    /// counters again.
     pub fn shrink_to_fit(&mut self) -> Result<(), ThinVecError>
         ensures succeeds_empty { self.old.items ≡ [] → IsOk result }
         ensures succeeds_full { length self.old.items ≡ self.old.cap → IsOk result }
