@@ -16,6 +16,10 @@ pub record IsGrown (s a c w n : ℕ) : Type 0 where
   pub doubled : 2 * c ≤ n
   pub fits : IsTrue (fits s a n)
 
+-- the same of items of R
+abbrev pub Grows : RattleType → ℕ → ℕ → ℕ → Type 0
+Grows R c w n = IsGrown (type_size R) (type_align R) c w n
+
 -- what each rule promises, for each want that a `usize` holds
 abbrev pub KeepsLaw : Rule → Type 0
 KeepsLaw rule = (s a c w n : ℕ) → c < w → w < 2 ^ 64 → rule s a c w ≡ Some n → IsGrown s a c w n

@@ -10,10 +10,5 @@ pub record IsCheapAt (cap : ℕ) (cost : Cost) : Type 0 where
   pub grown : 0 < cap → cost.grown < cap
   pub blocks : 0 < cap → 2 ^ cost.blocks ≤ 2 * cap
 
--- a growth from the capacity c for w items: the new one suffices, and is at least twice the old
-pub record Grows (c w n : ℕ) : Type 0 where
-  pub enough : w ≤ n
-  pub doubled : 2 * c ≤ n
-
 abbrev pub IsCheap : {T A : Type 0} → Thin T A → Type 0
 IsCheap v = IsCheapAt v.cap v.cost

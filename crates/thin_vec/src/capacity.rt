@@ -2,7 +2,7 @@
 ghost use Rattle.std.specs.Prelude.{◌≡◌, ◌+◌, ◌<◌, ◌≤◌, [], IfErr, IfOk, IfSome, IsErrOf, IsOk, None, OnErr, OnOk, Some, length};
 ghost use Rattle.thin_block.specs.Capacity.{Fits};
 ghost use Rattle.thin_block.specs.Cost.{growing, no_cost};
-ghost use Rattle.thin_block.specs.Growth.{exact_capacity};
+ghost use Rattle.thin_block.specs.Growth.{Grows, exact_capacity};
 
 use crate::list::ThinVec;
 use std::alloc::Allocator;
@@ -11,7 +11,7 @@ use std::mem;
 use thin_block::{Block, Growth, ThinVecError, fits};
 
 impl<T, A: Allocator, G: Growth> ThinVec<T, A, G> {
-    ghost use Rattle.thin_vec.specs.Costs.{IsCheap, Grows};
+    ghost use Rattle.thin_vec.specs.Costs.{IsCheap};
     ghost use Rattle.thin_vec.specs.ThinVec.{capacity_for, cost_at, cost_new, cost_shrunk, exact_for};
 
     /// Makes room for `additional` more items: where there is not room enough, the capacity becomes the ruled one.
@@ -99,7 +99,7 @@ impl<T, A: Allocator, G: Growth> ThinVec<T, A, G> {
         ensures cause { IfErr result (λ cause. cause ≡ ThinVecError.CapacityOverflow → capacity_for G.rule T.row self.old additional ≡ None) }
         ensures items { self.new.items ≡ self.old.items }
         ensures capacity { OnOk result (capacity_for G.rule T.row self.old additional ≡ Some self.new.cap) }
-        ensures grown { OnOk result (Grows self.old.cap (length self.old.items + additional) self.new.cap) }
+        ensures grown { OnOk result (Grows T.row self.old.cap (length self.old.items + additional) self.new.cap) }
         ensures alloc { self.new.alloc ≡ self.old.alloc }
         ensures cost { OnOk result (self.new.cost ≡ growing (length self.old.items) self.old.cost) }
         ensures err { OnErr result (self.new ≡ self.old) }
@@ -115,8 +115,7 @@ impl<T, A: Allocator, G: Growth> ThinVec<T, A, G> {
     fn next_capacity(&self, additional: usize) -> Option<usize>
         requires more { self.now.cap < length self.now.items + additional }
         ensures value { result ≡ capacity_for G.rule T.row self.now additional }
-        ensures grown { IfSome result (λ next. Grows self.now.cap (length self.now.items + additional) next) }
-        ensures fits { IfSome result (λ next. Fits T.row next) }
+        ensures grown { IfSome result (λ next. Grows T.row self.now.cap (length self.now.items + additional) next) }
     {
         match self.len().checked_add(additional) {
             Some(want) => G::next_capacity::<T>(self.capacity(), want),

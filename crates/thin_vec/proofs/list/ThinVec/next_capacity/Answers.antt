@@ -1,6 +1,4 @@
 use Rattle.std.proofs.Common.{arith}
-use Rattle.std.specs.Mem.{type_size}
-use Rattle.std.specs.Align.{type_align}
 use denote.Param.{param}
 use Rattle.thin_vec.proofs.GrowthLemmas.{grows-rule}
 use Rattle.thin_vec.proofs.list.ThinVec.next_capacity.Goals as goal
@@ -10,6 +8,5 @@ returns-in-Some-clause-grown g c =
     let want = c.in-Some.ensures in
     let cap = c.capacity.ensures.value in
     let len = c.len.ensures.value in
-    let T = param 0 g.row.T in
-    grows-rule g.G.Growth.rule (type_size T) (type_align T) c.capacity.result _ c.in-Some.want _ c.next_capacity.result g.met.G.Growth.law
+    grows-rule g.G.Growth.rule (param 0 g.row.T) c.capacity.result _ c.in-Some.want _ c.next_capacity.result g.met.G.Growth.law
     (omega (arith, want, c.requires.more)) (omega (arith, want)) c.next_capacity.ensures.value cap (omega (arith, want))
