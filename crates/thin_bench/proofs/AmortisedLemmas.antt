@@ -1,15 +1,15 @@
 -- What a run from a new list has cost.
-use Rattle.std.proofs.Common.{if◌then◌else◌, Bool, true, false, eqb, ◌≡◌, ℕ, zero, suc, ◌+◌, ◌*◌, ◌<◌, ◌≤◌, List, [], ◌∷◌, ◌++◌, length, arith, ap, sym, subst, ◌∙◌, refl, inl, inr}
+use Rattle.std.proofs.Common.{◌≡◌, ℕ, zero, suc, ◌+◌, ◌*◌, ◌<◌, ◌≤◌, List, [], ◌∷◌, ◌++◌, length, arith, ap, sym, subst, ◌∙◌, refl, inl, inr}
 use Rattle.std.proofs.lemmas.Bool.{cases_lt}
 use Rattle.std.proofs.lemmas.List.{length_push, length-append}
 use Rattle.std.specs.Prelude.{◌⊎◌, Option}
 use Rattle.std.specs.Borrow.{RattleType}
 use Rattle.std.specs.Option.{option_to_list}
-use Rattle.thin_vec.specs.Cost.{Cost, growing}
+use Rattle.thin_vec.specs.Cost.{Cost}
 use Rattle.thin_vec.specs.Costs.{IsCheap, IsCheapAt}
 use Rattle.thin_vec.specs.Growth.{Rule, KeepsLaw}
 use Rattle.thin_vec.specs.ThinVec.{Thin, IsNew, cost_at}
-use Rattle.thin_vec.proofs.ThinVecLemmas.{cap-kept, cap-grown, cost_at-kept, cost_at-grown, cheap-regrown}
+use Rattle.thin_vec.proofs.ThinVecLemmas.{cap-kept, cap-grown, cost_at-kept, cost_at-grown, cost_at-moves, cheap-regrown}
 use Rattle.thin_bench.specs.Command.{IsPushed, IsPopped, Steps}
 use Rattle.thin_bench.specs.Headline.{Headline}
 use Rattle.thin_bench.specs.Run.{Runs, accepted}
@@ -25,13 +25,6 @@ accepted-cons (Push x) commands (Returned y cause) replies = omega arith
 accepted-cons Pop commands reply replies = omega arith
 
 module _ {T A : Type 0} (rule : Rule) (R : RattleType) where
-  cost_at-moves : (v : Thin T A) (c : ℕ) → (cost_at v c).moves ≡ v.cost.moves
-  cost_at-moves v c = go (eqb c v.cap)
-    where
-      go : (b : Bool) → (if b then v.cost else growing (length v.items) v.cost).moves ≡ v.cost.moves
-      go true = refl
-      go false = refl
-
   step-moves : (v w : Thin T A) (command : Command T) (reply : Reply T) → Steps rule R v command reply w → w.cost.moves ≡ v.cost.moves + accepted (command ∷ []) (reply ∷ [])
   step-moves v w (Push x) Done s = omega (arith, ap (λ c. c.moves) s.cost, cost_at-moves v w.cap)
   step-moves v w (Push x) (Returned y cause) s = omega (arith, ap (λ z. z.cost.moves) s.unchanged)

@@ -1,7 +1,6 @@
 -- What calls of `next` gave, and what a block and a list are once it was placed.
-use Rattle.std.proofs.Common.{if◌then◌else◌, Bool, true, false, ◌≡◌, ℕ, ◌+◌, ◌-◌, ◌<◌, ◌≤◌, List, [], ◌∷◌, ◌++◌, eqb, inl, inr, length, Option, Some, None, refl, sym, ap, subst, ◌∙◌, arith}
+use Rattle.std.proofs.Common.{true, ◌≡◌, ℕ, ◌+◌, ◌-◌, ◌<◌, ◌≤◌, List, [], ◌∷◌, ◌++◌, inl, inr, length, Option, Some, None, refl, sym, ap, subst, ◌∙◌, arith}
 use Rattle.std.proofs.lemmas.Bool.{cases_lt}
-use Rattle.std.proofs.lemmas.Bool.Decides.{nat_tests}
 use Rattle.std.proofs.lemmas.List.{map-append}
 use Rattle.std.specs.Borrow.{RattleType}
 use Rattle.std.proofs.iter.runs.Made.{run, to_end}
@@ -11,7 +10,7 @@ use Rattle.std.specs.declared.result.Result.{Result}
 use Rattle.std.specs.declared.result.Result.TheVariants.{Ok, Err}
 use Rattle.std.specs.Prelude.{OnOk, OnSome}
 use lib.ListN.{set}
-use Rattle.thin_block.specs.Cost.{Cost, growing, moving}
+use Rattle.thin_block.specs.Cost.{Cost, moving}
 use Rattle.thin_block.specs.Growth.{Rule, KeepsLaw}
 use Rattle.thin_block.specs.Slots.{full, laid}
 use Rattle.thin_block.proofs.CapacityLemmas.{ruled-grows}
@@ -20,7 +19,7 @@ use Rattle.thin_vec.specs.Filling.{IsFilled, IsLoose}
 use Rattle.thin_vec.specs.ThinVec.{Thin, capacity_for, cost_at}
 use Rattle.thin_vec.proofs.CloneLemmas.{moving-one}
 use Rattle.thin_vec.proofs.ListLemmas.{length-full}
-use Rattle.thin_vec.proofs.ThinVecLemmas.{cap-kept}
+use Rattle.thin_vec.proofs.ThinVecLemmas.{cap-kept, cost_at-more, cost_at-moves, cost_at-same}
 
 module _ {S X : Type 0} (steps : S → Option X → S → Type 0) where
   -- one call more
@@ -84,19 +83,6 @@ module _ (rule : Rule) (R : RattleType) (law : KeepsLaw rule) where
       ]
 
 module _ {T A : Type 0} where
-  cost_at-same : (v : Thin T A) (c : ℕ) → c ≡ v.cap → cost_at v c ≡ v.cost
-  cost_at-same v c e = let t : eqb c v.cap ≡ true = grind (arith, nat_tests) in rw t refl
-
-  cost_at-more : (v : Thin T A) (c : ℕ) → v.cap < c → cost_at v c ≡ growing (length v.items) v.cost
-  cost_at-more v c e = let t : eqb c v.cap ≡ false = grind (arith, nat_tests) in rw t refl
-
-  cost_at-moves : (v : Thin T A) (c : ℕ) → (cost_at v c).moves ≡ v.cost.moves
-  cost_at-moves v c = go (eqb c v.cap)
-    where
-      go : (b : Bool) → (if b then v.cost else growing (length v.items) v.cost).moves ≡ v.cost.moves
-      go true = refl
-      go false = refl
-
   -- k items that came in by as many moves, after at most one growth
   pub filled-at : (v w : Thin T A) (k : ℕ) → w.cost ≡ moving k (cost_at v w.cap) → length w.items ≡ length v.items + k → IsFilled v w
   filled-at v w k e n = record {

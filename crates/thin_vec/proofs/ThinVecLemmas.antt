@@ -1,5 +1,5 @@
 -- What follows from the words of `specs/ThinVec.antt` and `specs/Costs.antt`, for callers.
-use Rattle.std.proofs.Common.{◌≡◌, ℕ, zero, suc, ◌+◌, ◌*◌, ◌^◌, ◌<◌, ◌≤◌, true, false, Some, ap, arith, eqb, inl, inr, length, refl, sym, ◌∙◌}
+use Rattle.std.proofs.Common.{if◌then◌else◌, Bool, ◌≡◌, ℕ, zero, suc, ◌+◌, ◌*◌, ◌^◌, ◌<◌, ◌≤◌, true, false, Some, ap, arith, eqb, inl, inr, length, refl, sym, ◌∙◌}
 use Rattle.std.specs.Borrow.{RattleType}
 use Rattle.std.proofs.lemmas.Bool.{cases_lt}
 use Rattle.std.proofs.lemmas.Bool.Decides.{nat_tests}
@@ -13,13 +13,28 @@ use Rattle.thin_vec.specs.ThinVec.{Thin, capacity_for, cost_at}
 some-same : {X : Type 0} {x y : X} → Some x ≡ Some y → x ≡ y
 some-same e = cc
 
+-- what a list has cost once its capacity is c
+module _ {T A : Type 0} (v : Thin T A) (c : ℕ) where
+  pub cost_at-same : c ≡ v.cap → cost_at v c ≡ v.cost
+  cost_at-same e = let t : eqb c v.cap ≡ true = grind (arith, nat_tests) in rw t refl
+
+  pub cost_at-more : v.cap < c → cost_at v c ≡ growing (length v.items) v.cost
+  cost_at-more e = let t : eqb c v.cap ≡ false = grind (arith, nat_tests) in rw t refl
+
+  pub cost_at-moves : (cost_at v c).moves ≡ v.cost.moves
+  cost_at-moves = go (eqb c v.cap)
+    where
+      go : (b : Bool) → (if b then v.cost else growing (length v.items) v.cost).moves ≡ v.cost.moves
+      go true = refl
+      go false = refl
+
 module _ {T A : Type 0} (rule : Rule) (R : RattleType) (law : KeepsLaw rule) (v : Thin T A) (k c : ℕ) where
   -- where there is room, the ruled capacity is the one that is there, and nothing is paid
   pub cap-kept : length v.items + k ≤ v.cap → capacity_for rule R v k ≡ Some c → c ≡ v.cap
   cap-kept room e = some-same (sym e ∙ ruled-same rule R v.cap (length v.items + k) room)
 
   pub cost_at-kept : length v.items + k ≤ v.cap → capacity_for rule R v k ≡ Some c → cost_at v c ≡ v.cost
-  cost_at-kept room e = let same : c ≡ v.cap = cap-kept room e in let t : eqb c v.cap ≡ true = grind (arith, nat_tests) in rw t refl
+  cost_at-kept room e = cost_at-same v c (cap-kept room e)
 
   -- where there is none, the capacity grows, and each item is copied
   pub cap-grown : v.cap < length v.items + k → capacity_for rule R v k ≡ Some c → (length v.items + k ≤ c) × (2 * v.cap ≤ c)
@@ -28,8 +43,7 @@ module _ {T A : Type 0} (rule : Rule) (R : RattleType) (law : KeepsLaw rule) (v 
   pub cost_at-grown : v.cap < length v.items + k → capacity_for rule R v k ≡ Some c → cost_at v c ≡ growing (length v.items) v.cost
   cost_at-grown more e =
       let g = cap-grown more e in
-      let larger : v.cap < c = omega (arith, g.0) in
-      let t : eqb c v.cap ≡ false = grind (arith, nat_tests) in rw t refl
+      cost_at-more v c (omega (arith, g.0))
 
 -- a cheap cost stays cheap over a growth for more than there was room for
 pub cheap-growing : (c n c' : ℕ) (k : Cost) → IsCheapAt c k → n ≤ c → c < c' → 2 * c ≤ c' → IsCheapAt c' (growing n k)
