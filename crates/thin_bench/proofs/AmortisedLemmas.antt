@@ -26,12 +26,10 @@ accepted-cons Pop commands reply replies = omega arith
 
 module _ {T A : Type 0} (rule : Rule) (R : RattleType) where
   step-moves : (v w : Thin T A) (command : Command T) (reply : Reply T) → Steps rule R v command reply w → w.cost.moves ≡ v.cost.moves + accepted (command ∷ []) (reply ∷ [])
-  step-moves v w (Push x) Done s = omega (arith, ap (λ c. c.moves) s.cost, cost_at-moves v w.cap)
+  step-moves v w (Push x) Done s = omega (arith, ap (λ c. c.moves) s.cost, cost_at-moves v w.capacity)
   step-moves v w (Push x) (Returned y cause) s = omega (arith, ap (λ z. z.cost.moves) s.unchanged)
-  step-moves v w (Push x) (Item o) s = absurd s
   step-moves v w Pop (Item o) s = omega (arith, ap (λ c. c.moves) s.cost)
-  step-moves v w Pop Done s = absurd s
-  step-moves v w Pop (Returned y cause) s = absurd s
+  step-moves v w command reply s = absurd s
 
   pub runs-moves : (v w : Thin T A) (commands : List (Command T)) (replies : List (Reply T)) → Runs rule R v commands replies w → w.cost.moves ≡ v.cost.moves + accepted commands replies
   runs-moves v w [] [] r = omega (arith, ap (λ z. z.cost.moves) r)
@@ -44,33 +42,31 @@ module _ {T A : Type 0} (rule : Rule) (R : RattleType) (law : KeepsLaw rule) whe
   -- a cheap list that has room for its items
   pub record IsPaid (v : Thin T A) : Type 0 where
     pub cheap : IsCheap v
-    pub room : length v.items ≤ v.cap
+    pub room : length v.items ≤ v.capacity
 
   pushed-paid : (v w : Thin T A) (x : T) → IsPaid v → IsPushed rule R v x w → IsPaid w
   pushed-paid v w x a s =
-      let cheap = cheap-regrown rule R law v 1 w.cap a.cheap a.room s.capacity in
+      let cheap = cheap-regrown rule R law v 1 w.capacity a.cheap a.room s.capacity in
       let more : length w.items ≡ length v.items + 1 = ap length s.items ∙ length_push v.items x in
       record {
         cheap = rw s.cost (record { none = cheap.none; grown = cheap.grown; blocks = cheap.blocks });
-        room = elim (cases_lt v.cap (length v.items + 1)) [
-          | inl full ↦ let g = cap-grown rule R law v 1 w.cap full s.capacity in omega (arith, more, g.0)
-          | inr spare ↦ let same = cap-kept rule R law v 1 w.cap spare s.capacity in omega (arith, more, same)
+        room = elim (cases_lt v.capacity (length v.items + 1)) [
+          | inl full ↦ let g = cap-grown rule R law v 1 w.capacity full s.capacity in omega (arith, more, g.0)
+          | inr spare ↦ let same = cap-kept rule R law v 1 w.capacity spare s.capacity in omega (arith, more, same)
         ];
       }
 
   popped-paid : (v w : Thin T A) (o : Option T) → IsPaid v → IsPopped rule R v o w → IsPaid w
   popped-paid v w o a s =
       let fewer : length v.items ≡ length w.items + length (option_to_list o) = ap length s.items ∙ length-append w.items (option_to_list o) in
-      let kept : length v.items ≤ v.cap = a.room in
+      let kept : length v.items ≤ v.capacity = a.room in
       record { cheap = rw (s.cost, s.capacity) a.cheap; room = omega (arith, fewer, kept, s.capacity) }
 
   step-paid : (v w : Thin T A) (command : Command T) (reply : Reply T) → IsPaid v → Steps rule R v command reply w → IsPaid w
   step-paid v w (Push x) Done a s = pushed-paid v w x a s
   step-paid v w (Push x) (Returned y cause) a s = rw s.unchanged a
-  step-paid v w (Push x) (Item o) a s = absurd s
   step-paid v w Pop (Item o) a s = popped-paid v w o a s
-  step-paid v w Pop Done a s = absurd s
-  step-paid v w Pop (Returned y cause) a s = absurd s
+  step-paid v w command reply a s = absurd s
 
   runs-paid : (v w : Thin T A) (commands : List (Command T)) (replies : List (Reply T)) → IsPaid v → Runs rule R v commands replies w → IsPaid w
   runs-paid v w [] [] a r = rw r a
@@ -100,15 +96,15 @@ module _ {T A : Type 0} (rule : Rule) (R : RattleType) (law : KeepsLaw rule) whe
 
   pushed-amortised : (v w : Thin T A) (m : ℕ) (x : T) → IsAmortised v m → IsPushed rule R v x w → IsAmortised w (m + 1)
   pushed-amortised v w m x a s =
-      let paid : w.cost.grown ≡ (cost_at v w.cap).grown = ap (λ c. c.grown) s.cost in
+      let paid : w.cost.grown ≡ (cost_at v w.capacity).grown = ap (λ c. c.grown) s.cost in
       let more : length w.items ≡ length v.items + 1 = ap length s.items ∙ length_push v.items x in
       record {
         paid = pushed-paid v w x a.paid s;
         items = let few = a.items in omega (arith, more, few);
-        copied = elim (cases_lt v.cap (length v.items + 1)) [
-          | inl full ↦ let grown : w.cost.grown ≡ v.cost.grown + length v.items = paid ∙ ap (λ c. c.grown) (cost_at-grown rule R law v 1 w.cap full s.capacity) in
-              inl (copied-growing v.cap (length v.items) m v.cost w.cost.grown a.paid.cheap a.paid.room (omega arith) a.items grown)
-          | inr spare ↦ copied-kept m v.cost.grown w.cost.grown a.copied (paid ∙ ap (λ c. c.grown) (cost_at-kept rule R law v 1 w.cap spare s.capacity))
+        copied = elim (cases_lt v.capacity (length v.items + 1)) [
+          | inl full ↦ let grown : w.cost.grown ≡ v.cost.grown + length v.items = paid ∙ ap (λ c. c.grown) (cost_at-grown rule R law v 1 w.capacity full s.capacity) in
+              inl (copied-growing v.capacity (length v.items) m v.cost w.cost.grown a.paid.cheap a.paid.room (omega arith) a.items grown)
+          | inr spare ↦ copied-kept m v.cost.grown w.cost.grown a.copied (paid ∙ ap (λ c. c.grown) (cost_at-kept rule R law v 1 w.capacity spare s.capacity))
         ];
       }
     where
@@ -133,10 +129,8 @@ module _ {T A : Type 0} (rule : Rule) (R : RattleType) (law : KeepsLaw rule) whe
   step-amortised : (v w : Thin T A) (m : ℕ) (command : Command T) (reply : Reply T) → IsAmortised v m → Steps rule R v command reply w → IsAmortised w (m + accepted (command ∷ []) (reply ∷ []))
   step-amortised v w m (Push x) Done a s = pushed-amortised v w m x a s
   step-amortised v w m (Push x) (Returned y cause) a s = same-amortised v w m a s.unchanged
-  step-amortised v w m (Push x) (Item o) a s = absurd s
   step-amortised v w m Pop (Item o) a s = popped-amortised v w m o a s
-  step-amortised v w m Pop Done a s = absurd s
-  step-amortised v w m Pop (Returned y cause) a s = absurd s
+  step-amortised v w m command reply a s = absurd s
 
   pub runs-amortised : (v w : Thin T A) (m : ℕ) (commands : List (Command T)) (replies : List (Reply T)) → IsAmortised v m → Runs rule R v commands replies w → IsAmortised w (m + accepted commands replies)
   runs-amortised v w m [] [] a r = same-amortised v w m a r
@@ -156,8 +150,8 @@ module _ {T A : Type 0} (rule : Rule) (R : RattleType) (law : KeepsLaw rule) whe
       below (inr none) = omega (arith, none, some)
 
   -- the headline, from a run
-  pub headline : (old new : Thin T A) (commands done : List (Command T)) (replies before after : List (Reply T)) → commands ≡ done → after ≡ before ++ replies → Runs rule R old done replies new → Headline rule R old commands before after new
-  headline old new commands done replies before after same appended ran =
+  pub headline : (old new : Thin T A) (commands done : List (Command T)) (replies before after : List (Reply T)) → length old.items ≤ old.capacity → length new.items ≤ new.capacity → commands ≡ done → after ≡ before ++ replies → Runs rule R old done replies new → Headline rule R old commands before after new
+  headline old new commands done replies before after room within same appended ran =
       let run : Runs rule R old commands replies new = subst (λ c. Runs rule R old c replies new) (sym same) ran in
       let m = accepted commands replies in
       let amortised : IsNew old old.alloc → IsAmortised new m = λ is_new. let e : 0 + m ≡ m = omega arith in subst (IsAmortised new) e (runs-amortised old new 0 commands replies (amortised-new old is_new) run) in
@@ -167,6 +161,7 @@ module _ {T A : Type 0} (rule : Rule) (R : RattleType) (law : KeepsLaw rule) whe
         allowed = run;
         moves = runs-moves rule R old new commands replies run;
         cheap = λ is_new. (amortised is_new).paid.cheap;
-        stays_cheap = λ room cheap. (runs-paid old new commands replies (record { cheap = cheap; room = room }) run).cheap;
+        within = within;
+        stays_cheap = λ cheap. (runs-paid old new commands replies (record { cheap = cheap; room = room }) run).cheap;
         amortised = λ is_new some. copied-run old new m (amortised is_new) some;
       }

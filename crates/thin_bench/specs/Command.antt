@@ -16,15 +16,15 @@ module _ {T A : Type 0} (rule : Rule) (R : RattleType) where
   -- an accepted push: the value is the last item, and the capacity is the ruled one
   pub record IsPushed (old : Thin T A) (value : T) (new : Thin T A) : Type 0 where
     pub items : new.items ≡ old.items ++ value ∷ []
-    pub capacity : capacity_for rule R old 1 ≡ Some new.cap
-    pub cost : new.cost ≡ moving 1 (cost_at old new.cap)
+    pub capacity : capacity_for rule R old 1 ≡ Some new.capacity
+    pub cost : new.cost ≡ moving 1 (cost_at old new.capacity)
     pub alloc : new.alloc ≡ old.alloc
 
   -- a refused push: only where there is no room, and as overflow exactly where no capacity is ruled
   pub record IsReturned (old : Thin T A) (value given : T) (cause : ThinVecError) (new : Thin T A) : Type 0 where
     pub value_returned : given ≡ value
     pub unchanged : new ≡ old
-    pub no_room : ¬ (length old.items < old.cap)
+    pub no_room : ¬ (length old.items < old.capacity)
     pub overflow : capacity_for rule R old 1 ≡ None → cause ≡ CapacityOverflow
     pub memory : cause ≡ CapacityOverflow → capacity_for rule R old 1 ≡ None
 
@@ -32,14 +32,12 @@ module _ {T A : Type 0} (rule : Rule) (R : RattleType) where
   pub record IsPopped (old : Thin T A) (item : Option T) (new : Thin T A) : Type 0 where
     pub variant : IsSome item ↔ (0 < length old.items)
     pub items : old.items ≡ new.items ++ option_to_list item
-    pub capacity : new.cap ≡ old.cap
+    pub capacity : new.capacity ≡ old.capacity
     pub cost : new.cost ≡ old.cost
     pub alloc : new.alloc ≡ old.alloc
 
   abbrev pub Steps : Thin T A → Command T → Reply T → Thin T A → Type 0
   Steps old (Push v) Done new = IsPushed old v new
   Steps old (Push v) (Returned w cause) new = IsReturned old v w cause new
-  Steps old (Push v) (Item o) new = ⊥
   Steps old Pop (Item o) new = IsPopped old o new
-  Steps old Pop Done new = ⊥
-  Steps old Pop (Returned w cause) new = ⊥
+  Steps old command reply new = ⊥

@@ -19,6 +19,7 @@ module _ {T A : Type 0} (rule : Rule) (R : RattleType) where
     -- from a new list, a capacity c other than 0 has cost fewer than c copied items and at most as many blocks as c has
     -- binary digits; and so it is from any list of which this was true before
     pub cheap : IsNew old old.alloc → IsCheap new
-    pub stays_cheap : length old.items ≤ old.cap → IsCheap old → IsCheap new
+    pub stays_cheap : IsCheap old → IsCheap new
+    pub within : length new.items ≤ new.capacity
     -- and m accepted pushes have cost fewer than 2m copied items
     pub amortised : IsNew old old.alloc → 0 < accepted commands replies → new.cost.grown < 2 * accepted commands replies

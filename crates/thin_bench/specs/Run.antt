@@ -22,6 +22,4 @@ abbrev pub accepted : {T : Type 0} → List (Command T) → List (Reply T) → �
 accepted [] replies = 0
 accepted (command ∷ commands) [] = 0
 accepted (Push v ∷ commands) (Done ∷ replies) = suc (accepted commands replies)
-accepted (Push v ∷ commands) (Item o ∷ replies) = accepted commands replies
-accepted (Push v ∷ commands) (Returned w cause ∷ replies) = accepted commands replies
-accepted (Pop ∷ commands) (reply ∷ replies) = accepted commands replies
+accepted (command ∷ commands) (reply ∷ replies) = accepted commands replies

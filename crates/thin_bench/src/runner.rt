@@ -44,6 +44,7 @@ pub fn run<T: Drop, A: Allocator + Copy, G: Growth>(
     ensures err { OnErr result ((list.new ≡ list.old) × (replies.new.items ≡ replies.old.items) × (vec_capacity replies.new ≡ vec_capacity replies.old)) }
     ensures cause { IfErr result (λ cause. cause ≡ ThinVecError.OutOfMemory) }
 {
+    let _cap = list.capacity();
     match replies.reserve(commands.len()) {
         Ok(()) => (),
         Err(_refused) => return Err(ThinVecError::OutOfMemory),
@@ -55,5 +56,6 @@ pub fn run<T: Drop, A: Allocator + Copy, G: Growth>(
             Err(_refused) => unreachable!(),
         }
     }
+    let _end = list.capacity();
     Ok(())
 }

@@ -1,5 +1,5 @@
 -- A row of slots, each empty or holding an item. (std: `[Option<T>]`)
-use Rattle.std.specs.Prelude.{◌≡◌, ℕ, ◌+◌, ◌-◌, List, [], ◌∷◌, ◌++◌, Option, length, map, replicate, slice_index_or, take, drop}
+use Rattle.std.specs.Prelude.{◌≡◌, ℕ, ◌+◌, ◌-◌, ◌<◌, ◌≤◌, List, [], ◌∷◌, ◌++◌, IsSome, Option, length, map, replicate, slice_index_or, take, drop}
 use Rattle.std.specs.declared.option.Option.TheVariants.{Some, None}
 
 module _ {T : Type 0} where
@@ -14,6 +14,14 @@ module _ {T : Type 0} where
   -- what the slot i holds: nothing where there is no such slot
   abbrev pub slot : List (Option T) → ℕ → Option T
   slot s i = slice_index_or s i None
+
+  -- each of the k slots from i on holds an item
+  abbrev pub AreFilled : List (Option T) → ℕ → ℕ → Type 0
+  AreFilled s i k = (j : ℕ) → i ≤ j → j < i + k → IsSome (slot s j)
+
+  -- each of the k slots from i on is empty
+  abbrev pub AreEmpty : List (Option T) → ℕ → ℕ → Type 0
+  AreEmpty s i k = (j : ℕ) → i ≤ j → j < i + k → slot s j ≡ None
 
   -- the items that the slots hold, in order
   abbrev pub items_in : List (Option T) → List T

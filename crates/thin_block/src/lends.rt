@@ -5,6 +5,7 @@ ghost use types.Logic.{sem};
 ghost use Rattle.thin_block.specs.Slots.{full, slot};
 
 use crate::block::Block;
+use crate::sizes::HEADER_WORDS;
 use std::alloc::Allocator;
 
 impl<T, A: Allocator> Block<T, A> {
@@ -19,7 +20,7 @@ impl<T, A: Allocator> Block<T, A> {
     {
         let at = self.at;
         unsafe {
-            let items = at.add(2) as *const T;
+            let items = at.add(HEADER_WORDS) as *const T;
             std::slice::from_raw_parts(items.add(start), end - start)
         }
     }
@@ -31,7 +32,7 @@ impl<T, A: Allocator> Block<T, A> {
         ensures value { slot self.old.slots i ≡ Some result.now }
     {
         let at = self.at;
-        unsafe { &mut *(at.add(2) as *mut T).add(i) }
+        unsafe { &mut *(at.add(HEADER_WORDS) as *mut T).add(i) }
     }
 
     /// The items in two different slots, to be written.
@@ -46,7 +47,7 @@ impl<T, A: Allocator> Block<T, A> {
     {
         let at = self.at;
         unsafe {
-            let items = at.add(2) as *mut T;
+            let items = at.add(HEADER_WORDS) as *mut T;
             (&mut *items.add(i), &mut *items.add(j))
         }
     }
@@ -61,7 +62,7 @@ impl<T, A: Allocator> Block<T, A> {
     {
         let at = self.at;
         unsafe {
-            let items = at.add(2) as *mut T;
+            let items = at.add(HEADER_WORDS) as *mut T;
             std::slice::from_raw_parts_mut(items.add(start), end - start)
         }
     }

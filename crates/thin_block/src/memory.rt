@@ -84,8 +84,12 @@ impl<T, A: Allocator> Block<T, A> {
     {
         let mut other = Block::allocate(alloc, cap)?;
         let len = self.len();
-        other.store_len(len);
-        self.carry_run(0, &mut other, 0, len);
+        if len > 0 {
+            other.store_len(len);
+            self.carry_run(0, &mut other, 0, len);
+        } else {
+            other.charge_as(self);
+        }
         let old = replace(self, other);
         old.release(alloc);
         Ok(())

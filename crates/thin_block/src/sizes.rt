@@ -10,6 +10,9 @@ use std::mem::{align_of, size_of};
 // The bytes of the capacity and the length. No type has an alignment above 16, so the items always begin here.
 const HEADER: usize = 16;
 
+// The same in words: how far behind the capacity the first item lies.
+pub(crate) const HEADER_WORDS: usize = 2;
+
 // The size of an item in bytes. One past `usize::MAX` counts as `usize::MAX`.
 pub(crate) fn item_size<T>() -> usize
     ensures value { result ≡ capped (type_size T.row) }

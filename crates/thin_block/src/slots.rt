@@ -1,12 +1,13 @@
 //! One slot, or a run of them: items go in, out and along.
-ghost use Rattle.std.specs.Prelude.{◌≡◌, ◌⊎◌, ℕ, ◌+◌, ◌<◌, ◌≤◌, IsSome, length, slice_set};
+ghost use Rattle.std.specs.Prelude.{◌≡◌, ◌⊎◌, ℕ, ◌+◌, ◌<◌, ◌≤◌, ◌==◌, if◌then◌else◌, IsSome, length, slice_set};
 ghost use Rattle.core.specs.Mem.Slots.{IsFull, SamePlaces, slots_items, slots_len};
 ghost use Rattle.std.specs.declared.option.Option.TheVariants.{None, Some};
-ghost use Rattle.thin_block.specs.Cost.{Cost, moving};
-ghost use Rattle.thin_block.specs.Slots.{full, slot, run, laid, emptied, moved};
+ghost use Rattle.thin_block.specs.Cost.{Cost, growing, moving};
+ghost use Rattle.thin_block.specs.Slots.{AreEmpty, AreFilled, full, slot, run, laid, emptied, moved};
 
 use crate::block::Block;
 use crate::shifts::slide;
+use crate::sizes::HEADER_WORDS;
 use core::slots::Slots;
 use std::alloc::Allocator;
 
@@ -21,7 +22,32 @@ impl<T, A: Allocator> Block<T, A> {
         ensures cost { self.new.cost ≡ moving 1 self.old.cost }
     {
         let at = self.at;
-        unsafe { (at.add(2) as *mut T).add(i).write(value) }
+        unsafe { (at.add(HEADER_WORDS) as *mut T).add(i).write(value) }
+    }
+
+    // Says that the block has cost what `from` has, and one growth with its items. It does nothing.
+    pub(crate) fn charge_as(&mut self, from: &Block<T, A>)
+        ensures slots { self.new.slots ≡ self.old.slots }
+        ensures len { self.new.len ≡ self.old.len }
+        ensures heap { self.new.heap ≡ self.old.heap }
+        ensures cost { self.new.cost ≡ growing from.now.len from.now.cost }
+    {}
+
+    /// `put`, and then `store_len`: both by one pointer, so that writing the item can't make the block be read again.
+    pub fn put_and_store(&mut self, i: usize, value: T, len: usize)
+        requires in_bounds { i < length self.old.slots }
+        requires empty { slot self.old.slots i ≡ None }
+        requires len_in_bounds { len ≤ length self.old.slots }
+        ensures slots { self.new.slots ≡ slice_set self.old.slots i (Some value) }
+        ensures len { self.new.len ≡ len }
+        ensures heap { self.new.heap ≡ self.old.heap }
+        ensures cost { self.new.cost ≡ moving 1 self.old.cost }
+    {
+        let at = self.at;
+        unsafe {
+            (at.add(HEADER_WORDS) as *mut T).add(i).write(value);
+            *at.add(1) = len
+        }
     }
 
     /// Moves the item out of the slot `i`, which is empty afterwards. Only what comes in counts as moved.
@@ -34,7 +60,7 @@ impl<T, A: Allocator> Block<T, A> {
         ensures cost { self.new.cost ≡ self.old.cost }
     {
         let at = self.at;
-        unsafe { (at.add(2) as *mut T).add(i).read() }
+        unsafe { (at.add(HEADER_WORDS) as *mut T).add(i).read() }
     }
 
     /// Swaps the items in the slots `i` and `j`, which may be the same.
@@ -48,31 +74,52 @@ impl<T, A: Allocator> Block<T, A> {
     {
         let at = self.at;
         unsafe {
-            let one = (at.add(2) as *mut T).add(i);
-            let two = (at.add(2) as *mut T).add(j);
+            let one = (at.add(HEADER_WORDS) as *mut T).add(i);
+            let two = (at.add(HEADER_WORDS) as *mut T).add(j);
             let first = one.read();
             one.write(two.read());
             two.write(first)
         }
     }
 
+    /// Moves the item out of the slot `i`, and the one in the slot `j` into it. They may be the same slot: then nothing
+    /// moves but what comes out.
+    pub fn take_replacing(&mut self, i: usize, j: usize) -> T
+        requires first { IsSome (slot self.old.slots i) }
+        requires second { IsSome (slot self.old.slots j) }
+        ensures value { slot self.old.slots i ≡ Some result }
+        ensures slots { self.new.slots ≡ slice_set (slice_set self.old.slots i (slot self.old.slots j)) j None }
+        ensures len { self.new.len ≡ self.old.len }
+        ensures heap { self.new.heap ≡ self.old.heap }
+        ensures cost { self.new.cost ≡ moving (if i == j then 0 else 1) self.old.cost }
+    {
+        let at = self.at;
+        unsafe {
+            let out = (at.add(HEADER_WORDS) as *mut T).add(i);
+            let filler = (at.add(HEADER_WORDS) as *mut T).add(j);
+            let value = out.read();
+            out.write(filler.read());
+            value
+        }
+    }
+
     /// Moves the items of `values` into the empty slots from `i` on.
     pub fn put_array<const N: usize>(&mut self, i: usize, values: [T; N])
         requires in_bounds { i + N ≤ length self.old.slots }
-        requires empty { (k : ℕ) → i ≤ k → k < i + N → slot self.old.slots k ≡ None }
+        requires empty { AreEmpty self.old.slots i N }
         ensures slots { self.new.slots ≡ laid i (full values) self.old.slots }
         ensures len { self.new.len ≡ self.old.len }
         ensures heap { self.new.heap ≡ self.old.heap }
         ensures cost { self.new.cost ≡ moving N self.old.cost }
     {
         let at = self.at;
-        unsafe { ((at.add(2) as *mut T).add(i) as *mut [T; N]).write(values) }
+        unsafe { ((at.add(HEADER_WORDS) as *mut T).add(i) as *mut [T; N]).write(values) }
     }
 
     /// Moves the `N` items out of the slots from `i` on, which are empty afterwards.
     pub fn take_array<const N: usize>(&mut self, i: usize) -> [T; N]
         requires in_bounds { i + N ≤ length self.old.slots }
-        requires filled { (k : ℕ) → i ≤ k → k < i + N → IsSome (slot self.old.slots k) }
+        requires filled { AreFilled self.old.slots i N }
         ensures value { full result ≡ run i N self.old.slots }
         ensures slots { self.new.slots ≡ emptied i N self.old.slots }
         ensures len { self.new.len ≡ self.old.len }
@@ -80,14 +127,14 @@ impl<T, A: Allocator> Block<T, A> {
         ensures cost { self.new.cost ≡ self.old.cost }
     {
         let at = self.at;
-        unsafe { ((at.add(2) as *mut T).add(i) as *mut [T; N]).read() }
+        unsafe { ((at.add(HEADER_WORDS) as *mut T).add(i) as *mut [T; N]).read() }
     }
 
     /// Moves the `k` items in the slots from `from` on to those from `to` on. The two runs may overlap.
     pub fn move_run(&mut self, from: usize, to: usize, k: usize)
         requires source { from + k ≤ length self.old.slots }
         requires target { to + k ≤ length self.old.slots }
-        requires filled { (i : ℕ) → from ≤ i → i < from + k → IsSome (slot self.old.slots i) }
+        requires filled { AreFilled self.old.slots from k }
         requires empty { (i : ℕ) → to ≤ i → i < to + k → (i < from) ⊎ (from + k ≤ i) → slot self.old.slots i ≡ None }
         ensures slots { self.new.slots ≡ moved from to k self.old.slots }
         ensures cap { length self.new.slots ≡ length self.old.slots }
@@ -106,7 +153,7 @@ impl<T, A: Allocator> Block<T, A> {
     fn slide_run(&mut self, from: usize, to: usize, k: usize)
         requires source { from + k ≤ length self.old.slots }
         requires target { to + k ≤ length self.old.slots }
-        requires filled { (i : ℕ) → from ≤ i → i < from + k → IsSome (slot self.old.slots i) }
+        requires filled { AreFilled self.old.slots from k }
         requires empty { (i : ℕ) → to ≤ i → i < to + k → (i < from) ⊎ (from + k ≤ i) → slot self.old.slots i ≡ None }
         requires above { to < from + k }
         requires below { from < to + k }
@@ -117,7 +164,7 @@ impl<T, A: Allocator> Block<T, A> {
     {
         let at = self.at;
         unsafe {
-            let items = at.add(2) as *mut T;
+            let items = at.add(HEADER_WORDS) as *mut T;
             slide(items.add(from) as *const T, items.add(to), k, from < to)
         }
     }
@@ -126,7 +173,7 @@ impl<T, A: Allocator> Block<T, A> {
     fn copy_run(&mut self, from: usize, to: usize, k: usize)
         requires source { from + k ≤ length self.old.slots }
         requires target { to + k ≤ length self.old.slots }
-        requires filled { (i : ℕ) → from ≤ i → i < from + k → IsSome (slot self.old.slots i) }
+        requires filled { AreFilled self.old.slots from k }
         requires empty { (i : ℕ) → to ≤ i → i < to + k → (i < from) ⊎ (from + k ≤ i) → slot self.old.slots i ≡ None }
         requires apart { (from + k ≤ to) ⊎ (to + k ≤ from) }
         ensures slots { self.new.slots ≡ moved from to k self.old.slots }
@@ -136,7 +183,7 @@ impl<T, A: Allocator> Block<T, A> {
     {
         let at = self.at;
         unsafe {
-            let items = at.add(2) as *mut T;
+            let items = at.add(HEADER_WORDS) as *mut T;
             std::ptr::copy_nonoverlapping(items.add(from) as *const T, items.add(to), k)
         }
     }
@@ -145,8 +192,8 @@ impl<T, A: Allocator> Block<T, A> {
     pub fn move_run_to(&mut self, from: usize, k: usize, other: &mut Block<T, A>, to: usize)
         requires source { from + k ≤ length self.old.slots }
         requires target { to + k ≤ length other.old.slots }
-        requires filled { (i : ℕ) → from ≤ i → i < from + k → IsSome (slot self.old.slots i) }
-        requires empty { (i : ℕ) → to ≤ i → i < to + k → slot other.old.slots i ≡ None }
+        requires filled { AreFilled self.old.slots from k }
+        requires empty { AreEmpty other.old.slots to k }
 
         // This block's run is empty, and all else of it is kept.
         ensures slots { self.new.slots ≡ emptied from k self.old.slots }
@@ -169,8 +216,8 @@ impl<T, A: Allocator> Block<T, A> {
         ghost cost: { Cost }
         requires source { from + k ≤ length self.old.slots }
         requires target { to + k ≤ length to_block.old.slots }
-        requires filled { (i : ℕ) → from ≤ i → i < from + k → IsSome (slot self.old.slots i) }
-        requires empty { (i : ℕ) → to ≤ i → i < to + k → slot to_block.old.slots i ≡ None }
+        requires filled { AreFilled self.old.slots from k }
+        requires empty { AreEmpty to_block.old.slots to k }
         ensures slots { self.new.slots ≡ emptied from k self.old.slots }
         ensures len { self.new.len ≡ self.old.len }
         ensures heap { self.new.heap ≡ self.old.heap }
@@ -183,8 +230,8 @@ impl<T, A: Allocator> Block<T, A> {
         let from_at = self.at;
         let to_at = to_block.at;
         unsafe {
-            let source = (from_at.add(2) as *const T).add(from);
-            let target = (to_at.add(2) as *mut T).add(to);
+            let source = (from_at.add(HEADER_WORDS) as *const T).add(from);
+            let target = (to_at.add(HEADER_WORDS) as *mut T).add(to);
             std::ptr::copy_nonoverlapping(source, target, k)
         }
     }
@@ -194,7 +241,7 @@ impl<T: Copy, A: Allocator> Block<T, A> {
     /// Copies `items` into the empty slots from `i` on.
     pub fn copy_in(&mut self, i: usize, items: &[T])
         requires in_bounds { i + length items.now ≤ length self.old.slots }
-        requires empty { (k : ℕ) → i ≤ k → k < i + length items.now → slot self.old.slots k ≡ None }
+        requires empty { AreEmpty self.old.slots i (length items.now) }
         ensures slots { self.new.slots ≡ laid i (full items.now) self.old.slots }
         ensures len { self.new.len ≡ self.old.len }
         ensures heap { self.new.heap ≡ self.old.heap }
@@ -202,7 +249,7 @@ impl<T: Copy, A: Allocator> Block<T, A> {
     {
         let at = self.at;
         unsafe {
-            let room = Slots::from_raw_parts((at.add(2) as *mut T).add(i), items.len());
+            let room = Slots::from_raw_parts((at.add(HEADER_WORDS) as *mut T).add(i), items.len());
             let _copied = copied(room, items).into_raw_parts();
         }
     }

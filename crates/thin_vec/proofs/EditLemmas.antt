@@ -9,7 +9,10 @@ use Rattle.thin_block.specs.Block.{IsFrom}
 use Rattle.thin_block.specs.Slots.{full, empty, slot, items_in, front}
 use Rattle.thin_block.specs.declared.block.Block.{Block}
 use Rattle.thin_vec.specs.ThinVec.{IsThin}
-use Rattle.thin_vec.proofs.ListLemmas.{Settled, settled, from-same, front-pop, last-item, length-full, thin-room}
+use Rattle.thin_vec.proofs.ListLemmas.{Settled, settled, from-same, front-pop, last-item, length-full, settle-pop, thin-filled, thin-room}
+use Rattle.thin_block.proofs.SlotsLemmas.{same_or_not, the_item}
+use lib.Seq.{set-set, take-set-le}
+use mathlib.Core.Logic.{⊎_elim}
 
 module _ {T : Type 0} where
   -- c slots that held xs, of which those from k up to i were emptied
@@ -168,3 +171,29 @@ module _ {T A : Type 0} where
           let xs : List T = ys ++ m ∷ [] in
           let s : List T = set xs i (get_or xs (length xs - 1) v) in
           omega (arith, length-take-le (length xs - 1) s (omega (arith, length-set xs i (get_or xs (length xs - 1) v))), length_push ys m, long)
+
+  -- the last item takes the place of the i-th, which may be the last itself
+  pub settle-replaced : (b b' : Block T A) (a : A) (i last : ℕ) (v : T) → IsThin b a → i ≤ last → last + 1 ≡ b.len → slot b.slots i ≡ Some v
+      → b'.slots ≡ set (set b.slots i (slot b.slots last)) last None → b'.len ≡ last → b'.heap ≡ b.heap
+      → Settled b' a (swap_remove (items_in b.slots) i v) (length b.slots)
+  settle-replaced b b' a i last v t le n gave e l f =
+      let xs : List T = items_in b.slots in
+      let c : ℕ = length b.slots in
+      let low : last < length xs = omega (arith, n, t.packed.len) in
+      let short : length xs - 1 ≡ last = omega (arith, n, t.packed.len) in
+      ⊎_elim (λ (same : i ≡ last).
+      let popped : Settled b' a (take last xs) c =
+      settle-pop b b' a v last t n (sym (ap (λ (k : ℕ). slot b.slots k) same) ∙ gave)
+      (e ∙ (ap (λ (k : ℕ). set (set b.slots k (slot b.slots last)) last None) same ∙ set-set b.slots last (slot b.slots last) None)) l f in
+      let is : take last xs ≡ swap_remove xs i v =
+      sym (ap (λ (k : ℕ). take k (set xs i (get_or xs k v))) short ∙ take-set-le last xs i (get_or xs last v) (omega (arith, same))) in
+      subst (λ (ys : List T). Settled b' a ys c) is popped)
+      (λ (apart : i ≡ last → ⊥).
+      let m = the_item (slot b.slots last) (thin-filled b a last t low) in
+      let other : last ≢ i = λ (q : last ≡ i). apart (sym q) in
+      let lt : i < last = omega (arith, le, apart) in
+      settle-swap_remove b b' a i last v m.0 (set b.slots i None) (set (set b.slots i None) last None) (set (set (set b.slots i None) last None) i (Some m.0)) t lt n gave refl
+      (get_or-set_other b.slots i last None None other ∙ m.1) refl refl
+      (e ∙ (ap (λ (o : Option T). set (set b.slots i o) last None) m.1 ∙ (set_comm b.slots i last (Some m.0) None apart
+      ∙ sym (ap (λ (r : List (Option T)). set r i (Some m.0)) (set_comm b.slots i last None None apart) ∙ set-set (set b.slots last None) i None (Some m.0))))) l f)
+      (same_or_not i last)

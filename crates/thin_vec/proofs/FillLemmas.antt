@@ -15,7 +15,8 @@ use Rattle.thin_block.specs.Growth.{Rule, KeepsLaw}
 use Rattle.thin_block.specs.Slots.{full, laid}
 use Rattle.thin_block.proofs.CapacityLemmas.{ruled-grows}
 use Rattle.thin_block.proofs.SlotsLemmas.{laid-one}
-use Rattle.thin_vec.specs.Filling.{IsFilled, IsLoose}
+use Rattle.std.specs.Prelude.{◌⊎◌}
+use Rattle.thin_vec.specs.Filling.{IsNamed, IsFilled, IsLoose}
 use Rattle.thin_vec.specs.ThinVec.{Thin, capacity_for, cost_at}
 use Rattle.thin_vec.proofs.CloneLemmas.{moving-one}
 use Rattle.thin_vec.proofs.ListLemmas.{length-full}
@@ -74,39 +75,47 @@ module _ (rule : Rule) (R : RattleType) (law : KeepsLaw rule) where
   loose-join c d e (inl p) q = subst (λ n. IsLoose rule R n e) p q
   loose-join c d e (inr p) q = inr (p.0, p.1, p.2, p.3, omega (arith, p.4, loose-le d e q))
 
+  pub named-more : (c d d' n m : ℕ) → d' ≡ d → n ≤ m → IsNamed rule R c d n → IsNamed rule R c d' m
+  named-more c d d' n m same more (inl e) = inl (same ∙ e)
+  named-more c d d' n m same more (inr p) = inr (p.0, p.1, p.2, omega (arith, p.3, more), p.4 ∙ ap Some (sym same))
+
+  pub named-after : (c d e n : ℕ) (P : Type 0) → IsNamed rule R d e n → (e ≡ d → P) → IsNamed rule R c e n ⊎ P
+  named-after c d e n P (inl same) f = inr (f same)
+  named-after c d e n P (inr p) f = inl (inr p)
+
   -- a ruled capacity
-  pub loose-ruled : {T A : Type 0} (v : Thin T A) (k d : ℕ) → capacity_for rule R v k ≡ Some d → IsLoose rule R v.cap d
+  pub loose-ruled : {T A : Type 0} (v : Thin T A) (k d : ℕ) → capacity_for rule R v k ≡ Some d → IsLoose rule R v.capacity d
   loose-ruled v k d e =
-      elim (cases_lt v.cap (length v.items + k)) [
+      elim (cases_lt v.capacity (length v.items + k)) [
         | inl more ↦ inr (length v.items + k, d, more, e, omega arith)
         | inr spare ↦ inl (cap-kept rule R law v k d spare e)
       ]
 
 module _ {T A : Type 0} where
   -- k items that came in by as many moves, after at most one growth
-  pub filled-at : (v w : Thin T A) (k : ℕ) → w.cost ≡ moving k (cost_at v w.cap) → length w.items ≡ length v.items + k → IsFilled v w
+  pub filled-at : (v w : Thin T A) (k : ℕ) → w.cost ≡ moving k (cost_at v w.capacity) → length w.items ≡ length v.items + k → IsFilled v w
   filled-at v w k e n = record {
-    moves = omega (arith, ap (λ c. c.moves) e, cost_at-moves v w.cap, n);
-    kept = λ same. (ap (λ c. c.blocks) (e ∙ ap (λ c. moving k c) (cost_at-same v w.cap same)), ap (λ c. c.grown) (e ∙ ap (λ c. moving k c) (cost_at-same v w.cap same)));
-    grown = λ more. let f = e ∙ ap (λ c. moving k c) (cost_at-more v w.cap more) in (omega (arith, ap (λ c. c.blocks) f), omega (arith, ap (λ c. c.grown) f));
+    moves = omega (arith, ap (λ c. c.moves) e, cost_at-moves v w.capacity, n);
+    kept = λ same. (ap (λ c. c.blocks) (e ∙ ap (λ c. moving k c) (cost_at-same v w.capacity same)), ap (λ c. c.grown) (e ∙ ap (λ c. moving k c) (cost_at-same v w.capacity same)));
+    grown = λ more. let f = e ∙ ap (λ c. moving k c) (cost_at-more v w.capacity more) in (omega (arith, ap (λ c. c.blocks) f), omega (arith, ap (λ c. c.grown) f));
   }
 
   -- none came in
-  pub filled-reserved : (v w : Thin T A) → w.cost ≡ cost_at v w.cap → w.items ≡ v.items → IsFilled v w
+  pub filled-reserved : (v w : Thin T A) → w.cost ≡ cost_at v w.capacity → w.items ≡ v.items → IsFilled v w
   filled-reserved v w e n =
-      filled-at v w 0 (e ∙ (λ i. record { blocks = (cost_at v w.cap).blocks; grown = (cost_at v w.cap).grown; moves = (let z : (cost_at v w.cap).moves ≡ (cost_at v w.cap).moves + 0 = omega arith in z) i })) (omega (arith, ap length n))
+      filled-at v w 0 (e ∙ (λ i. record { blocks = (cost_at v w.capacity).blocks; grown = (cost_at v w.capacity).grown; moves = (let z : (cost_at v w.capacity).moves ≡ (cost_at v w.capacity).moves + 0 = omega arith in z) i })) (omega (arith, ap length n))
 
   -- without a growth
-  pub filled-spare : (v w : Thin T A) (k : ℕ) → w.cost ≡ moving k v.cost → w.cap ≡ v.cap → length w.items ≡ length v.items + k → IsFilled v w
-  filled-spare v w k e same n = filled-at v w k (e ∙ ap (λ c. moving k c) (sym (cost_at-same v w.cap same))) n
+  pub filled-spare : (v w : Thin T A) (k : ℕ) → w.cost ≡ moving k v.cost → w.capacity ≡ v.capacity → length w.items ≡ length v.items + k → IsFilled v w
+  filled-spare v w k e same n = filled-at v w k (e ∙ ap (λ c. moving k c) (sym (cost_at-same v w.capacity same))) n
 
   -- one step after another
-  pub filled-join : (v u w : Thin T A) → v.cap ≤ u.cap → u.cap ≤ w.cap → length v.items ≤ length u.items → IsFilled v u → IsFilled u w → IsFilled v w
+  pub filled-join : (v u w : Thin T A) → v.capacity ≤ u.capacity → u.capacity ≤ w.capacity → length v.items ≤ length u.items → IsFilled v u → IsFilled u w → IsFilled v w
   filled-join v u w low high long p q = record {
     moves = omega (arith, p.moves, q.moves);
-    kept = λ same. let a : u.cap ≡ v.cap = omega arith in let b : w.cap ≡ u.cap = omega arith in let f = p.kept a in let h = q.kept b in (h.0 ∙ f.0, h.1 ∙ f.1);
-    grown = λ more. elim (cases_lt v.cap u.cap) [
-      | inl first ↦ elim (cases_lt u.cap w.cap) [
+    kept = λ same. let a : u.capacity ≡ v.capacity = omega arith in let b : w.capacity ≡ u.capacity = omega arith in let f = p.kept a in let h = q.kept b in (h.0 ∙ f.0, h.1 ∙ f.1);
+    grown = λ more. elim (cases_lt v.capacity u.capacity) [
+      | inl first ↦ elim (cases_lt u.capacity w.capacity) [
         | inl again ↦ let f = p.grown first in let h = q.grown again in (omega (arith, f.0, h.0), omega (arith, f.1, h.1))
         | inr still ↦ let f = p.grown first in let h = q.kept (omega arith) in (omega (arith, f.0, h.0), omega (arith, f.1, h.1))
       ]

@@ -32,7 +32,7 @@ module _ {T A : Type 0} where
   pub view-with_items : (b : Block T A) (a : A) (ws : List T) → IsThin b a → thin_of (block_with_items b 0 ws) a ≡ with_items (thin_of b a) ws
   view-with_items b a ws t =
       let f = settle-over b (block_with_items b 0 ws) a ws t refl refl refl in
-      λ i. record { items = f.items i; cap = f.cap i; alloc = a; cost = b.cost }
+      λ i. record { items = f.items i; capacity = f.cap i; alloc = a; cost = b.cost }
 
   -- and behind one of which an item was written
   pub settle-set : (b b' : Block T A) (a : A) (i : ℕ) (w : T) → IsThin b a → i < length (items_in b.slots) → b'.slots ≡ set b.slots i (Some w) → b'.len ≡ b.len → b'.heap ≡ b.heap
@@ -47,4 +47,4 @@ module _ {T A : Type 0} where
   pub view-with_item : (b : Block T A) (a : A) (i : ℕ) (w : T) → IsThin b a → i < length (items_in b.slots) → thin_of (block_with_item b i w) a ≡ with_item (thin_of b a) i w
   view-with_item b a i w t within =
       let f = settle-set b (block_with_item b i w) a i w t within refl refl refl in
-      λ k. record { items = f.items k; cap = f.cap k; alloc = a; cost = b.cost }
+      λ k. record { items = f.items k; capacity = f.cap k; alloc = a; cost = b.cost }

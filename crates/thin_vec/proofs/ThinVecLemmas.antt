@@ -15,14 +15,14 @@ some-same e = cc
 
 -- what a list has cost once its capacity is c
 module _ {T A : Type 0} (v : Thin T A) (c : ℕ) where
-  pub cost_at-same : c ≡ v.cap → cost_at v c ≡ v.cost
-  cost_at-same e = let t : eqb c v.cap ≡ true = grind (arith, nat_tests) in rw t refl
+  pub cost_at-same : c ≡ v.capacity → cost_at v c ≡ v.cost
+  cost_at-same e = let t : eqb c v.capacity ≡ true = grind (arith, nat_tests) in rw t refl
 
-  pub cost_at-more : v.cap < c → cost_at v c ≡ growing (length v.items) v.cost
-  cost_at-more e = let t : eqb c v.cap ≡ false = grind (arith, nat_tests) in rw t refl
+  pub cost_at-more : v.capacity < c → cost_at v c ≡ growing (length v.items) v.cost
+  cost_at-more e = let t : eqb c v.capacity ≡ false = grind (arith, nat_tests) in rw t refl
 
   pub cost_at-moves : (cost_at v c).moves ≡ v.cost.moves
-  cost_at-moves = go (eqb c v.cap)
+  cost_at-moves = go (eqb c v.capacity)
     where
       go : (b : Bool) → (if b then v.cost else growing (length v.items) v.cost).moves ≡ v.cost.moves
       go true = refl
@@ -30,17 +30,17 @@ module _ {T A : Type 0} (v : Thin T A) (c : ℕ) where
 
 module _ {T A : Type 0} (rule : Rule) (R : RattleType) (law : KeepsLaw rule) (v : Thin T A) (k c : ℕ) where
   -- where there is room, the ruled capacity is the one that is there, and nothing is paid
-  pub cap-kept : length v.items + k ≤ v.cap → capacity_for rule R v k ≡ Some c → c ≡ v.cap
-  cap-kept room e = some-same (sym e ∙ ruled-same rule R v.cap (length v.items + k) room)
+  pub cap-kept : length v.items + k ≤ v.capacity → capacity_for rule R v k ≡ Some c → c ≡ v.capacity
+  cap-kept room e = some-same (sym e ∙ ruled-same rule R v.capacity (length v.items + k) room)
 
-  pub cost_at-kept : length v.items + k ≤ v.cap → capacity_for rule R v k ≡ Some c → cost_at v c ≡ v.cost
+  pub cost_at-kept : length v.items + k ≤ v.capacity → capacity_for rule R v k ≡ Some c → cost_at v c ≡ v.cost
   cost_at-kept room e = cost_at-same v c (cap-kept room e)
 
   -- where there is none, the capacity grows, and each item is copied
-  pub cap-grown : v.cap < length v.items + k → capacity_for rule R v k ≡ Some c → (length v.items + k ≤ c) × (2 * v.cap ≤ c)
-  cap-grown more e = let g = ruled-grows rule R v.cap (length v.items + k) c law more e in (g.enough, g.doubled)
+  pub cap-grown : v.capacity < length v.items + k → capacity_for rule R v k ≡ Some c → (length v.items + k ≤ c) × (2 * v.capacity ≤ c)
+  cap-grown more e = let g = ruled-grows rule R v.capacity (length v.items + k) c law more e in (g.enough, g.doubled)
 
-  pub cost_at-grown : v.cap < length v.items + k → capacity_for rule R v k ≡ Some c → cost_at v c ≡ growing (length v.items) v.cost
+  pub cost_at-grown : v.capacity < length v.items + k → capacity_for rule R v k ≡ Some c → cost_at v c ≡ growing (length v.items) v.cost
   cost_at-grown more e =
       let g = cap-grown more e in
       cost_at-more v c (omega (arith, g.0))
@@ -58,10 +58,10 @@ cheap-growing (suc c) n c' k h le larger doubled =
     record { none = λ q. absurd (omega (arith, larger)); grown = λ q. omega (arith, doubled, few, le); blocks = λ q. omega (arith, twice, half, doubled) }
 
 -- a cheap list stays cheap where its capacity becomes the ruled one
-pub cheap-regrown : {T A : Type 0} (rule : Rule) (R : RattleType) → KeepsLaw rule → (v : Thin T A) (k c : ℕ) → IsCheap v → length v.items ≤ v.cap → capacity_for rule R v k ≡ Some c → IsCheapAt c (cost_at v c)
+pub cheap-regrown : {T A : Type 0} (rule : Rule) (R : RattleType) → KeepsLaw rule → (v : Thin T A) (k c : ℕ) → IsCheap v → length v.items ≤ v.capacity → capacity_for rule R v k ≡ Some c → IsCheapAt c (cost_at v c)
 cheap-regrown rule R law v k c h room e =
-    elim (cases_lt v.cap (length v.items + k)) [
+    elim (cases_lt v.capacity (length v.items + k)) [
       | inl more ↦ let g = cap-grown rule R law v k c more e in
-          rw (cost_at-grown rule R law v k c more e) (cheap-growing v.cap (length v.items) c v.cost h room (omega (arith, g.0)) g.1)
+          rw (cost_at-grown rule R law v k c more e) (cheap-growing v.capacity (length v.items) c v.cost h room (omega (arith, g.0)) g.1)
       | inr spare ↦ rw (cost_at-kept rule R law v k c spare e, cap-kept rule R law v k c spare e) h
     ]

@@ -186,7 +186,7 @@ module _ {T A : Type 0} where
   pub view-written : (b : Block T A) (a : A) (start end : ℕ) (ws : List T) → IsWalked b a start end → thin_of (block_with_items b start ws) a ≡ with_items (thin_of b a) ws
   view-written b a start end ws t =
       let f = settle-written b (block_with_items b start ws) a start end ws t refl refl in
-      λ i. record { items = f.items i; cap = f.cap i; alloc = a; cost = b.cost }
+      λ i. record { items = f.items i; capacity = f.cap i; alloc = a; cost = b.cost }
 
   -- nothing remains: every slot is empty
   pub walked-empty : (b : Block T A) (a : A) (start end : ℕ) → IsWalked b a start end → length (items_in b.slots) ≡ 0 → b.slots ≡ empty (length b.slots)

@@ -44,5 +44,5 @@ pub record StopsAtClone {T : Type 0} (infallible : T → Type 0) (sources : List
 
 -- there was room for k items more than those of v, or it was made, and then the clone of a source was refused
 pub record IsCloneRefused {T A : Type 0} (rule : Rule) (R : RattleType) (infallible : T → Type 0) (sources : List T) (k : ℕ) (v w : Thin T A) : Type 0 where
-  pub capacity : capacity_for rule R v k ≡ Some w.cap
-  pub stopped : StopsAtClone infallible sources (cost_at v w.cap) w.cost
+  pub capacity : capacity_for rule R v k ≡ Some w.capacity
+  pub stopped : StopsAtClone infallible sources (cost_at v w.capacity) w.cost

@@ -11,4 +11,4 @@ pub record IsCheapAt (cap : ℕ) (cost : Cost) : Type 0 where
   pub blocks : 0 < cap → 2 ^ cost.blocks ≤ 2 * cap
 
 abbrev pub IsCheap : {T A : Type 0} → Thin T A → Type 0
-IsCheap v = IsCheapAt v.cap v.cost
+IsCheap v = IsCheapAt v.capacity v.cost

@@ -12,13 +12,17 @@ use Rattle.thin_vec.specs.ThinVec.{Thin, capacity_for}
 abbrev pub IsLoose : Rule → RattleType → ℕ → ℕ → Type 0
 IsLoose rule R c d = (d ≡ c) ⊎ ((w : ℕ) × (n : ℕ) × (c < w) × (ruled_capacity rule R c w ≡ Some n) × (n ≤ d))
 
+-- d is c, or the capacity that the rule names for a want of at most n
+abbrev pub IsNamed : Rule → RattleType → ℕ → ℕ → ℕ → Type 0
+IsNamed rule R c d n = (d ≡ c) ⊎ ((e w : ℕ) × (e < w) × (w ≤ n) × (ruled_capacity rule R e w ≡ Some d))
+
 module _ {T A : Type 0} where
   -- what w has cost that was v, before items went in behind: one move for each of them; no block and no copied item more where
   -- the capacity stayed; where it grew, at least one block more, into which at least the items of v were copied
   pub record IsFilled (v w : Thin T A) : Type 0 where
     pub moves : w.cost.moves + length v.items ≡ v.cost.moves + length w.items
-    pub kept : w.cap ≡ v.cap → (w.cost.blocks ≡ v.cost.blocks) × (w.cost.grown ≡ v.cost.grown)
-    pub grown : v.cap < w.cap → (v.cost.blocks < w.cost.blocks) × (v.cost.grown + length v.items ≤ w.cost.grown)
+    pub kept : w.capacity ≡ v.capacity → (w.cost.blocks ≡ v.cost.blocks) × (w.cost.grown ≡ v.cost.grown)
+    pub grown : v.capacity < w.capacity → (v.cost.blocks < w.cost.blocks) × (v.cost.grown + length v.items ≤ w.cost.grown)
 
   -- no capacity is ruled for what was wanted: one place more, for the item in hand, or, where no item was drawn, as many more
   -- as a hint allows that has `left` to give

@@ -1,5 +1,8 @@
 -- What a contract sees of a `ThinVec`: a list of items and a capacity. (std: `Vec`, "Guarantees")
-use Rattle.std.specs.Prelude.{◌≡◌, ℕ, ◌+◌, ◌==◌, List, [], Option, if◌then◌else◌, length, refl}
+use Rattle.std.specs.Prelude.{◌≡◌, ℕ, ◌+◌, ◌≤◌, ◌==◌, List, [], Option, if◌then◌else◌, length, refl}
+use Rattle.std.specs.declared.option.Option.TheVariants.{None}
+use Rattle.thin_block.specs.declared.errors.ThinVecError.{ThinVecError}
+use Rattle.thin_block.specs.declared.errors.ThinVecError.TheVariants.{CapacityOverflow}
 use Rattle.std.specs.Borrow.{RattleType}
 use Rattle.std.specs.Coded.{Coded, code_by, coded×, coded_ℕ, coded_list}
 use Rattle.thin_block.specs.Block.{IsFrom}
@@ -11,14 +14,14 @@ use Rattle.thin_block.specs.declared.block.Block.{Block}
 -- the items in order, how many there is room for, the allocator, and what the list's blocks have cost
 pub record Thin (T A : Type 0) : Type 0 where
   pub items : List T
-  pub cap : ℕ
+  pub capacity : ℕ
   pub alloc : A
   pub cost : Cost
 
 abbrev pub thin_code : {T A : Type 0} → Coded T → Coded A → Coded (Thin T A)
 thin_code {T} {A} t a =
     code_by (List T × (ℕ × (A × Cost))) (coded× (coded_list t) (coded× coded_ℕ (coded× a cost_code)))
-    (λ v. (v.items, (v.cap, (v.alloc, v.cost)))) (λ p. record { items = p.0; cap = p.1.0; alloc = p.1.1.0; cost = p.1.1.1 }) (λ _. refl)
+    (λ v. (v.items, (v.capacity, (v.alloc, v.cost)))) (λ p. record { items = p.0; capacity = p.1.0; alloc = p.1.1.0; cost = p.1.1.1 }) (λ _. refl)
 
 module _ {T A : Type 0} where
   -- the items lie in the first slots, the stored length counts them, and the memory came from the list's allocator
@@ -27,30 +30,38 @@ module _ {T A : Type 0} where
     pub from : IsFrom b a
 
   abbrev pub thin_of : Block T A → A → Thin T A
-  thin_of b a = record { items = items_in b.slots; cap = length b.slots; alloc = a; cost = b.cost }
+  thin_of b a = record { items = items_in b.slots; capacity = length b.slots; alloc = a; cost = b.cost }
 
   -- no item, no block, nothing paid
   pub record IsNew (v : Thin T A) (a : A) : Type 0 where
     pub items : v.items ≡ []
-    pub capacity : v.cap ≡ 0
+    pub capacity : v.capacity ≡ 0
     pub alloc : v.alloc ≡ a
     pub cost : v.cost ≡ no_cost
 
+  -- k more items fit with no growth
+  abbrev pub HasRoomFor : Thin T A → ℕ → Type 0
+  HasRoomFor v k = length v.items + k ≤ v.capacity
+
   -- the capacity that a rule names where v is to have room for k more items of R: None where it overflows
   abbrev pub capacity_for : Rule → RattleType → Thin T A → ℕ → Option ℕ
-  capacity_for rule R v k = ruled_capacity rule R v.cap (length v.items + k)
+  capacity_for rule R v k = ruled_capacity rule R v.capacity (length v.items + k)
 
   -- the same where it is to have room for exactly so many
   abbrev pub exact_for : RattleType → Thin T A → ℕ → Option ℕ
-  exact_for R v k = exact_capacity R v.cap (length v.items + k)
+  exact_for R v k = exact_capacity R v.capacity (length v.items + k)
 
   -- what v has cost once its capacity is c: one more block, into which its items were copied, where that is another
   abbrev pub cost_at : Thin T A → ℕ → Cost
-  cost_at v c = if c == v.cap then v.cost else growing (length v.items) v.cost
+  cost_at v c = if c == v.capacity then v.cost else growing (length v.items) v.cost
 
   -- what v has cost once its capacity is its length
   abbrev pub cost_shrunk : Thin T A → Cost
-  cost_shrunk v = if length v.items == v.cap then v.cost else (if length v.items == 0 then no_cost else growing (length v.items) v.cost)
+  cost_shrunk v = if length v.items == v.capacity then v.cost else (if length v.items == 0 then no_cost else growing (length v.items) v.cost)
+
+-- it was refused as an overflow only where no capacity was named
+abbrev pub IsCause : Option ℕ → ThinVecError → Type 0
+IsCause named cause = cause ≡ CapacityOverflow → named ≡ None
 
 -- what a list of no items has cost that was made with the capacity c
 abbrev pub cost_new : ℕ → Cost

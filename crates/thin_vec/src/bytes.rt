@@ -23,7 +23,7 @@ impl<A: Allocator> ThinVec<u8, A> {
         ensures overflow { exact_capacity u8 0 (length text.now) ≡ None → IsErrOf result ThinVecError.CapacityOverflow }
         ensures cause { IfErr result (λ cause. cause ≡ ThinVecError.CapacityOverflow → exact_capacity u8 0 (length text.now) ≡ None) }
         ensures items { IfOk result (λ list. list.items ≡ text.now) }
-        ensures capacity { IfOk result (λ list. list.cap ≡ length text.now) }
+        ensures capacity { IfOk result (λ list. list.capacity ≡ length text.now) }
         ensures alloc { IfOk result (λ list. list.alloc ≡ alloc) }
         ensures cost { IfOk result (λ list. list.cost ≡ moving (length text.now) (cost_new (length text.now))) }
         ensures cheap { IfOk result (λ list. IsCheap list) }
@@ -39,17 +39,20 @@ impl<A: Allocator> ThinVec<u8, A> {
 }
 
 impl<T: Copy, A: Allocator, G: Growth> ThinVec<T, A, G> {
-    // Copies `items` into the spare room.
-    fn append_copies(&mut self, items: &[T])
-        requires room { length self.old.items + length items.now ≤ self.old.cap }
+    // Copies `items` into the spare room, as one run.
+    pub(crate) fn append_copies(&mut self, items: &[T])
+        requires room { length self.old.items + length items.now ≤ self.old.capacity }
         ensures items { self.new.items ≡ self.old.items ++ items.now }
-        ensures capacity { self.new.cap ≡ self.old.cap }
+        ensures capacity { self.new.capacity ≡ self.old.capacity }
         ensures alloc { self.new.alloc ≡ self.old.alloc }
         ensures cost { self.new.cost ≡ moving (length items.now) self.old.cost }
     {
+        if items.is_empty() {
+            return;
+        }
         let len = self.block.len();
         self.block.copy_in(len, items);
-        self.block.set_len(len + items.len());
+        self.block.store_len(len + items.len());
     }
 }
 
@@ -63,15 +66,15 @@ impl<A: Allocator, G: Growth> Write for ThinVec<u8, A, G> {
     /// It is refused as `reserve` is, and then nothing changes. The error's kind is `OutOfMemory` also where the ruled
     /// capacity overflows.
     fn write(&mut self, buf: &[u8]) -> io::Result<usize>
-        ensures succeeds { length self.old.items + length buf.now ≤ self.old.cap → IsOk result }
+        ensures succeeds { length self.old.items + length buf.now ≤ self.old.capacity → IsOk result }
         ensures succeeds_empty { buf.now ≡ [] → IsOk result }
         ensures overflow { capacity_for G.rule u8 self.old (length buf.now) ≡ None → IsErrAnd result (λ error. error_kind error ≡ ErrorKind.OutOfMemory) }
         ensures cause { IfErr result (λ error. error_kind error ≡ ErrorKind.OutOfMemory) }
         ensures value { IfOk result (λ count. count ≡ length buf.now) }
         ensures items { OnOk result (self.new.items ≡ self.old.items ++ buf.now) }
-        ensures capacity { OnOk result (capacity_for G.rule u8 self.old (length buf.now) ≡ Some self.new.cap) }
-        ensures had_room { length self.old.items + length buf.now ≤ self.old.cap → self.new.cap ≡ self.old.cap }
-        ensures cost { OnOk result (self.new.cost ≡ moving (length buf.now) (cost_at self.old self.new.cap)) }
+        ensures capacity { OnOk result (capacity_for G.rule u8 self.old (length buf.now) ≡ Some self.new.capacity) }
+        ensures had_room { length self.old.items + length buf.now ≤ self.old.capacity → self.new.capacity ≡ self.old.capacity }
+        ensures cost { OnOk result (self.new.cost ≡ moving (length buf.now) (cost_at self.old self.new.capacity)) }
         ensures alloc { self.new.alloc ≡ self.old.alloc }
         ensures cheap { IsCheap self.old → IsCheap self.new }
         ensures err { OnErr result (self.new ≡ self.old) }
@@ -84,14 +87,14 @@ impl<A: Allocator, G: Growth> Write for ThinVec<u8, A, G> {
     ///
     /// It is refused as `write` is.
     fn write_all(&mut self, buf: &[u8]) -> io::Result<()>
-        ensures succeeds { length self.old.items + length buf.now ≤ self.old.cap → IsOk result }
+        ensures succeeds { length self.old.items + length buf.now ≤ self.old.capacity → IsOk result }
         ensures succeeds_empty { buf.now ≡ [] → IsOk result }
         ensures overflow { capacity_for G.rule u8 self.old (length buf.now) ≡ None → IsErrAnd result (λ error. error_kind error ≡ ErrorKind.OutOfMemory) }
         ensures cause { IfErr result (λ error. error_kind error ≡ ErrorKind.OutOfMemory) }
         ensures items { OnOk result (self.new.items ≡ self.old.items ++ buf.now) }
-        ensures capacity { OnOk result (capacity_for G.rule u8 self.old (length buf.now) ≡ Some self.new.cap) }
-        ensures had_room { length self.old.items + length buf.now ≤ self.old.cap → self.new.cap ≡ self.old.cap }
-        ensures cost { OnOk result (self.new.cost ≡ moving (length buf.now) (cost_at self.old self.new.cap)) }
+        ensures capacity { OnOk result (capacity_for G.rule u8 self.old (length buf.now) ≡ Some self.new.capacity) }
+        ensures had_room { length self.old.items + length buf.now ≤ self.old.capacity → self.new.capacity ≡ self.old.capacity }
+        ensures cost { OnOk result (self.new.cost ≡ moving (length buf.now) (cost_at self.old self.new.capacity)) }
         ensures alloc { self.new.alloc ≡ self.old.alloc }
         ensures cheap { IsCheap self.old → IsCheap self.new }
         ensures err { OnErr result (self.new ≡ self.old) }

@@ -12,23 +12,24 @@ use thin_block::{Block, Growth, ThinVecError, fits};
 
 impl<T, A: Allocator, G: Growth> ThinVec<T, A, G> {
     ghost use Rattle.thin_vec.specs.Costs.{IsCheap};
-    ghost use Rattle.thin_vec.specs.ThinVec.{capacity_for, cost_at, cost_new, cost_shrunk, exact_for};
+    ghost use Rattle.thin_vec.specs.ThinVec.{HasRoomFor, IsCause, capacity_for, cost_at, cost_new, cost_shrunk, exact_for};
 
     /// Makes room for `additional` more items: where there is not room enough, the capacity becomes the ruled one.
     ///
     /// It is refused where that capacity overflows, or where memory is refused, and then nothing changes.
     #[tactic(auto, using(thin_block::proofs::CapacityLemmas::ruled))]
     pub fn reserve(&mut self, additional: usize) -> Result<(), ThinVecError>
-        ensures succeeds { length self.old.items + additional ≤ self.old.cap → IsOk result }
+        ensures succeeds { HasRoomFor self.old additional → IsOk result }
         ensures succeeds_empty { additional ≡ 0 → IsOk result }
         ensures overflow { capacity_for G.rule T.row self.old additional ≡ None → IsErrOf result ThinVecError.CapacityOverflow }
-        ensures cause { IfErr result (λ cause. cause ≡ ThinVecError.CapacityOverflow → capacity_for G.rule T.row self.old additional ≡ None) }
+        ensures cause { IfErr result (IsCause (capacity_for G.rule T.row self.old additional)) }
         ensures items { self.new.items ≡ self.old.items }
-        ensures capacity { OnOk result (capacity_for G.rule T.row self.old additional ≡ Some self.new.cap) }
-        ensures had_room { length self.old.items + additional ≤ self.old.cap → self.new.cap ≡ self.old.cap }
-        ensures room { OnOk result (length self.old.items + additional ≤ self.new.cap) }
+        ensures capacity { OnOk result (capacity_for G.rule T.row self.old additional ≡ Some self.new.capacity) }
+        ensures had_room { HasRoomFor self.old additional → self.new.capacity ≡ self.old.capacity }
+        ensures room { OnOk result (HasRoomFor self.new additional) }
+        ensures never_less { self.old.capacity ≤ self.new.capacity }
         ensures alloc { self.new.alloc ≡ self.old.alloc }
-        ensures cost { OnOk result (self.new.cost ≡ cost_at self.old self.new.cap) }
+        ensures cost { OnOk result (self.new.cost ≡ cost_at self.old self.new.capacity) }
         ensures err { OnErr result (self.new ≡ self.old) }
         ensures cheap { IsCheap self.old → IsCheap self.new }
     {
@@ -45,16 +46,16 @@ impl<T, A: Allocator, G: Growth> ThinVec<T, A, G> {
     /// grows by this call alone copies its items each time: see `reserve`.
     #[tactic(auto, using(thin_block::proofs::CapacityLemmas::exact))]
     pub fn reserve_exact(&mut self, additional: usize) -> Result<(), ThinVecError>
-        ensures succeeds { length self.old.items + additional ≤ self.old.cap → IsOk result }
+        ensures succeeds { HasRoomFor self.old additional → IsOk result }
         ensures succeeds_empty { additional ≡ 0 → IsOk result }
         ensures overflow { exact_for T.row self.old additional ≡ None → IsErrOf result ThinVecError.CapacityOverflow }
-        ensures cause { IfErr result (λ cause. cause ≡ ThinVecError.CapacityOverflow → exact_for T.row self.old additional ≡ None) }
+        ensures cause { IfErr result (IsCause (exact_for T.row self.old additional)) }
         ensures items { self.new.items ≡ self.old.items }
-        ensures capacity { OnOk result (exact_for T.row self.old additional ≡ Some self.new.cap) }
-        ensures had_room { length self.old.items + additional ≤ self.old.cap → self.new.cap ≡ self.old.cap }
-        ensures room { OnOk result (length self.old.items + additional ≤ self.new.cap) }
+        ensures capacity { OnOk result (exact_for T.row self.old additional ≡ Some self.new.capacity) }
+        ensures had_room { HasRoomFor self.old additional → self.new.capacity ≡ self.old.capacity }
+        ensures room { OnOk result (HasRoomFor self.new additional) }
         ensures alloc { self.new.alloc ≡ self.old.alloc }
-        ensures cost { OnOk result (self.new.cost ≡ cost_at self.old self.new.cap) }
+        ensures cost { OnOk result (self.new.cost ≡ cost_at self.old self.new.capacity) }
         ensures err { OnErr result (self.new ≡ self.old) }
     {
         if additional <= self.capacity() - self.len() {
@@ -72,9 +73,9 @@ impl<T, A: Allocator, G: Growth> ThinVec<T, A, G> {
     /// counters again.
     pub fn shrink_to_fit(&mut self) -> Result<(), ThinVecError>
         ensures succeeds_empty { self.old.items ≡ [] → IsOk result }
-        ensures succeeds_full { length self.old.items ≡ self.old.cap → IsOk result }
+        ensures succeeds_full { length self.old.items ≡ self.old.capacity → IsOk result }
         ensures items { self.new.items ≡ self.old.items }
-        ensures capacity { OnOk result (self.new.cap ≡ length self.old.items) }
+        ensures capacity { OnOk result (self.new.capacity ≡ length self.old.items) }
         ensures alloc { self.new.alloc ≡ self.old.alloc }
         ensures cost { OnOk result (self.new.cost ≡ cost_shrunk self.old) }
         ensures err { OnErr result (self.new ≡ self.old) }
@@ -94,12 +95,12 @@ impl<T, A: Allocator, G: Growth> ThinVec<T, A, G> {
     // `reserve` where there is not room enough.
     #[cold]
     fn grow_for(&mut self, additional: usize) -> Result<(), ThinVecError>
-        requires more { self.old.cap < length self.old.items + additional }
+        requires more { self.old.capacity < length self.old.items + additional }
         ensures overflow { capacity_for G.rule T.row self.old additional ≡ None → IsErrOf result ThinVecError.CapacityOverflow }
-        ensures cause { IfErr result (λ cause. cause ≡ ThinVecError.CapacityOverflow → capacity_for G.rule T.row self.old additional ≡ None) }
+        ensures cause { IfErr result (IsCause (capacity_for G.rule T.row self.old additional)) }
         ensures items { self.new.items ≡ self.old.items }
-        ensures capacity { OnOk result (capacity_for G.rule T.row self.old additional ≡ Some self.new.cap) }
-        ensures grown { OnOk result (Grows T.row self.old.cap (length self.old.items + additional) self.new.cap) }
+        ensures capacity { OnOk result (capacity_for G.rule T.row self.old additional ≡ Some self.new.capacity) }
+        ensures grown { OnOk result (Grows T.row self.old.capacity (length self.old.items + additional) self.new.capacity) }
         ensures alloc { self.new.alloc ≡ self.old.alloc }
         ensures cost { OnOk result (self.new.cost ≡ growing (length self.old.items) self.old.cost) }
         ensures err { OnErr result (self.new ≡ self.old) }
@@ -113,9 +114,9 @@ impl<T, A: Allocator, G: Growth> ThinVec<T, A, G> {
     // The ruled capacity. Every one is computed here.
     #[tactic(auto, using(thin_block::proofs::CapacityLemmas::ruled))]
     fn next_capacity(&self, additional: usize) -> Option<usize>
-        requires more { self.now.cap < length self.now.items + additional }
+        requires more { self.now.capacity < length self.now.items + additional }
         ensures value { result ≡ capacity_for G.rule T.row self.now additional }
-        ensures grown { IfSome result (λ next. Grows T.row self.now.cap (length self.now.items + additional) next) }
+        ensures grown { IfSome result (λ next. Grows T.row self.now.capacity (length self.now.items + additional) next) }
     {
         match self.len().checked_add(additional) {
             Some(want) => G::next_capacity::<T>(self.capacity(), want),
@@ -125,19 +126,16 @@ impl<T, A: Allocator, G: Growth> ThinVec<T, A, G> {
 
     // Every growth is made here.
     pub(crate) fn grow_to(&mut self, cap: usize) -> Result<(), ThinVecError>
-        requires larger { self.old.cap < cap }
+        requires larger { self.old.capacity < cap }
         requires fits { Fits T.row cap }
         ensures items { self.new.items ≡ self.old.items }
-        ensures capacity { OnOk result (self.new.cap ≡ cap) }
+        ensures capacity { OnOk result (self.new.capacity ≡ cap) }
         ensures alloc { self.new.alloc ≡ self.old.alloc }
         ensures cost { OnOk result (self.new.cost ≡ growing (length self.old.items) self.old.cost) }
         ensures err { OnErr result (self.new ≡ self.old) }
         ensures cause { IfErr result (λ cause. cause ≡ ThinVecError.OutOfMemory) }
     {
-        match self.block.grow(&self.alloc, cap) {
-            Ok(()) => (),
-            Err(cause) => return Err(cause),
-        }
+        self.block.grow(&self.alloc, cap)?;
         Ok(())
     }
 
@@ -145,18 +143,15 @@ impl<T, A: Allocator, G: Growth> ThinVec<T, A, G> {
     fn shrink_to(&mut self, len: usize) -> Result<(), ThinVecError>
         requires some { 0 < len }
         requires all { len ≡ length self.old.items }
-        requires smaller { len < self.old.cap }
+        requires smaller { len < self.old.capacity }
         ensures items { self.new.items ≡ self.old.items }
-        ensures capacity { OnOk result (self.new.cap ≡ len) }
+        ensures capacity { OnOk result (self.new.capacity ≡ len) }
         ensures alloc { self.new.alloc ≡ self.old.alloc }
         ensures cost { OnOk result (self.new.cost ≡ growing len self.old.cost) }
         ensures err { OnErr result (self.new ≡ self.old) }
         ensures cause { IfErr result (λ cause. cause ≡ ThinVecError.OutOfMemory) }
     {
-        match self.block.shrink(&self.alloc, len) {
-            Ok(()) => (),
-            Err(cause) => return Err(cause),
-        }
+        self.block.shrink(&self.alloc, len)?;
         Ok(())
     }
 
@@ -164,7 +159,7 @@ impl<T, A: Allocator, G: Growth> ThinVec<T, A, G> {
     fn give_block_back(&mut self)
         requires empty { self.old.items ≡ [] }
         ensures items { self.new.items ≡ [] }
-        ensures capacity { self.new.cap ≡ 0 }
+        ensures capacity { self.new.capacity ≡ 0 }
         ensures alloc { self.new.alloc ≡ self.old.alloc }
         ensures cost { self.new.cost ≡ no_cost }
     {
@@ -172,27 +167,7 @@ impl<T, A: Allocator, G: Growth> ThinVec<T, A, G> {
         block.release(&self.alloc);
     }
 
-    // An empty list with a block of exactly `capacity` slots, or without one at 0.
-    #[tactic(auto, using(thin_block::proofs::CapacityLemmas::exact))]
-    pub(crate) fn with_exact_capacity(
-        alloc: A,
-        capacity: usize,
-    ) -> Result<ThinVec<T, A, G>, ThinVecError>
-        ensures succeeds { capacity ≡ 0 → IsOk result }
-        ensures overflow { exact_capacity T.row 0 capacity ≡ None → IsErrOf result ThinVecError.CapacityOverflow }
-        ensures cause { IfErr result (λ cause. cause ≡ ThinVecError.CapacityOverflow → exact_capacity T.row 0 capacity ≡ None) }
-        ensures items { IfOk result (λ list. list.items ≡ []) }
-        ensures capacity { IfOk result (λ list. list.cap ≡ capacity) }
-        ensures alloc { IfOk result (λ list. list.alloc ≡ alloc) }
-        ensures cost { IfOk result (λ list. list.cost ≡ cost_new capacity) }
-    {
-        if !fits::<T>(capacity) {
-            return Err(ThinVecError::CapacityOverflow);
-        }
-        ThinVec::with_fitting_capacity(alloc, capacity)
-    }
-
-    // `with_exact_capacity` of a capacity that fits. Every list of an exact capacity begins here.
+    // An empty list of a capacity that fits, which owns no block at 0. Every list of an exact capacity begins here.
     pub(crate) fn with_fitting_capacity(
         alloc: A,
         capacity: usize,
@@ -201,7 +176,7 @@ impl<T, A: Allocator, G: Growth> ThinVec<T, A, G> {
         ensures succeeds { capacity ≡ 0 → IsOk result }
         ensures cause { IfErr result (λ cause. cause ≡ ThinVecError.OutOfMemory) }
         ensures items { IfOk result (λ list. list.items ≡ []) }
-        ensures capacity { IfOk result (λ list. list.cap ≡ capacity) }
+        ensures capacity { IfOk result (λ list. list.capacity ≡ capacity) }
         ensures alloc { IfOk result (λ list. list.alloc ≡ alloc) }
         ensures cost { IfOk result (λ list. list.cost ≡ cost_new capacity) }
         ensures cheap { IfOk result (λ list. IsCheap list) }
@@ -209,14 +184,12 @@ impl<T, A: Allocator, G: Growth> ThinVec<T, A, G> {
         if capacity == 0 {
             return Ok(ThinVec::ruled(alloc));
         }
-        match Block::allocate(&alloc, capacity) {
-            Ok(block) => Ok(ThinVec {
-                block,
-                alloc,
-                growth: PhantomData,
-            }),
-            Err(cause) => Err(cause),
-        }
+        let block = Block::allocate(&alloc, capacity)?;
+        Ok(ThinVec {
+            block,
+            alloc,
+            growth: PhantomData,
+        })
     }
 }
 
@@ -227,16 +200,20 @@ impl<T, A: Allocator> ThinVec<T, A> {
     /// An empty list with room for exactly `capacity` items. At 0 it owns no block.
     ///
     /// It is refused where that capacity does not fit, or where memory is refused.
+    #[tactic(auto, using(thin_block::proofs::CapacityLemmas::exact))]
     pub fn with_capacity(alloc: A, capacity: usize) -> Result<ThinVec<T, A>, ThinVecError>
         ensures succeeds { capacity ≡ 0 → IsOk result }
         ensures overflow { exact_capacity T.row 0 capacity ≡ None → IsErrOf result ThinVecError.CapacityOverflow }
         ensures cause { IfErr result (λ cause. cause ≡ ThinVecError.CapacityOverflow → exact_capacity T.row 0 capacity ≡ None) }
         ensures items { IfOk result (λ list. list.items ≡ []) }
-        ensures capacity { IfOk result (λ list. list.cap ≡ capacity) }
+        ensures capacity { IfOk result (λ list. list.capacity ≡ capacity) }
         ensures alloc { IfOk result (λ list. list.alloc ≡ alloc) }
         ensures cost { IfOk result (λ list. list.cost ≡ cost_new capacity) }
         ensures cheap { IfOk result (λ list. IsCheap list) }
     {
-        ThinVec::with_exact_capacity(alloc, capacity)
+        if !fits::<T>(capacity) {
+            return Err(ThinVecError::CapacityOverflow);
+        }
+        ThinVec::with_fitting_capacity(alloc, capacity)
     }
 }

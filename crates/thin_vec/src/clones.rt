@@ -9,6 +9,52 @@ use crate::list::ThinVec;
 use std::alloc::Allocator;
 use thin_block::{Block, Growth, ThinVecError};
 
+impl<T: Copy, A: Allocator, G: Growth> ThinVec<T, A, G> {
+    ghost use Rattle.thin_vec.specs.Costs.{IsCheap};
+    ghost use Rattle.thin_vec.specs.ThinVec.{capacity_for, cost_at, cost_new};
+
+    /// `extend_from_slice` of items that are copied: they come in as one run.
+    ///
+    /// It is refused as `reserve` is, and then nothing changes.
+    pub fn extend_from_copies(&mut self, items: &[T]) -> Result<(), ThinVecError>
+        ensures succeeds { length self.old.items + length items.now ≤ self.old.capacity → IsOk result }
+        ensures succeeds_empty { items.now ≡ [] → IsOk result }
+        ensures overflow { capacity_for G.rule T.row self.old (length items.now) ≡ None → IsErrOf result ThinVecError.CapacityOverflow }
+        ensures cause { IfErr result (λ cause. cause ≡ ThinVecError.CapacityOverflow → capacity_for G.rule T.row self.old (length items.now) ≡ None) }
+        ensures items { OnOk result (self.new.items ≡ self.old.items ++ items.now) }
+        ensures capacity { OnOk result (capacity_for G.rule T.row self.old (length items.now) ≡ Some self.new.capacity) }
+        ensures had_room { length self.old.items + length items.now ≤ self.old.capacity → self.new.capacity ≡ self.old.capacity }
+        ensures cost { OnOk result (self.new.cost ≡ moving (length items.now) (cost_at self.old self.new.capacity)) }
+        ensures alloc { self.new.alloc ≡ self.old.alloc }
+        ensures cheap { IsCheap self.old → IsCheap self.new }
+        ensures err { OnErr result (self.new ≡ self.old) }
+    {
+        match self.reserve(items.len()) {
+            Ok(()) => (),
+            Err(cause) => return Err(cause),
+        }
+        self.append_copies(items);
+        Ok(())
+    }
+
+    /// `clone` of items that are copied: they come over as one run.
+    ///
+    /// It is refused only where memory is.
+    pub fn clone_copies(&self, alloc: A) -> Result<ThinVec<T, A, G>, ThinVecError>
+        ensures succeeds_empty { self.now.items ≡ [] → IsOk result }
+        ensures cause { IfErr result (λ cause. cause ≡ ThinVecError.OutOfMemory) }
+        ensures items { IfOk result (λ list. list.items ≡ self.now.items) }
+        ensures capacity { IfOk result (λ list. list.capacity ≡ length self.now.items) }
+        ensures alloc { IfOk result (λ list. list.alloc ≡ alloc) }
+        ensures cost { IfOk result (λ list. list.cost ≡ moving (length self.now.items) (cost_new (length self.now.items))) }
+        ensures cheap { IfOk result (λ list. IsCheap list) }
+    {
+        let mut list = ThinVec::with_fitting_capacity(alloc, self.len())?;
+        list.append_copies(self.as_slice());
+        Ok(list)
+    }
+}
+
 impl<T: Clone, A: Allocator, G: Growth> ThinVec<T, A, G> {
     ghost use Rattle.thin_vec.specs.Costs.{IsCheap};
     ghost use Rattle.thin_vec.specs.ThinVec.{capacity_for, cost_at, cost_new};
@@ -18,7 +64,7 @@ impl<T: Clone, A: Allocator, G: Growth> ThinVec<T, A, G> {
     /// It is refused as `reserve` is, and then nothing changes. It is refused as `OutOfMemory` also where a clone is:
     /// the clones made until then are dropped, the list has its old items, and the room that was made stays.
     pub fn extend_from_slice(&mut self, items: &[T]) -> Result<(), ThinVecError>
-        ensures succeeds { length self.old.items + length items.now ≤ self.old.cap → All T.is_infallible items.now → IsOk result }
+        ensures succeeds { length self.old.items + length items.now ≤ self.old.capacity → All T.is_infallible items.now → IsOk result }
         ensures succeeds_empty { items.now ≡ [] → IsOk result }
         ensures overflow { capacity_for G.rule T.row self.old (length items.now) ≡ None → IsErrOf result ThinVecError.CapacityOverflow }
         ensures cause { IfErr result (λ cause. cause ≡ ThinVecError.CapacityOverflow → capacity_for G.rule T.row self.old (length items.now) ≡ None) }
@@ -26,15 +72,16 @@ impl<T: Clone, A: Allocator, G: Growth> ThinVec<T, A, G> {
         // The capacity is the ruled one.
         ensures items { OnOk result (AppendsClones T.is_clone self.old.items self.new.items items.now) }
         ensures items_if_clones_equal { OnOk result (ClonesEqual T.is_clone → self.new.items ≡ self.old.items ++ items.now) }
-        ensures capacity { OnOk result (capacity_for G.rule T.row self.old (length items.now) ≡ Some self.new.cap) }
-        ensures had_room { length self.old.items + length items.now ≤ self.old.cap → self.new.cap ≡ self.old.cap }
-        ensures cost { OnOk result (self.new.cost ≡ moving (length items.now) (cost_at self.old self.new.cap)) }
+        ensures capacity { OnOk result (capacity_for G.rule T.row self.old (length items.now) ≡ Some self.new.capacity) }
+        ensures had_room { length self.old.items + length items.now ≤ self.old.capacity → self.new.capacity ≡ self.old.capacity }
+        ensures cost { OnOk result (self.new.cost ≡ moving (length items.now) (cost_at self.old self.new.capacity)) }
         ensures alloc { self.new.alloc ≡ self.old.alloc }
         ensures cheap { IsCheap self.old → IsCheap self.new }
 
         // Refused, nothing changed, or there was room and a clone was refused.
         ensures err_items { OnErr result (self.new.items ≡ self.old.items) }
         ensures refused { OnErr result ((self.new ≡ self.old) ⊎ IsCloneRefused G.rule T.row T.is_infallible items.now (length items.now) self.old self.new) }
+        ensures err { All T.is_infallible items.now → OnErr result (self.new ≡ self.old) }
     {
         self.reserve(items.len())?;
         self.append_clones(items)
@@ -48,24 +95,25 @@ impl<T: Clone, A: Allocator, G: Growth> ThinVec<T, A, G> {
     /// room that was made stays. Refused, `value` is dropped.
     #[tactic(auto, using(thin_block::proofs::CapacityLemmas::ruled))]
     pub fn resize(&mut self, len: usize, value: T) -> Result<(), ThinVecError>
-        ensures succeeds { len ≤ self.old.cap → T.is_infallible value → IsOk result }
+        ensures succeeds { len ≤ self.old.capacity → T.is_infallible value → IsOk result }
         ensures succeeds_shorter { len ≤ length self.old.items → IsOk result }
-        ensures succeeds_by_one { len ≡ length self.old.items + 1 → length self.old.items < self.old.cap → IsOk result }
+        ensures succeeds_by_one { len ≡ length self.old.items + 1 → length self.old.items < self.old.capacity → IsOk result }
         ensures overflow { capacity_for G.rule T.row self.old (len - length self.old.items) ≡ None → IsErrOf result ThinVecError.CapacityOverflow }
         ensures cause { IfErr result (λ cause. cause ≡ ThinVecError.CapacityOverflow → capacity_for G.rule T.row self.old (len - length self.old.items) ≡ None) }
 
         // The capacity is the ruled one: the same where the list is not to be longer.
         ensures items { OnOk result (IsResized T.is_clone self.old.items len value self.new.items) }
         ensures items_if_clones_equal { OnOk result (CloneEquals T.is_clone value → self.new.items ≡ take len self.old.items ++ replicate (len - length self.old.items) value) }
-        ensures capacity { OnOk result (capacity_for G.rule T.row self.old (len - length self.old.items) ≡ Some self.new.cap) }
-        ensures had_room { len ≤ self.old.cap → self.new.cap ≡ self.old.cap }
-        ensures cost { OnOk result (self.new.cost ≡ moving (len - length self.old.items) (cost_at self.old self.new.cap)) }
+        ensures capacity { OnOk result (capacity_for G.rule T.row self.old (len - length self.old.items) ≡ Some self.new.capacity) }
+        ensures had_room { len ≤ self.old.capacity → self.new.capacity ≡ self.old.capacity }
+        ensures cost { OnOk result (self.new.cost ≡ moving (len - length self.old.items) (cost_at self.old self.new.capacity)) }
         ensures alloc { self.new.alloc ≡ self.old.alloc }
         ensures cheap { IsCheap self.old → IsCheap self.new }
 
         // Refused, nothing changed, or there was room and a clone was refused.
         ensures err_items { OnErr result (self.new.items ≡ self.old.items) }
         ensures refused { OnErr result ((self.new ≡ self.old) ⊎ IsCloneRefused G.rule T.row T.is_infallible (replicate (len - length self.old.items - 1) value) (len - length self.old.items) self.old self.new) }
+        ensures err { T.is_infallible value → OnErr result (self.new ≡ self.old) }
     {
         let old = self.len();
         if len <= old {
@@ -85,7 +133,7 @@ impl<T: Clone, A: Allocator, G: Growth> ThinVec<T, A, G> {
         ensures cause { IfErr result (λ cause. cause ≡ ThinVecError.OutOfMemory) }
         ensures items { IfOk result (λ list. AllZip T.is_clone self.now.items list.items) }
         ensures items_if_clones_equal { IfOk result (λ list. ClonesEqual T.is_clone → list.items ≡ self.now.items) }
-        ensures capacity { IfOk result (λ list. list.cap ≡ length self.now.items) }
+        ensures capacity { IfOk result (λ list. list.capacity ≡ length self.now.items) }
         ensures alloc { IfOk result (λ list. list.alloc ≡ alloc) }
         ensures cost { IfOk result (λ list. list.cost ≡ moving (length self.now.items) (cost_new (length self.now.items))) }
         ensures cheap { IfOk result (λ list. IsCheap list) }
@@ -95,12 +143,12 @@ impl<T: Clone, A: Allocator, G: Growth> ThinVec<T, A, G> {
 
     // This list with clones of `items` behind its own. It is dropped where one is refused.
     pub(crate) fn with_clones(mut self, items: &[T]) -> Result<ThinVec<T, A, G>, ThinVecError>
-        requires room { length self.items + length items.now ≤ self.cap }
+        requires room { length self.items + length items.now ≤ self.capacity }
         ensures succeeds { All T.is_infallible items.now → IsOk result }
         ensures cause { IfErr result (λ cause. cause ≡ ThinVecError.OutOfMemory) }
         ensures items { IfOk result (λ list. AppendsClones T.is_clone self.items list.items items.now) }
         ensures items_if_clones_equal { IfOk result (λ list. ClonesEqual T.is_clone → list.items ≡ self.items ++ items.now) }
-        ensures capacity { IfOk result (λ list. list.cap ≡ self.cap) }
+        ensures capacity { IfOk result (λ list. list.capacity ≡ self.capacity) }
         ensures alloc { IfOk result (λ list. list.alloc ≡ self.alloc) }
         ensures cost { IfOk result (λ list. list.cost ≡ moving (length items.now) self.cost) }
         ensures cheap { IsCheap self → IfOk result (λ list. IsCheap list) }
@@ -111,12 +159,12 @@ impl<T: Clone, A: Allocator, G: Growth> ThinVec<T, A, G> {
 
     // Clones of `items` go into the spare room. Where one is refused, those made before it are dropped.
     pub(crate) fn append_clones(&mut self, items: &[T]) -> Result<(), ThinVecError>
-        requires room { length self.old.items + length items.now ≤ self.old.cap }
+        requires room { length self.old.items + length items.now ≤ self.old.capacity }
         ensures succeeds { All T.is_infallible items.now → IsOk result }
         ensures items { OnOk result (AppendsClones T.is_clone self.old.items self.new.items items.now) }
         ensures items_if_clones_equal { OnOk result (ClonesEqual T.is_clone → self.new.items ≡ self.old.items ++ items.now) }
         ensures cost { OnOk result (self.new.cost ≡ moving (length items.now) self.old.cost) }
-        ensures capacity { self.new.cap ≡ self.old.cap }
+        ensures capacity { self.new.capacity ≡ self.old.capacity }
         ensures alloc { self.new.alloc ≡ self.old.alloc }
         ensures err_items { OnErr result (self.new.items ≡ self.old.items) }
         ensures refused { OnErr result (StopsAtClone T.is_infallible items.now self.old.cost self.new.cost) }
@@ -134,13 +182,13 @@ impl<T: Clone, A: Allocator, G: Growth> ThinVec<T, A, G> {
     // those made before it are dropped, and `value` is.
     fn append_repeated(&mut self, value: T, count: usize) -> Result<(), ThinVecError>
         requires some { 0 < count }
-        requires room { length self.old.items + count ≤ self.old.cap }
+        requires room { length self.old.items + count ≤ self.old.capacity }
         ensures succeeds { T.is_infallible value → IsOk result }
         ensures succeeds_by_one { count ≡ 1 → IsOk result }
         ensures items { OnOk result (IsResized T.is_clone self.old.items (length self.old.items + count) value self.new.items) }
         ensures items_if_clones_equal { OnOk result (CloneEquals T.is_clone value → self.new.items ≡ self.old.items ++ replicate count value) }
         ensures cost { OnOk result (self.new.cost ≡ moving count self.old.cost) }
-        ensures capacity { self.new.cap ≡ self.old.cap }
+        ensures capacity { self.new.capacity ≡ self.old.capacity }
         ensures alloc { self.new.alloc ≡ self.old.alloc }
         ensures err_items { OnErr result (self.new.items ≡ self.old.items) }
         ensures refused { OnErr result (StopsAtClone T.is_infallible (replicate (count - 1) value) self.old.cost self.new.cost) }
@@ -157,10 +205,10 @@ impl<T: Clone, A: Allocator, G: Growth> ThinVec<T, A, G> {
 
     // Clones of `items` go into the spare room, as many as it answers: it ends before a clone that is refused.
     fn place_clones(&mut self, items: &[T]) -> usize
-        requires room { length self.old.items + length items.now ≤ self.old.cap }
+        requires room { length self.old.items + length items.now ≤ self.old.capacity }
         ensures in_bounds { result ≤ length items.now }
         ensures items { AppendsClones T.is_clone self.old.items self.new.items (take result items.now) }
-        ensures capacity { self.new.cap ≡ self.old.cap }
+        ensures capacity { self.new.capacity ≡ self.old.capacity }
         ensures alloc { self.new.alloc ≡ self.old.alloc }
         ensures cost { self.new.cost ≡ moving result self.old.cost }
         ensures refused { result < length items.now → HoldsAt (λ x. ¬ (T.is_infallible x)) items.now result }
@@ -173,10 +221,10 @@ impl<T: Clone, A: Allocator, G: Growth> ThinVec<T, A, G> {
 
     // The same with up to `count` clones of `value`.
     fn place_repeated(&mut self, value: &T, count: usize) -> usize
-        requires room { length self.old.items + count ≤ self.old.cap }
+        requires room { length self.old.items + count ≤ self.old.capacity }
         ensures in_bounds { result ≤ count }
         ensures items { AppendsRepeats T.is_clone value.now result self.old.items self.new.items }
-        ensures capacity { self.new.cap ≡ self.old.cap }
+        ensures capacity { self.new.capacity ≡ self.old.capacity }
         ensures alloc { self.new.alloc ≡ self.old.alloc }
         ensures cost { self.new.cost ≡ moving result self.old.cost }
         ensures refused { result < count → ¬ (T.is_infallible value.now) }

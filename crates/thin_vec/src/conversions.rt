@@ -27,7 +27,7 @@ impl<T, A: Allocator> ThinVec<T, A> {
         ensures overflow { exact_capacity T.row 0 N ≡ None → IsErrAnd result (λ refused. refused.cause ≡ ThinVecError.CapacityOverflow) }
         ensures cause { IfErr result (λ refused. refused.cause ≡ ThinVecError.CapacityOverflow → exact_capacity T.row 0 N ≡ None) }
         ensures items { IfOk result (λ list. list.items ≡ items) }
-        ensures capacity { IfOk result (λ list. list.cap ≡ N) }
+        ensures capacity { IfOk result (λ list. list.capacity ≡ N) }
         ensures alloc { IfOk result (λ list. list.alloc ≡ alloc) }
         ensures cost { IfOk result (λ list. list.cost ≡ moving N (cost_new N)) }
         ensures cheap { IfOk result (λ list. IsCheap list) }
@@ -58,7 +58,7 @@ impl<T, A: Allocator> ThinVec<T, A> {
         ensures overflow { exact_capacity T.row 0 (length items.items) ≡ None → IsErrAnd result (λ refused. refused.cause ≡ ThinVecError.CapacityOverflow) }
         ensures cause { IfErr result (λ refused. refused.cause ≡ ThinVecError.CapacityOverflow → exact_capacity T.row 0 (length items.items) ≡ None) }
         ensures items { IfOk result (λ list. list.items ≡ items.items) }
-        ensures capacity { IfOk result (λ list. list.cap ≡ length items.items) }
+        ensures capacity { IfOk result (λ list. list.capacity ≡ length items.items) }
         ensures alloc { IfOk result (λ list. list.alloc ≡ alloc) }
         ensures cost { IfOk result (λ list. list.cost ≡ moving (length items.items) (cost_new (length items.items))) }
         ensures cheap { IfOk result (λ list. IsCheap list) }
@@ -84,7 +84,7 @@ impl<T, A: Allocator> ThinVec<T, A> {
         ensures overflow { exact_capacity T.row 0 (length (boxed_slice_items items)) ≡ None → IsErrAnd result (λ refused. refused.cause ≡ ThinVecError.CapacityOverflow) }
         ensures cause { IfErr result (λ refused. refused.cause ≡ ThinVecError.CapacityOverflow → exact_capacity T.row 0 (length (boxed_slice_items items)) ≡ None) }
         ensures items { IfOk result (λ list. list.items ≡ boxed_slice_items items) }
-        ensures capacity { IfOk result (λ list. list.cap ≡ length (boxed_slice_items items)) }
+        ensures capacity { IfOk result (λ list. list.capacity ≡ length (boxed_slice_items items)) }
         ensures alloc { IfOk result (λ list. list.alloc ≡ alloc) }
         ensures cost { IfOk result (λ list. list.cost ≡ moving (length (boxed_slice_items items)) (cost_new (length (boxed_slice_items items)))) }
         ensures cheap { IfOk result (λ list. IsCheap list) }
@@ -102,9 +102,9 @@ impl<T, A: Allocator> ThinVec<T, A> {
     // The list with the items of `items`. It held none, and has room for them.
     fn with_moved<B: Allocator>(mut self, mut items: Vec<T, B>) -> ThinVec<T, A>
         requires empty { self.items ≡ [] }
-        requires room { length items.items ≤ self.cap }
+        requires room { length items.items ≤ self.capacity }
         ensures items { result.items ≡ items.items }
-        ensures capacity { result.cap ≡ self.cap }
+        ensures capacity { result.capacity ≡ self.capacity }
         ensures alloc { result.alloc ≡ self.alloc }
         ensures cost { result.cost ≡ moving (length items.items) self.cost }
     {
@@ -142,7 +142,7 @@ impl<T: Clone, A: Allocator> ThinVec<T, A> {
         ensures cause { IfErr result (λ cause. cause ≡ ThinVecError.CapacityOverflow → exact_capacity T.row 0 (length items.now) ≡ None) }
         ensures items { IfOk result (λ list. AllZip T.is_clone items.now list.items) }
         ensures items_if_clones_equal { IfOk result (λ list. ClonesEqual T.is_clone → list.items ≡ items.now) }
-        ensures capacity { IfOk result (λ list. list.cap ≡ length items.now) }
+        ensures capacity { IfOk result (λ list. list.capacity ≡ length items.now) }
         ensures alloc { IfOk result (λ list. list.alloc ≡ alloc) }
         ensures cost { IfOk result (λ list. list.cost ≡ moving (length items.now) (cost_new (length items.now))) }
         ensures cheap { IfOk result (λ list. IsCheap list) }
@@ -157,48 +157,4 @@ fn count<T, const N: usize>(items: &[T; N]) -> usize
     ensures length { result ≡ length items.now }
 {
     items.len()
-}
-
-/// What `thin_vec!` calls: `from_array`, whose array is dropped where it is refused.
-#[doc(hidden)]
-pub fn written_out<T: Drop, A: Allocator, const N: usize>(
-    alloc: A,
-    items: [T; N],
-) -> Result<ThinVec<T, A>, ThinVecError>
-    ensures succeeds { N ≡ 0 → IsOk result }
-    ensures overflow { exact_capacity T.row 0 N ≡ None → IsErrOf result ThinVecError.CapacityOverflow }
-    ensures cause { IfErr result (λ cause. cause ≡ ThinVecError.CapacityOverflow → exact_capacity T.row 0 N ≡ None) }
-    ensures items { IfOk result (λ list. list.items ≡ items) }
-    ensures capacity { IfOk result (λ list. list.cap ≡ N) }
-    ensures alloc { IfOk result (λ list. list.alloc ≡ alloc) }
-    ensures cost { IfOk result (λ list. list.cost ≡ moving N (cost_new N)) }
-    ensures cheap { IfOk result (λ list. IsCheap list) }
-{
-    match ThinVec::from_array(alloc, items) {
-        Ok(list) => Ok(list),
-        Err(refused) => Err(refused.cause),
-    }
-}
-
-/// What `thin_vec!` calls for `count` times the same: `new`, and then `resize`.
-#[doc(hidden)]
-#[tactic(auto, using(crate::proofs::CloneLemmas::new_lists))]
-pub fn repeated<T: Clone, A: Allocator>(
-    alloc: A,
-    value: T,
-    count: usize,
-) -> Result<ThinVec<T, A>, ThinVecError>
-    ensures succeeds { count ≡ 0 → IsOk result }
-    ensures overflow { ruled_capacity doubling T.row 0 count ≡ None → IsErrOf result ThinVecError.CapacityOverflow }
-    ensures cause { IfErr result (λ cause. cause ≡ ThinVecError.CapacityOverflow → ruled_capacity doubling T.row 0 count ≡ None) }
-    ensures items { IfOk result (λ list. IsResized T.is_clone [] count value list.items) }
-    ensures items_if_clones_equal { IfOk result (λ list. CloneEquals T.is_clone value → list.items ≡ replicate count value) }
-    ensures capacity { IfOk result (λ list. ruled_capacity doubling T.row 0 count ≡ Some list.cap) }
-    ensures alloc { IfOk result (λ list. list.alloc ≡ alloc) }
-    ensures cost { IfOk result (λ list. list.cost ≡ moving count (cost_new list.cap)) }
-    ensures cheap { IfOk result (λ list. IsCheap list) }
-{
-    let mut list = ThinVec::new(alloc);
-    list.resize(count, value)?;
-    Ok(list)
 }

@@ -17,15 +17,15 @@ impl<T, A: Allocator, G: Growth> ThinVec<T, A, G> {
     /// It is refused as `push` is.
     pub fn insert(&mut self, index: usize, value: T) -> Result<(), Rejected<T>>
         requires in_bounds { index ≤ length self.old.items }
-        ensures succeeds { length self.old.items < self.old.cap → IsOk result }
+        ensures succeeds { length self.old.items < self.old.capacity → IsOk result }
         ensures overflow { capacity_for G.rule T.row self.old 1 ≡ None → IsErrAnd result (λ refused. refused.cause ≡ ThinVecError.CapacityOverflow) }
         ensures cause { IfErr result (λ refused. refused.cause ≡ ThinVecError.CapacityOverflow → capacity_for G.rule T.row self.old 1 ≡ None) }
 
         // The capacity is the ruled one.
         ensures items { OnOk result (self.new.items ≡ insert self.old.items index value) }
-        ensures capacity { OnOk result (capacity_for G.rule T.row self.old 1 ≡ Some self.new.cap) }
-        ensures had_room { length self.old.items < self.old.cap → self.new.cap ≡ self.old.cap }
-        ensures cost { OnOk result (self.new.cost ≡ moving (length self.old.items - index + 1) (cost_at self.old self.new.cap)) }
+        ensures capacity { OnOk result (capacity_for G.rule T.row self.old 1 ≡ Some self.new.capacity) }
+        ensures had_room { length self.old.items < self.old.capacity → self.new.capacity ≡ self.old.capacity }
+        ensures cost { OnOk result (self.new.cost ≡ moving (length self.old.items - index + 1) (cost_at self.old self.new.capacity)) }
         ensures alloc { self.new.alloc ≡ self.old.alloc }
         ensures cheap { IsCheap self.old → IsCheap self.new }
 
@@ -43,16 +43,15 @@ impl<T, A: Allocator, G: Growth> ThinVec<T, A, G> {
     // `insert` into spare room.
     fn insert_reserved(&mut self, index: usize, value: T)
         requires in_bounds { index ≤ length self.old.items }
-        requires room { length self.old.items < self.old.cap }
+        requires room { length self.old.items < self.old.capacity }
         ensures items { self.new.items ≡ insert self.old.items index value }
-        ensures capacity { self.new.cap ≡ self.old.cap }
+        ensures capacity { self.new.capacity ≡ self.old.capacity }
         ensures alloc { self.new.alloc ≡ self.old.alloc }
         ensures cost { self.new.cost ≡ moving (length self.old.items - index + 1) self.old.cost }
     {
         let len = self.block.len();
         self.block.move_run(index, index + 1, len - index);
-        self.block.put(index, value);
-        self.block.store_len(len + 1);
+        self.block.put_and_store(index, value, len + 1);
     }
 
     /// Removes the item at `index` and hands it out. The items behind it move one place forward.
@@ -60,7 +59,7 @@ impl<T, A: Allocator, G: Growth> ThinVec<T, A, G> {
         requires in_bounds { index < length self.old.items }
         ensures value { slice_get self.old.items index ≡ Some result }
         ensures items { self.new.items ≡ remove self.old.items index }
-        ensures capacity { self.new.cap ≡ self.old.cap }
+        ensures capacity { self.new.capacity ≡ self.old.capacity }
         ensures alloc { self.new.alloc ≡ self.old.alloc }
         ensures cost { self.new.cost ≡ moving (length self.old.items - (index + 1)) self.old.cost }
     {
@@ -76,30 +75,12 @@ impl<T, A: Allocator, G: Growth> ThinVec<T, A, G> {
         requires in_bounds { index < length self.old.items }
         ensures value { slice_get self.old.items index ≡ Some result }
         ensures items { self.new.items ≡ swap_remove self.old.items index result }
-        ensures capacity { self.new.cap ≡ self.old.cap }
+        ensures capacity { self.new.capacity ≡ self.old.capacity }
         ensures alloc { self.new.alloc ≡ self.old.alloc }
         ensures cost { self.new.cost ≡ moving (if index + 1 == length self.old.items then 0 else 1) self.old.cost }
     {
-        if index == self.len() - 1 {
-            self.pop_last()
-        } else {
-            self.replace_by_last(index)
-        }
-    }
-
-    // `swap_remove` of an item that is not the last.
-    fn replace_by_last(&mut self, index: usize) -> T
-        requires in_bounds { index + 1 < length self.old.items }
-        ensures value { slice_get self.old.items index ≡ Some result }
-        ensures items { self.new.items ≡ swap_remove self.old.items index result }
-        ensures capacity { self.new.cap ≡ self.old.cap }
-        ensures alloc { self.new.alloc ≡ self.old.alloc }
-        ensures cost { self.new.cost ≡ moving 1 self.old.cost }
-    {
         let last = self.block.len() - 1;
-        let value = self.block.take(index);
-        let moved = self.block.take(last);
-        self.block.put(index, moved);
+        let value = self.block.take_replacing(index, last);
         self.block.store_len(last);
         value
     }
@@ -109,7 +90,7 @@ impl<T: Drop, A: Allocator, G: Growth> ThinVec<T, A, G> {
     /// Keeps the first `len` items and drops the rest. The capacity stays.
     pub fn truncate(&mut self, len: usize)
         ensures items { self.new.items ≡ take len self.old.items }
-        ensures capacity { self.new.cap ≡ self.old.cap }
+        ensures capacity { self.new.capacity ≡ self.old.capacity }
         ensures alloc { self.new.alloc ≡ self.old.alloc }
         ensures cost { self.new.cost ≡ self.old.cost }
     {
@@ -126,7 +107,7 @@ impl<T: Drop, A: Allocator, G: Growth> ThinVec<T, A, G> {
     /// Drops every item. The capacity stays.
     pub fn clear(&mut self)
         ensures items { self.new.items ≡ [] }
-        ensures capacity { self.new.cap ≡ self.old.cap }
+        ensures capacity { self.new.capacity ≡ self.old.capacity }
         ensures alloc { self.new.alloc ≡ self.old.alloc }
         ensures cost { self.new.cost ≡ self.old.cost }
     {

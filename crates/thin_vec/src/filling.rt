@@ -7,7 +7,9 @@ ghost use Rattle.thin_block.specs.Cost.{moving};
 ghost use Rattle.thin_block.specs.Growth.{doubling};
 ghost use Rattle.thin_block.specs.Slots.{full, laid, slot};
 ghost use Rattle.thin_vec.specs.Costs.{IsCheap};
-ghost use Rattle.thin_vec.specs.Filling.{GaveUp, IsFilled, IsLoose, Overflows, OverflowsNew};
+ghost use Rattle.std.specs.Prelude.{◌⊎◌};
+ghost use Rattle.std.specs.Iterator.SizeHint.{IsWithinCount};
+ghost use Rattle.thin_vec.specs.Filling.{GaveUp, IsFilled, IsLoose, IsNamed, Overflows, OverflowsNew};
 ghost use Rattle.thin_vec.specs.ThinVec.{IsNew, capacity_for};
 
 use crate::errors::{CollectRefused, ExtendRefused, Rejected};
@@ -25,23 +27,25 @@ impl<T, A: Allocator, G: Growth> ThinVec<T, A, G> {
     pub fn extend<I: Iterator<Item = T>>(&mut self, iter: I) -> Result<(), ExtendRefused<T, I>>
         requires can_next { I.can_next iter }
         requires finite { IsFinite (I.remaining iter) }
-        ensures succeeds { length self.old.items + size (I.remaining iter) ≤ self.old.cap → IsOk result }
+        ensures succeeds { length self.old.items + size (I.remaining iter) ≤ self.old.capacity → IsOk result }
         ensures overflow { IfErr result (λ refused. IsSome refused.in_hand → capacity_for G.rule T.row self.new 1 ≡ None → refused.cause ≡ ThinVecError.CapacityOverflow) }
         ensures cause { IfErr result (λ refused. refused.cause ≡ ThinVecError.CapacityOverflow → Overflows G.rule T.row self.new refused.in_hand (I.remaining refused.rest)) }
         ensures items { OnOk result ((xs : List T) × Drains I.next_gives iter xs × (self.new.items ≡ self.old.items ++ xs)) }
         ensures runs { OnOk result (WholeRun I.next_gives iter (λ p. self.new.items ≡ self.old.items ++ p.items)) }
 
         // Accepted or refused, each item that came in has moved once.
-        ensures capacity { IsLoose G.rule T.row self.old.cap self.new.cap }
-        ensures had_room { length self.old.items + size (I.remaining iter) ≤ self.old.cap → self.new.cap ≡ self.old.cap }
+        ensures capacity { IsLoose G.rule T.row self.old.capacity self.new.capacity }
+        ensures had_room { length self.old.items + size (I.remaining iter) ≤ self.old.capacity → self.new.capacity ≡ self.old.capacity }
         ensures cost { IsFilled self.old self.new }
         ensures alloc { self.new.alloc ≡ self.old.alloc }
         ensures cheap { IsCheap self.old → IsCheap self.new }
 
+        ensures named { IsNamed G.rule T.row self.old.capacity self.new.capacity (length self.new.items) ⊎ ((h : ℕ) × IsWithinCount h (I.remaining iter) × (capacity_for G.rule T.row self.old h ≡ Some self.new.capacity)) }
+
         // Refused, no item is lost. One is in hand only where the list is full, and else nothing happened.
         ensures placed { IfErr result (λ refused. (xs : List T) × (self.new.items ≡ self.old.items ++ xs) × GaveUp I.next_gives iter xs refused.in_hand refused.rest) }
         ensures rest { IfErr result (λ refused. I.can_next refused.rest × IsFinite (I.remaining refused.rest)) }
-        ensures full { IfErr result (λ refused. IsSome refused.in_hand → length self.new.items ≡ self.new.cap) }
+        ensures full { IfErr result (λ refused. IsSome refused.in_hand → length self.new.items ≡ self.new.capacity) }
         ensures err { IfErr result (λ refused. refused.in_hand ≡ None → (self.new ≡ self.old) × (refused.rest ≡ iter)) }
     {
         match self.reserve(iter.size_hint().0) {
@@ -58,19 +62,20 @@ impl<T, A: Allocator, G: Growth> ThinVec<T, A, G> {
     pub(crate) fn fill<I: Iterator<Item = T>>(&mut self, iter: I) -> Result<(), ExtendRefused<T, I>>
         requires can_next { I.can_next iter }
         requires finite { IsFinite (I.remaining iter) }
-        ensures succeeds { length self.old.items + size (I.remaining iter) ≤ self.old.cap → IsOk result }
+        ensures succeeds { length self.old.items + size (I.remaining iter) ≤ self.old.capacity → IsOk result }
         ensures overflow { IfErr result (λ refused. capacity_for G.rule T.row self.new 1 ≡ None → refused.cause ≡ ThinVecError.CapacityOverflow) }
         ensures cause { IfErr result (λ refused. refused.cause ≡ ThinVecError.CapacityOverflow → capacity_for G.rule T.row self.new 1 ≡ None) }
         ensures items { OnOk result ((xs : List T) × Drains I.next_gives iter xs × (self.new.items ≡ self.old.items ++ xs)) }
-        ensures capacity { IsLoose G.rule T.row self.old.cap self.new.cap }
-        ensures had_room { length self.old.items + size (I.remaining iter) ≤ self.old.cap → self.new.cap ≡ self.old.cap }
+        ensures capacity { IsLoose G.rule T.row self.old.capacity self.new.capacity }
+        ensures had_room { length self.old.items + size (I.remaining iter) ≤ self.old.capacity → self.new.capacity ≡ self.old.capacity }
         ensures cost { IsFilled self.old self.new }
         ensures alloc { self.new.alloc ≡ self.old.alloc }
         ensures cheap { IsCheap self.old → IsCheap self.new }
         ensures placed { IfErr result (λ refused. (xs : List T) × (self.new.items ≡ self.old.items ++ xs) × GaveUp I.next_gives iter xs refused.in_hand refused.rest) }
         ensures rest { IfErr result (λ refused. I.can_next refused.rest × IsFinite (I.remaining refused.rest)) }
+        ensures named { IsNamed G.rule T.row self.old.capacity self.new.capacity (length self.new.items) }
         ensures in_hand { IfErr result (λ refused. IsSome refused.in_hand) }
-        ensures full { OnErr result (length self.new.items ≡ self.new.cap) }
+        ensures full { OnErr result (length self.new.items ≡ self.new.capacity) }
     {
         let mut rest = iter;
         loop {
@@ -98,14 +103,14 @@ impl<T, A: Allocator, G: Growth> ThinVec<T, A, G> {
         requires can_next { I.can_next iter }
         requires finite { IsFinite (I.remaining iter) }
         ensures items { (xs : List T) × (self.new.items ≡ self.old.items ++ xs) × YieldsThen I.next_gives iter xs result.1 result.0 }
-        ensures capacity { self.new.cap ≡ self.old.cap }
-        ensures room { length self.new.items ≤ self.new.cap }
+        ensures capacity { self.new.capacity ≡ self.old.capacity }
+        ensures room { length self.new.items ≤ self.new.capacity }
         ensures alloc { self.new.alloc ≡ self.old.alloc }
         ensures cost { self.new.cost ≡ moving (length self.new.items - length self.old.items) self.old.cost }
         ensures cheap { IsCheap self.old → IsCheap self.new }
         ensures rest { OnSome result.1 (I.can_next result.0 × IsFinite (I.remaining result.0)) }
         ensures nearer { OnSome result.1 (length self.new.items + size (I.remaining result.0) < length self.old.items + size (I.remaining iter)) }
-        ensures full { OnSome result.1 (length self.new.items ≡ self.new.cap) }
+        ensures full { OnSome result.1 (length self.new.items ≡ self.new.capacity) }
     {
         let len = self.block.len();
         let cap = self.block.cap();
@@ -132,7 +137,7 @@ impl<T, A: Allocator> ThinVec<T, A> {
         ensures cause { IfErr result (λ refused. refused.cause ≡ ThinVecError.CapacityOverflow → OverflowsNew doubling T.row refused.list refused.in_hand (I.remaining refused.rest)) }
         ensures items { IfOk result (λ list. Drains I.next_gives iter list.items) }
         ensures runs { IfOk result (λ list. WholeRun I.next_gives iter (λ p. list.items ≡ p.items)) }
-        ensures capacity { size (I.remaining iter) ≡ 0 → IfOk result (λ list. list.cap ≡ 0) }
+        ensures capacity { size (I.remaining iter) ≡ 0 → IfOk result (λ list. list.capacity ≡ 0) }
         ensures moves { IfOk result (λ list. list.cost.moves ≡ length list.items) }
         ensures alloc { IfOk result (λ list. list.alloc ≡ alloc) }
         ensures cheap { IfOk result (λ list. IsCheap list) }
@@ -140,7 +145,7 @@ impl<T, A: Allocator> ThinVec<T, A> {
         // Refused, no item is lost. One is in hand only where the list is full, and else nothing happened.
         ensures placed { IfErr result (λ refused. GaveUp I.next_gives iter refused.list.items refused.in_hand refused.rest) }
         ensures rest { IfErr result (λ refused. I.can_next refused.rest × IsFinite (I.remaining refused.rest)) }
-        ensures full { IfErr result (λ refused. IsSome refused.in_hand → length refused.list.items ≡ refused.list.cap) }
+        ensures full { IfErr result (λ refused. IsSome refused.in_hand → length refused.list.items ≡ refused.list.capacity) }
         ensures err { IfErr result (λ refused. refused.in_hand ≡ None → IsNew refused.list alloc × (refused.rest ≡ iter)) }
         ensures err_moves { IfErr result (λ refused. refused.list.cost.moves ≡ length refused.list.items) }
         ensures err_alloc { IfErr result (λ refused. refused.list.alloc ≡ alloc) }

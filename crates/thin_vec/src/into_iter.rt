@@ -94,7 +94,7 @@ impl<T, A: Allocator, G: Growth> IntoIter<T, A, G> {
     pub fn next(&mut self) -> Option<T>
         ensures variant { IsSome result ↔ (0 < length self.old.items) }
         ensures items { self.old.items ≡ option_to_list result ++ self.new.items }
-        ensures capacity { self.new.cap ≡ self.old.cap }
+        ensures capacity { self.new.capacity ≡ self.old.capacity }
         ensures alloc { self.new.alloc ≡ self.old.alloc }
         ensures cost { self.new.cost ≡ self.old.cost }
     {
@@ -108,7 +108,7 @@ impl<T, A: Allocator, G: Growth> IntoIter<T, A, G> {
     pub fn next_back(&mut self) -> Option<T>
         ensures variant { IsSome result ↔ (0 < length self.old.items) }
         ensures items { self.old.items ≡ self.new.items ++ option_to_list result }
-        ensures capacity { self.new.cap ≡ self.old.cap }
+        ensures capacity { self.new.capacity ≡ self.old.capacity }
         ensures alloc { self.new.alloc ≡ self.old.alloc }
         ensures cost { self.new.cost ≡ self.old.cost }
     {
@@ -122,7 +122,7 @@ impl<T, A: Allocator, G: Growth> IntoIter<T, A, G> {
     fn take_first(&mut self) -> T
         requires some { 0 < length self.old.items }
         ensures items { self.old.items ≡ result ∷ self.new.items }
-        ensures capacity { self.new.cap ≡ self.old.cap }
+        ensures capacity { self.new.capacity ≡ self.old.capacity }
         ensures alloc { self.new.alloc ≡ self.old.alloc }
         ensures cost { self.new.cost ≡ self.old.cost }
     {
@@ -135,7 +135,7 @@ impl<T, A: Allocator, G: Growth> IntoIter<T, A, G> {
     fn take_last(&mut self) -> T
         requires some { 0 < length self.old.items }
         ensures items { self.old.items ≡ self.new.items ++ result ∷ [] }
-        ensures capacity { self.new.cap ≡ self.old.cap }
+        ensures capacity { self.new.capacity ≡ self.old.capacity }
         ensures alloc { self.new.alloc ≡ self.old.alloc }
         ensures cost { self.new.cost ≡ self.old.cost }
     {
@@ -186,7 +186,7 @@ impl<T: Clone, A: Allocator, G: Growth> IntoIter<T, A, G> {
         ensures cause { IfErr result (λ cause. cause ≡ ThinVecError.OutOfMemory) }
         ensures items { IfOk result (λ it. AllZip T.is_clone self.now.items it.items) }
         ensures items_if_clones_equal { IfOk result (λ it. ClonesEqual T.is_clone → it.items ≡ self.now.items) }
-        ensures capacity { IfOk result (λ it. it.cap ≡ length self.now.items) }
+        ensures capacity { IfOk result (λ it. it.capacity ≡ length self.now.items) }
         ensures alloc { IfOk result (λ it. it.alloc ≡ alloc) }
         ensures cost { IfOk result (λ it. it.cost ≡ moving (length self.now.items) (cost_new (length self.now.items))) }
         ensures cheap { IfOk result (λ it. IsCheap it) }

@@ -14,21 +14,21 @@ impl<T, A: Allocator, G: Growth> ThinVec<T, A, G> {
     ///
     /// It is refused as `reserve` is, before either list changes.
     pub fn append(&mut self, other: &mut ThinVec<T, A, G>) -> Result<(), ThinVecError>
-        ensures succeeds { length self.old.items + length other.old.items ≤ self.old.cap → IsOk result }
+        ensures succeeds { length self.old.items + length other.old.items ≤ self.old.capacity → IsOk result }
         ensures overflow { capacity_for G.rule T.row self.old (length other.old.items) ≡ None → IsErrOf result ThinVecError.CapacityOverflow }
         ensures cause { IfErr result (λ cause. cause ≡ ThinVecError.CapacityOverflow → capacity_for G.rule T.row self.old (length other.old.items) ≡ None) }
 
         // The capacity is the ruled one.
         ensures items { OnOk result (self.new.items ≡ self.old.items ++ other.old.items) }
-        ensures capacity { OnOk result (capacity_for G.rule T.row self.old (length other.old.items) ≡ Some self.new.cap) }
-        ensures had_room { length self.old.items + length other.old.items ≤ self.old.cap → self.new.cap ≡ self.old.cap }
-        ensures cost { OnOk result (self.new.cost ≡ moving (length other.old.items) (cost_at self.old self.new.cap)) }
+        ensures capacity { OnOk result (capacity_for G.rule T.row self.old (length other.old.items) ≡ Some self.new.capacity) }
+        ensures had_room { length self.old.items + length other.old.items ≤ self.old.capacity → self.new.capacity ≡ self.old.capacity }
+        ensures cost { OnOk result (self.new.cost ≡ moving (length other.old.items) (cost_at self.old self.new.capacity)) }
         ensures alloc { self.new.alloc ≡ self.old.alloc }
         ensures cheap { IsCheap self.old → IsCheap self.new }
 
         // The other list keeps its block.
         ensures other_items { OnOk result (other.new.items ≡ []) }
-        ensures other_capacity { other.new.cap ≡ other.old.cap }
+        ensures other_capacity { other.new.capacity ≡ other.old.capacity }
         ensures other_cost { other.new.cost ≡ other.old.cost }
         ensures other_alloc { other.new.alloc ≡ other.old.alloc }
 
@@ -53,14 +53,14 @@ impl<T, A: Allocator, G: Growth> ThinVec<T, A, G> {
         ensures succeeds { at ≡ length self.old.items → IsOk result }
         ensures cause { IfErr result (λ cause. cause ≡ ThinVecError.OutOfMemory) }
         ensures items { OnOk result (self.new.items ≡ take at self.old.items) }
-        ensures capacity { self.new.cap ≡ self.old.cap }
+        ensures capacity { self.new.capacity ≡ self.old.capacity }
         ensures cost { self.new.cost ≡ self.old.cost }
         ensures alloc { self.new.alloc ≡ self.old.alloc }
         ensures err { OnErr result (self.new ≡ self.old) }
 
         // The second list.
         ensures other_items { IfOk result (λ tail. tail.items ≡ drop at self.old.items) }
-        ensures other_capacity { IfOk result (λ tail. tail.cap ≡ length self.old.items - at) }
+        ensures other_capacity { IfOk result (λ tail. tail.capacity ≡ length self.old.items - at) }
         ensures other_cost { IfOk result (λ tail. tail.cost ≡ moving (length self.old.items - at) (cost_new (length self.old.items - at))) }
         ensures other_alloc { IfOk result (λ tail. tail.alloc ≡ alloc) }
         ensures other_cheap { IfOk result (λ tail. IsCheap tail) }
@@ -77,13 +77,13 @@ impl<T, A: Allocator, G: Growth> ThinVec<T, A, G> {
     // Moves the items of `other` from `start` on behind those of this list, into spare room, as one run.
     fn append_tail(&mut self, other: &mut ThinVec<T, A, G>, start: usize)
         requires in_bounds { start ≤ length other.old.items }
-        requires room { length self.old.items + (length other.old.items - start) ≤ self.old.cap }
+        requires room { length self.old.items + (length other.old.items - start) ≤ self.old.capacity }
         ensures items { self.new.items ≡ self.old.items ++ drop start other.old.items }
-        ensures capacity { self.new.cap ≡ self.old.cap }
+        ensures capacity { self.new.capacity ≡ self.old.capacity }
         ensures cost { self.new.cost ≡ moving (length other.old.items - start) self.old.cost }
         ensures alloc { self.new.alloc ≡ self.old.alloc }
         ensures other_items { other.new.items ≡ take start other.old.items }
-        ensures other_capacity { other.new.cap ≡ other.old.cap }
+        ensures other_capacity { other.new.capacity ≡ other.old.capacity }
         ensures other_cost { other.new.cost ≡ other.old.cost }
         ensures other_alloc { other.new.alloc ≡ other.old.alloc }
     {

@@ -16,8 +16,8 @@ mod joins;
 mod list;
 mod macros;
 
-pub use conversions::{repeated, written_out};
 pub use errors::{CollectRefused, ExtendRefused, Rejected};
 pub use into_iter::IntoIter;
 pub use list::ThinVec;
+pub use macros::{repeated, written_out};
 pub use thin_block::{Doubling, Growth, ThinVecError, fits};

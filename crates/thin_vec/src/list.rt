@@ -1,8 +1,9 @@
 //! The list: its type, what a contract sees of it, and the calls that most callers make.
-ghost use Rattle.std.specs.Prelude.{◌≡◌, ◌↔◌, ◌+◌, ◌-◌, ◌<◌, ◌≤◌, [], ◌∷◌, ◌++◌, IfErr, IfOk, IsErrAnd, IsOk, IsSome, IsTrue, None, OnErr, OnOk, Some, length, slice_get, take};
+ghost use Rattle.std.specs.Prelude.{◌≡◌, ◌↔◌, ◌+◌, ◌-◌, ◌<◌, ◌≤◌, [], ◌∷◌, ◌++◌, IfErr, IsErrAnd, IsOk, IsSome, IsTrue, None, OnErr, OnOk, Some, length, take};
 ghost use Rattle.std.specs.Option.{option_to_list};
 ghost use Rattle.thin_block.specs.Capacity.{Fits};
 ghost use Rattle.thin_block.specs.Cost.{growing, moving, no_cost};
+ghost use Rattle.thin_block.specs.Slots.{IsPacked, empty};
 
 use crate::errors::Rejected;
 use std::alloc::{Allocator, Global};
@@ -53,7 +54,7 @@ impl<T, A: Allocator, G: Growth> ThinVec<T, A, G> {
     ghost use Rattle.thin_block.specs.Block.{IsFrom};
     ghost use Rattle.thin_block.specs.Slots.{front};
     ghost use Rattle.thin_vec.specs.Lends.{LendsItems};
-    ghost use Rattle.thin_vec.specs.ThinVec.{IsNew, capacity_for, cost_at};
+    ghost use Rattle.thin_vec.specs.ThinVec.{HasRoomFor, IsCause, IsNew, capacity_for, cost_at};
     ghost use Rattle.thin_vec.specs.Costs.{IsCheap};
 
     /// `new` under any growth rule.
@@ -70,10 +71,17 @@ impl<T, A: Allocator, G: Growth> ThinVec<T, A, G> {
     /// The number of items.
     pub fn len(&self) -> usize
         ensures value { result ≡ length self.now.items }
-        ensures in_bounds { result ≤ self.now.cap }
+        ensures in_bounds { result ≤ self.now.capacity }
         ensures fits { Fits T.row result }
     {
         self.block.len()
+    }
+
+    /// The allocator that the list keeps.
+    pub fn allocator(&self) -> &A
+        ensures value { result.now ≡ self.now.alloc }
+    {
+        &self.alloc
     }
 
     /// Whether there is no item.
@@ -85,7 +93,7 @@ impl<T, A: Allocator, G: Growth> ThinVec<T, A, G> {
 
     /// How many items there is room for.
     pub fn capacity(&self) -> usize
-        ensures value { result ≡ self.now.cap }
+        ensures value { result ≡ self.now.capacity }
         ensures in_bounds { length self.now.items ≤ result }
         ensures fits { Fits T.row result }
     {
@@ -94,7 +102,7 @@ impl<T, A: Allocator, G: Growth> ThinVec<T, A, G> {
 
     /// Whether the list owns a block.
     pub fn has_capacity(&self) -> bool
-        ensures value { IsTrue result ↔ (0 < self.now.cap) }
+        ensures value { IsTrue result ↔ (0 < self.now.capacity) }
     {
         self.capacity() != 0
     }
@@ -104,21 +112,22 @@ impl<T, A: Allocator, G: Growth> ThinVec<T, A, G> {
     /// It is refused only where there is no spare room, and then because the ruled capacity overflows, or because memory
     /// is refused.
     pub fn push(&mut self, value: T) -> Result<(), Rejected<T>>
-        ensures succeeds { length self.old.items < self.old.cap → IsOk result }
+        ensures succeeds { HasRoomFor self.old 1 → IsOk result }
         ensures overflow { capacity_for G.rule T.row self.old 1 ≡ None → IsErrAnd result (λ refused. refused.cause ≡ ThinVecError.CapacityOverflow) }
-        ensures cause { IfErr result (λ refused. refused.cause ≡ ThinVecError.CapacityOverflow → capacity_for G.rule T.row self.old 1 ≡ None) }
+        ensures cause { IfErr result (λ refused. IsCause (capacity_for G.rule T.row self.old 1) refused.cause) }
 
         // The capacity is the ruled one.
         ensures items { OnOk result (self.new.items ≡ self.old.items ++ value ∷ []) }
-        ensures capacity { OnOk result (capacity_for G.rule T.row self.old 1 ≡ Some self.new.cap) }
-        ensures had_room { length self.old.items < self.old.cap → self.new.cap ≡ self.old.cap }
-        ensures cost { OnOk result (self.new.cost ≡ moving 1 (cost_at self.old self.new.cap)) }
+        ensures capacity { OnOk result (capacity_for G.rule T.row self.old 1 ≡ Some self.new.capacity) }
+        ensures had_room { HasRoomFor self.old 1 → self.new.capacity ≡ self.old.capacity }
+        ensures cost { OnOk result (self.new.cost ≡ moving 1 (cost_at self.old self.new.capacity)) }
         ensures alloc { self.new.alloc ≡ self.old.alloc }
         ensures cheap { IsCheap self.old → IsCheap self.new }
 
         // Refused, the caller has the value back, and nothing changed.
         ensures err { OnErr result (self.new ≡ self.old) }
         ensures value_returned { IfErr result (λ refused. refused.value ≡ value) }
+        ensures never_less { self.old.capacity ≤ self.new.capacity }
     {
         if let Err(cause) = self.reserve(1) {
             return Err(Rejected { value, cause });
@@ -145,22 +154,21 @@ impl<T, A: Allocator, G: Growth> ThinVec<T, A, G> {
 
     // `push` into spare room.
     pub(crate) fn push_reserved(&mut self, value: T)
-        requires room { length self.old.items < self.old.cap }
+        requires room { length self.old.items < self.old.capacity }
         ensures items { self.new.items ≡ self.old.items ++ value ∷ [] }
-        ensures capacity { self.new.cap ≡ self.old.cap }
+        ensures capacity { self.new.capacity ≡ self.old.capacity }
         ensures alloc { self.new.alloc ≡ self.old.alloc }
         ensures cost { self.new.cost ≡ moving 1 self.old.cost }
     {
         let len = self.block.len();
-        self.block.put(len, value);
-        self.block.store_len(len + 1);
+        self.block.put_and_store(len, value, len + 1);
     }
 
     /// Removes the last item and hands it out, or answers `None` where there is none. The capacity stays.
     pub fn pop(&mut self) -> Option<T>
         ensures variant { IsSome result ↔ (0 < length self.old.items) }
         ensures items { self.old.items ≡ self.new.items ++ option_to_list result }
-        ensures capacity { self.new.cap ≡ self.old.cap }
+        ensures capacity { self.new.capacity ≡ self.old.capacity }
         ensures alloc { self.new.alloc ≡ self.old.alloc }
         ensures cost { self.new.cost ≡ self.old.cost }
     {
@@ -174,7 +182,7 @@ impl<T, A: Allocator, G: Growth> ThinVec<T, A, G> {
     pub(crate) fn pop_last(&mut self) -> T
         requires some { 0 < length self.old.items }
         ensures items { self.old.items ≡ self.new.items ++ result ∷ [] }
-        ensures capacity { self.new.cap ≡ self.old.cap }
+        ensures capacity { self.new.capacity ≡ self.old.capacity }
         ensures alloc { self.new.alloc ≡ self.old.alloc }
         ensures cost { self.new.cost ≡ self.old.cost }
     {
@@ -186,7 +194,7 @@ impl<T, A: Allocator, G: Growth> ThinVec<T, A, G> {
 
     // The block and the allocator. The caller owns them, and the items in the block.
     pub(crate) fn into_parts(self) -> (Block<T, A>, A)
-        ensures slots { result.0.slots ≡ front self.items self.cap }
+        ensures slots { result.0.slots ≡ front self.items self.capacity }
         ensures len { result.0.len ≡ length self.items }
         ensures heap { IsFrom result.0 result.1 }
         ensures cost { result.0.cost ≡ self.cost }
@@ -214,9 +222,22 @@ impl<T, A: Allocator, G: Growth> ThinVec<T, A, G> {
 }
 
 impl<T: Drop, A: Allocator, G: Growth> Drop for ThinVec<T, A, G> {
-    // Each item is dropped, and then the block is given back.
-    fn drop(mut self) {
-        self.clear();
-        self.release();
+    // Each item is dropped, and then the block is given back. No length is stored any more.
+    fn drop(self) {
+        let len = self.len();
+        let (mut block, alloc) = self.into_parts();
+        drop_items(&mut block, len);
+        block.release(&alloc);
+    }
+}
+
+// Drops the first `len` items of a block, which are all that it has.
+fn drop_items<T: Drop, A: Allocator>(block: &mut Block<T, A>, len: usize)
+    requires packed { IsPacked block.old.slots len }
+    ensures slots { block.new.slots ≡ empty (length block.old.slots) }
+    ensures heap { block.new.heap ≡ block.old.heap }
+{
+    for i in 0..len {
+        drop(block.take(i));
     }
 }

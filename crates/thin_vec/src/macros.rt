@@ -1,4 +1,14 @@
-//! `thin_vec!`: a list written out.
+//! `thin_vec!`: a list written out, and the two functions that it calls.
+ghost use Rattle.std.specs.Prelude.{◌≡◌, ◌≤◌, [], IfErr, IfOk, IsErrOf, IsOk, None, length, replicate};
+ghost use Rattle.thin_block.specs.Cost.{moving};
+ghost use Rattle.thin_block.specs.Growth.{doubling, exact_capacity, ruled_capacity};
+ghost use Rattle.thin_vec.specs.Clones.{CloneEquals, IsResized};
+ghost use Rattle.thin_vec.specs.Costs.{IsCheap};
+ghost use Rattle.thin_vec.specs.ThinVec.{cost_new};
+
+use crate::list::ThinVec;
+use std::alloc::Allocator;
+use thin_block::ThinVecError;
 
 /// Makes a list: `thin_vec![alloc =>]` is `Ok` of `new`, and `thin_vec![alloc => x, y]` has the items in order and the
 /// capacity of their count. `thin_vec![alloc => x; k]` is `new` and then `resize(k, x)`: clones of x, and x itself as the
@@ -17,4 +27,48 @@ macro_rules! thin_vec {
     ($alloc:expr => $($item:expr),+ $(,)?) => {
         $crate::written_out($alloc, [$($item),+])
     };
+}
+
+/// What `thin_vec!` calls: `from_array`, whose array is dropped where it is refused.
+#[doc(hidden)]
+pub fn written_out<T: Drop, A: Allocator, const N: usize>(
+    alloc: A,
+    items: [T; N],
+) -> Result<ThinVec<T, A>, ThinVecError>
+    ensures succeeds { N ≡ 0 → IsOk result }
+    ensures overflow { exact_capacity T.row 0 N ≡ None → IsErrOf result ThinVecError.CapacityOverflow }
+    ensures cause { IfErr result (λ cause. cause ≡ ThinVecError.CapacityOverflow → exact_capacity T.row 0 N ≡ None) }
+    ensures items { IfOk result (λ list. list.items ≡ items) }
+    ensures capacity { IfOk result (λ list. list.capacity ≡ N) }
+    ensures alloc { IfOk result (λ list. list.alloc ≡ alloc) }
+    ensures cost { IfOk result (λ list. list.cost ≡ moving N (cost_new N)) }
+    ensures cheap { IfOk result (λ list. IsCheap list) }
+{
+    match ThinVec::from_array(alloc, items) {
+        Ok(list) => Ok(list),
+        Err(refused) => Err(refused.cause),
+    }
+}
+
+/// What `thin_vec!` calls for `count` times the same: `new`, and then `resize`.
+#[doc(hidden)]
+#[tactic(auto, using(crate::proofs::CloneLemmas::new_lists))]
+pub fn repeated<T: Clone, A: Allocator>(
+    alloc: A,
+    value: T,
+    count: usize,
+) -> Result<ThinVec<T, A>, ThinVecError>
+    ensures succeeds { count ≡ 0 → IsOk result }
+    ensures overflow { ruled_capacity doubling T.row 0 count ≡ None → IsErrOf result ThinVecError.CapacityOverflow }
+    ensures cause { IfErr result (λ cause. cause ≡ ThinVecError.CapacityOverflow → ruled_capacity doubling T.row 0 count ≡ None) }
+    ensures items { IfOk result (λ list. IsResized T.is_clone [] count value list.items) }
+    ensures items_if_clones_equal { IfOk result (λ list. CloneEquals T.is_clone value → list.items ≡ replicate count value) }
+    ensures capacity { IfOk result (λ list. ruled_capacity doubling T.row 0 count ≡ Some list.capacity) }
+    ensures alloc { IfOk result (λ list. list.alloc ≡ alloc) }
+    ensures cost { IfOk result (λ list. list.cost ≡ moving count (cost_new list.capacity)) }
+    ensures cheap { IfOk result (λ list. IsCheap list) }
+{
+    let mut list = ThinVec::new(alloc);
+    list.resize(count, value)?;
+    Ok(list)
 }

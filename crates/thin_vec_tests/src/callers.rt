@@ -21,7 +21,7 @@ pub fn extend_below<A: Allocator, G: Growth>(
     numbers: &[u32],
     limit: u32,
 ) -> bool
-    ensures succeeds { length list.old.items + length numbers.now ≤ list.old.cap → IsTrue result }
+    ensures succeeds { length list.old.items + length numbers.now ≤ list.old.capacity → IsTrue result }
     ensures items { IsTrue result → list.new.items ≡ list.old.items ++ filter (λ number. nat_lt number limit) numbers.now }
 {
     match list.extend(numbers.iter().copied().filter(|number| *number < limit)) {

@@ -9,7 +9,7 @@ pub fn push_or_return<T: Drop, A: Allocator, G: Growth>(
     list: &mut ThinVec<T, A, G>,
     value: T,
 ) -> Option<T>
-    ensures succeeds { length list.old.items < list.old.cap → IsNone result }
+    ensures succeeds { length list.old.items < list.old.capacity → IsNone result }
     ensures items { IfNone result (list.new.items ≡ list.old.items ++ value ∷ []) }
     ensures err { OnSome result (list.new ≡ list.old) }
     ensures value_returned { IfSome result (λ returned. returned ≡ value) }

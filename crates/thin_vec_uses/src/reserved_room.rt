@@ -11,7 +11,7 @@ pub fn push_both<T: Drop, A: Allocator, G: Growth>(
     first: T,
     second: T,
 ) -> Result<(), ThinVecError>
-    ensures succeeds { length list.old.items + 2 ≤ list.old.cap → IsOk result }
+    ensures succeeds { length list.old.items + 2 ≤ list.old.capacity → IsOk result }
     ensures overflow { capacity_for G.rule T.row list.old 2 ≡ None → IsErrOf result ThinVecError.CapacityOverflow }
     ensures cause { IfErr result (λ cause. cause ≡ ThinVecError.CapacityOverflow → capacity_for G.rule T.row list.old 2 ≡ None) }
     ensures items { OnOk result (list.new.items ≡ list.old.items ++ first ∷ second ∷ []) }

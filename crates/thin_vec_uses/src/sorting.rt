@@ -8,7 +8,7 @@ use thin_vec::{Growth, ThinVec};
 pub fn sort<T: Ord, A: Allocator, G: Growth>(list: &mut ThinVec<T, A, G>)
     ensures sorted { IsSorted T.cmp list.new.items }
     ensures permutation { IsPermutation list.old.items list.new.items }
-    ensures capacity { list.new.cap ≡ list.old.cap }
+    ensures capacity { list.new.capacity ≡ list.old.capacity }
     ensures alloc { list.new.alloc ≡ list.old.alloc }
     ensures cost { list.new.cost ≡ list.old.cost }
 {

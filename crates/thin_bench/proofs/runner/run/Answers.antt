@@ -28,4 +28,4 @@ returns-clause-ok g c =
     let left = into_iter_items c.loop-command.command-iterator in
     let none : left ≡ [] = nil_from_length left (omega (arith, c.in-None.ensures.steps, c.loop-command.command-iterator.rest.ok)) in
     let all : c.args.commands.items ≡ ran.done = ran.split ∙ (ap (λ l. ran.done ++ l) none ∙ append-nil ran.done) in
-    headline g.G.Growth.rule (param 0 g.row.T) g.met.G.Growth.law _ _ _ _ _ _ _ all ran.appended ran.ran
+    headline g.G.Growth.rule (param 0 g.row.T) g.met.G.Growth.law _ _ _ _ _ _ _ (omega (arith, c.capacity-cap.ensures.in_bounds, c.capacity-cap.ensures.value)) (omega (arith, c.capacity-end.ensures.in_bounds, c.capacity-end.ensures.value)) all ran.appended ran.ran

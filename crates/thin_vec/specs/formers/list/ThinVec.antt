@@ -32,14 +32,14 @@ use Rattle.thin_vec.specs.contracts.list.ThinVec.TheInside as I
 
 abbrev pub the_former : Former {0} → Type 0 → Type 0 → Former {0}
 the_former g Z Q =
-    via (pair (list g) (const (ℕ × (Z × Cost)))) (λ X. Thin (g.Of X) Z) (λ X v. (v.items, (v.cap, (v.alloc, v.cost))))
-    (λ X p. record { items = p.0; cap = p.1.0; alloc = p.1.1.0; cost = p.1.1.1 }) (λ X v. refl) (λ X p. refl)
+    via (pair (list g) (const (ℕ × (Z × Cost)))) (λ X. Thin (g.Of X) Z) (λ X v. (v.items, (v.capacity, (v.alloc, v.cost))))
+    (λ X p. record { items = p.0; capacity = p.1.0; alloc = p.1.1.0; cost = p.1.1.1 }) (λ X v. refl) (λ X p. refl)
 
 abbrev pub the_weighed : {g : Former {0}} → Weighed g → (Z Q : Type 0) → Weighed (the_former g Z Q)
 the_weighed w Z Q = record { weight = λ X μ v. most (w.weight X μ) v.items; puts = λ X μ v. List-puts w X μ v.items }
 
 pub the_empty : (Z Q : Type 0) → Z → Q → Thin ⊥ Z
-the_empty Z Q z q = record { items = []; cap = 0; alloc = z; cost = no_cost }
+the_empty Z Q z q = record { items = []; capacity = 0; alloc = z; cost = no_cost }
 
 abbrev pub the_items : (Z Q X : Type 0) → Thin X Z → List X
 the_items Z Q X v = v.items
@@ -109,7 +109,7 @@ module _ (Z Q : RattleType) (G : AllocatorGhosts Z.Denot) (K : GrowthGhosts Q.De
   module _ (R S : RattleType) (h : R.Denot → S.Denot) where
     pub the_places : Alike R S h → Alike (C.the_row R Z Q G K) (C.the_row S Z Q G K) ((the_former this Z.Denot Q.Denot).map R.Denot S.Denot h)
     the_places a = view_places (fields Z.Denot Q.Denot) (the_former this Z.Denot Q.Denot) (λ X. view X Z.Denot Q.Denot G K)
-        (λ X Y k u i. record { items = items_in-map k u.block.slots i; cap = length-map u.block.slots (on_slot k) i; alloc = u.alloc; cost = u.block.cost })
+        (λ X Y k u i. record { items = items_in-map k u.block.slots i; capacity = length-map u.block.slots (on_slot k) i; alloc = u.alloc; cost = u.block.cost })
         (λ X u. items_in-held X u.block.slots)
         R.Denot S.Denot h (C.the_row R Z Q G K).coded (C.the_row S Z Q G K).coded
         (invariant R.Denot Z.Denot Q.Denot G K) (invariant S.Denot Z.Denot Q.Denot G K) (λ u. IsThin-prop R.coded u.block u.alloc) (λ u. IsThin-prop S.coded u.block u.alloc)

@@ -1,10 +1,10 @@
 use Rattle.std.proofs.Common.{◌≡◌, ℕ, length, List, None, sym, ap, ◌∙◌, arith}
 use Rattle.std.specs.Prelude.{Option}
 use Rattle.std.proofs.lemmas.List.{length-replicate}
-use Rattle.thin_block.specs.Cost.{growing}
-use Rattle.thin_block.specs.Slots.{empty, slot, run, laid, emptied}
+use Rattle.thin_block.specs.Slots.{empty, slot, emptied}
 use Rattle.thin_block.proofs.SlotsLemmas.{packed-filled, packed-le, packed-emptied, slot-empty}
 use Rattle.thin_block.proofs.block.Block.remake.Goals as goal
+use Rattle.thin_block.proofs.block.Block.remake.Goals.{then-len-gt0, else-len-gt0}
 
 -- the items lie in front, and the other block is empty
 pub carry_run-requires : goal.carry_run-requires
@@ -28,19 +28,14 @@ carry_run-requires g c κs within =
       ),
     )
 
--- the old block is empty once the items are carried
+-- the old block is empty once the items are carried, and where it had none
 pub release-requires-clause-empty : goal.release-requires-clause-empty
 release-requires-clause-empty g c =
     let old = c.args.self.now.slots in
-    let left : c.replace-old.result.slots ≡ empty (length old) =
-    (λ i. (c.replace-old.ensures.value i).slots) ∙ c.carry_run.ensures.slots ∙ (ap (λ (k : ℕ). emptied 0 k old) c.len-len.ensures.value ∙ packed-emptied old c.args.self.now.len c.requires.packed) in
+    let gone : c.if-len-gt0.self.slots ≡ empty (length old) =
+    elim c.if-len-gt0.branch [
+      | then-len-gt0 w ↦ ap (λ b. b.slots) w.self-is ∙ (w.carry_run.ensures.slots ∙ (ap (λ (k : ℕ). emptied 0 k old) c.len-len.ensures.value ∙ packed-emptied old c.args.self.now.len c.requires.packed))
+      | else-len-gt0 w ↦ ap (λ b. b.slots) w.self-is ∙ (let none : 0 ≡ c.args.self.now.len = omega (arith, w.if-len-gt0, c.len-len.ensures.value) in ap (λ (k : ℕ). emptied 0 k old) none ∙ packed-emptied old c.args.self.now.len c.requires.packed)
+    ] in
+    let left : c.replace-old.result.slots ≡ empty (length old) = (λ i. (c.replace-old.ensures.value i).slots) ∙ gone in
     left ∙ ap (λ (k : ℕ). empty k) (sym (ap length left ∙ length-replicate (length old) None))
-
-pub returns-clause-slots : goal.returns-clause-slots
-returns-clause-slots g c =
-    let old = c.args.self.now.slots in
-    let bare : c.store_len.new.self.slots ≡ empty c.args.cap = c.store_len.ensures.slots ∙ c.in_ok-other.ensures.slots in
-    (λ i. (c.replace-old.ensures.after i).slots) ∙ c.carry_run.ensures.to_slots ∙ (λ i. laid 0 (run 0 (c.len-len.ensures.value i) old) (bare i))
-
-pub returns-clause-cost : goal.returns-clause-cost
-returns-clause-cost g c = (λ i. (c.replace-old.ensures.after i).cost) ∙ c.carry_run.ensures.to_cost ∙ ap (λ (k : ℕ). growing k c.args.self.now.cost) c.len-len.ensures.value

@@ -7,7 +7,7 @@ use Rattle.thin_vec.proofs.bytes.ThinVecU8Write.write_all.Goals as goal
 -- the bytes' type as `reserve` sees it has the same size and alignment
 pub returns-clause-capacity : goal.returns-clause-capacity
 returns-clause-capacity g c =
-    ruled-at u8 _ c.args.self.now.cap (length c.args.self.now.items + length c.args.buf.now) refl refl g.G.Growth.rule
+    ruled-at u8 _ c.args.self.now.capacity (length c.args.self.now.items + length c.args.buf.now) refl refl g.G.Growth.rule
     ∙ (c.in-Ok.ensures.capacity ∙ ap (λ n. Some n) (sym c.append_copies.ensures.capacity))
 
 pub returns-clause-overflow : goal.returns-clause-overflow

@@ -1,18 +1,30 @@
-use Rattle.std.proofs.Common.{◌-◌, ◌<◌, ◌∷◌, ◌++◌, [], ap, sym, ◌∙◌, arith, length, take}
+-- The last item that remains leaves its slot, and the walk ends one slot sooner.
+use Rattle.std.proofs.Common.{◌-◌, ◌<◌, ◌≤◌, ◌∷◌, ◌++◌, [], ap, sym, ◌∙◌, arith, length, take}
 use Rattle.thin_block.specs.Slots.{items_in}
 use Rattle.thin_vec.proofs.WalkLemmas.{Walking, last-item, settle-last, walked-filled}
 use Rattle.thin_vec.proofs.into_iter.IntoIter.take_last.Goals as goal
 
+-- an item remains
 some : (g : _) (c : goal.After-take g) → c.self.inside.start < c.self.inside.end
 some g c = omega (arith, c.self.invariant.len, c.requires.some, ap (λ v. length v.items) c.self.view_is)
 
+-- so the slot before the end is filled
 pub take-requires : goal.take-requires
 take-requires g c =
-    record { filled = walked-filled c.self.inside.block c.self.inside.alloc c.self.inside.start c.self.inside.end (c.self.inside.end - 1) c.self.invariant (omega (arith, c.self.invariant.len, c.requires.some, ap (λ v. length v.items) c.self.view_is)) (omega (arith, c.self.invariant.len, c.requires.some, ap (λ v. length v.items) c.self.view_is)) }
+    let it = c.self.inside in
+    let remain = ap (λ v. length v.items) c.self.view_is in
+    let from : it.start ≤ it.end - 1 = omega (arith, c.self.invariant.len, c.requires.some, remain) in
+    let to : it.end - 1 < it.end = omega (arith, c.self.invariant.len, c.requires.some, remain) in
+    record { filled = walked-filled it.block it.alloc it.start it.end (it.end - 1) c.self.invariant from to }
 
-facts : (g : _) (c : goal.After-take g) → Walking c.take.new.self c.self.inside.alloc (take (c.self.inside.end - 1 - c.self.inside.start) (items_in c.self.inside.block.slots)) c.self.inside.start (c.self.inside.end - 1) (length c.self.inside.block.slots)
+-- the block afterwards: all items but the last, between the same start and an end one slot sooner
+facts : (g : _) (c : goal.After-take g)
+    → let it = c.self.inside in
+    let most = take (it.end - 1 - it.start) (items_in it.block.slots) in
+    Walking c.take.new.self it.alloc most it.start (it.end - 1) (length it.block.slots)
 facts g c =
-    settle-last c.self.inside.block c.take.new.self c.self.inside.alloc c.self.inside.start c.self.inside.end c.take.result c.self.invariant (some g c)
+    let it = c.self.inside in
+    settle-last it.block c.take.new.self it.alloc it.start it.end c.take.result c.self.invariant (some g c)
     c.take.ensures.slots c.take.ensures.heap
 
 pub invariant_of-self : goal.invariant_of-self
@@ -20,6 +32,7 @@ invariant_of-self g c = (facts g c).walked
 
 pub returns-clause-items : goal.returns-clause-items
 returns-clause-items g c =
+    let it = c.self.inside in
+    let parted = last-item it.block c.take.new.self it.alloc it.start it.end c.take.result c.self.invariant (some g c) c.take.ensures.value in
     sym (ap (λ v. v.items) c.self.view_is)
-    ∙ (last-item c.self.inside.block c.take.new.self c.self.inside.alloc c.self.inside.start c.self.inside.end c.take.result c.self.invariant (some g c) c.take.ensures.value
-    ∙ ap (λ xs. xs ++ c.take.result ∷ []) (sym (facts g c).items))
+    ∙ (parted ∙ ap (λ xs. xs ++ c.take.result ∷ []) (sym (facts g c).items))

@@ -19,7 +19,7 @@ joined : (g : _) (c : goal.After-set_len-2 g)
 joined g c =
     settle-joined c.self.inside.block c.set_len-2.new.self c.other.inside.block c.self.inside.alloc c.other.inside.alloc c.args.start _ _ c.self.invariant c.other.invariant
     (omega (arith, c.requires.in_bounds, ap (λ v. length v.items) c.other.view_is)) (ap (λ n. n - c.args.start) c.len.ensures.value) c.len-len.ensures.value
-    (omega (arith, c.requires.room, c.len.ensures.value, c.len-len.ensures.value, c.self.invariant.packed.len, c.other.invariant.packed.len, ap (λ v. length v.items) c.self.view_is, ap (λ v. length v.items) c.other.view_is, ap (λ v. v.cap) c.self.view_is))
+    (omega (arith, c.requires.room, c.len.ensures.value, c.len-len.ensures.value, c.self.invariant.packed.len, c.other.invariant.packed.len, ap (λ v. length v.items) c.self.view_is, ap (λ v. length v.items) c.other.view_is, ap (λ v. v.capacity) c.self.view_is))
     (c.set_len-2.ensures.slots ∙ c.move_run_to.ensures.other_slots) c.set_len-2.ensures.len (c.set_len-2.ensures.heap ∙ c.move_run_to.ensures.other_heap)
 
 pub invariant_of-self : goal.invariant_of-self

@@ -3,7 +3,8 @@ use Rattle.std.proofs.lemmas.List.{length_push}
 use denote.Param.{param}
 use Rattle.thin_vec.specs.Filling.{IsLoose}
 use Rattle.thin_vec.specs.ThinVec.{capacity_for}
-use Rattle.thin_vec.proofs.FillLemmas.{at-some, filled-at, filled-join, filled-spare, loose-join, loose-le, loose-ruled, yields-join, yields-more}
+use Rattle.std.proofs.Common.{◌+◌, inr, inl}
+use Rattle.thin_vec.proofs.FillLemmas.{named-more, at-some, filled-at, filled-join, filled-spare, loose-join, loose-le, loose-ruled, yields-join, yields-more}
 use Rattle.thin_vec.proofs.list.ThinVec.fill.Goals as goal
 
 pub returns-in_default-clause-items : goal.returns-in_default-clause-items
@@ -27,6 +28,18 @@ returns-in-Err-clause-placed g c =
     let gave = yields-more steps c.args.iter now.2.0 c.fill_up-left.result.0 (before.0 ++ now.0) c.in-Some.item (yields-join steps c.args.iter c.loop-item.rest now.2.0 before.0 now.0 before.2 now.2.1) drawn in
     (before.0 ++ now.0, ap (λ v. v.items) c.in-Err.ensures.err ∙ items, rw c.in-Err.ensures.value_returned gave)
 
+pub returns-in_default-clause-named : goal.returns-in_default-clause-named
+returns-in_default-clause-named g c =
+    let u = c.loop-item.self in let w = c.fill_up-left.new.self in
+    let now = c.fill_up-left.ensures.items in
+    named-more g.G.Growth.rule (param 0 g.row.T) g.met.G.Growth.law c.args.self.now.capacity u.capacity w.capacity (length u.items) (length w.items) c.fill_up-left.ensures.capacity (omega (arith, ap length now.1, length-append u.items now.0)) c.loop-item.invariant.named
+
+pub returns-in-Err-clause-named : goal.returns-in-Err-clause-named
+returns-in-Err-clause-named g c =
+    let u = c.loop-item.self in let w = c.fill_up-left.new.self in
+    let now = c.fill_up-left.ensures.items in
+    rw c.in-Err.ensures.err (named-more g.G.Growth.rule (param 0 g.row.T) g.met.G.Growth.law c.args.self.now.capacity u.capacity w.capacity (length u.items) (length w.items) c.fill_up-left.ensures.capacity (omega (arith, ap length now.1, length-append u.items now.0)) c.loop-item.invariant.named)
+
 pub loop-item-preserved : goal.loop-item-preserved
 loop-item-preserved g c =
     let rule = g.G.Growth.rule in let T = param 0 g.row.T in let law = g.met.G.Growth.law in
@@ -44,11 +57,11 @@ loop-item-preserved g c =
     let long = ap length pushed.items ∙ length_push w.items c.in-Some.item in
     let more = ap length now.1 ∙ length-append u.items now.0 in
     let some = ap length before.1 ∙ length-append v.items before.0 in
-    let grown = loose-ruled rule T law w 1 z.cap pushed.capacity in
+    let grown = loose-ruled rule T law w 1 z.capacity pushed.capacity in
     let spare = filled-spare u w (length w.items - length u.items) c.fill_up-left.ensures.cost c.fill_up-left.ensures.capacity (omega (arith, more)) in
     let push = filled-at w z 1 pushed.cost long in
-    let high = loose-le rule T law w.cap z.cap grown in
-    let low = loose-le rule T law v.cap u.cap held.capacity in
+    let high = loose-le rule T law w.capacity z.capacity grown in
+    let low = loose-le rule T law v.capacity u.capacity held.capacity in
     record {
       can = rest.0;
       finite = rest.1;
@@ -58,10 +71,11 @@ loop-item-preserved g c =
         gave,
       );
       nearer = omega (arith, held.nearer, nearer, long);
-      capacity = loose-join rule T law v.cap u.cap z.cap held.capacity (subst (λ n. IsLoose rule T n z.cap) c.fill_up-left.ensures.capacity grown);
+      capacity = loose-join rule T law v.capacity u.capacity z.capacity held.capacity (subst (λ n. IsLoose rule T n z.capacity) c.fill_up-left.ensures.capacity grown);
       had_room = λ fit. let same = held.had_room fit in pushed.had_room (omega (arith, fit, held.nearer, nearer, same, c.fill_up-left.ensures.capacity)) ∙ (c.fill_up-left.ensures.capacity ∙ same);
       cost = filled-join v u z low (omega (arith, high, c.fill_up-left.ensures.capacity)) (omega (arith, some)) held.cost
           (filled-join u w z (omega (arith, c.fill_up-left.ensures.capacity)) high (omega (arith, more)) spare push);
+      named = let full = at-some c.in-Some.is c.fill_up-left.ensures.full in inr (w.capacity, length w.items + 1, omega (arith, full), omega (arith, long), pushed.capacity);
       alloc = pushed.alloc ∙ (c.fill_up-left.ensures.alloc ∙ held.alloc);
       cheap = λ first. pushed.cheap (c.fill_up-left.ensures.cheap (held.cheap first));
     }
@@ -70,7 +84,7 @@ pub returns-in-Err-clause-succeeds : goal.returns-in-Err-clause-succeeds
 returns-in-Err-clause-succeeds g c = λ fit.
     let held = c.loop-item.invariant in
     let nearer = at-some c.in-Some.is c.fill_up-left.ensures.nearer in
-    let low = loose-le g.G.Growth.rule (param 0 g.row.T) g.met.G.Growth.law c.args.self.now.cap c.loop-item.self.cap held.capacity in
+    let low = loose-le g.G.Growth.rule (param 0 g.row.T) g.met.G.Growth.law c.args.self.now.capacity c.loop-item.self.capacity held.capacity in
     c.in-Err.ensures.succeeds (omega (arith, fit, held.nearer, nearer, low, c.fill_up-left.ensures.capacity))
 
 pub returns-in-Err-clause-overflow : goal.returns-in-Err-clause-overflow
@@ -84,6 +98,6 @@ returns-in-Err-clause-cost g c =
     let v = c.args.self.now in let u = c.loop-item.self in let w = c.fill_up-left.new.self in
     let more = ap length now.1 ∙ length-append u.items now.0 in
     let some = ap length held.placed.1 ∙ length-append v.items held.placed.0 in
-    let low = loose-le g.G.Growth.rule (param 0 g.row.T) g.met.G.Growth.law v.cap u.cap held.capacity in
+    let low = loose-le g.G.Growth.rule (param 0 g.row.T) g.met.G.Growth.law v.capacity u.capacity held.capacity in
     let spare = filled-spare u w (length w.items - length u.items) c.fill_up-left.ensures.cost c.fill_up-left.ensures.capacity (omega (arith, more)) in
     rw c.in-Err.ensures.err (filled-join v u w low (omega (arith, c.fill_up-left.ensures.capacity)) (omega (arith, some)) held.cost spare)

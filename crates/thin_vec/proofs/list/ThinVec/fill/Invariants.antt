@@ -3,7 +3,7 @@ use Rattle.std.proofs.Common.{◌≡◌, ◌+◌, ◌≤◌, List, ◌++◌, len
 use Rattle.std.specs.Iterator.{IsFinite, Yields, size}
 use denote.Param.{param}
 use Rattle.thin_vec.specs.Costs.{IsCheap}
-use Rattle.thin_vec.specs.Filling.{IsFilled, IsLoose}
+use Rattle.thin_vec.specs.Filling.{IsFilled, IsLoose, IsNamed}
 use Rattle.thin_vec.proofs.list.ThinVec.fill.Given as goal
 
 abbrev pub invariant-loop-item : goal.invariant-loop-item
@@ -12,9 +12,10 @@ invariant-loop-item g l = record {
   finite : IsFinite (g.I.Iterator.remaining l.rest);
   placed : (xs : List g.row.T.Denot) × (l.self.items ≡ l.fn.self.items ++ xs) × Yields g.I.Iterator.next_gives l.fn.iter xs l.rest;
   nearer : length l.self.items + size (g.I.Iterator.remaining l.rest) ≤ length l.fn.self.items + size (g.I.Iterator.remaining l.fn.iter);
-  capacity : IsLoose g.G.Growth.rule (param 0 g.row.T) l.fn.self.cap l.self.cap;
-  had_room : length l.fn.self.items + size (g.I.Iterator.remaining l.fn.iter) ≤ l.fn.self.cap → l.self.cap ≡ l.fn.self.cap;
+  capacity : IsLoose g.G.Growth.rule (param 0 g.row.T) l.fn.self.capacity l.self.capacity;
+  had_room : length l.fn.self.items + size (g.I.Iterator.remaining l.fn.iter) ≤ l.fn.self.capacity → l.self.capacity ≡ l.fn.self.capacity;
   cost : IsFilled l.fn.self l.self;
+  named : IsNamed g.G.Growth.rule (param 0 g.row.T) l.fn.self.capacity l.self.capacity (length l.self.items);
   alloc : l.self.alloc ≡ l.fn.self.alloc;
   cheap : IsCheap l.fn.self → IsCheap l.self;
 }

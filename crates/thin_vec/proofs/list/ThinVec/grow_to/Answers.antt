@@ -2,12 +2,12 @@ use Rattle.std.proofs.Common.{ap, ◌∙◌, arith}
 use Rattle.thin_vec.proofs.ListLemmas.{Settled, settle-grow}
 use Rattle.thin_block.specs.Slots.{items_in}
 use Rattle.thin_vec.proofs.list.ThinVec.grow_to.Goals as goal
-use Rattle.thin_vec.proofs.list.ThinVec.grow_to.Goals.{In-Ok}
+use Rattle.thin_vec.proofs.list.ThinVec.grow_to.Goals.{In_ok-grow}
 
-facts : (g : _) (c : In-Ok g) → Settled c.grow.new.self c.self.inside.alloc (items_in c.self.inside.block.slots) c.args.cap
+facts : (g : _) (c : In_ok-grow g) → Settled c.grow.new.self c.self.inside.alloc (items_in c.self.inside.block.slots) c.args.cap
 facts g c =
     settle-grow c.self.inside.block c.grow.new.self c.self.inside.alloc c.args.cap c.self.invariant
-    (omega (arith, c.requires.larger, ap (λ v. v.cap) c.self.view_is)) c.in-Ok.ensures.slots c.grow.ensures.len c.in-Ok.ensures.heap
+    (omega (arith, c.requires.larger, ap (λ v. v.capacity) c.self.view_is)) c.in_ok-grow.ensures.slots c.grow.ensures.len c.in_ok-grow.ensures.heap
 
 pub invariant_of-self-2 : goal.invariant_of-self-2
 invariant_of-self-2 g c = (facts g c).thin

@@ -3,11 +3,11 @@ use Rattle.thin_vec.proofs.ListLemmas.{Settled, settle-push}
 use Rattle.thin_block.specs.Slots.{items_in}
 use Rattle.thin_vec.proofs.list.ThinVec.push_reserved.Goals as goal
 
-facts : (g : _) (c : goal.After-store_len g) → Settled c.store_len.new.self c.self.inside.alloc (items_in c.self.inside.block.slots ++ c.args.value ∷ []) (length c.self.inside.block.slots)
+facts : (g : _) (c : goal.After-put_and_store g) → Settled c.put_and_store.new.self c.self.inside.alloc (items_in c.self.inside.block.slots ++ c.args.value ∷ []) (length c.self.inside.block.slots)
 facts g c =
-    settle-push c.self.inside.block c.store_len.new.self c.self.inside.alloc c.args.value c.len-len.result c.self.invariant c.len-len.ensures.value
-    (omega (arith, c.requires.room, c.len-len.ensures.value, c.self.invariant.packed.len, ap (λ v. length v.items) c.self.view_is, ap (λ v. v.cap) c.self.view_is))
-    (c.store_len.ensures.slots ∙ c.put.ensures.slots) c.store_len.ensures.len (c.store_len.ensures.heap ∙ c.put.ensures.heap)
+    settle-push c.self.inside.block c.put_and_store.new.self c.self.inside.alloc c.args.value c.len-len.result c.self.invariant c.len-len.ensures.value
+    (omega (arith, c.requires.room, c.len-len.ensures.value, c.self.invariant.packed.len, ap (λ v. length v.items) c.self.view_is, ap (λ v. v.capacity) c.self.view_is))
+    c.put_and_store.ensures.slots c.put_and_store.ensures.len c.put_and_store.ensures.heap
 
 pub invariant_of-self : goal.invariant_of-self
 invariant_of-self g c = (facts g c).thin

@@ -37,9 +37,9 @@ returns-clause-refused g c =
     let grown = c.reserve.new.self in
     let new = c.append_repeated.new.self in
     let capacity = sym c.append_repeated.ensures.capacity in
-    let paid : grown.cost ≡ cost_at v new.cap = c.in_ok-reserve.ensures.cost ∙ ap (λ n. cost_at v n) capacity in
+    let paid : grown.cost ≡ cost_at v new.capacity = c.in_ok-reserve.ensures.cost ∙ ap (λ n. cost_at v n) capacity in
     on-err c.append_repeated.result (λ stops. inr (record {
       capacity = sym (ap (λ n. capacity_for g.G.Growth.rule (param 0 g.row.T) v (c.args.len - n)) old) ∙ (c.in_ok-reserve.ensures.capacity ∙ ap Some capacity);
-      stopped = subst (λ n. StopsAtClone g.T.Clone.is_infallible (replicate (c.args.len - n - 1) x) (cost_at v new.cap) new.cost) old
+      stopped = subst (λ n. StopsAtClone g.T.Clone.is_infallible (replicate (c.args.len - n - 1) x) (cost_at v new.capacity) new.cost) old
           (subst (λ k. StopsAtClone g.T.Clone.is_infallible (replicate (c.args.len - c.len-old.result - 1) x) k new.cost) paid stops);
     })) c.append_repeated.ensures.refused
