@@ -3,7 +3,7 @@
 --     whole_size, whole_align        the layout of the room that a block is asked for
 --     carve, gather                  that room as its parts, and back
 --     header, header_fits            all of a block but its slots, also where there is none; and that the block fits
---     heap_there                     where there are slots, there is an allocator
+--     alloc_there                     where there are slots, there is an allocator
 --     block_had, block_made          what a block owns, as its header and its slots, and back
 --     block_opens, block_closes      the same behind a `&mut`
 use Rattle.std.proofs.Common.{◌≡◌, Bool, true, ℕ, Some, None, ◌+◌, ◌*◌, ◌<◌, List, [], ◌∷◌, ◌++◌, length, refl, sym, ap, subst, ◌∙◌, arith, w64}
@@ -142,10 +142,10 @@ header t R n c None b o = fsep (lent_at usize (block_ptr b o) 0 []) (lent_at usi
 header t R n c (Some a) b o = frame (t a) R n c b o
 
 -- where there are slots, there is an allocator that the block came from
-pub heap_there : {D X : Type 0} (a : Option D) (xs : List X) → there a ≡ any xs → 0 < length xs → (h : D) × (a ≡ Some h)
-heap_there (Some h) xs is some = (h, refl)
-heap_there None [] is some = absurd (omega arith)
-heap_there None (x ∷ xs) is some = absurd (clash is)
+pub alloc_there : {D X : Type 0} (a : Option D) (xs : List X) → there a ≡ any xs → 0 < length xs → (h : D) × (a ≡ Some h)
+alloc_there (Some h) xs is some = (h, refl)
+alloc_there None [] is some = absurd (omega arith)
+alloc_there None (x ∷ xs) is some = absurd (clash is)
 
 pub any_some : {X : Type 0} (xs : List X) → 0 < length xs → true ≡ any xs
 any_some [] some = absurd (omega arith)
@@ -186,7 +186,7 @@ module _ (E : El) (Y : Al) where
   t = Y.g.dealloc_token
 
   abbrev pub Header : Br.Denot → ℕ → ℕ → Fml
-  Header x b o = header t (R E) x.len (length x.slots) x.heap b o
+  Header x b o = header t (R E) x.len (length x.slots) x.alloc b o
 
   abbrev pub Slots : Br.Denot → ℕ → ℕ → Fml
   Slots x b o = places (R E) x.slots b (o + 16)
@@ -197,16 +197,16 @@ module _ (E : El) (Y : Al) {M : Type 1} {𝓤 : Ura M} {𝓛 : Logic 𝓤} {K : 
       → Seq K 𝓛 (‵ ((Br E Y).own_val x vs) ∷ Γ) G
   block_had k x vs next =
       peeks k (Br E Y) _ (shows 𝓛 (Br E Y)) x vs (λ is. fsplit k $ drop k $
-      in_a_block k x.at (λ p. block_owns (t E Y) (R E) p x.len x.slots x.heap) (id⊢ 𝓤 (never 𝓤)) (λ b o at.
-      use1 𝓛 (‵ (Header E Y x b o) ⊛ ‵ (Slots E Y x b o)) (header_out (t E Y) (R E) 𝓛 x.len x.slots x.heap b o x.sound.1) $ split k $
-      header_fits (t E Y) (R E) k x.len x.slots x.heap b o x.sound.1 (λ fits.
+      in_a_block k x.at (λ p. block_owns (t E Y) (R E) p x.len x.slots x.alloc) (id⊢ 𝓤 (never 𝓤)) (λ b o at.
+      use1 𝓛 (‵ (Header E Y x b o) ⊛ ‵ (Slots E Y x b o)) (header_out (t E Y) (R E) 𝓛 x.len x.slots x.alloc b o x.sound.1) $ split k $
+      header_fits (t E Y) (R E) k x.len x.slots x.alloc b o x.sound.1 (λ fits.
       next b o at (block_told x.at vs is.0 ∙ ap (λ (p : Ptr). block_val p ∷ []) at) fits)))
 
   pub block_made : K → (x : (Br E Y).Denot) (b o : ℕ) → x.at ≡ block_ptr b o
       → Step K 𝓛 (‵ ((Br E Y).own_val x (block_val (block_ptr b o) ∷ [])) ∷ Γ) G (‵ (Header E Y x b o) ∷ ‵ (Slots E Y x b o) ∷ Γ) G
   block_made k x b o at = step (λ s.
-      use2 𝓛 (‵ (block_owns (t E Y) (R E) (block_ptr b o) x.len x.slots x.heap)) (header_in (t E Y) (R E) 𝓛 x.len x.slots x.heap b o) $
-      rewrite k 0 (λ (p : Ptr). ‵ (block_owns (t E Y) (R E) p x.len x.slots x.heap)) (sym at) refl $
+      use2 𝓛 (‵ (block_owns (t E Y) (R E) (block_ptr b o) x.len x.slots x.alloc)) (header_in (t E Y) (R E) 𝓛 x.len x.slots x.alloc b o) $
+      rewrite k 0 (λ (p : Ptr). ‵ (block_owns (t E Y) (R E) p x.len x.slots x.alloc)) (sym at) refl $
       use0 𝓛 (‵ (block_own x.at (block_val x.at ∷ []))) (block_own_made 𝓛 x.at) $
       rewrite k 0 (λ (p : Ptr). ‵ (block_own x.at (block_val p ∷ []))) at refl $ fjoin k $ s)
 

@@ -70,7 +70,7 @@ module _ (E : El) (Y : Al) {M : Type 1} {𝓤 : Ura M} (𝓛 : Logic 𝓤) (x : 
       → ent 𝓤 (sep 𝓤 (sem 𝓛 (places (R E) s b (o + 16))) (sem 𝓛 Waiting)) (sem 𝓛 ((mem (Br E Y)).own_at (with_slots x s same) rb ro))
   unfolding part_of
   slots_back s same = qed 𝓛 (‵ (places (R E) s b (o + 16)) ∷ ‵ Waiting ∷ []) ∵ move ! (1 ∷ []) $ fsplit ! $
-      rewrite ! 0 (λ (k : ℕ). ‵ (header (t E Y) (R E) x.len k x.heap b o)) (sym same) refl $ move ! (0 ∷ 2 ∷ []) $
+      rewrite ! 0 (λ (k : ℕ). ‵ (header (t E Y) (R E) x.len k x.alloc b o)) (sym same) refl $ move ! (0 ∷ 2 ∷ []) $
       block_made E Y ! (with_slots x s same) b o at $ move ! (1 ∷ 0 ∷ []) $ fjoin ! $
       fpack ! (List Val) (λ us. fsep (cell_at full_share (Br E Y).mir us rb ro) ((Br E Y).own_val (with_slots x s same) us)) (block_val (block_ptr b o) ∷ []) $ done !
 

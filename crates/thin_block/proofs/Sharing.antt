@@ -51,7 +51,7 @@ module _ (E : El) (Y : Al) {M : Type 1} {𝓤 : Ura M} (𝓛 : Logic 𝓤) (κ :
   Words = Struct (shape (block.the_type (R E) (param 1 Y.row) Y.g))
 
   apart : (x : (Br E Y).Denot) (b o : ℕ)
-      → ent 𝓤 (sem 𝓛 (hidden_shr (Br E Y) κ x b o)) (sep 𝓤 (sem 𝓛 (hidden_shr RawPtr κ x.at b (o + 0))) (sem 𝓛 (block_lent (R E) x.at x.len x.slots x.heap κ)))
+      → ent 𝓤 (sem 𝓛 (hidden_shr (Br E Y) κ x b o)) (sep 𝓤 (sem 𝓛 (hidden_shr RawPtr κ x.at b (o + 0))) (sem 𝓛 (block_lent (R E) x.at x.len x.slots x.alloc κ)))
   apart x b o =
       let Rt : RattleType = R E in
       let Z : RattleType = param 1 Y.row in
@@ -67,10 +67,10 @@ module _ (E : El) (Y : Al) {M : Type 1} {𝓤 : Ura M} {𝓛 : Logic 𝓤} {K : 
       → Seq K 𝓛 (‵ (hidden_shr RawPtr κ x.at rb (ro + 0)) ∷ ‵ (hidden_shr usize κ (length x.slots) b o) ∷ ‵ (hidden_shr usize κ x.len b (8 + o)) ∷ ‵ (places_lent (R E) x.slots b (o + 16) κ) ∷ Γ) G)
       → Seq K 𝓛 (‵ (hidden_shr (Br E Y) κ x rb ro) ∷ Γ) G
   block_seen k {κ} x rb ro next =
-      use1 𝓛 (‵ (hidden_shr RawPtr κ x.at rb (ro + 0)) ⊛ ‵ (block_lent (R E) x.at x.len x.slots x.heap κ)) (apart E Y 𝓛 κ x rb ro) $ split k $ move k (1 ∷ []) $
-      in_a_block k x.at (λ p. block_lent (R E) p x.len x.slots x.heap κ) (id⊢ 𝓤 (never 𝓤)) (λ b o at.
+      use1 𝓛 (‵ (hidden_shr RawPtr κ x.at rb (ro + 0)) ⊛ ‵ (block_lent (R E) x.at x.len x.slots x.alloc κ)) (apart E Y 𝓛 κ x rb ro) $ split k $ move k (1 ∷ []) $
+      in_a_block k x.at (λ p. block_lent (R E) p x.len x.slots x.alloc κ) (id⊢ 𝓤 (never 𝓤)) (λ b o at.
       use1 𝓛 (‵ (hidden_shr usize κ (length x.slots) b o) ⊛ ‵ (hidden_shr usize κ x.len b (8 + o)) ⊛ ‵ (feq Bool (fits_block (R E) (length x.slots)) true) ⊛ ‵ (places_lent (R E) x.slots b (o + 16) κ))
-      (words_lent (R E) {D = Y.row.Denot} 𝓛 κ x.len x.slots x.heap b o x.sound.1 x.sound.0) $ split3 k $ move k (2 ∷ []) $ split k $ feq_l k (λ fits.
+      (words_lent (R E) {D = Y.row.Denot} 𝓛 κ x.len x.slots x.alloc b o x.sound.1 x.sound.0) $ split3 k $ move k (2 ∷ []) $ split k $ feq_l k (λ fits.
       move k (3 ∷ 1 ∷ 2 ∷ 0 ∷ []) $ next b o at fits))
 
 module _ (E : El) {M : Type 1} {𝓤 : Ura M} (𝓛 : Logic 𝓤) (b : ℕ) (κ : Lft) where

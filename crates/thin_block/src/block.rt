@@ -35,15 +35,15 @@ pub struct Block<T, A: Allocator> {
     pub(crate) handle: PhantomData<A>,
     pub ghost slots: { List (Option T) } by { coded_list (coded_option T.code) },
     pub ghost len: { ℕ },
-    pub ghost heap: { Option A } by { coded_option A.code },
+    pub ghost alloc: { Option A } by { coded_option A.code },
     pub ghost cost: { Cost } by { cost_code },
-    ghost sound: { (len ≤ length slots) × (there heap ≡ any slots) },
+    ghost sound: { (len ≤ length slots) × (there alloc ≡ any slots) },
 }
 
 impl<T, A: Allocator> Model for Block<T, A> {
-    ghost also_owns = { λ b. block_owns A.dealloc_token T.row b.at b.len b.slots b.heap };
+    ghost also_owns = { λ b. block_owns A.dealloc_token T.row b.at b.len b.slots b.alloc };
 
-    ghost also_shares = { λ b _ κ. block_lent T.row b.at b.len b.slots b.heap κ };
+    ghost also_shares = { λ b _ κ. block_lent T.row b.at b.len b.slots b.alloc κ };
 }
 
 impl<T, A: Allocator> Block<T, A> {
@@ -51,7 +51,7 @@ impl<T, A: Allocator> Block<T, A> {
     pub fn none() -> Block<T, A>
         ensures slots { result.slots ≡ [] }
         ensures len { result.len ≡ 0 }
-        ensures heap { result.heap ≡ None }
+        ensures alloc { result.alloc ≡ None }
         ensures cost { result.cost ≡ no_cost }
     {
         Block {
@@ -86,7 +86,7 @@ impl<T, A: Allocator> Block<T, A> {
         requires in_bounds { len ≤ length self.old.slots }
         ensures slots { self.new.slots ≡ self.old.slots }
         ensures len { self.new.len ≡ len }
-        ensures heap { self.new.heap ≡ self.old.heap }
+        ensures alloc { self.new.alloc ≡ self.old.alloc }
         ensures cost { self.new.cost ≡ self.old.cost }
     {
         if self.cap() > 0 {
@@ -100,7 +100,7 @@ impl<T, A: Allocator> Block<T, A> {
         requires in_bounds { len ≤ length self.old.slots }
         ensures slots { self.new.slots ≡ self.old.slots }
         ensures len { self.new.len ≡ len }
-        ensures heap { self.new.heap ≡ self.old.heap }
+        ensures alloc { self.new.alloc ≡ self.old.alloc }
         ensures cost { self.new.cost ≡ self.old.cost }
     {
         let at = self.at;

@@ -23,7 +23,7 @@ impl<T, A: Allocator> Block<T, A> {
         requires fits { Fits T.row cap }
         ensures slots { IfOk result (λ block. block.slots ≡ empty cap) }
         ensures len { IfOk result (λ block. block.len ≡ 0) }
-        ensures heap { IfOk result (λ block. block.heap ≡ Some alloc.now) }
+        ensures alloc { IfOk result (λ block. block.alloc ≡ Some alloc.now) }
         ensures cost { IfOk result (λ block. block.cost ≡ growing 0 no_cost) }
         ensures cause { IfErr result (λ cause. cause ≡ ThinVecError.OutOfMemory) }
     {
@@ -41,7 +41,7 @@ impl<T, A: Allocator> Block<T, A> {
         requires packed { IsPacked self.old.slots self.old.len }
         ensures slots { OnOk result (self.new.slots ≡ self.old.slots ++ empty (cap - length self.old.slots)) }
         ensures len { self.new.len ≡ self.old.len }
-        ensures heap { OnOk result (self.new.heap ≡ Some alloc.now) }
+        ensures alloc { OnOk result (self.new.alloc ≡ Some alloc.now) }
         ensures cost { OnOk result (self.new.cost ≡ growing self.old.len self.old.cost) }
         ensures err { OnErr result (self.new ≡ self.old) }
         ensures cause { IfErr result (λ cause. cause ≡ ThinVecError.OutOfMemory) }
@@ -58,7 +58,7 @@ impl<T, A: Allocator> Block<T, A> {
         requires room { self.old.len ≤ cap }
         ensures slots { OnOk result (self.new.slots ≡ take cap self.old.slots) }
         ensures len { self.new.len ≡ self.old.len }
-        ensures heap { OnOk result (self.new.heap ≡ Some alloc.now) }
+        ensures alloc { OnOk result (self.new.alloc ≡ Some alloc.now) }
         ensures cost { OnOk result (self.new.cost ≡ growing self.old.len self.old.cost) }
         ensures err { OnErr result (self.new ≡ self.old) }
         ensures cause { IfErr result (λ cause. cause ≡ ThinVecError.OutOfMemory) }
@@ -77,7 +77,7 @@ impl<T, A: Allocator> Block<T, A> {
         requires room { self.old.len ≤ cap }
         ensures slots { OnOk result (self.new.slots ≡ laid 0 (run 0 self.old.len self.old.slots) (empty cap)) }
         ensures len { self.new.len ≡ self.old.len }
-        ensures heap { OnOk result (self.new.heap ≡ Some alloc.now) }
+        ensures alloc { OnOk result (self.new.alloc ≡ Some alloc.now) }
         ensures cost { OnOk result (self.new.cost ≡ growing self.old.len self.old.cost) }
         ensures err { OnErr result (self.new ≡ self.old) }
         ensures cause { IfErr result (λ cause. cause ≡ ThinVecError.OutOfMemory) }
@@ -121,7 +121,7 @@ impl<T, A: Allocator> Block<T, A> {
         requires align { align ≡ block_align (type_align T.row) }
         ensures slots { IfOk result (λ block. block.slots ≡ empty cap) }
         ensures len { IfOk result (λ block. block.len ≡ 0) }
-        ensures heap { IfOk result (λ block. block.heap ≡ Some alloc.now) }
+        ensures alloc { IfOk result (λ block. block.alloc ≡ Some alloc.now) }
         ensures cost { IfOk result (λ block. block.cost ≡ growing 0 no_cost) }
     {
         match alloc.allocate(bytes, align) {
@@ -143,7 +143,7 @@ impl<T, A: Allocator> Block<T, A> {
 
     // `release` where there is a block, at its size and alignment.
     fn free_block(self, alloc: &A, bytes: usize, align: usize)
-        requires from { self.heap ≡ Some alloc.now }
+        requires from { self.alloc ≡ Some alloc.now }
         requires empty { self.slots ≡ empty (length self.slots) }
         requires bytes { bytes ≡ block_bytes (type_size T.row) (type_align T.row) (length self.slots) }
         requires align { align ≡ block_align (type_align T.row) }

@@ -18,7 +18,7 @@ impl<T, A: Allocator> Block<T, A> {
         requires empty { slot self.old.slots i ≡ None }
         ensures slots { self.new.slots ≡ slice_set self.old.slots i (Some value) }
         ensures len { self.new.len ≡ self.old.len }
-        ensures heap { self.new.heap ≡ self.old.heap }
+        ensures alloc { self.new.alloc ≡ self.old.alloc }
         ensures cost { self.new.cost ≡ moving 1 self.old.cost }
     {
         let at = self.at;
@@ -29,7 +29,7 @@ impl<T, A: Allocator> Block<T, A> {
     pub(crate) fn charge_as(&mut self, from: &Block<T, A>)
         ensures slots { self.new.slots ≡ self.old.slots }
         ensures len { self.new.len ≡ self.old.len }
-        ensures heap { self.new.heap ≡ self.old.heap }
+        ensures alloc { self.new.alloc ≡ self.old.alloc }
         ensures cost { self.new.cost ≡ growing from.now.len from.now.cost }
     {}
 
@@ -40,7 +40,7 @@ impl<T, A: Allocator> Block<T, A> {
         requires len_in_bounds { len ≤ length self.old.slots }
         ensures slots { self.new.slots ≡ slice_set self.old.slots i (Some value) }
         ensures len { self.new.len ≡ len }
-        ensures heap { self.new.heap ≡ self.old.heap }
+        ensures alloc { self.new.alloc ≡ self.old.alloc }
         ensures cost { self.new.cost ≡ moving 1 self.old.cost }
     {
         let at = self.at;
@@ -56,7 +56,7 @@ impl<T, A: Allocator> Block<T, A> {
         ensures value { slot self.old.slots i ≡ Some result }
         ensures slots { self.new.slots ≡ slice_set self.old.slots i None }
         ensures len { self.new.len ≡ self.old.len }
-        ensures heap { self.new.heap ≡ self.old.heap }
+        ensures alloc { self.new.alloc ≡ self.old.alloc }
         ensures cost { self.new.cost ≡ self.old.cost }
     {
         let at = self.at;
@@ -69,7 +69,7 @@ impl<T, A: Allocator> Block<T, A> {
         requires second { IsSome (slot self.old.slots j) }
         ensures slots { self.new.slots ≡ slice_set (slice_set self.old.slots i (slot self.old.slots j)) j (slot self.old.slots i) }
         ensures len { self.new.len ≡ self.old.len }
-        ensures heap { self.new.heap ≡ self.old.heap }
+        ensures alloc { self.new.alloc ≡ self.old.alloc }
         ensures cost { self.new.cost ≡ moving 1 self.old.cost }
     {
         let at = self.at;
@@ -90,7 +90,7 @@ impl<T, A: Allocator> Block<T, A> {
         ensures value { slot self.old.slots i ≡ Some result }
         ensures slots { self.new.slots ≡ slice_set (slice_set self.old.slots i (slot self.old.slots j)) j None }
         ensures len { self.new.len ≡ self.old.len }
-        ensures heap { self.new.heap ≡ self.old.heap }
+        ensures alloc { self.new.alloc ≡ self.old.alloc }
         ensures cost { self.new.cost ≡ moving (if i == j then 0 else 1) self.old.cost }
     {
         let at = self.at;
@@ -109,7 +109,7 @@ impl<T, A: Allocator> Block<T, A> {
         requires empty { AreEmpty self.old.slots i N }
         ensures slots { self.new.slots ≡ laid i (full values) self.old.slots }
         ensures len { self.new.len ≡ self.old.len }
-        ensures heap { self.new.heap ≡ self.old.heap }
+        ensures alloc { self.new.alloc ≡ self.old.alloc }
         ensures cost { self.new.cost ≡ moving N self.old.cost }
     {
         let at = self.at;
@@ -123,7 +123,7 @@ impl<T, A: Allocator> Block<T, A> {
         ensures value { full result ≡ run i N self.old.slots }
         ensures slots { self.new.slots ≡ emptied i N self.old.slots }
         ensures len { self.new.len ≡ self.old.len }
-        ensures heap { self.new.heap ≡ self.old.heap }
+        ensures alloc { self.new.alloc ≡ self.old.alloc }
         ensures cost { self.new.cost ≡ self.old.cost }
     {
         let at = self.at;
@@ -139,7 +139,7 @@ impl<T, A: Allocator> Block<T, A> {
         ensures slots { self.new.slots ≡ moved from to k self.old.slots }
         ensures cap { length self.new.slots ≡ length self.old.slots }
         ensures len { self.new.len ≡ self.old.len }
-        ensures heap { self.new.heap ≡ self.old.heap }
+        ensures alloc { self.new.alloc ≡ self.old.alloc }
         ensures cost { self.new.cost ≡ moving k self.old.cost }
     {
         if from.abs_diff(to) < k {
@@ -159,7 +159,7 @@ impl<T, A: Allocator> Block<T, A> {
         requires below { from < to + k }
         ensures slots { self.new.slots ≡ moved from to k self.old.slots }
         ensures len { self.new.len ≡ self.old.len }
-        ensures heap { self.new.heap ≡ self.old.heap }
+        ensures alloc { self.new.alloc ≡ self.old.alloc }
         ensures cost { self.new.cost ≡ moving k self.old.cost }
     {
         let at = self.at;
@@ -178,7 +178,7 @@ impl<T, A: Allocator> Block<T, A> {
         requires apart { (from + k ≤ to) ⊎ (to + k ≤ from) }
         ensures slots { self.new.slots ≡ moved from to k self.old.slots }
         ensures len { self.new.len ≡ self.old.len }
-        ensures heap { self.new.heap ≡ self.old.heap }
+        ensures alloc { self.new.alloc ≡ self.old.alloc }
         ensures cost { self.new.cost ≡ moving k self.old.cost }
     {
         let at = self.at;
@@ -198,13 +198,13 @@ impl<T, A: Allocator> Block<T, A> {
         // This block's run is empty, and all else of it is kept.
         ensures slots { self.new.slots ≡ emptied from k self.old.slots }
         ensures len { self.new.len ≡ self.old.len }
-        ensures heap { self.new.heap ≡ self.old.heap }
+        ensures alloc { self.new.alloc ≡ self.old.alloc }
         ensures cost { self.new.cost ≡ self.old.cost }
 
         // The other block holds the run.
         ensures other_slots { other.new.slots ≡ laid to (run from k self.old.slots) other.old.slots }
         ensures other_len { other.new.len ≡ other.old.len }
-        ensures other_heap { other.new.heap ≡ other.old.heap }
+        ensures other_alloc { other.new.alloc ≡ other.old.alloc }
         ensures other_cost { other.new.cost ≡ moving k other.old.cost }
     {
         self.carry_run(from, other, to, k);
@@ -220,11 +220,11 @@ impl<T, A: Allocator> Block<T, A> {
         requires empty { AreEmpty to_block.old.slots to k }
         ensures slots { self.new.slots ≡ emptied from k self.old.slots }
         ensures len { self.new.len ≡ self.old.len }
-        ensures heap { self.new.heap ≡ self.old.heap }
+        ensures alloc { self.new.alloc ≡ self.old.alloc }
         ensures own_cost { self.new.cost ≡ self.old.cost }
         ensures to_slots { to_block.new.slots ≡ laid to (run from k self.old.slots) to_block.old.slots }
         ensures to_len { to_block.new.len ≡ to_block.old.len }
-        ensures to_heap { to_block.new.heap ≡ to_block.old.heap }
+        ensures to_alloc { to_block.new.alloc ≡ to_block.old.alloc }
         ensures to_cost { to_block.new.cost ≡ cost }
     {
         let from_at = self.at;
@@ -244,7 +244,7 @@ impl<T: Copy, A: Allocator> Block<T, A> {
         requires empty { AreEmpty self.old.slots i (length items.now) }
         ensures slots { self.new.slots ≡ laid i (full items.now) self.old.slots }
         ensures len { self.new.len ≡ self.old.len }
-        ensures heap { self.new.heap ≡ self.old.heap }
+        ensures alloc { self.new.alloc ≡ self.old.alloc }
         ensures cost { self.new.cost ≡ moving (length items.now) self.old.cost }
     {
         let at = self.at;

@@ -128,14 +128,14 @@ module _ {T A : Type 0} where
       let few : length (take k xs) ≡ k = length-take-le k xs order in
       settled b a (take k xs) c (s ∙ emptying-all xs k c order room) (l ∙ sym few) (omega (arith, few)) f
 
-  pub settle-new : (b : Block T A) (a : A) (c : ℕ) → b.slots ≡ empty c → b.len ≡ 0 → b.heap ≡ Some a → Settled b a [] c
+  pub settle-new : (b : Block T A) (a : A) (c : ℕ) → b.slots ≡ empty c → b.len ≡ 0 → b.alloc ≡ Some a → Settled b a [] c
   settle-new b a c s l f = settled b a [] c (s ∙ front-none c) l (omega arith) (λ x e. cc)
 
   -- once all items are out
-  pub settle-emptied : (b b' : Block T A) (a : A) → IsFrom b a → b'.slots ≡ empty (length b.slots) → b'.len ≡ 0 → b'.heap ≡ b.heap → Settled b' a [] (length b.slots)
+  pub settle-emptied : (b b' : Block T A) (a : A) → IsFrom b a → b'.slots ≡ empty (length b.slots) → b'.len ≡ 0 → b'.alloc ≡ b.alloc → Settled b' a [] (length b.slots)
   settle-emptied b b' a from s l f = settled b' a [] (length b.slots) (s ∙ front-none (length b.slots)) l (omega arith) (from-same b b' a from f)
 
-  pub settle-shrink : (b b' : Block T A) (a : A) (k : ℕ) → IsThin b a → k ≡ length (items_in b.slots) → b'.slots ≡ take k b.slots → b'.len ≡ b.len → b'.heap ≡ Some a → Settled b' a (items_in b.slots) k
+  pub settle-shrink : (b b' : Block T A) (a : A) (k : ℕ) → IsThin b a → k ≡ length (items_in b.slots) → b'.slots ≡ take k b.slots → b'.len ≡ b.len → b'.alloc ≡ Some a → Settled b' a (items_in b.slots) k
   settle-shrink b b' a k t all s l f =
       let xs : List T = items_in b.slots in
       let none : length xs - length xs ≡ 0 = omega arith in
@@ -146,7 +146,7 @@ module _ {T A : Type 0} where
       (l ∙ t.packed.len) (omega (arith, all)) (λ x e. cc)
 
   pub settle-swap_remove : (b b' : Block T A) (a : A) (i last : ℕ) (v m : T) (s₁ s₂ s₃ : List (Option T)) → IsThin b a → i < last → last + 1 ≡ b.len
-      → slot b.slots i ≡ Some v → s₁ ≡ set b.slots i None → slot s₁ last ≡ Some m → s₂ ≡ set s₁ last None → s₃ ≡ set s₂ i (Some m) → b'.slots ≡ s₃ → b'.len ≡ last → b'.heap ≡ b.heap
+      → slot b.slots i ≡ Some v → s₁ ≡ set b.slots i None → slot s₁ last ≡ Some m → s₂ ≡ set s₁ last None → s₃ ≡ set s₂ i (Some m) → b'.slots ≡ s₃ → b'.len ≡ last → b'.alloc ≡ b.alloc
       → Settled b' a (swap_remove (items_in b.slots) i v) (length b.slots)
   settle-swap_remove b b' a i last v m s₁ s₂ s₃ t lt n gave e₁ gave_last e₂ e₃ e l f =
       let xs : List T = items_in b.slots in
@@ -174,7 +174,7 @@ module _ {T A : Type 0} where
 
   -- the last item takes the place of the i-th, which may be the last itself
   pub settle-replaced : (b b' : Block T A) (a : A) (i last : ℕ) (v : T) → IsThin b a → i ≤ last → last + 1 ≡ b.len → slot b.slots i ≡ Some v
-      → b'.slots ≡ set (set b.slots i (slot b.slots last)) last None → b'.len ≡ last → b'.heap ≡ b.heap
+      → b'.slots ≡ set (set b.slots i (slot b.slots last)) last None → b'.len ≡ last → b'.alloc ≡ b.alloc
       → Settled b' a (swap_remove (items_in b.slots) i v) (length b.slots)
   settle-replaced b b' a i last v t le n gave e l f =
       let xs : List T = items_in b.slots in

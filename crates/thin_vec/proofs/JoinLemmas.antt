@@ -49,7 +49,7 @@ module _ {T : Type 0} where
 
 module _ {T A : Type 0} where
   -- items that are laid behind those of a list
-  pub settle-more : (b b' : Block T A) (a : A) (xs : List T) (n : ℕ) → IsThin b a → n ≡ b.len → n + length xs ≤ length b.slots → b'.slots ≡ laid n (full xs) b.slots → b'.len ≡ n + length xs → b'.heap ≡ b.heap
+  pub settle-more : (b b' : Block T A) (a : A) (xs : List T) (n : ℕ) → IsThin b a → n ≡ b.len → n + length xs ≤ length b.slots → b'.slots ≡ laid n (full xs) b.slots → b'.len ≡ n + length xs → b'.alloc ≡ b.alloc
       → Settled b' a (items_in b.slots ++ xs) (length b.slots)
   settle-more b b' a xs n t len room s l f =
       let ys : List T = items_in b.slots in
@@ -59,7 +59,7 @@ module _ {T A : Type 0} where
 
   -- the list that the items from i on of another go to
   pub settle-joined : (b b' o : Block T A) (a p : A) (i k n : ℕ) → IsThin b a → IsThin o p → i ≤ length (items_in o.slots) → k ≡ o.len - i → n ≡ b.len → n + k ≤ length b.slots
-      → b'.slots ≡ laid n (run i k o.slots) b.slots → b'.len ≡ n + k → b'.heap ≡ b.heap → Settled b' a (items_in b.slots ++ drop i (items_in o.slots)) (length b.slots)
+      → b'.slots ≡ laid n (run i k o.slots) b.slots → b'.len ≡ n + k → b'.alloc ≡ b.alloc → Settled b' a (items_in b.slots ++ drop i (items_in o.slots)) (length b.slots)
   settle-joined b b' o a p i k n t u order count len room s l f =
       let ys : List T = items_in o.slots in
       let all : k ≡ length ys - i = omega (arith, count, u.packed.len) in
@@ -68,7 +68,7 @@ module _ {T A : Type 0} where
       settle-more b b' a (drop i ys) n t len (omega (arith, room, more)) (s ∙ ap (λ (r : List (Option T)). laid n r b.slots) same) (omega (arith, l, more)) f
 
   -- and the one that they left
-  pub settle-cut : (o o' : Block T A) (p : A) (i k : ℕ) → IsThin o p → i ≤ length (items_in o.slots) → k ≡ o.len - i → o'.slots ≡ emptied i k o.slots → o'.len ≡ i → o'.heap ≡ o.heap
+  pub settle-cut : (o o' : Block T A) (p : A) (i k : ℕ) → IsThin o p → i ≤ length (items_in o.slots) → k ≡ o.len - i → o'.slots ≡ emptied i k o.slots → o'.len ≡ i → o'.alloc ≡ o.alloc
       → Settled o' p (take i (items_in o.slots)) (length o.slots)
   settle-cut o o' p i k u order count s l f =
       let ys : List T = items_in o.slots in

@@ -20,7 +20,7 @@ module _ {T : Type 0} where
   over-front (x ∷ xs) k (w ∷ ws) = ap (λ l. Some w ∷ l) (over-front xs k ws)
 
 module _ {T A : Type 0} where
-  pub settle-over : (b b' : Block T A) (a : A) (ws : List T) → IsThin b a → b'.slots ≡ over b.slots 0 ws → b'.len ≡ b.len → b'.heap ≡ b.heap → Settled b' a (refill (length (items_in b.slots)) (items_in b.slots) ws) (length b.slots)
+  pub settle-over : (b b' : Block T A) (a : A) (ws : List T) → IsThin b a → b'.slots ≡ over b.slots 0 ws → b'.len ≡ b.len → b'.alloc ≡ b.alloc → Settled b' a (refill (length (items_in b.slots)) (items_in b.slots) ws) (length b.slots)
   settle-over b b' a ws t s l f =
       let xs = items_in b.slots in
       let same = sym (length_refill (length xs) xs ws refl) in
@@ -35,7 +35,7 @@ module _ {T A : Type 0} where
       λ i. record { items = f.items i; capacity = f.cap i; alloc = a; cost = b.cost }
 
   -- and behind one of which an item was written
-  pub settle-set : (b b' : Block T A) (a : A) (i : ℕ) (w : T) → IsThin b a → i < length (items_in b.slots) → b'.slots ≡ set b.slots i (Some w) → b'.len ≡ b.len → b'.heap ≡ b.heap
+  pub settle-set : (b b' : Block T A) (a : A) (i : ℕ) (w : T) → IsThin b a → i < length (items_in b.slots) → b'.slots ≡ set b.slots i (Some w) → b'.len ≡ b.len → b'.alloc ≡ b.alloc
       → Settled b' a (set (items_in b.slots) i w) (length b.slots)
   settle-set b b' a i w t within s l f =
       let xs = items_in b.slots in

@@ -131,10 +131,10 @@ module _ {T A : Type 0} where
   pub thin-packed : (b : Block T A) (a : A) (n : ℕ) → IsThin b a → length (items_in b.slots) ≡ n → IsPacked b.slots n
   thin-packed b a n t long = record { row = t.packed.row; len = sym long }
 
-  pub from-same : (b b' : Block T A) (a : A) → IsFrom b a → b'.heap ≡ b.heap → IsFrom b' a
+  pub from-same : (b b' : Block T A) (a : A) → IsFrom b a → b'.alloc ≡ b.alloc → IsFrom b' a
   from-same b b' a f e = λ x h. f x (sym e ∙ h)
 
-  pub settle-push : (b b' : Block T A) (a : A) (v : T) (i : ℕ) → IsThin b a → i ≡ b.len → i < length b.slots → b'.slots ≡ set b.slots i (Some v) → b'.len ≡ i + 1 → b'.heap ≡ b.heap → Settled b' a (items_in b.slots ++ v ∷ []) (length b.slots)
+  pub settle-push : (b b' : Block T A) (a : A) (v : T) (i : ℕ) → IsThin b a → i ≡ b.len → i < length b.slots → b'.slots ≡ set b.slots i (Some v) → b'.len ≡ i + 1 → b'.alloc ≡ b.alloc → Settled b' a (items_in b.slots ++ v ∷ []) (length b.slots)
   settle-push b b' a v i t o h s n f =
       let xs : List T = items_in b.slots in
       let c : ℕ = length b.slots in
@@ -158,7 +158,7 @@ module _ {T A : Type 0} where
       drop-length [] = refl
       drop-length (z ∷ zs) = drop-length zs
 
-  pub settle-pop : (b b' : Block T A) (a : A) (v : T) (j : ℕ) → IsThin b a → j + 1 ≡ b.len → slot b.slots j ≡ Some v → b'.slots ≡ set b.slots j None → b'.len ≡ j → b'.heap ≡ b.heap
+  pub settle-pop : (b b' : Block T A) (a : A) (v : T) (j : ℕ) → IsThin b a → j + 1 ≡ b.len → slot b.slots j ≡ Some v → b'.slots ≡ set b.slots j None → b'.len ≡ j → b'.alloc ≡ b.alloc
       → Settled b' a (take j (items_in b.slots)) (length b.slots)
   settle-pop b b' a v j t o w s n f =
       let xs : List T = items_in b.slots in
@@ -172,7 +172,7 @@ module _ {T A : Type 0} where
       (s ∙ (ap (λ (r : List (Option T)). set r j None) (t.packed.row ∙ ap (λ (r : List T). front r c) e) ∙ (ap (λ (q : ℕ). set (front (ys ++ v ∷ []) c) q None) (sym m) ∙ front-pop ys c v k)))
       (n ∙ sym m) (omega (arith, length_push ys v)) (from-same b b' a t.from f)
 
-  pub settle-grow : (b b' : Block T A) (a : A) (c : ℕ) → IsThin b a → length b.slots < c → b'.slots ≡ b.slots ++ replicate (c - length b.slots) None → b'.len ≡ b.len → b'.heap ≡ Some a → Settled b' a (items_in b.slots) c
+  pub settle-grow : (b b' : Block T A) (a : A) (c : ℕ) → IsThin b a → length b.slots < c → b'.slots ≡ b.slots ++ replicate (c - length b.slots) None → b'.len ≡ b.len → b'.alloc ≡ Some a → Settled b' a (items_in b.slots) c
   settle-grow b b' a c t h s n f =
       let xs : List T = items_in b.slots in
       settled b' a xs c

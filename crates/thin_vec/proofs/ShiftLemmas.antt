@@ -63,7 +63,7 @@ module _ {T : Type 0} where
 
 module _ {T A : Type 0} where
   pub settle-remove : (b b' : Block T A) (a : A) (i j k : ℕ) (s : List (Option T)) → IsThin b a → i < length (items_in b.slots) → j ≡ i + 1 → k ≡ b.len - j
-      → s ≡ set b.slots i None → b'.slots ≡ moved j i k s → b'.len ≡ b.len - 1 → b'.heap ≡ b.heap → Settled b' a (remove (items_in b.slots) i) (length b.slots)
+      → s ≡ set b.slots i None → b'.slots ≡ moved j i k s → b'.len ≡ b.len - 1 → b'.alloc ≡ b.alloc → Settled b' a (remove (items_in b.slots) i) (length b.slots)
   settle-remove b b' a i j k s t h e n x y l f =
       let xs : List T = items_in b.slots in let c : ℕ = length b.slots in
       settled b' a (remove xs i) c
@@ -71,7 +71,7 @@ module _ {T A : Type 0} where
       (omega (arith, l, t.packed.len, length-remove xs i h)) (omega (arith, thin-room b a t, length-remove xs i h)) (from-same b b' a t.from f)
 
   pub settle-insert : (b b' : Block T A) (a : A) (i j k : ℕ) (v : T) (s : List (Option T)) → IsThin b a → i ≤ length (items_in b.slots) → b.len < length b.slots → j ≡ i + 1 → k ≡ b.len - i
-      → s ≡ moved i j k b.slots → b'.slots ≡ set s i (Some v) → b'.len ≡ b.len + 1 → b'.heap ≡ b.heap → Settled b' a (insert (items_in b.slots) i v) (length b.slots)
+      → s ≡ moved i j k b.slots → b'.slots ≡ set s i (Some v) → b'.len ≡ b.len + 1 → b'.alloc ≡ b.alloc → Settled b' a (insert (items_in b.slots) i v) (length b.slots)
   settle-insert b b' a i j k v s t h o e n x y l f =
       let xs : List T = items_in b.slots in let c : ℕ = length b.slots in
       settled b' a (insert xs i v) c

@@ -141,7 +141,7 @@ module _ {T A : Type 0} where
     pub first-item : slot b.slots start ≡ Some v → xs ≡ v ∷ drop 1 xs
     first-item e = (first e).0
 
-    pub settle-first : slot b.slots start ≡ Some v → b'.slots ≡ set b.slots start None → b'.heap ≡ b.heap → Walking b' a (drop 1 xs) (start + 1) end (length b.slots)
+    pub settle-first : slot b.slots start ≡ Some v → b'.slots ≡ set b.slots start None → b'.alloc ≡ b.alloc → Walking b' a (drop 1 xs) (start + 1) end (length b.slots)
     settle-first e s f =
         walking b' a (drop 1 xs) (start + 1) end (length b.slots) (s ∙ (first e).1) (omega (arith, t.len, ap length (first e).0)) (walked-room b a start end t) (from-same b b' a t.from f)
 
@@ -165,7 +165,7 @@ module _ {T A : Type 0} where
         let same : get_or xs (end - 1 - start) v ≡ v = cc in
         whole ∙ ap (λ (x : T). most ++ x ∷ []) same
 
-    pub settle-last : b'.slots ≡ set b.slots (end - 1) None → b'.heap ≡ b.heap → Walking b' a most start (end - 1) (length b.slots)
+    pub settle-last : b'.slots ≡ set b.slots (end - 1) None → b'.alloc ≡ b.alloc → Walking b' a most start (end - 1) (length b.slots)
     settle-last s f =
         let more : gap + 1 ≡ length b.slots - (end - 1) = omega (arith, walked-room b a start end t) in
         walking b' a most start (end - 1) (length b.slots)
@@ -173,7 +173,7 @@ module _ {T A : Type 0} where
         place (omega (arith, walked-room b a start end t)) (from-same b b' a t.from f)
 
   -- what remains was written
-  pub settle-written : (b b' : Block T A) (a : A) (start end : ℕ) (ws : List T) → IsWalked b a start end → b'.slots ≡ over b.slots start ws → b'.heap ≡ b.heap
+  pub settle-written : (b b' : Block T A) (a : A) (start end : ℕ) (ws : List T) → IsWalked b a start end → b'.slots ≡ over b.slots start ws → b'.alloc ≡ b.alloc
       → Walking b' a (refill (length (items_in b.slots)) (items_in b.slots) ws) start end (length b.slots)
   settle-written b b' a start end ws t s f =
       let xs : List T = items_in b.slots in

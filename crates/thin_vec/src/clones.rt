@@ -244,7 +244,7 @@ fn put_clones<T: Clone, A: Allocator>(block: &mut Block<T, A>, start: usize, ite
     ensures in_bounds { result ≤ length items.now }
     ensures slots { LaysClones T.is_clone items.now result start block.old.slots block.new.slots }
     ensures len { block.new.len ≡ block.old.len }
-    ensures heap { block.new.heap ≡ block.old.heap }
+    ensures alloc { block.new.alloc ≡ block.old.alloc }
     ensures cost { block.new.cost ≡ moving result block.old.cost }
     ensures refused { result < length items.now → HoldsAt (λ x. ¬ (T.is_infallible x)) items.now result }
 {
@@ -272,7 +272,7 @@ fn put_repeated<T: Clone, A: Allocator>(
     ensures in_bounds { result ≤ count }
     ensures slots { LaysClones T.is_clone (replicate count value.now) result start block.old.slots block.new.slots }
     ensures len { block.new.len ≡ block.old.len }
-    ensures heap { block.new.heap ≡ block.old.heap }
+    ensures alloc { block.new.alloc ≡ block.old.alloc }
     ensures cost { block.new.cost ≡ moving result block.old.cost }
     ensures refused { result < count → ¬ (T.is_infallible value.now) }
 {

@@ -122,7 +122,7 @@ fn move_in<T, A: Allocator, B: Allocator>(block: &mut Block<T, A>, items: &mut V
     requires room { length items.old.items ≤ length block.old.slots }
     ensures slots { block.new.slots ≡ front items.old.items (length block.old.slots) }
     ensures len { block.new.len ≡ block.old.len }
-    ensures heap { block.new.heap ≡ block.old.heap }
+    ensures alloc { block.new.alloc ≡ block.old.alloc }
     ensures cost { block.new.cost ≡ moving (length items.old.items) block.old.cost }
     ensures rest { items.new.items ≡ [] }
 {

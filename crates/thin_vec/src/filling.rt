@@ -198,7 +198,7 @@ fn fill_slots<T, A: Allocator, I: Iterator<Item = T>>(
     ensures slots { (xs : List T) × (block.new.slots ≡ laid start (full xs) block.old.slots) × (result.1 ≡ start + length xs) × YieldsThen I.next_gives iter xs result.2 result.0 }
     ensures within { result.1 ≤ end }
     ensures len { block.new.len ≡ block.old.len }
-    ensures heap { block.new.heap ≡ block.old.heap }
+    ensures alloc { block.new.alloc ≡ block.old.alloc }
     ensures cost { block.new.cost ≡ moving (result.1 - start) block.old.cost }
     ensures rest { OnSome result.2 (I.can_next result.0 × IsFinite (I.remaining result.0)) }
     ensures nearer { OnSome result.2 (result.1 + size (I.remaining result.0) < start + size (I.remaining iter)) }

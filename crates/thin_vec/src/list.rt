@@ -196,7 +196,7 @@ impl<T, A: Allocator, G: Growth> ThinVec<T, A, G> {
     pub(crate) fn into_parts(self) -> (Block<T, A>, A)
         ensures slots { result.0.slots ≡ front self.items self.capacity }
         ensures len { result.0.len ≡ length self.items }
-        ensures heap { IsFrom result.0 result.1 }
+        ensures from { IsFrom result.0 result.1 }
         ensures cost { result.0.cost ≡ self.cost }
         ensures alloc { result.1 ≡ self.alloc }
     {
@@ -235,7 +235,7 @@ impl<T: Drop, A: Allocator, G: Growth> Drop for ThinVec<T, A, G> {
 fn drop_items<T: Drop, A: Allocator>(block: &mut Block<T, A>, len: usize)
     requires packed { IsPacked block.old.slots len }
     ensures slots { block.new.slots ≡ empty (length block.old.slots) }
-    ensures heap { block.new.heap ≡ block.old.heap }
+    ensures alloc { block.new.alloc ≡ block.old.alloc }
 {
     for i in 0..len {
         drop(block.take(i));

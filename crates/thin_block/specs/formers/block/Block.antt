@@ -96,10 +96,10 @@ module _ {g : Former {0}} (w : Weighed g) where
 
 module _ {X Y Z : Type 0} (d : Block X Z) where
   abbrev pub Fits : List (Option Y) → Type 0
-  Fits ys = (d.len ≤ length ys) × (there d.heap ≡ any ys)
+  Fits ys = (d.len ≤ length ys) × (there d.alloc ≡ any ys)
 
   abbrev pub holding : (ys : List (Option Y)) → Fits ys → Block Y Z
-  holding ys sound = record { at = d.at; item = record {}; handle = record {}; slots = ys; len = d.len; heap = d.heap; cost = d.cost; sound = sound }
+  holding ys sound = record { at = d.at; item = record {}; handle = record {}; slots = ys; len = d.len; alloc = d.alloc; cost = d.cost; sound = sound }
 
   pub fits : (ys : List (Option Y)) → length ys ≡ length d.slots → Fits ys
   fits ys e = (let le = d.sound.0 in omega (arith, e, le), d.sound.1 ∙ sym (any_same d.slots ys e))
@@ -150,7 +150,7 @@ abbrev pub the_weighed : {g : Former {0}} → Weighed g → (Z : Type 0) → Wei
 the_weighed w Z = record { weight = λ X μ d. most (slot_weight w X μ) d.slots; puts = λ X μ d. List-puts (w_slot w) X μ d.slots }
 
 abbrev pub the_empty : (Z : Type 0) → Z → Block ⊥ Z
-the_empty Z z = record { at = null_ptr; item = record {}; handle = record {}; slots = []; len = 0; heap = None; cost = no_cost; sound = (omega arith, refl) }
+the_empty Z z = record { at = null_ptr; item = record {}; handle = record {}; slots = []; len = 0; alloc = None; cost = no_cost; sound = (omega arith, refl) }
 
 pub items_listed : (X : Type 0) (xs : List (Option X)) → listed _ (children (list (slot this)) X xs) ≡ items_in xs
 items_listed X [] = refl
@@ -207,8 +207,8 @@ module _ (A : RattleType) (G : Ghosts A.Denot) (R R' : RattleType) (h : R.Denot 
   pub the_places : Alike R R' h → Alike (C.the_row R A G) (C.the_row R' A G) ((the_former this A.Denot).map R.Denot R'.Denot h)
   the_places a = record {
     mir_same = refl;
-    own_same = λ d i vs. fsep ((Struct (shape (C.the_type R A G))).own_val (to (C.the_type R A G) d) vs) (block_placed R R' h a G.dealloc_token d.at d.len d.slots d.heap i);
-    shr_same = λ d i b o κ. beside ((Struct (shape (C.the_type R A G))).shr_at (to (C.the_type R A G) d) b o) (block_lent_placed R R' h a d.at d.len d.slots d.heap i) κ;
+    own_same = λ d i vs. fsep ((Struct (shape (C.the_type R A G))).own_val (to (C.the_type R A G) d) vs) (block_placed R R' h a G.dealloc_token d.at d.len d.slots d.alloc i);
+    shr_same = λ d i b o κ. beside ((Struct (shape (C.the_type R A G))).shr_at (to (C.the_type R A G) d) b o) (block_lent_placed R R' h a d.at d.len d.slots d.alloc i) κ;
   }
 
   slot_recoded : Recodes R R' h → (x : Option R.Denot) → (coded_option R'.coded).code (on_slot h x) ≡ (coded_option R.coded).code x

@@ -9,6 +9,6 @@ invariant-loop-i g l =
     record {
       slots : LaysClones g.T.Clone.is_clone l.items l.i l.start l.fn.block.slots l.block.slots;
       len : l.block.len ≡ l.fn.block.len;
-      heap : l.block.heap ≡ l.fn.block.heap;
+      alloc : l.block.alloc ≡ l.fn.block.alloc;
       cost : l.block.cost ≡ moving l.i l.fn.block.cost;
     }

@@ -18,6 +18,6 @@ loop-i-preserved g c =
       slots = lays-more g.T.Clone.is_clone sources n start old.slots c.loop-i.block.slots x c.in-Ok.item _ (omega arith) (omega (arith, c.requires.in_bounds, many)) (sym (get_or-replicate c.args.count n x x (omega arith)))
           c.in-Ok.ensures.cases was.slots c.put.ensures.slots;
       len = c.put.ensures.len ∙ was.len;
-      heap = c.put.ensures.heap ∙ was.heap;
+      alloc = c.put.ensures.alloc ∙ was.alloc;
       cost = c.put.ensures.cost ∙ (ap (λ d. moving 1 d) was.cost ∙ moving-one n old.cost);
     }

@@ -7,7 +7,7 @@ pub loop-item-init : goal.loop-item-init
 loop-item-init g c = record {
   slots = moving-first c.args.items.now.items c.args.block.now.slots c.requires.empty c.requires.room;
   len = refl;
-  heap = refl;
+  alloc = refl;
   cost = moving-none (length c.args.items.now.items) c.args.block.now.cost;
 }
 
@@ -22,7 +22,7 @@ loop-item-preserved g c =
       slots = subst (λ s. IsMoving xs left cap s) (sym c.put.ensures.slots)
           (moving-next xs left cap c.len.result c.in-Some.item c.loop-item.block.slots before (c.len.ensures ∙ c.pop.new.self.ok.0));
       len = c.put.ensures.len ∙ was.len;
-      heap = c.put.ensures.heap ∙ was.heap;
+      alloc = c.put.ensures.alloc ∙ was.alloc;
       cost = moving-more (length xs) c.args.block.now.cost (length left) (length c.loop-item.items.items) c.loop-item.block.cost c.put.new.self.cost
           (ap length c.in-Some.ensures.items ∙ length_push left c.in-Some.item)
           (omega (arith, ap length was.slots.parts, length-append c.loop-item.items.items was.slots.rest)) was.cost c.put.ensures.cost;

@@ -20,7 +20,7 @@ loop-i-preserved g c =
       );
       within = omega (arith, c.loop-i-test.true);
       len = c.put.ensures.len ∙ held.len;
-      heap = c.put.ensures.heap ∙ held.heap;
+      alloc = c.put.ensures.alloc ∙ held.alloc;
       cost = c.put.ensures.cost ∙ moving-more c.loop-i.i c.args.start c.loop-i.block.cost c.args.block.now.cost (omega (arith, held.placed.2)) held.cost;
       nearer = omega (arith, held.nearer, goes.2);
     }

@@ -12,7 +12,7 @@ invariant-loop-i g l = record {
   placed : (xs : List g.row.T.Denot) × (l.block.slots ≡ laid l.start (full xs) l.fn.block.slots) × (l.i ≡ l.start + length xs) × Yields g.I.Iterator.next_gives l.fn.iter xs l.rest;
   within : l.i ≤ l.end;
   len : l.block.len ≡ l.fn.block.len;
-  heap : l.block.heap ≡ l.fn.block.heap;
+  alloc : l.block.alloc ≡ l.fn.block.alloc;
   cost : l.block.cost ≡ moving (l.i - l.start) l.fn.block.cost;
   nearer : l.i + size (g.I.Iterator.remaining l.rest) ≤ l.start + size (g.I.Iterator.remaining l.fn.iter);
 }

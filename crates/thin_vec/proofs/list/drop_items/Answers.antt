@@ -8,7 +8,7 @@ use Rattle.thin_vec.proofs.list.drop_items.Goals as goal
 pub loop-i-init : goal.loop-i-init
 loop-i-init g c =
     let old = c.args.block.now.slots in
-    record { slots = c.requires.packed.row ∙ sym (emptying-none (items_in old) 0 (length old)); heap = refl }
+    record { slots = c.requires.packed.row ∙ sym (emptying-none (items_in old) 0 (length old)); alloc = refl }
 
 pub take-requires : goal.take-requires
 take-requires g c =
@@ -21,7 +21,7 @@ loop-i-preserved g c =
     let h = c.loop-i.invariant in
     record {
       slots = c.take.ensures.slots ∙ (ap (λ s. set s c.loop-i.i None) h.slots ∙ emptying-take (items_in old) 0 c.loop-i.i (length old) (omega arith) (omega (arith, c.loop-i-test.true, c.requires.packed.len)));
-      heap = c.take.ensures.heap ∙ h.heap;
+      alloc = c.take.ensures.alloc ∙ h.alloc;
     }
 
 pub returns-clause-slots : goal.returns-clause-slots

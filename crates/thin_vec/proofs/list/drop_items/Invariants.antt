@@ -7,5 +7,5 @@ use Rattle.thin_vec.proofs.list.drop_items.Given as goal
 abbrev pub invariant-loop-i : goal.invariant-loop-i
 invariant-loop-i g l = record {
   slots : l.block.slots ≡ emptying (items_in l.fn.block.slots) 0 l.i (length l.fn.block.slots);
-  heap : l.block.heap ≡ l.fn.block.heap;
+  alloc : l.block.alloc ≡ l.fn.block.alloc;
 }

@@ -104,8 +104,8 @@ module _ {M : Type 1} {𝓤 : Ura M} (𝓛 : Logic 𝓤) where
 
 pub shares : (R Z : RattleType) (g : Ghosts Z.Denot) (L : Laws R) (K : Laws Z) → statement R Z g L K
 shares R Z g L K = of_Lends (C.struct R Z g) (C.the_codes R.Denot Z.Denot R.coded Z.coded (marker.the_row R).coded (marker.the_row Z).coded) (C.the_heap R Z g) (C.the_lent R Z g)
-    (λ d p. block_laws R L.shr_laws d.at d.len d.slots d.heap)
+    (λ d p. block_laws R L.shr_laws d.at d.len d.slots d.alloc)
     (copy_shared RawPtr-field RawPtr-copy, (copy_shared (marker.the_field R) (field_copy (marker.the_type R) tt), (copy_shared (marker.the_field Z) (field_copy (marker.the_type Z) tt), tt)))
     (λ M 𝓤 𝓛 d p.
     let l = (C.the_row R Z g).lives in
-    Lends-block 𝓛 R l (Shares-less 𝓛 R R.lives l (Incl-trans (meet_⊑_left (R.lives ++ (Z.lives ++ [])) _) (meet_⊑_left R.lives (Z.lives ++ []))) (L.shares 𝓛)) g.dealloc_token d.at d.len d.slots d.heap)
+    Lends-block 𝓛 R l (Shares-less 𝓛 R R.lives l (Incl-trans (meet_⊑_left (R.lives ++ (Z.lives ++ [])) _) (meet_⊑_left R.lives (Z.lives ++ []))) (L.shares 𝓛)) g.dealloc_token d.at d.len d.slots d.alloc)

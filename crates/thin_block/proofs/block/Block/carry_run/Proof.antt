@@ -152,7 +152,7 @@ carry_run_spec 𝓤 𝓛 𝓜 𝓡 wired T A LT LA g d dd met md =
     let y' : B.Denot = record (with_slots y laid_to long_to) { cost = cost } in
     use1 𝓛 (‵ (places (R E) (full xs) b' dst)) (of_items E 𝓛 b' k xs dst) $ move ! (0 ∷ 5 ∷ []) $
     use2 𝓛 (‵ (places (R E) laid_to b' (o' + 16))) (run_in E 𝓛 b' (o' + 16) y.slots to k target (full xs) long_full) $ move ! (5 ∷ 0 ∷ 6 ∷ 7 ∷ 8 ∷ 9 ∷ []) $
-    rewrite ! 0 (λ (n : ℕ). ‵ (header (t E Y) (R E) y.len n y.heap b' o')) (sym long_to) refl $ block_closes E Y ! tt y' b' o' sb so at' $
+    rewrite ! 0 (λ (n : ℕ). ‵ (header (t E Y) (R E) y.len n y.alloc b' o')) (sym long_to) refl $ block_closes E Y ! tt y' b' o' sb so at' $
     -- [the other's `&mut`, in two entries; its token; the room; the token of T; the last token; the slots around it; self's header, cell and borrow]
     let left : List (Option T.Denot) = emptied from k x.slots in
     let long_empty : length (empty {T = T.Denot} k) ≡ k = length-replicate k None in
@@ -160,7 +160,7 @@ carry_run_spec 𝓤 𝓛 𝓜 𝓡 wired T A LT LA g d dd met md =
     let x' : B.Denot = with_slots x left long_left in
     move ! (3 ∷ 6 ∷ []) $ use1 𝓛 (‵ (places (R E) (empty k) b src)) (of_room E 𝓛 b k src) $
     use2 𝓛 (‵ (places (R E) left b (o + 16))) (run_in E 𝓛 b (o + 16) x.slots from k source (empty k) long_empty) $ move ! (6 ∷ 0 ∷ 7 ∷ 8 ∷ 9 ∷ 10 ∷ []) $
-    rewrite ! 0 (λ (n : ℕ). ‵ (header (t E Y) (R E) x.len n x.heap b o)) (sym long_left) refl $ block_closes E Y ! tt x' b o rb ro at $
+    rewrite ! 0 (λ (n : ℕ). ‵ (header (t E Y) (R E) x.len n x.alloc b o)) (sym long_left) refl $ block_closes E Y ! tt x' b o rb ro at $
     -- [self's `&mut`, in two entries; its token; the other's; the token of T; the last token]
     returns ! (look_at ! 0 refl) $ free_all ! refl $
     feq_i ! (List Val) vss.0 (vptr rb ro ∷ []) are.0.0 $ fjoin3 ! $ move ! (2 ∷ 3 ∷ []) $ feq_i ! (List Val) vss.1.1.0 (vptr sb so ∷ []) are.1.1.0.0 $ fjoin3 ! $

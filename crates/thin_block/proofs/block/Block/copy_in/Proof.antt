@@ -162,7 +162,7 @@ copy_in_spec 𝓤 𝓛 𝓜 𝓡 wired T A LT LA copies gc dc g d dd metc met md
     use2 𝓛 (‵ (places (R E) laid_in b (o + 16))) (run_in E 𝓛 b (o + 16) x.slots i n within (full xs) long_full) $
     -- [the slots; the token of T; the token of the items; the last token; the header; the cell; the open borrow, in three entries]
     move ! (4 ∷ 0 ∷ 5 ∷ 6 ∷ 7 ∷ 8 ∷ []) $
-    rewrite ! 0 (λ (k : ℕ). ‵ (header (t E Y) (R E) x.len k x.heap b o)) (sym long) refl $
+    rewrite ! 0 (λ (k : ℕ). ‵ (header (t E Y) (R E) x.len k x.alloc b o)) (sym long) refl $
     block_closes E Y ! tt y b o rb ro at $
     -- [the `&mut`, in two entries; its token; the token of T; the token of the items; the last token]
     returns ! (look_at ! 0 refl) $ free_all ! refl $

@@ -135,7 +135,7 @@ copy_run_spec 𝓤 𝓛 𝓜 𝓡 wired T A LT LA g d dd met md =
     let same : length gone ≡ cap = length-moved from to k x.slots source target in
     let y : B.Denot = record (with_slots x gone same) { cost = moving k x.cost } in
     use2 𝓛 (‵ (places (R E) gone b (o + 16))) p.back $ move ! (3 ∷ 0 ∷ 4 ∷ 5 ∷ 6 ∷ 7 ∷ []) $
-    rewrite ! 0 (λ (n : ℕ). ‵ (header (t E Y) (R E) x.len n x.heap b o)) (sym same) refl $ block_closes E Y ! tt y b o rb ro at $
+    rewrite ! 0 (λ (n : ℕ). ‵ (header (t E Y) (R E) x.len n x.alloc b o)) (sym same) refl $ block_closes E Y ! tt y b o rb ro at $
     -- [the `&mut`, in two entries; its token; the token of T; the last token]
     returns ! (look_at ! 0 refl) $ free_all ! refl $
     feq_i ! (List Val) vss.0 (vptr rb ro ∷ []) are.0.0 $ fjoin3 ! $ nothing ! $ nothing ! $ fjoin ! $ nothing ! $ fjoin ! $ nothing ! $ fjoin ! $ move ! (1 ∷ 0 ∷ []) $ fjoin ! $

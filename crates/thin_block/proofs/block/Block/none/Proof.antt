@@ -68,7 +68,7 @@ none_spec 𝓤 𝓛 𝓜 𝓡 wired T A LT LA g d dd met md =
     use1 𝓛 (later (‵ (shared_of usize 0 b 8 []) ⊛ ‵ (flent [] (part_at usize s 0 b 8)))) ((uint_Copied 𝓛 w64).lends s 0 b 8 []) $ await ! tt $ split ! $
     nothing ! $ fjoin ! $ move ! (2 ∷ 0 ∷ []) $ fjoin ! $ move ! (0 ∷ 5 ∷ []) $
     let x : (Br E Y).Denot =
-    record { at = block_ptr b 0; item = record {}; handle = record {}; slots = []; len = 0; heap = None; cost = no_cost; sound = (omega arith, refl) } in
+    record { at = block_ptr b 0; item = record {}; handle = record {}; slots = []; len = 0; alloc = None; cost = no_cost; sound = (omega arith, refl) } in
     returns ! (look_at ! 0 refl) $ free_all ! refl $ keep ! (0 ∷ 1 ∷ []) $
     nothing ! $ move ! (1 ∷ 0 ∷ []) $ block_made E Y ! x b 0 refl $
     nothing ! $ move ! (0 ∷ 1 ∷ []) $ join ! $ move ! (1 ∷ 0 ∷ []) $ join ! $

@@ -99,7 +99,7 @@ put_spec 𝓤 𝓛 𝓜 𝓡 wired T A LT LA g d dd met md =
     let long : length filled ≡ length x.slots = length-set x.slots i (Some value) in
     let y : B.Denot = record (with_slots x filled long) { cost = moving 1 x.cost } in
     use2 𝓛 (‵ (places (R E) filled b (o + 16))) (slot_in E 𝓛 b (o + 16) x.slots i within (Some value)) $
-    rewrite ! 1 (λ (k : ℕ). ‵ (header (t E Y) (R E) x.len k x.heap b o)) (sym long) refl $
+    rewrite ! 1 (λ (k : ℕ). ‵ (header (t E Y) (R E) x.len k x.alloc b o)) (sym long) refl $
     move ! (1 ∷ 0 ∷ []) $ block_closes E Y ! tt y b o rb ro at $
     -- [the `&mut`, in two entries; its token; the other tokens]
     returns ! (look_at ! 0 refl) $ free_all ! refl $

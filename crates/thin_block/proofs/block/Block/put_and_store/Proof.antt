@@ -33,7 +33,7 @@ use Rattle.thin_block.specs.Cost.{moving}
 use Rattle.thin_block.specs.Lends.{with_slots}
 use Rattle.thin_block.specs.Ownership.{place, places}
 use Rattle.thin_block.proofs.Walks.{slot_at, after, says_all}
-use Rattle.thin_block.proofs.HeaderMemory.{heap_there, args, Br, header, t, block_opens, block_closes}
+use Rattle.thin_block.proofs.HeaderMemory.{alloc_there, args, Br, header, t, block_opens, block_closes}
 use Rattle.thin_block.proofs.SlotMemory.{sz, reach, besides, slot_out, slot_in}
 use Rattle.thin_block.specs.contracts.block.Block.put_and_store.{ended, clauses}
 use Rattle.thin_block.specs.contracts.block.Block.put_and_store.Key.{name as #self}
@@ -79,8 +79,8 @@ put_and_store_spec 𝓤 𝓛 𝓜 𝓡 wired T A LT LA g d dd met md =
     let good = got.2 in
     let fi = are.1.0.1 in
     let fl = are.1.1.1.0.1 in
-    let heap = heap_there x.heap x.slots x.sound.1 (omega arith) in
-    let h : A.Denot = heap.0 in
+    let alloc = alloc_there x.alloc x.slots x.sound.1 (omega arith) in
+    let h : A.Denot = alloc.0 in
     split ! $ split ! $ move ! (2 ∷ []) $ fsplit ! $ fsplit3 ! $ move ! (3 ∷ []) $ fsplit ! $ move ! (1 ∷ []) $ fsplit ! $ keep ! (4 ∷ 5 ∷ 6 ∷ 7 ∷ 0 ∷ []) $
     rewrite ! 4 (λ (us : List Val). ‵ (T.own_val value us)) got.1 refl $
     regoal ! (λ (us : List Val). prop (WpFn 𝓤 H 𝓣.C 𝓣.Λ fn us Post)) (λ k. are.0.0 k ++ (are.1.0.0 k ++ (got.1 k ++ (are.1.1.1.0.0 k ++ [])))) refl $
@@ -107,7 +107,7 @@ put_and_store_spec 𝓤 𝓛 𝓜 𝓡 wired T A LT LA g d dd met md =
     let filled : List (Option T.Denot) = set x.slots i (Some value) in
     let long : length filled ≡ length x.slots = length-set x.slots i (Some value) in
     use2 𝓛 (‵ (places (R E) filled b (o + 16))) (slot_in E 𝓛 b (o + 16) x.slots i within (Some value)) $ move ! (1 ∷ []) $
-    rewrite ! 0 (λ (u : Option A.Denot). ‵ (header (t E Y) (R E) x.len cap u b o)) heap.1 refl $
+    rewrite ! 0 (λ (u : Option A.Denot). ‵ (header (t E Y) (R E) x.len cap u b o)) alloc.1 refl $
     fsplit ! $ move ! (1 ∷ []) $ fsplit ! $ use1 𝓛 (‵ (fat full_share (ty_int w64) b (o + 8) (vint w64 x.len))) (uint_out 𝓛 full_share w64 x.len b (o + 8)) $
     rewrite ! 0 (λ (k : ℕ). ‵ (fat full_share (ty_int w64) b k (vint w64 x.len))) (let turned : o + 8 ≡ 8 + o = omega arith in turned) refl $
     -- [the length; the rest of the header; the capacity; the slots; the block's cell; the open borrow, in three entries; the other tokens]
@@ -116,10 +116,10 @@ put_and_store_spec 𝓤 𝓛 𝓜 𝓡 wired T A LT LA g d dd met md =
     exec ! 𝓣.C 𝓣.Λ En (after 2 fn.body) (at_ret En Post) $ sets ! (of_opd ! (unit_lit !)) refl (tt, tt) $
     rewrite ! 0 (λ (k : ℕ). ‵ (fat full_share (ty_int w64) b k (vint w64 n))) (let turned : 8 + o ≡ o + 8 = omega arith in turned) refl $
     use1 𝓛 (‵ (lies_at usize full_share (block_ptr b (o + 8)) n)) (uint_in 𝓛 full_share w64 n b (o + 8)) $ fjoin ! $ move ! (1 ∷ 0 ∷ []) $ fjoin ! $
-    rewrite ! 0 (λ (u : Option A.Denot). ‵ (header (t E Y) (R E) n cap u b o)) (sym heap.1) refl $
+    rewrite ! 0 (λ (u : Option A.Denot). ‵ (header (t E Y) (R E) n cap u b o)) (sym alloc.1) refl $
     let z₀ : B.Denot = with_slots x filled long in
     let y : B.Denot = record z₀ { len = n; cost = moving 1 x.cost; sound = (subst (λ (k : ℕ). n ≤ k) (sym long) counted, z₀.sound.1) } in
-    rewrite ! 0 (λ (k : ℕ). ‵ (header (t E Y) (R E) n k x.heap b o)) (sym long) refl $
+    rewrite ! 0 (λ (k : ℕ). ‵ (header (t E Y) (R E) n k x.alloc b o)) (sym long) refl $
     block_closes E Y ! tt y b o rb ro at $
     -- [the `&mut`, in two entries; its token; the other tokens]
     returns ! (look_at ! 0 refl) $ free_all ! refl $

@@ -120,7 +120,7 @@ put_array_spec 𝓤 𝓛 𝓜 𝓡 wired T A N LT LA fits_N g d dd met md =
     let y : B.Denot = record (with_slots x laid_in long) { cost = moving N x.cost } in
     use1 𝓛 (‵ (places (R E) (full values) b here)) (of_items E 𝓛 b N values here) $
     use2 𝓛 (‵ (places (R E) laid_in b (o + 16))) (run_in E 𝓛 b (o + 16) x.slots i N within (full values) long_full) $
-    rewrite ! 1 (λ (k : ℕ). ‵ (header (t E Y) (R E) x.len k x.heap b o)) (sym long) refl $
+    rewrite ! 1 (λ (k : ℕ). ‵ (header (t E Y) (R E) x.len k x.alloc b o)) (sym long) refl $
     move ! (1 ∷ 0 ∷ []) $ block_closes E Y ! tt y b o rb ro at $
     -- [the `&mut`, in two entries; its token; the other tokens]
     returns ! (look_at ! 0 refl) $ free_all ! refl $

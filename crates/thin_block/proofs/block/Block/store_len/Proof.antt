@@ -26,7 +26,7 @@ use Rattle.std.proofs.raw_atomic.Walks.{proved_at}
 use Rattle.core.proofs.alloc.Calls.{Al}
 use Rattle.core.proofs.mem.Param.{El, R}
 use Rattle.thin_block.proofs.Walks.{slot_at, after, says_all}
-use Rattle.thin_block.proofs.HeaderMemory.{heap_there, args, Br, header, t, block_opens, block_closes}
+use Rattle.thin_block.proofs.HeaderMemory.{alloc_there, args, Br, header, t, block_opens, block_closes}
 use Rattle.thin_block.specs.contracts.block.Block.store_len.{ended, clauses}
 use Rattle.thin_block.specs.contracts.block.Block.store_len.Key.{name as #self}
 use Rattle.thin_block.proofs.block.Block.store_len.Statement.{statement}
@@ -62,8 +62,8 @@ store_len_spec 𝓤 𝓛 𝓜 𝓡 wired T A LT LA g d dd met md =
     qed 𝓛 (((‵ (flft κ q) ⊛ ‵ (flft z.0.0.1.0 z.0.1.1.0) ⊛ ‵ (flft z.0.0.1.1.0 z.0.1.1.1.0) ⊛ ‵ ftrue) ⊛ ‵ (owns (types_at ps z.0.0) a vss))
     ∷ (raw (fact 𝓤 (z.0.0.1.0 ⊑ T.lives)) ⊛ raw (fact 𝓤 (z.0.0.1.1.0 ⊑ A.lives)) ⊛ raw (fact 𝓤 HasBlock) ⊛ raw (fact 𝓤 Within)) ∷ []) ∵
     move ! (1 ∷ []) $ split3 ! $ drop ! $ drop ! $ split ! $ heard ! HasBlock (λ has_block. heard ! Within (λ within.
-    let heap = heap_there x.heap x.slots x.sound.1 has_block in
-    let h : A.Denot = heap.0 in
+    let alloc = alloc_there x.alloc x.slots x.sound.1 has_block in
+    let h : A.Denot = alloc.0 in
     let fi = are.1.0.1 in
     split ! $ split ! $ move ! (2 ∷ []) $ fsplit ! $ fsplit3 ! $ keep ! (1 ∷ 2 ∷ 4 ∷ 5 ∷ []) $
     regoal ! (λ (us : List Val). prop (WpFn 𝓤 H 𝓣.C 𝓣.Λ fn us Post)) (λ k. are.0.0 k ++ (are.1.0.0 k ++ [])) refl $
@@ -71,7 +71,7 @@ store_len_spec 𝓤 𝓛 𝓜 𝓡 wired T A LT LA g d dd met md =
     alloc_all ! (λ l. pass_all ! refl ((tt, tt), ((tt, record { fits = fi }), tt)) $
     let En : Env 𝓤 H = env fn.locals l in
     block_opens E Y ! tt x rb ro (λ b o at fits.
-    rewrite ! 0 (λ (u : Option A.Denot). ‵ (header (t E Y) (R E) x.len cap u b o)) heap.1 refl $
+    rewrite ! 0 (λ (u : Option A.Denot). ‵ (header (t E Y) (R E) x.len cap u b o)) alloc.1 refl $
     fsplit ! $ move ! (1 ∷ []) $ fsplit ! $ use1 𝓛 (‵ (fat full_share (ty_int w64) b (o + 8) (vint w64 x.len))) (uint_out 𝓛 full_share w64 x.len b (o + 8)) $
     rewrite ! 0 (λ (k : ℕ). ‵ (fat full_share (ty_int w64) b k (vint w64 x.len))) (let turned : o + 8 ≡ 8 + o = omega arith in turned) refl $
     -- [the length; the rest of the header; the capacity; the slots; the block's cell; the open borrow, in three entries; the other tokens]
@@ -82,7 +82,7 @@ store_len_spec 𝓤 𝓛 𝓜 𝓡 wired T A LT LA g d dd met md =
     exec ! 𝓣.C 𝓣.Λ En (after 2 fn.body) (at_ret En Post) $ sets ! (of_opd ! (unit_lit !)) refl (tt, tt) $
     rewrite ! 0 (λ (k : ℕ). ‵ (fat full_share (ty_int w64) b k (vint w64 n))) (let turned : 8 + o ≡ o + 8 = omega arith in turned) refl $
     use1 𝓛 (‵ (lies_at usize full_share (block_ptr b (o + 8)) n)) (uint_in 𝓛 full_share w64 n b (o + 8)) $ fjoin ! $ move ! (1 ∷ 0 ∷ []) $ fjoin ! $
-    rewrite ! 0 (λ (u : Option A.Denot). ‵ (header (t E Y) (R E) n cap u b o)) (sym heap.1) refl $
+    rewrite ! 0 (λ (u : Option A.Denot). ‵ (header (t E Y) (R E) n cap u b o)) (sym alloc.1) refl $
     let y : B.Denot = record x { len = n; sound = (within, x.sound.1) } in
     block_closes E Y ! tt y b o rb ro at $
     -- [the `&mut`, in two entries; its token; the other tokens]

@@ -126,7 +126,7 @@ swap_spec 𝓤 𝓛 𝓜 𝓡 wired T A LT LA g d dd met md =
           use2 𝓛 (‵ (place (R E) (Some two.0) b here)) (el_in E 𝓛 b two.0 here v') $
           rewrite ! 0 (λ (c : Option T.Denot). ‵ (place (R E) c b here)) (sym two.1) refl $ rewrite ! 1 (λ (c : Option T.Denot). ‵ (place (R E) c b there)) (sym one.1) refl $
           use3 𝓛 (‵ (places (R E) swapped b (o + 16))) (p.back (slot x.slots j) (slot x.slots i)) $
-          rewrite ! 1 (λ (k : ℕ). ‵ (header (t E Y) (R E) x.len k x.heap b o)) (sym long) refl $ move ! (1 ∷ 0 ∷ []) $ block_closes E Y ! tt y b o rb ro at $
+          rewrite ! 1 (λ (k : ℕ). ‵ (header (t E Y) (R E) x.len k x.alloc b o)) (sym long) refl $ move ! (1 ∷ 0 ∷ []) $ block_closes E Y ! tt y b o rb ro at $
           -- [the `&mut`, in two entries; its token; the other tokens]
           returns ! (look_at ! 0 refl) $ free_all ! refl $
           feq_i ! (List Val) vss.0 (vptr rb ro ∷ []) are.0.0 $ fjoin3 ! $ nothing ! $ nothing ! $ fjoin ! $ nothing ! $ fjoin ! $ move ! (1 ∷ 0 ∷ []) $ fjoin ! $
@@ -147,7 +147,7 @@ swap_spec 𝓤 𝓛 𝓜 𝓡 wired T A LT LA g d dd met md =
           use2 𝓛 (‵ (place (R E) (Some one.0) b here)) (el_in E 𝓛 b one.0 here v) $
           use2 𝓛 (‵ (places (R E) (set x.slots i (Some one.0)) b (o + 16))) (slot_in E 𝓛 b (o + 16) x.slots i low (Some one.0)) $
           rewrite ! 0 (λ (l : List (Option T.Denot)). ‵ (places (R E) l b (o + 16))) (ap (λ (c : Option T.Denot). set x.slots i c) (sym one.1) ∙ set-same x.slots i j same) refl $
-          rewrite ! 1 (λ (k : ℕ). ‵ (header (t E Y) (R E) x.len k x.heap b o)) (sym long) refl $ move ! (1 ∷ 0 ∷ []) $ block_closes E Y ! tt y b o rb ro at $
+          rewrite ! 1 (λ (k : ℕ). ‵ (header (t E Y) (R E) x.len k x.alloc b o)) (sym long) refl $ move ! (1 ∷ 0 ∷ []) $ block_closes E Y ! tt y b o rb ro at $
           -- [the `&mut`, in two entries; its token; the other tokens]
           returns ! (look_at ! 0 refl) $ free_all ! refl $
           feq_i ! (List Val) vss.0 (vptr rb ro ∷ []) are.0.0 $ fjoin3 ! $ nothing ! $ nothing ! $ fjoin ! $ nothing ! $ fjoin ! $ move ! (1 ∷ 0 ∷ []) $ fjoin ! $

@@ -97,7 +97,7 @@ take_spec 𝓤 𝓛 𝓜 𝓡 wired T A LT LA g d dd met md =
     let long : length emptied ≡ length x.slots = length-set x.slots i None in
     let y : B.Denot = with_slots x emptied long in
     move ! (0 ∷ 2 ∷ []) $ use2 𝓛 (‵ (places (R E) emptied b (o + 16))) (slot_in E 𝓛 b (o + 16) x.slots i within None) $ move ! (2 ∷ []) $
-    rewrite ! 0 (λ (k : ℕ). ‵ (header (t E Y) (R E) x.len k x.heap b o)) (sym long) refl $
+    rewrite ! 0 (λ (k : ℕ). ‵ (header (t E Y) (R E) x.len k x.alloc b o)) (sym long) refl $
     move ! (0 ∷ 1 ∷ 3 ∷ 4 ∷ 5 ∷ 6 ∷ []) $ block_closes E Y ! tt y b o rb ro at $
     -- [the `&mut`, in two entries; its token; what the item owns; the other tokens]
     returns ! (look_at ! 0 refl) $ free_all ! refl $

@@ -115,7 +115,7 @@ take_array_spec 𝓤 𝓛 𝓜 𝓡 wired T A N LT LA fits_N g d dd met md =
     let y : B.Denot = with_slots x left long in
     use1 𝓛 (‵ (froom (ty_array (layout T) N) b here)) (𝓛.laws.at_room (ty_array (layout T) N) b here v) $ use1 𝓛 (‵ (places (R E) (empty N) b here)) (of_room E 𝓛 b N here) $ move ! (0 ∷ 2 ∷ []) $
     use2 𝓛 (‵ (places (R E) left b (o + 16))) (run_in E 𝓛 b (o + 16) x.slots i N within (empty N) long_empty) $ move ! (2 ∷ []) $
-    rewrite ! 0 (λ (k : ℕ). ‵ (header (t E Y) (R E) x.len k x.heap b o)) (sym long) refl $
+    rewrite ! 0 (λ (k : ℕ). ‵ (header (t E Y) (R E) x.len k x.alloc b o)) (sym long) refl $
     move ! (0 ∷ 1 ∷ 3 ∷ 4 ∷ 5 ∷ 6 ∷ []) $ block_closes E Y ! tt y b o rb ro at $
     -- [the `&mut`, in two entries; its token; what the array owns; the other tokens]
     returns ! (look_at ! 0 refl) $ free_all ! refl $

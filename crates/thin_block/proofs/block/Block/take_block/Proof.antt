@@ -111,7 +111,7 @@ take_block_spec 𝓤 𝓛 𝓜 𝓡 wired T A LT LA g d dd met md =
     let none : List (Option T.Denot) = replicate cap None in
     let long : length none ≡ cap = length-replicate cap None in
     let x : B.Denot =
-    record { at = p; item = record {}; handle = record {}; slots = none; len = 0; heap = Some h; cost = growing 0 no_cost; sound = (omega arith, any_some none (omega arith)) } in
+    record { at = p; item = record {}; handle = record {}; slots = none; len = 0; alloc = Some h; cost = growing 0 no_cost; sound = (omega arith, any_some none (omega arith)) } in
     lands_as ! e refl (tt, (record { fits = lit< tt }, (tt, tt))) $
     first ! $ switches_on ! (get_tag ! (vrt ! refl (fld ! refl (stop !))) (whole !)) $ exec ! C Λ En (arm_body 0 both) Then $
     sets ! (of_opd ! (get_in ! (vrt ! refl (fld ! refl (stop !))) (in_variant ! 0 0 refl refl (whole !)))) refl (tt, tt) $

@@ -127,7 +127,7 @@ take_replacing_spec 𝓤 𝓛 𝓜 𝓡 wired T A LT LA g d dd met md =
           rewrite ! 0 (λ (c : Option T.Denot). ‵ (place (R E) c b here)) (sym two.1) refl $
           -- [the slot i; the slot j; what the item owns; the other slots; the header; the cell; the open borrow; the other tokens]
           move ! (0 ∷ 1 ∷ 3 ∷ []) $ use3 𝓛 (‵ (places (R E) after_it b (o + 16))) (p.back (slot x.slots j) None) $
-          move ! (2 ∷ []) $ rewrite ! 0 (λ (k : ℕ). ‵ (header (t E Y) (R E) x.len k x.heap b o)) (sym long) refl $
+          move ! (2 ∷ []) $ rewrite ! 0 (λ (k : ℕ). ‵ (header (t E Y) (R E) x.len k x.alloc b o)) (sym long) refl $
           move ! (0 ∷ 1 ∷ 3 ∷ 4 ∷ 5 ∷ 6 ∷ []) $ block_closes E Y ! tt y b o rb ro at $
           -- [the `&mut`, in two entries; its token; what the item owns; the other tokens]
           returns ! (look_at ! 0 refl) $ free_all ! refl $
@@ -148,7 +148,7 @@ take_replacing_spec 𝓤 𝓛 𝓜 𝓡 wired T A LT LA g d dd met md =
           use1 𝓛 (‵ (froom (layout T) b here)) (𝓛.laws.at_room (layout T) b here v) $ use1 𝓛 (‵ (place (R E) None b here)) (𝓛.laws.room-raw (layout T) b here) $
           move ! (0 ∷ 2 ∷ []) $ use2 𝓛 (‵ (places (R E) (set x.slots i None) b (o + 16))) (slot_in E 𝓛 b (o + 16) x.slots i low None) $
           rewrite ! 0 (λ (l : List (Option T.Denot)). ‵ (places (R E) l b (o + 16))) (sym (ap (λ (k : ℕ). set (set x.slots i (slot x.slots j)) k None) (sym same) ∙ set-set x.slots i (slot x.slots j) None)) refl $
-          move ! (2 ∷ []) $ rewrite ! 0 (λ (k : ℕ). ‵ (header (t E Y) (R E) x.len k x.heap b o)) (sym long) refl $
+          move ! (2 ∷ []) $ rewrite ! 0 (λ (k : ℕ). ‵ (header (t E Y) (R E) x.len k x.alloc b o)) (sym long) refl $
           move ! (0 ∷ 1 ∷ 3 ∷ 4 ∷ 5 ∷ 6 ∷ []) $ block_closes E Y ! tt y b o rb ro at $
           -- [the `&mut`, in two entries; its token; what the item owns; the other tokens]
           returns ! (look_at ! 0 refl) $ free_all ! refl $

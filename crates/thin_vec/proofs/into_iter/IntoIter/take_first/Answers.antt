@@ -13,7 +13,7 @@ take-requires g c =
 facts : (g : _) (c : goal.After-take g) → Walking c.take.new.self c.self.inside.alloc (drop 1 (items_in c.self.inside.block.slots)) (c.self.inside.start + 1) c.self.inside.end (length c.self.inside.block.slots)
 facts g c =
     settle-first c.self.inside.block c.take.new.self c.self.inside.alloc c.self.inside.start c.self.inside.end c.take.result c.self.invariant (some g c)
-    c.take.ensures.value c.take.ensures.slots c.take.ensures.heap
+    c.take.ensures.value c.take.ensures.slots c.take.ensures.alloc
 
 pub invariant_of-self : goal.invariant_of-self
 invariant_of-self g c = (facts g c).walked

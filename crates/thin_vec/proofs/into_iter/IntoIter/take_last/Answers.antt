@@ -25,7 +25,7 @@ facts : (g : _) (c : goal.After-take g)
 facts g c =
     let it = c.self.inside in
     settle-last it.block c.take.new.self it.alloc it.start it.end c.take.result c.self.invariant (some g c)
-    c.take.ensures.slots c.take.ensures.heap
+    c.take.ensures.slots c.take.ensures.alloc
 
 pub invariant_of-self : goal.invariant_of-self
 invariant_of-self g c = (facts g c).walked

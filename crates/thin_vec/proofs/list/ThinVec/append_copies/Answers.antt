@@ -8,7 +8,7 @@ facts : (g : _) (c : goal.After-store_len g) → Settled c.store_len.new.self c.
 facts g c =
     settle-more c.self.inside.block c.store_len.new.self c.self.inside.alloc c.args.items.now _ c.self.invariant c.len-len.ensures.value
     (omega (arith, c.requires.room, c.len-len.ensures.value, c.self.invariant.packed.len, ap (λ v. length v.items) c.self.view_is, ap (λ v. v.capacity) c.self.view_is))
-    (c.store_len.ensures.slots ∙ c.copy_in.ensures.slots) c.store_len.ensures.len (c.store_len.ensures.heap ∙ c.copy_in.ensures.heap)
+    (c.store_len.ensures.slots ∙ c.copy_in.ensures.slots) c.store_len.ensures.len (c.store_len.ensures.alloc ∙ c.copy_in.ensures.alloc)
 
 pub invariant_of-self : goal.invariant_of-self
 invariant_of-self g c = (facts g c).thin

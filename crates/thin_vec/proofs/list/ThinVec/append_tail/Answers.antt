@@ -12,7 +12,7 @@ cut : (g : _) (c : goal.After-set_len-2 g) → Settled c.set_len.new.self c.othe
 cut g c =
     settle-cut c.other.inside.block c.set_len.new.self c.other.inside.alloc c.args.start _ c.other.invariant
     (omega (arith, c.requires.in_bounds, ap (λ v. length v.items) c.other.view_is)) (ap (λ n. n - c.args.start) c.len.ensures.value)
-    (c.set_len.ensures.slots ∙ c.move_run_to.ensures.slots) c.set_len.ensures.len (c.set_len.ensures.heap ∙ c.move_run_to.ensures.heap)
+    (c.set_len.ensures.slots ∙ c.move_run_to.ensures.slots) c.set_len.ensures.len (c.set_len.ensures.alloc ∙ c.move_run_to.ensures.alloc)
 
 joined : (g : _) (c : goal.After-set_len-2 g)
     → Settled c.set_len-2.new.self c.self.inside.alloc (items_in c.self.inside.block.slots ++ drop c.args.start (items_in c.other.inside.block.slots)) (length c.self.inside.block.slots)
@@ -20,7 +20,7 @@ joined g c =
     settle-joined c.self.inside.block c.set_len-2.new.self c.other.inside.block c.self.inside.alloc c.other.inside.alloc c.args.start _ _ c.self.invariant c.other.invariant
     (omega (arith, c.requires.in_bounds, ap (λ v. length v.items) c.other.view_is)) (ap (λ n. n - c.args.start) c.len.ensures.value) c.len-len.ensures.value
     (omega (arith, c.requires.room, c.len.ensures.value, c.len-len.ensures.value, c.self.invariant.packed.len, c.other.invariant.packed.len, ap (λ v. length v.items) c.self.view_is, ap (λ v. length v.items) c.other.view_is, ap (λ v. v.capacity) c.self.view_is))
-    (c.set_len-2.ensures.slots ∙ c.move_run_to.ensures.other_slots) c.set_len-2.ensures.len (c.set_len-2.ensures.heap ∙ c.move_run_to.ensures.other_heap)
+    (c.set_len-2.ensures.slots ∙ c.move_run_to.ensures.other_slots) c.set_len-2.ensures.len (c.set_len-2.ensures.alloc ∙ c.move_run_to.ensures.other_alloc)
 
 pub invariant_of-self : goal.invariant_of-self
 invariant_of-self g c = (joined g c).thin

@@ -11,7 +11,7 @@ facts : (g : _) (c : goal.After-set_len g) → Settled c.set_len.new.self c.self
 facts g c =
     let gave = c.fill_slots-rest.ensures.slots in
     settle-more c.self.inside.block c.set_len.new.self c.self.inside.alloc gave.0 c.len-len.result c.self.invariant c.len-len.ensures.value
-    (omega (arith, gave.2, c.fill_slots-rest.ensures.within, c.cap-cap.ensures.value)) (c.set_len.ensures.slots ∙ gave.1) (c.set_len.ensures.len ∙ gave.2) (c.set_len.ensures.heap ∙ c.fill_slots-rest.ensures.heap)
+    (omega (arith, gave.2, c.fill_slots-rest.ensures.within, c.cap-cap.ensures.value)) (c.set_len.ensures.slots ∙ gave.1) (c.set_len.ensures.len ∙ gave.2) (c.set_len.ensures.alloc ∙ c.fill_slots-rest.ensures.alloc)
 
 -- where the items end
 ends : (g : _) (c : goal.After-set_len g) → length (items_in c.set_len.new.self.slots) ≡ c.fill_slots-rest.result.1

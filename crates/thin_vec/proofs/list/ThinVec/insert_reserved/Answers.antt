@@ -23,7 +23,7 @@ facts g c =
     (omega (arith, c.requires.in_bounds, ap (λ v. length v.items) c.self.view_is))
     (omega (arith, c.requires.room, c.self.invariant.packed.len, ap (λ v. length v.items) c.self.view_is, ap (λ v. v.capacity) c.self.view_is))
     refl (ap (λ n. n - c.args.index) c.len-len.ensures.value) c.move_run.ensures.slots c.put_and_store.ensures.slots
-    (c.put_and_store.ensures.len ∙ ap (λ n. n + 1) c.len-len.ensures.value) (c.put_and_store.ensures.heap ∙ c.move_run.ensures.heap)
+    (c.put_and_store.ensures.len ∙ ap (λ n. n + 1) c.len-len.ensures.value) (c.put_and_store.ensures.alloc ∙ c.move_run.ensures.alloc)
 
 pub invariant_of-self : goal.invariant_of-self
 invariant_of-self g c = (facts g c).thin

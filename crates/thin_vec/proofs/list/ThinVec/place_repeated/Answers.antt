@@ -19,7 +19,7 @@ facts g c =
     let len = c.len-len in
     settle-more b c.set_len.new.self c.self.inside.alloc put.slots.copies len.result c.self.invariant len.ensures.value
     (omega (arith, c.requires.room, put.in_bounds, many g c, len.ensures.value, c.self.invariant.packed.len, ap (λ v. length v.items) c.self.view_is, ap (λ v. v.capacity) c.self.view_is))
-    (c.set_len.ensures.slots ∙ put.slots.slots) (omega (arith, c.set_len.ensures.len, many g c)) (c.set_len.ensures.heap ∙ put.heap)
+    (c.set_len.ensures.slots ∙ put.slots.slots) (omega (arith, c.set_len.ensures.len, many g c)) (c.set_len.ensures.alloc ∙ put.alloc)
 
 pub invariant_of-self : goal.invariant_of-self
 invariant_of-self g c = (facts g c).thin

@@ -23,7 +23,7 @@ facts g c =
     settle-remove c.self.inside.block c.store_len.new.self c.self.inside.alloc c.args.index _ _ c.take-value.new.self.slots c.self.invariant
     (omega (arith, c.requires.in_bounds, ap (λ v. length v.items) c.self.view_is)) refl (ap (λ n. n - (c.args.index + 1)) c.len-len.ensures.value)
     c.take-value.ensures.slots (c.store_len.ensures.slots ∙ c.move_run.ensures.slots) (c.store_len.ensures.len ∙ ap (λ n. n - 1) c.len-len.ensures.value)
-    (c.store_len.ensures.heap ∙ (c.move_run.ensures.heap ∙ c.take-value.ensures.heap))
+    (c.store_len.ensures.alloc ∙ (c.move_run.ensures.alloc ∙ c.take-value.ensures.alloc))
 
 pub invariant_of-self : goal.invariant_of-self
 invariant_of-self g c = (facts g c).thin

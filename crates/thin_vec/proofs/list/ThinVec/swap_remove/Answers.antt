@@ -21,7 +21,7 @@ facts g c =
     (omega (arith, c.requires.in_bounds, c.len-last.ensures.value, c.self.invariant.packed.len, long))
     (omega (arith, c.requires.in_bounds, c.len-last.ensures.value, c.self.invariant.packed.len, long))
     c.take_replacing-value.ensures.value (c.store_len.ensures.slots ∙ c.take_replacing-value.ensures.slots) c.store_len.ensures.len
-    (c.store_len.ensures.heap ∙ c.take_replacing-value.ensures.heap)
+    (c.store_len.ensures.alloc ∙ c.take_replacing-value.ensures.alloc)
 
 pub invariant_of-self : goal.invariant_of-self
 invariant_of-self g c = (facts g c).thin

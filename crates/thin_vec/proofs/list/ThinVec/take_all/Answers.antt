@@ -21,7 +21,7 @@ facts g c =
     let packed = thin-packed c.self.inside.block c.self.inside.alloc g.row.N c.self.invariant (ap (λ v. length v.items) c.self.view_is ∙ c.requires.all) in
     settle-emptied c.self.inside.block c.set_len.new.self c.self.inside.alloc c.self.invariant.from
     (c.set_len.ensures.slots ∙ (c.take_array-items.ensures.slots ∙ packed-emptied c.self.inside.block.slots g.row.N packed))
-    c.set_len.ensures.len (c.set_len.ensures.heap ∙ c.take_array-items.ensures.heap)
+    c.set_len.ensures.len (c.set_len.ensures.alloc ∙ c.take_array-items.ensures.alloc)
 
 pub invariant_of-self : goal.invariant_of-self
 invariant_of-self g c = (facts g c).thin

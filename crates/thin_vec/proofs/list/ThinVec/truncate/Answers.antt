@@ -12,7 +12,7 @@ loop-i-init g c =
     record {
       slots = c.store_len.ensures.slots ∙ (c.self.invariant.packed.row ∙ (row ∙ sym (emptying-none c.args.self.now.items c.args.len c.args.self.now.capacity)));
       len = c.store_len.ensures.len;
-      from = λ x e. c.self.invariant.from x (sym c.store_len.ensures.heap ∙ e);
+      from = λ x e. c.self.invariant.from x (sym c.store_len.ensures.alloc ∙ e);
       alloc = ap (λ v. v.alloc) c.self.view_is;
       cost = c.store_len.ensures.cost ∙ ap (λ v. v.cost) c.self.view_is;
     }
@@ -29,7 +29,7 @@ loop-i-preserved g c =
     record {
       slots = c.take.ensures.slots ∙ (ap (λ s. set s c.loop-i.i None) h.slots ∙ emptying-take c.args.self.now.items c.args.len c.loop-i.i c.args.self.now.capacity c.loop-i.auto.i (omega (arith, c.loop-i-test.true, n)));
       len = c.take.ensures.len ∙ h.len;
-      from = λ x e. h.from x (sym c.take.ensures.heap ∙ e);
+      from = λ x e. h.from x (sym c.take.ensures.alloc ∙ e);
       alloc = h.alloc;
       cost = c.take.ensures.cost ∙ h.cost;
     }
