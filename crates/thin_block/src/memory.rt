@@ -27,7 +27,7 @@ impl<T, A: Allocator> Block<T, A> {
         ensures cost { IfOk result (λ block. block.cost ≡ growing 0 no_cost) }
         ensures cause { IfErr result (λ cause. cause ≡ ThinVecError.OutOfMemory) }
     {
-        match Block::take_block(alloc, cap, bytes_of_block::<T>(cap), align_of_block::<T>()) {
+        match Block::allocate_block(alloc, cap, bytes_of_block::<T>(cap), align_of_block::<T>()) {
             Ok(block) => Ok(block),
             Err(_refused) => Err(ThinVecError::OutOfMemory),
         }
@@ -86,7 +86,7 @@ impl<T, A: Allocator> Block<T, A> {
         let len = self.len();
         if len > 0 {
             other.store_len(len);
-            self.carry_run(0, &mut other, 0, len);
+            self.move_run_charging(0, &mut other, 0, len);
         } else {
             other.charge_as(self);
         }
@@ -109,7 +109,7 @@ impl<T, A: Allocator> Block<T, A> {
     }
 
     // `allocate` at the block's size and alignment.
-    fn take_block(
+    fn allocate_block(
         alloc: &A,
         cap: usize,
         bytes: usize,

@@ -143,14 +143,14 @@ impl<T, A: Allocator> Block<T, A> {
         ensures cost { self.new.cost ≡ moving k self.old.cost }
     {
         if from.abs_diff(to) < k {
-            self.slide_run(from, to, k);
+            self.move_overlapping(from, to, k);
         } else {
-            self.copy_run(from, to, k);
+            self.move_apart(from, to, k);
         }
     }
 
     // `move_run` where the runs overlap.
-    fn slide_run(&mut self, from: usize, to: usize, k: usize)
+    fn move_overlapping(&mut self, from: usize, to: usize, k: usize)
         requires source { from + k ≤ length self.old.slots }
         requires target { to + k ≤ length self.old.slots }
         requires filled { AreFilled self.old.slots from k }
@@ -170,7 +170,7 @@ impl<T, A: Allocator> Block<T, A> {
     }
 
     // `move_run` where the runs lie apart.
-    fn copy_run(&mut self, from: usize, to: usize, k: usize)
+    fn move_apart(&mut self, from: usize, to: usize, k: usize)
         requires source { from + k ≤ length self.old.slots }
         requires target { to + k ≤ length self.old.slots }
         requires filled { AreFilled self.old.slots from k }
@@ -207,12 +207,12 @@ impl<T, A: Allocator> Block<T, A> {
         ensures other_alloc { other.new.alloc ≡ other.old.alloc }
         ensures other_cost { other.new.cost ≡ moving k other.old.cost }
     {
-        self.carry_run(from, other, to, k);
+        self.move_run_charging(from, other, to, k);
     }
 
     // Moves the `k` items in the slots from `from` on to those of `to_block` from `to` on, and says what `to_block` has
     // cost by then.
-    pub(crate) fn carry_run(&mut self, from: usize, to_block: &mut Block<T, A>, to: usize, k: usize)
+    pub(crate) fn move_run_charging(&mut self, from: usize, to_block: &mut Block<T, A>, to: usize, k: usize)
         ghost cost: { Cost }
         requires source { from + k ≤ length self.old.slots }
         requires target { to + k ≤ length to_block.old.slots }

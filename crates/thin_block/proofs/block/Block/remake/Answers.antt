@@ -7,8 +7,8 @@ use Rattle.thin_block.proofs.block.Block.remake.Goals as goal
 use Rattle.thin_block.proofs.block.Block.remake.Goals.{then-len-gt0, else-len-gt0}
 
 -- the items lie in front, and the other block is empty
-pub carry_run-requires : goal.carry_run-requires
-carry_run-requires g c κs within =
+pub move_run_charging-requires : goal.move_run_charging-requires
+move_run_charging-requires g c κs within =
     let old = c.args.self.now.slots in
     let bare : c.store_len.new.self.slots ≡ empty c.args.cap = c.store_len.ensures.slots ∙ c.in_ok-other.ensures.slots in
     let long : length c.store_len.new.self.slots ≡ c.args.cap = ap length bare ∙ length-replicate c.args.cap None in
@@ -34,7 +34,7 @@ release-requires-clause-empty g c =
     let old = c.args.self.now.slots in
     let gone : c.if-len-gt0.self.slots ≡ empty (length old) =
     elim c.if-len-gt0.branch [
-      | then-len-gt0 w ↦ ap (λ b. b.slots) w.self-is ∙ (w.carry_run.ensures.slots ∙ (ap (λ (k : ℕ). emptied 0 k old) c.len-len.ensures.value ∙ packed-emptied old c.args.self.now.len c.requires.packed))
+      | then-len-gt0 w ↦ ap (λ b. b.slots) w.self-is ∙ (w.move_run_charging.ensures.slots ∙ (ap (λ (k : ℕ). emptied 0 k old) c.len-len.ensures.value ∙ packed-emptied old c.args.self.now.len c.requires.packed))
       | else-len-gt0 w ↦ ap (λ b. b.slots) w.self-is ∙ (let none : 0 ≡ c.args.self.now.len = omega (arith, w.if-len-gt0, c.len-len.ensures.value) in ap (λ (k : ℕ). emptied 0 k old) none ∙ packed-emptied old c.args.self.now.len c.requires.packed)
     ] in
     let left : c.replace-old.result.slots ≡ empty (length old) = (λ i. (c.replace-old.ensures.value i).slots) ∙ gone in

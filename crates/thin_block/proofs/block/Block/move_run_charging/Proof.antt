@@ -1,4 +1,4 @@
--- `carry_run` takes a run of items out of one block's row and a run of room out of the other's, copies the one to the other, and puts both back. Assumes `Logic`.
+-- `move_run_charging` takes a run of items out of one block's row and a run of room out of the other's, copies the one to the other, and puts both back. Assumes `Logic`.
 use Rattle.std.proofs.Common.{◌≡◌, ℕ, Some, None, ◌+◌, ◌*◌, ◌^◌, ◌<◌, ◌≤◌, List, ◌∷◌, [], ◌++◌, length, refl, sym, ap, subst, ◌∙◌, arith, w64}
 use lib.Dec.{T as Holds}
 use lib.ListN.{length-map, length-replicate}
@@ -40,13 +40,13 @@ use Rattle.thin_block.proofs.Walks.{slot_at, after, says_all}
 use Rattle.thin_block.proofs.SlotsLemmas.{full-run, empty-run, length-run, length-laid}
 use Rattle.thin_block.proofs.HeaderMemory.{args, Br, header, t, block_opens, block_closes}
 use Rattle.thin_block.proofs.SlotMemory.{sz, reach, around, run_out, run_in, to_items, of_items, to_room, of_room}
-use Rattle.thin_block.specs.contracts.block.Block.carry_run.{ended, clauses}
-use Rattle.thin_block.specs.contracts.block.Block.carry_run.Key.{name as #self}
-use Rattle.thin_block.proofs.block.Block.carry_run.Statement.{statement}
-use Rattle.thin_block.proofs.block.Block.carry_run.Code as compiled
+use Rattle.thin_block.specs.contracts.block.Block.move_run_charging.{ended, clauses}
+use Rattle.thin_block.specs.contracts.block.Block.move_run_charging.Key.{name as #self}
+use Rattle.thin_block.proofs.block.Block.move_run_charging.Statement.{statement}
+use Rattle.thin_block.proofs.block.Block.move_run_charging.Code as compiled
 
-pub carry_run_spec : {M : Type 1} → statement M
-carry_run_spec 𝓤 𝓛 𝓜 𝓡 wired T A LT LA g d dd met md =
+pub move_run_charging_spec : {M : Type 1} → statement M
+move_run_charging_spec 𝓤 𝓛 𝓜 𝓡 wired T A LT LA g d dd met md =
     let H = 𝓛.H in
     let E : El = record { row = T; laws = LT } in
     let Y : Al = record { row = A; laws = LA; g = g; d = d; drops = dd } in

@@ -1,4 +1,4 @@
--- `slide_run` takes the run and the gap beside it out of the row, lets the items slide into the gap, and puts both back. Assumes `Logic`.
+-- `move_overlapping` takes the run and the gap beside it out of the row, lets the items slide into the gap, and puts both back. Assumes `Logic`.
 use Rattle.std.proofs.Common.{◌≡◌, ℕ, Some, None, ◌+◌, ◌*◌, ◌^◌, ◌<◌, ◌≤◌, List, ◌∷◌, [], ◌++◌, length, refl, sym, ap, subst, ◌∙◌, arith, w64}
 use lib.ListN.{length-map}
 use lib.Dec.{T as Holds}
@@ -52,13 +52,13 @@ use Rattle.thin_block.proofs.SlotsLemmas.{length-moved}
 use Rattle.thin_block.proofs.ShiftMemory.{slides, distance, shifted}
 use Rattle.thin_block.proofs.shifts.slide.Met as slide_met
 use Rattle.thin_block.specs.contracts.shifts.slide as slide
-use Rattle.thin_block.specs.contracts.block.Block.slide_run.{ended, clauses}
-use Rattle.thin_block.specs.contracts.block.Block.slide_run.Key.{name as #self}
-use Rattle.thin_block.proofs.block.Block.slide_run.Statement.{statement}
-use Rattle.thin_block.proofs.block.Block.slide_run.Code as compiled
+use Rattle.thin_block.specs.contracts.block.Block.move_overlapping.{ended, clauses}
+use Rattle.thin_block.specs.contracts.block.Block.move_overlapping.Key.{name as #self}
+use Rattle.thin_block.proofs.block.Block.move_overlapping.Statement.{statement}
+use Rattle.thin_block.proofs.block.Block.move_overlapping.Code as compiled
 
-pub slide_run_spec : {M : Type 1} → statement M
-slide_run_spec 𝓤 𝓛 𝓜 𝓡 wired T A LT LA g d dd met md =
+pub move_overlapping_spec : {M : Type 1} → statement M
+move_overlapping_spec 𝓤 𝓛 𝓜 𝓡 wired T A LT LA g d dd met md =
     let H = 𝓛.H in
     let E : El = record { row = T; laws = LT } in
     let Y : Al = record { row = A; laws = LA; g = g; d = d; drops = dd } in

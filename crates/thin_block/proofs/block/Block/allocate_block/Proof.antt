@@ -1,4 +1,4 @@
--- `take_block` asks for the room of a whole block, writes the two words of its header, and leaves the slots empty. Assumes `Logic`.
+-- `allocate_block` asks for the room of a whole block, writes the two words of its header, and leaves the slots empty. Assumes `Logic`.
 use Rattle.std.proofs.Common.{◌≡◌, ℕ, ◌+◌, ◌<◌, List, [], ◌∷◌, ◌++◌, length, replicate, Bool, true, refl, sym, ap, ◌∙◌, arith, lit<, w64, Some, None, Option}
 use mir.Syntax.{Ty, Fn, Body, ty_int}
 use mir.Val.{Val, WT, vint, vptr, vstruct, vcons, vnil}
@@ -42,13 +42,13 @@ use Rattle.thin_block.proofs.SizeFacts.{fits_tells, opened, rounded}
 use Rattle.thin_block.proofs.Walks.{slot_at, then_runs, after, head, arm_body, says_all, refused_made}
 use Rattle.thin_block.proofs.HeaderMemory.{args, Br, any_some, block_val, block_made, whole_size, whole_align, carve, items}
 use Rattle.thin_block.proofs.SlotMemory.{of_raw}
-use Rattle.thin_block.specs.contracts.block.Block.take_block.{ended, clauses}
-use Rattle.thin_block.specs.contracts.block.Block.take_block.Key.{name as #self}
-use Rattle.thin_block.proofs.block.Block.take_block.Statement.{statement}
-use Rattle.thin_block.proofs.block.Block.take_block.Code as compiled
+use Rattle.thin_block.specs.contracts.block.Block.allocate_block.{ended, clauses}
+use Rattle.thin_block.specs.contracts.block.Block.allocate_block.Key.{name as #self}
+use Rattle.thin_block.proofs.block.Block.allocate_block.Statement.{statement}
+use Rattle.thin_block.proofs.block.Block.allocate_block.Code as compiled
 
-pub take_block_spec : {M : Type 1} → statement M
-take_block_spec 𝓤 𝓛 𝓜 𝓡 wired T A LT LA g d dd met md =
+pub allocate_block_spec : {M : Type 1} → statement M
+allocate_block_spec 𝓤 𝓛 𝓜 𝓡 wired T A LT LA g d dd met md =
     let H = 𝓛.H in
     let E : El = record { row = T; laws = LT } in
     let Y : Al = record { row = A; laws = LA; g = g; d = d; drops = dd } in

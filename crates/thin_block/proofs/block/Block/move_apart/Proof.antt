@@ -1,4 +1,4 @@
--- `copy_run` takes the run and the room that it goes to out of the row, copies the one to the other, and puts both back. Assumes `Logic`.
+-- `move_apart` takes the run and the room that it goes to out of the row, copies the one to the other, and puts both back. Assumes `Logic`.
 use Rattle.std.proofs.Common.{◌≡◌, ℕ, Some, None, ◌+◌, ◌*◌, ◌^◌, ◌<◌, ◌≤◌, List, ◌∷◌, [], ◌++◌, length, refl, sym, ap, subst, ◌∙◌, arith, w64}
 use lib.ListN.{length-map}
 use lib.Dec.{T as Holds}
@@ -44,13 +44,13 @@ use Rattle.std.specs.Prelude.{◌⊎◌}
 use mir.Syntax.{w64}
 use Rattle.thin_block.proofs.SlotsLemmas.{length-moved}
 use Rattle.thin_block.proofs.ShiftMemory.{Was, apart}
-use Rattle.thin_block.specs.contracts.block.Block.copy_run.{ended, clauses}
-use Rattle.thin_block.specs.contracts.block.Block.copy_run.Key.{name as #self}
-use Rattle.thin_block.proofs.block.Block.copy_run.Statement.{statement}
-use Rattle.thin_block.proofs.block.Block.copy_run.Code as compiled
+use Rattle.thin_block.specs.contracts.block.Block.move_apart.{ended, clauses}
+use Rattle.thin_block.specs.contracts.block.Block.move_apart.Key.{name as #self}
+use Rattle.thin_block.proofs.block.Block.move_apart.Statement.{statement}
+use Rattle.thin_block.proofs.block.Block.move_apart.Code as compiled
 
-pub copy_run_spec : {M : Type 1} → statement M
-copy_run_spec 𝓤 𝓛 𝓜 𝓡 wired T A LT LA g d dd met md =
+pub move_apart_spec : {M : Type 1} → statement M
+move_apart_spec 𝓤 𝓛 𝓜 𝓡 wired T A LT LA g d dd met md =
     let H = 𝓛.H in
     let E : El = record { row = T; laws = LT } in
     let Y : Al = record { row = A; laws = LA; g = g; d = d; drops = dd } in
