@@ -30,7 +30,7 @@ impl<A: Allocator> ThinVec<u8, A> {
     {
         match ThinVec::with_capacity(alloc, text.len()) {
             Ok(mut list) => {
-                list.append_copies(text.as_bytes());
+                list.extend_from_copies_reserved(text.as_bytes());
                 Ok(list)
             }
             Err(cause) => Err(cause),
@@ -40,7 +40,7 @@ impl<A: Allocator> ThinVec<u8, A> {
 
 impl<T: Copy, A: Allocator, G: Growth> ThinVec<T, A, G> {
     // Copies `items` into the spare room, as one run.
-    pub(crate) fn append_copies(&mut self, items: &[T])
+    pub(crate) fn extend_from_copies_reserved(&mut self, items: &[T])
         requires room { length self.old.items + length items.now ≤ self.old.capacity }
         ensures items { self.new.items ≡ self.old.items ++ items.now }
         ensures capacity { self.new.capacity ≡ self.old.capacity }
@@ -103,7 +103,7 @@ impl<A: Allocator, G: Growth> Write for ThinVec<u8, A, G> {
             Ok(()) => (),
             Err(_refused) => return Err(io::Error::from(ErrorKind::OutOfMemory)),
         }
-        self.append_copies(buf);
+        self.extend_from_copies_reserved(buf);
         Ok(())
     }
 

@@ -33,7 +33,7 @@ impl<T: Copy, A: Allocator, G: Growth> ThinVec<T, A, G> {
             Ok(()) => (),
             Err(cause) => return Err(cause),
         }
-        self.append_copies(items);
+        self.extend_from_copies_reserved(items);
         Ok(())
     }
 
@@ -50,7 +50,7 @@ impl<T: Copy, A: Allocator, G: Growth> ThinVec<T, A, G> {
         ensures cheap { IfOk result (λ list. IsCheap list) }
     {
         let mut list = ThinVec::with_fitting_capacity(alloc, self.len())?;
-        list.append_copies(self.as_slice());
+        list.extend_from_copies_reserved(self.as_slice());
         Ok(list)
     }
 }
@@ -84,7 +84,7 @@ impl<T: Clone, A: Allocator, G: Growth> ThinVec<T, A, G> {
         ensures err { All T.is_infallible items.now → OnErr result (self.new ≡ self.old) }
     {
         self.reserve(items.len())?;
-        self.append_clones(items)
+        self.extend_from_slice_reserved(items)
     }
 
     /// Makes the length `len`: drops the items from there on, or appends clones of `value`, the last one `value` itself.
@@ -121,7 +121,7 @@ impl<T: Clone, A: Allocator, G: Growth> ThinVec<T, A, G> {
             return Ok(());
         }
         self.reserve(len - old)?;
-        self.append_repeated(value, len - old)
+        self.resize_reserved(value, len - old)
     }
 
     /// A list on `alloc` of a clone of each item, in order, under the same growth rule. Its capacity is the length: the
@@ -153,12 +153,12 @@ impl<T: Clone, A: Allocator, G: Growth> ThinVec<T, A, G> {
         ensures cost { IfOk result (λ list. list.cost ≡ moving (length items.now) self.cost) }
         ensures cheap { IsCheap self → IfOk result (λ list. IsCheap list) }
     {
-        self.append_clones(items)?;
+        self.extend_from_slice_reserved(items)?;
         Ok(self)
     }
 
     // Clones of `items` go into the spare room. Where one is refused, those made before it are dropped.
-    pub(crate) fn append_clones(&mut self, items: &[T]) -> Result<(), ThinVecError>
+    pub(crate) fn extend_from_slice_reserved(&mut self, items: &[T]) -> Result<(), ThinVecError>
         requires room { length self.old.items + length items.now ≤ self.old.capacity }
         ensures succeeds { All T.is_infallible items.now → IsOk result }
         ensures items { OnOk result (AppendsClones T.is_clone self.old.items self.new.items items.now) }
@@ -171,7 +171,7 @@ impl<T: Clone, A: Allocator, G: Growth> ThinVec<T, A, G> {
         ensures cause { IfErr result (λ cause. cause ≡ ThinVecError.OutOfMemory) }
     {
         let len = self.len();
-        if self.place_clones(items) < items.len() {
+        if self.push_clones_reserved(items) < items.len() {
             self.truncate(len);
             return Err(ThinVecError::OutOfMemory);
         }
@@ -180,7 +180,7 @@ impl<T: Clone, A: Allocator, G: Growth> ThinVec<T, A, G> {
 
     // Clones of `value`, and then `value` itself, go into `count` places of the spare room. Where a clone is refused,
     // those made before it are dropped, and `value` is.
-    fn append_repeated(&mut self, value: T, count: usize) -> Result<(), ThinVecError>
+    fn resize_reserved(&mut self, value: T, count: usize) -> Result<(), ThinVecError>
         requires some { 0 < count }
         requires room { length self.old.items + count ≤ self.old.capacity }
         ensures succeeds { T.is_infallible value → IsOk result }
@@ -195,7 +195,7 @@ impl<T: Clone, A: Allocator, G: Growth> ThinVec<T, A, G> {
         ensures cause { IfErr result (λ cause. cause ≡ ThinVecError.OutOfMemory) }
     {
         let len = self.len();
-        if self.place_repeated(&value, count - 1) < count - 1 {
+        if self.push_repeated_reserved(&value, count - 1) < count - 1 {
             self.truncate(len);
             return Err(ThinVecError::OutOfMemory);
         }
@@ -204,7 +204,7 @@ impl<T: Clone, A: Allocator, G: Growth> ThinVec<T, A, G> {
     }
 
     // Clones of `items` go into the spare room, as many as it answers: it ends before a clone that is refused.
-    fn place_clones(&mut self, items: &[T]) -> usize
+    fn push_clones_reserved(&mut self, items: &[T]) -> usize
         requires room { length self.old.items + length items.now ≤ self.old.capacity }
         ensures in_bounds { result ≤ length items.now }
         ensures items { AppendsClones T.is_clone self.old.items self.new.items (take result items.now) }
@@ -220,7 +220,7 @@ impl<T: Clone, A: Allocator, G: Growth> ThinVec<T, A, G> {
     }
 
     // The same with up to `count` clones of `value`.
-    fn place_repeated(&mut self, value: &T, count: usize) -> usize
+    fn push_repeated_reserved(&mut self, value: &T, count: usize) -> usize
         requires room { length self.old.items + count ≤ self.old.capacity }
         ensures in_bounds { result ≤ count }
         ensures items { AppendsRepeats T.is_clone value.now result self.old.items self.new.items }

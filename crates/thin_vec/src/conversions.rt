@@ -109,7 +109,7 @@ impl<T, A: Allocator> ThinVec<T, A> {
         ensures cost { result.cost ≡ moving (length items.items) self.cost }
     {
         let len = items.len();
-        move_in(&mut self.block, &mut items);
+        put_vec(&mut self.block, &mut items);
         self.block.set_len(len);
         items.destroy_empty();
         self
@@ -117,7 +117,7 @@ impl<T, A: Allocator> ThinVec<T, A> {
 }
 
 // Moves the items of `items` into the first slots of an empty block. A `Vec` gives its items up from the last on.
-fn move_in<T, A: Allocator, B: Allocator>(block: &mut Block<T, A>, items: &mut Vec<T, B>)
+fn put_vec<T, A: Allocator, B: Allocator>(block: &mut Block<T, A>, items: &mut Vec<T, B>)
     requires empty { block.old.slots ≡ empty (length block.old.slots) }
     requires room { length items.old.items ≤ length block.old.slots }
     ensures slots { block.new.slots ≡ front items.old.items (length block.old.slots) }

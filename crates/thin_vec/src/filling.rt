@@ -49,7 +49,7 @@ impl<T, A: Allocator, G: Growth> ThinVec<T, A, G> {
         ensures err { IfErr result (λ refused. refused.in_hand ≡ None → (self.new ≡ self.old) × (refused.rest ≡ iter)) }
     {
         match self.reserve(iter.size_hint().0) {
-            Ok(()) => self.fill(iter),
+            Ok(()) => self.extend_unhinted(iter),
             Err(cause) => Err(ExtendRefused {
                 cause,
                 in_hand: None,
@@ -59,7 +59,7 @@ impl<T, A: Allocator, G: Growth> ThinVec<T, A, G> {
     }
 
     // `extend` that asks for no hint.
-    pub(crate) fn fill<I: Iterator<Item = T>>(&mut self, iter: I) -> Result<(), ExtendRefused<T, I>>
+    pub(crate) fn extend_unhinted<I: Iterator<Item = T>>(&mut self, iter: I) -> Result<(), ExtendRefused<T, I>>
         requires can_next { I.can_next iter }
         requires finite { IsFinite (I.remaining iter) }
         ensures succeeds { length self.old.items + size (I.remaining iter) ≤ self.old.capacity → IsOk result }
@@ -79,7 +79,7 @@ impl<T, A: Allocator, G: Growth> ThinVec<T, A, G> {
     {
         let mut rest = iter;
         loop {
-            let (left, over) = self.fill_up(rest);
+            let (left, over) = self.extend_reserved(rest);
             rest = left;
             let Some(item) = over else {
                 return Ok(());
@@ -99,7 +99,7 @@ impl<T, A: Allocator, G: Growth> ThinVec<T, A, G> {
     }
 
     // Fills the spare room, and stores the length once. Hands back the iterator, and the item that found no room.
-    fn fill_up<I: Iterator<Item = T>>(&mut self, iter: I) -> (I, Option<T>)
+    fn extend_reserved<I: Iterator<Item = T>>(&mut self, iter: I) -> (I, Option<T>)
         requires can_next { I.can_next iter }
         requires finite { IsFinite (I.remaining iter) }
         ensures items { (xs : List T) × (self.new.items ≡ self.old.items ++ xs) × YieldsThen I.next_gives iter xs result.1 result.0 }
@@ -114,7 +114,7 @@ impl<T, A: Allocator, G: Growth> ThinVec<T, A, G> {
     {
         let len = self.block.len();
         let cap = self.block.cap();
-        let (rest, end, over) = fill_slots(&mut self.block, len, cap, iter);
+        let (rest, end, over) = put_iter(&mut self.block, len, cap, iter);
         self.block.set_len(end);
         (rest, over)
     }
@@ -163,7 +163,7 @@ impl<T, A: Allocator> ThinVec<T, A> {
                 });
             }
         }
-        match list.fill(iter) {
+        match list.extend_unhinted(iter) {
             Ok(()) => Ok(list),
             Err(refused) => {
                 let ExtendRefused {
@@ -184,7 +184,7 @@ impl<T, A: Allocator> ThinVec<T, A> {
 
 // Puts what `iter` gives into the empty slots from `start` up to `end`. Hands back the iterator, where it stopped, and the
 // item that found no slot.
-fn fill_slots<T, A: Allocator, I: Iterator<Item = T>>(
+fn put_iter<T, A: Allocator, I: Iterator<Item = T>>(
     block: &mut Block<T, A>,
     start: usize,
     end: usize,

@@ -40,7 +40,7 @@ impl<T, A: Allocator, G: Growth> ThinVec<T, A, G> {
             Ok(()) => (),
             Err(cause) => return Err(cause),
         }
-        self.append_tail(other, 0);
+        self.append_reserved(other, 0);
         Ok(())
     }
 
@@ -67,7 +67,7 @@ impl<T, A: Allocator, G: Growth> ThinVec<T, A, G> {
     {
         match ThinVec::with_fitting_capacity(alloc, self.len() - at) {
             Ok(mut tail) => {
-                tail.append_tail(self, at);
+                tail.append_reserved(self, at);
                 Ok(tail)
             }
             Err(cause) => Err(cause),
@@ -75,7 +75,7 @@ impl<T, A: Allocator, G: Growth> ThinVec<T, A, G> {
     }
 
     // Moves the items of `other` from `start` on behind those of this list, into spare room, as one run.
-    fn append_tail(&mut self, other: &mut ThinVec<T, A, G>, start: usize)
+    fn append_reserved(&mut self, other: &mut ThinVec<T, A, G>, start: usize)
         requires in_bounds { start ≤ length other.old.items }
         requires room { length self.old.items + (length other.old.items - start) ≤ self.old.capacity }
         ensures items { self.new.items ≡ self.old.items ++ drop start other.old.items }

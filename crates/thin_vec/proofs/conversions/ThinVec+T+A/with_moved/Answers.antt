@@ -4,9 +4,9 @@ use Rattle.thin_vec.proofs.conversions.ThinVec+T+A.with_moved.Goals as goal
 
 facts : (g : _) (c : goal.After-destroy_empty g) → Settled c.set_len.new.self c.self.inside.alloc c.args.items.items (length c.self.inside.block.slots)
 facts g c =
-    settled c.set_len.new.self c.self.inside.alloc c.args.items.items (length c.self.inside.block.slots) (c.set_len.ensures.slots ∙ c.move_in.ensures.slots)
+    settled c.set_len.new.self c.self.inside.alloc c.args.items.items (length c.self.inside.block.slots) (c.set_len.ensures.slots ∙ c.put_vec.ensures.slots)
     (c.set_len.ensures.len ∙ (c.len-len.ensures ∙ c.args.items.ok.0)) (omega (arith, c.requires.room, ap (λ v. v.capacity) c.self.view_is))
-    (from-same c.self.inside.block c.set_len.new.self c.self.inside.alloc c.self.invariant.from (c.set_len.ensures.alloc ∙ c.move_in.ensures.alloc))
+    (from-same c.self.inside.block c.set_len.new.self c.self.inside.alloc c.self.invariant.from (c.set_len.ensures.alloc ∙ c.put_vec.ensures.alloc))
 
 pub invariant_of-self : goal.invariant_of-self
 invariant_of-self g c = (facts g c).thin

@@ -11,20 +11,20 @@ pub returns-in-Ok-clause-capacity : goal.returns-in-Ok-clause-capacity
 returns-in-Ok-clause-capacity g c =
     let rule = g.G.Growth.rule in let T = param 0 g.row.T in let law = g.met.G.Growth.law in
     let v = c.args.self.now in let u = c.reserve.new.self in
-    loose-join rule T law v.capacity u.capacity c.fill.new.self.capacity (loose-ruled rule T law v c.size_hint.result.0 u.capacity c.in-Ok.ensures.capacity) c.fill.ensures.capacity
+    loose-join rule T law v.capacity u.capacity c.extend_unhinted.new.self.capacity (loose-ruled rule T law v c.size_hint.result.0 u.capacity c.in-Ok.ensures.capacity) c.extend_unhinted.ensures.capacity
 
 pub returns-in-Ok-clause-cost : goal.returns-in-Ok-clause-cost
 returns-in-Ok-clause-cost g c =
     let rule = g.G.Growth.rule in let T = param 0 g.row.T in let law = g.met.G.Growth.law in
-    let v = c.args.self.now in let u = c.reserve.new.self in let w = c.fill.new.self in
-    filled-join v u w (loose-le rule T law v.capacity u.capacity (loose-ruled rule T law v c.size_hint.result.0 u.capacity c.in-Ok.ensures.capacity)) (loose-le rule T law u.capacity w.capacity c.fill.ensures.capacity)
-    (omega (arith, ap length c.reserve.ensures.items)) (filled-reserved v u c.in-Ok.ensures.cost c.reserve.ensures.items) c.fill.ensures.cost
+    let v = c.args.self.now in let u = c.reserve.new.self in let w = c.extend_unhinted.new.self in
+    filled-join v u w (loose-le rule T law v.capacity u.capacity (loose-ruled rule T law v c.size_hint.result.0 u.capacity c.in-Ok.ensures.capacity)) (loose-le rule T law u.capacity w.capacity c.extend_unhinted.ensures.capacity)
+    (omega (arith, ap length c.reserve.ensures.items)) (filled-reserved v u c.in-Ok.ensures.cost c.reserve.ensures.items) c.extend_unhinted.ensures.cost
 
 pub returns-in-Ok-clause-named : goal.returns-in-Ok-clause-named
 returns-in-Ok-clause-named g c =
     let rule = g.G.Growth.rule in let T = param 0 g.row.T in let law = g.met.G.Growth.law in
-    let v = c.args.self.now in let u = c.reserve.new.self in let w = c.fill.new.self in
-    named-after rule T law v.capacity u.capacity w.capacity (length w.items) _ c.fill.ensures.named
+    let v = c.args.self.now in let u = c.reserve.new.self in let w = c.extend_unhinted.new.self in
+    named-after rule T law v.capacity u.capacity w.capacity (length w.items) _ c.extend_unhinted.ensures.named
     (λ same. (c.size_hint.result.0, c.size_hint.ensures.lower, c.in-Ok.ensures.capacity ∙ ap Some (sym same)))
 
 pub returns-in-Err-clause-named : goal.returns-in-Err-clause-named
@@ -36,6 +36,6 @@ returns-in-Err-clause-cause g c = λ over.
 
 pub returns-in-Ok-clause-runs : goal.returns-in-Ok-clause-runs
 returns-in-Ok-clause-runs g c =
-    let steps = g.I.Iterator.next_gives in let w = c.fill.new.self in
-    subst (λ old. OnOk c.fill.result (WholeRun steps c.args.iter (λ p. w.items ≡ old ++ p.items))) c.reserve.ensures.items
-    (run_of_ok steps c.args.iter (λ xs. w.items ≡ c.reserve.new.self.items ++ xs) c.fill.result c.fill.ensures.items)
+    let steps = g.I.Iterator.next_gives in let w = c.extend_unhinted.new.self in
+    subst (λ old. OnOk c.extend_unhinted.result (WholeRun steps c.args.iter (λ p. w.items ≡ old ++ p.items))) c.reserve.ensures.items
+    (run_of_ok steps c.args.iter (λ xs. w.items ≡ c.reserve.new.self.items ++ xs) c.extend_unhinted.result c.extend_unhinted.ensures.items)

@@ -7,7 +7,7 @@ use Rattle.thin_vec.proofs.list.ThinVec.extend_from_copies.Goals as goal
 pub returns-clause-capacity : goal.returns-clause-capacity
 returns-clause-capacity g c =
     ruled-at _ _ c.args.self.now.capacity (length c.args.self.now.items + length c.args.items.now) refl refl g.G.Growth.rule
-    ∙ (c.in-Ok.ensures.capacity ∙ ap (λ n. Some n) (sym c.append_copies.ensures.capacity))
+    ∙ (c.in-Ok.ensures.capacity ∙ ap (λ n. Some n) (sym c.extend_from_copies_reserved.ensures.capacity))
 
 pub returns-clause-overflow : goal.returns-clause-overflow
 returns-clause-overflow g c = λ none. absurd (none-some none (returns-clause-capacity g c))

@@ -14,12 +14,12 @@ returns-clause-overflow g c = λ none.
 pub returns-clause-items : goal.returns-clause-items
 returns-clause-items g c =
     let grown = c.reserve.new.self.items in
-    let r = c.append_repeated.result in
-    let new = c.append_repeated.new.self.items in
+    let r = c.resize_reserved.result in
+    let new = c.resize_reserved.new.self.items in
     let same = c.reserve.ensures.items in
     let long : length grown + (c.args.len - c.len-old.result) ≡ c.args.len = omega (arith, ap length same, c.len-old.ensures.value, c.if-len-old.false) in
     subst (λ xs. OnOk r (IsResized g.T.Clone.is_clone xs c.args.len c.args.value new)) same
-    (subst (λ n. OnOk r (IsResized g.T.Clone.is_clone grown n c.args.value new)) long c.append_repeated.ensures.items)
+    (subst (λ n. OnOk r (IsResized g.T.Clone.is_clone grown n c.args.value new)) long c.resize_reserved.ensures.items)
 
 pub returns-clause-items_if_clones_equal : goal.returns-clause-items_if_clones_equal
 returns-clause-items_if_clones_equal g c =
@@ -27,7 +27,7 @@ returns-clause-items_if_clones_equal g c =
     let x = c.args.value in
     let all : take c.args.len old ≡ old = take_all c.args.len old (omega (arith, c.len-old.ensures.value, c.if-len-old.false)) in
     let same = ap (λ xs. xs ++ replicate (c.args.len - c.len-old.result) x) (c.reserve.ensures.items ∙ sym all) ∙ ap (λ n. take c.args.len old ++ replicate (c.args.len - n) x) c.len-old.ensures.value in
-    subst (λ xs. OnOk c.append_repeated.result (CloneEquals g.T.Clone.is_clone x → c.append_repeated.new.self.items ≡ xs)) same c.append_repeated.ensures.items_if_clones_equal
+    subst (λ xs. OnOk c.resize_reserved.result (CloneEquals g.T.Clone.is_clone x → c.resize_reserved.new.self.items ≡ xs)) same c.resize_reserved.ensures.items_if_clones_equal
 
 pub returns-clause-refused : goal.returns-clause-refused
 returns-clause-refused g c =
@@ -35,11 +35,11 @@ returns-clause-refused g c =
     let x = c.args.value in
     let old = c.len-old.ensures.value in
     let grown = c.reserve.new.self in
-    let new = c.append_repeated.new.self in
-    let capacity = sym c.append_repeated.ensures.capacity in
+    let new = c.resize_reserved.new.self in
+    let capacity = sym c.resize_reserved.ensures.capacity in
     let paid : grown.cost ≡ cost_at v new.capacity = c.in_ok-reserve.ensures.cost ∙ ap (λ n. cost_at v n) capacity in
-    on-err c.append_repeated.result (λ stops. inr (record {
+    on-err c.resize_reserved.result (λ stops. inr (record {
       capacity = sym (ap (λ n. capacity_for g.G.Growth.rule (param 0 g.row.T) v (c.args.len - n)) old) ∙ (c.in_ok-reserve.ensures.capacity ∙ ap Some capacity);
       stopped = subst (λ n. StopsAtClone g.T.Clone.is_infallible (replicate (c.args.len - n - 1) x) (cost_at v new.capacity) new.cost) old
           (subst (λ k. StopsAtClone g.T.Clone.is_infallible (replicate (c.args.len - c.len-old.result - 1) x) k new.cost) paid stops);
-    })) c.append_repeated.ensures.refused
+    })) c.resize_reserved.ensures.refused

@@ -2,7 +2,7 @@
 use Rattle.std.proofs.Common.{◌≡◌, ◌-◌, length}
 use Rattle.thin_block.specs.Cost.{moving}
 use Rattle.thin_vec.proofs.ConversionLemmas.{IsMoving}
-use Rattle.thin_vec.proofs.conversions.move_in.Given as goal
+use Rattle.thin_vec.proofs.conversions.put_vec.Given as goal
 
 abbrev pub invariant-loop-item : goal.invariant-loop-item
 invariant-loop-item g l = record {

@@ -3,7 +3,7 @@ use Rattle.thin_block.specs.Slots.{items_in}
 use Rattle.thin_vec.proofs.CloneLemmas.{length-copies}
 use Rattle.thin_vec.proofs.JoinLemmas.{settle-more}
 use Rattle.thin_vec.proofs.ListLemmas.{Settled}
-use Rattle.thin_vec.proofs.list.ThinVec.place_clones.Goals as goal
+use Rattle.thin_vec.proofs.list.ThinVec.push_clones_reserved.Goals as goal
 
 facts : (g : _) (c : goal.After-set_len g) → Settled c.set_len.new.self c.self.inside.alloc (items_in c.self.inside.block.slots ++ c.put_clones-placed.ensures.slots.copies) (length c.self.inside.block.slots)
 facts g c =

@@ -4,7 +4,7 @@ use Rattle.std.specs.Iterator.{IsFinite, Yields, size}
 use denote.Param.{param}
 use Rattle.thin_vec.specs.Costs.{IsCheap}
 use Rattle.thin_vec.specs.Filling.{IsFilled, IsLoose, IsNamed}
-use Rattle.thin_vec.proofs.list.ThinVec.fill.Given as goal
+use Rattle.thin_vec.proofs.list.ThinVec.extend_unhinted.Given as goal
 
 abbrev pub invariant-loop-item : goal.invariant-loop-item
 invariant-loop-item g l = record {

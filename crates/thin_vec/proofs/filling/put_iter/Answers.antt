@@ -1,7 +1,7 @@
 use Rattle.std.proofs.Common.{◌∷◌, ◌++◌, [], ◌∙◌, arith}
 use Rattle.std.proofs.lemmas.List.{length_push}
 use Rattle.thin_vec.proofs.FillLemmas.{laid-more, moving-more, yields-more}
-use Rattle.thin_vec.proofs.filling.fill_slots.Goals as goal
+use Rattle.thin_vec.proofs.filling.put_iter.Goals as goal
 
 pub loop-i-preserved : goal.loop-i-preserved
 loop-i-preserved g c =

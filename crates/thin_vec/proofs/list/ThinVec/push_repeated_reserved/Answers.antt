@@ -4,7 +4,7 @@ use Rattle.thin_block.specs.Slots.{items_in}
 use Rattle.thin_vec.proofs.CloneLemmas.{all-repeated, length-copies}
 use Rattle.thin_vec.proofs.JoinLemmas.{settle-more}
 use Rattle.thin_vec.proofs.ListLemmas.{Settled}
-use Rattle.thin_vec.proofs.list.ThinVec.place_repeated.Goals as goal
+use Rattle.thin_vec.proofs.list.ThinVec.push_repeated_reserved.Goals as goal
 
 many : (g : _) (c : goal.After-set_len g) → length c.put_repeated-placed.ensures.slots.copies ≡ c.put_repeated-placed.result
 many g c =
