@@ -6,7 +6,7 @@ use Rattle.std.specs.Prelude.{◌⊎◌, Option}
 use Rattle.std.specs.Borrow.{RattleType}
 use Rattle.std.specs.Option.{option_to_list}
 use Rattle.thin_vec.specs.Cost.{Cost}
-use Rattle.thin_vec.specs.Costs.{IsCheap, IsCheapAt}
+use Rattle.thin_vec.specs.Cheap.{IsCheap, IsCheapAt}
 use Rattle.thin_vec.specs.Growth.{Rule, KeepsLaw}
 use Rattle.thin_vec.specs.ThinVec.{Thin, IsNew, cost_at}
 use Rattle.thin_vec.proofs.ThinVecLemmas.{cap-kept, cap-grown, cost_at-kept, cost_at-grown, cost_at-moves, cheap-regrown}

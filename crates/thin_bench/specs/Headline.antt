@@ -1,7 +1,7 @@
 -- The headline: what is known of every list of commands on a list, for every item type that may be dropped and every growth rule.
 use Rattle.std.specs.Prelude.{◌≡◌, ◌+◌, ◌*◌, ◌<◌, ◌≤◌, List, ◌++◌, length}
 use Rattle.std.specs.Borrow.{RattleType}
-use Rattle.thin_vec.specs.Costs.{IsCheap}
+use Rattle.thin_vec.specs.Cheap.{IsCheap}
 use Rattle.thin_vec.specs.Growth.{Rule}
 use Rattle.thin_vec.specs.ThinVec.{Thin, IsNew}
 use Rattle.thin_bench.specs.Run.{Runs, accepted}

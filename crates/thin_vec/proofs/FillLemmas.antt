@@ -16,7 +16,7 @@ use Rattle.thin_block.specs.Slots.{full, laid}
 use Rattle.thin_block.proofs.CapacityLemmas.{ruled-grows}
 use Rattle.thin_block.proofs.SlotsLemmas.{laid-one}
 use Rattle.std.specs.Prelude.{◌⊎◌}
-use Rattle.thin_vec.specs.Filling.{IsNamed, IsFilled, IsLoose}
+use Rattle.thin_vec.specs.Extend.{IsNamed, IsExtendCost, IsLoose}
 use Rattle.thin_vec.specs.ThinVec.{Thin, capacity_for, cost_at}
 use Rattle.thin_vec.proofs.CloneLemmas.{moving-one}
 use Rattle.thin_vec.proofs.ListLemmas.{length-full}
@@ -93,7 +93,7 @@ module _ (rule : Rule) (R : RattleType) (law : KeepsLaw rule) where
 
 module _ {T A : Type 0} where
   -- k items that came in by as many moves, after at most one growth
-  pub filled-at : (v w : Thin T A) (k : ℕ) → w.cost ≡ moving k (cost_at v w.capacity) → length w.items ≡ length v.items + k → IsFilled v w
+  pub filled-at : (v w : Thin T A) (k : ℕ) → w.cost ≡ moving k (cost_at v w.capacity) → length w.items ≡ length v.items + k → IsExtendCost v w
   filled-at v w k e n = record {
     moves = omega (arith, ap (λ c. c.moves) e, cost_at-moves v w.capacity, n);
     kept = λ same. (ap (λ c. c.blocks) (e ∙ ap (λ c. moving k c) (cost_at-same v w.capacity same)), ap (λ c. c.grown) (e ∙ ap (λ c. moving k c) (cost_at-same v w.capacity same)));
@@ -101,16 +101,16 @@ module _ {T A : Type 0} where
   }
 
   -- none came in
-  pub filled-reserved : (v w : Thin T A) → w.cost ≡ cost_at v w.capacity → w.items ≡ v.items → IsFilled v w
+  pub filled-reserved : (v w : Thin T A) → w.cost ≡ cost_at v w.capacity → w.items ≡ v.items → IsExtendCost v w
   filled-reserved v w e n =
       filled-at v w 0 (e ∙ (λ i. record { blocks = (cost_at v w.capacity).blocks; grown = (cost_at v w.capacity).grown; moves = (let z : (cost_at v w.capacity).moves ≡ (cost_at v w.capacity).moves + 0 = omega arith in z) i })) (omega (arith, ap length n))
 
   -- without a growth
-  pub filled-spare : (v w : Thin T A) (k : ℕ) → w.cost ≡ moving k v.cost → w.capacity ≡ v.capacity → length w.items ≡ length v.items + k → IsFilled v w
+  pub filled-spare : (v w : Thin T A) (k : ℕ) → w.cost ≡ moving k v.cost → w.capacity ≡ v.capacity → length w.items ≡ length v.items + k → IsExtendCost v w
   filled-spare v w k e same n = filled-at v w k (e ∙ ap (λ c. moving k c) (sym (cost_at-same v w.capacity same))) n
 
   -- one step after another
-  pub filled-join : (v u w : Thin T A) → v.capacity ≤ u.capacity → u.capacity ≤ w.capacity → length v.items ≤ length u.items → IsFilled v u → IsFilled u w → IsFilled v w
+  pub filled-join : (v u w : Thin T A) → v.capacity ≤ u.capacity → u.capacity ≤ w.capacity → length v.items ≤ length u.items → IsExtendCost v u → IsExtendCost u w → IsExtendCost v w
   filled-join v u w low high long p q = record {
     moves = omega (arith, p.moves, q.moves);
     kept = λ same. let a : u.capacity ≡ v.capacity = omega arith in let b : w.capacity ≡ u.capacity = omega arith in let f = p.kept a in let h = q.kept b in (h.0 ∙ f.0, h.1 ∙ f.1);

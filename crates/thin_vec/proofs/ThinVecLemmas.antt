@@ -7,7 +7,7 @@ use Rattle.std.proofs.lemmas.Grind.{pow_more}
 use Rattle.thin_block.specs.Cost.{Cost, growing}
 use Rattle.thin_block.specs.Growth.{Rule, KeepsLaw}
 use Rattle.thin_block.proofs.CapacityLemmas.{ruled-same, ruled-grows}
-use Rattle.thin_vec.specs.Costs.{IsCheap, IsCheapAt}
+use Rattle.thin_vec.specs.Cheap.{IsCheap, IsCheapAt}
 use Rattle.thin_vec.specs.ThinVec.{Thin, capacity_for, cost_at}
 
 some-same : {X : Type 0} {x y : X} → Some x ≡ Some y → x ≡ y

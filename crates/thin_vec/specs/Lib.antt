@@ -1,7 +1,7 @@
 pub mod ThinVec
-pub mod Costs
+pub mod Cheap
 pub mod Clones
-pub mod Filling
+pub mod Extend
 pub mod Lends
 pub mod IntoIter
 pub mod Shapes

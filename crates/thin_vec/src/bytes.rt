@@ -4,7 +4,7 @@ ghost use Rattle.std.specs.Borrow.{u8};
 ghost use Rattle.std.specs.IoError.{error_kind};
 ghost use Rattle.thin_block.specs.Cost.{moving};
 ghost use Rattle.thin_block.specs.Growth.{exact_capacity};
-ghost use Rattle.thin_vec.specs.Costs.{IsCheap};
+ghost use Rattle.thin_vec.specs.Cheap.{IsCheap};
 
 use crate::list::ThinVec;
 use std::alloc::Allocator;

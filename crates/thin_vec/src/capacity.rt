@@ -11,7 +11,7 @@ use std::mem;
 use thin_block::{Block, Growth, ThinVecError, fits};
 
 impl<T, A: Allocator, G: Growth> ThinVec<T, A, G> {
-    ghost use Rattle.thin_vec.specs.Costs.{IsCheap};
+    ghost use Rattle.thin_vec.specs.Cheap.{IsCheap};
     ghost use Rattle.thin_vec.specs.ThinVec.{HasRoomFor, IsCause, capacity_for, cost_at, cost_new, cost_shrunk, exact_for};
 
     /// Makes room for `additional` more items: where there is not room enough, the capacity becomes the ruled one.
@@ -105,7 +105,7 @@ impl<T, A: Allocator, G: Growth> ThinVec<T, A, G> {
         ensures cost { OnOk result (self.new.cost ≡ growing (length self.old.items) self.old.cost) }
         ensures err { OnErr result (self.new ≡ self.old) }
     {
-        match self.next_capacity(additional) {
+        match self.ruled_capacity(additional) {
             Some(next) => self.grow_to(next),
             None => Err(ThinVecError::CapacityOverflow),
         }
@@ -113,7 +113,7 @@ impl<T, A: Allocator, G: Growth> ThinVec<T, A, G> {
 
     // The ruled capacity. Every one is computed here.
     #[tactic(auto, using(thin_block::proofs::CapacityLemmas::ruled))]
-    fn next_capacity(&self, additional: usize) -> Option<usize>
+    fn ruled_capacity(&self, additional: usize) -> Option<usize>
         requires more { self.now.capacity < length self.now.items + additional }
         ensures value { result ≡ capacity_for G.rule T.row self.now additional }
         ensures grown { IfSome result (λ next. Grows T.row self.now.capacity (length self.now.items + additional) next) }
@@ -195,7 +195,7 @@ impl<T, A: Allocator, G: Growth> ThinVec<T, A, G> {
 
 impl<T, A: Allocator> ThinVec<T, A> {
     ghost use Rattle.thin_vec.specs.ThinVec.{cost_new};
-    ghost use Rattle.thin_vec.specs.Costs.{IsCheap};
+    ghost use Rattle.thin_vec.specs.Cheap.{IsCheap};
 
     /// An empty list with room for exactly `capacity` items. At 0 it owns no block.
     ///

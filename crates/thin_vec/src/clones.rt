@@ -10,7 +10,7 @@ use std::alloc::Allocator;
 use thin_block::{Block, Growth, ThinVecError};
 
 impl<T: Copy, A: Allocator, G: Growth> ThinVec<T, A, G> {
-    ghost use Rattle.thin_vec.specs.Costs.{IsCheap};
+    ghost use Rattle.thin_vec.specs.Cheap.{IsCheap};
     ghost use Rattle.thin_vec.specs.ThinVec.{capacity_for, cost_at, cost_new};
 
     /// `extend_from_slice` of items that are copied: they come in as one run.
@@ -56,7 +56,7 @@ impl<T: Copy, A: Allocator, G: Growth> ThinVec<T, A, G> {
 }
 
 impl<T: Clone, A: Allocator, G: Growth> ThinVec<T, A, G> {
-    ghost use Rattle.thin_vec.specs.Costs.{IsCheap};
+    ghost use Rattle.thin_vec.specs.Cheap.{IsCheap};
     ghost use Rattle.thin_vec.specs.ThinVec.{capacity_for, cost_at, cost_new};
 
     /// Appends a clone of each of `items`, in order.

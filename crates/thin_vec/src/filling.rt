@@ -6,10 +6,10 @@ ghost use Rattle.std.specs.Option.{option_to_list};
 ghost use Rattle.thin_block.specs.Cost.{moving};
 ghost use Rattle.thin_block.specs.Growth.{doubling};
 ghost use Rattle.thin_block.specs.Slots.{full, laid, slot};
-ghost use Rattle.thin_vec.specs.Costs.{IsCheap};
+ghost use Rattle.thin_vec.specs.Cheap.{IsCheap};
 ghost use Rattle.std.specs.Prelude.{◌⊎◌};
 ghost use Rattle.std.specs.Iterator.SizeHint.{IsWithinCount};
-ghost use Rattle.thin_vec.specs.Filling.{GaveUp, IsFilled, IsLoose, IsNamed, Overflows, OverflowsNew};
+ghost use Rattle.thin_vec.specs.Extend.{GaveUp, IsExtendCost, IsLoose, IsNamed, Overflows, OverflowsNew};
 ghost use Rattle.thin_vec.specs.ThinVec.{IsNew, capacity_for};
 
 use crate::errors::{CollectRefused, ExtendRefused, Rejected};
@@ -36,7 +36,7 @@ impl<T, A: Allocator, G: Growth> ThinVec<T, A, G> {
         // Accepted or refused, each item that came in has moved once.
         ensures capacity { IsLoose G.rule T.row self.old.capacity self.new.capacity }
         ensures had_room { length self.old.items + size (I.remaining iter) ≤ self.old.capacity → self.new.capacity ≡ self.old.capacity }
-        ensures cost { IsFilled self.old self.new }
+        ensures cost { IsExtendCost self.old self.new }
         ensures alloc { self.new.alloc ≡ self.old.alloc }
         ensures cheap { IsCheap self.old → IsCheap self.new }
 
@@ -68,7 +68,7 @@ impl<T, A: Allocator, G: Growth> ThinVec<T, A, G> {
         ensures items { OnOk result ((xs : List T) × Drains I.next_gives iter xs × (self.new.items ≡ self.old.items ++ xs)) }
         ensures capacity { IsLoose G.rule T.row self.old.capacity self.new.capacity }
         ensures had_room { length self.old.items + size (I.remaining iter) ≤ self.old.capacity → self.new.capacity ≡ self.old.capacity }
-        ensures cost { IsFilled self.old self.new }
+        ensures cost { IsExtendCost self.old self.new }
         ensures alloc { self.new.alloc ≡ self.old.alloc }
         ensures cheap { IsCheap self.old → IsCheap self.new }
         ensures placed { IfErr result (λ refused. (xs : List T) × (self.new.items ≡ self.old.items ++ xs) × GaveUp I.next_gives iter xs refused.in_hand refused.rest) }

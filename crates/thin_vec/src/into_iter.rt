@@ -174,7 +174,7 @@ impl<T, A: Allocator, G: Growth> IntoIter<T, A, G> {
 }
 
 impl<T: Clone, A: Allocator, G: Growth> IntoIter<T, A, G> {
-    ghost use Rattle.thin_vec.specs.Costs.{IsCheap};
+    ghost use Rattle.thin_vec.specs.Cheap.{IsCheap};
     ghost use Rattle.thin_vec.specs.ThinVec.{cost_new};
 
     /// An iterator on `alloc` over a clone of each item that remains, in order. Its capacity is their number: where none

@@ -7,7 +7,7 @@ use std::alloc::Allocator;
 use thin_block::{Growth, ThinVecError};
 
 impl<T, A: Allocator, G: Growth> ThinVec<T, A, G> {
-    ghost use Rattle.thin_vec.specs.Costs.{IsCheap};
+    ghost use Rattle.thin_vec.specs.Cheap.{IsCheap};
     ghost use Rattle.thin_vec.specs.ThinVec.{capacity_for, cost_at, cost_new};
 
     /// Moves all items of `other` behind those of this list. `other` is left empty, with its capacity.

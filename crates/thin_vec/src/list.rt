@@ -55,7 +55,7 @@ impl<T, A: Allocator, G: Growth> ThinVec<T, A, G> {
     ghost use Rattle.thin_block.specs.Slots.{front};
     ghost use Rattle.thin_vec.specs.Lends.{LendsItems};
     ghost use Rattle.thin_vec.specs.ThinVec.{HasRoomFor, IsCause, IsNew, capacity_for, cost_at};
-    ghost use Rattle.thin_vec.specs.Costs.{IsCheap};
+    ghost use Rattle.thin_vec.specs.Cheap.{IsCheap};
 
     /// `new` under any growth rule.
     pub fn ruled(alloc: A) -> ThinVec<T, A, G>

@@ -3,7 +3,7 @@ ghost use Rattle.std.specs.Prelude.{◌≡◌, ◌≤◌, [], IfErr, IfOk, IsErr
 ghost use Rattle.thin_block.specs.Cost.{moving};
 ghost use Rattle.thin_block.specs.Growth.{doubling, exact_capacity, ruled_capacity};
 ghost use Rattle.thin_vec.specs.Clones.{CloneEquals, IsResized};
-ghost use Rattle.thin_vec.specs.Costs.{IsCheap};
+ghost use Rattle.thin_vec.specs.Cheap.{IsCheap};
 ghost use Rattle.thin_vec.specs.ThinVec.{cost_new};
 
 use crate::list::ThinVec;

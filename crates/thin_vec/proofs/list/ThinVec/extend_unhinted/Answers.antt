@@ -1,7 +1,7 @@
 use Rattle.std.proofs.Common.{◌++◌, ◌∷◌, [], ◌-◌, ◌∙◌, ap, arith, append_assoc, length, length-append, subst, sym}
 use Rattle.std.proofs.lemmas.List.{length_push}
 use denote.Param.{param}
-use Rattle.thin_vec.specs.Filling.{IsLoose}
+use Rattle.thin_vec.specs.Extend.{IsLoose}
 use Rattle.thin_vec.specs.ThinVec.{capacity_for}
 use Rattle.std.proofs.Common.{◌+◌, inr, inl}
 use Rattle.thin_vec.proofs.FillLemmas.{named-more, at-some, filled-at, filled-join, filled-spare, loose-join, loose-le, loose-ruled, yields-join, yields-more}

@@ -19,7 +19,7 @@ IsNamed rule R c d n = (d ≡ c) ⊎ ((e w : ℕ) × (e < w) × (w ≤ n) × (ru
 module _ {T A : Type 0} where
   -- what w has cost that was v, before items went in behind: one move for each of them; no block and no copied item more where
   -- the capacity stayed; where it grew, at least one block more, into which at least the items of v were copied
-  pub record IsFilled (v w : Thin T A) : Type 0 where
+  pub record IsExtendCost (v w : Thin T A) : Type 0 where
     pub moves : w.cost.moves + length v.items ≡ v.cost.moves + length w.items
     pub kept : w.capacity ≡ v.capacity → (w.cost.blocks ≡ v.cost.blocks) × (w.cost.grown ≡ v.cost.grown)
     pub grown : v.capacity < w.capacity → (v.cost.blocks < w.cost.blocks) × (v.cost.grown + length v.items ≤ w.cost.grown)
