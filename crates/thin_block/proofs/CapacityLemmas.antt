@@ -9,7 +9,7 @@ use Rattle.std.specs.Mem.{type_size}
 use Rattle.std.specs.Align.{type_align}
 use Rattle.thin_block.specs.Capacity.{fits, Fits}
 use Rattle.thin_block.specs.Growth.{Rule, KeepsLaw, exact_capacity, fitting, ruled_capacity}
-use Rattle.thin_block.proofs.SizeFacts.{opened, closed, fits_none, fits_tells, fits_yes}
+use Rattle.thin_block.proofs.SizesLemmas.{opened, closed, fits_none, fits_tells, fits_yes}
 
 -- a capacity that suffices stays
 pub ruled-same : (rule : Rule) (R : RattleType) (c w : ℕ) → w ≤ c → ruled_capacity rule R c w ≡ Some c

@@ -42,7 +42,7 @@ use Rattle.thin_block.specs.contracts.block.Block as block
 use Rattle.std.specs.Mem.{type_size}
 use Rattle.std.specs.Align.{type_align}
 use Rattle.thin_block.specs.Capacity.{block_align, block_bytes}
-use Rattle.thin_block.proofs.SizeFacts.{fits_none}
+use Rattle.thin_block.proofs.SizesLemmas.{fits_none}
 
 -- a struct by its fields alone: what it owns does not read its name
 abbrev pub plainly : List RattleType → RattleType

@@ -1,4 +1,4 @@
-mod SizeFacts
+mod SizesLemmas
 mod Walks
 mod HeaderMemory
 mod SlotMemory

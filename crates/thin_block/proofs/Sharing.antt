@@ -28,7 +28,7 @@ use Rattle.core.specs.contracts.marker.PhantomData as marker
 use Rattle.thin_block.specs.Ownership.{there, any, fits_block, block_lent, place_lent, places_lent}
 use Rattle.thin_block.specs.Slots.{full, run}
 use Rattle.thin_block.specs.contracts.block.Block as block
-use Rattle.thin_block.proofs.SizeFacts.{fits_none}
+use Rattle.thin_block.proofs.SizesLemmas.{fits_none}
 use Rattle.thin_block.proofs.HeaderMemory.{Br}
 use Rattle.thin_block.proofs.SlotMemory.{Slot, sz}
 

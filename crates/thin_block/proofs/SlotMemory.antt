@@ -33,7 +33,7 @@ use Rattle.core.proofs.ptr.Rows as arrays
 use Rattle.core.proofs.ptr.Rows.{times_below}
 use Rattle.thin_block.specs.Ownership.{fits_block, place, places}
 use Rattle.thin_block.specs.Slots.{full, empty, run, laid}
-use Rattle.thin_block.proofs.SizeFacts.{fits_tells}
+use Rattle.thin_block.proofs.SizesLemmas.{fits_tells}
 
 pub reach : (Rw : RattleType) (i c : ℕ) → fits_block Rw c ≡ true → i ≤ c → i * type_size Rw < 2 ^ 63
 reach Rw i c fits le =

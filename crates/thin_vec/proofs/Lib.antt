@@ -1,11 +1,11 @@
 mod ListLemmas
 mod GrowthLemmas
 pub mod ThinVecLemmas
-mod EditLemmas
-mod CloneLemmas
+mod EditsLemmas
+mod ClonesLemmas
 mod ShiftLemmas
-mod LendLemmas
-mod JoinLemmas
-mod ConversionLemmas
-mod FillLemmas
-mod WalkLemmas
+mod LendsLemmas
+mod TwoListsLemmas
+mod FromOthersLemmas
+mod ExtendLemmas
+mod IntoIterLemmas

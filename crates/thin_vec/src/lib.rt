@@ -4,17 +4,17 @@
 mod bytes;
 mod capacity;
 mod clones;
-mod compare;
-mod conversions;
 mod edits;
 mod errors;
-mod filling;
-mod impls;
-mod into;
+mod extend;
+mod from_others;
+mod indexing;
 mod into_iter;
-mod joins;
+mod into_others;
 mod list;
 mod macros;
+mod traits;
+mod two_lists;
 
 pub use errors::{CollectRefused, ExtendRefused, Rejected};
 pub use into_iter::IntoIter;

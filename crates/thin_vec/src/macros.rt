@@ -52,7 +52,7 @@ pub fn written_out<T: Drop, A: Allocator, const N: usize>(
 
 /// What `thin_vec!` calls for `count` times the same: `new`, and then `resize`.
 #[doc(hidden)]
-#[tactic(auto, using(crate::proofs::CloneLemmas::new_lists))]
+#[tactic(auto, using(crate::proofs::ClonesLemmas::new_lists))]
 pub fn repeated<T: Clone, A: Allocator>(
     alloc: A,
     value: T,

@@ -1,5 +1,5 @@
 //! Which capacity a list has after each call, against numbers worked out by hand.
-use crate::filling::push_all;
+use crate::items::push_all;
 use crate::standing::{assert_items, assert_list, assert_same};
 use refusing::Refusing;
 use std::alloc::Global;

@@ -1,5 +1,5 @@
 //! The calls that clone, also where a clone is refused.
-use crate::filling::push_all;
+use crate::items::push_all;
 use crate::growth_rules::Fourfold;
 use crate::scarce::Scarce;
 use crate::standing::{assert_counts, assert_list, assert_same};

@@ -1,5 +1,5 @@
 //! How lists are compared, hashed and printed.
-use crate::filling::push_all;
+use crate::items::push_all;
 use crate::standing::assert_same;
 use std::cmp::Ordering;
 use std::hash::{DefaultHasher, Hash, Hasher};

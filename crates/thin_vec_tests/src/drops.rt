@@ -1,6 +1,6 @@
 //! Each item is dropped once, by the list or by whoever it was handed out to, and each block is given back.
 use crate::counted::Counted;
-use crate::filling::push_all;
+use crate::items::push_all;
 use crate::standing::assert_same;
 use refusing::Refusing;
 use std::alloc::Global;

@@ -11,28 +11,28 @@ mod clones;
 #[cfg(test)]
 mod comparisons;
 #[cfg(test)]
-mod converting;
+mod conversions;
 #[cfg(test)]
 mod counted;
 #[cfg(test)]
 mod drops;
 #[cfg(test)]
-mod extending;
+mod extend;
 #[cfg(test)]
-mod filling;
+mod items;
 #[cfg(test)]
 mod growth_rules;
 #[cfg(test)]
-mod joins;
+mod two_lists;
 #[cfg(test)]
 mod making;
-pub mod owned_walks;
+pub mod into_iter;
 #[cfg(test)]
 mod refusals;
 #[cfg(test)]
 mod scarce;
 #[cfg(test)]
-mod shifts;
+mod edits;
 #[cfg(test)]
 mod shrinks;
 #[cfg(test)]
@@ -44,4 +44,4 @@ mod standing;
 #[cfg(test)]
 mod trees;
 #[cfg(test)]
-mod walks;
+mod iterating;

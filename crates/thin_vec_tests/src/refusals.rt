@@ -1,5 +1,5 @@
 //! Memory that is refused, request by request, and what stands afterwards.
-use crate::filling::push_all;
+use crate::items::push_all;
 use crate::standing::{assert_counts, assert_items, assert_list, assert_same};
 use refusing::Refusing;
 use std::io::Write;

@@ -1,5 +1,5 @@
 //! What is written through a lent slice or a lent item is in the list afterwards.
-use crate::filling::push_all;
+use crate::items::push_all;
 use crate::growth_rules::Fourfold;
 use crate::standing::{assert_items, assert_same};
 use std::alloc::Global;

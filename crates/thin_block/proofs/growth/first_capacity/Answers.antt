@@ -1,6 +1,6 @@
 use Rattle.std.proofs.Common.{arith}
 use Rattle.std.specs.Mem.{type_size}
-use Rattle.thin_block.proofs.SizeFacts.{first_one, first_many}
+use Rattle.thin_block.proofs.SizesLemmas.{first_one, first_many}
 use denote.Param.{param}
 use Rattle.thin_block.proofs.growth.first_capacity.Goals as goal
 

@@ -1,6 +1,6 @@
 use Rattle.std.proofs.Common.{ap, arith, ◌∙◌}
 use Rattle.thin_block.specs.Cost.{moving}
-use Rattle.thin_vec.proofs.CloneLemmas.{lays-more, moving-one}
+use Rattle.thin_vec.proofs.ClonesLemmas.{lays-more, moving-one}
 use Rattle.thin_vec.proofs.clones.put_clones.Goals as goal
 
 -- one more item is cloned behind those that are

@@ -1,7 +1,7 @@
 use Rattle.std.proofs.Common.{ap, arith, replicate, sym, ◌∙◌}
 use Rattle.std.proofs.lemmas.List.{get_or-replicate, length-replicate}
 use Rattle.thin_block.specs.Cost.{moving}
-use Rattle.thin_vec.proofs.CloneLemmas.{lays-more, moving-one}
+use Rattle.thin_vec.proofs.ClonesLemmas.{lays-more, moving-one}
 use Rattle.thin_vec.proofs.clones.put_repeated.Goals as goal
 
 -- one more clone is put behind those that are there

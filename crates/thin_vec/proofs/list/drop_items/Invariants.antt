@@ -1,7 +1,7 @@
 -- The slots before i are empty, and those from i on still hold items.
 use Rattle.std.proofs.Common.{◌≡◌, length}
 use Rattle.thin_block.specs.Slots.{items_in}
-use Rattle.thin_vec.proofs.EditLemmas.{emptying}
+use Rattle.thin_vec.proofs.EditsLemmas.{emptying}
 use Rattle.thin_vec.proofs.list.drop_items.Given as goal
 
 abbrev pub invariant-loop-i : goal.invariant-loop-i

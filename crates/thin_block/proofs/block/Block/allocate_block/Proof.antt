@@ -38,7 +38,7 @@ use Rattle.core.proofs.mem.Param.{El, R}
 use Rattle.thin_block.specs.Cost.{growing, no_cost}
 use Rattle.thin_block.specs.Capacity.{Fits, block_align, block_bytes}
 use Rattle.thin_block.specs.Ownership.{fits_block, parts, places, frame, whole as whole_block}
-use Rattle.thin_block.proofs.SizeFacts.{fits_tells, opened, rounded}
+use Rattle.thin_block.proofs.SizesLemmas.{fits_tells, opened, rounded}
 use Rattle.thin_block.proofs.Walks.{slot_at, then_runs, after, head, arm_body, says_all, refused_made}
 use Rattle.thin_block.proofs.HeaderMemory.{args, Br, any_some, block_val, block_made, whole_size, whole_align, carve, items}
 use Rattle.thin_block.proofs.SlotMemory.{of_raw}

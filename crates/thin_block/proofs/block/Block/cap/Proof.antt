@@ -23,7 +23,7 @@ use Rattle.core.proofs.slots.Lent.{pointer_in, pointer_out, word_in, word_out}
 use Rattle.thin_block.proofs.Walks.{slot_at, after, says_all}
 use Rattle.thin_block.proofs.HeaderMemory.{args}
 use Rattle.thin_block.proofs.Sharing.{block_seen}
-use Rattle.thin_block.proofs.SizeFacts.{closed}
+use Rattle.thin_block.proofs.SizesLemmas.{closed}
 use Rattle.thin_block.specs.contracts.block.Block.cap.{ended, clauses}
 use Rattle.thin_block.specs.contracts.block.Block.cap.Key.{name as #self}
 use Rattle.thin_block.proofs.block.Block.cap.Statement.{statement}

@@ -30,7 +30,7 @@ use Rattle.core.proofs.mem.Param.{El, R}
 use Rattle.thin_block.specs.Slots.{empty}
 use Rattle.thin_block.specs.Capacity.{block_align, block_bytes}
 use Rattle.thin_block.specs.Ownership.{places, whole as whole_block}
-use Rattle.thin_block.proofs.SizeFacts.{fits_tells, rounded}
+use Rattle.thin_block.proofs.SizesLemmas.{fits_tells, rounded}
 use Rattle.thin_block.proofs.Walks.{slot_at, then_runs, out_of_block, after}
 use Rattle.thin_block.proofs.HeaderMemory.{args, header, t, block_val, block_had, whole_size, whole_align, gather, items}
 use Rattle.thin_block.proofs.SlotMemory.{to_raw}

@@ -24,7 +24,7 @@ use Rattle.thin_block.proofs.Walks.{slot_at, after, says_all}
 use Rattle.thin_block.proofs.HeaderMemory.{args}
 use Rattle.thin_block.proofs.Sharing.{block_seen}
 use Rattle.thin_block.proofs.CapacityLemmas.{fits-less}
-use Rattle.thin_block.proofs.SizeFacts.{closed, fits_tells}
+use Rattle.thin_block.proofs.SizesLemmas.{closed, fits_tells}
 use Rattle.thin_block.specs.contracts.block.Block.len.{ended, clauses}
 use Rattle.thin_block.specs.contracts.block.Block.len.Key.{name as #self}
 use Rattle.thin_block.proofs.block.Block.len.Statement.{statement}

@@ -2,7 +2,7 @@ use Rattle.std.proofs.Common.{◌≡◌, ◌∙◌, arith}
 use Rattle.std.specs.Mem.{type_size}
 use Rattle.std.specs.Align.{type_align}
 use Rattle.thin_block.specs.Capacity.{fits}
-use Rattle.thin_block.proofs.SizeFacts.{tried, tried_first, tried_twice, told_not, doubling_some, doubling_none, doubling_past}
+use Rattle.thin_block.proofs.SizesLemmas.{tried, tried_first, tried_twice, told_not, doubling_some, doubling_none, doubling_past}
 use denote.Param.{param}
 use Rattle.thin_block.proofs.growth.DoublingGrowth.next_capacity.Goals as goal
 use Rattle.thin_block.proofs.growth.DoublingGrowth.next_capacity.Goals.{then-cap-eq0, else-cap-eq0}

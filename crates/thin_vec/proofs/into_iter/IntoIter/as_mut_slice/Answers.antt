@@ -1,7 +1,7 @@
 use Rattle.std.proofs.Common.{ap, refl, ◌∙◌}
 use Rattle.thin_block.specs.Lends.{with_items as block_with_items}
 use Rattle.thin_vec.specs.Lends.{with_items}
-use Rattle.thin_vec.proofs.WalkLemmas.{settle-written, view-written, walked-filled, walked-run}
+use Rattle.thin_vec.proofs.IntoIterLemmas.{settle-written, view-written, walked-filled, walked-run}
 use Rattle.thin_vec.proofs.into_iter.IntoIter.as_mut_slice.Goals as goal
 
 pub slice_mut-requires-clause-filled : goal.slice_mut-requires-clause-filled

@@ -1,5 +1,5 @@
 use Rattle.std.proofs.Common.{ap, ◌∙◌}
-use Rattle.thin_vec.proofs.WalkLemmas.{walked-filled, walked-run}
+use Rattle.thin_vec.proofs.IntoIterLemmas.{walked-filled, walked-run}
 use Rattle.thin_vec.proofs.into_iter.IntoIter.as_slice.Goals as goal
 
 pub slice-requires-clause-filled : goal.slice-requires-clause-filled

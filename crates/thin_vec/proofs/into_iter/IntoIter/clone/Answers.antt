@@ -1,7 +1,7 @@
 use Rattle.std.proofs.Common.{ap, arith, length}
 use denote.Param.{param}
 use Rattle.thin_block.proofs.CapacityLemmas.{fits-less}
-use Rattle.thin_vec.proofs.WalkLemmas.{walked-room}
+use Rattle.thin_vec.proofs.IntoIterLemmas.{walked-room}
 use Rattle.thin_vec.proofs.into_iter.IntoIter.clone.Goals as goal
 
 pub with_fitting_capacity-requires : goal.with_fitting_capacity-requires

@@ -1,5 +1,5 @@
 use Rattle.std.proofs.Common.{ap, arith, length}
-use Rattle.thin_vec.proofs.WalkLemmas.{walked-empty}
+use Rattle.thin_vec.proofs.IntoIterLemmas.{walked-empty}
 use Rattle.thin_vec.proofs.into_iter.IntoIter.release.Goals as goal
 
 pub release-requires-clause-empty : goal.release-requires-clause-empty

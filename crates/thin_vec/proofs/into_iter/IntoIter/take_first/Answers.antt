@@ -1,6 +1,6 @@
 use Rattle.std.proofs.Common.{◌+◌, ◌<◌, ◌∷◌, ap, sym, ◌∙◌, arith, drop, length}
 use Rattle.thin_block.specs.Slots.{items_in}
-use Rattle.thin_vec.proofs.WalkLemmas.{Walking, first-item, settle-first, walked-filled}
+use Rattle.thin_vec.proofs.IntoIterLemmas.{Walking, first-item, settle-first, walked-filled}
 use Rattle.thin_vec.proofs.into_iter.IntoIter.take_first.Goals as goal
 
 some : (g : _) (c : goal.After-take g) → c.self.inside.start < c.self.inside.end

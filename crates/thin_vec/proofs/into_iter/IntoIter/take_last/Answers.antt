@@ -1,7 +1,7 @@
 -- The last item that remains leaves its slot, and the walk ends one slot sooner.
 use Rattle.std.proofs.Common.{◌-◌, ◌<◌, ◌≤◌, ◌∷◌, ◌++◌, [], ap, sym, ◌∙◌, arith, length, take}
 use Rattle.thin_block.specs.Slots.{items_in}
-use Rattle.thin_vec.proofs.WalkLemmas.{Walking, last-item, settle-last, walked-filled}
+use Rattle.thin_vec.proofs.IntoIterLemmas.{Walking, last-item, settle-last, walked-filled}
 use Rattle.thin_vec.proofs.into_iter.IntoIter.take_last.Goals as goal
 
 -- an item remains

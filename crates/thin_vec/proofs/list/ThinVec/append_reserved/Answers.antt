@@ -1,6 +1,6 @@
 use Rattle.std.proofs.Common.{◌-◌, ◌++◌, ◌∙◌, ap, arith, drop, length, take}
 use Rattle.thin_block.specs.Slots.{items_in}
-use Rattle.thin_vec.proofs.JoinLemmas.{settle-cut, settle-joined}
+use Rattle.thin_vec.proofs.TwoListsLemmas.{settle-cut, settle-joined}
 use Rattle.thin_vec.proofs.ListLemmas.{Settled, thin-filled}
 use Rattle.thin_vec.proofs.list.ThinVec.append_reserved.Goals as goal
 

@@ -1,7 +1,7 @@
 use Rattle.std.proofs.Common.{ap, arith, refl, ◌∙◌}
 use Rattle.thin_block.specs.Lends.{with_items as block_with_items}
 use Rattle.thin_vec.specs.Lends.{with_items}
-use Rattle.thin_vec.proofs.LendLemmas.{settle-over, view-with_items}
+use Rattle.thin_vec.proofs.LendsLemmas.{settle-over, view-with_items}
 use Rattle.thin_vec.proofs.ListLemmas.{thin-filled, thin-run}
 use Rattle.thin_vec.proofs.list.ThinVec.as_mut_slice.Goals as goal
 

@@ -1,6 +1,6 @@
 use Rattle.std.proofs.Common.{◌++◌, ◌∙◌, ap, arith, length}
 use Rattle.thin_block.specs.Slots.{items_in}
-use Rattle.thin_vec.proofs.JoinLemmas.{settle-more}
+use Rattle.thin_vec.proofs.TwoListsLemmas.{settle-more}
 use Rattle.thin_vec.proofs.ListLemmas.{Settled}
 use Rattle.thin_vec.proofs.list.ThinVec.extend_from_copies_reserved.Goals as goal
 

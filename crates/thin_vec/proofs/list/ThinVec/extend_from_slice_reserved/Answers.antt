@@ -1,6 +1,6 @@
 use Rattle.std.proofs.Common.{◌++◌, ap, take_all, ◌∙◌}
 use Rattle.std.proofs.lemmas.List.Elements.{same_from_all_zip}
-use Rattle.thin_vec.proofs.CloneLemmas.{not-all}
+use Rattle.thin_vec.proofs.ClonesLemmas.{not-all}
 use Rattle.thin_vec.proofs.list.ThinVec.extend_from_slice_reserved.Goals as goal
 
 pub returns-then-push_clones_reserved-items-clause-succeeds : goal.returns-then-push_clones_reserved-items-clause-succeeds

@@ -2,8 +2,8 @@ use Rattle.std.proofs.Common.{◌++◌, ◌-◌, ◌+◌, ◌<◌, ◌≡◌, �
 use Rattle.std.specs.Iterator.{size}
 use Rattle.thin_block.specs.Cost.{moving}
 use Rattle.thin_block.specs.Slots.{items_in}
-use Rattle.thin_vec.proofs.FillLemmas.{on-some}
-use Rattle.thin_vec.proofs.JoinLemmas.{settle-more}
+use Rattle.thin_vec.proofs.ExtendLemmas.{on-some}
+use Rattle.thin_vec.proofs.TwoListsLemmas.{settle-more}
 use Rattle.thin_vec.proofs.ListLemmas.{Settled, thin-room}
 use Rattle.thin_vec.proofs.list.ThinVec.extend_reserved.Goals as goal
 

@@ -1,4 +1,4 @@
-use Rattle.thin_vec.proofs.WalkLemmas.{rest_in_order, rest_in_reverse}
+use Rattle.thin_vec.proofs.IntoIterLemmas.{rest_in_order, rest_in_reverse}
 use Rattle.thin_vec.proofs.list.ThinVec.into_iter.Goals as goal
 
 pub returns-clause-runs : goal.returns-clause-runs

@@ -1,7 +1,7 @@
 use Rattle.std.proofs.Common.{◌++◌, ap, arith, length, ◌∙◌}
 use Rattle.thin_block.specs.Slots.{items_in}
-use Rattle.thin_vec.proofs.CloneLemmas.{length-copies}
-use Rattle.thin_vec.proofs.JoinLemmas.{settle-more}
+use Rattle.thin_vec.proofs.ClonesLemmas.{length-copies}
+use Rattle.thin_vec.proofs.TwoListsLemmas.{settle-more}
 use Rattle.thin_vec.proofs.ListLemmas.{Settled}
 use Rattle.thin_vec.proofs.list.ThinVec.push_clones_reserved.Goals as goal
 

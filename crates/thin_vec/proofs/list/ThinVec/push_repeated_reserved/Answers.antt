@@ -1,8 +1,8 @@
 use Rattle.std.proofs.Common.{◌≡◌, ◌++◌, ap, arith, length, replicate, ◌∙◌}
 use Rattle.std.proofs.lemmas.List.{length-replicate}
 use Rattle.thin_block.specs.Slots.{items_in}
-use Rattle.thin_vec.proofs.CloneLemmas.{all-repeated, length-copies}
-use Rattle.thin_vec.proofs.JoinLemmas.{settle-more}
+use Rattle.thin_vec.proofs.ClonesLemmas.{all-repeated, length-copies}
+use Rattle.thin_vec.proofs.TwoListsLemmas.{settle-more}
 use Rattle.thin_vec.proofs.ListLemmas.{Settled}
 use Rattle.thin_vec.proofs.list.ThinVec.push_repeated_reserved.Goals as goal
 

@@ -1,5 +1,5 @@
 use Rattle.std.proofs.Common.{arith}
-use Rattle.thin_vec.proofs.CloneLemmas.{equal-repeated}
+use Rattle.thin_vec.proofs.ClonesLemmas.{equal-repeated}
 use Rattle.thin_vec.proofs.list.ThinVec.resize_reserved.Goals as goal
 
 pub returns-clause-items_if_clones_equal : goal.returns-clause-items_if_clones_equal

@@ -1,6 +1,6 @@
 use Rattle.std.proofs.Common.{sym, ap, ◌∙◌, length}
 use Rattle.thin_block.specs.Slots.{items_in}
-use Rattle.thin_vec.proofs.EditLemmas.{settle-shrink}
+use Rattle.thin_vec.proofs.EditsLemmas.{settle-shrink}
 use Rattle.thin_vec.proofs.ListLemmas.{Settled}
 use Rattle.thin_vec.proofs.list.ThinVec.shrink_to.Goals as goal
 use Rattle.thin_vec.proofs.list.ThinVec.shrink_to.Goals.{In_ok-shrink}

@@ -2,7 +2,7 @@
 use Rattle.std.proofs.Common.{◌≡◌, ◌≤◌, sym, ap, ◌∙◌, length, take, arith, None}
 use lib.ListN.{set}
 use Rattle.thin_block.specs.Slots.{front}
-use Rattle.thin_vec.proofs.EditLemmas.{emptying, emptying-none, emptying-filled, emptying-take, settle-truncate}
+use Rattle.thin_vec.proofs.EditsLemmas.{emptying, emptying-none, emptying-filled, emptying-take, settle-truncate}
 use Rattle.thin_vec.proofs.ListLemmas.{Settled, thin-room}
 use Rattle.thin_vec.proofs.list.ThinVec.truncate.Goals as goal
 

@@ -1,5 +1,5 @@
 use Rattle.std.proofs.Common.{[]}
-use Rattle.thin_vec.proofs.EditLemmas.{settle-new}
+use Rattle.thin_vec.proofs.EditsLemmas.{settle-new}
 use Rattle.thin_vec.proofs.ListLemmas.{Settled}
 use Rattle.thin_vec.proofs.list.ThinVec.with_fitting_capacity.Goals as goal
 use Rattle.thin_vec.proofs.list.ThinVec.with_fitting_capacity.Goals.{In_ok-block}

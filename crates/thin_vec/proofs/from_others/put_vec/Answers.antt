@@ -1,0 +1,29 @@
+use Rattle.std.proofs.Common.{◌∙◌, ap, arith, length, length-append, refl, subst, sym}
+use Rattle.std.proofs.lemmas.List.{length_push}
+use Rattle.thin_vec.proofs.FromOthersLemmas.{IsMoving, moving-first, moving-more, moving-next, moving-none}
+use Rattle.thin_vec.proofs.from_others.put_vec.Goals as goal
+
+pub loop-item-init : goal.loop-item-init
+loop-item-init g c = record {
+  slots = moving-first c.args.items.now.items c.args.block.now.slots c.requires.empty c.requires.room;
+  len = refl;
+  alloc = refl;
+  cost = moving-none (length c.args.items.now.items) c.args.block.now.cost;
+}
+
+pub loop-item-preserved : goal.loop-item-preserved
+loop-item-preserved g c =
+    let xs = c.args.items.now.items in
+    let left = c.pop.new.self.items in
+    let was = c.loop-item.invariant in
+    let cap = length c.args.block.now.slots in
+    let before = subst (λ l. IsMoving xs l cap c.loop-item.block.slots) c.in-Some.ensures.items was.slots in
+    record {
+      slots = subst (λ s. IsMoving xs left cap s) (sym c.put.ensures.slots)
+          (moving-next xs left cap c.len.result c.in-Some.item c.loop-item.block.slots before (c.len.ensures ∙ c.pop.new.self.ok.0));
+      len = c.put.ensures.len ∙ was.len;
+      alloc = c.put.ensures.alloc ∙ was.alloc;
+      cost = moving-more (length xs) c.args.block.now.cost (length left) (length c.loop-item.items.items) c.loop-item.block.cost c.put.new.self.cost
+          (ap length c.in-Some.ensures.items ∙ length_push left c.in-Some.item)
+          (omega (arith, ap length was.slots.parts, length-append c.loop-item.items.items was.slots.rest)) was.cost c.put.ensures.cost;
+    }

@@ -1,0 +1,6 @@
+use Rattle.std.proofs.Common.{◌≡◌, min}
+use Rattle.std.specs.List.{fold}
+use Rattle.thin_vec_tests.proofs.into_iter.least.Given as goal
+
+abbrev pub invariant-loop-item : goal.invariant-loop-item
+invariant-loop-item l = l.least ≡ fold min l.start l.yielded

@@ -1,6 +1,0 @@
-use Rattle.std.proofs.Common.{◌≡◌, min}
-use Rattle.std.specs.List.{fold}
-use Rattle.thin_vec_tests.proofs.owned_walks.least.Given as goal
-
-abbrev pub invariant-loop-item : goal.invariant-loop-item
-invariant-loop-item l = l.least ≡ fold min l.start l.yielded
