@@ -138,23 +138,9 @@ impl<T: Clone, A: Allocator, G: Growth> ThinVec<T, A, G> {
         ensures cost { IfOk result (λ list. list.cost ≡ moving (length self.now.items) (cost_new (length self.now.items))) }
         ensures cheap { IfOk result (λ list. IsCheap list) }
     {
-        ThinVec::with_fitting_capacity(alloc, self.len())?.with_clones(self.as_slice())
-    }
-
-    // This list with clones of `items` behind its own. It is dropped where one is refused.
-    pub(crate) fn with_clones(mut self, items: &[T]) -> Result<ThinVec<T, A, G>, ThinVecError>
-        requires room { length self.items + length items.now ≤ self.capacity }
-        ensures succeeds { All T.is_infallible items.now → IsOk result }
-        ensures cause { IfErr result (λ cause. cause ≡ ThinVecError.OutOfMemory) }
-        ensures items { IfOk result (λ list. AppendsClones T.is_clone self.items list.items items.now) }
-        ensures items_if_clones_equal { IfOk result (λ list. ClonesEqual T.is_clone → list.items ≡ self.items ++ items.now) }
-        ensures capacity { IfOk result (λ list. list.capacity ≡ self.capacity) }
-        ensures alloc { IfOk result (λ list. list.alloc ≡ self.alloc) }
-        ensures cost { IfOk result (λ list. list.cost ≡ moving (length items.now) self.cost) }
-        ensures cheap { IsCheap self → IfOk result (λ list. IsCheap list) }
-    {
-        self.extend_from_slice_reserved(items)?;
-        Ok(self)
+        let mut list = ThinVec::with_fitting_capacity(alloc, self.len())?;
+        list.extend_from_slice_reserved(self.as_slice())?;
+        Ok(list)
     }
 
     // Clones of `items` go into the spare room. Where one is refused, those made before it are dropped.

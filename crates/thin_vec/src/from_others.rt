@@ -65,7 +65,10 @@ impl<T, A: Allocator> ThinVec<T, A> {
         ensures value_returned { IfErr result (λ refused. refused.value ≡ items) }
     {
         match ThinVec::with_capacity(alloc, items.len()) {
-            Ok(list) => Ok(list.with_moved(items)),
+            Ok(mut list) => {
+                list.extend_from_vec_reserved(items);
+                Ok(list)
+            }
             Err(cause) => Err(Rejected {
                 value: items,
                 cause,
@@ -91,7 +94,10 @@ impl<T, A: Allocator> ThinVec<T, A> {
         ensures value_returned { IfErr result (λ refused. refused.value ≡ items) }
     {
         match ThinVec::with_capacity(alloc, items.len()) {
-            Ok(list) => Ok(list.with_moved(items.into_vec())),
+            Ok(mut list) => {
+                list.extend_from_vec_reserved(items.into_vec());
+                Ok(list)
+            }
             Err(cause) => Err(Rejected {
                 value: items,
                 cause,
@@ -99,20 +105,19 @@ impl<T, A: Allocator> ThinVec<T, A> {
         }
     }
 
-    // The list with the items of `items`. It held none, and has room for them.
-    fn with_moved<B: Allocator>(mut self, mut items: Vec<T, B>) -> ThinVec<T, A>
-        requires empty { self.items ≡ [] }
-        requires room { length items.items ≤ self.capacity }
-        ensures items { result.items ≡ items.items }
-        ensures capacity { result.capacity ≡ self.capacity }
-        ensures alloc { result.alloc ≡ self.alloc }
-        ensures cost { result.cost ≡ moving (length items.items) self.cost }
+    // The items of `items` go into the room of a list that holds none.
+    fn extend_from_vec_reserved<B: Allocator>(&mut self, mut items: Vec<T, B>)
+        requires empty { self.old.items ≡ [] }
+        requires room { length items.items ≤ self.old.capacity }
+        ensures items { self.new.items ≡ items.items }
+        ensures capacity { self.new.capacity ≡ self.old.capacity }
+        ensures alloc { self.new.alloc ≡ self.old.alloc }
+        ensures cost { self.new.cost ≡ moving (length items.items) self.old.cost }
     {
         let len = items.len();
         put_vec(&mut self.block, &mut items);
         self.block.set_len(len);
         items.destroy_empty();
-        self
     }
 }
 
@@ -147,7 +152,9 @@ impl<T: Clone, A: Allocator> ThinVec<T, A> {
         ensures cost { IfOk result (λ list. list.cost ≡ moving (length items.now) (cost_new (length items.now))) }
         ensures cheap { IfOk result (λ list. IsCheap list) }
     {
-        ThinVec::with_capacity(alloc, items.len())?.with_clones(items)
+        let mut list = ThinVec::with_capacity(alloc, items.len())?;
+        list.extend_from_slice_reserved(items)?;
+        Ok(list)
     }
 }
 

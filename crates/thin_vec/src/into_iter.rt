@@ -193,8 +193,9 @@ impl<T: Clone, A: Allocator, G: Growth> IntoIter<T, A, G> {
     {
         // Their number fits, as the capacity does.
         let _room = self.block.cap();
-        let list = ThinVec::with_fitting_capacity(alloc, self.len())?;
-        Ok(list.with_clones(self.as_slice())?.into_iter())
+        let mut list = ThinVec::with_fitting_capacity(alloc, self.len())?;
+        list.extend_from_slice_reserved(self.as_slice())?;
+        Ok(list.into_iter())
     }
 }
 

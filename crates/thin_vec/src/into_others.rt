@@ -55,10 +55,7 @@ impl<T, A: Allocator, G: Growth> ThinVec<T, A, G> {
         ensures len { IfOk result (λ boxed. boxed_slice_len boxed ≡ length self.items) }
         ensures value_returned { IfErr result (λ refused. refused.value ≡ self) }
     {
-        match self.into_vec(alloc) {
-            Ok(vec) => Ok(vec.into_boxed_slice()),
-            Err(refused) => Err(refused),
-        }
+        Ok(self.into_vec(alloc)?.into_boxed_slice())
     }
 
     /// The items, in order, as an array, where there are N of them. The list's block is given back.

@@ -65,13 +65,9 @@ impl<T, A: Allocator, G: Growth> ThinVec<T, A, G> {
         ensures other_alloc { IfOk result (λ tail. tail.alloc ≡ alloc) }
         ensures other_cheap { IfOk result (λ tail. IsCheap tail) }
     {
-        match ThinVec::with_fitting_capacity(alloc, self.len() - at) {
-            Ok(mut tail) => {
-                tail.append_reserved(self, at);
-                Ok(tail)
-            }
-            Err(cause) => Err(cause),
-        }
+        let mut tail = ThinVec::with_fitting_capacity(alloc, self.len() - at)?;
+        tail.append_reserved(self, at);
+        Ok(tail)
     }
 
     // Moves the items of `other` from `start` on behind those of this list, into spare room, as one run.

@@ -1,6 +1,6 @@
 use Rattle.std.proofs.Common.{◌∙◌, ap, arith, length}
 use Rattle.thin_vec.proofs.ListLemmas.{Settled, from-same, settled}
-use Rattle.thin_vec.proofs.from_others.ThinVec+T+A.with_moved.Goals as goal
+use Rattle.thin_vec.proofs.from_others.ThinVec+T+A.extend_from_vec_reserved.Goals as goal
 
 facts : (g : _) (c : goal.After-destroy_empty g) → Settled c.set_len.new.self c.self.inside.alloc c.args.items.items (length c.self.inside.block.slots)
 facts g c =
