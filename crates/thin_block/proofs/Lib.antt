@@ -8,3 +8,4 @@ mod Sharing
 mod Lending
 pub mod CapacityLemmas
 pub mod SlotsLemmas
+pub mod Outcomes

@@ -1,5 +1,5 @@
 -- What the words of `specs/Slots.antt` give.
-use Rattle.std.proofs.Common.{Result, Ok, Err, ◌⊎◌, ◌≡◌, ℕ, zero, suc, ◌+◌, ◌-◌, ◌<◌, ◌≤◌, List, [], ◌∷◌, ◌++◌, length, Some, None, refl, sym, ap, subst, ◌∙◌, arith, append_assoc}
+use Rattle.std.proofs.Common.{◌⊎◌, ◌≡◌, ℕ, zero, suc, ◌+◌, ◌-◌, ◌<◌, ◌≤◌, List, [], ◌∷◌, ◌++◌, length, Some, None, refl, sym, ap, subst, ◌∙◌, arith, append_assoc}
 use Rattle.std.proofs.lemmas.List.{take-append-drop, drop-drop, set_at, get_or-append_right, get_or-drop, map-append, length-replicate, length-map, length-append, length-take, length-drop, take_at, drop_at, drop-replicate, replicate-append-replicate}
 use mathlib.Core.Logic.{inl, inr, ⊎_elim}
 use lib.ListN.{set, get_or}
@@ -7,14 +7,9 @@ use lib.Seq.{set-set, drop-cons, take-add}
 use Rattle.std.proofs.lemmas.Grind.{take_at_read}
 use Rattle.core.proofs.str.Laws.{order}
 use borrow.Author.Tests.{clash}
-use Rattle.std.specs.Prelude.{OnOk, Option, IsSome, take, drop, replicate}
+use Rattle.std.specs.Prelude.{Option, IsSome, take, drop, replicate}
 use Rattle.thin_block.specs.Lends.{over}
 use Rattle.thin_block.specs.Slots.{full, empty, slot, items_in, IsPacked, run, laid, emptied, moved}
-
--- a fact of `Ok` gives another
-pub on-ok : {T E P Q : Type 0} (r : Result T E) → (P → Q) → OnOk r P → OnOk r Q
-on-ok (Ok x) h p = h p
-on-ok (Err e) h p = p
 
 -- two slots are the same or not
 pub same_or_not : (i j : ℕ) → (i ≡ j) ⊎ (i ≡ j → ⊥)

@@ -4,7 +4,7 @@ use Rattle.std.proofs.lemmas.List.{length-take-le, map_push, replicate-append-re
 use Rattle.std.proofs.lemmas.List.Elements.{All-from_recursion, all_zip_more, length_all_zip, recursion_from_All}
 use Rattle.std.specs.List.{AllByRecursion, AllZip}
 use Rattle.std.specs.Borrow.{RattleType}
-use Rattle.std.specs.Prelude.{All, Err, HoldsAt, Ok, OnErr, Result, replicate}
+use Rattle.std.specs.Prelude.{All, HoldsAt, replicate}
 use lib.ListN.{set}
 use Rattle.thin_block.specs.Cost.{Cost, moving}
 use Rattle.thin_block.specs.Growth.{Rule, ruled_capacity}
@@ -56,11 +56,6 @@ equal-repeated {T} clones x n m xs ys zs equal repeats last one =
     each : (ys : List T) → AllByRecursion (clones x) ys → ys ≡ replicate (length ys) x
     each [] e = refl
     each (y ∷ ys) e = λ i. equal y e.0 i ∷ each ys e.1 i
-
--- what follows where a call was refused
-pub on-err : {X E P Q : Type 0} (r : Result X E) → (P → Q) → OnErr r P → OnErr r Q
-on-err (Ok x) f p = tt
-on-err (Err e) f p = f p
 
 -- the capacity at which a new list gets the length k
 pub capacity-new : {T A : Type 0} (rule : Rule) (R : RattleType) (v : Thin T A) (a : A) (k : ℕ) → IsNew v a → capacity_for rule R v (k - length v.items) ≡ ruled_capacity rule R 0 k

@@ -1,18 +1,102 @@
--- What a block holds while items leave it, and once they have left.
-use Rattle.std.proofs.Common.{◌≡◌, ◌≢◌, ℕ, zero, suc, ◌+◌, ◌-◌, ◌<◌, ◌≤◌, List, [], ◌∷◌, ◌++◌, length, take, drop, Option, Some, None, refl, sym, ap, ◌∙◌, subst, arith, get_or, length-append, append_assoc}
+-- What a block holds while items leave it or move along it, and afterwards.
+use Rattle.thin_vec.proofs.CapacityLemmas.{front-none}
+use Rattle.std.proofs.Common.{◌≡◌, ◌≢◌, ℕ, zero, suc, ◌+◌, ◌-◌, ◌<◌, ◌≤◌, List, [], ◌∷◌, ◌++◌, length, take, drop, Option, Some, None, refl, sym, ap, ◌∙◌, subst, arith, get_or, length-append, append_assoc, add-one}
 use Rattle.std.proofs.Math.Seq.{take-append_seam}
-use Rattle.std.proofs.lemmas.List.{append-nil, get_or-set_other, set_comm, set-append_left, length-replicate, length-take-le, length_push, take-append-drop, replicate-append-replicate, set_at, get_or_at, map-append}
-use Rattle.std.specs.Prelude.{IsSome, slice_get}
+use Rattle.std.proofs.lemmas.List.{get_or-set_other, set_comm, set-append_left, length-replicate, length-take-le, length_push, take-append-drop, replicate-append-replicate, set_at, get_or_at, map-append, length-take, length-drop}
+use Rattle.std.specs.Prelude.{IsSome, slice_get, insert, remove}
 use Rattle.std.specs.List.{swap_remove}
-use lib.ListN.{set, length-set}
+use lib.ListN.{set, length-set, replicate}
 use Rattle.thin_block.specs.Block.{IsFrom}
-use Rattle.thin_block.specs.Slots.{full, empty, slot, items_in, front}
+use Rattle.thin_block.specs.Slots.{full, empty, slot, items_in, front, moved}
 use Rattle.thin_block.specs.declared.block.Block.{Block}
 use Rattle.thin_vec.specs.ThinVec.{IsThin}
-use Rattle.thin_vec.proofs.ListLemmas.{Settled, settled, from-same, front-pop, last-item, length-full, settle-pop, thin-filled, thin-room}
-use Rattle.thin_block.proofs.SlotsLemmas.{same_or_not, the_item}
+use Rattle.thin_vec.proofs.ListLemmas.{Settled, settled, from-same, front-pop, last-item, length-full, settle-pop, thin-filled, thin-room, full-take}
+use Rattle.thin_block.proofs.SlotsLemmas.{same_or_not, the_item, moved_left, moved_right}
 use lib.Seq.{set-set, take-set-le}
 use mathlib.Core.Logic.{⊎_elim}
+
+module _ {T : Type 0} where
+  -- an insertion makes a list one longer
+  pub length-insert : (xs : List T) (i : ℕ) (v : T) → i ≤ length xs → length (insert xs i v) ≡ length xs + 1
+  length-insert xs i v h = omega (arith, length-append (take i xs) (v ∷ drop i xs), length-take i xs, length-drop i xs, add-one (length (drop i xs)))
+
+-- ---- a run moves by one place
+
+module _ {T : Type 0} where
+  pub length-remove : (xs : List T) (i : ℕ) → i < length xs → length (remove xs i) + 1 ≡ length xs
+  length-remove xs i h = omega (arith, length-append (take i xs) (drop (suc i) xs), length-take i xs, length-drop (suc i) xs)
+
+  -- one item is taken, and those behind it close the gap
+  pub front-remove : (xs : List T) (c i j k : ℕ) → i < length xs → length xs ≤ c → j ≡ i + 1 → k ≡ length xs - j → moved j i k (set (front xs c) i None) ≡ front (remove xs i) c
+  front-remove [] c i j k h l e n = absurd (omega arith)
+  front-remove (x ∷ ws) c i j k h l e n =
+      let xs : List T = x ∷ ws in
+      let a : List T = take i xs in let b : List T = drop (suc i) xs in let r : List (Option T) = replicate (c - length xs) None in
+      let p : i ≡ length (full a) = omega (arith, length-full a, length-take i xs) in
+      let q : k ≡ length (full b) = omega (arith, length-full b, length-drop (suc i) xs) in
+      let m : 1 + (c - length xs) ≡ c - length (remove xs i) = omega (arith, length-remove xs i h) in
+      ap (λ (s : List (Option T)). moved j i k s) (full-take xs r i x h)
+      ∙ (moved_left j i k 1 (full a) (full b) r p e q
+      ∙ (sym (append_assoc (full a) (full b) (None ∷ r))
+      ∙ (ap (λ (s : List (Option T)). s ++ (None ∷ r)) (sym (map-append (λ (y : T). Some y) a b)) ∙ ap (λ (s : List (Option T)). full (remove xs i) ++ s) (replicate-append-replicate 1 (c - length xs) None ∙ ap (λ (z : ℕ). replicate z None) m))))
+
+  -- the items from i on make room for one
+  pub front-insert : (xs : List T) (c i j k : ℕ) (v : T) → i ≤ length xs → length xs < c → j ≡ i + 1 → k ≡ length xs - i → set (moved i j k (front xs c)) i (Some v) ≡ front (insert xs i v) c
+  front-insert xs c i j k v h l e n =
+      let a : List T = take i xs in let b : List T = drop i xs in
+      let o : ℕ = c - length xs - 1 in let r : List (Option T) = replicate o None in
+      let p : i ≡ length (full a) = omega (arith, length-full a, length-take i xs) in
+      let q : k ≡ length (full b) = omega (arith, length-full b, length-drop i xs) in
+      let w : c - length xs ≡ suc o = omega arith in
+      let u : length (insert xs i v) ≡ length xs + 1 = omega (arith, length-append a (v ∷ b), length-take i xs, length-drop i xs, add-one (length b)) in
+      let m : o ≡ c - length (insert xs i v) = omega arith in
+      let s : front xs c ≡ full a ++ (full b ++ (None ∷ r)) =
+      ap (λ (ys : List T). full ys ++ replicate (c - length xs) None) (sym (take-append-drop i xs))
+      ∙ (ap (λ (ys : List (Option T)). ys ++ replicate (c - length xs) None) (map-append (λ (y : T). Some y) a b)
+      ∙ (append_assoc (full a) (full b) (replicate (c - length xs) None) ∙ ap (λ (z : ℕ). full a ++ (full b ++ replicate z None)) w)) in
+      ap (λ (ys : List (Option T)). set (moved i j k ys) i (Some v)) s
+      ∙ (ap (λ (ys : List (Option T)). set ys i (Some v)) (moved_right i j k 1 (full a) (full b) r p e q)
+      ∙ (set_at (full a) None (full b ++ r) (Some v) i (sym p)
+      ∙ (sym (append_assoc (full a) (full (v ∷ b)) r)
+      ∙ (ap (λ (ys : List (Option T)). ys ++ r) (sym (map-append (λ (y : T). Some y) a (v ∷ b))) ∙ ap (λ (z : ℕ). full (insert xs i v) ++ replicate z None) m))))
+
+  front-gap : (xs : List T) (c i j k : ℕ) → i ≤ length xs → length xs < c → j ≡ i + 1 → k ≡ length xs - i → slot (moved i j k (front xs c)) i ≡ None
+  front-gap xs c i j k h l e n =
+      let a : List T = take i xs in let b : List T = drop i xs in
+      let o : ℕ = c - length xs - 1 in let r : List (Option T) = replicate o None in
+      let p : i ≡ length (full a) = omega (arith, length-full a, length-take i xs) in
+      let q : k ≡ length (full b) = omega (arith, length-full b, length-drop i xs) in
+      let w : c - length xs ≡ suc o = omega arith in
+      let s : front xs c ≡ full a ++ (full b ++ (None ∷ r)) =
+      ap (λ (ys : List T). full ys ++ replicate (c - length xs) None) (sym (take-append-drop i xs))
+      ∙ (ap (λ (ys : List (Option T)). ys ++ replicate (c - length xs) None) (map-append (λ (y : T). Some y) a b)
+      ∙ (append_assoc (full a) (full b) (replicate (c - length xs) None) ∙ ap (λ (z : ℕ). full a ++ (full b ++ replicate z None)) w)) in
+      ap (λ (ys : List (Option T)). slot (moved i j k ys) i) s
+      ∙ (ap (λ (ys : List (Option T)). slot ys i) (moved_right i j k 1 (full a) (full b) r p e q) ∙ get_or_at (full a) None (full b ++ r) None i (sym p))
+
+module _ {T A : Type 0} where
+  pub settle-remove : (b b' : Block T A) (a : A) (i j k : ℕ) (s : List (Option T)) → IsThin b a → i < length (items_in b.slots) → j ≡ i + 1 → k ≡ b.len - j
+      → s ≡ set b.slots i None → b'.slots ≡ moved j i k s → b'.len ≡ b.len - 1 → b'.alloc ≡ b.alloc → Settled b' a (remove (items_in b.slots) i) (length b.slots)
+  settle-remove b b' a i j k s t h e n x y l f =
+      let xs : List T = items_in b.slots in let c : ℕ = length b.slots in
+      settled b' a (remove xs i) c
+      (y ∙ (ap (λ (r : List (Option T)). moved j i k r) (x ∙ ap (λ (r : List (Option T)). set r i None) t.packed.row) ∙ front-remove xs c i j k h (thin-room b a t) e (omega (arith, t.packed.len))))
+      (omega (arith, l, t.packed.len, length-remove xs i h)) (omega (arith, thin-room b a t, length-remove xs i h)) (from-same b b' a t.from f)
+
+  pub settle-insert : (b b' : Block T A) (a : A) (i j k : ℕ) (v : T) (s : List (Option T)) → IsThin b a → i ≤ length (items_in b.slots) → b.len < length b.slots → j ≡ i + 1 → k ≡ b.len - i
+      → s ≡ moved i j k b.slots → b'.slots ≡ set s i (Some v) → b'.len ≡ b.len + 1 → b'.alloc ≡ b.alloc → Settled b' a (insert (items_in b.slots) i v) (length b.slots)
+  settle-insert b b' a i j k v s t h o e n x y l f =
+      let xs : List T = items_in b.slots in let c : ℕ = length b.slots in
+      settled b' a (insert xs i v) c
+      (y ∙ (ap (λ (r : List (Option T)). set r i (Some v)) (x ∙ ap (λ (r : List (Option T)). moved i j k r) t.packed.row) ∙ front-insert xs c i j k v h (omega (arith, t.packed.len)) e (omega (arith, t.packed.len))))
+      (omega (arith, l, t.packed.len, length-insert xs i v h)) (omega (arith, t.packed.len, length-insert xs i v h)) (from-same b b' a t.from f)
+
+  -- after a run has moved one place back, the slot that it left is empty
+  pub thin-gap : (b : Block T A) (a : A) (i j k : ℕ) (s : List (Option T)) → IsThin b a → i ≤ length (items_in b.slots) → b.len < length b.slots → j ≡ i + 1 → k ≡ b.len - i → s ≡ moved i j k b.slots → slot s i ≡ None
+  thin-gap b a i j k s t h o e n x =
+      ap (λ (r : List (Option T)). slot r i) (x ∙ ap (λ (r : List (Option T)). moved i j k r) t.packed.row) ∙ front-gap (items_in b.slots) (length b.slots) i j k h (omega (arith, t.packed.len)) e (omega (arith, t.packed.len))
+
+-- ---- items leave
 
 module _ {T : Type 0} where
   -- c slots that held xs, of which those from k up to i were emptied
@@ -118,32 +202,15 @@ module _ {T : Type 0} where
       at-end [] = refl
       at-end (z ∷ zs) = at-end zs
 
-  -- c empty slots are those of a list of no items
-  pub front-none : (c : ℕ) → empty {T = T} c ≡ front [] c
-  front-none c = let same : c ≡ c - 0 = omega arith in ap (λ (m : ℕ). empty m) same
-
 module _ {T A : Type 0} where
   pub settle-truncate : (b : Block T A) (a : A) (xs : List T) (k c : ℕ) → k ≤ length xs → length xs ≤ c → b.slots ≡ emptying xs k (length xs) c → b.len ≡ k → IsFrom b a → Settled b a (take k xs) c
   settle-truncate b a xs k c order room s l f =
       let few : length (take k xs) ≡ k = length-take-le k xs order in
       settled b a (take k xs) c (s ∙ emptying-all xs k c order room) (l ∙ sym few) (omega (arith, few)) f
 
-  pub settle-new : (b : Block T A) (a : A) (c : ℕ) → b.slots ≡ empty c → b.len ≡ 0 → b.alloc ≡ Some a → Settled b a [] c
-  settle-new b a c s l f = settled b a [] c (s ∙ front-none c) l (omega arith) (λ x e. cc)
-
   -- once all items are out
   pub settle-emptied : (b b' : Block T A) (a : A) → IsFrom b a → b'.slots ≡ empty (length b.slots) → b'.len ≡ 0 → b'.alloc ≡ b.alloc → Settled b' a [] (length b.slots)
   settle-emptied b b' a from s l f = settled b' a [] (length b.slots) (s ∙ front-none (length b.slots)) l (omega arith) (from-same b b' a from f)
-
-  pub settle-shrink : (b b' : Block T A) (a : A) (k : ℕ) → IsThin b a → k ≡ length (items_in b.slots) → b'.slots ≡ take k b.slots → b'.len ≡ b.len → b'.alloc ≡ Some a → Settled b' a (items_in b.slots) k
-  settle-shrink b b' a k t all s l f =
-      let xs : List T = items_in b.slots in
-      let none : length xs - length xs ≡ 0 = omega arith in
-      let cut : take (length xs) (front xs (length b.slots)) ≡ front xs (length xs) =
-      ap (λ (m : ℕ). take m (front xs (length b.slots))) (sym (length-full xs)) ∙ (take-append_seam (full xs) (empty (length b.slots - length xs))
-      ∙ (sym (append-nil (full xs)) ∙ ap (λ (m : ℕ). full xs ++ empty m) (sym none))) in
-      settled b' a xs k (s ∙ (ap (λ (r : List (Option T)). take k r) t.packed.row ∙ (ap (λ (m : ℕ). take m (front xs (length b.slots))) all ∙ (cut ∙ ap (front xs) (sym all)))))
-      (l ∙ t.packed.len) (omega (arith, all)) (λ x e. cc)
 
   pub settle-swap_remove : (b b' : Block T A) (a : A) (i last : ℕ) (v m : T) (s₁ s₂ s₃ : List (Option T)) → IsThin b a → i < last → last + 1 ≡ b.len
       → slot b.slots i ≡ Some v → s₁ ≡ set b.slots i None → slot s₁ last ≡ Some m → s₂ ≡ set s₁ last None → s₃ ≡ set s₂ i (Some m) → b'.slots ≡ s₃ → b'.len ≡ last → b'.alloc ≡ b.alloc

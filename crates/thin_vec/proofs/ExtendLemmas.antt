@@ -1,5 +1,5 @@
 -- What calls of `next` gave, and what a block and a list are once it was placed.
-use Rattle.std.proofs.Common.{true, ◌≡◌, ℕ, ◌+◌, ◌-◌, ◌<◌, ◌≤◌, List, [], ◌∷◌, ◌++◌, inl, inr, length, Option, Some, None, refl, sym, ap, subst, ◌∙◌, arith}
+use Rattle.std.proofs.Common.{true, ◌≡◌, ℕ, ◌+◌, ◌-◌, ◌<◌, ◌≤◌, List, [], ◌∷◌, ◌++◌, inl, inr, length, Option, Some, refl, sym, ap, subst, ◌∙◌, arith}
 use Rattle.std.proofs.lemmas.Bool.{cases_lt}
 use Rattle.std.proofs.lemmas.List.{map-append}
 use Rattle.std.specs.Borrow.{RattleType}
@@ -8,7 +8,7 @@ use Rattle.std.specs.Iterator.{Drains, Yields}
 use Rattle.std.specs.Iterator.Runs.{WholeRun}
 use Rattle.std.specs.declared.result.Result.{Result}
 use Rattle.std.specs.declared.result.Result.TheVariants.{Ok, Err}
-use Rattle.std.specs.Prelude.{OnOk, OnSome}
+use Rattle.std.specs.Prelude.{OnOk}
 use lib.ListN.{set}
 use Rattle.thin_block.specs.Cost.{Cost, moving}
 use Rattle.thin_block.specs.Growth.{Rule, KeepsLaw}
@@ -41,15 +41,6 @@ module _ {S X : Type 0} (steps : S → Option X → S → Type 0) where
   pub run_of_ok : {E : Type 0} (s : S) (P : List X → Type 0) (r : Result (Unit {0}) E) → OnOk r ((xs : List X) × Drains steps s xs × P xs) → OnOk r (WholeRun steps s (λ p. P p.items))
   run_of_ok s P (Ok _) all = run_of s P all
   run_of_ok s P (Err _) all = tt
-
--- a fact of an item gives another
-pub on-some : {X P Q : Type 0} (o : Option X) → (P → Q) → OnSome o P → OnSome o Q
-on-some (Some x) h p = h p
-on-some None h p = p
-
--- and holds where the item is known
-pub at-some : {X P : Type 0} {o : Option X} {x : X} → o ≡ Some x → OnSome o P → P
-at-some {P = P} e p = subst (λ o. OnSome o P) e p
 
 module _ {T : Type 0} where
   -- one item more in a row

@@ -1,7 +1,6 @@
 -- What a block holds while the items of a `Vec` come in, from the last to the first.
 use Rattle.std.proofs.Common.{◌≡◌, ℕ, ◌+◌, ◌-◌, ◌<◌, ◌≤◌, List, [], ◌∷◌, ◌++◌, length, Option, Some, None, refl, sym, ap, ◌∙◌, append_assoc, arith, length-append}
 use Rattle.std.proofs.lemmas.List.{append-nil, get_or-replicate, get_or_append_left, length-replicate, length_push, replicate-append-replicate, set_at}
-use Rattle.std.specs.Prelude.{Err, Ok, Result}
 use lib.ListN.{set, length-set}
 use Rattle.thin_block.specs.Cost.{Cost, moving}
 use Rattle.thin_block.specs.Slots.{empty, front, full, slot}
@@ -70,11 +69,3 @@ module _ (n : ℕ) (c : Cost) where
   pub moving-more : (left more : ℕ) (d e : Cost) → more ≡ left + 1 → more ≤ n → d ≡ moving (n - more) c → e ≡ moving 1 d → e ≡ moving (n - left) c
   moving-more left more d e one low was now =
       now ∙ (ap (λ b. moving 1 b) was ∙ (moving-one (n - more) c ∙ ap (λ k. moving k c) (let f : n - more + 1 ≡ n - left = omega arith in f)))
-
--- no call both succeeds and is refused
-pub ok-err : {X E P : Type 0} (x : X) (e : E) → Ok x ≡ Err e → P
-ok-err x e h = cc
-
--- why it was refused
-pub err-same : {X E : Type 0} {d e : E} → (let r : Result X E = Err d in r) ≡ Err e → d ≡ e
-err-same h = cc

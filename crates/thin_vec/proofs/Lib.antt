@@ -1,9 +1,8 @@
 mod ListLemmas
-mod GrowthLemmas
+mod CapacityLemmas
 pub mod ThinVecLemmas
 mod EditsLemmas
 mod ClonesLemmas
-mod ShiftLemmas
 mod LendsLemmas
 mod TwoListsLemmas
 mod FromOthersLemmas

@@ -1,8 +1,8 @@
 -- What a block holds whose items all lie in front, after each step on it.
-use Rattle.std.proofs.Common.{◌≡◌, ◌≢◌, ℕ, zero, suc, ◌+◌, ◌-◌, ◌<◌, ◌≤◌, List, [], ◌∷◌, ◌++◌, length, take, drop, Option, Some, None, refl, sym, ap, ◌∙◌, arith, get_or, length-append, append_assoc, add-one}
-use Rattle.std.proofs.lemmas.List.{length-replicate, length-map, length-take, length-drop, take-append-drop, replicate-append-replicate, set_at, get_or_append_left, get_or-append_right, get_or-replicate, get_or-map, map_push, append-nil, length-take-le, drop_more, length_push, get_or-set_other}
+use Rattle.std.proofs.Common.{◌≡◌, ◌≢◌, ℕ, zero, suc, ◌+◌, ◌-◌, ◌<◌, ◌≤◌, List, [], ◌∷◌, ◌++◌, length, take, drop, Option, Some, None, refl, sym, ap, ◌∙◌, arith, get_or, length-append, append_assoc}
+use Rattle.std.proofs.lemmas.List.{length-replicate, length-map, take-append-drop, replicate-append-replicate, set_at, get_or_append_left, get_or-append_right, get_or-replicate, get_or-map, map_push, append-nil, length-take-le, drop_more, length_push, get_or-set_other}
 use Rattle.std.proofs.Math.Seq.{take-append_seam}
-use Rattle.std.specs.Prelude.{IsSome, insert, slice_get, slice_range}
+use Rattle.std.specs.Prelude.{IsSome, slice_get, slice_range}
 use lib.ListN.{set, replicate}
 use Rattle.thin_block.specs.Slots.{IsPacked, full, empty, slot, items_in, front}
 use Rattle.thin_block.specs.Block.{IsFrom}
@@ -94,9 +94,6 @@ module _ {T : Type 0} where
   get-some (x ∷ xs) zero h = refl
   get-some (x ∷ xs) (suc i) h = get-some xs i (omega arith)
 
-  pub length-insert : (xs : List T) (i : ℕ) (v : T) → i ≤ length xs → length (insert xs i v) ≡ length xs + 1
-  length-insert xs i v h = omega (arith, length-append (take i xs) (v ∷ drop i xs), length-take i xs, length-drop i xs, add-one (length (drop i xs)))
-
 module _ {T A : Type 0} where
   -- the block of a list of the items xs and the capacity c
   pub record Settled (b : Block T A) (a : A) (xs : List T) (c : ℕ) : Type 0 where
@@ -172,13 +169,6 @@ module _ {T A : Type 0} where
       (s ∙ (ap (λ (r : List (Option T)). set r j None) (t.packed.row ∙ ap (λ (r : List T). front r c) e) ∙ (ap (λ (q : ℕ). set (front (ys ++ v ∷ []) c) q None) (sym m) ∙ front-pop ys c v k)))
       (n ∙ sym m) (omega (arith, length_push ys v)) (from-same b b' a t.from f)
 
-  pub settle-grow : (b b' : Block T A) (a : A) (c : ℕ) → IsThin b a → length b.slots < c → b'.slots ≡ b.slots ++ replicate (c - length b.slots) None → b'.len ≡ b.len → b'.alloc ≡ Some a → Settled b' a (items_in b.slots) c
-  settle-grow b b' a c t h s n f =
-      let xs : List T = items_in b.slots in
-      settled b' a xs c
-      (s ∙ (ap (λ (r : List (Option T)). r ++ replicate (c - length b.slots) None) t.packed.row ∙ front-grow xs (length b.slots) c (thin-room b a t) (omega arith)))
-      (n ∙ t.packed.len) (omega (arith, thin-room b a t)) (λ x e. cc)
-
   thin-slot : (b : Block T A) (a : A) (i : ℕ) → IsThin b a → i < length (items_in b.slots) → slot b.slots i ≡ slice_get (items_in b.slots) i
   thin-slot b a i t h =
       ap (λ (r : List (Option T)). slot r i) t.packed.row ∙ slot-get (items_in b.slots) (replicate (length b.slots - length (items_in b.slots)) None) i h
@@ -213,6 +203,3 @@ module _ {T A : Type 0} where
   -- an item stays where another slot is emptied
   pub kept-filled : (b : Block T A) (a : A) (i j : ℕ) (s : List (Option T)) → IsThin b a → i < j → j < length (items_in b.slots) → s ≡ set b.slots i None → IsSome (slot s j)
   kept-filled b a i j s t n h e = let ne : j ≢ i = omega arith in rw (ap (λ (r : List (Option T)). slot r j) e ∙ get_or-set_other b.slots i j None None ne) (thin-filled b a j t h)
-
-pub none-some : {X : Type 0} {o : Option X} {x : X} → o ≡ None → o ≡ Some x → ⊥
-none-some e h = cc

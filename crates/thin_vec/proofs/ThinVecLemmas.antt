@@ -1,4 +1,5 @@
 -- What follows from the words of `specs/ThinVec.antt` and `specs/Costs.antt`, for callers.
+use Rattle.thin_block.proofs.Outcomes.{some-same}
 use Rattle.std.proofs.Common.{if◌then◌else◌, Bool, ◌≡◌, ℕ, zero, suc, ◌+◌, ◌*◌, ◌^◌, ◌<◌, ◌≤◌, true, false, Some, ap, arith, eqb, inl, inr, length, refl, sym, ◌∙◌}
 use Rattle.std.specs.Borrow.{RattleType}
 use Rattle.std.proofs.lemmas.Bool.{cases_lt}
@@ -9,9 +10,6 @@ use Rattle.thin_block.specs.Growth.{Rule, KeepsLaw}
 use Rattle.thin_block.proofs.CapacityLemmas.{ruled-same, ruled-grows}
 use Rattle.thin_vec.specs.Cheap.{IsCheap, IsCheapAt}
 use Rattle.thin_vec.specs.ThinVec.{Thin, capacity_for, cost_at}
-
-some-same : {X : Type 0} {x y : X} → Some x ≡ Some y → x ≡ y
-some-same e = cc
 
 -- what a list has cost once its capacity is c
 module _ {T A : Type 0} (v : Thin T A) (c : ℕ) where

@@ -1,5 +1,5 @@
 //! Lists of bytes: made from text, and written to.
-ghost use Rattle.std.specs.Prelude.{◌≡◌, ◌+◌, ◌≤◌, [], ◌++◌, IfErr, IfOk, IsErrAnd, IsErrOf, IsOk, None, OnErr, OnOk, Some, length};
+ghost use Rattle.std.specs.Prelude.{◌≡◌, ◌+◌, [], ◌++◌, IfErr, IfOk, IsErrAnd, IsErrOf, IsOk, None, OnErr, OnOk, Some, length};
 ghost use Rattle.std.specs.Borrow.{u8};
 ghost use Rattle.std.specs.IoError.{error_kind};
 ghost use Rattle.thin_block.specs.Cost.{moving};
@@ -13,7 +13,7 @@ use std::io::{ErrorKind, Write};
 use thin_block::{Growth, ThinVecError};
 
 impl<A: Allocator> ThinVec<u8, A> {
-    ghost use Rattle.thin_vec.specs.ThinVec.{cost_new};
+    ghost use Rattle.thin_vec.specs.ThinVec.{IsCause, cost_new};
 
     /// A list of the text's bytes, of capacity as many. No text takes no memory.
     ///
@@ -21,7 +21,7 @@ impl<A: Allocator> ThinVec<u8, A> {
     pub fn from_str(alloc: A, text: &str) -> Result<ThinVec<u8, A>, ThinVecError>
         ensures succeeds_empty { text.now ≡ [] → IsOk result }
         ensures overflow { exact_capacity u8 0 (length text.now) ≡ None → IsErrOf result ThinVecError.CapacityOverflow }
-        ensures cause { IfErr result (λ cause. cause ≡ ThinVecError.CapacityOverflow → exact_capacity u8 0 (length text.now) ≡ None) }
+        ensures cause { IfErr result (IsCause (exact_capacity u8 0 (length text.now))) }
         ensures items { IfOk result (λ list. list.items ≡ text.now) }
         ensures capacity { IfOk result (λ list. list.capacity ≡ length text.now) }
         ensures alloc { IfOk result (λ list. list.alloc ≡ alloc) }
@@ -38,26 +38,8 @@ impl<A: Allocator> ThinVec<u8, A> {
     }
 }
 
-impl<T: Copy, A: Allocator, G: Growth> ThinVec<T, A, G> {
-    // Copies `items` into the spare room, as one run.
-    pub(crate) fn extend_from_copies_reserved(&mut self, items: &[T])
-        requires room { length self.old.items + length items.now ≤ self.old.capacity }
-        ensures items { self.new.items ≡ self.old.items ++ items.now }
-        ensures capacity { self.new.capacity ≡ self.old.capacity }
-        ensures alloc { self.new.alloc ≡ self.old.alloc }
-        ensures cost { self.new.cost ≡ moving (length items.now) self.old.cost }
-    {
-        if items.is_empty() {
-            return;
-        }
-        let len = self.block.len();
-        self.block.copy_in(len, items);
-        self.block.store_len(len + items.len());
-    }
-}
-
 impl<A: Allocator, G: Growth> Write for ThinVec<u8, A, G> {
-    ghost use Rattle.thin_vec.specs.ThinVec.{capacity_for, cost_at};
+    ghost use Rattle.thin_vec.specs.ThinVec.{HasRoomFor, capacity_for, cost_at};
 
     ghost contents = { λ list. Some list.items };
 
@@ -66,14 +48,14 @@ impl<A: Allocator, G: Growth> Write for ThinVec<u8, A, G> {
     /// It is refused as `reserve` is, and then nothing changes. The error's kind is `OutOfMemory` also where the ruled
     /// capacity overflows.
     fn write(&mut self, buf: &[u8]) -> io::Result<usize>
-        ensures succeeds { length self.old.items + length buf.now ≤ self.old.capacity → IsOk result }
+        ensures succeeds { HasRoomFor self.old (length buf.now) → IsOk result }
         ensures succeeds_empty { buf.now ≡ [] → IsOk result }
         ensures overflow { capacity_for G.rule u8 self.old (length buf.now) ≡ None → IsErrAnd result (λ error. error_kind error ≡ ErrorKind.OutOfMemory) }
         ensures cause { IfErr result (λ error. error_kind error ≡ ErrorKind.OutOfMemory) }
         ensures value { IfOk result (λ count. count ≡ length buf.now) }
         ensures items { OnOk result (self.new.items ≡ self.old.items ++ buf.now) }
         ensures capacity { OnOk result (capacity_for G.rule u8 self.old (length buf.now) ≡ Some self.new.capacity) }
-        ensures had_room { length self.old.items + length buf.now ≤ self.old.capacity → self.new.capacity ≡ self.old.capacity }
+        ensures had_room { HasRoomFor self.old (length buf.now) → self.new.capacity ≡ self.old.capacity }
         ensures cost { OnOk result (self.new.cost ≡ moving (length buf.now) (cost_at self.old self.new.capacity)) }
         ensures alloc { self.new.alloc ≡ self.old.alloc }
         ensures cheap { IsCheap self.old → IsCheap self.new }
@@ -87,13 +69,13 @@ impl<A: Allocator, G: Growth> Write for ThinVec<u8, A, G> {
     ///
     /// It is refused as `write` is.
     fn write_all(&mut self, buf: &[u8]) -> io::Result<()>
-        ensures succeeds { length self.old.items + length buf.now ≤ self.old.capacity → IsOk result }
+        ensures succeeds { HasRoomFor self.old (length buf.now) → IsOk result }
         ensures succeeds_empty { buf.now ≡ [] → IsOk result }
         ensures overflow { capacity_for G.rule u8 self.old (length buf.now) ≡ None → IsErrAnd result (λ error. error_kind error ≡ ErrorKind.OutOfMemory) }
         ensures cause { IfErr result (λ error. error_kind error ≡ ErrorKind.OutOfMemory) }
         ensures items { OnOk result (self.new.items ≡ self.old.items ++ buf.now) }
         ensures capacity { OnOk result (capacity_for G.rule u8 self.old (length buf.now) ≡ Some self.new.capacity) }
-        ensures had_room { length self.old.items + length buf.now ≤ self.old.capacity → self.new.capacity ≡ self.old.capacity }
+        ensures had_room { HasRoomFor self.old (length buf.now) → self.new.capacity ≡ self.old.capacity }
         ensures cost { OnOk result (self.new.cost ≡ moving (length buf.now) (cost_at self.old self.new.capacity)) }
         ensures alloc { self.new.alloc ≡ self.old.alloc }
         ensures cheap { IsCheap self.old → IsCheap self.new }

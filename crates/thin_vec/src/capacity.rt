@@ -194,7 +194,7 @@ impl<T, A: Allocator, G: Growth> ThinVec<T, A, G> {
 }
 
 impl<T, A: Allocator> ThinVec<T, A> {
-    ghost use Rattle.thin_vec.specs.ThinVec.{cost_new};
+    ghost use Rattle.thin_vec.specs.ThinVec.{IsCause, cost_new};
     ghost use Rattle.thin_vec.specs.Cheap.{IsCheap};
 
     /// An empty list with room for exactly `capacity` items. At 0 it owns no block.
@@ -204,7 +204,7 @@ impl<T, A: Allocator> ThinVec<T, A> {
     pub fn with_capacity(alloc: A, capacity: usize) -> Result<ThinVec<T, A>, ThinVecError>
         ensures succeeds { capacity ≡ 0 → IsOk result }
         ensures overflow { exact_capacity T.row 0 capacity ≡ None → IsErrOf result ThinVecError.CapacityOverflow }
-        ensures cause { IfErr result (λ cause. cause ≡ ThinVecError.CapacityOverflow → exact_capacity T.row 0 capacity ≡ None) }
+        ensures cause { IfErr result (IsCause (exact_capacity T.row 0 capacity)) }
         ensures items { IfOk result (λ list. list.items ≡ []) }
         ensures capacity { IfOk result (λ list. list.capacity ≡ capacity) }
         ensures alloc { IfOk result (λ list. list.alloc ≡ alloc) }

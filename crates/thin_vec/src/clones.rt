@@ -1,29 +1,29 @@
 //! The calls that clone items. Each clones into spare room that it has made before, with no test an item.
-ghost use Rattle.std.specs.Prelude.{◌≡◌, ◌⊎◌, ℕ, ◌+◌, ◌-◌, ◌<◌, ◌≤◌, List, [], ◌∷◌, ◌++◌, All, HoldsAt, IfErr, IfOk, IsErrOf, IsOk, None, OnErr, OnOk, Some, length, replicate, take};
+ghost use Rattle.std.specs.Prelude.{◌≡◌, ◌⊎◌, ◌+◌, ◌-◌, ◌<◌, ◌≤◌, [], ◌++◌, All, HoldsAt, IfErr, IfOk, IsErrOf, IsOk, None, OnErr, OnOk, Some, length, replicate, take};
 ghost use Rattle.std.specs.List.{AllZip, AppendsClones};
 ghost use Rattle.thin_block.specs.Cost.{moving};
-ghost use Rattle.thin_block.specs.Slots.{slot};
-ghost use Rattle.thin_vec.specs.Clones.{AppendsRepeats, CloneEquals, ClonesEqual, IsCloneRefused, IsResized, LaysClones, StopsAtClone};
+ghost use Rattle.thin_vec.specs.Clones.{AppendsRepeats, CloneEquals, ClonesEqual, IsCloneRefused, IsResized, StopsAtClone};
 
 use crate::list::ThinVec;
-use std::alloc::Allocator;
-use thin_block::{Block, Growth, ThinVecError};
+use crate::placing::{put_clones, put_repeated};
+use std::alloc::{AllocError, Allocator};
+use thin_block::{Growth, ThinVecError};
 
 impl<T: Copy, A: Allocator, G: Growth> ThinVec<T, A, G> {
     ghost use Rattle.thin_vec.specs.Cheap.{IsCheap};
-    ghost use Rattle.thin_vec.specs.ThinVec.{capacity_for, cost_at, cost_new};
+    ghost use Rattle.thin_vec.specs.ThinVec.{HasRoomFor, IsCause, capacity_for, cost_at, cost_new};
 
     /// `extend_from_slice` of items that are copied: they come in as one run.
     ///
     /// It is refused as `reserve` is, and then nothing changes.
     pub fn extend_from_copies(&mut self, items: &[T]) -> Result<(), ThinVecError>
-        ensures succeeds { length self.old.items + length items.now ≤ self.old.capacity → IsOk result }
+        ensures succeeds { HasRoomFor self.old (length items.now) → IsOk result }
         ensures succeeds_empty { items.now ≡ [] → IsOk result }
         ensures overflow { capacity_for G.rule T.row self.old (length items.now) ≡ None → IsErrOf result ThinVecError.CapacityOverflow }
-        ensures cause { IfErr result (λ cause. cause ≡ ThinVecError.CapacityOverflow → capacity_for G.rule T.row self.old (length items.now) ≡ None) }
+        ensures cause { IfErr result (IsCause (capacity_for G.rule T.row self.old (length items.now))) }
         ensures items { OnOk result (self.new.items ≡ self.old.items ++ items.now) }
         ensures capacity { OnOk result (capacity_for G.rule T.row self.old (length items.now) ≡ Some self.new.capacity) }
-        ensures had_room { length self.old.items + length items.now ≤ self.old.capacity → self.new.capacity ≡ self.old.capacity }
+        ensures had_room { HasRoomFor self.old (length items.now) → self.new.capacity ≡ self.old.capacity }
         ensures cost { OnOk result (self.new.cost ≡ moving (length items.now) (cost_at self.old self.new.capacity)) }
         ensures alloc { self.new.alloc ≡ self.old.alloc }
         ensures cheap { IsCheap self.old → IsCheap self.new }
@@ -53,27 +53,43 @@ impl<T: Copy, A: Allocator, G: Growth> ThinVec<T, A, G> {
         list.extend_from_copies_reserved(self.as_slice());
         Ok(list)
     }
+
+    // Copies `items` into the spare room, as one run.
+    pub(crate) fn extend_from_copies_reserved(&mut self, items: &[T])
+        requires room { HasRoomFor self.old (length items.now) }
+        ensures items { self.new.items ≡ self.old.items ++ items.now }
+        ensures capacity { self.new.capacity ≡ self.old.capacity }
+        ensures alloc { self.new.alloc ≡ self.old.alloc }
+        ensures cost { self.new.cost ≡ moving (length items.now) self.old.cost }
+    {
+        if items.is_empty() {
+            return;
+        }
+        let len = self.block.len();
+        self.block.copy_in(len, items);
+        self.block.store_len(len + items.len());
+    }
 }
 
 impl<T: Clone, A: Allocator, G: Growth> ThinVec<T, A, G> {
     ghost use Rattle.thin_vec.specs.Cheap.{IsCheap};
-    ghost use Rattle.thin_vec.specs.ThinVec.{capacity_for, cost_at, cost_new};
+    ghost use Rattle.thin_vec.specs.ThinVec.{HasRoomFor, IsCause, capacity_for, cost_at, cost_new};
 
     /// Appends a clone of each of `items`, in order.
     ///
     /// It is refused as `reserve` is, and then nothing changes. It is refused as `OutOfMemory` also where a clone is:
     /// the clones made until then are dropped, the list has its old items, and the room that was made stays.
     pub fn extend_from_slice(&mut self, items: &[T]) -> Result<(), ThinVecError>
-        ensures succeeds { length self.old.items + length items.now ≤ self.old.capacity → All T.is_infallible items.now → IsOk result }
+        ensures succeeds { HasRoomFor self.old (length items.now) → All T.is_infallible items.now → IsOk result }
         ensures succeeds_empty { items.now ≡ [] → IsOk result }
         ensures overflow { capacity_for G.rule T.row self.old (length items.now) ≡ None → IsErrOf result ThinVecError.CapacityOverflow }
-        ensures cause { IfErr result (λ cause. cause ≡ ThinVecError.CapacityOverflow → capacity_for G.rule T.row self.old (length items.now) ≡ None) }
+        ensures cause { IfErr result (IsCause (capacity_for G.rule T.row self.old (length items.now))) }
 
         // The capacity is the ruled one.
         ensures items { OnOk result (AppendsClones T.is_clone self.old.items self.new.items items.now) }
         ensures items_if_clones_equal { OnOk result (ClonesEqual T.is_clone → self.new.items ≡ self.old.items ++ items.now) }
         ensures capacity { OnOk result (capacity_for G.rule T.row self.old (length items.now) ≡ Some self.new.capacity) }
-        ensures had_room { length self.old.items + length items.now ≤ self.old.capacity → self.new.capacity ≡ self.old.capacity }
+        ensures had_room { HasRoomFor self.old (length items.now) → self.new.capacity ≡ self.old.capacity }
         ensures cost { OnOk result (self.new.cost ≡ moving (length items.now) (cost_at self.old self.new.capacity)) }
         ensures alloc { self.new.alloc ≡ self.old.alloc }
         ensures cheap { IsCheap self.old → IsCheap self.new }
@@ -97,9 +113,9 @@ impl<T: Clone, A: Allocator, G: Growth> ThinVec<T, A, G> {
     pub fn resize(&mut self, len: usize, value: T) -> Result<(), ThinVecError>
         ensures succeeds { len ≤ self.old.capacity → T.is_infallible value → IsOk result }
         ensures succeeds_shorter { len ≤ length self.old.items → IsOk result }
-        ensures succeeds_by_one { len ≡ length self.old.items + 1 → length self.old.items < self.old.capacity → IsOk result }
+        ensures succeeds_by_one { len ≡ length self.old.items + 1 → HasRoomFor self.old 1 → IsOk result }
         ensures overflow { capacity_for G.rule T.row self.old (len - length self.old.items) ≡ None → IsErrOf result ThinVecError.CapacityOverflow }
-        ensures cause { IfErr result (λ cause. cause ≡ ThinVecError.CapacityOverflow → capacity_for G.rule T.row self.old (len - length self.old.items) ≡ None) }
+        ensures cause { IfErr result (IsCause (capacity_for G.rule T.row self.old (len - length self.old.items))) }
 
         // The capacity is the ruled one: the same where the list is not to be longer.
         ensures items { OnOk result (IsResized T.is_clone self.old.items len value self.new.items) }
@@ -145,7 +161,7 @@ impl<T: Clone, A: Allocator, G: Growth> ThinVec<T, A, G> {
 
     // Clones of `items` go into the spare room. Where one is refused, those made before it are dropped.
     pub(crate) fn extend_from_slice_reserved(&mut self, items: &[T]) -> Result<(), ThinVecError>
-        requires room { length self.old.items + length items.now ≤ self.old.capacity }
+        requires room { HasRoomFor self.old (length items.now) }
         ensures succeeds { All T.is_infallible items.now → IsOk result }
         ensures items { OnOk result (AppendsClones T.is_clone self.old.items self.new.items items.now) }
         ensures items_if_clones_equal { OnOk result (ClonesEqual T.is_clone → self.new.items ≡ self.old.items ++ items.now) }
@@ -168,7 +184,7 @@ impl<T: Clone, A: Allocator, G: Growth> ThinVec<T, A, G> {
     // those made before it are dropped, and `value` is.
     fn resize_reserved(&mut self, value: T, count: usize) -> Result<(), ThinVecError>
         requires some { 0 < count }
-        requires room { length self.old.items + count ≤ self.old.capacity }
+        requires room { HasRoomFor self.old count }
         ensures succeeds { T.is_infallible value → IsOk result }
         ensures succeeds_by_one { count ≡ 1 → IsOk result }
         ensures items { OnOk result (IsResized T.is_clone self.old.items (length self.old.items + count) value self.new.items) }
@@ -191,7 +207,7 @@ impl<T: Clone, A: Allocator, G: Growth> ThinVec<T, A, G> {
 
     // Clones of `items` go into the spare room, as many as it answers: it ends before a clone that is refused.
     fn push_clones_reserved(&mut self, items: &[T]) -> usize
-        requires room { length self.old.items + length items.now ≤ self.old.capacity }
+        requires room { HasRoomFor self.old (length items.now) }
         ensures in_bounds { result ≤ length items.now }
         ensures items { AppendsClones T.is_clone self.old.items self.new.items (take result items.now) }
         ensures capacity { self.new.capacity ≡ self.old.capacity }
@@ -207,7 +223,7 @@ impl<T: Clone, A: Allocator, G: Growth> ThinVec<T, A, G> {
 
     // The same with up to `count` clones of `value`.
     fn push_repeated_reserved(&mut self, value: &T, count: usize) -> usize
-        requires room { length self.old.items + count ≤ self.old.capacity }
+        requires room { HasRoomFor self.old count }
         ensures in_bounds { result ≤ count }
         ensures items { AppendsRepeats T.is_clone value.now result self.old.items self.new.items }
         ensures capacity { self.new.capacity ≡ self.old.capacity }
@@ -222,53 +238,15 @@ impl<T: Clone, A: Allocator, G: Growth> ThinVec<T, A, G> {
     }
 }
 
-// Puts clones of `items` into the empty slots from `start` on, and answers how many: it ends before a clone that is
-// refused.
-fn put_clones<T: Clone, A: Allocator>(block: &mut Block<T, A>, start: usize, items: &[T]) -> usize
-    requires in_bounds { start + length items.now ≤ length block.old.slots }
-    requires empty { (k : ℕ) → start ≤ k → k < start + length items.now → slot block.old.slots k ≡ None }
-    ensures in_bounds { result ≤ length items.now }
-    ensures slots { LaysClones T.is_clone items.now result start block.old.slots block.new.slots }
-    ensures len { block.new.len ≡ block.old.len }
-    ensures alloc { block.new.alloc ≡ block.old.alloc }
-    ensures cost { block.new.cost ≡ moving result block.old.cost }
-    ensures refused { result < length items.now → HoldsAt (λ x. ¬ (T.is_infallible x)) items.now result }
-{
-    // No capacity is past `isize::MAX`, so no index is.
-    let _whole = block.cap();
-    for i in 0..items.len() {
-        match items[i].clone() {
-            Ok(item) => block.put(start + i, item),
-            Err(_) => return i,
-        }
-    }
-    items.len()
-}
+impl<T: Clone, A: Allocator + Copy, G: Growth> Clone for ThinVec<T, A, G> {
+    ghost is_clone = { λ list other. AllZip T.is_clone list.items other.items };
 
-// Puts clones of `value` into the `count` empty slots from `start` on, and answers how many: it ends before a clone that
-// is refused.
-fn put_repeated<T: Clone, A: Allocator>(
-    block: &mut Block<T, A>,
-    start: usize,
-    value: &T,
-    count: usize,
-) -> usize
-    requires in_bounds { start + count ≤ length block.old.slots }
-    requires empty { (k : ℕ) → start ≤ k → k < start + count → slot block.old.slots k ≡ None }
-    ensures in_bounds { result ≤ count }
-    ensures slots { LaysClones T.is_clone (replicate count value.now) result start block.old.slots block.new.slots }
-    ensures len { block.new.len ≡ block.old.len }
-    ensures alloc { block.new.alloc ≡ block.old.alloc }
-    ensures cost { block.new.cost ≡ moving result block.old.cost }
-    ensures refused { result < count → ¬ (T.is_infallible value.now) }
-{
-    // No capacity is past `isize::MAX`, so no index is.
-    let _whole = block.cap();
-    for i in 0..count {
-        match value.clone() {
-            Ok(item) => block.put(start + i, item),
-            Err(_) => return i,
+    ghost is_infallible = { λ list. list.items ≡ [] };
+
+    fn clone(&self) -> Result<Self, AllocError> {
+        match ThinVec::clone(self, *self.allocator()) {
+            Ok(other) => Ok(other),
+            Err(_refused) => Err(AllocError),
         }
     }
-    count
 }

@@ -10,21 +10,21 @@ use thin_block::{Growth, ThinVecError};
 
 impl<T, A: Allocator, G: Growth> ThinVec<T, A, G> {
     ghost use Rattle.thin_vec.specs.Cheap.{IsCheap};
-    ghost use Rattle.thin_vec.specs.ThinVec.{capacity_for, cost_at};
+    ghost use Rattle.thin_vec.specs.ThinVec.{HasRoomFor, IsCause, capacity_for, cost_at};
 
     /// Puts `value` at `index`, and moves the items from there on one place back. The list owns it afterwards.
     ///
     /// It is refused as `push` is.
     pub fn insert(&mut self, index: usize, value: T) -> Result<(), Rejected<T>>
         requires in_bounds { index ≤ length self.old.items }
-        ensures succeeds { length self.old.items < self.old.capacity → IsOk result }
+        ensures succeeds { HasRoomFor self.old 1 → IsOk result }
         ensures overflow { capacity_for G.rule T.row self.old 1 ≡ None → IsErrAnd result (λ refused. refused.cause ≡ ThinVecError.CapacityOverflow) }
-        ensures cause { IfErr result (λ refused. refused.cause ≡ ThinVecError.CapacityOverflow → capacity_for G.rule T.row self.old 1 ≡ None) }
+        ensures cause { IfErr result (λ refused. IsCause (capacity_for G.rule T.row self.old 1) refused.cause) }
 
         // The capacity is the ruled one.
         ensures items { OnOk result (self.new.items ≡ insert self.old.items index value) }
         ensures capacity { OnOk result (capacity_for G.rule T.row self.old 1 ≡ Some self.new.capacity) }
-        ensures had_room { length self.old.items < self.old.capacity → self.new.capacity ≡ self.old.capacity }
+        ensures had_room { HasRoomFor self.old 1 → self.new.capacity ≡ self.old.capacity }
         ensures cost { OnOk result (self.new.cost ≡ moving (length self.old.items - index + 1) (cost_at self.old self.new.capacity)) }
         ensures alloc { self.new.alloc ≡ self.old.alloc }
         ensures cheap { IsCheap self.old → IsCheap self.new }
@@ -43,7 +43,7 @@ impl<T, A: Allocator, G: Growth> ThinVec<T, A, G> {
     // `insert` into spare room.
     fn insert_reserved(&mut self, index: usize, value: T)
         requires in_bounds { index ≤ length self.old.items }
-        requires room { length self.old.items < self.old.capacity }
+        requires room { HasRoomFor self.old 1 }
         ensures items { self.new.items ≡ insert self.old.items index value }
         ensures capacity { self.new.capacity ≡ self.old.capacity }
         ensures alloc { self.new.alloc ≡ self.old.alloc }

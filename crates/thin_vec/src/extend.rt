@@ -1,22 +1,22 @@
 //! Lists that take the items of an iterator.
-ghost use Rattle.std.specs.Prelude.{◌≡◌, ℕ, ◌+◌, ◌-◌, ◌<◌, ◌≤◌, List, ◌++◌, [], IfErr, IfOk, IsOk, IsSome, None, OnErr, OnOk, OnSome, length};
+ghost use Rattle.std.specs.Prelude.{◌≡◌, ℕ, ◌+◌, ◌-◌, ◌<◌, ◌≤◌, List, ◌++◌, IfErr, IfOk, IsOk, IsSome, None, OnErr, OnOk, OnSome, length};
 ghost use Rattle.std.specs.Iterator.Runs.{WholeRun};
-ghost use Rattle.std.specs.Iterator.{Drains, IsFinite, Yields, YieldsThen, size};
-ghost use Rattle.std.specs.Option.{option_to_list};
+ghost use Rattle.std.specs.Iterator.{Drains, IsFinite, YieldsThen, size};
 ghost use Rattle.thin_block.specs.Cost.{moving};
 ghost use Rattle.thin_block.specs.Growth.{doubling};
-ghost use Rattle.thin_block.specs.Slots.{full, laid, slot};
+ghost use Rattle.thin_block.specs.Slots.{full};
 ghost use Rattle.thin_vec.specs.Cheap.{IsCheap};
 ghost use Rattle.std.specs.Prelude.{◌⊎◌};
 ghost use Rattle.std.specs.Iterator.SizeHint.{IsWithinCount};
 ghost use Rattle.thin_vec.specs.Extend.{GaveUp, IsExtendCost, IsLoose, IsNamed, Overflows, OverflowsNew};
-ghost use Rattle.thin_vec.specs.ThinVec.{IsNew, capacity_for};
+ghost use Rattle.thin_vec.specs.ThinVec.{HasRoomFor, IsCause, IsNew, capacity_for};
 
 use crate::errors::{CollectRefused, ExtendRefused, Rejected};
 use crate::list::ThinVec;
+use crate::placing::put_iter;
 use std::alloc::Allocator;
 use std::iter::Iterator;
-use thin_block::{Block, Growth, ThinVecError};
+use thin_block::{Growth, ThinVecError};
 
 impl<T, A: Allocator, G: Growth> ThinVec<T, A, G> {
     /// Appends the items that `iter` gives before its first `None`, after which it is not asked again.
@@ -27,7 +27,7 @@ impl<T, A: Allocator, G: Growth> ThinVec<T, A, G> {
     pub fn extend<I: Iterator<Item = T>>(&mut self, iter: I) -> Result<(), ExtendRefused<T, I>>
         requires can_next { I.can_next iter }
         requires finite { IsFinite (I.remaining iter) }
-        ensures succeeds { length self.old.items + size (I.remaining iter) ≤ self.old.capacity → IsOk result }
+        ensures succeeds { HasRoomFor self.old (size (I.remaining iter)) → IsOk result }
         ensures overflow { IfErr result (λ refused. IsSome refused.in_hand → capacity_for G.rule T.row self.new 1 ≡ None → refused.cause ≡ ThinVecError.CapacityOverflow) }
         ensures cause { IfErr result (λ refused. refused.cause ≡ ThinVecError.CapacityOverflow → Overflows G.rule T.row self.new refused.in_hand (I.remaining refused.rest)) }
         ensures items { OnOk result ((xs : List T) × Drains I.next_gives iter xs × (self.new.items ≡ self.old.items ++ xs)) }
@@ -35,7 +35,7 @@ impl<T, A: Allocator, G: Growth> ThinVec<T, A, G> {
 
         // Accepted or refused, each item that came in has moved once.
         ensures capacity { IsLoose G.rule T.row self.old.capacity self.new.capacity }
-        ensures had_room { length self.old.items + size (I.remaining iter) ≤ self.old.capacity → self.new.capacity ≡ self.old.capacity }
+        ensures had_room { HasRoomFor self.old (size (I.remaining iter)) → self.new.capacity ≡ self.old.capacity }
         ensures cost { IsExtendCost self.old self.new }
         ensures alloc { self.new.alloc ≡ self.old.alloc }
         ensures cheap { IsCheap self.old → IsCheap self.new }
@@ -62,12 +62,12 @@ impl<T, A: Allocator, G: Growth> ThinVec<T, A, G> {
     pub(crate) fn extend_unhinted<I: Iterator<Item = T>>(&mut self, iter: I) -> Result<(), ExtendRefused<T, I>>
         requires can_next { I.can_next iter }
         requires finite { IsFinite (I.remaining iter) }
-        ensures succeeds { length self.old.items + size (I.remaining iter) ≤ self.old.capacity → IsOk result }
+        ensures succeeds { HasRoomFor self.old (size (I.remaining iter)) → IsOk result }
         ensures overflow { IfErr result (λ refused. capacity_for G.rule T.row self.new 1 ≡ None → refused.cause ≡ ThinVecError.CapacityOverflow) }
-        ensures cause { IfErr result (λ refused. refused.cause ≡ ThinVecError.CapacityOverflow → capacity_for G.rule T.row self.new 1 ≡ None) }
+        ensures cause { IfErr result (λ refused. IsCause (capacity_for G.rule T.row self.new 1) refused.cause) }
         ensures items { OnOk result ((xs : List T) × Drains I.next_gives iter xs × (self.new.items ≡ self.old.items ++ xs)) }
         ensures capacity { IsLoose G.rule T.row self.old.capacity self.new.capacity }
-        ensures had_room { length self.old.items + size (I.remaining iter) ≤ self.old.capacity → self.new.capacity ≡ self.old.capacity }
+        ensures had_room { HasRoomFor self.old (size (I.remaining iter)) → self.new.capacity ≡ self.old.capacity }
         ensures cost { IsExtendCost self.old self.new }
         ensures alloc { self.new.alloc ≡ self.old.alloc }
         ensures cheap { IsCheap self.old → IsCheap self.new }
@@ -180,39 +180,4 @@ impl<T, A: Allocator> ThinVec<T, A> {
             }
         }
     }
-}
-
-// Puts what `iter` gives into the empty slots from `start` up to `end`. Hands back the iterator, where it stopped, and the
-// item that found no slot.
-fn put_iter<T, A: Allocator, I: Iterator<Item = T>>(
-    block: &mut Block<T, A>,
-    start: usize,
-    end: usize,
-    iter: I,
-) -> (I, usize, Option<T>)
-    requires start_le_end { start ≤ end }
-    requires in_bounds { end ≤ length block.old.slots }
-    requires empty { (k : ℕ) → start ≤ k → k < end → slot block.old.slots k ≡ None }
-    requires can_next { I.can_next iter }
-    requires finite { IsFinite (I.remaining iter) }
-    ensures slots { (xs : List T) × (block.new.slots ≡ laid start (full xs) block.old.slots) × (result.1 ≡ start + length xs) × YieldsThen I.next_gives iter xs result.2 result.0 }
-    ensures within { result.1 ≤ end }
-    ensures len { block.new.len ≡ block.old.len }
-    ensures alloc { block.new.alloc ≡ block.old.alloc }
-    ensures cost { block.new.cost ≡ moving (result.1 - start) block.old.cost }
-    ensures rest { OnSome result.2 (I.can_next result.0 × IsFinite (I.remaining result.0)) }
-    ensures nearer { OnSome result.2 (result.1 + size (I.remaining result.0) < start + size (I.remaining iter)) }
-    ensures full { OnSome result.2 (result.1 ≡ end) }
-{
-    let mut rest = iter;
-    let mut i = start;
-    while i < end {
-        let Some(item) = rest.next() else {
-            return (rest, i, None);
-        };
-        block.put(i, item);
-        i += 1;
-    }
-    let over = rest.next();
-    (rest, i, over)
 }

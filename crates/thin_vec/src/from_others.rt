@@ -1,19 +1,20 @@
 //! Lists made from other types.
-ghost use Rattle.std.specs.Prelude.{◌≡◌, ◌≤◌, [], IfErr, IfOk, IsErrAnd, IsErrOf, IsOk, None, Some, length, replicate};
+ghost use Rattle.std.specs.Prelude.{◌≡◌, ◌≤◌, [], IfErr, IfOk, IsErrAnd, IsErrOf, IsOk, None, length};
 ghost use Rattle.std.specs.Box.{boxed_slice_items};
 ghost use Rattle.std.specs.List.{AllZip};
 ghost use Rattle.thin_block.specs.Cost.{moving};
-ghost use Rattle.thin_block.specs.Growth.{doubling, exact_capacity, ruled_capacity};
-ghost use Rattle.thin_block.specs.Slots.{empty, front};
-ghost use Rattle.thin_vec.specs.Clones.{CloneEquals, ClonesEqual, IsResized};
+ghost use Rattle.thin_block.specs.Growth.{exact_capacity};
+ghost use Rattle.thin_block.specs.Slots.{empty};
+ghost use Rattle.thin_vec.specs.Clones.{ClonesEqual};
 ghost use Rattle.thin_vec.specs.Cheap.{IsCheap};
-ghost use Rattle.thin_vec.specs.ThinVec.{cost_new};
+ghost use Rattle.thin_vec.specs.ThinVec.{IsCause, cost_new};
 
 use crate::errors::Rejected;
 use crate::list::ThinVec;
+use crate::placing::put_vec;
 use std::alloc::Allocator;
 use std::boxed::BoxedSlice;
-use thin_block::{Block, ThinVecError};
+use thin_block::ThinVecError;
 
 impl<T, A: Allocator> ThinVec<T, A> {
     /// A list of the array's items, of capacity N. An array of nothing takes no memory.
@@ -25,7 +26,7 @@ impl<T, A: Allocator> ThinVec<T, A> {
     ) -> Result<ThinVec<T, A>, Rejected<[T; N]>>
         ensures succeeds { N ≡ 0 → IsOk result }
         ensures overflow { exact_capacity T.row 0 N ≡ None → IsErrAnd result (λ refused. refused.cause ≡ ThinVecError.CapacityOverflow) }
-        ensures cause { IfErr result (λ refused. refused.cause ≡ ThinVecError.CapacityOverflow → exact_capacity T.row 0 N ≡ None) }
+        ensures cause { IfErr result (λ refused. IsCause (exact_capacity T.row 0 N) refused.cause) }
         ensures items { IfOk result (λ list. list.items ≡ items) }
         ensures capacity { IfOk result (λ list. list.capacity ≡ N) }
         ensures alloc { IfOk result (λ list. list.alloc ≡ alloc) }
@@ -56,7 +57,7 @@ impl<T, A: Allocator> ThinVec<T, A> {
     ) -> Result<ThinVec<T, A>, Rejected<Vec<T, B>>>
         ensures succeeds_empty { items.items ≡ [] → IsOk result }
         ensures overflow { exact_capacity T.row 0 (length items.items) ≡ None → IsErrAnd result (λ refused. refused.cause ≡ ThinVecError.CapacityOverflow) }
-        ensures cause { IfErr result (λ refused. refused.cause ≡ ThinVecError.CapacityOverflow → exact_capacity T.row 0 (length items.items) ≡ None) }
+        ensures cause { IfErr result (λ refused. IsCause (exact_capacity T.row 0 (length items.items)) refused.cause) }
         ensures items { IfOk result (λ list. list.items ≡ items.items) }
         ensures capacity { IfOk result (λ list. list.capacity ≡ length items.items) }
         ensures alloc { IfOk result (λ list. list.alloc ≡ alloc) }
@@ -85,7 +86,7 @@ impl<T, A: Allocator> ThinVec<T, A> {
     ) -> Result<ThinVec<T, A>, Rejected<BoxedSlice<T, B>>>
         ensures succeeds_empty { boxed_slice_items items ≡ [] → IsOk result }
         ensures overflow { exact_capacity T.row 0 (length (boxed_slice_items items)) ≡ None → IsErrAnd result (λ refused. refused.cause ≡ ThinVecError.CapacityOverflow) }
-        ensures cause { IfErr result (λ refused. refused.cause ≡ ThinVecError.CapacityOverflow → exact_capacity T.row 0 (length (boxed_slice_items items)) ≡ None) }
+        ensures cause { IfErr result (λ refused. IsCause (exact_capacity T.row 0 (length (boxed_slice_items items))) refused.cause) }
         ensures items { IfOk result (λ list. list.items ≡ boxed_slice_items items) }
         ensures capacity { IfOk result (λ list. list.capacity ≡ length (boxed_slice_items items)) }
         ensures alloc { IfOk result (λ list. list.alloc ≡ alloc) }
@@ -121,21 +122,6 @@ impl<T, A: Allocator> ThinVec<T, A> {
     }
 }
 
-// Moves the items of `items` into the first slots of an empty block. A `Vec` gives its items up from the last on.
-fn put_vec<T, A: Allocator, B: Allocator>(block: &mut Block<T, A>, items: &mut Vec<T, B>)
-    requires empty { block.old.slots ≡ empty (length block.old.slots) }
-    requires room { length items.old.items ≤ length block.old.slots }
-    ensures slots { block.new.slots ≡ front items.old.items (length block.old.slots) }
-    ensures len { block.new.len ≡ block.old.len }
-    ensures alloc { block.new.alloc ≡ block.old.alloc }
-    ensures cost { block.new.cost ≡ moving (length items.old.items) block.old.cost }
-    ensures rest { items.new.items ≡ [] }
-{
-    while let Some(item) = items.pop() {
-        block.put(items.len(), item);
-    }
-}
-
 impl<T: Clone, A: Allocator> ThinVec<T, A> {
     /// A list of a clone of each of `items`, in order, of capacity as many. A slice of nothing takes no memory.
     ///
@@ -144,7 +130,7 @@ impl<T: Clone, A: Allocator> ThinVec<T, A> {
     pub fn from_slice(alloc: A, items: &[T]) -> Result<ThinVec<T, A>, ThinVecError>
         ensures succeeds_empty { items.now ≡ [] → IsOk result }
         ensures overflow { exact_capacity T.row 0 (length items.now) ≡ None → IsErrOf result ThinVecError.CapacityOverflow }
-        ensures cause { IfErr result (λ cause. cause ≡ ThinVecError.CapacityOverflow → exact_capacity T.row 0 (length items.now) ≡ None) }
+        ensures cause { IfErr result (IsCause (exact_capacity T.row 0 (length items.now))) }
         ensures items { IfOk result (λ list. AllZip T.is_clone items.now list.items) }
         ensures items_if_clones_equal { IfOk result (λ list. ClonesEqual T.is_clone → list.items ≡ items.now) }
         ensures capacity { IfOk result (λ list. list.capacity ≡ length items.now) }

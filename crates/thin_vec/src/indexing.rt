@@ -1,13 +1,12 @@
 //! The standard traits at `ThinVec`: indexing, and iteration over a borrowed list.
-ghost use Rattle.std.specs.List.{AllZip};
-ghost use Rattle.std.specs.Prelude.{[], IsOk, IfOk, ◌≡◌, ◌^◌, ◌<◌, Some, length, slice_get};
+ghost use Rattle.std.specs.Prelude.{◌≡◌, ◌^◌, ◌<◌, Some, length, slice_get};
 ghost use Rattle.std.specs.Iterator.Runs.{EveryRun, ItemsMapTo};
 ghost use Rattle.std.specs.Slice.Iter.{iter_mut_rest, iter_mut_steps, iter_rest, iter_steps};
 ghost use types.Logic.{sem};
 ghost use Rattle.thin_vec.specs.Lends.{LendsItem, LendsItems, LendsIter};
 
 use crate::list::ThinVec;
-use std::alloc::{AllocError, Allocator};
+use std::alloc::Allocator;
 use std::convert::AsSlice;
 use std::ops::{DerefSlice, DerefSliceMut, Index, IndexMut};
 use std::slice::{Iter, IterMut};
@@ -91,18 +90,5 @@ impl<'a, T, A: Allocator, G: Growth> IntoIterator for &'a mut ThinVec<T, A, G> {
             × EveryRun (iter_mut_steps {A = T}) (λ p. ItemsMapTo p (λ x. x.now) (iter_mut_rest p.from)) }
     {
         self.as_mut_slice().iter_mut()
-    }
-}
-
-impl<T: Clone, A: Allocator + Copy, G: Growth> Clone for ThinVec<T, A, G> {
-    ghost is_clone = { λ list other. AllZip T.is_clone list.items other.items };
-
-    ghost is_infallible = { λ list. list.items ≡ [] };
-
-    fn clone(&self) -> Result<Self, AllocError> {
-        match ThinVec::clone(self, *self.allocator()) {
-            Ok(other) => Ok(other),
-            Err(_refused) => Err(AllocError),
-        }
     }
 }

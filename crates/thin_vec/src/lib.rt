@@ -13,6 +13,7 @@ mod into_iter;
 mod into_others;
 mod list;
 mod macros;
+mod placing;
 mod traits;
 mod two_lists;
 

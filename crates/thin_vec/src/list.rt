@@ -2,10 +2,11 @@
 ghost use Rattle.std.specs.Prelude.{◌≡◌, ◌↔◌, ◌+◌, ◌-◌, ◌<◌, ◌≤◌, [], ◌∷◌, ◌++◌, IfErr, IsErrAnd, IsOk, IsSome, IsTrue, None, OnErr, OnOk, Some, length, take};
 ghost use Rattle.std.specs.Option.{option_to_list};
 ghost use Rattle.thin_block.specs.Capacity.{Fits};
-ghost use Rattle.thin_block.specs.Cost.{growing, moving, no_cost};
-ghost use Rattle.thin_block.specs.Slots.{IsPacked, empty};
+ghost use Rattle.thin_block.specs.Cost.{moving};
+ghost use Rattle.thin_block.specs.Slots.{empty};
 
 use crate::errors::Rejected;
+use crate::placing::drop_items;
 use std::alloc::{Allocator, Global};
 use std::marker::{Model, PhantomData};
 use thin_block::{Block, Doubling, Growth, ThinVecError};
@@ -20,7 +21,7 @@ pub struct ThinVec<T, A: Allocator = Global, G: Growth = Doubling> {
 }
 
 impl<T, A: Allocator, G: Growth> Model for ThinVec<T, A, G> {
-    ghost use Rattle.thin_vec.specs.ThinVec.{Thin, thin_code, thin_of, IsThin};
+    ghost use Rattle.thin_vec.specs.ThinVec.{IsThin, Thin, thin_code, thin_of};
 
     ghost Value = { Thin T A };
 
@@ -154,7 +155,7 @@ impl<T, A: Allocator, G: Growth> ThinVec<T, A, G> {
 
     // `push` into spare room.
     pub(crate) fn push_reserved(&mut self, value: T)
-        requires room { length self.old.items < self.old.capacity }
+        requires room { HasRoomFor self.old 1 }
         ensures items { self.new.items ≡ self.old.items ++ value ∷ [] }
         ensures capacity { self.new.capacity ≡ self.old.capacity }
         ensures alloc { self.new.alloc ≡ self.old.alloc }
@@ -228,16 +229,5 @@ impl<T: Drop, A: Allocator, G: Growth> Drop for ThinVec<T, A, G> {
         let (mut block, alloc) = self.into_parts();
         drop_items(&mut block, len);
         block.release(&alloc);
-    }
-}
-
-// Drops the first `len` items of a block, which are all that it has.
-fn drop_items<T: Drop, A: Allocator>(block: &mut Block<T, A>, len: usize)
-    requires packed { IsPacked block.old.slots len }
-    ensures slots { block.new.slots ≡ empty (length block.old.slots) }
-    ensures alloc { block.new.alloc ≡ block.old.alloc }
-{
-    for i in 0..len {
-        drop(block.take(i));
     }
 }

@@ -1,10 +1,10 @@
 //! `thin_vec!`: a list written out, and the two functions that it calls.
-ghost use Rattle.std.specs.Prelude.{◌≡◌, ◌≤◌, [], IfErr, IfOk, IsErrOf, IsOk, None, length, replicate};
+ghost use Rattle.std.specs.Prelude.{◌≡◌, [], IfErr, IfOk, IsErrOf, IsOk, None, replicate};
 ghost use Rattle.thin_block.specs.Cost.{moving};
 ghost use Rattle.thin_block.specs.Growth.{doubling, exact_capacity, ruled_capacity};
 ghost use Rattle.thin_vec.specs.Clones.{CloneEquals, IsResized};
 ghost use Rattle.thin_vec.specs.Cheap.{IsCheap};
-ghost use Rattle.thin_vec.specs.ThinVec.{cost_new};
+ghost use Rattle.thin_vec.specs.ThinVec.{IsCause, cost_new};
 
 use crate::list::ThinVec;
 use std::alloc::Allocator;
@@ -37,7 +37,7 @@ pub fn written_out<T: Drop, A: Allocator, const N: usize>(
 ) -> Result<ThinVec<T, A>, ThinVecError>
     ensures succeeds { N ≡ 0 → IsOk result }
     ensures overflow { exact_capacity T.row 0 N ≡ None → IsErrOf result ThinVecError.CapacityOverflow }
-    ensures cause { IfErr result (λ cause. cause ≡ ThinVecError.CapacityOverflow → exact_capacity T.row 0 N ≡ None) }
+    ensures cause { IfErr result (IsCause (exact_capacity T.row 0 N)) }
     ensures items { IfOk result (λ list. list.items ≡ items) }
     ensures capacity { IfOk result (λ list. list.capacity ≡ N) }
     ensures alloc { IfOk result (λ list. list.alloc ≡ alloc) }
@@ -60,7 +60,7 @@ pub fn repeated<T: Clone, A: Allocator>(
 ) -> Result<ThinVec<T, A>, ThinVecError>
     ensures succeeds { count ≡ 0 → IsOk result }
     ensures overflow { ruled_capacity doubling T.row 0 count ≡ None → IsErrOf result ThinVecError.CapacityOverflow }
-    ensures cause { IfErr result (λ cause. cause ≡ ThinVecError.CapacityOverflow → ruled_capacity doubling T.row 0 count ≡ None) }
+    ensures cause { IfErr result (IsCause (ruled_capacity doubling T.row 0 count)) }
     ensures items { IfOk result (λ list. IsResized T.is_clone [] count value list.items) }
     ensures items_if_clones_equal { IfOk result (λ list. CloneEquals T.is_clone value → list.items ≡ replicate count value) }
     ensures capacity { IfOk result (λ list. ruled_capacity doubling T.row 0 count ≡ Some list.capacity) }

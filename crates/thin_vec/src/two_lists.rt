@@ -8,20 +8,20 @@ use thin_block::{Growth, ThinVecError};
 
 impl<T, A: Allocator, G: Growth> ThinVec<T, A, G> {
     ghost use Rattle.thin_vec.specs.Cheap.{IsCheap};
-    ghost use Rattle.thin_vec.specs.ThinVec.{capacity_for, cost_at, cost_new};
+    ghost use Rattle.thin_vec.specs.ThinVec.{HasRoomFor, IsCause, capacity_for, cost_at, cost_new};
 
     /// Moves all items of `other` behind those of this list. `other` is left empty, with its capacity.
     ///
     /// It is refused as `reserve` is, before either list changes.
     pub fn append(&mut self, other: &mut ThinVec<T, A, G>) -> Result<(), ThinVecError>
-        ensures succeeds { length self.old.items + length other.old.items ≤ self.old.capacity → IsOk result }
+        ensures succeeds { HasRoomFor self.old (length other.old.items) → IsOk result }
         ensures overflow { capacity_for G.rule T.row self.old (length other.old.items) ≡ None → IsErrOf result ThinVecError.CapacityOverflow }
-        ensures cause { IfErr result (λ cause. cause ≡ ThinVecError.CapacityOverflow → capacity_for G.rule T.row self.old (length other.old.items) ≡ None) }
+        ensures cause { IfErr result (IsCause (capacity_for G.rule T.row self.old (length other.old.items))) }
 
         // The capacity is the ruled one.
         ensures items { OnOk result (self.new.items ≡ self.old.items ++ other.old.items) }
         ensures capacity { OnOk result (capacity_for G.rule T.row self.old (length other.old.items) ≡ Some self.new.capacity) }
-        ensures had_room { length self.old.items + length other.old.items ≤ self.old.capacity → self.new.capacity ≡ self.old.capacity }
+        ensures had_room { HasRoomFor self.old (length other.old.items) → self.new.capacity ≡ self.old.capacity }
         ensures cost { OnOk result (self.new.cost ≡ moving (length other.old.items) (cost_at self.old self.new.capacity)) }
         ensures alloc { self.new.alloc ≡ self.old.alloc }
         ensures cheap { IsCheap self.old → IsCheap self.new }
@@ -73,7 +73,7 @@ impl<T, A: Allocator, G: Growth> ThinVec<T, A, G> {
     // Moves the items of `other` from `start` on behind those of this list, into spare room, as one run.
     fn append_reserved(&mut self, other: &mut ThinVec<T, A, G>, start: usize)
         requires in_bounds { start ≤ length other.old.items }
-        requires room { length self.old.items + (length other.old.items - start) ≤ self.old.capacity }
+        requires room { HasRoomFor self.old (length other.old.items - start) }
         ensures items { self.new.items ≡ self.old.items ++ drop start other.old.items }
         ensures capacity { self.new.capacity ≡ self.old.capacity }
         ensures cost { self.new.cost ≡ moving (length other.old.items - start) self.old.cost }

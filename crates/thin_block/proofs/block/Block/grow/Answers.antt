@@ -1,5 +1,6 @@
 use Rattle.std.proofs.Common.{◌∙◌, arith}
-use Rattle.thin_block.proofs.SlotsLemmas.{on-ok, packed-grown}
+use Rattle.thin_block.proofs.SlotsLemmas.{packed-grown}
+use Rattle.thin_block.proofs.Outcomes.{on-ok}
 use Rattle.thin_block.proofs.block.Block.grow.Goals as goal
 
 -- the items in a larger row are the old row and empty slots

@@ -1,7 +1,8 @@
 use Rattle.std.proofs.Common.{◌∙◌, arith}
 use denote.Param.{param}
 use Rattle.thin_block.proofs.CapacityLemmas.{fits-less}
-use Rattle.thin_block.proofs.SlotsLemmas.{on-ok, packed-shrunk}
+use Rattle.thin_block.proofs.SlotsLemmas.{packed-shrunk}
+use Rattle.thin_block.proofs.Outcomes.{on-ok}
 use Rattle.thin_block.proofs.block.Block.shrink.Goals as goal
 
 -- a smaller block fits where the block does

@@ -1,7 +1,7 @@
 use Rattle.std.proofs.Common.{◌∙◌, length, refl}
 use Rattle.std.specs.Borrow.{u8}
 use Rattle.thin_block.proofs.CapacityLemmas.{exact-at}
-use Rattle.thin_vec.proofs.FromOthersLemmas.{ok-err}
+use Rattle.thin_block.proofs.Outcomes.{ok-err}
 use Rattle.thin_vec.proofs.bytes.ThinVec+u8+A.from_str.Goals as goal
 
 pub returns-in-Ok-clause-overflow : goal.returns-in-Ok-clause-overflow

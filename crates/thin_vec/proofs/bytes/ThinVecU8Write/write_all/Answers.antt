@@ -1,7 +1,7 @@
 use Rattle.std.proofs.Common.{◌+◌, ◌∙◌, Some, ap, length, refl, sym}
 use Rattle.std.specs.Borrow.{u8}
 use Rattle.thin_block.proofs.CapacityLemmas.{ruled-at}
-use Rattle.thin_vec.proofs.ListLemmas.{none-some}
+use Rattle.thin_block.proofs.Outcomes.{none-some}
 use Rattle.thin_vec.proofs.bytes.ThinVecU8Write.write_all.Goals as goal
 
 -- the bytes' type as `reserve` sees it has the same size and alignment

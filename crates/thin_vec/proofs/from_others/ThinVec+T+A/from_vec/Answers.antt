@@ -1,7 +1,7 @@
 use Rattle.std.proofs.Common.{◌∙◌, ap}
 use denote.Param.{param}
 use Rattle.thin_block.specs.Growth.{exact_capacity}
-use Rattle.thin_vec.proofs.FromOthersLemmas.{err-same}
+use Rattle.thin_block.proofs.Outcomes.{err-same}
 use Rattle.thin_vec.proofs.from_others.ThinVec+T+A.from_vec.Goals as goal
 
 pub returns-in-Err-clause-overflow : goal.returns-in-Err-clause-overflow

@@ -3,7 +3,7 @@ use Rattle.std.specs.Iterator.Runs.{WholeRun}
 use Rattle.std.specs.Prelude.{OnOk}
 use denote.Param.{param}
 use Rattle.thin_vec.specs.ThinVec.{capacity_for}
-use Rattle.std.proofs.Common.{inl, inr, sym, Some}
+use Rattle.std.proofs.Common.{inl, sym, Some}
 use Rattle.thin_vec.proofs.ExtendLemmas.{named-after, run_of_ok, filled-join, filled-reserved, loose-join, loose-le, loose-ruled}
 use Rattle.thin_vec.proofs.list.ThinVec.extend.Goals as goal
 

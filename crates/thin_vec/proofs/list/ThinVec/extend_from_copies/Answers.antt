@@ -1,6 +1,6 @@
 use Rattle.std.proofs.Common.{◌+◌, ◌∙◌, Some, ap, length, refl, sym}
 use Rattle.thin_block.proofs.CapacityLemmas.{ruled-at}
-use Rattle.thin_vec.proofs.ListLemmas.{none-some}
+use Rattle.thin_block.proofs.Outcomes.{none-some}
 use Rattle.thin_vec.proofs.list.ThinVec.extend_from_copies.Goals as goal
 
 -- the items' type as `reserve` sees it has the same size and alignment

@@ -2,9 +2,9 @@ use Rattle.std.proofs.Common.{◌++◌, ◌-◌, ◌+◌, ◌<◌, ◌≡◌, �
 use Rattle.std.specs.Iterator.{size}
 use Rattle.thin_block.specs.Cost.{moving}
 use Rattle.thin_block.specs.Slots.{items_in}
-use Rattle.thin_vec.proofs.ExtendLemmas.{on-some}
 use Rattle.thin_vec.proofs.TwoListsLemmas.{settle-more}
 use Rattle.thin_vec.proofs.ListLemmas.{Settled, thin-room}
+use Rattle.thin_block.proofs.Outcomes.{on-some}
 use Rattle.thin_vec.proofs.list.ThinVec.extend_reserved.Goals as goal
 
 facts : (g : _) (c : goal.After-set_len g) → Settled c.set_len.new.self c.self.inside.alloc (items_in c.self.inside.block.slots ++ c.put_iter-rest.ensures.slots.0) (length c.self.inside.block.slots)

@@ -1,10 +1,10 @@
-use Rattle.std.proofs.Common.{◌++◌, ◌∷◌, [], ◌-◌, ◌∙◌, ap, arith, append_assoc, length, length-append, subst, sym}
+use Rattle.std.proofs.Common.{◌++◌, ◌∷◌, [], ◌-◌, ◌∙◌, ap, arith, append_assoc, length, length-append, subst, sym, ◌+◌, inr}
 use Rattle.std.proofs.lemmas.List.{length_push}
 use denote.Param.{param}
 use Rattle.thin_vec.specs.Extend.{IsLoose}
 use Rattle.thin_vec.specs.ThinVec.{capacity_for}
-use Rattle.std.proofs.Common.{◌+◌, inr, inl}
-use Rattle.thin_vec.proofs.ExtendLemmas.{named-more, at-some, filled-at, filled-join, filled-spare, loose-join, loose-le, loose-ruled, yields-join, yields-more}
+use Rattle.thin_vec.proofs.ExtendLemmas.{named-more, filled-at, filled-join, filled-spare, loose-join, loose-le, loose-ruled, yields-join, yields-more}
+use Rattle.thin_block.proofs.Outcomes.{at-some}
 use Rattle.thin_vec.proofs.list.ThinVec.extend_unhinted.Goals as goal
 
 pub returns-in_default-clause-items : goal.returns-in_default-clause-items

@@ -1,8 +1,9 @@
 use Rattle.std.proofs.Common.{ap, ◌∙◌, arith}
-use Rattle.thin_vec.proofs.ListLemmas.{Settled, settle-grow}
+use Rattle.thin_vec.proofs.ListLemmas.{Settled}
 use Rattle.thin_block.specs.Slots.{items_in}
-use Rattle.thin_vec.proofs.list.ThinVec.grow_to.Goals as goal
 use Rattle.thin_vec.proofs.list.ThinVec.grow_to.Goals.{In_ok-grow}
+use Rattle.thin_vec.proofs.CapacityLemmas.{settle-grow}
+use Rattle.thin_vec.proofs.list.ThinVec.grow_to.Goals as goal
 
 facts : (g : _) (c : In_ok-grow g) → Settled c.grow.new.self c.self.inside.alloc (items_in c.self.inside.block.slots) c.args.cap
 facts g c =

@@ -1,10 +1,10 @@
 use Rattle.std.proofs.Common.{◌+◌, ◌-◌, ap, ◌∙◌, length, arith, refl}
 use Rattle.std.specs.Prelude.{insert}
 use Rattle.thin_vec.proofs.ListLemmas.{Settled, thin-filled}
-use Rattle.thin_vec.proofs.ShiftLemmas.{settle-insert, thin-gap}
 use Rattle.thin_block.specs.Slots.{items_in}
-use Rattle.thin_vec.proofs.list.ThinVec.insert_reserved.Goals as goal
 use Rattle.thin_vec.proofs.list.ThinVec.insert_reserved.Goals.{After-put_and_store}
+use Rattle.thin_vec.proofs.EditsLemmas.{settle-insert, thin-gap}
+use Rattle.thin_vec.proofs.list.ThinVec.insert_reserved.Goals as goal
 
 pub move_run-requires-clause-filled : goal.move_run-requires-clause-filled
 move_run-requires-clause-filled g c = λ j low high.

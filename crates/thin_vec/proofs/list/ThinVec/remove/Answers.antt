@@ -1,10 +1,10 @@
 use Rattle.std.proofs.Common.{◌+◌, ◌-◌, ap, ◌∙◌, length, arith, refl}
 use Rattle.std.specs.Prelude.{remove}
 use Rattle.thin_vec.proofs.ListLemmas.{Settled, thin-filled, thin-get, kept-filled}
-use Rattle.thin_vec.proofs.ShiftLemmas.{settle-remove}
 use Rattle.thin_block.specs.Slots.{items_in}
-use Rattle.thin_vec.proofs.list.ThinVec.remove.Goals as goal
 use Rattle.thin_vec.proofs.list.ThinVec.remove.Goals.{After-store_len}
+use Rattle.thin_vec.proofs.EditsLemmas.{settle-remove}
+use Rattle.thin_vec.proofs.list.ThinVec.remove.Goals as goal
 
 pub take-value-requires : goal.take-value-requires
 take-value-requires g c =

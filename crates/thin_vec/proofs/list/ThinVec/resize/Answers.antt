@@ -3,8 +3,7 @@ use Rattle.std.specs.Prelude.{OnOk, Some}
 use denote.Param.{param}
 use Rattle.thin_vec.specs.Clones.{CloneEquals, IsResized, StopsAtClone}
 use Rattle.thin_vec.specs.ThinVec.{capacity_for, cost_at}
-use Rattle.thin_vec.proofs.ClonesLemmas.{on-err}
-use Rattle.thin_vec.proofs.ListLemmas.{none-some}
+use Rattle.thin_block.proofs.Outcomes.{on-err, none-some}
 use Rattle.thin_vec.proofs.list.ThinVec.resize.Goals as goal
 
 pub returns-clause-overflow : goal.returns-clause-overflow

@@ -1,9 +1,9 @@
 use Rattle.std.proofs.Common.{sym, ap, ◌∙◌, length}
 use Rattle.thin_block.specs.Slots.{items_in}
-use Rattle.thin_vec.proofs.EditsLemmas.{settle-shrink}
 use Rattle.thin_vec.proofs.ListLemmas.{Settled}
-use Rattle.thin_vec.proofs.list.ThinVec.shrink_to.Goals as goal
 use Rattle.thin_vec.proofs.list.ThinVec.shrink_to.Goals.{In_ok-shrink}
+use Rattle.thin_vec.proofs.CapacityLemmas.{settle-shrink}
+use Rattle.thin_vec.proofs.list.ThinVec.shrink_to.Goals as goal
 
 facts : (g : _) (c : In_ok-shrink g) → Settled c.shrink.new.self c.self.inside.alloc (items_in c.self.inside.block.slots) c.args.len
 facts g c =

@@ -2,7 +2,7 @@ use Rattle.std.proofs.Common.{ap, arith, replicate, sym, ◌∙◌}
 use Rattle.std.proofs.lemmas.List.{get_or-replicate, length-replicate}
 use Rattle.thin_block.specs.Cost.{moving}
 use Rattle.thin_vec.proofs.ClonesLemmas.{lays-more, moving-one}
-use Rattle.thin_vec.proofs.clones.put_repeated.Goals as goal
+use Rattle.thin_vec.proofs.placing.put_repeated.Goals as goal
 
 -- one more clone is put behind those that are there
 pub loop-i-preserved : goal.loop-i-preserved

@@ -1,7 +1,7 @@
 use Rattle.std.proofs.Common.{◌∙◌, ap, arith, length, length-append, refl, subst, sym}
 use Rattle.std.proofs.lemmas.List.{length_push}
 use Rattle.thin_vec.proofs.FromOthersLemmas.{IsMoving, moving-first, moving-more, moving-next, moving-none}
-use Rattle.thin_vec.proofs.from_others.put_vec.Goals as goal
+use Rattle.thin_vec.proofs.placing.put_vec.Goals as goal
 
 pub loop-item-init : goal.loop-item-init
 loop-item-init g c = record {

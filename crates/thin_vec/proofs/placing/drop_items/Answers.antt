@@ -3,7 +3,7 @@ use lib.ListN.{set}
 use Rattle.thin_block.proofs.SlotsLemmas.{packed-le}
 use Rattle.thin_block.specs.Slots.{empty, items_in}
 use Rattle.thin_vec.proofs.EditsLemmas.{emptying, emptying-none, emptying-filled, emptying-take, emptying-all}
-use Rattle.thin_vec.proofs.list.drop_items.Goals as goal
+use Rattle.thin_vec.proofs.placing.drop_items.Goals as goal
 
 pub loop-i-init : goal.loop-i-init
 loop-i-init g c =

@@ -3,7 +3,7 @@ use Rattle.std.proofs.Common.{◌≡◌, ◌+◌, ◌-◌, ◌≤◌, List, leng
 use Rattle.std.specs.Iterator.{IsFinite, Yields, size}
 use Rattle.thin_block.specs.Cost.{moving}
 use Rattle.thin_block.specs.Slots.{full, laid}
-use Rattle.thin_vec.proofs.extend.put_iter.Given as goal
+use Rattle.thin_vec.proofs.placing.put_iter.Given as goal
 
 abbrev pub invariant-loop-i : goal.invariant-loop-i
 invariant-loop-i g l = record {

@@ -2,7 +2,7 @@
 use Rattle.std.proofs.Common.{◌≡◌, ◌-◌, length}
 use Rattle.thin_block.specs.Cost.{moving}
 use Rattle.thin_vec.proofs.FromOthersLemmas.{IsMoving}
-use Rattle.thin_vec.proofs.from_others.put_vec.Given as goal
+use Rattle.thin_vec.proofs.placing.put_vec.Given as goal
 
 abbrev pub invariant-loop-item : goal.invariant-loop-item
 invariant-loop-item g l = record {

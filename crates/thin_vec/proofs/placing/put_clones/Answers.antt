@@ -1,7 +1,7 @@
 use Rattle.std.proofs.Common.{ap, arith, ◌∙◌}
 use Rattle.thin_block.specs.Cost.{moving}
 use Rattle.thin_vec.proofs.ClonesLemmas.{lays-more, moving-one}
-use Rattle.thin_vec.proofs.clones.put_clones.Goals as goal
+use Rattle.thin_vec.proofs.placing.put_clones.Goals as goal
 
 -- one more item is cloned behind those that are
 pub loop-i-preserved : goal.loop-i-preserved

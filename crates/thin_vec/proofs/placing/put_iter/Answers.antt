@@ -1,7 +1,7 @@
 use Rattle.std.proofs.Common.{◌∷◌, ◌++◌, [], ◌∙◌, arith}
 use Rattle.std.proofs.lemmas.List.{length_push}
 use Rattle.thin_vec.proofs.ExtendLemmas.{laid-more, moving-more, yields-more}
-use Rattle.thin_vec.proofs.extend.put_iter.Goals as goal
+use Rattle.thin_vec.proofs.placing.put_iter.Goals as goal
 
 pub loop-i-preserved : goal.loop-i-preserved
 loop-i-preserved g c =

@@ -1,13 +1,13 @@
-use Rattle.std.proofs.Common.{◌≡◌}
+use Rattle.std.proofs.Common.{◌≡◌, replicate}
 use Rattle.thin_block.specs.Cost.{moving}
 use Rattle.thin_vec.specs.Clones.{LaysClones}
-use Rattle.thin_vec.proofs.clones.put_clones.Given as goal
+use Rattle.thin_vec.proofs.placing.put_repeated.Given as goal
 
--- the first i items are cloned, and as many moves counted
+-- i clones stand there, and as many moves are counted
 abbrev pub invariant-loop-i : goal.invariant-loop-i
 invariant-loop-i g l =
     record {
-      slots : LaysClones g.T.Clone.is_clone l.items l.i l.start l.fn.block.slots l.block.slots;
+      slots : LaysClones g.T.Clone.is_clone (replicate l.count l.value) l.i l.start l.fn.block.slots l.block.slots;
       len : l.block.len ≡ l.fn.block.len;
       alloc : l.block.alloc ≡ l.fn.block.alloc;
       cost : l.block.cost ≡ moving l.i l.fn.block.cost;

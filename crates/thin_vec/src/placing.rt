@@ -1,0 +1,122 @@
+//! Loops over a block: items are put into its empty slots, or taken out to be dropped.
+ghost use Rattle.std.specs.Prelude.{◌≡◌, ℕ, ◌+◌, ◌-◌, ◌<◌, ◌≤◌, List, [], HoldsAt, OnSome, length, replicate};
+ghost use Rattle.std.specs.Iterator.{IsFinite, YieldsThen, size};
+ghost use Rattle.thin_block.specs.Cost.{moving};
+ghost use Rattle.thin_block.specs.Slots.{AreEmpty, IsPacked, empty, front, full, laid, slot};
+ghost use Rattle.thin_vec.specs.Clones.{LaysClones};
+
+use std::alloc::Allocator;
+use std::iter::Iterator;
+use thin_block::Block;
+
+// Drops the first `len` items of a block, which are all that it has.
+pub(crate) fn drop_items<T: Drop, A: Allocator>(block: &mut Block<T, A>, len: usize)
+    requires packed { IsPacked block.old.slots len }
+    ensures slots { block.new.slots ≡ empty (length block.old.slots) }
+    ensures alloc { block.new.alloc ≡ block.old.alloc }
+{
+    for i in 0..len {
+        drop(block.take(i));
+    }
+}
+
+// Moves the items of `items` into the first slots of an empty block. A `Vec` gives its items up from the last on.
+pub(crate) fn put_vec<T, A: Allocator, B: Allocator>(block: &mut Block<T, A>, items: &mut Vec<T, B>)
+    requires empty { block.old.slots ≡ empty (length block.old.slots) }
+    requires room { length items.old.items ≤ length block.old.slots }
+    ensures slots { block.new.slots ≡ front items.old.items (length block.old.slots) }
+    ensures len { block.new.len ≡ block.old.len }
+    ensures alloc { block.new.alloc ≡ block.old.alloc }
+    ensures cost { block.new.cost ≡ moving (length items.old.items) block.old.cost }
+    ensures rest { items.new.items ≡ [] }
+{
+    while let Some(item) = items.pop() {
+        block.put(items.len(), item);
+    }
+}
+
+// Puts what `iter` gives into the empty slots from `start` up to `end`. Hands back the iterator, where it stopped, and the
+// item that found no slot.
+pub(crate) fn put_iter<T, A: Allocator, I: Iterator<Item = T>>(
+    block: &mut Block<T, A>,
+    start: usize,
+    end: usize,
+    iter: I,
+) -> (I, usize, Option<T>)
+    requires start_le_end { start ≤ end }
+    requires in_bounds { end ≤ length block.old.slots }
+    requires empty { (k : ℕ) → start ≤ k → k < end → slot block.old.slots k ≡ None }
+    requires can_next { I.can_next iter }
+    requires finite { IsFinite (I.remaining iter) }
+    ensures slots { (xs : List T) × (block.new.slots ≡ laid start (full xs) block.old.slots) × (result.1 ≡ start + length xs) × YieldsThen I.next_gives iter xs result.2 result.0 }
+    ensures within { result.1 ≤ end }
+    ensures len { block.new.len ≡ block.old.len }
+    ensures alloc { block.new.alloc ≡ block.old.alloc }
+    ensures cost { block.new.cost ≡ moving (result.1 - start) block.old.cost }
+    ensures rest { OnSome result.2 (I.can_next result.0 × IsFinite (I.remaining result.0)) }
+    ensures nearer { OnSome result.2 (result.1 + size (I.remaining result.0) < start + size (I.remaining iter)) }
+    ensures full { OnSome result.2 (result.1 ≡ end) }
+{
+    let mut rest = iter;
+    let mut i = start;
+    while i < end {
+        let Some(item) = rest.next() else {
+            return (rest, i, None);
+        };
+        block.put(i, item);
+        i += 1;
+    }
+    let over = rest.next();
+    (rest, i, over)
+}
+
+// Puts clones of `items` into the empty slots from `start` on, and answers how many: it ends before a clone that is
+// refused.
+pub(crate) fn put_clones<T: Clone, A: Allocator>(block: &mut Block<T, A>, start: usize, items: &[T]) -> usize
+    requires in_bounds { start + length items.now ≤ length block.old.slots }
+    requires empty { AreEmpty block.old.slots start (length items.now) }
+    ensures in_bounds { result ≤ length items.now }
+    ensures slots { LaysClones T.is_clone items.now result start block.old.slots block.new.slots }
+    ensures len { block.new.len ≡ block.old.len }
+    ensures alloc { block.new.alloc ≡ block.old.alloc }
+    ensures cost { block.new.cost ≡ moving result block.old.cost }
+    ensures refused { result < length items.now → HoldsAt (λ x. ¬ (T.is_infallible x)) items.now result }
+{
+    // No capacity is past `isize::MAX`, so no index is.
+    let _whole = block.cap();
+    for i in 0..items.len() {
+        match items[i].clone() {
+            Ok(item) => block.put(start + i, item),
+            Err(_) => return i,
+        }
+    }
+    items.len()
+}
+
+// Puts clones of `value` into the `count` empty slots from `start` on, and answers how many: it ends before a clone that
+// is refused.
+pub(crate) fn put_repeated<T: Clone, A: Allocator>(
+    block: &mut Block<T, A>,
+    start: usize,
+    value: &T,
+    count: usize,
+) -> usize
+    requires in_bounds { start + count ≤ length block.old.slots }
+    requires empty { AreEmpty block.old.slots start count }
+    ensures in_bounds { result ≤ count }
+    ensures slots { LaysClones T.is_clone (replicate count value.now) result start block.old.slots block.new.slots }
+    ensures len { block.new.len ≡ block.old.len }
+    ensures alloc { block.new.alloc ≡ block.old.alloc }
+    ensures cost { block.new.cost ≡ moving result block.old.cost }
+    ensures refused { result < count → ¬ (T.is_infallible value.now) }
+{
+    // No capacity is past `isize::MAX`, so no index is.
+    let _whole = block.cap();
+    for i in 0..count {
+        match value.clone() {
+            Ok(item) => block.put(start + i, item),
+            Err(_) => return i,
+        }
+    }
+    count
+}
