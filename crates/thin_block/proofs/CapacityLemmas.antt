@@ -12,17 +12,20 @@ use Rattle.thin_block.specs.Growth.{Rule, KeepsLaw, exact_capacity, fitting, rul
 use Rattle.thin_block.proofs.SizesLemmas.{opened, closed, fits_none, fits_tells, fits_yes}
 
 -- a capacity that suffices stays
-pub ruled-same : (rule : Rule) (R : RattleType) (c w : ℕ) → w ≤ c → ruled_capacity rule R c w ≡ Some c
+pub ruled-same : (rule : Rule) (R : RattleType) (c w : ℕ) → w ≤ c
+    → ruled_capacity rule R c w ≡ Some c
 unfolding ruled_capacity
 ruled-same rule R c w enough = rw (le-leb w c enough) refl
 
 -- a want that no `usize` holds overflows
-pub ruled-overflow : (rule : Rule) (R : RattleType) (c w : ℕ) → c < w → 2 ^ 64 ≤ w → ruled_capacity rule R c w ≡ None
+pub ruled-overflow : (rule : Rule) (R : RattleType) (c w : ℕ) → c < w → 2 ^ 64 ≤ w
+    → ruled_capacity rule R c w ≡ None
 unfolding ruled_capacity
 ruled-overflow rule R c w more high = rw (lt-leb w c more) (rw (le-ltb w (2 ^ 64) high) refl)
 
 -- for any other want the rule decides
-pub ruled-rule : (rule : Rule) (R : RattleType) (c w : ℕ) → c < w → w < 2 ^ 64 → ruled_capacity rule R c w ≡ rule (type_size R) (type_align R) c w
+pub ruled-rule : (rule : Rule) (R : RattleType) (c w : ℕ) → c < w → w < 2 ^ 64
+    → ruled_capacity rule R c w ≡ rule (type_size R) (type_align R) c w
 unfolding ruled_capacity
 ruled-rule rule R c w more word = rw (lt-leb w c more) (rw (lt-ltb w (2 ^ 64) word) refl)
 
@@ -36,9 +39,12 @@ none_some : {A B : Type 0} (x : A) → None ≡ Some x → B
 none_some x e = cc
 
 -- a growth has room for what was wanted, at least doubles, and fits
-pub ruled-grows : (rule : Rule) (R : RattleType) (c w n : ℕ) → KeepsLaw rule → c < w → ruled_capacity rule R c w ≡ Some n → Grown R c w n
+pub ruled-grows : (rule : Rule) (R : RattleType) (c w n : ℕ) → KeepsLaw rule → c < w
+    → ruled_capacity rule R c w ≡ Some n → Grown R c w n
 ruled-grows rule R c w n law more e = elim (dec_lt w (2 ^ 64)) [
-  | yes word ↦ (let grown = law (type_size R) (type_align R) c w n more word (sym (ruled-rule rule R c w more word) ∙ e) in record { enough = grown.enough; doubled = grown.doubled; fits = grown.fits })
+  | yes word ↦ (let grown = law (type_size R) (type_align R) c w n more word
+      (sym (ruled-rule rule R c w more word) ∙ e) in
+      record { enough = grown.enough; doubled = grown.doubled; fits = grown.fits })
   | no high ↦ none_some n (sym (ruled-overflow rule R c w more (omega arith)) ∙ e)
 ]
 
@@ -74,9 +80,11 @@ unfolding exact_capacity fitting
 exact-fits R c w more fit = rw (lt-leb w c more, fit) refl
 
 -- and one that does not fit overflows
-pub exact-overflow : (R : RattleType) (c w : ℕ) → c < w → (Fits R w → ⊥) → exact_capacity R c w ≡ None
+pub exact-overflow : (R : RattleType) (c w : ℕ) → c < w → (Fits R w → ⊥)
+    → exact_capacity R c w ≡ None
 unfolding exact_capacity fitting
-exact-overflow R c w more never = rw (lt-leb w c more) (not_fitting (fits (type_size R) (type_align R) w) never)
+exact-overflow R c w more never =
+    rw (lt-leb w c more) (not_fitting (fits (type_size R) (type_align R) w) never)
   where
     not_fitting : (b : Bool) → (IsTrue b → ⊥) → (if b then Some w else None) ≡ None
     not_fitting true wrong = absurd (wrong refl)
@@ -89,14 +97,18 @@ exact-none R (suc w) never = exact-overflow R 0 (suc w) (omega arith) never
 
 -- no want past `usize::MAX` fits
 pub exact-past : (R : RattleType) (c w : ℕ) → c < w → 2 ^ 64 ≤ w → exact_capacity R c w ≡ None
-exact-past R c w more high = exact-overflow R c w more (λ fit. let small = fits-small R w fit in absurd (omega arith))
+exact-past R c w more high =
+    exact-overflow R c w more (λ fit. let small = fits-small R w fit in absurd (omega arith))
 
 -- of a type these words see its size and its alignment alone
-module _ (R S : RattleType) (c w : ℕ) (size : type_size R ≡ type_size S) (align : type_align R ≡ type_align S) where
+module _ (R S : RattleType) (c w : ℕ) (size : type_size R ≡ type_size S)
+    (align : type_align R ≡ type_align S) where
+  -- the exact capacity depends on an item by its size and alignment alone
   pub exact-at : exact_capacity R c w ≡ exact_capacity S c w
   unfolding exact_capacity fitting
   exact-at = rw (size, align) refl
 
+  -- and so does the ruled one
   pub ruled-at : (rule : Rule) → ruled_capacity rule R c w ≡ ruled_capacity rule S c w
   unfolding ruled_capacity
   ruled-at rule = rw (size, align) refl

@@ -1,4 +1,5 @@
--- A block as a machine value, its room cut into its parts, and the steps that open and close it. Assumes `Logic`.
+-- A block as a machine value, its room cut into its parts, and the steps that open and close it.
+-- Assumes `Logic`.
 --     block_val, block_own           the pointer in a struct of three fields, and what that struct owns beside `also_owns`
 --     whole_size, whole_align        the layout of the room that a block is asked for
 --     carve, gather                  that room as its parts, and back
@@ -48,19 +49,27 @@ use Rattle.thin_block.proofs.SizesLemmas.{fits_none}
 abbrev pub plainly : List RattleType → RattleType
 plainly Rs = Struct (record { name = []; args = []; types = []; fields = Rs })
 
+-- the value of a block: its pointer, and two fields without bytes
 abbrev pub block_val : Ptr → Val
 block_val p = vstruct (vcons (ptr_val p) (vcons (vstruct vnil) (vcons (vstruct vnil) vnil)))
 
+-- what its fields own
 abbrev pub block_own : Ptr → List Val → Fml
 block_own p = (plainly (RawPtr ∷ plainly [] ∷ plainly [] ∷ [])).own_val (p, (tt, (tt, tt)))
 
+-- no block has another value
 pub block_told : (p : Ptr) (vs : List Val) → shadow (block_own p vs) → vs ≡ block_val p ∷ []
-block_told p vs s = s.1.0 ∙ (λ i. vstruct (of_list (s.1.1.0 i ++ (s.1.1.1.0.1.0 i ++ (s.1.1.1.1.0.1.0 i ++ [])))) ∷ [])
+block_told p vs s = s.1.0
+    ∙ (λ i. vstruct (of_list (s.1.1.0 i ++ (s.1.1.1.0.1.0 i ++ (s.1.1.1.1.0.1.0 i ++ [])))) ∷ [])
 
-block_own_made : {M : Type 1} {𝓤 : Ura M} (𝓛 : Logic 𝓤) (p : Ptr) → ent 𝓤 (emp 𝓤) (sem 𝓛 (block_own p (block_val p ∷ [])))
+block_own_made : {M : Type 1} {𝓤 : Ura M} (𝓛 : Logic 𝓤) (p : Ptr)
+    → ent 𝓤 (emp 𝓤) (sem 𝓛 (block_own p (block_val p ∷ [])))
 block_own_made 𝓛 p =
-    makes_shadow 𝓛 (block_own p (block_val p ∷ [])) (λ _. (tt, (tt, ((λ _. (tt, tt)), ((λ _. (tt, tt)), tt)))))
-    ((ptr_val p ∷ [], (vstruct vnil ∷ [], (vstruct vnil ∷ [], tt))), (refl, (refl, ((tt, (refl, tt)), ((tt, (refl, tt)), tt)))))
+    makes_shadow 𝓛 (block_own p (block_val p ∷ []))
+    (λ _. (tt, (tt, ((λ _. (tt, tt)), ((λ _. (tt, tt)), tt))))) (
+      (ptr_val p ∷ [], (vstruct vnil ∷ [], (vstruct vnil ∷ [], tt))),
+      (refl, (refl, ((tt, (refl, tt)), ((tt, (refl, tt)), tt)))),
+    )
 
 -- ---- the layout of a block
 by_width : (P : ℕ → Type 0) → ((w : Width) → P (bytes w)) → (τ : Ty) → P (align τ)
@@ -76,7 +85,8 @@ sixteen_at w128 = refl
 sixteen : (τ : Ty) → up (align τ) 16 ≡ 16
 sixteen = by_width (λ a. up a 16 ≡ 16) sixteen_at
 
-layouts_at : (w : Width) → (max 8 (max 8 (max (bytes w) 1)) ≡ max 8 (bytes w)) × (max 16 (bytes w) ≡ 16)
+layouts_at : (w : Width) → (max 8 (max 8 (max (bytes w) 1)) ≡ max 8 (bytes w))
+    × (max 16 (bytes w) ≡ 16)
 layouts_at w8 = (refl, refl)
 layouts_at w16 = (refl, refl)
 layouts_at w32 = (refl, refl)
@@ -94,12 +104,15 @@ module _ (R : RattleType) (c : ℕ) where
   abbrev pub items : Ty
   items = raw (ty_array τ c)
 
+  -- the alignment of a whole block
   pub whole_align : align (whole R c) ≡ block_align (type_align R)
   whole_align = ap (λ (a : ℕ). max 8 (max 8 (max a 1))) (align-raw τ) ∙ (aligned τ).0
 
+  -- and its size
   pub whole_size : size (whole R c) ≡ block_bytes (type_size R) (type_align R) c
   whole_size =
-      let ends : up (align items) 16 + size items ≡ max 16 (align τ) + c * size τ = (λ i. (sixteen items ∙ sym (aligned τ).1) i + c * size-raw τ i) in
+      let ends : up (align items) 16 + size items ≡ max 16 (align τ) + c * size τ =
+      (λ i. (sixteen items ∙ sym (aligned τ).1) i + c * size-raw τ i) in
       (λ i. up (whole_align i) (ends i))
 
 module _ {M : Type 1} {𝓤 : Ura M} (𝓛 : Logic 𝓤) (R : RattleType) where
@@ -107,69 +120,100 @@ module _ {M : Type 1} {𝓤 : Ura M} (𝓛 : Logic 𝓤) (R : RattleType) where
 
   -- room for a block is room for its parts, with the way back
   pub carve : (c b o : ℕ) → ent 𝓤 (H.room (whole R c) b o)
-      (sep 𝓤 (H.room (ty_int w64) b o) (sep 𝓤 (H.room (ty_int w64) b (o + 8)) (sep 𝓤 (H.room (items R c) b (o + 16)) (sem 𝓛 (fwand (parts R c b o) (froom (whole R c) b o))))))
+      (sep 𝓤 (H.room (ty_int w64) b o)
+      (sep 𝓤 (H.room (ty_int w64) b (o + 8))
+      (sep 𝓤 (H.room (items R c) b (o + 16))
+      (sem 𝓛 (fwand (parts R c b o) (froom (whole R c) b o))))))
   carve c b o =
       let word : Ty = ty_int w64 in
       let τs : Tys = tcons word (tcons word (tcons (items R c) tnil)) in
       let rooms = rooms_at 𝓤 H τs 0 b o in
       let first : o + 0 ≡ o = omega arith in
-      let third : o + up (align (items R c)) 16 ≡ o + 16 = ap (λ (k : ℕ). o + k) (sixteen (items R c)) in
+      let third : o + up (align (items R c)) 16 ≡ o + 16 =
+      ap (λ (k : ℕ). o + k) (sixteen (items R c)) in
       qed 𝓛 (‵ (froom (whole R c) b o) ∷ []) ∵
-      use1 𝓛 (given_raw rooms ⊛ given_raw (wand 𝓤 rooms (H.room (whole R c) b o))) (𝓛.laws.room_fields [] τs b o) $ split ! $
-      use1 𝓛 (‵ (froom word b (o + 0)) ⊛ ‵ (froom word b (o + 8)) ⊛ ‵ (froom (items R c) b (o + up (align (items R c)) 16)) ⊛ ‵ ftrue) (id⊢ 𝓤 rooms) $ split3 ! $ move ! (2 ∷ []) $ split ! $
-      rewrite ! 0 (λ (k : ℕ). ‵ (froom (items R c) b k)) third refl $ rewrite ! 2 (λ (k : ℕ). ‵ (froom word b k)) first refl $
-      move ! (2 ∷ 3 ∷ 0 ∷ 4 ∷ []) $ keeps ! $ keeps ! $ keeps ! $ assume {P = H.room (whole R c) b o} ! (‵ (parts R c b o)) $ fsplit3 ! $
-      rewrite ! 0 (λ (k : ℕ). ‵ (froom word b k)) (sym first) refl $ rewrite ! 2 (λ (k : ℕ). ‵ (froom (items R c) b k)) (sym third) refl $
-      move ! (2 ∷ 4 ∷ []) $ join ! $ move ! (2 ∷ 0 ∷ []) $ join ! $ move ! (1 ∷ 0 ∷ []) $ join ! $ by ! (apply∗ 𝓤 rooms (H.room (whole R c) b o))
+      use1 𝓛 (given_raw rooms ⊛ given_raw (wand 𝓤 rooms (H.room (whole R c) b o)))
+      (𝓛.laws.room_fields [] τs b o) $ split ! $
+      use1 𝓛 (‵ (froom word b (o + 0)) ⊛ ‵ (froom word b (o + 8)) ⊛ ‵
+      (froom (items R c) b (o + up (align (items R c)) 16)) ⊛ ‵ ftrue) (id⊢ 𝓤 rooms) $
+      split3 ! $ move ! (2 ∷ []) $ split ! $
+      rewrite ! 0 (λ (k : ℕ). ‵ (froom (items R c) b k)) third refl $
+      rewrite ! 2 (λ (k : ℕ). ‵ (froom word b k)) first refl $
+      move ! (2 ∷ 3 ∷ 0 ∷ 4 ∷ []) $ keeps ! $ keeps ! $ keeps ! $
+      assume {P = H.room (whole R c) b o} ! (‵ (parts R c b o)) $ fsplit3 ! $
+      rewrite ! 0 (λ (k : ℕ). ‵ (froom word b k)) (sym first) refl $
+      rewrite ! 2 (λ (k : ℕ). ‵ (froom (items R c) b k)) (sym third) refl $
+      move ! (2 ∷ 4 ∷ []) $ join ! $ move ! (2 ∷ 0 ∷ []) $ join ! $ move ! (1 ∷ 0 ∷ []) $ join ! $
+      by ! (apply∗ 𝓤 rooms (H.room (whole R c) b o))
 
   -- a block is whole again where its slots are room
   pub gather : (t : Ty → Ptr → Fml) (n c b o : ℕ)
-      → ent 𝓤 (sep 𝓤 (sem 𝓛 (frame t R n c b o)) (H.room (items R c) b (o + 16))) (sep 𝓤 (H.room (whole R c) b o) (sem 𝓛 (t (whole R c) (block_ptr b o))))
+      → ent 𝓤 (sep 𝓤 (sem 𝓛 (frame t R n c b o)) (H.room (items R c) b (o + 16)))
+      (sep 𝓤 (H.room (whole R c) b o) (sem 𝓛 (t (whole R c) (block_ptr b o))))
   gather t n c b o =
       let word : Ty = ty_int w64 in
       qed 𝓛 (‵ (frame t R n c b o) ∷ ‵ (froom (items R c) b (o + 16)) ∷ []) ∵ fsplit ! $
       use1 𝓛 (‵ (fat full_share word b o (vint w64 c))) (uint_out 𝓛 full_share w64 c b o) $
-      use1 𝓛 (‵ (froom word b o)) (𝓛.laws.at_room word b o (vint w64 c)) $ move ! (1 ∷ []) $ fsplit ! $
-      use1 𝓛 (‵ (fat full_share word b (o + 8) (vint w64 n))) (uint_out 𝓛 full_share w64 n b (o + 8)) $
-      use1 𝓛 (‵ (froom word b (o + 8))) (𝓛.laws.at_room word b (o + 8) (vint w64 n)) $ move ! (1 ∷ []) $ fsplit ! $
+      use1 𝓛 (‵ (froom word b o)) (𝓛.laws.at_room word b o (vint w64 c)) $
+      move ! (1 ∷ []) $ fsplit ! $
+      use1 𝓛 (‵ (fat full_share word b (o + 8) (vint w64 n)))
+      (uint_out 𝓛 full_share w64 n b (o + 8)) $
+      use1 𝓛 (‵ (froom word b (o + 8))) (𝓛.laws.at_room word b (o + 8) (vint w64 n)) $
+      move ! (1 ∷ []) $ fsplit ! $
       drop ! $ fsplit ! $ move ! (2 ∷ 4 ∷ []) $ fjoin ! $ move ! (3 ∷ 0 ∷ []) $ fjoin ! $
-      use2 𝓛 (‵ (froom (whole R c) b o)) (apply∗ 𝓤 (sem 𝓛 (parts R c b o)) (H.room (whole R c) b o)) $ done !
+      use2 𝓛 (‵ (froom (whole R c) b o)) (apply∗ 𝓤 (sem 𝓛 (parts R c b o)) (H.room (whole R c) b o))
+      $ done !
 
 -- ---- a block, with its slots apart
--- all of a block of c slots but these: the words that every list without a block shares, or the frame
-abbrev pub header : {D : Type 0} → (D → Ty → Ptr → Fml) → RattleType → ℕ → ℕ → Option D → ℕ → ℕ → Fml
-header t R n c None b o = fsep (lent_at usize (block_ptr b o) 0 []) (lent_at usize (block_ptr b (o + 8)) 0 [])
+-- all of a block of c slots but these: the words that every list without a block shares, or the
+-- frame
+abbrev pub header : {D : Type 0} → (D → Ty → Ptr → Fml) → RattleType → ℕ → ℕ
+    → Option D → ℕ → ℕ → Fml
+header t R n c None b o = fsep (lent_at usize (block_ptr b o) 0 [])
+    (lent_at usize (block_ptr b (o + 8)) 0 [])
 header t R n c (Some a) b o = frame (t a) R n c b o
 
 -- where there are slots, there is an allocator that the block came from
-pub alloc_there : {D X : Type 0} (a : Option D) (xs : List X) → there a ≡ any xs → 0 < length xs → (h : D) × (a ≡ Some h)
+pub alloc_there : {D X : Type 0} (a : Option D) (xs : List X) → there a ≡ any xs → 0 < length xs
+    → (h : D) × (a ≡ Some h)
 alloc_there (Some h) xs is some = (h, refl)
 alloc_there None [] is some = absurd (omega arith)
 alloc_there None (x ∷ xs) is some = absurd (clash is)
 
+-- a row of at least one slot has any
 pub any_some : {X : Type 0} (xs : List X) → 0 < length xs → true ≡ any xs
 any_some [] some = absurd (omega arith)
 any_some (x ∷ xs) some = refl
 
-module _ {D : Type 0} (t : D → Ty → Ptr → Fml) (R : RattleType) {M : Type 1} {𝓤 : Ura M} (𝓛 : Logic 𝓤) where
+module _ {D : Type 0} (t : D → Ty → Ptr → Fml) (R : RattleType) {M : Type 1}
+    {𝓤 : Ura M} (𝓛 : Logic 𝓤) where
   header_out : (n : ℕ) (xs : List (Option R.Denot)) (a : Option D) (b o : ℕ) → there a ≡ any xs
-      → ent 𝓤 (sem 𝓛 (block_owns t R (block_ptr b o) n xs a)) (sep 𝓤 (sem 𝓛 (header t R n (length xs) a b o)) (sem 𝓛 (places R xs b (o + 16))))
+      → ent 𝓤 (sem 𝓛 (block_owns t R (block_ptr b o) n xs a))
+      (sep 𝓤 (sem 𝓛 (header t R n (length xs) a b o)) (sem 𝓛 (places R xs b (o + 16))))
   header_out n xs (Some a) b o is = id⊢ 𝓤 _
-  header_out n [] None b o is = qed 𝓛 (‵ (block_owns t R (block_ptr b o) n [] None) ∷ []) ∵ nothing ! $ move ! (1 ∷ 0 ∷ []) $ done !
+  header_out n [] None b o is = qed 𝓛 (‵ (block_owns t R (block_ptr b o) n [] None) ∷ [])
+      ∵ nothing ! $ move ! (1 ∷ 0 ∷ []) $ done !
   header_out n (x ∷ xs) None b o is = absurd (clash is)
 
   header_in : (n : ℕ) (xs : List (Option R.Denot)) (a : Option D) (b o : ℕ)
-      → ent 𝓤 (sep 𝓤 (sem 𝓛 (header t R n (length xs) a b o)) (sem 𝓛 (places R xs b (o + 16)))) (sem 𝓛 (block_owns t R (block_ptr b o) n xs a))
+      → ent 𝓤 (sep 𝓤 (sem 𝓛 (header t R n (length xs) a b o)) (sem 𝓛 (places R xs b (o + 16))))
+      (sem 𝓛 (block_owns t R (block_ptr b o) n xs a))
   header_in n xs (Some a) b o = id⊢ 𝓤 _
-  header_in n xs None b o = qed 𝓛 (‵ (header t R n (length xs) None b o) ∷ ‵ (places R xs b (o + 16)) ∷ []) ∵ keep ! (0 ∷ []) $ done !
+  header_in n xs None b o =
+      qed 𝓛 (‵ (header t R n (length xs) None b o) ∷ ‵ (places R xs b (o + 16)) ∷ [])
+      ∵ keep ! (0 ∷ []) $ done !
 
-module _ {D : Type 0} (t : D → Ty → Ptr → Fml) (R : RattleType) {M : Type 1} {𝓤 : Ura M} {𝓛 : Logic 𝓤} {K : Type 0} {Γ : List (Item 𝓤)} {G : Goal 𝓤 𝓛.H} where
+module _ {D : Type 0} (t : D → Ty → Ptr → Fml) (R : RattleType) {M : Type 1} {𝓤 : Ura M}
+    {𝓛 : Logic 𝓤} {K : Type 0} {Γ : List (Item 𝓤)} {G : Goal 𝓤 𝓛.H} where
   -- whoever has a block knows that it fits
-  pub header_fits : K → (n : ℕ) (xs : List (Option R.Denot)) (a : Option D) (b o : ℕ) → there a ≡ any xs
-      → (fits_block R (length xs) ≡ true → Seq K 𝓛 (‵ (header t R n (length xs) a b o) ∷ Γ) G) → Seq K 𝓛 (‵ (header t R n (length xs) a b o) ∷ Γ) G
+  pub header_fits : K → (n : ℕ) (xs : List (Option R.Denot)) (a : Option D)
+      (b o : ℕ) → there a ≡ any xs
+      → (fits_block R (length xs) ≡ true → Seq K 𝓛 (‵ (header t R n (length xs) a b o) ∷ Γ) G)
+      → Seq K 𝓛 (‵ (header t R n (length xs) a b o) ∷ Γ) G
   header_fits k n xs (Some a) b o is next =
       fsplit k $ move k (1 ∷ []) $ fsplit k $ move k (1 ∷ []) $ fsplit k $ feq_l k (λ fits.
-      feq_i k Bool (fits_block R (length xs)) true fits $ fjoin k $ move k (1 ∷ 0 ∷ []) $ fjoin k $ move k (1 ∷ 0 ∷ []) $ fjoin k $ next fits)
+      feq_i k Bool (fits_block R (length xs)) true fits $ fjoin k $ move k (1 ∷ 0 ∷ []) $ fjoin k $
+      move k (1 ∷ 0 ∷ []) $ fjoin k $ next fits)
   header_fits k n [] None b o is next = next (fits_none R)
   header_fits k n (x ∷ xs) None b o is next = absurd (clash is)
 
@@ -178,6 +222,7 @@ module _ (E : El) (Y : Al) where
   abbrev pub args : Args
   args = bounded (a_type ∷ a_type ∷ []) (E.row, (Y.row, tt)) (dcons Y.d (dcons Y.drops dnil))
 
+  -- the type of blocks
   abbrev pub Br : RattleType
   Br = block.the_row (param 0 E.row) (param 1 Y.row) Y.g
 
@@ -185,44 +230,68 @@ module _ (E : El) (Y : Al) where
   abbrev pub t : Y.row.Denot → Ty → Ptr → Fml
   t = Y.g.dealloc_token
 
+  -- the two words before the slots, and what they are backed by
   abbrev pub Header : Br.Denot → ℕ → ℕ → Fml
   Header x b o = header t (R E) x.len (length x.slots) x.alloc b o
 
+  -- the slots in memory
   abbrev pub Slots : Br.Denot → ℕ → ℕ → Fml
   Slots x b o = places (R E) x.slots b (o + 16)
 
-module _ (E : El) (Y : Al) {M : Type 1} {𝓤 : Ura M} {𝓛 : Logic 𝓤} {K : Type 0} {Γ : List (Item 𝓤)} {G : Goal 𝓤 𝓛.H} where
+module _ (E : El) (Y : Al) {M : Type 1} {𝓤 : Ura M} {𝓛 : Logic 𝓤} {K : Type 0}
+    {Γ : List (Item 𝓤)} {G : Goal 𝓤 𝓛.H} where
+  -- a block that has slots is a header and slots in memory
   pub block_had : K → (x : (Br E Y).Denot) (vs : List Val)
-      → ((b o : ℕ) → x.at ≡ block_ptr b o → vs ≡ block_val (block_ptr b o) ∷ [] → fits_block (R E) (length x.slots) ≡ true → Seq K 𝓛 (‵ (Header E Y x b o) ∷ ‵ (Slots E Y x b o) ∷ Γ) G)
+      → ((b o : ℕ) → x.at ≡ block_ptr b o → vs ≡ block_val (block_ptr b o) ∷ []
+      → fits_block (R E) (length x.slots) ≡ true
+      → Seq K 𝓛 (‵ (Header E Y x b o) ∷ ‵ (Slots E Y x b o) ∷ Γ) G)
       → Seq K 𝓛 (‵ ((Br E Y).own_val x vs) ∷ Γ) G
   block_had k x vs next =
       peeks k (Br E Y) _ (shows 𝓛 (Br E Y)) x vs (λ is. fsplit k $ drop k $
-      in_a_block k x.at (λ p. block_owns (t E Y) (R E) p x.len x.slots x.alloc) (id⊢ 𝓤 (never 𝓤)) (λ b o at.
-      use1 𝓛 (‵ (Header E Y x b o) ⊛ ‵ (Slots E Y x b o)) (header_out (t E Y) (R E) 𝓛 x.len x.slots x.alloc b o x.sound.1) $ split k $
+      in_a_block k x.at (λ p. block_owns (t E Y) (R E) p x.len x.slots x.alloc)
+      (id⊢ 𝓤 (never 𝓤)) (λ b o at.
+      use1 𝓛 (‵ (Header E Y x b o) ⊛ ‵ (Slots E Y x b o))
+      (header_out (t E Y) (R E) 𝓛 x.len x.slots x.alloc b o x.sound.1) $ split k $
       header_fits (t E Y) (R E) k x.len x.slots x.alloc b o x.sound.1 (λ fits.
       next b o at (block_told x.at vs is.0 ∙ ap (λ (p : Ptr). block_val p ∷ []) at) fits)))
 
+  -- which make a block again
   pub block_made : K → (x : (Br E Y).Denot) (b o : ℕ) → x.at ≡ block_ptr b o
-      → Step K 𝓛 (‵ ((Br E Y).own_val x (block_val (block_ptr b o) ∷ [])) ∷ Γ) G (‵ (Header E Y x b o) ∷ ‵ (Slots E Y x b o) ∷ Γ) G
+      → Step K 𝓛 (‵ ((Br E Y).own_val x (block_val (block_ptr b o) ∷ [])) ∷ Γ) G
+      (‵ (Header E Y x b o) ∷ ‵ (Slots E Y x b o) ∷ Γ) G
   block_made k x b o at = step (λ s.
-      use2 𝓛 (‵ (block_owns (t E Y) (R E) (block_ptr b o) x.len x.slots x.alloc)) (header_in (t E Y) (R E) 𝓛 x.len x.slots x.alloc b o) $
-      rewrite k 0 (λ (p : Ptr). ‵ (block_owns (t E Y) (R E) p x.len x.slots x.alloc)) (sym at) refl $
+      use2 𝓛 (‵ (block_owns (t E Y) (R E) (block_ptr b o) x.len x.slots x.alloc))
+      (header_in (t E Y) (R E) 𝓛 x.len x.slots x.alloc b o) $
+      rewrite k 0 (λ (p : Ptr). ‵ (block_owns (t E Y) (R E) p x.len x.slots x.alloc)) (sym at)
+      refl $
       use0 𝓛 (‵ (block_own x.at (block_val x.at ∷ []))) (block_own_made 𝓛 x.at) $
       rewrite k 0 (λ (p : Ptr). ‵ (block_own x.at (block_val p ∷ []))) at refl $ fjoin k $ s)
 
-module _ (E : El) (Y : Al) {M : Type 1} {𝓤 : Ura M} {𝓛 : Logic 𝓤} {K : Type 0} {Γ : List (Item 𝓤)} {G : Goal 𝓤 𝓛.H} where
+module _ (E : El) (Y : Al) {M : Type 1} {𝓤 : Ura M} {𝓛 : Logic 𝓤} {K : Type 0}
+    {Γ : List (Item 𝓤)} {G : Goal 𝓤 𝓛.H} where
   -- [the header; the slots; the block's cell; the open borrow, in three entries]
   pub block_opens : K → Soaks G → {κ : Lft} {q : Share} {γ : GName} (x : (Br E Y).Denot) (rb ro : ℕ)
       → ((b o : ℕ) → x.at ≡ block_ptr b o → fits_block (R E) (length x.slots) ≡ true
-      → Seq K 𝓛 (‵ (Header E Y x b o) ∷ ‵ (Slots E Y x b o) ∷ ‵ (cell_at full_share (Br E Y).mir (block_val (block_ptr b o) ∷ []) rb ro)
-      ∷ ‵ (fobor κ q (Body (mem (Br E Y)) rb ro γ)) ∷ ‵ (fobs γ ((Br E Y).coded.code x)) ∷ ‵ (fauth γ ((Br E Y).coded.code x)) ∷ Γ) G)
-      → Seq K 𝓛 (‵ (fobs γ ((Br E Y).coded.code x)) ∷ ‵ (fbor κ (Body (mem (Br E Y)) rb ro γ)) ∷ ‵ (flft κ q) ∷ Γ) G
+      → Seq K 𝓛 (‵ (Header E Y x b o) ∷ ‵ (Slots E Y x b o) ∷ ‵
+      (cell_at full_share (Br E Y).mir (block_val (block_ptr b o) ∷ []) rb ro)
+      ∷ ‵ (fobor κ q (Body (mem (Br E Y)) rb ro γ)) ∷ ‵ (fobs γ ((Br E Y).coded.code x)) ∷ ‵
+      (fauth γ ((Br E Y).coded.code x)) ∷ Γ) G)
+      → Seq K 𝓛 (‵ (fobs γ ((Br E Y).coded.code x)) ∷ ‵
+      (fbor κ (Body (mem (Br E Y)) rb ro γ)) ∷ ‵ (flft κ q) ∷ Γ) G
   block_opens k z x rb ro next =
-      opens k z (Br E Y) {h = x} rb ro (λ vs. move k (1 ∷ []) $ block_had E Y k x vs (λ b o at is fits.
-      rewrite k 2 (λ (us : List Val). ‵ (cell_at full_share (Br E Y).mir us rb ro)) is refl $ next b o at fits))
+      opens k z (Br E Y) {h = x} rb ro
+      (λ vs. move k (1 ∷ []) $ block_had E Y k x vs (λ b o at is fits.
+      rewrite k 2 (λ (us : List Val). ‵ (cell_at full_share (Br E Y).mir us rb ro))
+      is refl $ next b o at fits))
 
-  pub block_closes : K → Soaks G → {κ : Lft} {q : Share} {u v : Gv} {γ : GName} (x : (Br E Y).Denot) (b o rb ro : ℕ) → x.at ≡ block_ptr b o
-      → Step K 𝓛 (‵ (fobs γ ((Br E Y).coded.code x)) ∷ ‵ (fbor κ (Body (mem (Br E Y)) rb ro γ)) ∷ ‵ (flft κ q) ∷ Γ) G
-      (‵ (Header E Y x b o) ∷ ‵ (Slots E Y x b o) ∷ ‵ (cell_at full_share (Br E Y).mir (block_val (block_ptr b o) ∷ []) rb ro)
+  -- and give back a borrow of one
+  pub block_closes : K → Soaks G → {κ : Lft} {q : Share} {u v : Gv} {γ : GName} (x : (Br E Y).Denot)
+      (b o rb ro : ℕ) → x.at ≡ block_ptr b o
+      → Step K 𝓛 (‵ (fobs γ ((Br E Y).coded.code x)) ∷ ‵
+      (fbor κ (Body (mem (Br E Y)) rb ro γ)) ∷ ‵ (flft κ q) ∷ Γ) G
+      (‵ (Header E Y x b o) ∷ ‵ (Slots E Y x b o) ∷ ‵
+      (cell_at full_share (Br E Y).mir (block_val (block_ptr b o) ∷ []) rb ro)
       ∷ ‵ (fobor κ q (Body (mem (Br E Y)) rb ro γ)) ∷ ‵ (fobs γ u) ∷ ‵ (fauth γ v) ∷ Γ) G
-  block_closes k z x b o rb ro at = step (λ s. block_made E Y k x b o at $ move k (1 ∷ 0 ∷ []) $ closes k z (Br E Y) x (block_val (block_ptr b o) ∷ []) rb ro $ s)
+  block_closes k z x b o rb ro at =
+      step (λ s. block_made E Y k x b o at $ move k (1 ∷ 0 ∷ []) $
+      closes k z (Br E Y) x (block_val (block_ptr b o) ∷ []) rb ro $ s)

@@ -1,4 +1,5 @@
--- A run of items and the slots that it goes to come out of one row, and go back once it has moved. Assumes `Logic`.
+-- A run of items and the slots that it goes to come out of one row, and go back once it has moved.
+-- Assumes `Logic`.
 --     Moves            the way out of the row of what a copy takes, and the way back of what it leaves
 --     apart            where the two runs lie apart: the items, and room for them
 --     slides           where they overlap: the items, and room beside them as far as they go
@@ -29,13 +30,17 @@ use Rattle.thin_block.proofs.SlotMemory.{Slot, sz, cut, glue, around, run_out, r
 
 -- the offset of a slot, from another's
 further : (a d c s o : ℕ) → c ≡ d + a → c * s + o ≡ d * s + (a * s + o)
-further a d c s o e = let sum = add_times d a s in let same : c * s ≡ (d + a) * s = ap (λ (k : ℕ). k * s) e in omega arith
+further a d c s o e = let sum = add_times d a s in
+    let same : c * s ≡ (d + a) * s = ap (λ (k : ℕ). k * s) e in omega arith
 
 -- what is laid over a run of a row, by the row's parts
-laid-over : {T : Type 0} (s new : List (Option T)) (i n : ℕ) → length new ≡ n → laid i new s ≡ take i s ++ (new ++ drop (i + n) s)
+laid-over : {T : Type 0} (s new : List (Option T)) (i n : ℕ) → length new ≡ n
+    → laid i new s ≡ take i s ++ (new ++ drop (i + n) s)
 laid-over s new i n long = ap (λ (k : ℕ). take i s ++ (new ++ drop (i + k) s)) long
 
-module _ (E : El) {M : Type 1} {𝓤 : Ura M} (𝓛 : Logic 𝓤) (b o : ℕ) (slots : List (Slot E)) (from to k : ℕ) (xs : List (el_x E)) (items : run from k slots ≡ full xs) (long : length xs ≡ k) where
+module _ (E : El) {M : Type 1} {𝓤 : Ura M} (𝓛 : Logic 𝓤) (b o : ℕ) (slots : List (Slot E))
+    (from to k : ℕ) (xs : List (el_x E)) (items : run from k slots ≡ full xs)
+    (long : length xs ≡ k) where
   abbrev s : ℕ
   s = sz E
 
@@ -57,6 +62,7 @@ module _ (E : El) {M : Type 1} {𝓤 : Ura M} (𝓛 : Logic 𝓤) (b o : ℕ) (s
   abbrev Room : ℕ → ℕ → Fml
   Room n at = froom (ty_array (elτ E) n) b at
 
+  -- the row gives up Was; with Is and what it kept it is the row after the move
   pub record Moves (Was Is : Fml) : Type 1 where
     pub Rest : Fml
     pub out : ent 𝓤 (sem 𝓛 (Row o slots)) (sep 𝓤 (sem 𝓛 Was) (sem 𝓛 Rest))
@@ -70,7 +76,8 @@ module _ (E : El) {M : Type 1} {𝓤 : Ura M} (𝓛 : Logic 𝓤) (b o : ℕ) (s
 
   -- the run beside a gap of d slots before it
   slides_down : (d : ℕ) → from ≡ to + d → from + k ≤ length slots → run to d slots ≡ empty d
-      → Moves (memory_before_copy (R E) false d k (block_ptr b src) (block_ptr b dst) xs) (memory_after_copy (R E) false d k (block_ptr b src) (block_ptr b dst) xs)
+      → Moves (memory_before_copy (R E) false d k (block_ptr b src) (block_ptr b dst) xs)
+      (memory_after_copy (R E) false d k (block_ptr b src) (block_ptr b dst) xs)
   slides_down d apart within gap =
       let n : ℕ = d + k in
       let le : to + n ≤ length slots = omega arith in
@@ -80,29 +87,47 @@ module _ (E : El) {M : Type 1} {𝓤 : Ura M} (𝓛 : Logic 𝓤) (b o : ℕ) (s
       let post : S = drop (to + n) slots in
       let old : S = empty d ++ full xs in
       let new : S = full xs ++ empty d in
-      let is : run to n slots ≡ old = run-split slots to d k ∙ (λ m. gap m ++ (ap (λ (i : ℕ). run i k slots) (sym apart) ∙ items) m) in
-      let at : src ≡ length (empty {T = el_x E} d) * s + dst = further to d from s o turned ∙ ap (λ (m : ℕ). m * s + dst) (sym (empty-long d)) in
-      let behind : k * s + dst ≡ length (full xs) * s + dst = ap (λ (m : ℕ). m * s + dst) (sym full-long) in
-      let long_new : length new ≡ n = omega (arith, length-append (full xs) (empty d), full-long, empty-long d) in
+      let is : run to n slots ≡ old = run-split slots to d k
+      ∙ (λ m. gap m ++ (ap (λ (i : ℕ). run i k slots) (sym apart) ∙ items) m) in
+      let at : src ≡ length (empty {T = el_x E} d) * s + dst = further to d from s o turned
+      ∙ ap (λ (m : ℕ). m * s + dst) (sym (empty-long d)) in
+      let behind : k * s + dst ≡ length (full xs) * s + dst =
+      ap (λ (m : ℕ). m * s + dst) (sym full-long) in
+      let long_new : length new ≡ n =
+      omega (arith, length-append (full xs) (empty d), full-long, empty-long d) in
       let front : to ≡ length pre = omega (arith, length-take to slots) in
       let whole : slots ≡ pre ++ (empty d ++ (full xs ++ post)) =
-      parted-run slots to n ∙ (ap (λ (l : S). pre ++ (l ++ post)) is ∙ ap (λ (l : S). pre ++ l) (append_assoc (empty d) (full xs) post)) in
+      parted-run slots to n
+      ∙ (ap (λ (l : S). pre ++ (l ++ post)) is
+      ∙ ap (λ (l : S). pre ++ l) (append_assoc (empty d) (full xs) post)) in
       let result : laid to new slots ≡ moved from to k slots =
-      laid-over slots new to n long_new ∙ (ap (λ (l : S). pre ++ l) (append_assoc (full xs) (empty d) post)
-      ∙ (sym (moved_left from to k d pre (full xs) post front apart (sym full-long)) ∙ ap (λ (l : S). moved from to k l) (sym whole))) in
+      laid-over slots new to n long_new
+      ∙ (ap (λ (l : S). pre ++ l) (append_assoc (full xs) (empty d) post)
+      ∙ (sym (moved_left from to k d pre (full xs) post front apart (sym full-long))
+      ∙ ap (λ (l : S). moved from to k l) (sym whole))) in
       record {
         Rest = around E 𝓛 b o slots to n;
-        out = qed 𝓛 (‵ (Row o slots) ∷ []) ∵ use1 𝓛 (‵ (Row dst old) ⊛ ‵ (around E 𝓛 b o slots to n)) (run_out E 𝓛 b o slots to n le old is) $ split ! $
-            use1 𝓛 (‵ (Row dst (empty d)) ⊛ ‵ (Row src (full xs))) (cut E 𝓛 b (empty d) (full xs) dst src at) $ split ! $
-            use1 𝓛 (‵ (Room d dst)) (to_room E 𝓛 b d dst) $ move ! (1 ∷ []) $ use1 𝓛 (‵ (Items src)) (to_items E 𝓛 b k xs src long) $ fjoin ! $ done !;
-        back = qed 𝓛 (‵ (fsep (Items dst) (Room d (k * s + dst))) ∷ ‵ (around E 𝓛 b o slots to n) ∷ []) ∵ fsplit ! $ use1 𝓛 (‵ (Row dst (full xs))) (of_items E 𝓛 b k xs dst) $ move ! (1 ∷ []) $
-            use1 𝓛 (‵ (Row (k * s + dst) (empty d))) (of_room E 𝓛 b d (k * s + dst)) $ move ! (1 ∷ 0 ∷ []) $ use2 𝓛 (‵ (Row dst new)) (glue E 𝓛 b (full xs) (empty d) dst (k * s + dst) behind) $
-            use2 𝓛 (‵ (Row o (laid to new slots))) (run_in E 𝓛 b o slots to n le new long_new) $ rewrite ! 0 (λ (l : S). ‵ (Row o l)) result refl $ done !;
+        out = qed 𝓛 (‵ (Row o slots) ∷ []) ∵ use1 𝓛
+            (‵ (Row dst old) ⊛ ‵ (around E 𝓛 b o slots to n))
+            (run_out E 𝓛 b o slots to n le old is) $ split ! $
+            use1 𝓛 (‵ (Row dst (empty d)) ⊛ ‵ (Row src (full xs)))
+            (cut E 𝓛 b (empty d) (full xs) dst src at) $ split ! $
+            use1 𝓛 (‵ (Room d dst)) (to_room E 𝓛 b d dst) $ move ! (1 ∷ []) $
+            use1 𝓛 (‵ (Items src)) (to_items E 𝓛 b k xs src long) $ fjoin ! $ done !;
+        back = qed 𝓛 (‵ (fsep (Items dst) (Room d (k * s + dst))) ∷ ‵
+            (around E 𝓛 b o slots to n) ∷ []) ∵ fsplit ! $ use1 𝓛 (‵ (Row dst (full xs)))
+            (of_items E 𝓛 b k xs dst) $ move ! (1 ∷ []) $
+            use1 𝓛 (‵ (Row (k * s + dst) (empty d))) (of_room E 𝓛 b d (k * s + dst)) $
+            move ! (1 ∷ 0 ∷ []) $
+            use2 𝓛 (‵ (Row dst new)) (glue E 𝓛 b (full xs) (empty d) dst (k * s + dst) behind) $
+            use2 𝓛 (‵ (Row o (laid to new slots))) (run_in E 𝓛 b o slots to n le new long_new) $
+            rewrite ! 0 (λ (l : S). ‵ (Row o l)) result refl $ done !;
       }
 
   -- the run beside a gap of d slots behind it
   slides_up : (d : ℕ) → to ≡ from + d → to + k ≤ length slots → run (from + k) d slots ≡ empty d
-      → Moves (memory_before_copy (R E) true d k (block_ptr b src) (block_ptr b dst) xs) (memory_after_copy (R E) true d k (block_ptr b src) (block_ptr b dst) xs)
+      → Moves (memory_before_copy (R E) true d k (block_ptr b src) (block_ptr b dst) xs)
+      (memory_after_copy (R E) true d k (block_ptr b src) (block_ptr b dst) xs)
   slides_up d apart within gap =
       let n : ℕ = k + d in
       let le : from + n ≤ length slots = omega arith in
@@ -112,46 +137,72 @@ module _ (E : El) {M : Type 1} {𝓤 : Ura M} (𝓛 : Logic 𝓤) (b o : ℕ) (s
       let old : S = full xs ++ empty d in
       let new : S = empty d ++ full xs in
       let is : run from n slots ≡ old = run-split slots from k d ∙ (λ m. items m ++ gap m) in
-      let behind : k * s + src ≡ length (full xs) * s + src = ap (λ (m : ℕ). m * s + src) (sym full-long) in
-      let at : dst ≡ length (empty {T = el_x E} d) * s + src = further from d to s o turned ∙ ap (λ (m : ℕ). m * s + src) (sym (empty-long d)) in
-      let long_new : length new ≡ n = omega (arith, length-append (empty d) (full xs), full-long, empty-long d) in
+      let behind : k * s + src ≡ length (full xs) * s + src =
+      ap (λ (m : ℕ). m * s + src) (sym full-long) in
+      let at : dst ≡ length (empty {T = el_x E} d) * s + src = further from d to s o turned
+      ∙ ap (λ (m : ℕ). m * s + src) (sym (empty-long d)) in
+      let long_new : length new ≡ n =
+      omega (arith, length-append (empty d) (full xs), full-long, empty-long d) in
       let front : from ≡ length pre = omega (arith, length-take from slots) in
       let whole : slots ≡ pre ++ (full xs ++ (empty d ++ post)) =
-      parted-run slots from n ∙ (ap (λ (l : S). pre ++ (l ++ post)) is ∙ ap (λ (l : S). pre ++ l) (append_assoc (full xs) (empty d) post)) in
+      parted-run slots from n
+      ∙ (ap (λ (l : S). pre ++ (l ++ post)) is
+      ∙ ap (λ (l : S). pre ++ l) (append_assoc (full xs) (empty d) post)) in
       let result : laid from new slots ≡ moved from to k slots =
-      laid-over slots new from n long_new ∙ (ap (λ (l : S). pre ++ l) (append_assoc (empty d) (full xs) post)
-      ∙ (sym (moved_right from to k d pre (full xs) post front apart (sym full-long)) ∙ ap (λ (l : S). moved from to k l) (sym whole))) in
+      laid-over slots new from n long_new
+      ∙ (ap (λ (l : S). pre ++ l) (append_assoc (empty d) (full xs) post)
+      ∙ (sym (moved_right from to k d pre (full xs) post front apart (sym full-long))
+      ∙ ap (λ (l : S). moved from to k l) (sym whole))) in
       record {
         Rest = around E 𝓛 b o slots from n;
-        out = qed 𝓛 (‵ (Row o slots) ∷ []) ∵ use1 𝓛 (‵ (Row src old) ⊛ ‵ (around E 𝓛 b o slots from n)) (run_out E 𝓛 b o slots from n le old is) $ split ! $
-            use1 𝓛 (‵ (Row src (full xs)) ⊛ ‵ (Row (k * s + src) (empty d))) (cut E 𝓛 b (full xs) (empty d) src (k * s + src) behind) $ split ! $
-            use1 𝓛 (‵ (Items src)) (to_items E 𝓛 b k xs src long) $ move ! (1 ∷ []) $ use1 𝓛 (‵ (Room d (k * s + src))) (to_room E 𝓛 b d (k * s + src)) $ move ! (1 ∷ 0 ∷ []) $ fjoin ! $ done !;
-        back = qed 𝓛 (‵ (fsep (Items dst) (Room d src)) ∷ ‵ (around E 𝓛 b o slots from n) ∷ []) ∵ fsplit ! $ use1 𝓛 (‵ (Row dst (full xs))) (of_items E 𝓛 b k xs dst) $ move ! (1 ∷ []) $
-            use1 𝓛 (‵ (Row src (empty d))) (of_room E 𝓛 b d src) $ use2 𝓛 (‵ (Row src new)) (glue E 𝓛 b (empty d) (full xs) src dst at) $
-            use2 𝓛 (‵ (Row o (laid from new slots))) (run_in E 𝓛 b o slots from n le new long_new) $ rewrite ! 0 (λ (l : S). ‵ (Row o l)) result refl $ done !;
+        out = qed 𝓛 (‵ (Row o slots) ∷ []) ∵ use1 𝓛
+            (‵ (Row src old) ⊛ ‵ (around E 𝓛 b o slots from n))
+            (run_out E 𝓛 b o slots from n le old is) $ split ! $
+            use1 𝓛 (‵ (Row src (full xs)) ⊛ ‵ (Row (k * s + src) (empty d)))
+            (cut E 𝓛 b (full xs) (empty d) src (k * s + src) behind) $ split ! $
+            use1 𝓛 (‵ (Items src)) (to_items E 𝓛 b k xs src long) $ move ! (1 ∷ []) $
+            use1 𝓛 (‵ (Room d (k * s + src))) (to_room E 𝓛 b d (k * s + src)) $
+            move ! (1 ∷ 0 ∷ []) $ fjoin ! $ done !;
+        back = qed 𝓛 (‵ (fsep (Items dst) (Room d src)) ∷ ‵ (around E 𝓛 b o slots from n) ∷ [])
+            ∵ fsplit ! $ use1 𝓛 (‵ (Row dst (full xs))) (of_items E 𝓛 b k xs dst) $
+            move ! (1 ∷ []) $
+            use1 𝓛 (‵ (Row src (empty d))) (of_room E 𝓛 b d src) $
+            use2 𝓛 (‵ (Row src new)) (glue E 𝓛 b (empty d) (full xs) src dst at) $
+            use2 𝓛 (‵ (Row o (laid from new slots))) (run_in E 𝓛 b o slots from n le new long_new) $
+            rewrite ! 0 (λ (l : S). ‵ (Row o l)) result refl $ done !;
       }
 
   -- three runs, of which the first and the last have k slots
   cut3 : (ys mid zs : S) (lo hi : ℕ) → length ys ≡ k → hi ≡ length mid * s + (k * s + lo)
-      → ent 𝓤 (sem 𝓛 (Row lo (ys ++ (mid ++ zs)))) (sep 𝓤 (sem 𝓛 (Row lo ys)) (sep 𝓤 (sem 𝓛 (Row hi zs)) (sem 𝓛 (Row (k * s + lo) mid))))
+      → ent 𝓤 (sem 𝓛 (Row lo (ys ++ (mid ++ zs))))
+      (sep 𝓤 (sem 𝓛 (Row lo ys)) (sep 𝓤 (sem 𝓛 (Row hi zs)) (sem 𝓛 (Row (k * s + lo) mid))))
   cut3 ys mid zs lo hi count at =
       qed 𝓛 (‵ (Row lo (ys ++ (mid ++ zs))) ∷ []) ∵
-      use1 𝓛 (‵ (Row lo ys) ⊛ ‵ (Row (k * s + lo) (mid ++ zs))) (cut E 𝓛 b ys (mid ++ zs) lo (k * s + lo) (ap (λ (n : ℕ). n * s + lo) (sym count))) $ split ! $ move ! (1 ∷ []) $
-      use1 𝓛 (‵ (Row (k * s + lo) mid) ⊛ ‵ (Row hi zs)) (cut E 𝓛 b mid zs (k * s + lo) hi at) $ split ! $ move ! (2 ∷ 1 ∷ 0 ∷ []) $ done !
+      use1 𝓛 (‵ (Row lo ys) ⊛ ‵ (Row (k * s + lo) (mid ++ zs)))
+      (cut E 𝓛 b ys (mid ++ zs) lo (k * s + lo) (ap (λ (n : ℕ). n * s + lo) (sym count))) $
+      split ! $ move ! (1 ∷ []) $
+      use1 𝓛 (‵ (Row (k * s + lo) mid) ⊛ ‵ (Row hi zs)) (cut E 𝓛 b mid zs (k * s + lo) hi at) $
+      split ! $ move ! (2 ∷ 1 ∷ 0 ∷ []) $ done !
 
   glue3 : (ys mid zs : S) (lo hi : ℕ) → length ys ≡ k → hi ≡ length mid * s + (k * s + lo)
-      → ent 𝓤 (sep 𝓤 (sem 𝓛 (Row lo ys)) (sep 𝓤 (sem 𝓛 (Row hi zs)) (sem 𝓛 (Row (k * s + lo) mid)))) (sem 𝓛 (Row lo (ys ++ (mid ++ zs))))
+      → ent 𝓤 (sep 𝓤 (sem 𝓛 (Row lo ys)) (sep 𝓤 (sem 𝓛 (Row hi zs)) (sem 𝓛 (Row (k * s + lo) mid))))
+      (sem 𝓛 (Row lo (ys ++ (mid ++ zs))))
   glue3 ys mid zs lo hi count at =
-      qed 𝓛 (‵ (Row lo ys) ∷ ‵ (Row hi zs) ∷ ‵ (Row (k * s + lo) mid) ∷ []) ∵ move ! (2 ∷ 1 ∷ []) $ use2 𝓛 (‵ (Row (k * s + lo) (mid ++ zs))) (glue E 𝓛 b mid zs (k * s + lo) hi at) $ move ! (1 ∷ 0 ∷ []) $
+      qed 𝓛 (‵ (Row lo ys) ∷ ‵ (Row hi zs) ∷ ‵ (Row (k * s + lo) mid) ∷ []) ∵ move ! (2 ∷ 1 ∷ []) $
+      use2 𝓛 (‵ (Row (k * s + lo) (mid ++ zs))) (glue E 𝓛 b mid zs (k * s + lo) hi at)
+      $ move ! (1 ∷ 0 ∷ []) $
       by ! (glue E 𝓛 b ys (mid ++ zs) lo (k * s + lo) (ap (λ (n : ℕ). n * s + lo) (sym count)))
 
+  -- the run, and room where it goes
   abbrev pub Was : Fml
   Was = fsep (Items src) (Room k dst)
 
+  -- the run there, and room where it was
   abbrev pub Is : Fml
   Is = fsep (Items dst) (Room k src)
 
-  around3 : (lo hi m : ℕ) → hi ≡ lo + k + m → (mid : S) → length mid ≡ m → hi * s + o ≡ length mid * s + (k * s + (lo * s + o))
+  around3 : (lo hi m : ℕ) → hi ≡ lo + k + m → (mid : S) → length mid ≡ m
+      → hi * s + o ≡ length mid * s + (k * s + (lo * s + o))
   around3 lo hi m e mid count =
       let first = add_times (lo + k) m s in
       let second = add_times lo k s in
@@ -160,7 +211,8 @@ module _ (E : El) {M : Type 1} {𝓤 : Ura M} (𝓛 : Logic 𝓤) (b o : ℕ) (s
       omega arith
 
   -- the items go over what lies behind them
-  goes_over : (m : ℕ) → to ≡ from + k + m → to + k ≤ length slots → run to k slots ≡ empty k → Moves Was Is
+  goes_over : (m : ℕ) → to ≡ from + k + m → to + k ≤ length slots
+      → run to k slots ≡ empty k → Moves Was Is
   goes_over m apart within gap =
       let n : ℕ = k + (m + k) in
       let le : from + n ≤ length slots = omega arith in
@@ -171,30 +223,54 @@ module _ (E : El) {M : Type 1} {𝓤 : Ura M} (𝓛 : Logic 𝓤) (b o : ℕ) (s
       let new : S = empty k ++ (mid ++ full xs) in
       let count : length mid ≡ m = length-run slots (from + k) m (omega arith) in
       let is : run from n slots ≡ old =
-      run-split slots from k (m + k) ∙ (λ i. items i ++ (run-split slots (from + k) m k ∙ ap (λ (l : S). mid ++ l) (ap (λ (j : ℕ). run j k slots) (sym apart) ∙ gap)) i) in
+      run-split slots from k (m + k)
+      ∙ (λ i. items i ++ (run-split slots (from + k) m k
+      ∙ ap (λ (l : S). mid ++ l) (ap (λ (j : ℕ). run j k slots) (sym apart) ∙ gap)) i) in
       let at : dst ≡ length mid * s + (k * s + src) = around3 from to m apart mid count in
-      let long_new : length new ≡ n = omega (arith, length-append (empty k) (mid ++ full xs), length-append mid (full xs), full-long, empty-long k, count) in
+      let long_new : length new ≡ n =
+      omega (
+        arith,
+        length-append (empty k) (mid ++ full xs),
+        length-append mid (full xs),
+        full-long,
+        empty-long k,
+        count,
+      ) in
       let front : from ≡ length pre = omega (arith, length-take from slots) in
       let target : to ≡ from + k + length mid = omega arith in
-      let flat : (ys zs : S) → (ys ++ (mid ++ zs)) ++ post ≡ ys ++ (mid ++ (zs ++ post)) = λ ys zs. append_assoc ys (mid ++ zs) post ∙ ap (λ (l : S). ys ++ l) (append_assoc mid zs post) in
-      let whole : slots ≡ pre ++ (full xs ++ (mid ++ (empty k ++ post))) = parted-run slots from n ∙ (ap (λ (l : S). pre ++ (l ++ post)) is ∙ ap (λ (l : S). pre ++ l) (flat (full xs) (empty k))) in
+      let flat : (ys zs : S) → (ys ++ (mid ++ zs)) ++ post ≡ ys ++ (mid ++ (zs ++ post)) =
+      λ ys zs. append_assoc ys (mid ++ zs) post
+      ∙ ap (λ (l : S). ys ++ l) (append_assoc mid zs post) in
+      let whole : slots ≡ pre ++ (full xs ++ (mid ++ (empty k ++ post))) = parted-run slots from n
+      ∙ (ap (λ (l : S). pre ++ (l ++ post)) is
+      ∙ ap (λ (l : S). pre ++ l) (flat (full xs) (empty k))) in
       let result : laid from new slots ≡ moved from to k slots =
       laid-over slots new from n long_new ∙ (ap (λ (l : S). pre ++ l) (flat (empty k) (full xs))
-      ∙ (sym (moved_over from to k pre (full xs) mid post front target (sym full-long)) ∙ ap (λ (l : S). moved from to k l) (sym whole))) in
+      ∙ (sym (moved_over from to k pre (full xs) mid post front target (sym full-long))
+      ∙ ap (λ (l : S). moved from to k l) (sym whole))) in
       let Middle : Fml = Row (k * s + src) mid in
       record {
         Rest = fsep Middle (around E 𝓛 b o slots from n);
-        out = qed 𝓛 (‵ (Row o slots) ∷ []) ∵ use1 𝓛 (‵ (Row src old) ⊛ ‵ (around E 𝓛 b o slots from n)) (run_out E 𝓛 b o slots from n le old is) $ split ! $
-            use1 𝓛 (‵ (Row src (full xs)) ⊛ ‵ (Row dst (empty k)) ⊛ ‵ Middle) (cut3 (full xs) mid (empty k) src dst full-long at) $ split3 ! $
-            use1 𝓛 (‵ (Items src)) (to_items E 𝓛 b k xs src long) $ move ! (1 ∷ []) $ use1 𝓛 (‵ (Room k dst)) (to_room E 𝓛 b k dst) $ move ! (1 ∷ 0 ∷ []) $ fjoin ! $ move ! (1 ∷ 2 ∷ []) $ fjoin ! $ move ! (1 ∷ 0 ∷ []) $ done !;
-        back = qed 𝓛 (‵ Is ∷ ‵ (fsep Middle (around E 𝓛 b o slots from n)) ∷ []) ∵ fsplit ! $ move ! (2 ∷ []) $ fsplit ! $ move ! (2 ∷ []) $
-            use1 𝓛 (‵ (Row dst (full xs))) (of_items E 𝓛 b k xs dst) $ move ! (3 ∷ []) $ use1 𝓛 (‵ (Row src (empty k))) (of_room E 𝓛 b k src) $ move ! (0 ∷ 1 ∷ 2 ∷ []) $
+        out = qed 𝓛 (‵ (Row o slots) ∷ []) ∵ use1 𝓛
+            (‵ (Row src old) ⊛ ‵ (around E 𝓛 b o slots from n))
+            (run_out E 𝓛 b o slots from n le old is) $ split ! $
+            use1 𝓛 (‵ (Row src (full xs)) ⊛ ‵ (Row dst (empty k)) ⊛ ‵ Middle)
+            (cut3 (full xs) mid (empty k) src dst full-long at) $ split3 ! $
+            use1 𝓛 (‵ (Items src)) (to_items E 𝓛 b k xs src long) $ move ! (1 ∷ []) $
+            use1 𝓛 (‵ (Room k dst)) (to_room E 𝓛 b k dst) $ move ! (1 ∷ 0 ∷ []) $ fjoin ! $
+            move ! (1 ∷ 2 ∷ []) $ fjoin ! $ move ! (1 ∷ 0 ∷ []) $ done !;
+        back = qed 𝓛 (‵ Is ∷ ‵ (fsep Middle (around E 𝓛 b o slots from n)) ∷ []) ∵ fsplit ! $
+            move ! (2 ∷ []) $ fsplit ! $ move ! (2 ∷ []) $
+            use1 𝓛 (‵ (Row dst (full xs))) (of_items E 𝓛 b k xs dst) $ move ! (3 ∷ []) $
+            use1 𝓛 (‵ (Row src (empty k))) (of_room E 𝓛 b k src) $ move ! (0 ∷ 1 ∷ 2 ∷ []) $
             use3 𝓛 (‵ (Row src new)) (glue3 (empty k) mid (full xs) src dst (empty-long k) at) $
-            use2 𝓛 (‵ (Row o (laid from new slots))) (run_in E 𝓛 b o slots from n le new long_new) $ rewrite ! 0 (λ (l : S). ‵ (Row o l)) result refl $ done !;
+            use2 𝓛 (‵ (Row o (laid from new slots))) (run_in E 𝓛 b o slots from n le new long_new) $
+            rewrite ! 0 (λ (l : S). ‵ (Row o l)) result refl $ done !;
       }
 
   -- the items go back over what lies before them
-  goes_back : (m : ℕ) → from ≡ to + k + m → from + k ≤ length slots → run to k slots ≡ empty k → Moves Was Is
+  goes_back : (m : ℕ) → from ≡ to + k + m → from + k ≤ length slots
+      → run to k slots ≡ empty k → Moves Was Is
   goes_back m apart within gap =
       let n : ℕ = k + (m + k) in
       let le : to + n ≤ length slots = omega arith in
@@ -205,36 +281,65 @@ module _ (E : El) {M : Type 1} {𝓤 : Ura M} (𝓛 : Logic 𝓤) (b o : ℕ) (s
       let new : S = full xs ++ (mid ++ empty k) in
       let count : length mid ≡ m = length-run slots (to + k) m (omega arith) in
       let is : run to n slots ≡ old =
-      run-split slots to k (m + k) ∙ (λ i. gap i ++ (run-split slots (to + k) m k ∙ ap (λ (l : S). mid ++ l) (ap (λ (j : ℕ). run j k slots) (sym apart) ∙ items)) i) in
+      run-split slots to k (m + k)
+      ∙ (λ i. gap i ++ (run-split slots (to + k) m k
+      ∙ ap (λ (l : S). mid ++ l) (ap (λ (j : ℕ). run j k slots) (sym apart) ∙ items)) i) in
       let at : src ≡ length mid * s + (k * s + dst) = around3 to from m apart mid count in
-      let long_new : length new ≡ n = omega (arith, length-append (full xs) (mid ++ empty k), length-append mid (empty k), full-long, empty-long k, count) in
+      let long_new : length new ≡ n =
+      omega (
+        arith,
+        length-append (full xs) (mid ++ empty k),
+        length-append mid (empty k),
+        full-long,
+        empty-long k,
+        count,
+      ) in
       let front : to ≡ length pre = omega (arith, length-take to slots) in
       let source : from ≡ to + k + length mid = omega arith in
-      let flat : (ys zs : S) → (ys ++ (mid ++ zs)) ++ post ≡ ys ++ (mid ++ (zs ++ post)) = λ ys zs. append_assoc ys (mid ++ zs) post ∙ ap (λ (l : S). ys ++ l) (append_assoc mid zs post) in
-      let whole : slots ≡ pre ++ (empty k ++ (mid ++ (full xs ++ post))) = parted-run slots to n ∙ (ap (λ (l : S). pre ++ (l ++ post)) is ∙ ap (λ (l : S). pre ++ l) (flat (empty k) (full xs))) in
+      let flat : (ys zs : S) → (ys ++ (mid ++ zs)) ++ post ≡ ys ++ (mid ++ (zs ++ post)) =
+      λ ys zs. append_assoc ys (mid ++ zs) post
+      ∙ ap (λ (l : S). ys ++ l) (append_assoc mid zs post) in
+      let whole : slots ≡ pre ++ (empty k ++ (mid ++ (full xs ++ post))) = parted-run slots to n
+      ∙ (ap (λ (l : S). pre ++ (l ++ post)) is
+      ∙ ap (λ (l : S). pre ++ l) (flat (empty k) (full xs))) in
       let result : laid to new slots ≡ moved from to k slots =
       laid-over slots new to n long_new ∙ (ap (λ (l : S). pre ++ l) (flat (full xs) (empty k))
-      ∙ (sym (moved_back from to k pre (full xs) mid post front source (sym full-long)) ∙ ap (λ (l : S). moved from to k l) (sym whole))) in
+      ∙ (sym (moved_back from to k pre (full xs) mid post front source (sym full-long))
+      ∙ ap (λ (l : S). moved from to k l) (sym whole))) in
       let Middle : Fml = Row (k * s + dst) mid in
       record {
         Rest = fsep Middle (around E 𝓛 b o slots to n);
-        out = qed 𝓛 (‵ (Row o slots) ∷ []) ∵ use1 𝓛 (‵ (Row dst old) ⊛ ‵ (around E 𝓛 b o slots to n)) (run_out E 𝓛 b o slots to n le old is) $ split ! $
-            use1 𝓛 (‵ (Row dst (empty k)) ⊛ ‵ (Row src (full xs)) ⊛ ‵ Middle) (cut3 (empty k) mid (full xs) dst src (empty-long k) at) $ split3 ! $
-            use1 𝓛 (‵ (Room k dst)) (to_room E 𝓛 b k dst) $ move ! (1 ∷ []) $ use1 𝓛 (‵ (Items src)) (to_items E 𝓛 b k xs src long) $ fjoin ! $ move ! (1 ∷ 2 ∷ []) $ fjoin ! $ move ! (1 ∷ 0 ∷ []) $ done !;
-        back = qed 𝓛 (‵ Is ∷ ‵ (fsep Middle (around E 𝓛 b o slots to n)) ∷ []) ∵ fsplit ! $ move ! (2 ∷ []) $ fsplit ! $ move ! (3 ∷ []) $
-            use1 𝓛 (‵ (Row src (empty k))) (of_room E 𝓛 b k src) $ move ! (3 ∷ []) $ use1 𝓛 (‵ (Row dst (full xs))) (of_items E 𝓛 b k xs dst) $ move ! (0 ∷ 1 ∷ 2 ∷ []) $
+        out = qed 𝓛 (‵ (Row o slots) ∷ []) ∵ use1 𝓛
+            (‵ (Row dst old) ⊛ ‵ (around E 𝓛 b o slots to n))
+            (run_out E 𝓛 b o slots to n le old is) $ split ! $
+            use1 𝓛 (‵ (Row dst (empty k)) ⊛ ‵ (Row src (full xs)) ⊛ ‵ Middle)
+            (cut3 (empty k) mid (full xs) dst src (empty-long k) at) $ split3 ! $
+            use1 𝓛 (‵ (Room k dst)) (to_room E 𝓛 b k dst) $ move ! (1 ∷ []) $
+            use1 𝓛 (‵ (Items src)) (to_items E 𝓛 b k xs src long) $ fjoin ! $
+            move ! (1 ∷ 2 ∷ []) $ fjoin ! $ move ! (1 ∷ 0 ∷ []) $ done !;
+        back = qed 𝓛 (‵ Is ∷ ‵ (fsep Middle (around E 𝓛 b o slots to n)) ∷ []) ∵ fsplit ! $
+            move ! (2 ∷ []) $ fsplit ! $ move ! (3 ∷ []) $
+            use1 𝓛 (‵ (Row src (empty k))) (of_room E 𝓛 b k src) $ move ! (3 ∷ []) $
+            use1 𝓛 (‵ (Row dst (full xs))) (of_items E 𝓛 b k xs dst) $ move ! (0 ∷ 1 ∷ 2 ∷ []) $
             use3 𝓛 (‵ (Row dst new)) (glue3 (full xs) mid (empty k) dst src full-long at) $
-            use2 𝓛 (‵ (Row o (laid to new slots))) (run_in E 𝓛 b o slots to n le new long_new) $ rewrite ! 0 (λ (l : S). ‵ (Row o l)) result refl $ done !;
+            use2 𝓛 (‵ (Row o (laid to new slots))) (run_in E 𝓛 b o slots to n le new long_new) $
+            rewrite ! 0 (λ (l : S). ‵ (Row o l)) result refl $ done !;
       }
 
   -- what `move_run` asks of the slots that the run comes to
   abbrev pub Bare : Type 0
   Bare = (i : ℕ) → to ≤ i → i < to + k → (i < from) ⊎ (from + k ≤ i) → slot slots i ≡ None
 
-  pub apart : from + k ≤ length slots → to + k ≤ length slots → Bare → (from + k ≤ to) ⊎ (to + k ≤ from) → Moves Was Is
+  -- runs that lie apart
+  pub apart : from + k ≤ length slots → to + k ≤ length slots → Bare → (from + k ≤ to)
+      ⊎ (to + k ≤ from) → Moves Was Is
   apart source target bare far =
-      ⊎_elim (λ (p : from + k ≤ to). goes_over (to - (from + k)) (omega arith) target (empty-run slots to k target (λ i h j. bare i h j (inr (let q : from + k ≤ i = omega arith in q)))))
-      (λ (p : to + k ≤ from). goes_back (from - (to + k)) (omega arith) source (empty-run slots to k target (λ i h j. bare i h j (inl (let q : i < from = omega arith in q))))) far
+      ⊎_elim (λ (p : from + k ≤ to). goes_over (to - (from + k)) (omega arith) target
+      (empty-run slots to k target
+      (λ i h j. bare i h j (inr (let q : from + k ≤ i = omega arith in q)))))
+      (λ (p : to + k ≤ from). goes_back (from - (to + k)) (omega arith) source
+      (empty-run slots to k target
+      (λ i h j. bare i h j (inl (let q : i < from = omega arith in q))))) far
 
   -- how far a run goes
   abbrev pub distance : Bool → ℕ
@@ -242,18 +347,29 @@ module _ (E : El) {M : Type 1} {𝓤 : Ura M} (𝓛 : Logic 𝓤) (b o : ℕ) (s
   distance false = from - to
 
   abbrev Way : Bool → Type 1
-  Way up = Moves (memory_before_copy (R E) up (distance up) k (block_ptr b src) (block_ptr b dst) xs) (memory_after_copy (R E) up (distance up) k (block_ptr b src) (block_ptr b dst) xs)
+  Way up = Moves (memory_before_copy (R E) up (distance up) k (block_ptr b src) (block_ptr b dst)
+      xs) (memory_after_copy (R E) up (distance up) k (block_ptr b src) (block_ptr b dst) xs)
 
-  pub slides : from + k ≤ length slots → to + k ≤ length slots → Bare → to < from + k → from < to + k → (up : Bool) → ltb from to ≡ up → Way up
+  -- runs that overlap
+  pub slides : from + k ≤ length slots → to + k ≤ length slots → Bare → to < from + k
+      → from < to + k → (up : Bool) → ltb from to ≡ up → Way up
   slides source target bare near near' true e =
       let less : from < to = ltb-true from to e in
       let le : from + k + (to - from) ≤ length slots = omega arith in
-      slides_up (to - from) (omega arith) target (empty-run slots (from + k) (to - from) le (λ i h j. bare i (omega arith) (omega arith) (inr h)))
+      slides_up (to - from) (omega arith) target
+      (empty-run slots (from + k) (to - from) le
+      (λ i h j. bare i (omega arith) (omega arith) (inr h)))
   slides source target bare near near' false e =
       let less : to ≤ from = ltb-false from to e in
       let le : to + (from - to) ≤ length slots = omega arith in
-      slides_down (from - to) (omega arith) source (empty-run slots to (from - to) le (λ i h j. bare i h (omega arith) (inl (let q : i < from = omega arith in q))))
+      slides_down (from - to) (omega arith) source
+      (empty-run slots to (from - to) le
+      (λ i h j. bare i h (omega arith) (inl (let q : i < from = omega arith in q))))
 
-  pub shifted : (up : Bool) → ltb from to ≡ up → IsShifted (R E) up (distance up) (block_ptr b src) (block_ptr b dst)
-  shifted true e = let less : from < to = ltb-true from to e in ap (block_ptr b) (further from (to - from) to s o (omega arith))
-  shifted false e = let less : to ≤ from = ltb-false from to e in ap (block_ptr b) (further to (from - to) from s o (omega arith))
+  -- the target lies so far from the source
+  pub shifted : (up : Bool) → ltb from to ≡ up → IsShifted (R E) up (distance up)
+      (block_ptr b src) (block_ptr b dst)
+  shifted true e = let less : from < to = ltb-true from to e in
+      ap (block_ptr b) (further from (to - from) to s o (omega arith))
+  shifted false e = let less : to ≤ from = ltb-false from to e in
+      ap (block_ptr b) (further to (from - to) from s o (omega arith))

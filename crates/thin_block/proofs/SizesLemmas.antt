@@ -28,23 +28,62 @@ pub record Rounded (a x : ℕ) : Type 0 where
   pub most : block_align a ≤ 16
   pub offset : items_offset a ≡ 16
   pub above : x + 16 ≤ next_multiple_of (items_offset a + x) (block_align a)
-  pub tells : next_multiple_of (items_offset a + x) (block_align a) < 2 ^ 63 → x + 16 + block_align a ≤ 2 ^ 63
-  pub short : x + 16 + block_align a ≤ 2 ^ 63 → next_multiple_of (items_offset a + x) (block_align a) < 2 ^ 63
+  pub tells : next_multiple_of (items_offset a + x) (block_align a) < 2 ^ 63
+      → x + 16 + block_align a ≤ 2 ^ 63
+  pub short : x + 16 + block_align a ≤ 2 ^ 63 → next_multiple_of (items_offset a + x)
+      (block_align a) < 2 ^ 63
 
 rounded_to : (w : Width) (x : ℕ) → Rounded (bytes w) x
-rounded_to w8 x = record { least = omega arith; most = omega arith; offset = refl; above = omega arith; tells = λ h. omega arith; short = λ h. omega arith }
-rounded_to w16 x = record { least = omega arith; most = omega arith; offset = refl; above = omega arith; tells = λ h. omega arith; short = λ h. omega arith }
-rounded_to w32 x = record { least = omega arith; most = omega arith; offset = refl; above = omega arith; tells = λ h. omega arith; short = λ h. omega arith }
-rounded_to w64 x = record { least = omega arith; most = omega arith; offset = refl; above = omega arith; tells = λ h. omega arith; short = λ h. omega arith }
-rounded_to w128 x = record { least = omega arith; most = omega arith; offset = refl; above = omega arith; tells = λ h. omega arith; short = λ h. omega arith }
+rounded_to w8 x = record {
+  least = omega arith;
+  most = omega arith;
+  offset = refl;
+  above = omega arith;
+  tells = λ h. omega arith;
+  short = λ h. omega arith;
+}
+rounded_to w16 x = record {
+  least = omega arith;
+  most = omega arith;
+  offset = refl;
+  above = omega arith;
+  tells = λ h. omega arith;
+  short = λ h. omega arith;
+}
+rounded_to w32 x = record {
+  least = omega arith;
+  most = omega arith;
+  offset = refl;
+  above = omega arith;
+  tells = λ h. omega arith;
+  short = λ h. omega arith;
+}
+rounded_to w64 x = record {
+  least = omega arith;
+  most = omega arith;
+  offset = refl;
+  above = omega arith;
+  tells = λ h. omega arith;
+  short = λ h. omega arith;
+}
+rounded_to w128 x = record {
+  least = omega arith;
+  most = omega arith;
+  offset = refl;
+  above = omega arith;
+  tells = λ h. omega arith;
+  short = λ h. omega arith;
+}
 
 -- the alignment of each type is one of the five
 pub align_known : (R : RattleType) → IsAlign (type_align R)
 align_known R = (align_w (layout R), align-bytes (layout R))
 
+-- rounding up to an alignment
 pub rounded_at : (a x : ℕ) → IsAlign a → Rounded a x
 rounded_at a x is = subst (λ (k : ℕ). Rounded k x) (sym is.1) (rounded_to is.0 x)
 
+-- the same at an item's own
 pub rounded : (R : RattleType) (x : ℕ) → Rounded (type_align R) x
 rounded R x = rounded_at (type_align R) x (align_known R)
 
@@ -58,9 +97,11 @@ whole_product (suc c) s h =
     let low : s < 2 ^ 63 = capped_small s (omega arith) in
     ap (λ (k : ℕ). suc c * k) (sym (capped_is s (omega arith)))
 
+-- in a small product, the capped size is the size
 pub capped_product : (c s : ℕ) → c * s < 2 ^ 63 → c * capped s ≡ c * s
 capped_product zero s h = zero-mul (capped s) ∙ sym (zero-mul s)
-capped_product (suc c) s h = let more = suc-mul c s in ap (λ (k : ℕ). suc c * k) (capped_is s (omega arith))
+capped_product (suc c) s h = let more = suc-mul c s in
+    ap (λ (k : ℕ). suc c * k) (capped_is s (omega arith))
 
 -- ---- tests
 
@@ -76,6 +117,7 @@ tells_second : (x y : Bool) → (x && y) ≡ true → y ≡ true
 tells_second true y f = f
 tells_second false y f = cc
 
+-- a number that is not 0 is above it
 pub positive : (n : ℕ) → (n ≡ 0 → ⊥) → 0 < n
 positive zero never = absurd (never refl)
 positive (suc n) never = omega arith
@@ -96,15 +138,20 @@ pub record Told (s a c : ℕ) : Type 0 where
   pub short : block_bytes s a c < 2 ^ 63
 
 module _ (s a c : ℕ) (is : IsAlign a) where
+  -- few slots whose bytes leave room are small
   pub small_yes : c < 2 ^ 63 → Small s a c → is_small s a c ≡ true
   small_yes few room =
       let whole : block_bytes s a c < 2 ^ 63 = (rounded_at a (c * s) is).short room in
-      both_true (ltb c (2 ^ 63)) (ltb (block_bytes s a c) (2 ^ 63)) (lt-ltb c (2 ^ 63) few) (lt-ltb (block_bytes s a c) (2 ^ 63) whole)
+      both_true (ltb c (2 ^ 63)) (ltb (block_bytes s a c) (2 ^ 63)) (lt-ltb c (2 ^ 63) few)
+      (lt-ltb (block_bytes s a c) (2 ^ 63) whole)
 
+  -- and what is small tells both
   pub small_tells : is_small s a c ≡ true → Told s a c
   small_tells e =
-      let few : c < 2 ^ 63 = ltb-true c (2 ^ 63) (tells_first (ltb c (2 ^ 63)) (ltb (block_bytes s a c) (2 ^ 63)) e) in
-      let short : block_bytes s a c < 2 ^ 63 = ltb-true (block_bytes s a c) (2 ^ 63) (tells_second (ltb c (2 ^ 63)) (ltb (block_bytes s a c) (2 ^ 63)) e) in
+      let few : c < 2 ^ 63 =
+      ltb-true c (2 ^ 63) (tells_first (ltb c (2 ^ 63)) (ltb (block_bytes s a c) (2 ^ 63)) e) in
+      let short : block_bytes s a c < 2 ^ 63 = ltb-true (block_bytes s a c) (2 ^ 63)
+      (tells_second (ltb c (2 ^ 63)) (ltb (block_bytes s a c) (2 ^ 63)) e) in
       record { few = few; room = (rounded_at a (c * s) is).tells short; short = short }
 
 -- the same of a type
@@ -112,9 +159,11 @@ module _ (R : RattleType) (c : ℕ) where
   abbrev IsSmall : Type 0
   IsSmall = is_small (type_size R) (type_align R) c ≡ true
 
+  -- the same of a type
   pub fits_yes : c < 2 ^ 63 → Small (type_size R) (type_align R) c → IsSmall
   fits_yes few room = small_yes (type_size R) (type_align R) c (align_known R) few room
 
+  -- and back
   pub fits_tells : IsSmall → Told (type_size R) (type_align R) c
   fits_tells e = small_tells (type_size R) (type_align R) c (align_known R) e
 
@@ -123,25 +172,32 @@ module _ (R : RattleType) (c : ℕ) where
   unfolding fits
   opened e = e
 
+  -- what is small fits
   pub closed : IsSmall → Fits R c
   unfolding fits
   closed e = e
 
   -- the test by a division
-  pub divided : (size : ℕ) → size ≡ capped (type_size R) → 0 < size → c ≤ (2 ^ 63 - block_align (type_align R) - 16) / size → Small (type_size R) (type_align R) c
+  pub divided : (size : ℕ) → size ≡ capped (type_size R) → 0 < size
+      → c ≤ (2 ^ 63 - block_align (type_align R) - 16) / size → Small (type_size R) (type_align R) c
   divided size is some few =
       let about = rounded R 0 in
       let q : ℕ = (2 ^ 63 - block_align (type_align R) - 16) / size in
       let parts = div-add-mod' (2 ^ 63 - block_align (type_align R) - 16) size in
       let under : c * size ≤ q * size = mul-le-mul_right size few in
-      let low : c * capped (type_size R) < 2 ^ 63 = subst (λ (k : ℕ). c * k < 2 ^ 63) is (omega arith) in
-      let same : c * type_size R ≡ c * size = whole_product c (type_size R) low ∙ ap (λ (k : ℕ). c * k) (sym is) in
+      let low : c * capped (type_size R) < 2 ^ 63 =
+      subst (λ (k : ℕ). c * k < 2 ^ 63) is (omega arith) in
+      let same : c * type_size R ≡ c * size = whole_product c (type_size R) low
+      ∙ ap (λ (k : ℕ). c * k) (sym is) in
       omega arith
 
-  pub dividing : (size : ℕ) → size ≡ capped (type_size R) → 0 < size → Small (type_size R) (type_align R) c → c ≤ (2 ^ 63 - block_align (type_align R) - 16) / size
+  -- a small block has at most as many slots as the division says
+  pub dividing : (size : ℕ) → size ≡ capped (type_size R) → 0 < size
+      → Small (type_size R) (type_align R) c → c ≤ (2 ^ 63 - block_align (type_align R) - 16) / size
   dividing size is some room =
       let about = rounded R 0 in
-      let same : c * capped (type_size R) ≡ c * type_size R = capped_product c (type_size R) (omega arith) in
+      let same : c * capped (type_size R) ≡ c * type_size R =
+      capped_product c (type_size R) (omega arith) in
       let same' : c * size ≡ c * type_size R = ap (λ (k : ℕ). c * k) is ∙ same in
       le-div c (2 ^ 63 - block_align (type_align R) - 16) size some (omega arith)
 
@@ -154,12 +210,16 @@ fits_none R =
 
 -- ---- the first capacity
 
+-- small items begin with four
 pub first_one : (s : ℕ) → 2 ^ 61 - 1 < capped s → 1 ≡ first s
 unfolding first
 first_one s large =
-    let above : 2 ^ 61 - 1 < s = lt_of_not s (2 ^ 61 - 1) (λ h. let same = capped_is s (omega arith) in absurd (omega arith)) in
+    let above : 2 ^ 61 - 1 < s =
+    lt_of_not s (2 ^ 61 - 1) (λ h. let same = capped_is s (omega arith) in
+    absurd (omega arith)) in
     rw (lt-ltb (2 ^ 61 - 1) s above) refl
 
+-- large items begin with one
 pub first_many : (s : ℕ) → capped s ≤ 2 ^ 61 - 1 → 4 ≡ first s
 unfolding first
 first_many s small =
@@ -175,7 +235,8 @@ first_false false y f = refl
 
 fits_no : (s a c : ℕ) → 2 ^ 63 ≤ c → fits s a c ≡ false
 unfolding fits
-fits_no s a c many = first_false (ltb c (2 ^ 63)) (ltb (block_bytes s a c) (2 ^ 63)) (le-ltb c (2 ^ 63) many)
+fits_no s a c many = first_false (ltb c (2 ^ 63)) (ltb (block_bytes s a c) (2 ^ 63))
+    (le-ltb c (2 ^ 63) many)
 
 -- a test that failed told that what it tests for is not so
 pub told_not : (r t : Bool) → (t ≡ true → r ≡ true) → r ≡ false → t ≡ false
@@ -186,20 +247,28 @@ told_not r false tells e = refl
 abbrev pub tried : ℕ → ℕ → ℕ → ℕ
 tried s c w = max w (if c == 0 then first s else 2 * c)
 
+-- the capacity that doubling tries where there was none
 pub tried_first : (s c w d : ℕ) → c ≡ 0 → d ≡ first s → max w d ≡ tried s c w
 tried_first s c w d none is = grind (arith, nat_tests)
 
+-- and where there was one
 pub tried_twice : (s c w d : ℕ) → (c ≡ 0 → ⊥) → d ≡ 2 * c → max w d ≡ tried s c w
 tried_twice s c w d some is = grind (arith, nat_tests)
 
-pub doubling_some : (s a c w n : ℕ) → n ≡ tried s c w → fits s a n ≡ true → Some n ≡ doubling s a c w
+-- doubling names what fits
+pub doubling_some : (s a c w n : ℕ) → n ≡ tried s c w → fits s a n ≡ true
+    → Some n ≡ doubling s a c w
 unfolding doubling fitting
-doubling_some s a c w n is small = (λ i. if sym small i then Some n else None) ∙ ap (λ (k : ℕ). if fits s a k then Some k else None) is
+doubling_some s a c w n is small = (λ i. if sym small i then Some n else None)
+    ∙ ap (λ (k : ℕ). if fits s a k then Some k else None) is
 
+-- doubling names nothing where nothing fits
 pub doubling_none : (s a c w n : ℕ) → n ≡ tried s c w → fits s a n ≡ false → None ≡ doubling s a c w
 unfolding doubling fitting
-doubling_none s a c w n is large = (λ i. if sym large i then Some n else None) ∙ ap (λ (k : ℕ). if fits s a k then Some k else None) is
+doubling_none s a c w n is large = (λ i. if sym large i then Some n else None)
+    ∙ ap (λ (k : ℕ). if fits s a k then Some k else None) is
 
+-- nor after a capacity of 2 ^ 63 or more
 pub doubling_past : (s a c w : ℕ) → c < w → 2 ^ 63 ≤ c → None ≡ doubling s a c w
 doubling_past s a c w more many =
     let high : w ≤ tried s c w = omega arith in

@@ -15,13 +15,16 @@ use Rattle.thin_block.specs.Slots.{full, empty, slot, items_in, IsPacked, run, l
 pub same_or_not : (i j : ℕ) → (i ≡ j) ⊎ (i ≡ j → ⊥)
 same_or_not i j =
     ⊎_elim (λ (p : i < j). inr (λ (e : i ≡ j). absurd (omega arith)))
-    (λ (p : j ≤ i). ⊎_elim (λ (q : j < i). inr (λ (e : i ≡ j). absurd (omega arith))) (λ (q : i ≤ j). inl (let e : i ≡ j = omega arith in e)) (order j i)) (order i j)
+    (λ (p : j ≤ i). ⊎_elim (λ (q : j < i). inr (λ (e : i ≡ j). absurd (omega arith)))
+    (λ (q : i ≤ j). inl (let e : i ≡ j = omega arith in e)) (order j i)) (order i j)
 
 module _ {T : Type 0} where
   -- a slot that is swapped with itself
-  pub set-same : (s : List (Option T)) (i j : ℕ) → i ≡ j → set s i (slot s i) ≡ set (set s i (slot s j)) j (slot s i)
+  pub set-same : (s : List (Option T)) (i j : ℕ) → i ≡ j
+      → set s i (slot s i) ≡ set (set s i (slot s j)) j (slot s i)
   set-same s i j same =
-      sym (set-set s i (slot s i) (slot s i)) ∙ (λ n. set (set s i (slot s (same n))) (same n) (slot s i))
+      sym (set-set s i (slot s i) (slot s i))
+      ∙ (λ n. set (set s i (slot s (same n))) (same n) (slot s i))
 
   -- the item that a filled slot holds
   pub the_item : (x : Option T) → IsSome x → (y : T) × (x ≡ Some y)
@@ -35,154 +38,219 @@ module _ {T : Type 0} where
   filled-within (x ∷ s) (suc i) is = let low = filled-within s i is in omega arith
 
   -- a run of filled slots holds a list of items
-  pub full-run : (s : List (Option T)) (i k : ℕ) → i + k ≤ length s → ((j : ℕ) → i ≤ j → j < i + k → IsSome (slot s j)) → (xs : List T) × (run i k s ≡ full xs)
+  pub full-run : (s : List (Option T)) (i k : ℕ) → i + k ≤ length s
+      → ((j : ℕ) → i ≤ j → j < i + k → IsSome (slot s j)) → (xs : List T) × (run i k s ≡ full xs)
   full-run [] zero zero le filled = ([], refl)
   full-run [] (suc i) k le filled = absurd (omega arith)
   full-run [] zero (suc k) le filled = absurd (omega arith)
-  full-run (x ∷ s) (suc i) k le filled = full-run s i k (omega arith) (λ j p q. filled (suc j) (omega arith) (omega arith))
+  full-run (x ∷ s) (suc i) k le filled = full-run s i k (omega arith)
+      (λ j p q. filled (suc j) (omega arith) (omega arith))
   full-run (x ∷ s) zero zero le filled = ([], refl)
   full-run (x ∷ s) zero (suc k) le filled =
       let item = the_item x (filled zero (omega arith) (omega arith)) in
-      let rest = full-run s zero k (omega arith) (λ j p q. filled (suc j) (omega arith) (omega arith)) in
+      let rest = full-run s zero k (omega arith)
+      (λ j p q. filled (suc j) (omega arith) (omega arith)) in
       (item.0 ∷ rest.0, λ n. item.1 n ∷ rest.1 n)
 
   -- a run of empty slots
-  pub empty-run : (s : List (Option T)) (i k : ℕ) → i + k ≤ length s → ((j : ℕ) → i ≤ j → j < i + k → slot s j ≡ None) → run i k s ≡ empty k
+  pub empty-run : (s : List (Option T)) (i k : ℕ) → i + k ≤ length s
+      → ((j : ℕ) → i ≤ j → j < i + k → slot s j ≡ None) → run i k s ≡ empty k
   empty-run [] zero zero le bare = refl
   empty-run [] (suc i) k le bare = absurd (omega arith)
   empty-run [] zero (suc k) le bare = absurd (omega arith)
-  empty-run (x ∷ s) (suc i) k le bare = empty-run s i k (omega arith) (λ j p q. bare (suc j) (omega arith) (omega arith))
+  empty-run (x ∷ s) (suc i) k le bare = empty-run s i k (omega arith)
+      (λ j p q. bare (suc j) (omega arith) (omega arith))
   empty-run (x ∷ s) zero zero le bare = refl
   empty-run (x ∷ s) zero (suc k) le bare =
-      λ n. bare zero (omega arith) (omega arith) n ∷ empty-run s zero k (omega arith) (λ j p q. bare (suc j) (omega arith) (omega arith)) n
+      λ n. bare zero (omega arith) (omega arith) n ∷ empty-run s zero k (omega arith)
+      (λ j p q. bare (suc j) (omega arith) (omega arith)) n
 
   -- a run has as many slots as asked
   pub length-run : (s : List (Option T)) (i k : ℕ) → i + k ≤ length s → length (run i k s) ≡ k
   length-run s i k le = omega (arith, length-take k (drop i s), length-drop i s)
 
   -- a row over which slots are laid stays as long
-  pub length-laid : (i : ℕ) (ys s : List (Option T)) → i + length ys ≤ length s → length (laid i ys s) ≡ length s
+  pub length-laid : (i : ℕ) (ys s : List (Option T)) → i + length ys ≤ length s
+      → length (laid i ys s) ≡ length s
   length-laid i ys s le =
-      omega (arith, length-append (take i s) (ys ++ drop (i + length ys) s), length-append ys (drop (i + length ys) s), length-take i s, length-drop (i + length ys) s)
+      omega (
+        arith,
+        length-append (take i s) (ys ++ drop (i + length ys) s),
+        length-append ys (drop (i + length ys) s),
+        length-take i s,
+        length-drop (i + length ys) s,
+      )
 
   -- items written over a run of as many slots
-  pub over-laid : (s : List (Option T)) (i : ℕ) (ws : List T) → i + length ws ≤ length s → ((j : ℕ) → i ≤ j → j < i + length ws → IsSome (slot s j)) → over s i ws ≡ laid i (full ws) s
+  pub over-laid : (s : List (Option T)) (i : ℕ) (ws : List T) → i + length ws ≤ length s
+      → ((j : ℕ) → i ≤ j → j < i + length ws → IsSome (slot s j)) → over s i ws ≡ laid i (full ws) s
   over-laid [] zero [] le held = refl
   over-laid [] (suc i) ws le held = absurd (omega arith)
   over-laid [] zero (w ∷ ws) le held = absurd (omega arith)
   over-laid (x ∷ s) (suc i) ws le held =
       let more : suc (i + length (full ws)) ≡ suc i + length (full ws) = omega arith in
-      ap (λ (l : List (Option T)). x ∷ l) (over-laid s i ws (let le' : suc i + length ws ≤ suc (length s) = le in omega arith) (λ j low high. held (suc j) (omega arith) (omega arith)))
+      ap (λ (l : List (Option T)). x ∷ l)
+      (over-laid s i ws (let le' : suc i + length ws ≤ suc (length s) = le in omega arith)
+      (λ j low high. held (suc j) (omega arith) (omega arith)))
       ∙ ap (λ (k : ℕ). x ∷ (take i s ++ (full ws ++ drop k (x ∷ s)))) more
   over-laid (None ∷ s) zero [] le held = refl
-  over-laid (None ∷ s) zero (w ∷ ws) le held = let wrong : IsSome (let none : Option T = None in none) = held zero (omega arith) (omega arith) in absurd (clash wrong)
+  over-laid (None ∷ s) zero (w ∷ ws) le held = let wrong : IsSome (let none : Option T = None in
+      none) = held zero (omega arith) (omega arith) in absurd (clash wrong)
   over-laid (Some x ∷ s) zero [] le held = refl
   over-laid (Some x ∷ s) zero (w ∷ ws) le held =
       let more : suc (0 + length (full ws)) ≡ 0 + suc (length (full ws)) = omega arith in
-      ap (λ (l : List (Option T)). Some w ∷ l) (over-laid s zero ws (let le' : 0 + suc (length ws) ≤ suc (length s) = le in omega arith) (λ j low high. held (suc j) (omega arith) (omega arith)))
+      ap (λ (l : List (Option T)). Some w ∷ l)
+      (over-laid s zero ws (let le' : 0 + suc (length ws) ≤ suc (length s) = le in omega arith)
+      (λ j low high. held (suc j) (omega arith) (omega arith)))
       ∙ ap (λ (k : ℕ). Some w ∷ (full ws ++ drop k (Some x ∷ s))) more
 
   -- nothing is laid, or one slot more
   pub laid-none : (i : ℕ) (s : List (Option T)) → laid i [] s ≡ s
-  laid-none i s = ap (λ (k : ℕ). take i s ++ drop k s) (let e : i + 0 ≡ i = omega arith in e) ∙ take-append-drop i s
+  laid-none i s = ap (λ (k : ℕ). take i s ++ drop k s) (let e : i + 0 ≡ i = omega arith in
+      e) ∙ take-append-drop i s
 
-  pub laid-one : (i : ℕ) (ys s : List (Option T)) (k : ℕ) (y : Option T) → k ≡ i + length ys → k < length s → set (laid i ys s) k y ≡ laid i (ys ++ y ∷ []) s
+  -- one slot more is laid
+  pub laid-one : (i : ℕ) (ys s : List (Option T)) (k : ℕ) (y : Option T) → k ≡ i + length ys
+      → k < length s → set (laid i ys s) k y ≡ laid i (ys ++ y ∷ []) s
   laid-one i ys s k y e within =
-      let at : length (take i s ++ ys) ≡ k = omega (arith, length-append (take i s) ys, length-take i s) in
-      let rest : drop (i + length ys) s ≡ get_or s k None ∷ drop (suc k) s = ap (λ (n : ℕ). drop n s) (sym e) ∙ drop-cons s k None within in
+      let at : length (take i s ++ ys) ≡ k =
+      omega (arith, length-append (take i s) ys, length-take i s) in
+      let rest : drop (i + length ys) s ≡ get_or s k None ∷ drop (suc k) s =
+      ap (λ (n : ℕ). drop n s) (sym e) ∙ drop-cons s k None within in
       let long : suc k ≡ i + length (ys ++ y ∷ []) = omega (arith, length-append ys (y ∷ [])) in
       ap (λ (l : List (Option T)). set (take i s ++ (ys ++ l)) k y) rest
-      ∙ (ap (λ (l : List (Option T)). set l k y) (sym (append_assoc (take i s) ys (get_or s k None ∷ drop (suc k) s)))
+      ∙ (ap (λ (l : List (Option T)). set l k y)
+      (sym (append_assoc (take i s) ys (get_or s k None ∷ drop (suc k) s)))
       ∙ (set_at (take i s ++ ys) (get_or s k None) (drop (suc k) s) y k at
       ∙ (append_assoc (take i s) ys (y ∷ drop (suc k) s)
-      ∙ (ap (λ (l : List (Option T)). take i s ++ l) (sym (append_assoc ys (y ∷ []) (drop (suc k) s))) ∙ ap (λ (n : ℕ). take i s ++ ((ys ++ y ∷ []) ++ drop n s)) long))))
+      ∙ (ap (λ (l : List (Option T)). take i s ++ l)
+      (sym (append_assoc ys (y ∷ []) (drop (suc k) s)))
+      ∙ ap (λ (n : ℕ). take i s ++ ((ys ++ y ∷ []) ++ drop n s)) long))))
 
   -- behind what is laid
-  pub slot-laid : (i : ℕ) (ys s : List (Option T)) (k : ℕ) → i ≤ length s → i + length ys ≤ k → slot (laid i ys s) k ≡ slot s k
+  pub slot-laid : (i : ℕ) (ys s : List (Option T)) (k : ℕ) → i ≤ length s → i + length ys ≤ k
+      → slot (laid i ys s) k ≡ slot s k
   slot-laid i ys s k low past =
       let front : length (take i s) ≡ i = omega (arith, length-take i s) in
       get_or-append_right (take i s) (ys ++ drop (i + length ys) s) i k None front (omega arith)
       ∙ (get_or-append_right ys (drop (i + length ys) s) (length ys) (k - i) None refl (omega arith)
-      ∙ (get_or-drop (i + length ys) s (k - i - length ys) None ∙ ap (λ (n : ℕ). slot s n) (let e : i + length ys + (k - i - length ys) ≡ k = omega arith in e)))
+      ∙ (get_or-drop (i + length ys) s (k - i - length ys) None
+      ∙ ap (λ (n : ℕ). slot s n)
+      (let e : i + length ys + (k - i - length ys) ≡ k = omega arith in e)))
 
   -- one item of xs more is copied
-  pub full-more : (xs : List T) (k : ℕ) (x : T) → k < length xs → x ≡ get_or xs k x → full (take (k + 1) xs) ≡ full (take k xs) ++ Some x ∷ []
+  pub full-more : (xs : List T) (k : ℕ) (x : T) → k < length xs → x ≡ get_or xs k x
+      → full (take (k + 1) xs) ≡ full (take k xs) ++ Some x ∷ []
   full-more xs k x low is =
-      ap (λ (l : List T). full l) ((take_at_read xs k x low).1 ∙ ap (λ (y : T). take k xs ++ y ∷ []) (sym is)) ∙ map-append Some (take k xs) (x ∷ [])
+      ap (λ (l : List T). full l) ((take_at_read xs k x low).1 ∙ ap (λ (y : T). take k xs ++ y ∷ [])
+      (sym is)) ∙ map-append Some (take k xs) (x ∷ [])
 
   -- a row, by what lies before, in and behind a run
   pub parted-run : (s : List (Option T)) (i k : ℕ) → s ≡ take i s ++ (run i k s ++ drop (i + k) s)
   parted-run s i k =
       sym (take-append-drop i s)
-      ∙ ap (λ (l : List (Option T)). take i s ++ l) (sym (take-append-drop k (drop i s)) ∙ ap (λ (l : List (Option T)). run i k s ++ l) (drop-drop k i s))
+      ∙ ap (λ (l : List (Option T)). take i s ++ l) (sym (take-append-drop k (drop i s))
+      ∙ ap (λ (l : List (Option T)). run i k s ++ l) (drop-drop k i s))
 
   -- a run of two runs
   pub run-split : (s : List (Option T)) (i a k : ℕ) → run i (a + k) s ≡ run i a s ++ run (i + a) k s
-  run-split s i a k = take-add a k (drop i s) ∙ ap (λ (l : List (Option T)). run i a s ++ take k l) (drop-drop a i s)
+  run-split s i a k = take-add a k (drop i s)
+      ∙ ap (λ (l : List (Option T)). run i a s ++ take k l) (drop-drop a i s)
 
   -- what is laid takes the place of as many slots
-  pub laid-at : (i : ℕ) (pre ys old post : List (Option T)) → i ≡ length pre → length ys ≡ length old → laid i ys (pre ++ (old ++ post)) ≡ pre ++ (ys ++ post)
+  pub laid-at : (i : ℕ) (pre ys old post : List (Option T)) → i ≡ length pre
+      → length ys ≡ length old → laid i ys (pre ++ (old ++ post)) ≡ pre ++ (ys ++ post)
   laid-at i pre ys old post e n =
       let Row : Type 0 = List (Option T) in
       let rest : drop (i + length ys) (pre ++ (old ++ post)) ≡ post =
-      ap (λ (l : Row). drop (i + length ys) l) (sym (append_assoc pre old post)) ∙ drop_at (pre ++ old) post (i + length ys) (length-append pre old ∙ omega arith) in
+      ap (λ (l : Row). drop (i + length ys) l) (sym (append_assoc pre old post))
+      ∙ drop_at (pre ++ old) post (i + length ys) (length-append pre old ∙ omega arith) in
       λ m. take_at pre (old ++ post) i (sym e) m ++ (ys ++ rest m)
 
   -- a run, by what lies before and behind it
-  pub run-at : (i k : ℕ) (pre ys post : List (Option T)) → i ≡ length pre → k ≡ length ys → run i k (pre ++ (ys ++ post)) ≡ ys
-  run-at i k pre ys post e n = ap (λ (l : List (Option T)). take k l) (drop_at pre (ys ++ post) i (sym e)) ∙ take_at ys post k (sym n)
+  pub run-at : (i k : ℕ) (pre ys post : List (Option T)) → i ≡ length pre → k ≡ length ys
+      → run i k (pre ++ (ys ++ post)) ≡ ys
+  run-at i k pre ys post e n = ap (λ (l : List (Option T)). take k l)
+      (drop_at pre (ys ++ post) i (sym e)) ∙ take_at ys post k (sym n)
 
   -- `moved`, by its three steps
-  moved-by : (from to k : ℕ) (s ys bare result : List (Option T)) → run from k s ≡ ys → emptied from k s ≡ bare → laid to ys bare ≡ result → moved from to k s ≡ result
+  moved-by : (from to k : ℕ) (s ys bare result : List (Option T)) → run from k s ≡ ys
+      → emptied from k s ≡ bare → laid to ys bare ≡ result → moved from to k s ≡ result
   unfolding moved
   moved-by from to k s ys bare result e f g = (λ n. laid to (e n) (f n)) ∙ g
 
   -- a row stays as long when a run moves
-  pub length-moved : (from to k : ℕ) (s : List (Option T)) → from + k ≤ length s → to + k ≤ length s → length (moved from to k s) ≡ length s
+  pub length-moved : (from to k : ℕ) (s : List (Option T)) → from + k ≤ length s → to + k ≤ length s
+      → length (moved from to k s) ≡ length s
   unfolding moved
   length-moved from to k s source target =
-      let count : length (empty {T = T} k) ≡ k = length-replicate k (let o : Option T = None in o) in
-      let left : length (emptied from k s) ≡ length s = length-laid from (empty k) s (omega arith) in
-      length-laid to (run from k s) (emptied from k s) (omega (arith, left, length-run s from k source)) ∙ left
+      let count : length (empty {T = T} k) ≡ k =
+      length-replicate k (let o : Option T = None in o) in
+      let left : length (emptied from k s) ≡ length s =
+      length-laid from (empty k) s (omega arith) in
+      length-laid to (run from k s) (emptied from k s)
+      (omega (arith, left, length-run s from k source)) ∙ left
 
   -- two runs of empty slots in either order
-  empty-turn : (a k : ℕ) (post : List (Option T)) → empty a ++ (empty k ++ post) ≡ empty k ++ (empty a ++ post)
+  empty-turn : (a k : ℕ) (post : List (Option T))
+      → empty a ++ (empty k ++ post) ≡ empty k ++ (empty a ++ post)
   empty-turn a k post =
       let turned : a + k ≡ k + a = omega arith in
       sym (append_assoc (empty a) (empty k) post)
-      ∙ (ap (λ (e : List (Option T)). e ++ post) (replicate-append-replicate a k None ∙ (ap (λ (m : ℕ). replicate m None) turned ∙ sym (replicate-append-replicate k a None)))
+      ∙ (ap (λ (e : List (Option T)). e ++ post) (replicate-append-replicate a k None
+      ∙ (ap (λ (m : ℕ). replicate m None) turned ∙ sym (replicate-append-replicate k a None)))
       ∙ append_assoc (empty k) (empty a) post)
 
   -- a run goes to the front of the gap before it
-  pub moved_left : (from to k d : ℕ) (pre ys post : List (Option T)) → to ≡ length pre → from ≡ to + d → k ≡ length ys
+  pub moved_left : (from to k d : ℕ) (pre ys post : List (Option T)) → to ≡ length pre
+      → from ≡ to + d → k ≡ length ys
       → moved from to k (pre ++ (empty d ++ (ys ++ post))) ≡ pre ++ (ys ++ (empty d ++ post))
   moved_left from to k d pre ys post t f n =
       let Row : Type 0 = List (Option T) in
       let s : Row = pre ++ (empty d ++ (ys ++ post)) in
-      let e : s ≡ (pre ++ empty d) ++ (ys ++ post) = sym (append_assoc pre (empty d) (ys ++ post)) in
-      let l : from ≡ length (pre ++ empty {T = T} d) = omega (arith, length-append pre (empty d), length-replicate d (let o : Option T = None in o)) in
-      let m : length (empty {T = T} k) ≡ length ys = length-replicate k (let o : Option T = None in o) ∙ n in
+      let e : s ≡ (pre ++ empty d) ++ (ys ++ post) =
+      sym (append_assoc pre (empty d) (ys ++ post)) in
+      let l : from ≡ length (pre ++ empty {T = T} d) =
+      omega (
+        arith,
+        length-append pre (empty d),
+        length-replicate d (let o : Option T = None in o),
+      ) in
+      let m : length (empty {T = T} k) ≡ length ys =
+      length-replicate k (let o : Option T = None in o) ∙ n in
       moved-by from to k s ys (pre ++ (empty k ++ (empty d ++ post))) _
       (ap (λ (r : Row). run from k r) e ∙ run-at from k (pre ++ empty d) ys post l n)
       (ap (λ (r : Row). emptied from k r) e ∙ (laid-at from (pre ++ empty d) (empty k) ys post l m
-      ∙ (append_assoc pre (empty d) (empty k ++ post) ∙ ap (λ (r : Row). pre ++ r) (empty-turn d k post))))
+      ∙ (append_assoc pre (empty d) (empty k ++ post) ∙ ap (λ (r : Row). pre ++ r)
+      (empty-turn d k post))))
       (laid-at to pre ys (empty k) (empty d ++ post) t (sym m))
 
   -- a run goes to the end of the gap behind it
-  pub moved_right : (from to k d : ℕ) (pre ys post : List (Option T)) → from ≡ length pre → to ≡ from + d → k ≡ length ys
+  pub moved_right : (from to k d : ℕ) (pre ys post : List (Option T)) → from ≡ length pre
+      → to ≡ from + d → k ≡ length ys
       → moved from to k (pre ++ (ys ++ (empty d ++ post))) ≡ pre ++ (empty d ++ (ys ++ post))
   moved_right from to k d pre ys post f t n =
       let Row : Type 0 = List (Option T) in
       let s : Row = pre ++ (ys ++ (empty d ++ post)) in
-      let l : to ≡ length (pre ++ empty {T = T} d) = omega (arith, length-append pre (empty d), length-replicate d (let o : Option T = None in o)) in
-      let m : length (empty {T = T} k) ≡ length ys = length-replicate k (let o : Option T = None in o) ∙ n in
+      let l : to ≡ length (pre ++ empty {T = T} d) =
+      omega (
+        arith,
+        length-append pre (empty d),
+        length-replicate d (let o : Option T = None in o),
+      ) in
+      let m : length (empty {T = T} k) ≡ length ys =
+      length-replicate k (let o : Option T = None in o) ∙ n in
       moved-by from to k s ys ((pre ++ empty d) ++ (empty k ++ post)) _
       (run-at from k pre ys (empty d ++ post) f n)
-      (laid-at from pre (empty k) ys (empty d ++ post) f m ∙ (ap (λ (r : Row). pre ++ r) (empty-turn k d post) ∙ sym (append_assoc pre (empty d) (empty k ++ post))))
-      (laid-at to (pre ++ empty d) ys (empty k) post l (sym m) ∙ append_assoc pre (empty d) (ys ++ post))
+      (laid-at from pre (empty k) ys (empty d ++ post) f m
+      ∙ (ap (λ (r : Row). pre ++ r) (empty-turn k d post)
+      ∙ sym (append_assoc pre (empty d) (empty k ++ post))))
+      (laid-at to (pre ++ empty d) ys (empty k) post l (sym m)
+      ∙ append_assoc pre (empty d) (ys ++ post))
 
   -- a run stays where it is
-  pub moved_same : (s : List (Option T)) (from k : ℕ) → from + k ≤ length s → moved from from k s ≡ s
+  pub moved_same : (s : List (Option T)) (from k : ℕ) → from + k ≤ length s
+      → moved from from k s ≡ s
   moved_same s from k source =
       let pre : List (Option T) = take from s in
       let ys : List (Option T) = run from k s in
@@ -191,36 +259,49 @@ module _ {T : Type 0} where
       let l : from ≡ length pre = omega (arith, length-take from s) in
       let n : k ≡ length ys = sym (length-run s from k source) in
       let still : from ≡ from + 0 = omega arith in
-      ap (λ (r : List (Option T)). moved from from k r) e ∙ (moved_right from from k 0 pre ys post l still n ∙ sym e)
+      ap (λ (r : List (Option T)). moved from from k r) e
+      ∙ (moved_right from from k 0 pre ys post l still n ∙ sym e)
 
   -- a run goes over what lies behind it, to empty slots
-  pub moved_over : (from to k : ℕ) (pre ys mid post : List (Option T)) → from ≡ length pre → to ≡ from + k + length mid → k ≡ length ys
-      → moved from to k (pre ++ (ys ++ (mid ++ (empty k ++ post)))) ≡ pre ++ (empty k ++ (mid ++ (ys ++ post)))
+  pub moved_over : (from to k : ℕ) (pre ys mid post : List (Option T)) → from ≡ length pre
+      → to ≡ from + k + length mid → k ≡ length ys
+      → moved from to k (pre ++ (ys ++ (mid ++ (empty k ++ post)))) ≡ pre
+      ++ (empty k ++ (mid ++ (ys ++ post)))
   moved_over from to k pre ys mid post f t n =
       let Row : Type 0 = List (Option T) in
       let front : Row = pre ++ (empty k ++ mid) in
       let joined : (r : Row) → front ++ r ≡ pre ++ (empty k ++ (mid ++ r)) =
-      λ r. append_assoc pre (empty k ++ mid) r ∙ ap (λ (l : Row). pre ++ l) (append_assoc (empty k) mid r) in
-      let m : length (empty {T = T} k) ≡ length ys = length-replicate k (let o : Option T = None in o) ∙ n in
-      let l : to ≡ length front = omega (arith, m, length-append pre (empty k ++ mid), length-append (empty k) mid) in
+      λ r. append_assoc pre (empty k ++ mid) r ∙ ap (λ (l : Row). pre ++ l)
+      (append_assoc (empty k) mid r) in
+      let m : length (empty {T = T} k) ≡ length ys =
+      length-replicate k (let o : Option T = None in o) ∙ n in
+      let l : to ≡ length front =
+      omega (arith, m, length-append pre (empty k ++ mid), length-append (empty k) mid) in
       moved-by from to k _ ys (front ++ (empty k ++ post)) _
       (run-at from k pre ys (mid ++ (empty k ++ post)) f n)
-      (laid-at from pre (empty k) ys (mid ++ (empty k ++ post)) f m ∙ sym (joined (empty k ++ post)))
+      (laid-at from pre (empty k) ys (mid ++ (empty k ++ post)) f m
+      ∙ sym (joined (empty k ++ post)))
       (laid-at to front ys (empty k) post l (sym m) ∙ joined (ys ++ post))
 
   -- a run goes back over what lies before it
-  pub moved_back : (from to k : ℕ) (pre ys mid post : List (Option T)) → to ≡ length pre → from ≡ to + k + length mid → k ≡ length ys
-      → moved from to k (pre ++ (empty k ++ (mid ++ (ys ++ post)))) ≡ pre ++ (ys ++ (mid ++ (empty k ++ post)))
+  pub moved_back : (from to k : ℕ) (pre ys mid post : List (Option T)) → to ≡ length pre
+      → from ≡ to + k + length mid → k ≡ length ys
+      → moved from to k (pre ++ (empty k ++ (mid ++ (ys ++ post)))) ≡ pre
+      ++ (ys ++ (mid ++ (empty k ++ post)))
   moved_back from to k pre ys mid post t f n =
       let Row : Type 0 = List (Option T) in
       let front : Row = pre ++ (empty k ++ mid) in
       let joined : (r : Row) → front ++ r ≡ pre ++ (empty k ++ (mid ++ r)) =
-      λ r. append_assoc pre (empty k ++ mid) r ∙ ap (λ (l : Row). pre ++ l) (append_assoc (empty k) mid r) in
-      let m : length (empty {T = T} k) ≡ length ys = length-replicate k (let o : Option T = None in o) ∙ n in
-      let l : from ≡ length front = omega (arith, m, n, length-append pre (empty k ++ mid), length-append (empty k) mid) in
+      λ r. append_assoc pre (empty k ++ mid) r ∙ ap (λ (l : Row). pre ++ l)
+      (append_assoc (empty k) mid r) in
+      let m : length (empty {T = T} k) ≡ length ys =
+      length-replicate k (let o : Option T = None in o) ∙ n in
+      let l : from ≡ length front =
+      omega (arith, m, n, length-append pre (empty k ++ mid), length-append (empty k) mid) in
       moved-by from to k _ ys (pre ++ (empty k ++ (mid ++ (empty k ++ post)))) _
       (ap (λ (r : Row). run from k r) (sym (joined (ys ++ post))) ∙ run-at from k front ys post l n)
-      (ap (λ (r : Row). emptied from k r) (sym (joined (ys ++ post))) ∙ (laid-at from front (empty k) ys post l m ∙ joined (empty k ++ post)))
+      (ap (λ (r : Row). emptied from k r) (sym (joined (ys ++ post)))
+      ∙ (laid-at from front (empty k) ys post l m ∙ joined (empty k ++ post)))
       (laid-at to pre ys (empty k) (mid ++ (empty k ++ post)) t (sym m))
 
   -- a slot of an empty row
@@ -230,17 +311,21 @@ module _ {T : Type 0} where
   slot-empty (suc k) (suc i) = slot-empty k i
 
   -- a slot of a row that begins with items
-  full-filled : (xs : List T) (rest : List (Option T)) (i : ℕ) → i < length xs → IsSome (slot (full xs ++ rest) i)
+  full-filled : (xs : List T) (rest : List (Option T)) (i : ℕ) → i < length xs
+      → IsSome (slot (full xs ++ rest) i)
   full-filled [] rest i low = absurd (omega arith)
   full-filled (x ∷ xs) rest zero low = refl
-  full-filled (x ∷ xs) rest (suc i) low = full-filled xs rest i (let low' : suc i < suc (length xs) = low in omega arith)
+  full-filled (x ∷ xs) rest (suc i) low =
+      full-filled xs rest i (let low' : suc i < suc (length xs) = low in omega arith)
 
   -- empty slots at the end, in two parts
-  tail-split : (xs : List T) (a b c : ℕ) → c ≡ a + b → full xs ++ empty c ≡ (full xs ++ empty a) ++ empty b
+  tail-split : (xs : List T) (a b c : ℕ) → c ≡ a + b
+      → full xs ++ empty c ≡ (full xs ++ empty a) ++ empty b
   tail-split xs a b c e =
       let Row : Type 0 = List (Option T) in
       ap (λ (k : ℕ). full xs ++ empty k) e
-      ∙ (ap (λ (l : Row). full xs ++ l) (sym (replicate-append-replicate a b None)) ∙ sym (append_assoc (full xs) (empty a) (empty b)))
+      ∙ (ap (λ (l : Row). full xs ++ l) (sym (replicate-append-replicate a b None))
+      ∙ sym (append_assoc (full xs) (empty a) (empty b)))
 
 -- a row whose items lie in the first n slots
 module _ {T : Type 0} (s : List (Option T)) (n : ℕ) (packed : IsPacked s n) where
@@ -267,41 +352,56 @@ module _ {T : Type 0} (s : List (Option T)) (n : ℕ) (packed : IsPacked s n) wh
   pub packed-filled : (i : ℕ) → i < n → IsSome (slot s i)
   packed-filled i low =
       let len = packed.len in
-      subst (λ (l : Row). IsSome (slot l i)) (sym packed.row) (full-filled xs (empty (length s - length xs)) i (omega arith))
+      subst (λ (l : Row). IsSome (slot l i)) (sym packed.row)
+      (full-filled xs (empty (length s - length xs)) i (omega arith))
 
   -- the first n slots hold the items, and the rest hold none
   pub packed-run : run 0 n s ≡ full xs
-  packed-run = ap (λ (l : Row). take n l) parted ∙ take_at (full xs) (empty (length s - n)) n full-long
+  packed-run = ap (λ (l : Row). take n l) parted
+      ∙ take_at (full xs) (empty (length s - n)) n full-long
 
   packed-rest : drop n s ≡ empty (length s - n)
-  packed-rest = ap (λ (l : Row). drop n l) parted ∙ drop_at (full xs) (empty (length s - n)) n full-long
+  packed-rest = ap (λ (l : Row). drop n l) parted
+      ∙ drop_at (full xs) (empty (length s - n)) n full-long
 
   -- with the items taken the row is empty
   pub packed-emptied : emptied 0 n s ≡ empty (length s)
   packed-emptied =
       let le = packed-le in
-      let long : 0 + length (empty {T = T} n) ≡ n = omega (arith, length-replicate n (let o : Option T = None in o)) in
+      let long : 0 + length (empty {T = T} n) ≡ n =
+      omega (arith, length-replicate n (let o : Option T = None in o)) in
       ap (λ (k : ℕ). empty n ++ drop k s) long
       ∙ (ap (λ (l : Row). empty n ++ l) packed-rest
-      ∙ (replicate-append-replicate n (length s - n) None ∙ ap (λ (k : ℕ). empty k) (let e : n + (length s - n) ≡ length s = omega arith in e)))
+      ∙ (replicate-append-replicate n (length s - n) None
+      ∙ ap (λ (k : ℕ). empty k) (let e : n + (length s - n) ≡ length s = omega arith in e)))
 
   -- the items in a row of c slots
   carried : (c : ℕ) → laid 0 (run 0 n s) (empty c) ≡ full xs ++ empty (c - n)
   carried c =
       let long : 0 + length (full xs) ≡ n = omega (arith, full-long) in
       ap (λ (ys : Row). ys ++ drop (0 + length ys) (empty c)) packed-run
-      ∙ (ap (λ (k : ℕ). full xs ++ drop k (empty c)) long ∙ ap (λ (l : Row). full xs ++ l) (drop-replicate n c None))
+      ∙ (ap (λ (k : ℕ). full xs ++ drop k (empty c)) long ∙ ap (λ (l : Row). full xs ++ l)
+      (drop-replicate n c None))
 
   -- the items in a longer row
-  pub packed-grown : (c : ℕ) → length s ≤ c → laid 0 (run 0 n s) (empty c) ≡ s ++ empty (c - length s)
+  pub packed-grown : (c : ℕ) → length s ≤ c
+      → laid 0 (run 0 n s) (empty c) ≡ s ++ empty (c - length s)
   packed-grown c more =
       let le = packed-le in
-      carried c ∙ (tail-split xs (length s - n) (c - length s) (c - n) (omega arith) ∙ ap (λ (l : Row). l ++ empty (c - length s)) (sym parted))
+      carried c ∙ (tail-split xs (length s - n) (c - length s) (c - n) (omega arith)
+      ∙ ap (λ (l : Row). l ++ empty (c - length s)) (sym parted))
 
   -- the items in a shorter row that has room for them
   pub packed-shrunk : (c : ℕ) → n ≤ c → c ≤ length s → laid 0 (run 0 n s) (empty c) ≡ take c s
   packed-shrunk c enough less =
       let kept : Row = full xs ++ empty (c - n) in
-      let split : s ≡ kept ++ empty (length s - c) = parted ∙ tail-split xs (c - n) (length s - c) (length s - n) (omega arith) in
-      let long : length kept ≡ c = omega (arith, full-long, length-append (full xs) (empty (c - n)), length-replicate (c - n) (let o : Option T = None in o)) in
-      carried c ∙ sym (ap (λ (l : Row). take c l) split ∙ take_at kept (empty (length s - c)) c long)
+      let split : s ≡ kept ++ empty (length s - c) = parted ∙ tail-split xs (c - n) (length s - c)
+      (length s - n) (omega arith) in
+      let long : length kept ≡ c = omega (
+        arith,
+        full-long,
+        length-append (full xs) (empty (c - n)),
+        length-replicate (c - n) (let o : Option T = None in o),
+      ) in
+      carried c ∙ sym (ap (λ (l : Row). take c l) split
+      ∙ take_at kept (empty (length s - c)) c long)

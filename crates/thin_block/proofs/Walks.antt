@@ -1,4 +1,5 @@
--- What the walks share: the parts of a body, what follows a part, and a walk that holds the thread's token. Assumes `Logic`.
+-- What the walks share: the parts of a body, what follows a part, and a walk that holds the
+-- thread's token. Assumes `Logic`.
 pub use Rattle.core.proofs.alloc.Shapes.{after, head, inside, arm_body}
 use Rattle.std.proofs.Common.{◌≡◌, ℕ, zero, suc, ◌<◌, List, [], ◌∷◌, refl, T, not, eqb, subst, arith, T_not}
 use lib.Dec.{eqb_refl}
@@ -21,12 +22,15 @@ use denote.Laws.{Is, Typed}
 use denote.Builtin.{unit}
 use denote.Signature.{Slot, plain}
 
+-- numbers that a test tells apart differ
 pub apart : (a b : ℕ) → T (not (eqb a b)) → a ≡ b → ⊥
 apart a b t e = T_not (eqb a b) t (subst (λ (k : ℕ). T (eqb a k)) e (eqb_refl a))
 
+-- a number that a test tells from 0 is above it
 pub positive : (n : ℕ) → T (not (eqb n 0)) → 0 < n
 positive n t = let some = apart n 0 t in omega arith
 
+-- the local at an index
 abbrev pub slot_at : {n : ℕ} → ℕ → List (Slot n) → Slot n
 slot_at k [] = plain (λ _. unit)
 slot_at zero (s ∷ ss) = s
@@ -47,18 +51,22 @@ arms (call_v x₀ x₁ x₂ x₃) = (skip, skip)
 arms unreachable = (skip, skip)
 arms (lend_static x₀ x₁ x₂) = (skip, skip)
 
+-- the arm of a branch where the test holds
 abbrev pub if_true : Body → Body
 if_true b = (arms b).0
 
+-- and where it fails
 abbrev pub if_false : Body → Body
 if_false b = (arms b).1
 
 module _ {M : Type 1} {𝓤 : Ura M} (𝓛 : Logic 𝓤) where
   open 𝓛 use {H}
 
+  -- what has to hold before the rest of a body runs
   abbrev pub then_runs : Calls 𝓤 H → Loops 𝓤 H → Env 𝓤 H → Body → Post 𝓤 H → Post 𝓤 H
   then_runs C Λ E b q = any_q (after_seq 𝓤 H (Wp 𝓤 H C Λ E b (post 𝓤 H q)) (post 𝓤 H q))
 
+  -- what has to hold at the end of an inner block
   abbrev pub out_of_block : Post 𝓤 H → Post 𝓤 H
   out_of_block q = any_q (after_block 𝓤 H (post 𝓤 H q))
 
@@ -79,28 +87,39 @@ facts_i 𝓤 [] x = id⊢ 𝓤 _
 facts_i 𝓤 (φ ∷ []) x = fact_i 𝓤 φ (emp 𝓤) x
 facts_i 𝓤 (φ ∷ ψ ∷ φs) x =
     via 𝓤 (sep 𝓤 (emp 𝓤) (emp 𝓤)) (emp∗ 𝓤 (emp 𝓤))
-    (via 𝓤 (sep 𝓤 (fact 𝓤 φ) (emp 𝓤)) (mono_l 𝓤 (emp 𝓤) (fact_i 𝓤 φ (emp 𝓤) x.0)) (mono_r 𝓤 (fact 𝓤 φ) (facts_i 𝓤 (ψ ∷ φs) x.1)))
+    (via 𝓤 (sep 𝓤 (fact 𝓤 φ) (emp 𝓤)) (mono_l 𝓤 (emp 𝓤) (fact_i 𝓤 φ (emp 𝓤) x.0))
+    (mono_r 𝓤 (fact 𝓤 φ) (facts_i 𝓤 (ψ ∷ φs) x.1)))
 
 -- an `ensures` of several clauses is shown, and what stands before it is left
-pub says_all : {M : Type 1} {𝓤 : Ura M} {𝓛 : Logic 𝓤} {K : Type 0} {Γ : List (Item 𝓤)} → K → (φs : List (Type 0)) {P : SProp 𝓤}
+pub says_all : {M : Type 1} {𝓤 : Ura M} {𝓛 : Logic 𝓤} {K : Type 0} {Γ : List (Item 𝓤)} → K
+    → (φs : List (Type 0)) {P : SProp 𝓤}
     → Shown φs → Step K 𝓛 Γ (prop P) Γ (prop (sep 𝓤 P (Facts 𝓤 φs)))
 says_all {𝓤 = 𝓤} k φs {P} x = step (λ s. record {
-  prf = via 𝓤 P s.prf (via 𝓤 (sep 𝓤 (emp 𝓤) P) (emp∗ 𝓤 P) (via 𝓤 (sep 𝓤 (Facts 𝓤 φs) P) (mono_l 𝓤 P (facts_i 𝓤 φs x)) (comm∗ 𝓤 (Facts 𝓤 φs) P)));
+  prf = via 𝓤 P s.prf
+      (via 𝓤 (sep 𝓤 (emp 𝓤) P) (emp∗ 𝓤 P)
+      (via 𝓤 (sep 𝓤 (Facts 𝓤 φs) P) (mono_l 𝓤 P (facts_i 𝓤 φs x)) (comm∗ 𝓤 (Facts 𝓤 φs) P)));
 })
 
 -- an `AllocError` is made of nothing
-pub refused_made : {M : Type 1} {𝓤 : Ura M} (𝓛 : Logic 𝓤) → ent 𝓤 (emp 𝓤) (sem 𝓛 (AE.the_row.own_val (record {}) (vstruct vnil ∷ [])))
+pub refused_made : {M : Type 1} {𝓤 : Ura M} (𝓛 : Logic 𝓤)
+    → ent 𝓤 (emp 𝓤) (sem 𝓛 (AE.the_row.own_val (record {}) (vstruct vnil ∷ [])))
 refused_made 𝓛 = qed 𝓛 [] ∵
-    owned ! (Struct (Declared.shape AE.the_type)) (Is (Struct (Declared.shape AE.the_type))) (Struct-Makes 𝓛 (Declared.shape AE.the_type) tt) tt (vstruct vnil ∷ []) (tt, (refl, tt)) $ done !
+    owned ! (Struct (Declared.shape AE.the_type)) (Is (Struct (Declared.shape AE.the_type)))
+    (Struct-Makes 𝓛 (Declared.shape AE.the_type) tt) tt (vstruct vnil ∷ []) (tt, (refl, tt)) $
+    done !
 
 -- what a type says of the machine values that it takes: they are one, of its layout
-pub alone : (τ : Ty) (vs : List Val) → Typed (τ ∷ []) vs → (v : Val) × ((vs ≡ v ∷ []) × (T (has_ty τ v) × WT v))
+pub alone : (τ : Ty) (vs : List Val) → Typed (τ ∷ []) vs → (v : Val)
+    × ((vs ≡ v ∷ []) × (T (has_ty τ v) × WT v))
 alone τ [] t = absurd t
 alone τ (v ∷ []) t = (v, (refl, t.0))
 alone τ (v ∷ w ∷ vs) t = absurd t.1
 
 -- the items of an array that was passed leave nothing behind
-pub nothing_left : {M : Type 1} {𝓤 : Ura M} (𝓛 : Logic 𝓤) {X : Type 0} (xs : List X) (fs : Entries (λ _. Unit {0}) xs)
+pub nothing_left : {M : Type 1} {𝓤 : Ura M} (𝓛 : Logic 𝓤) {X : Type 0} (xs : List X)
+    (fs : Entries (λ _. Unit {0}) xs)
     → ent 𝓤 (sem 𝓛 ftrue) (sem 𝓛 (all_last (λ _. Unit {0}) (λ _ _. ftrue) xs fs))
 nothing_left 𝓛 [] fs = qed 𝓛 (‵ ftrue ∷ []) ∵ done !
-nothing_left 𝓛 {X} (x ∷ xs) fs = qed 𝓛 (‵ ftrue ∷ []) ∵ use1 𝓛 (‵ (all_last (λ _. Unit {0}) (λ _ _. ftrue) xs fs.1)) (nothing_left 𝓛 xs fs.1) $ nothing ! $ fjoin ! $ done !
+nothing_left 𝓛 {X} (x ∷ xs) fs = qed 𝓛 (‵ ftrue ∷ []) ∵ use1 𝓛
+    (‵ (all_last (λ _. Unit {0}) (λ _ _. ftrue) xs fs.1)) (nothing_left 𝓛 xs fs.1) $
+    nothing ! $ fjoin ! $ done !

@@ -1,4 +1,5 @@
--- The bytes of a block, and which capacities fit. Everywhere s and a are the size and the alignment of an item, in bytes.
+-- The bytes of a block, and which capacities fit. Everywhere s and a are the size and the alignment
+-- of an item, in bytes.
 use Rattle.std.specs.Prelude.{◌≡◌, ℕ, ◌+◌, ◌*◌, ◌-◌, ◌^◌, ◌&&◌, Bool, IsTrue, if◌then◌else◌, max, nat_lt}
 use Rattle.std.specs.Int.{next_multiple_of}
 use Rattle.std.specs.Mem.{type_size}
@@ -23,7 +24,8 @@ block_align a = max 8 a
 abbrev pub block_bytes : ℕ → ℕ → ℕ → ℕ
 block_bytes s a c = next_multiple_of (items_offset a + c * s) (block_align a)
 
--- neither the capacity c nor the bytes of its block are past `isize::MAX` (std: `Layout::from_size_align`)
+-- neither the capacity c nor the bytes of its block are past `isize::MAX` (std:
+-- `Layout::from_size_align`)
 abbrev pub is_small : ℕ → ℕ → ℕ → Bool
 is_small s a c = nat_lt c (2 ^ 63) && nat_lt (block_bytes s a c) (2 ^ 63)
 
@@ -31,9 +33,11 @@ is_small s a c = nat_lt c (2 ^ 63) && nat_lt (block_bytes s a c) (2 ^ 63)
 unfoldable pub fits : ℕ → ℕ → ℕ → Bool
 fits s a c = is_small s a c
 
+-- a block of c items of R is small enough to be asked for
 abbrev pub Fits : RattleType → ℕ → Type 0
 Fits R c = IsTrue (fits (type_size R) (type_align R) c)
 
--- the least capacity that a growth by doubling makes: 1 for items of more than `usize::MAX / 8` bytes, 4 for others
+-- the least capacity that a growth by doubling makes: 1 for items of more than `usize::MAX / 8`
+-- bytes, 4 for others
 unfoldable pub first : ℕ → ℕ
 first s = if nat_lt (2 ^ 61 - 1) s then 1 else 4

@@ -2,7 +2,8 @@
 use Rattle.std.specs.Prelude.{ℕ, ◌+◌, refl}
 use Rattle.std.specs.Coded.{Coded, code_by, coded×, coded_ℕ}
 
--- how many allocations were granted, how many items those copied, and how many items other calls moved
+-- how many allocations were granted, how many items those copied, and how many items other calls
+-- moved
 pub record Cost : Type 0 where
   pub blocks : ℕ
   pub grown : ℕ
@@ -11,9 +12,11 @@ pub record Cost : Type 0 where
 -- a cost is stored as its three numbers
 abbrev pub cost_code : Coded Cost
 cost_code =
-    code_by (ℕ × (ℕ × ℕ)) (coded× coded_ℕ (coded× coded_ℕ coded_ℕ)) (λ c. (c.blocks, (c.grown, c.moves)))
+    code_by (ℕ × (ℕ × ℕ)) (coded× coded_ℕ (coded× coded_ℕ coded_ℕ))
+    (λ c. (c.blocks, (c.grown, c.moves)))
     (λ p. record { blocks = p.0; grown = p.1.0; moves = p.1.1 }) (λ _. refl)
 
+-- nothing was paid
 abbrev pub no_cost : Cost
 no_cost = record { blocks = 0; grown = 0; moves = 0 }
 

@@ -6,7 +6,8 @@ use Rattle.std.specs.Align.{type_align}
 use denote.RattleType.{RattleType}
 use Rattle.thin_block.specs.Capacity.{fits, first}
 
--- from the size and the alignment of an item, a capacity and a want above it: the next capacity, or None where it overflows
+-- from the size and the alignment of an item, a capacity and a want above it: the next capacity, or
+-- None where it overflows
 abbrev pub Rule : Type 0
 Rule = ℕ → ℕ → ℕ → ℕ → Option ℕ
 
@@ -32,9 +33,11 @@ fitting s a n = if fits s a n then Some n else None
 unfoldable pub doubling : Rule
 doubling s a c w = fitting s a (max w (if c == 0 then first s else 2 * c))
 
--- the capacity for w items of R after c: c where it suffices, none where w is past `usize::MAX`, and else what the rule says
+-- the capacity for w items of R after c: c where it suffices, none where w is past `usize::MAX`,
+-- and else what the rule says
 unfoldable pub ruled_capacity : Rule → RattleType → ℕ → ℕ → Option ℕ
-ruled_capacity rule R c w = if nat_le w c then Some c else (if nat_lt w (2 ^ 64) then rule (type_size R) (type_align R) c w else None)
+ruled_capacity rule R c w = if nat_le w c then Some c else
+    (if nat_lt w (2 ^ 64) then rule (type_size R) (type_align R) c w else None)
 
 -- the capacity for exactly w items of R after c: c where it suffices, and else w, if it fits
 unfoldable pub exact_capacity : RattleType → ℕ → ℕ → Option ℕ

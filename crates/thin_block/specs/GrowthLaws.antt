@@ -1,4 +1,5 @@
--- That the rule of this crate keeps the law of rules. (Here and not in proofs/, since the impl of `Growth` names it.)
+-- That the rule of this crate keeps the law of rules. (Here and not in proofs/, since the impl of
+-- `Growth` names it.)
 use Rattle.std.specs.Prelude.{◌≡◌, ℕ, ◌*◌, ◌≤◌, ◌==◌, Bool, true, false, IsTrue, if◌then◌else◌, max, refl}
 use Rattle.std.specs.declared.option.Option.TheVariants.{Some, None}
 use Rattle.std.proofs.Common.{subst, arith}
@@ -20,6 +21,7 @@ fitting_is s a m n e = when_some (fits s a m) m n e
 twice : (s c w : ℕ) → 2 * c ≤ max w (if c == 0 then first s else 2 * c)
 twice s c w = grind (arith, nat_tests)
 
+-- doubling keeps the law
 pub doubling_law : KeepsLaw doubling
 unfolding doubling
 doubling_law s a c w n more word e =
@@ -27,4 +29,8 @@ doubling_law s a c w n more word e =
     let told = fitting_is s a m n e in
     let twofold = twice s c w in
     let enough : w ≤ m = omega arith in
-    record { enough = omega arith; doubled = omega arith; fits = subst (λ (k : ℕ). IsTrue (fits s a k)) told.1 told.0 }
+    record {
+      enough = omega arith;
+      doubled = omega arith;
+      fits = subst (λ (k : ℕ). IsTrue (fits s a k)) told.1 told.0;
+    }

@@ -18,6 +18,7 @@ module _ {X : Type 0} where
   over (Some x ∷ s) zero [] = Some x ∷ s
   over (Some x ∷ s) zero (w ∷ ws) = Some w ∷ over s zero ws
 
+  -- as many slots as before
   pub length-over : (s : List (Option X)) (i : ℕ) (ws : List X) → length (over s i ws) ≡ length s
   length-over [] i ws = refl
   length-over (x ∷ s) (suc i) ws = ap suc (length-over s i ws)
@@ -27,11 +28,16 @@ module _ {X : Type 0} where
 
 module _ {X Z : Type 0} where
   -- b with the slots s in place of as many
-  abbrev pub with_slots : (b : Block X Z) (s : List (Option X)) → length s ≡ length b.slots → Block X Z
+  abbrev pub with_slots : (b : Block X Z) (s : List (Option X))
+      → length s ≡ length b.slots → Block X Z
   with_slots b s same =
       record b {
         slots = s;
-        sound = (subst (λ (n : ℕ). b.len ≤ n) (sym same) b.sound.0, b.sound.1 ∙ sym (any_same b.slots s same));
+        sound = (
+          subst (λ (n : ℕ). b.len ≤ n) (sym same) b.sound.0,
+          b.sound.1
+              ∙ sym (any_same b.slots s same),
+        );
       }
 
   -- b with the item w in the slot i
@@ -42,7 +48,8 @@ module _ {X Z : Type 0} where
   abbrev pub with_two : Block X Z → ℕ → ℕ → X → X → Block X Z
   with_two b i j v w =
       let s : List (Option X) = slice_set b.slots i (Some v) in
-      with_slots b (slice_set s j (Some w)) (length-set s j (Some w) ∙ length-set b.slots i (Some v))
+      with_slots b (slice_set s j (Some w))
+      (length-set s j (Some w) ∙ length-set b.slots i (Some v))
 
   -- b with the items ws in the slots from i on
   abbrev pub with_items : Block X Z → ℕ → List X → Block X Z

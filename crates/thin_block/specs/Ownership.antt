@@ -1,4 +1,5 @@
--- A block as a formula of memory: what it owns, and what a `&` to it lends. An item's row is R; b and o are the block and the offset of an address.
+-- A block as a formula of memory: what it owns, and what a `&` to it lends. An item's row is R; b
+-- and o are the block and the offset of an address.
 -- No public clause cites this module.
 --     place, places      a slot, or all of them in a row: an item that lies there, or room for one
 --     frame              the block but for its slots: the two words before them, that it fits, and the way back
@@ -28,6 +29,7 @@ abbrev pub any : {X : Type 0} → List X → Bool
 any [] = false
 any (x ∷ xs) = true
 
+-- lists of one length both have any, or neither does
 pub any_same : {X Y : Type 0} (xs : List X) (ys : List Y) → length ys ≡ length xs → any ys ≡ any xs
 any_same [] [] e = refl
 any_same [] (y ∷ ys) e = absurd (omega arith)
@@ -55,43 +57,57 @@ places R (x ∷ xs) b o = fsep (place R x b o) (places R xs b (o + type_size R))
 
 -- the type of a whole block of c slots, as it is asked for: the two words, and then the slots
 abbrev pub whole : RattleType → ℕ → Ty
-whole R c = ty_struct [] (tcons (ty_int w64) (tcons (ty_int w64) (tcons (raw (ty_array (lone R.mir) c)) tnil)))
+whole R c = ty_struct []
+    (tcons (ty_int w64) (tcons (ty_int w64) (tcons (raw (ty_array (lone R.mir) c)) tnil)))
 
 -- room for its parts
 abbrev pub parts : RattleType → ℕ → ℕ → ℕ → Fml
-parts R c b o = fsep (froom (ty_int w64) b o) (fsep (froom (ty_int w64) b (o + 8)) (froom (raw (ty_array (lone R.mir) c)) b (o + 16)))
+parts R c b o = fsep (froom (ty_int w64) b o)
+    (fsep (froom (ty_int w64) b (o + 8)) (froom (raw (ty_array (lone R.mir) c)) b (o + 16)))
 
 -- what makes the block whole again, padding and all, and the right t to give it back
 abbrev pub backing : (Ty → Ptr → Fml) → RattleType → ℕ → ℕ → ℕ → Fml
-backing t R c b o = fsep (fwand (parts R c b o) (froom (whole R c) b o)) (t (whole R c) (block_ptr b o))
+backing t R c b o = fsep (fwand (parts R c b o) (froom (whole R c) b o))
+    (t (whole R c) (block_ptr b o))
 
 -- a block but for its slots: the capacity c, the length n, that the block fits, and the way back
 abbrev pub frame : (Ty → Ptr → Fml) → RattleType → ℕ → ℕ → ℕ → ℕ → Fml
 frame t R n c b o =
     fsep (lies_at usize full_share (block_ptr b o) c)
-    (fsep (lies_at usize full_share (block_ptr b (o + 8)) n) (fsep (feq Bool (fits_block R c) true) (backing t R c b o)))
+    (fsep (lies_at usize full_share (block_ptr b (o + 8)) n)
+    (fsep (feq Bool (fits_block R c) true) (backing t R c b o)))
 
 -- with no allocator there is no block: the two words are 0 and lent for ever
-abbrev pub block_owns : {D : Type 0} → (D → Ty → Ptr → Fml) → (R : RattleType) → Ptr → ℕ → List (Option R.Denot) → Option D → Fml
+abbrev pub block_owns : {D : Type 0} → (D → Ty → Ptr → Fml) → (R : RattleType) → Ptr → ℕ
+    → List (Option R.Denot) → Option D → Fml
 block_owns t R null_ptr n xs a = ffalse
-block_owns t R (block_ptr b o) n xs None = fsep (lent_at usize (block_ptr b o) 0 []) (lent_at usize (block_ptr b (o + 8)) 0 [])
-block_owns t R (block_ptr b o) n xs (Some a) = fsep (frame (t a) R n (length xs) b o) (places R xs b (o + 16))
+block_owns t R (block_ptr b o) n xs None = fsep (lent_at usize (block_ptr b o) 0 [])
+    (lent_at usize (block_ptr b (o + 8)) 0 [])
+block_owns t R (block_ptr b o) n xs (Some a) = fsep (frame (t a) R n (length xs) b o)
+    (places R xs b (o + 16))
 
 -- a `&` to the item in a slot
 abbrev pub place_lent : (R : RattleType) → Option R.Denot → Ptr → Lft → Fml
 place_lent R (Some x) p = lent_at R p x
 place_lent R None p = nothing
 
+-- a `&` to each item of slots in a row
 abbrev pub places_lent : (R : RattleType) → List (Option R.Denot) → ℕ → ℕ → Lft → Fml
 places_lent R [] b o = nothing
-places_lent R (x ∷ xs) b o = beside (place_lent R x (block_ptr b o)) (places_lent R xs b (o + type_size R))
+places_lent R (x ∷ xs) b o = beside (place_lent R x (block_ptr b o))
+    (places_lent R xs b (o + type_size R))
 
 -- a `&` to each of the two words, and that the block fits
 abbrev pub frame_lent : (R : RattleType) → ℕ → ℕ → ℕ → ℕ → Lft → Fml
 frame_lent R n c b o =
-    beside (lent_at usize (block_ptr b o) c) (beside (lent_at usize (block_ptr b (o + 8)) n) (said (feq Bool (fits_block R c) true)))
+    beside (lent_at usize (block_ptr b o) c)
+    (beside (lent_at usize (block_ptr b (o + 8)) n) (said (feq Bool (fits_block R c) true)))
 
-abbrev pub block_lent : {D : Type 0} → (R : RattleType) → Ptr → ℕ → List (Option R.Denot) → Option D → Lft → Fml
+-- a `&` to a block: to its two words, and to the items in its slots
+abbrev pub block_lent : {D : Type 0} → (R : RattleType) → Ptr → ℕ
+    → List (Option R.Denot) → Option D → Lft → Fml
 block_lent R null_ptr n xs a = said ffalse
-block_lent R (block_ptr b o) n xs None = beside (lent_at usize (block_ptr b o) 0) (lent_at usize (block_ptr b (o + 8)) 0)
-block_lent R (block_ptr b o) n xs (Some a) = beside (frame_lent R n (length xs) b o) (places_lent R xs b (o + 16))
+block_lent R (block_ptr b o) n xs None = beside (lent_at usize (block_ptr b o) 0)
+    (lent_at usize (block_ptr b (o + 8)) 0)
+block_lent R (block_ptr b o) n xs (Some a) = beside (frame_lent R n (length xs) b o)
+    (places_lent R xs b (o + 16))

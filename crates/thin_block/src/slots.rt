@@ -212,7 +212,13 @@ impl<T, A: Allocator> Block<T, A> {
 
     // Moves the `k` items in the slots from `from` on to those of `to_block` from `to` on, and says what `to_block` has
     // cost by then.
-    pub(crate) fn move_run_charging(&mut self, from: usize, to_block: &mut Block<T, A>, to: usize, k: usize)
+    pub(crate) fn move_run_charging(
+        &mut self,
+        from: usize,
+        to_block: &mut Block<T, A>,
+        to: usize,
+        k: usize,
+    )
         ghost cost: { Cost }
         requires source { from + k ≤ length self.old.slots }
         requires target { to + k ≤ length to_block.old.slots }

@@ -14,11 +14,17 @@ use Rattle.thin_vec.specs.ThinVec.{IsThin}
 use Rattle.thin_vec.proofs.ListLemmas.{Settled, settled, length-full, thin-room, front-grow}
 
 -- the law of a rule, at what it answers
-pub grows-rule : (rule : Rule) (R : RattleType) (c c' w w' : ℕ) (o : Option ℕ) → KeepsLaw rule → c < w → w < 2 ^ 64 → o ≡ rule (type_size R) (type_align R) c w → c ≡ c' → w ≡ w' → IfSome o (λ n. Grows R c' w' n)
+pub grows-rule : (rule : Rule) (R : RattleType) (c c' w w' : ℕ) (o : Option ℕ) → KeepsLaw rule
+    → c < w → w < 2 ^ 64 → o ≡ rule (type_size R) (type_align R) c w → c ≡ c' → w ≡ w'
+    → IfSome o (λ n. Grows R c' w' n)
 grows-rule rule R c c' w w' None law l h e p q = tt
 grows-rule rule R c c' w w' (Some n) law l h e p q =
     let g = law (type_size R) (type_align R) c w n l h (sym e) in
-    record { enough = omega (arith, g.enough, q); doubled = omega (arith, g.doubled, p); fits = g.fits }
+    record {
+      enough = omega (arith, g.enough, q);
+      doubled = omega (arith, g.doubled, p);
+      fits = g.fits;
+    }
 
 module _ {T : Type 0} where
   -- c empty slots are those of a list of no items
@@ -27,24 +33,34 @@ module _ {T : Type 0} where
 
 module _ {T A : Type 0} where
   -- a block of more slots
-  pub settle-grow : (b b' : Block T A) (a : A) (c : ℕ) → IsThin b a → length b.slots < c → b'.slots ≡ b.slots ++ replicate (c - length b.slots) None → b'.len ≡ b.len → b'.alloc ≡ Some a → Settled b' a (items_in b.slots) c
+  pub settle-grow : (b b' : Block T A) (a : A) (c : ℕ) → IsThin b a → length b.slots < c
+      → b'.slots ≡ b.slots ++ replicate (c - length b.slots) None → b'.len ≡ b.len
+      → b'.alloc ≡ Some a → Settled b' a (items_in b.slots) c
   settle-grow b b' a c t h s n f =
       let xs : List T = items_in b.slots in
       settled b' a xs c
-      (s ∙ (ap (λ (r : List (Option T)). r ++ replicate (c - length b.slots) None) t.packed.row ∙ front-grow xs (length b.slots) c (thin-room b a t) (omega arith)))
+      (s ∙ (ap (λ (r : List (Option T)). r ++ replicate (c - length b.slots) None) t.packed.row
+      ∙ front-grow xs (length b.slots) c (thin-room b a t) (omega arith)))
       (n ∙ t.packed.len) (omega (arith, thin-room b a t)) (λ x e. cc)
 
   -- a new block
-  pub settle-new : (b : Block T A) (a : A) (c : ℕ) → b.slots ≡ empty c → b.len ≡ 0 → b.alloc ≡ Some a → Settled b a [] c
+  pub settle-new : (b : Block T A) (a : A) (c : ℕ) → b.slots ≡ empty c → b.len ≡ 0
+      → b.alloc ≡ Some a → Settled b a [] c
   settle-new b a c s l f = settled b a [] c (s ∙ front-none c) l (omega arith) (λ x e. cc)
 
   -- a block of fewer slots
-  pub settle-shrink : (b b' : Block T A) (a : A) (k : ℕ) → IsThin b a → k ≡ length (items_in b.slots) → b'.slots ≡ take k b.slots → b'.len ≡ b.len → b'.alloc ≡ Some a → Settled b' a (items_in b.slots) k
+  pub settle-shrink : (b b' : Block T A) (a : A) (k : ℕ) → IsThin b a
+      → k ≡ length (items_in b.slots) → b'.slots ≡ take k b.slots → b'.len ≡ b.len
+      → b'.alloc ≡ Some a → Settled b' a (items_in b.slots) k
   settle-shrink b b' a k t all s l f =
       let xs : List T = items_in b.slots in
       let none : length xs - length xs ≡ 0 = omega arith in
       let cut : take (length xs) (front xs (length b.slots)) ≡ front xs (length xs) =
-      ap (λ (m : ℕ). take m (front xs (length b.slots))) (sym (length-full xs)) ∙ (take-append_seam (full xs) (empty (length b.slots - length xs))
+      ap (λ (m : ℕ). take m (front xs (length b.slots))) (sym (length-full xs))
+      ∙ (take-append_seam (full xs) (empty (length b.slots - length xs))
       ∙ (sym (append-nil (full xs)) ∙ ap (λ (m : ℕ). full xs ++ empty m) (sym none))) in
-      settled b' a xs k (s ∙ (ap (λ (r : List (Option T)). take k r) t.packed.row ∙ (ap (λ (m : ℕ). take m (front xs (length b.slots))) all ∙ (cut ∙ ap (front xs) (sym all)))))
+      settled b' a xs k (s
+      ∙ (ap (λ (r : List (Option T)). take k r) t.packed.row
+      ∙ (ap (λ (m : ℕ). take m (front xs (length b.slots))) all
+      ∙ (cut ∙ ap (front xs) (sym all)))))
       (l ∙ t.packed.len) (omega (arith, all)) (λ x e. cc)

@@ -14,28 +14,38 @@ use Rattle.thin_vec.specs.Clones.{AppendsRepeats, CloneEquals, LaysClones}
 use Rattle.thin_vec.specs.ThinVec.{IsNew, Thin, capacity_for}
 use Rattle.thin_vec.proofs.ListLemmas.{length-full}
 
-module _ {T : Type 0} (clones : T → T → Type 0) (sources : List T) (n i : ℕ) (s s' : List (Option T)) where
+module _ {T : Type 0} (clones : T → T → Type 0) (sources : List T) (n i : ℕ)
+    (s s' : List (Option T)) where
   -- as many clones as sources
-  pub length-copies : n ≤ length sources → (lays : LaysClones clones sources n i s s') → length lays.copies ≡ n
-  length-copies few lays = sym (length_all_zip clones (take n sources) lays.copies lays.cloned) ∙ length-take-le n sources few
+  pub length-copies : n ≤ length sources → (lays : LaysClones clones sources n i s s')
+      → length lays.copies ≡ n
+  length-copies few lays = sym (length_all_zip clones (take n sources) lays.copies lays.cloned)
+      ∙ length-take-le n sources few
 
   -- a clone of the next source is put behind those that are there
-  pub lays-more : (x y : T) (s'' : List (Option T)) → n < length sources → i + length sources ≤ length s → x ≡ get_or sources n x → clones x y → LaysClones clones sources n i s s'
+  pub lays-more : (x y : T) (s'' : List (Option T)) → n < length sources
+      → i + length sources ≤ length s → x ≡ get_or sources n x → clones x y
+      → LaysClones clones sources n i s s'
       → s'' ≡ set s' (i + n) (Some y) → LaysClones clones sources (n + 1) i s s''
   lays-more x y s'' more room is is_clone lays put =
       let ys = lays.copies in
-      let long : i + n ≡ i + length (full ys) = omega (arith, length-copies (omega arith) lays, length-full ys) in
+      let long : i + n ≡ i + length (full ys) =
+      omega (arith, length-copies (omega arith) lays, length-full ys) in
       record {
         copies = ys ++ y ∷ [];
         cloned = all_zip_more clones sources ys n x y more is lays.cloned is_clone;
-        slots = put ∙ (ap (λ r. set r (i + n) (Some y)) lays.slots ∙ (laid-one i (full ys) s (i + n) (Some y) long (omega arith) ∙ ap (λ r. laid i r s) (sym (map_push Some ys y))));
+        slots = put ∙ (ap (λ r. set r (i + n) (Some y)) lays.slots
+            ∙ (laid-one i (full ys) s (i + n) (Some y) long (omega arith)
+            ∙ ap (λ r. laid i r s) (sym (map_push Some ys y))));
       }
 
 -- clones of n of the same items, all x, are n clones of x
-pub all-repeated : {T : Type 0} (clones : T → T → Type 0) (x : T) (n m : ℕ) (ys : List T) → AllZip clones (take n (replicate m x)) ys → All (clones x) ys
+pub all-repeated : {T : Type 0} (clones : T → T → Type 0) (x : T) (n m : ℕ) (ys : List T)
+    → AllZip clones (take n (replicate m x)) ys → All (clones x) ys
 all-repeated {T} clones x n m ys cloned = All-from_recursion (clones x) ys (each n m ys cloned)
   where
-    each : (n m : ℕ) (ys : List T) → AllZip clones (take n (replicate m x)) ys → AllByRecursion (clones x) ys
+    each : (n m : ℕ) (ys : List T) → AllZip clones (take n (replicate m x)) ys
+        → AllByRecursion (clones x) ys
     each zero m [] e = tt
     each zero m (y ∷ ys) e = absurd e
     each (suc n) zero [] e = tt
@@ -44,31 +54,41 @@ all-repeated {T} clones x n m ys cloned = All-from_recursion (clones x) ys (each
     each (suc n) (suc m) (y ∷ ys) e = (e.0, each n m ys e.1)
 
 -- where each clone of x is equal to it, n clones and x itself are x so often and once more
-pub equal-repeated : {T : Type 0} (clones : T → T → Type 0) (x : T) (n m : ℕ) (xs ys zs : List T) → CloneEquals clones x → AppendsRepeats clones x n xs ys → zs ≡ ys ++ x ∷ [] → m ≡ n + 1
+pub equal-repeated : {T : Type 0} (clones : T → T → Type 0) (x : T) (n m : ℕ) (xs ys zs : List T)
+    → CloneEquals clones x → AppendsRepeats clones x n xs ys → zs ≡ ys ++ x ∷ [] → m ≡ n + 1
     → zs ≡ xs ++ replicate m x
 equal-repeated {T} clones x n m xs ys zs equal repeats last one =
     let copies = repeats.copies in
-    let same : copies ≡ replicate n x = each copies (recursion_from_All (clones x) copies repeats.cloned) ∙ ap (λ k. replicate k x) repeats.count in
+    let same : copies ≡ replicate n x =
+    each copies (recursion_from_All (clones x) copies repeats.cloned)
+    ∙ ap (λ k. replicate k x) repeats.count in
     last
     ∙ (ap (λ (l : List T). l ++ x ∷ []) (repeats.items ∙ ap (λ (l : List T). xs ++ l) same)
-    ∙ (append_assoc xs (replicate n x) (x ∷ []) ∙ ap (λ (l : List T). xs ++ l) (replicate-append-replicate n 1 x ∙ ap (λ k. replicate k x) (sym one))))
+    ∙ (append_assoc xs (replicate n x) (x ∷ []) ∙ ap (λ (l : List T). xs ++ l)
+    (replicate-append-replicate n 1 x ∙ ap (λ k. replicate k x) (sym one))))
   where
     each : (ys : List T) → AllByRecursion (clones x) ys → ys ≡ replicate (length ys) x
     each [] e = refl
     each (y ∷ ys) e = λ i. equal y e.0 i ∷ each ys e.1 i
 
 -- the capacity at which a new list gets the length k
-pub capacity-new : {T A : Type 0} (rule : Rule) (R : RattleType) (v : Thin T A) (a : A) (k : ℕ) → IsNew v a → capacity_for rule R v (k - length v.items) ≡ ruled_capacity rule R 0 k
+pub capacity-new : {T A : Type 0} (rule : Rule) (R : RattleType) (v : Thin T A) (a : A) (k : ℕ)
+    → IsNew v a → capacity_for rule R v (k - length v.items) ≡ ruled_capacity rule R 0 k
 capacity-new rule R v a k new =
-    ap (λ c. ruled_capacity rule R c (length v.items + (k - length v.items))) new.capacity ∙ ap (λ n. ruled_capacity rule R 0 n) (let e : length v.items + (k - length v.items) ≡ k = omega (arith, ap length new.items) in e)
+    ap (λ c. ruled_capacity rule R c (length v.items + (k - length v.items))) new.capacity
+    ∙ ap (λ n. ruled_capacity rule R 0 n)
+    (let e : length v.items + (k - length v.items) ≡ k = omega (arith, ap length new.items) in
+    e)
 
 -- not all clones succeed where one may be refused
-pub not-all : {X : Type 0} (P : X → Type 0) (xs : List X) (i : ℕ) → i < length xs → HoldsAt (λ x. ¬ (P x)) xs i → All P xs → ⊥
+pub not-all : {X : Type 0} (P : X → Type 0) (xs : List X) (i : ℕ) → i < length xs
+    → HoldsAt (λ x. ¬ (P x)) xs i → All P xs → ⊥
 not-all P [] i low never all = absurd (omega arith)
 not-all P (x ∷ xs) i low never all = never x (all i x low)
 
 -- one move more is counted
 pub moving-one : (n : ℕ) (c : Cost) → moving 1 (moving n c) ≡ moving (n + 1) c
-moving-one n c = ap (λ m. let d : Cost = record c { moves = m } in d) (let e : c.moves + n + 1 ≡ c.moves + (n + 1) = omega arith in e)
+moving-one n c = ap (λ m. let d : Cost = record c { moves = m } in d)
+    (let e : c.moves + n + 1 ≡ c.moves + (n + 1) = omega arith in e)
 
 pub ruleset new_lists = (capacity-new)

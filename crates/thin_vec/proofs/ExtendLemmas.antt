@@ -24,35 +24,48 @@ use Rattle.thin_vec.proofs.ThinVecLemmas.{cap-kept, cost_at-more, cost_at-moves,
 
 module _ {S X : Type 0} (steps : S → Option X → S → Type 0) where
   -- one call more
-  pub yields-more : (s t u : S) (xs : List X) (x : X) → Yields steps s xs t → steps t (Some x) u → Yields steps s (xs ++ x ∷ []) u
+  pub yields-more : (s t u : S) (xs : List X) (x : X) → Yields steps s xs t → steps t (Some x) u
+      → Yields steps s (xs ++ x ∷ []) u
   yields-more s t u [] x e now = (u, subst (λ r. steps r (Some x) u) (sym e) now, λ _. u)
   yields-more s t u (y ∷ ys) x e now = (e.0, e.1, yields-more e.0 t u ys x e.2 now)
 
   -- one run of calls after another
-  pub yields-join : (s t u : S) (xs ys : List X) → Yields steps s xs t → Yields steps t ys u → Yields steps s (xs ++ ys) u
+  pub yields-join : (s t u : S) (xs ys : List X) → Yields steps s xs t → Yields steps t ys u
+      → Yields steps s (xs ++ ys) u
   yields-join s t u [] ys e more = subst (λ r. Yields steps r ys u) (sym e) more
   yields-join s t u (x ∷ xs) ys e more = (e.0, e.1, yields-join e.0 t u xs ys e.2 more)
 
   -- calls that went on to `None`, as a run
-  pub run_of : (s : S) (P : List X → Type 0) → (xs : List X) × Drains steps s xs × P xs → WholeRun steps s (λ p. P p.items)
+  pub run_of : (s : S) (P : List X → Type 0) → (xs : List X) × Drains steps s xs × P xs
+      → WholeRun steps s (λ p. P p.items)
   run_of s P all = (run steps s all.0 true (to_end steps s all.0 all.1), refl, refl, all.2)
 
   -- the same, where the answer is `Ok`
-  pub run_of_ok : {E : Type 0} (s : S) (P : List X → Type 0) (r : Result (Unit {0}) E) → OnOk r ((xs : List X) × Drains steps s xs × P xs) → OnOk r (WholeRun steps s (λ p. P p.items))
+  pub run_of_ok : {E : Type 0} (s : S) (P : List X → Type 0) (r : Result (Unit {0}) E)
+      → OnOk r ((xs : List X) × Drains steps s xs × P xs)
+      → OnOk r (WholeRun steps s (λ p. P p.items))
   run_of_ok s P (Ok _) all = run_of s P all
   run_of_ok s P (Err _) all = tt
 
 module _ {T : Type 0} where
   -- one item more in a row
-  pub laid-more : (s s' r : List (Option T)) (i k : ℕ) (xs : List T) (x : T) → s ≡ laid i (full xs) r → k ≡ i + length xs → k < length r → s' ≡ set s k (Some x) → s' ≡ laid i (full (xs ++ x ∷ [])) r
+  pub laid-more : (s s' r : List (Option T)) (i k : ℕ) (xs : List T) (x : T)
+      → s ≡ laid i (full xs) r → k ≡ i + length xs → k < length r → s' ≡ set s k (Some x)
+      → s' ≡ laid i (full (xs ++ x ∷ [])) r
   laid-more s s' r i k xs x e at within e' =
       let long : k ≡ i + length (full xs) = omega (arith, at, length-full xs) in
-      e' ∙ (ap (λ (l : List (Option T)). set l k (Some x)) e ∙ (laid-one i (full xs) r k (Some x) long within ∙ ap (λ (l : List (Option T)). laid i l r) (sym (map-append (λ (y : T). Some y) xs (x ∷ [])))))
+      e' ∙ (ap (λ (l : List (Option T)). set l k (Some x)) e
+      ∙ (laid-one i (full xs) r k (Some x) long within
+      ∙ ap (λ (l : List (Option T)). laid i l r)
+      (sym (map-append (λ (y : T). Some y) xs (x ∷ [])))))
 
 -- one move more
-pub moving-more : (i k : ℕ) (now before : Cost) → k ≤ i → now ≡ moving (i - k) before → moving 1 now ≡ moving (i + 1 - k) before
+pub moving-more : (i k : ℕ) (now before : Cost) → k ≤ i → now ≡ moving (i - k) before
+    → moving 1 now ≡ moving (i + 1 - k) before
 moving-more i k now before order e =
-    ap (λ c. moving 1 c) e ∙ (moving-one (i - k) before ∙ ap (λ n. moving n before) (let f : i - k + 1 ≡ i + 1 - k = omega (arith, order) in f))
+    ap (λ c. moving 1 c) e
+    ∙ (moving-one (i - k) before ∙ ap (λ n. moving n before)
+    (let f : i - k + 1 ≡ i + 1 - k = omega (arith, order) in f))
 
 -- ---- how a capacity grows over several calls
 
@@ -60,22 +73,29 @@ module _ (rule : Rule) (R : RattleType) (law : KeepsLaw rule) where
   -- what the rule names is above what was there
   pub loose-le : (c d : ℕ) → IsLoose rule R c d → c ≤ d
   loose-le c d (inl e) = omega arith
-  loose-le c d (inr p) = let g = ruled-grows rule R c p.0 p.1 law p.2 p.3 in omega (arith, g.doubled, p.4)
+  loose-le c d (inr p) = let g = ruled-grows rule R c p.0 p.1 law p.2 p.3 in
+      omega (arith, g.doubled, p.4)
 
+  -- one loose growth after another
   pub loose-join : (c d e : ℕ) → IsLoose rule R c d → IsLoose rule R d e → IsLoose rule R c e
   loose-join c d e (inl p) q = subst (λ n. IsLoose rule R n e) p q
   loose-join c d e (inr p) q = inr (p.0, p.1, p.2, p.3, omega (arith, p.4, loose-le d e q))
 
+  -- a capacity that was named for fewer was named for more
   pub named-more : (c d d' n m : ℕ) → d' ≡ d → n ≤ m → IsNamed rule R c d n → IsNamed rule R c d' m
   named-more c d d' n m same more (inl e) = inl (same ∙ e)
-  named-more c d d' n m same more (inr p) = inr (p.0, p.1, p.2, omega (arith, p.3, more), p.4 ∙ ap Some (sym same))
+  named-more c d d' n m same more (inr p) =
+      inr (p.0, p.1, p.2, omega (arith, p.3, more), p.4 ∙ ap Some (sym same))
 
-  pub named-after : (c d e n : ℕ) (P : Type 0) → IsNamed rule R d e n → (e ≡ d → P) → IsNamed rule R c e n ⊎ P
+  -- a capacity that was named after another growth
+  pub named-after : (c d e n : ℕ) (P : Type 0) → IsNamed rule R d e n → (e ≡ d → P)
+      → IsNamed rule R c e n ⊎ P
   named-after c d e n P (inl same) f = inr (f same)
   named-after c d e n P (inr p) f = inl (inr p)
 
   -- a ruled capacity
-  pub loose-ruled : {T A : Type 0} (v : Thin T A) (k d : ℕ) → capacity_for rule R v k ≡ Some d → IsLoose rule R v.capacity d
+  pub loose-ruled : {T A : Type 0} (v : Thin T A) (k d : ℕ) → capacity_for rule R v k ≡ Some d
+      → IsLoose rule R v.capacity d
   loose-ruled v k d e =
       elim (cases_lt v.capacity (length v.items + k)) [
         | inl more ↦ inr (length v.items + k, d, more, e, omega arith)
@@ -84,32 +104,54 @@ module _ (rule : Rule) (R : RattleType) (law : KeepsLaw rule) where
 
 module _ {T A : Type 0} where
   -- k items that came in by as many moves, after at most one growth
-  pub filled-at : (v w : Thin T A) (k : ℕ) → w.cost ≡ moving k (cost_at v w.capacity) → length w.items ≡ length v.items + k → IsExtendCost v w
+  pub filled-at : (v w : Thin T A) (k : ℕ) → w.cost ≡ moving k (cost_at v w.capacity)
+      → length w.items ≡ length v.items + k → IsExtendCost v w
   filled-at v w k e n = record {
     moves = omega (arith, ap (λ c. c.moves) e, cost_at-moves v w.capacity, n);
-    kept = λ same. (ap (λ c. c.blocks) (e ∙ ap (λ c. moving k c) (cost_at-same v w.capacity same)), ap (λ c. c.grown) (e ∙ ap (λ c. moving k c) (cost_at-same v w.capacity same)));
-    grown = λ more. let f = e ∙ ap (λ c. moving k c) (cost_at-more v w.capacity more) in (omega (arith, ap (λ c. c.blocks) f), omega (arith, ap (λ c. c.grown) f));
+    kept = λ same. (
+      ap (λ c. c.blocks) (e ∙ ap (λ c. moving k c) (cost_at-same v w.capacity same)),
+      ap (λ c. c.grown) (e ∙ ap (λ c. moving k c) (cost_at-same v w.capacity same)),
+    );
+    grown = λ more. let f = e ∙ ap (λ c. moving k c) (cost_at-more v w.capacity more) in
+        (omega (arith, ap (λ c. c.blocks) f), omega (arith, ap (λ c. c.grown) f));
   }
 
   -- none came in
-  pub filled-reserved : (v w : Thin T A) → w.cost ≡ cost_at v w.capacity → w.items ≡ v.items → IsExtendCost v w
+  pub filled-reserved : (v w : Thin T A) → w.cost ≡ cost_at v w.capacity
+      → w.items ≡ v.items → IsExtendCost v w
   filled-reserved v w e n =
-      filled-at v w 0 (e ∙ (λ i. record { blocks = (cost_at v w.capacity).blocks; grown = (cost_at v w.capacity).grown; moves = (let z : (cost_at v w.capacity).moves ≡ (cost_at v w.capacity).moves + 0 = omega arith in z) i })) (omega (arith, ap length n))
+      filled-at v w 0 (e
+      ∙ (λ i. record {
+        blocks = (cost_at v w.capacity).blocks;
+        grown = (cost_at v w.capacity).grown;
+        moves =
+            (let z : (cost_at v w.capacity).moves
+            ≡ (cost_at v w.capacity).moves + 0 = omega arith in
+            z) i;
+      })) (omega (arith, ap length n))
 
   -- without a growth
-  pub filled-spare : (v w : Thin T A) (k : ℕ) → w.cost ≡ moving k v.cost → w.capacity ≡ v.capacity → length w.items ≡ length v.items + k → IsExtendCost v w
-  filled-spare v w k e same n = filled-at v w k (e ∙ ap (λ c. moving k c) (sym (cost_at-same v w.capacity same))) n
+  pub filled-spare : (v w : Thin T A) (k : ℕ) → w.cost ≡ moving k v.cost → w.capacity ≡ v.capacity
+      → length w.items ≡ length v.items + k → IsExtendCost v w
+  filled-spare v w k e same n =
+      filled-at v w k (e ∙ ap (λ c. moving k c) (sym (cost_at-same v w.capacity same))) n
 
   -- one step after another
-  pub filled-join : (v u w : Thin T A) → v.capacity ≤ u.capacity → u.capacity ≤ w.capacity → length v.items ≤ length u.items → IsExtendCost v u → IsExtendCost u w → IsExtendCost v w
+  pub filled-join : (v u w : Thin T A) → v.capacity ≤ u.capacity → u.capacity ≤ w.capacity
+      → length v.items ≤ length u.items → IsExtendCost v u → IsExtendCost u w → IsExtendCost v w
   filled-join v u w low high long p q = record {
     moves = omega (arith, p.moves, q.moves);
-    kept = λ same. let a : u.capacity ≡ v.capacity = omega arith in let b : w.capacity ≡ u.capacity = omega arith in let f = p.kept a in let h = q.kept b in (h.0 ∙ f.0, h.1 ∙ f.1);
+    kept = λ same. let a : u.capacity ≡ v.capacity = omega arith in
+        let b : w.capacity ≡ u.capacity = omega arith in let f = p.kept a in let h = q.kept b in
+        (h.0 ∙ f.0, h.1 ∙ f.1);
     grown = λ more. elim (cases_lt v.capacity u.capacity) [
       | inl first ↦ elim (cases_lt u.capacity w.capacity) [
-        | inl again ↦ let f = p.grown first in let h = q.grown again in (omega (arith, f.0, h.0), omega (arith, f.1, h.1))
-        | inr still ↦ let f = p.grown first in let h = q.kept (omega arith) in (omega (arith, f.0, h.0), omega (arith, f.1, h.1))
+        | inl again ↦ let f = p.grown first in let h = q.grown again in
+            (omega (arith, f.0, h.0), omega (arith, f.1, h.1))
+        | inr still ↦ let f = p.grown first in let h = q.kept (omega arith) in
+            (omega (arith, f.0, h.0), omega (arith, f.1, h.1))
       ]
-      | inr still ↦ let f = p.kept (omega arith) in let h = q.grown (omega arith) in (omega (arith, f.0, h.0), omega (arith, f.1, h.1, long))
+      | inr still ↦ let f = p.kept (omega arith) in let h = q.grown (omega arith) in
+          (omega (arith, f.0, h.0), omega (arith, f.1, h.1, long))
     ];
   }

@@ -1,4 +1,5 @@
--- What a block holds whose items lie in a row with no slot filled before or behind them, after each step on it; and what a walk over it gives.
+-- What a block holds whose items lie in a row with no slot filled before or behind them, after each
+-- step on it; and what a walk over it gives.
 use Rattle.std.proofs.Common.{◌≡◌, ℕ, zero, suc, ◌+◌, ◌-◌, ◌<◌, ◌≤◌, List, [], ◌∷◌, ◌++◌, Option, Some, None, length, take, drop, refl, sym, ap, ◌∙◌, arith, get_or, length-append, append_assoc}
 use Rattle.std.proofs.iter.runs.Sources.{as_is, as_is_back, from_back, from_front}
 use Rattle.std.proofs.lemmas.Grind.{take_at_read}
@@ -26,40 +27,56 @@ module _ {T : Type 0} where
   items-behind (suc k) s = items-behind k s
 
   -- the first item leaves
-  set-first : (start k : ℕ) (x : T) (xs : List T) → set (empty start ++ (full (x ∷ xs) ++ empty k)) start None ≡ empty (start + 1) ++ (full xs ++ empty k)
+  set-first : (start k : ℕ) (x : T) (xs : List T) → set (empty start ++ (full (x ∷ xs) ++ empty k))
+      start None ≡ empty (start + 1) ++ (full xs ++ empty k)
   set-first start k x xs =
       set_at (empty start) (Some x) (full xs ++ empty k) None start (length-empty T start)
-      ∙ (sym (append_assoc (empty start) (None ∷ []) (full xs ++ empty k)) ∙ ap (λ (s : List (Option T)). s ++ (full xs ++ empty k)) (replicate-append-replicate start 1 None))
+      ∙ (sym (append_assoc (empty start) (None ∷ []) (full xs ++ empty k))
+      ∙ ap (λ (s : List (Option T)). s ++ (full xs ++ empty k))
+      (replicate-append-replicate start 1 None))
 
   -- the last item, in front of empty slots
-  row-last : (start k : ℕ) (xs : List T) (x : T) → empty start ++ (full (xs ++ x ∷ []) ++ empty k) ≡ (empty start ++ full xs) ++ (Some x ∷ empty k)
+  row-last : (start k : ℕ) (xs : List T) (x : T) → empty start ++ (full (xs ++ x ∷ []) ++ empty k)
+      ≡ (empty start ++ full xs) ++ (Some x ∷ empty k)
   row-last start k xs x =
       ap (λ (s : List (Option T)). empty start ++ (s ++ empty k)) (map_push Some xs x)
-      ∙ (ap (λ (s : List (Option T)). empty start ++ s) (append_assoc (full xs) (Some x ∷ []) (empty k)) ∙ sym (append_assoc (empty start) (full xs) (Some x ∷ empty k)))
+      ∙ (ap (λ (s : List (Option T)). empty start ++ s)
+      (append_assoc (full xs) (Some x ∷ []) (empty k))
+      ∙ sym (append_assoc (empty start) (full xs) (Some x ∷ empty k)))
 
   before-last : (start : ℕ) (xs : List T) → length (empty start ++ full xs) ≡ start + length xs
-  before-last start xs = omega (arith, length-append (empty start) (full xs), length-empty T start, length-full xs)
+  before-last start xs =
+      omega (arith, length-append (empty start) (full xs), length-empty T start, length-full xs)
 
-  slot-last : (start k : ℕ) (xs : List T) (x : T) → slot (empty start ++ (full (xs ++ x ∷ []) ++ empty k)) (start + length xs) ≡ Some x
-  slot-last start k xs x = ap (λ (s : List (Option T)). slot s (start + length xs)) (row-last start k xs x) ∙ get_or_at (empty start ++ full xs) (Some x) (empty k) None (start + length xs) (before-last start xs)
+  slot-last : (start k : ℕ) (xs : List T) (x : T)
+      → slot (empty start ++ (full (xs ++ x ∷ []) ++ empty k)) (start + length xs) ≡ Some x
+  slot-last start k xs x = ap (λ (s : List (Option T)). slot s (start + length xs))
+      (row-last start k xs x) ∙ get_or_at (empty start ++ full xs) (Some x) (empty k) None
+      (start + length xs) (before-last start xs)
 
   -- it leaves
-  set-last : (start k : ℕ) (xs : List T) (x : T) → set (empty start ++ (full (xs ++ x ∷ []) ++ empty k)) (start + length xs) None ≡ empty start ++ (full xs ++ empty (k + 1))
+  set-last : (start k : ℕ) (xs : List T) (x : T)
+      → set (empty start ++ (full (xs ++ x ∷ []) ++ empty k)) (start + length xs) None ≡ empty start
+      ++ (full xs ++ empty (k + 1))
   set-last start k xs x =
       ap (λ (s : List (Option T)). set s (start + length xs) None) (row-last start k xs x)
-      ∙ (set_at (empty start ++ full xs) (Some x) (empty k) None (start + length xs) (before-last start xs)
+      ∙ (set_at (empty start ++ full xs) (Some x) (empty k) None
+      (start + length xs) (before-last start xs)
       ∙ (append_assoc (empty start) (full xs) (None ∷ empty k)
-      ∙ ap (λ (n : ℕ). empty start ++ (full xs ++ empty n)) (let e : suc k ≡ k + 1 = omega arith in e)))
+      ∙ ap (λ (n : ℕ). empty start ++ (full xs ++ empty n))
+      (let e : suc k ≡ k + 1 = omega arith in e)))
 
   -- a list that is not empty, by its last item
-  split-last : (xs : List T) (j : ℕ) (d : T) → j + 1 ≡ length xs → xs ≡ take j xs ++ get_or xs j d ∷ []
+  split-last : (xs : List T) (j : ℕ) (d : T) → j + 1 ≡ length xs
+      → xs ≡ take j xs ++ get_or xs j d ∷ []
   split-last xs j d e = sym (all xs (j + 1) e) ∙ (take_at_read xs j d (omega arith)).1
     where
       all : (ys : List T) (n : ℕ) → n ≡ length ys → take n ys ≡ ys
       all ys n same = ap (take n) (sym (append-nil ys)) ∙ take_at ys [] n (sym same)
 
   -- what is written over the items
-  over-behind : (start : ℕ) (s : List (Option T)) (ws : List T) → over (empty start ++ s) start ws ≡ empty start ++ over s 0 ws
+  over-behind : (start : ℕ) (s : List (Option T)) (ws : List T)
+      → over (empty start ++ s) start ws ≡ empty start ++ over s 0 ws
   over-behind zero s ws = refl
   over-behind (suc start) s ws = ap (λ (r : List (Option T)). None ∷ r) (over-behind start s ws)
 
@@ -70,16 +87,30 @@ module _ {T A : Type 0} where
     pub items : items_in b.slots ≡ xs
     pub cap : length b.slots ≡ c
 
-  walking : (b : Block T A) (a : A) (xs : List T) (start end c : ℕ) → b.slots ≡ empty start ++ (full xs ++ empty (c - end)) → start + length xs ≡ end → end ≤ c → IsFrom b a → Walking b a xs start end c
+  walking : (b : Block T A) (a : A) (xs : List T) (start end c : ℕ)
+      → b.slots ≡ empty start ++ (full xs ++ empty (c - end)) → start + length xs ≡ end → end ≤ c
+      → IsFrom b a → Walking b a xs start end c
   walking b a xs start end c e n h f =
       let behind : List (Option T) = empty (c - end) in
       let i : items_in b.slots ≡ xs =
-      ap items_in e ∙ (items-behind start (full xs ++ behind) ∙ (items-full xs behind ∙ (ap (λ (ys : List T). xs ++ ys) (items-empty (c - end)) ∙ append-nil xs))) in
+      ap items_in e ∙ (items-behind start (full xs ++ behind)
+      ∙ (items-full xs behind
+      ∙ (ap (λ (ys : List T). xs ++ ys) (items-empty (c - end)) ∙ append-nil xs))) in
       let l : length b.slots ≡ c =
-      omega (arith, ap length e, length-append (empty start) (full xs ++ behind), length-append (full xs) behind, length-empty T start, length-full xs, length-empty T (c - end)) in
+      omega (
+        arith,
+        ap length e,
+        length-append (empty start) (full xs ++ behind),
+        length-append (full xs) behind,
+        length-empty T start,
+        length-full xs,
+        length-empty T (c - end),
+      ) in
       record {
         walked = record {
-          row = e ∙ (ap (λ (ys : List T). empty start ++ (full ys ++ behind)) (sym i) ∙ ap (λ (q : ℕ). empty start ++ (full (items_in b.slots) ++ empty (q - end))) (sym l));
+          row = e ∙ (ap (λ (ys : List T). empty start ++ (full ys ++ behind)) (sym i)
+              ∙ ap (λ (q : ℕ). empty start ++ (full (items_in b.slots) ++ empty (q - end)))
+              (sym l));
           len = ap (λ (ys : List T). start + length ys) i ∙ n;
           from = f;
         };
@@ -88,36 +119,52 @@ module _ {T A : Type 0} where
       }
 
   -- the items lie within the slots
-  pub walked-room : (b : Block T A) (a : A) (start end : ℕ) → IsWalked b a start end → end ≤ length b.slots
+  pub walked-room : (b : Block T A) (a : A) (start end : ℕ)
+      → IsWalked b a start end → end ≤ length b.slots
   walked-room b a start end t =
       let xs : List T = items_in b.slots in
       let behind : List (Option T) = empty (length b.slots - end) in
-      omega (arith, t.len, ap length t.row, length-append (empty start) (full xs ++ behind), length-append (full xs) behind, length-empty T start, length-full xs)
+      omega (
+        arith,
+        t.len,
+        ap length t.row,
+        length-append (empty start) (full xs ++ behind),
+        length-append (full xs) behind,
+        length-empty T start,
+        length-full xs,
+      )
 
   -- each slot from `start` up to `end` holds an item
-  pub walked-filled : (b : Block T A) (a : A) (start end i : ℕ) → IsWalked b a start end → start ≤ i → i < end → IsSome (slot b.slots i)
+  pub walked-filled : (b : Block T A) (a : A) (start end i : ℕ) → IsWalked b a start end → start ≤ i
+      → i < end → IsSome (slot b.slots i)
   walked-filled b a start end i t low high =
       let xs : List T = items_in b.slots in
       let behind : List (Option T) = empty (length b.slots - end) in
       let within : i - start < length xs = omega (arith, t.len) in
       rw (ap (λ (s : List (Option T)). slot s i) t.row
-      ∙ (get_or-append_right (empty start) (full xs ++ behind) start i None (length-empty T start) low ∙ slot-get xs behind (i - start) within))
+      ∙ (get_or-append_right (empty start) (full xs ++ behind) start i None (length-empty T start)
+      low ∙ slot-get xs behind (i - start) within))
       (get-some xs (i - start) within)
 
   -- the slots of the items, as a run
-  pub walked-run : (b : Block T A) (a : A) (start end : ℕ) (ys : List T) → IsWalked b a start end → full ys ≡ slice_range b.slots start end → ys ≡ items_in b.slots
+  pub walked-run : (b : Block T A) (a : A) (start end : ℕ) (ys : List T) → IsWalked b a start end
+      → full ys ≡ slice_range b.slots start end → ys ≡ items_in b.slots
   walked-run b a start end ys t run =
       let xs : List T = items_in b.slots in
       let behind : List (Option T) = empty (length b.slots - end) in
       let count : length (full xs) ≡ end - start = omega (arith, t.len, length-full xs) in
       full-same ys xs (run ∙ (ap (λ (s : List (Option T)). slice_range s start end) t.row
-      ∙ (ap (take (end - start)) (drop_at (empty start) (full xs ++ behind) start (length-empty T start)) ∙ take_at (full xs) behind (end - start) count)))
+      ∙ (ap (take (end - start))
+      (drop_at (empty start) (full xs ++ behind) start (length-empty T start))
+      ∙ take_at (full xs) behind (end - start) count)))
 
   -- the list of which no item has been handed out
-  pub settle-whole : (b : Block T A) (a : A) (xs : List T) (c : ℕ) → b.slots ≡ full xs ++ empty (c - length xs) → length xs ≤ c → IsFrom b a → Walking b a xs 0 (length xs) c
+  pub settle-whole : (b : Block T A) (a : A) (xs : List T) (c : ℕ) → b.slots ≡ full xs ++ empty
+      (c - length xs) → length xs ≤ c → IsFrom b a → Walking b a xs 0 (length xs) c
   settle-whole b a xs c e h f = walking b a xs 0 (length xs) c e (omega arith) h f
 
-  module _ (b b' : Block T A) (a : A) (start end : ℕ) (v : T) (t : IsWalked b a start end) (some : start < end) where
+  module _ (b b' : Block T A) (a : A) (start end : ℕ) (v : T) (t : IsWalked b a start end)
+      (some : start < end) where
     abbrev xs : List T
     xs = items_in b.slots
 
@@ -125,25 +172,35 @@ module _ {T A : Type 0} where
     gap = length b.slots - end
 
     -- the first item was handed out
-    first-of : (ys : List T) (k : ℕ) → 0 < length ys → slot (empty start ++ (full ys ++ empty k)) start ≡ Some v
-        → (ys ≡ v ∷ drop 1 ys) × (set (empty start ++ (full ys ++ empty k)) start None ≡ empty (start + 1) ++ (full (drop 1 ys) ++ empty k))
+    first-of : (ys : List T) (k : ℕ) → 0 < length ys
+        → slot (empty start ++ (full ys ++ empty k)) start ≡ Some v
+        → (ys ≡ v ∷ drop 1 ys)
+        × (set (empty start ++ (full ys ++ empty k)) start None ≡ empty (start + 1)
+        ++ (full (drop 1 ys) ++ empty k))
     first-of [] k h e = absurd (omega arith)
     first-of (y ∷ ys) k h e =
-        let is : Some y ≡ Some v = sym (get_or_at (empty start) (Some y) (full ys ++ empty k) None start (length-empty T start)) ∙ e in
+        let is : Some y ≡ Some v =
+        sym (get_or_at (empty start) (Some y) (full ys ++ empty k) None start
+        (length-empty T start)) ∙ e in
         let same : y ≡ v = cc in
         (ap (λ (x : T). x ∷ ys) same, set-first start k y ys)
 
-    first : slot b.slots start ≡ Some v → (xs ≡ v ∷ drop 1 xs) × (set b.slots start None ≡ empty (start + 1) ++ (full (drop 1 xs) ++ empty gap))
+    first : slot b.slots start ≡ Some v → (xs ≡ v ∷ drop 1 xs)
+        × (set b.slots start None ≡ empty (start + 1) ++ (full (drop 1 xs) ++ empty gap))
     first e =
-        let h = first-of xs gap (omega (arith, t.len)) (ap (λ (s : List (Option T)). slot s start) (sym t.row) ∙ e) in
+        let h = first-of xs gap (omega (arith, t.len))
+        (ap (λ (s : List (Option T)). slot s start) (sym t.row) ∙ e) in
         (h.0, ap (λ (s : List (Option T)). set s start None) t.row ∙ h.1)
 
     pub first-item : slot b.slots start ≡ Some v → xs ≡ v ∷ drop 1 xs
     first-item e = (first e).0
 
-    pub settle-first : slot b.slots start ≡ Some v → b'.slots ≡ set b.slots start None → b'.alloc ≡ b.alloc → Walking b' a (drop 1 xs) (start + 1) end (length b.slots)
+    pub settle-first : slot b.slots start ≡ Some v → b'.slots ≡ set b.slots start None
+        → b'.alloc ≡ b.alloc → Walking b' a (drop 1 xs) (start + 1) end (length b.slots)
     settle-first e s f =
-        walking b' a (drop 1 xs) (start + 1) end (length b.slots) (s ∙ (first e).1) (omega (arith, t.len, ap length (first e).0)) (walked-room b a start end t) (from-same b b' a t.from f)
+        walking b' a (drop 1 xs) (start + 1) end (length b.slots) (s ∙ (first e).1)
+        (omega (arith, t.len, ap length (first e).0)) (walked-room b a start end t)
+        (from-same b b' a t.from f)
 
     -- the last item was handed out
     abbrev most : List T
@@ -161,40 +218,56 @@ module _ {T A : Type 0} where
     pub last-item : slot b.slots (end - 1) ≡ Some v → xs ≡ most ++ v ∷ []
     last-item e =
         let is : Some (get_or xs (end - 1 - start) v) ≡ Some v =
-        sym (slot-last start gap most (get_or xs (end - 1 - start) v)) ∙ (ap (slot _) place ∙ (ap (λ (s : List (Option T)). slot s (end - 1)) (sym row) ∙ e)) in
+        sym (slot-last start gap most (get_or xs (end - 1 - start) v))
+        ∙ (ap (slot _) place ∙ (ap (λ (s : List (Option T)). slot s (end - 1)) (sym row) ∙ e))
+        in
         let same : get_or xs (end - 1 - start) v ≡ v = cc in
         whole ∙ ap (λ (x : T). most ++ x ∷ []) same
 
-    pub settle-last : b'.slots ≡ set b.slots (end - 1) None → b'.alloc ≡ b.alloc → Walking b' a most start (end - 1) (length b.slots)
+    pub settle-last : b'.slots ≡ set b.slots (end - 1) None → b'.alloc ≡ b.alloc
+        → Walking b' a most start (end - 1) (length b.slots)
     settle-last s f =
-        let more : gap + 1 ≡ length b.slots - (end - 1) = omega (arith, walked-room b a start end t) in
+        let more : gap + 1 ≡ length b.slots - (end - 1) =
+        omega (arith, walked-room b a start end t) in
         walking b' a most start (end - 1) (length b.slots)
-        (s ∙ ((λ i. set (row i) (sym place i) None) ∙ (set-last start gap most _ ∙ ap (λ (n : ℕ). empty start ++ (full most ++ empty n)) more)))
+        (s ∙ ((λ i. set (row i) (sym place i) None)
+        ∙ (set-last start gap most _
+        ∙ ap (λ (n : ℕ). empty start ++ (full most ++ empty n)) more)))
         place (omega (arith, walked-room b a start end t)) (from-same b b' a t.from f)
 
   -- what remains was written
-  pub settle-written : (b b' : Block T A) (a : A) (start end : ℕ) (ws : List T) → IsWalked b a start end → b'.slots ≡ over b.slots start ws → b'.alloc ≡ b.alloc
-      → Walking b' a (refill (length (items_in b.slots)) (items_in b.slots) ws) start end (length b.slots)
+  pub settle-written : (b b' : Block T A) (a : A) (start end : ℕ) (ws : List T)
+      → IsWalked b a start end → b'.slots ≡ over b.slots start ws → b'.alloc ≡ b.alloc
+      → Walking b' a (refill (length (items_in b.slots)) (items_in b.slots) ws)
+      start end (length b.slots)
   settle-written b b' a start end ws t s f =
       let xs : List T = items_in b.slots in
       let gap : ℕ = length b.slots - end in
       walking b' a (refill (length xs) xs ws) start end (length b.slots)
-      (s ∙ (ap (λ (r : List (Option T)). over r start ws) t.row ∙ (over-behind start (full xs ++ empty gap) ws ∙ ap (λ (r : List (Option T)). empty start ++ r) (over-front xs gap ws))))
-      (omega (arith, t.len, length_refill (length xs) xs ws refl)) (walked-room b a start end t) (from-same b b' a t.from f)
+      (s ∙ (ap (λ (r : List (Option T)). over r start ws) t.row
+      ∙ (over-behind start (full xs ++ empty gap) ws
+      ∙ ap (λ (r : List (Option T)). empty start ++ r) (over-front xs gap ws))))
+      (omega (arith, t.len, length_refill (length xs) xs ws refl)) (walked-room b a start end t)
+      (from-same b b' a t.from f)
 
   -- the iterator behind a block whose items were written
-  pub view-written : (b : Block T A) (a : A) (start end : ℕ) (ws : List T) → IsWalked b a start end → thin_of (block_with_items b start ws) a ≡ with_items (thin_of b a) ws
+  pub view-written : (b : Block T A) (a : A) (start end : ℕ) (ws : List T) → IsWalked b a start end
+      → thin_of (block_with_items b start ws) a ≡ with_items (thin_of b a) ws
   view-written b a start end ws t =
       let f = settle-written b (block_with_items b start ws) a start end ws t refl refl in
       λ i. record { items = f.items i; capacity = f.cap i; alloc = a; cost = b.cost }
 
   -- nothing remains: every slot is empty
-  pub walked-empty : (b : Block T A) (a : A) (start end : ℕ) → IsWalked b a start end → length (items_in b.slots) ≡ 0 → b.slots ≡ empty (length b.slots)
+  pub walked-empty : (b : Block T A) (a : A) (start end : ℕ) → IsWalked b a start end
+      → length (items_in b.slots) ≡ 0 → b.slots ≡ empty (length b.slots)
   walked-empty b a start end t none =
       let same : start ≡ end = omega (arith, t.len) in
-      let all : start + (length b.slots - end) ≡ length b.slots = omega (arith, walked-room b a start end t) in
-      t.row ∙ (ap (λ (ys : List T). empty start ++ (full ys ++ empty (length b.slots - end))) (nothing (items_in b.slots) none)
-      ∙ (replicate-append-replicate start (length b.slots - end) None ∙ ap (λ (n : ℕ). empty n) all))
+      let all : start + (length b.slots - end) ≡ length b.slots =
+      omega (arith, walked-room b a start end t) in
+      t.row ∙ (ap (λ (ys : List T). empty start ++ (full ys ++ empty (length b.slots - end)))
+      (nothing (items_in b.slots) none)
+      ∙ (replicate-append-replicate start (length b.slots - end) None
+      ∙ ap (λ (n : ℕ). empty n) all))
     where
       nothing : (xs : List T) → length xs ≡ 0 → xs ≡ []
       nothing [] e = refl
@@ -202,8 +275,14 @@ module _ {T A : Type 0} where
 
 -- what calls of `next`, and of `next_back`, give
 module _ (T A : Type 0) where
+  -- `next` gives what remains, in order
   pub rest_in_order : RestInOrder T A
-  rest_in_order p s = as_is p (rest p.from) (from_front (YieldsFirst rest) (λ x. x) rest (λ s t h. ap length h.0) (λ s x t h. h) p s)
+  rest_in_order p s =
+      as_is p (rest p.from)
+      (from_front (YieldsFirst rest) (λ x. x) rest (λ s t h. ap length h.0) (λ s x t h. h) p s)
 
+  -- and `next_back` in reverse
   pub rest_in_reverse : RestInReverse T A
-  rest_in_reverse p s = as_is_back p (rest p.from) (from_back (YieldsLast rest) (λ x. x) rest (λ s t h. ap length h.0) (λ s x t h. h) p s)
+  rest_in_reverse p s =
+      as_is_back p (rest p.from)
+      (from_back (YieldsLast rest) (λ x. x) rest (λ s t h. ap length h.0) (λ s x t h. h) p s)

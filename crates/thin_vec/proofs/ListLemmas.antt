@@ -15,20 +15,30 @@ module _ {T : Type 0} where
   items-empty zero = refl
   items-empty (suc k) = items-empty k
 
+  -- the items of filled slots
   pub items-full : (xs : List T) (s : List (Option T)) → items_in (full xs ++ s) ≡ xs ++ items_in s
   items-full [] s = refl
   items-full (x ∷ xs) s = ap (λ (ys : List T). x ∷ ys) (items-full xs s)
 
+  -- the items of a list in front
   pub items-front : (xs : List T) (c : ℕ) → items_in (front xs c) ≡ xs
-  items-front xs c = items-full xs (replicate (c - length xs) None) ∙ (ap (λ (ys : List T). xs ++ ys) (items-empty (c - length xs)) ∙ append-nil xs)
+  items-front xs c = items-full xs (replicate (c - length xs) None)
+      ∙ (ap (λ (ys : List T). xs ++ ys) (items-empty (c - length xs)) ∙ append-nil xs)
 
+  -- as many filled slots as items
   pub length-full : (xs : List T) → length (full xs) ≡ length xs
   length-full xs = length-map xs (λ (x : T). Some x)
 
+  -- as many slots as the capacity
   pub length-front : (xs : List T) (c : ℕ) → length xs ≤ c → length (front xs c) ≡ c
   length-front xs c h =
       let e : List (Option T) = replicate (c - length xs) None in
-      omega (arith, length-append (full xs) e, length-full xs, length-replicate {A = Option T} (c - length xs) None)
+      omega (
+        arith,
+        length-append (full xs) e,
+        length-full xs,
+        length-replicate {A = Option T} (c - length xs) None,
+      )
 
   -- rows of filled slots are equal only where their items are
   pub full-same : (xs ys : List T) → full xs ≡ full ys → xs ≡ ys
@@ -39,20 +49,26 @@ module _ {T : Type 0} where
       items-of (z ∷ zs) = ap (λ (l : List T). z ∷ l) (items-of zs)
 
   -- a run of filled slots read at i
-  pub slot-full : (xs : List T) (s : List (Option T)) (i : ℕ) (d : T) → i < length xs → slot (full xs ++ s) i ≡ Some (get_or xs i d)
+  pub slot-full : (xs : List T) (s : List (Option T)) (i : ℕ) (d : T) → i < length xs
+      → slot (full xs ++ s) i ≡ Some (get_or xs i d)
   slot-full xs s i d h =
       let n : i < length (full xs) = omega (arith, length-full xs) in
       get_or_append_left (full xs) s None i n ∙ get_or-map (λ (x : T). Some x) xs i d None h
 
-  pub slot-past : (xs : List T) (k i : ℕ) (s : List (Option T)) → length xs ≤ i → i < length xs + k → slot (full xs ++ (replicate k None ++ s)) i ≡ None
+  -- the slots behind the items are empty
+  pub slot-past : (xs : List T) (k i : ℕ) (s : List (Option T)) → length xs ≤ i → i < length xs + k
+      → slot (full xs ++ (replicate k None ++ s)) i ≡ None
   slot-past xs k i s h l =
-      let m : i - length xs < length (replicate {A = Option T} k None) = omega (arith, length-replicate {A = Option T} k None) in
+      let m : i - length xs < length (replicate {A = Option T} k None) =
+      omega (arith, length-replicate {A = Option T} k None) in
       let o : i - length xs < k = omega arith in
       get_or-append_right (full xs) (replicate k None ++ s) (length xs) i None (length-full xs) h
-      ∙ (get_or_append_left (replicate k None) s None (i - length xs) m ∙ get_or-replicate k (i - length xs) None None o)
+      ∙ (get_or_append_left (replicate k None) s None (i - length xs) m
+      ∙ get_or-replicate k (i - length xs) None None o)
 
   -- the first empty slot is filled
-  pub front-push : (xs : List T) (c : ℕ) (v : T) → length xs < c → set (front xs c) (length xs) (Some v) ≡ front (xs ++ v ∷ []) c
+  pub front-push : (xs : List T) (c : ℕ) (v : T) → length xs < c → set (front xs c) (length xs)
+      (Some v) ≡ front (xs ++ v ∷ []) c
   front-push xs c v h =
       let k : ℕ = c - length xs - 1 in
       let e : c - length xs ≡ suc k = omega arith in
@@ -60,35 +76,50 @@ module _ {T : Type 0} where
       ap (λ (n : ℕ). set (full xs ++ replicate n None) (length xs) (Some v)) e
       ∙ (set_at (full xs) None (replicate k None) (Some v) (length xs) (length-full xs)
       ∙ (sym (append_assoc (full xs) (Some v ∷ []) (replicate k None))
-      ∙ (ap (λ (r : List (Option T)). r ++ replicate k None) (sym (map_push (λ (x : T). Some x) xs v)) ∙ ap (λ (n : ℕ). full (xs ++ v ∷ []) ++ replicate n None) m)))
+      ∙ (ap (λ (r : List (Option T)). r ++ replicate k None)
+      (sym (map_push (λ (x : T). Some x) xs v))
+      ∙ ap (λ (n : ℕ). full (xs ++ v ∷ []) ++ replicate n None) m)))
 
   -- one slot of a filled run is emptied
-  pub full-take : (xs : List T) (s : List (Option T)) (i : ℕ) (d : T) → i < length xs → set (full xs ++ s) i None ≡ full (take i xs) ++ (None ∷ (full (drop (suc i) xs) ++ s))
+  pub full-take : (xs : List T) (s : List (Option T)) (i : ℕ) (d : T) → i < length xs
+      → set (full xs ++ s) i None ≡ full (take i xs) ++ (None ∷ (full (drop (suc i) xs) ++ s))
   full-take [] s i d h = absurd (omega arith)
   full-take (x ∷ xs) s zero d h = refl
-  full-take (x ∷ xs) s (suc i) d h = let l : i < length xs = omega arith in ap (λ (r : List (Option T)). Some x ∷ r) (full-take xs s i d l)
+  full-take (x ∷ xs) s (suc i) d h = let l : i < length xs = omega arith in
+      ap (λ (r : List (Option T)). Some x ∷ r) (full-take xs s i d l)
 
-  pub front-pop : (xs : List T) (c : ℕ) (v : T) → length (xs ++ v ∷ []) ≤ c → set (front (xs ++ v ∷ []) c) (length xs) None ≡ front xs c
+  -- the last filled slot is emptied
+  pub front-pop : (xs : List T) (c : ℕ) (v : T) → length (xs ++ v ∷ []) ≤ c
+      → set (front (xs ++ v ∷ []) c) (length xs) None ≡ front xs c
   front-pop xs c v h =
       let n : length (xs ++ v ∷ []) ≡ length xs + 1 = length_push xs v in
       let k : ℕ = c - length (xs ++ v ∷ []) in
       let m : suc k ≡ c - length xs = omega arith in
-      ap (λ (r : List (Option T)). set (r ++ replicate k None) (length xs) None) (map_push (λ (x : T). Some x) xs v)
-      ∙ (ap (λ (r : List (Option T)). set r (length xs) None) (append_assoc (full xs) (Some v ∷ []) (replicate k None))
-      ∙ (set_at (full xs) (Some v) (replicate k None) None (length xs) (length-full xs) ∙ ap (λ (q : ℕ). full xs ++ replicate q None) m))
+      ap (λ (r : List (Option T)). set (r ++ replicate k None) (length xs) None)
+      (map_push (λ (x : T). Some x) xs v)
+      ∙ (ap (λ (r : List (Option T)). set r (length xs) None)
+      (append_assoc (full xs) (Some v ∷ []) (replicate k None))
+      ∙ (set_at (full xs) (Some v) (replicate k None) None (length xs) (length-full xs)
+      ∙ ap (λ (q : ℕ). full xs ++ replicate q None) m))
 
   -- more empty slots behind
-  pub front-grow : (xs : List T) (c d : ℕ) → length xs ≤ c → c ≤ d → front xs c ++ replicate (d - c) None ≡ front xs d
+  pub front-grow : (xs : List T) (c d : ℕ) → length xs ≤ c → c ≤ d
+      → front xs c ++ replicate (d - c) None ≡ front xs d
   front-grow xs c d h l =
       let m : (c - length xs) + (d - c) ≡ d - length xs = omega arith in
       append_assoc (full xs) (replicate (c - length xs) None) (replicate (d - c) None)
-      ∙ ap (λ (r : List (Option T)). full xs ++ r) (replicate-append-replicate (c - length xs) (d - c) None ∙ ap (λ (q : ℕ). replicate q None) m)
+      ∙ ap (λ (r : List (Option T)). full xs ++ r)
+      (replicate-append-replicate (c - length xs) (d - c) None
+      ∙ ap (λ (q : ℕ). replicate q None) m)
 
-  pub slot-get : (xs : List T) (s : List (Option T)) (i : ℕ) → i < length xs → slot (full xs ++ s) i ≡ slice_get xs i
+  -- what a filled slot holds
+  pub slot-get : (xs : List T) (s : List (Option T)) (i : ℕ) → i < length xs
+      → slot (full xs ++ s) i ≡ slice_get xs i
   slot-get [] s i h = absurd (omega arith)
   slot-get (x ∷ xs) s zero h = refl
   slot-get (x ∷ xs) s (suc i) h = slot-get xs s i (omega arith)
 
+  -- an item within the bounds is there
   pub get-some : (xs : List T) (i : ℕ) → i < length xs → IsSome (slice_get xs i)
   get-some [] i h = absurd (omega arith)
   get-some (x ∷ xs) zero h = refl
@@ -101,14 +132,17 @@ module _ {T A : Type 0} where
     pub items : items_in b.slots ≡ xs
     pub cap : length b.slots ≡ c
 
-  pub settled : (b : Block T A) (a : A) (xs : List T) (c : ℕ) → b.slots ≡ front xs c → b.len ≡ length xs → length xs ≤ c → IsFrom b a → Settled b a xs c
+  -- a block with a list in front
+  pub settled : (b : Block T A) (a : A) (xs : List T) (c : ℕ) → b.slots ≡ front xs c
+      → b.len ≡ length xs → length xs ≤ c → IsFrom b a → Settled b a xs c
   settled b a xs c e n h f =
       let i : items_in b.slots ≡ xs = ap items_in e ∙ items-front xs c in
       let l : length b.slots ≡ c = ap length e ∙ length-front xs c h in
       record {
         thin = record {
           packed = record {
-            row = e ∙ (ap (λ (ys : List T). front ys c) (sym i) ∙ ap (λ (q : ℕ). front (items_in b.slots) q) (sym l));
+            row = e ∙ (ap (λ (ys : List T). front ys c) (sym i)
+                ∙ ap (λ (q : ℕ). front (items_in b.slots) q) (sym l));
             len = n ∙ ap length (sym i);
           };
           from = f;
@@ -125,37 +159,54 @@ module _ {T A : Type 0} where
       omega (arith, ap length t.packed.row, length-append (full xs) e, length-full xs)
 
   -- the slots of n items
-  pub thin-packed : (b : Block T A) (a : A) (n : ℕ) → IsThin b a → length (items_in b.slots) ≡ n → IsPacked b.slots n
+  pub thin-packed : (b : Block T A) (a : A) (n : ℕ) → IsThin b a
+      → length (items_in b.slots) ≡ n → IsPacked b.slots n
   thin-packed b a n t long = record { row = t.packed.row; len = sym long }
 
+  -- a block from the same allocator
   pub from-same : (b b' : Block T A) (a : A) → IsFrom b a → b'.alloc ≡ b.alloc → IsFrom b' a
   from-same b b' a f e = λ x h. f x (sym e ∙ h)
 
-  pub settle-push : (b b' : Block T A) (a : A) (v : T) (i : ℕ) → IsThin b a → i ≡ b.len → i < length b.slots → b'.slots ≡ set b.slots i (Some v) → b'.len ≡ i + 1 → b'.alloc ≡ b.alloc → Settled b' a (items_in b.slots ++ v ∷ []) (length b.slots)
+  -- an item went in behind
+  pub settle-push : (b b' : Block T A) (a : A) (v : T) (i : ℕ) → IsThin b a → i ≡ b.len
+      → i < length b.slots → b'.slots ≡ set b.slots i (Some v) → b'.len ≡ i + 1 → b'.alloc ≡ b.alloc
+      → Settled b' a (items_in b.slots ++ v ∷ []) (length b.slots)
   settle-push b b' a v i t o h s n f =
       let xs : List T = items_in b.slots in
       let c : ℕ = length b.slots in
       let l : length xs < c = omega (arith, t.packed.len) in
       settled b' a (xs ++ v ∷ []) c
-      (s ∙ (ap (λ (q : ℕ). set b.slots q (Some v)) (o ∙ t.packed.len) ∙ (ap (λ (r : List (Option T)). set r (length xs) (Some v)) t.packed.row ∙ front-push xs c v l)))
-      (omega (arith, n, t.packed.len, length_push xs v)) (omega (arith, length_push xs v)) (from-same b b' a t.from f)
+      (s ∙ (ap (λ (q : ℕ). set b.slots q (Some v)) (o ∙ t.packed.len)
+      ∙ (ap (λ (r : List (Option T)). set r (length xs) (Some v)) t.packed.row
+      ∙ front-push xs c v l)))
+      (omega (arith, n, t.packed.len, length_push xs v)) (omega (arith, length_push xs v))
+      (from-same b b' a t.from f)
 
   -- the item in the last filled slot
-  pub last-item : (b : Block T A) (a : A) (v : T) (j : ℕ) → IsThin b a → j + 1 ≡ b.len → slot b.slots j ≡ Some v → items_in b.slots ≡ take j (items_in b.slots) ++ v ∷ []
+  pub last-item : (b : Block T A) (a : A) (v : T) (j : ℕ) → IsThin b a → j + 1 ≡ b.len
+      → slot b.slots j ≡ Some v → items_in b.slots ≡ take j (items_in b.slots) ++ v ∷ []
   last-item b a v j t o w =
       let xs : List T = items_in b.slots in
       let ys : List T = take j xs in
       let l : j < length xs = omega (arith, t.packed.len) in
-      let x : Some v ≡ Some (get_or xs j v) = sym w ∙ (ap (λ (r : List (Option T)). slot r j) t.packed.row ∙ slot-full xs (replicate (length b.slots - length xs) None) j v l) in
+      let x : Some v ≡ Some (get_or xs j v) = sym w
+      ∙ (ap (λ (r : List (Option T)). slot r j) t.packed.row
+      ∙ slot-full xs (replicate (length b.slots - length xs) None) j v l) in
       let y : v ≡ get_or xs j v = cc in
-      let z : drop (j + 1) xs ≡ [] = ap (λ (q : ℕ). drop q xs) (let q : j + 1 ≡ length xs = omega arith in q) ∙ drop-length xs in
-      sym (take-append-drop j xs) ∙ ap (λ (r : List T). ys ++ r) (drop_more xs j v l ∙ (ap (λ (r : List T). get_or xs j v ∷ r) z ∙ ap (λ (r : T). r ∷ []) (sym y)))
+      let z : drop (j + 1) xs ≡ [] =
+      ap (λ (q : ℕ). drop q xs) (let q : j + 1 ≡ length xs = omega arith in q)
+      ∙ drop-length xs in
+      sym (take-append-drop j xs) ∙ ap (λ (r : List T). ys ++ r)
+      (drop_more xs j v l
+      ∙ (ap (λ (r : List T). get_or xs j v ∷ r) z ∙ ap (λ (r : T). r ∷ []) (sym y)))
     where
       drop-length : (zs : List T) → drop (length zs) zs ≡ []
       drop-length [] = refl
       drop-length (z ∷ zs) = drop-length zs
 
-  pub settle-pop : (b b' : Block T A) (a : A) (v : T) (j : ℕ) → IsThin b a → j + 1 ≡ b.len → slot b.slots j ≡ Some v → b'.slots ≡ set b.slots j None → b'.len ≡ j → b'.alloc ≡ b.alloc
+  -- the last item came out
+  pub settle-pop : (b b' : Block T A) (a : A) (v : T) (j : ℕ) → IsThin b a → j + 1 ≡ b.len
+      → slot b.slots j ≡ Some v → b'.slots ≡ set b.slots j None → b'.len ≡ j → b'.alloc ≡ b.alloc
       → Settled b' a (take j (items_in b.slots)) (length b.slots)
   settle-pop b b' a v j t o w s n f =
       let xs : List T = items_in b.slots in
@@ -166,34 +217,48 @@ module _ {T A : Type 0} where
       let e : xs ≡ ys ++ v ∷ [] = last-item b a v j t o w in
       let k : length (ys ++ v ∷ []) ≤ c = omega (arith, thin-room b a t, ap length e) in
       settled b' a ys c
-      (s ∙ (ap (λ (r : List (Option T)). set r j None) (t.packed.row ∙ ap (λ (r : List T). front r c) e) ∙ (ap (λ (q : ℕ). set (front (ys ++ v ∷ []) c) q None) (sym m) ∙ front-pop ys c v k)))
+      (s ∙ (ap (λ (r : List (Option T)). set r j None)
+      (t.packed.row ∙ ap (λ (r : List T). front r c) e)
+      ∙ (ap (λ (q : ℕ). set (front (ys ++ v ∷ []) c) q None) (sym m) ∙ front-pop ys c v k)))
       (n ∙ sym m) (omega (arith, length_push ys v)) (from-same b b' a t.from f)
 
-  thin-slot : (b : Block T A) (a : A) (i : ℕ) → IsThin b a → i < length (items_in b.slots) → slot b.slots i ≡ slice_get (items_in b.slots) i
+  -- what an item's slot holds
+  thin-slot : (b : Block T A) (a : A) (i : ℕ) → IsThin b a → i < length (items_in b.slots)
+      → slot b.slots i ≡ slice_get (items_in b.slots) i
   thin-slot b a i t h =
-      ap (λ (r : List (Option T)). slot r i) t.packed.row ∙ slot-get (items_in b.slots) (replicate (length b.slots - length (items_in b.slots)) None) i h
+      ap (λ (r : List (Option T)). slot r i) t.packed.row ∙ slot-get (items_in b.slots)
+      (replicate (length b.slots - length (items_in b.slots)) None) i h
 
   -- the slot of an item is filled
-  pub thin-filled : (b : Block T A) (a : A) (i : ℕ) → IsThin b a → i < length (items_in b.slots) → IsSome (slot b.slots i)
+  pub thin-filled : (b : Block T A) (a : A) (i : ℕ) → IsThin b a → i < length (items_in b.slots)
+      → IsSome (slot b.slots i)
   thin-filled b a i t h = rw (thin-slot b a i t h) (get-some (items_in b.slots) i h)
 
   -- the slots of the items, as a run
-  pub thin-run : (b : Block T A) (a : A) (xs : List T) (n : ℕ) → IsThin b a → n ≡ b.len → full xs ≡ slice_range b.slots 0 n → xs ≡ items_in b.slots
+  pub thin-run : (b : Block T A) (a : A) (xs : List T) (n : ℕ) → IsThin b a → n ≡ b.len
+      → full xs ≡ slice_range b.slots 0 n → xs ≡ items_in b.slots
   thin-run b a xs n t len run =
       let ys : List T = items_in b.slots in
       let all : n - 0 ≡ length (full ys) = omega (arith, len, t.packed.len, length-full ys) in
       full-same xs ys (run ∙ (ap (λ (r : List (Option T)). take (n - 0) r) t.packed.row
-      ∙ (ap (λ (k : ℕ). take k (front ys (length b.slots))) all ∙ take-append_seam (full ys) (empty (length b.slots - length ys)))))
+      ∙ (ap (λ (k : ℕ). take k (front ys (length b.slots))) all ∙ take-append_seam (full ys)
+      (empty (length b.slots - length ys)))))
 
   -- and holds it
-  pub thin-get : (b : Block T A) (a : A) (i : ℕ) (v : T) → IsThin b a → i < length (items_in b.slots) → slot b.slots i ≡ Some v → slice_get (items_in b.slots) i ≡ Some v
+  pub thin-get : (b : Block T A) (a : A) (i : ℕ) (v : T) → IsThin b a
+      → i < length (items_in b.slots) → slot b.slots i ≡ Some v
+      → slice_get (items_in b.slots) i ≡ Some v
   thin-get b a i v t h e = sym (thin-slot b a i t h) ∙ e
 
   -- the slots past the items are empty
-  pub thin-empty : (b : Block T A) (a : A) (j : ℕ) → IsThin b a → length (items_in b.slots) ≤ j → slot b.slots j ≡ None
+  pub thin-empty : (b : Block T A) (a : A) (j : ℕ) → IsThin b a → length (items_in b.slots) ≤ j
+      → slot b.slots j ≡ None
   thin-empty b a j t h =
       let k : ℕ = length b.slots - length (items_in b.slots) in
-      ap (λ (r : List (Option T)). slot r j) t.packed.row ∙ (get_or-append_right (full (items_in b.slots)) (replicate k None) (length (items_in b.slots)) j None (length-full (items_in b.slots)) h ∙ get_or-empty k (j - length (items_in b.slots)))
+      ap (λ (r : List (Option T)). slot r j) t.packed.row
+      ∙ (get_or-append_right (full (items_in b.slots)) (replicate k None)
+      (length (items_in b.slots)) j None (length-full (items_in b.slots)) h
+      ∙ get_or-empty k (j - length (items_in b.slots)))
     where
       get_or-empty : (n m : ℕ) → get_or (replicate {A = Option T} n None) m None ≡ None
       get_or-empty zero m = refl
@@ -201,5 +266,8 @@ module _ {T A : Type 0} where
       get_or-empty (suc n) (suc m) = get_or-empty n m
 
   -- an item stays where another slot is emptied
-  pub kept-filled : (b : Block T A) (a : A) (i j : ℕ) (s : List (Option T)) → IsThin b a → i < j → j < length (items_in b.slots) → s ≡ set b.slots i None → IsSome (slot s j)
-  kept-filled b a i j s t n h e = let ne : j ≢ i = omega arith in rw (ap (λ (r : List (Option T)). slot r j) e ∙ get_or-set_other b.slots i j None None ne) (thin-filled b a j t h)
+  pub kept-filled : (b : Block T A) (a : A) (i j : ℕ) (s : List (Option T)) → IsThin b a → i < j
+      → j < length (items_in b.slots) → s ≡ set b.slots i None → IsSome (slot s j)
+  kept-filled b a i j s t n h e = let ne : j ≢ i = omega arith in
+      rw (ap (λ (r : List (Option T)). slot r j) e ∙ get_or-set_other b.slots i j None None ne)
+      (thin-filled b a j t h)

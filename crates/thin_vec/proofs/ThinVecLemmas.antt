@@ -13,12 +13,15 @@ use Rattle.thin_vec.specs.ThinVec.{Thin, capacity_for, cost_at}
 
 -- what a list has cost once its capacity is c
 module _ {T A : Type 0} (v : Thin T A) (c : ℕ) where
+  -- the same capacity costs nothing
   pub cost_at-same : c ≡ v.capacity → cost_at v c ≡ v.cost
   cost_at-same e = let t : eqb c v.capacity ≡ true = grind (arith, nat_tests) in rw t refl
 
+  -- another capacity is one block more
   pub cost_at-more : v.capacity < c → cost_at v c ≡ growing (length v.items) v.cost
   cost_at-more e = let t : eqb c v.capacity ≡ false = grind (arith, nat_tests) in rw t refl
 
+  -- no growth is a move
   pub cost_at-moves : (cost_at v c).moves ≡ v.cost.moves
   cost_at-moves = go (eqb c v.capacity)
     where
@@ -26,40 +29,60 @@ module _ {T A : Type 0} (v : Thin T A) (c : ℕ) where
       go true = refl
       go false = refl
 
-module _ {T A : Type 0} (rule : Rule) (R : RattleType) (law : KeepsLaw rule) (v : Thin T A) (k c : ℕ) where
+module _ {T A : Type 0} (rule : Rule) (R : RattleType) (law : KeepsLaw rule)
+    (v : Thin T A) (k c : ℕ) where
   -- where there is room, the ruled capacity is the one that is there, and nothing is paid
   pub cap-kept : length v.items + k ≤ v.capacity → capacity_for rule R v k ≡ Some c → c ≡ v.capacity
   cap-kept room e = some-same (sym e ∙ ruled-same rule R v.capacity (length v.items + k) room)
 
-  pub cost_at-kept : length v.items + k ≤ v.capacity → capacity_for rule R v k ≡ Some c → cost_at v c ≡ v.cost
+  -- with room, nothing is paid
+  pub cost_at-kept : length v.items + k ≤ v.capacity
+      → capacity_for rule R v k ≡ Some c → cost_at v c ≡ v.cost
   cost_at-kept room e = cost_at-same v c (cap-kept room e)
 
   -- where there is none, the capacity grows, and each item is copied
-  pub cap-grown : v.capacity < length v.items + k → capacity_for rule R v k ≡ Some c → (length v.items + k ≤ c) × (2 * v.capacity ≤ c)
-  cap-grown more e = let g = ruled-grows rule R v.capacity (length v.items + k) c law more e in (g.enough, g.doubled)
+  pub cap-grown : v.capacity < length v.items + k → capacity_for rule R v k ≡ Some c
+      → (length v.items + k ≤ c) × (2 * v.capacity ≤ c)
+  cap-grown more e = let g = ruled-grows rule R v.capacity (length v.items + k) c law more e in
+      (g.enough, g.doubled)
 
-  pub cost_at-grown : v.capacity < length v.items + k → capacity_for rule R v k ≡ Some c → cost_at v c ≡ growing (length v.items) v.cost
+  -- a growth copies each item
+  pub cost_at-grown : v.capacity < length v.items + k → capacity_for rule R v k ≡ Some c
+      → cost_at v c ≡ growing (length v.items) v.cost
   cost_at-grown more e =
       let g = cap-grown more e in
       cost_at-more v c (omega (arith, g.0))
 
 -- a cheap cost stays cheap over a growth for more than there was room for
-pub cheap-growing : (c n c' : ℕ) (k : Cost) → IsCheapAt c k → n ≤ c → c < c' → 2 * c ≤ c' → IsCheapAt c' (growing n k)
+pub cheap-growing : (c n c' : ℕ) (k : Cost) → IsCheapAt c k → n ≤ c → c < c' → 2 * c ≤ c'
+    → IsCheapAt c' (growing n k)
 cheap-growing zero n c' k h le larger doubled =
     let z = h.none refl in
     let two : 2 ^ (k.blocks + 1) ≡ 2 = ap (λ q. 2 ^ (q + 1)) z.0 in
-    record { none = λ q. absurd (omega (arith, larger)); grown = λ q. omega (arith, z.1, larger, le); blocks = λ q. omega (arith, two, larger) }
+    record {
+      none = λ q. absurd (omega (arith, larger));
+      grown = λ q. omega (arith, z.1, larger, le);
+      blocks = λ q. omega (arith, two, larger);
+    }
 cheap-growing (suc c) n c' k h le larger doubled =
     let few : k.grown < suc c = h.grown (omega arith) in
     let half : 2 ^ k.blocks ≤ 2 * suc c = h.blocks (omega arith) in
     let twice : 2 ^ (k.blocks + 1) ≡ 2 ^ k.blocks * 2 = pow_more 2 k.blocks in
-    record { none = λ q. absurd (omega (arith, larger)); grown = λ q. omega (arith, doubled, few, le); blocks = λ q. omega (arith, twice, half, doubled) }
+    record {
+      none = λ q. absurd (omega (arith, larger));
+      grown = λ q. omega (arith, doubled, few, le);
+      blocks =
+          λ q. omega (arith, twice, half, doubled);
+    }
 
 -- a cheap list stays cheap where its capacity becomes the ruled one
-pub cheap-regrown : {T A : Type 0} (rule : Rule) (R : RattleType) → KeepsLaw rule → (v : Thin T A) (k c : ℕ) → IsCheap v → length v.items ≤ v.capacity → capacity_for rule R v k ≡ Some c → IsCheapAt c (cost_at v c)
+pub cheap-regrown : {T A : Type 0} (rule : Rule) (R : RattleType) → KeepsLaw rule
+    → (v : Thin T A) (k c : ℕ) → IsCheap v → length v.items ≤ v.capacity
+    → capacity_for rule R v k ≡ Some c → IsCheapAt c (cost_at v c)
 cheap-regrown rule R law v k c h room e =
     elim (cases_lt v.capacity (length v.items + k)) [
       | inl more ↦ let g = cap-grown rule R law v k c more e in
-          rw (cost_at-grown rule R law v k c more e) (cheap-growing v.capacity (length v.items) c v.cost h room (omega (arith, g.0)) g.1)
+          rw (cost_at-grown rule R law v k c more e)
+          (cheap-growing v.capacity (length v.items) c v.cost h room (omega (arith, g.0)) g.1)
       | inr spare ↦ rw (cost_at-kept rule R law v k c spare e, cap-kept rule R law v k c spare e) h
     ]

@@ -10,22 +10,29 @@ use Rattle.thin_vec.proofs.ListLemmas.{Settled, from-same, length-full, settled,
 
 module _ {T : Type 0} where
   -- ys go into the first empty slots
-  pub front-more : (xs ys : List T) (c : ℕ) → length xs + length ys ≤ c → laid (length xs) (full ys) (front xs c) ≡ front (xs ++ ys) c
+  pub front-more : (xs ys : List T) (c : ℕ) → length xs + length ys ≤ c → laid (length xs) (full ys)
+      (front xs c) ≡ front (xs ++ ys) c
   front-more xs ys c room =
       let rest : ℕ = c - length xs - length ys in
       let parts : length ys + rest ≡ c - length xs = omega arith in
       let left : rest ≡ c - length (xs ++ ys) = omega (arith, length-append xs ys) in
-      let long : length (full ys) ≡ length (empty {T = T} (length ys)) = omega (arith, length-full ys, length-replicate {A = Option T} (length ys) None) in
-      ap (λ (s : List (Option T)). laid (length xs) (full ys) (full xs ++ s)) (sym (replicate-append-replicate (length ys) rest None ∙ ap (λ (k : ℕ). empty k) parts))
-      ∙ (laid-at (length xs) (full xs) (full ys) (empty (length ys)) (empty rest) (sym (length-full xs)) long
+      let long : length (full ys) ≡ length (empty {T = T} (length ys)) =
+      omega (arith, length-full ys, length-replicate {A = Option T} (length ys) None) in
+      ap (λ (s : List (Option T)). laid (length xs) (full ys) (full xs ++ s))
+      (sym (replicate-append-replicate (length ys) rest None ∙ ap (λ (k : ℕ). empty k) parts))
+      ∙ (laid-at (length xs) (full xs) (full ys) (empty (length ys)) (empty rest)
+      (sym (length-full xs)) long
       ∙ (sym (append_assoc (full xs) (full ys) (empty rest))
-      ∙ (ap (λ (s : List (Option T)). s ++ empty rest) (sym (full-append xs ys)) ∙ ap (λ (k : ℕ). full (xs ++ ys) ++ empty k) left)))
+      ∙ (ap (λ (s : List (Option T)). s ++ empty rest) (sym (full-append xs ys))
+      ∙ ap (λ (k : ℕ). full (xs ++ ys) ++ empty k) left)))
 
-  module _ (ys : List T) (c i k : ℕ) (order : i ≤ length ys) (room : length ys ≤ c) (count : k ≡ length ys - i) where
+  module _ (ys : List T) (c i k : ℕ) (order : i ≤ length ys) (room : length ys ≤ c)
+      (count : k ≡ length ys - i) where
     parted : front ys c ≡ full (take i ys) ++ (full (drop i ys) ++ empty (c - length ys))
     parted =
         ap (λ (l : List T). full l ++ empty (c - length ys)) (sym (take-append-drop i ys))
-        ∙ (ap (λ (s : List (Option T)). s ++ empty (c - length ys)) (full-append (take i ys) (drop i ys))
+        ∙ (ap (λ (s : List (Option T)). s ++ empty (c - length ys))
+        (full-append (take i ys) (drop i ys))
         ∙ append_assoc (full (take i ys)) (full (drop i ys)) (empty (c - length ys)))
 
     before : i ≡ length (full (take i ys))
@@ -36,43 +43,59 @@ module _ {T : Type 0} where
 
     -- the items from i on, as a run
     pub front-run : run i k (front ys c) ≡ full (drop i ys)
-    front-run = ap (λ (s : List (Option T)). run i k s) parted ∙ run-at i k (full (take i ys)) (full (drop i ys)) (empty (c - length ys)) before within
+    front-run = ap (λ (s : List (Option T)). run i k s) parted ∙ run-at i k (full (take i ys))
+        (full (drop i ys)) (empty (c - length ys)) before within
 
     -- what is left without them
     pub front-cut : emptied i k (front ys c) ≡ front (take i ys) c
     front-cut =
-        let long : length (empty {T = T} k) ≡ length (full (drop i ys)) = omega (arith, length-replicate {A = Option T} k None, within) in
-        let bare : k + (c - length ys) ≡ c - length (take i ys) = omega (arith, count, length-take-le i ys order) in
+        let long : length (empty {T = T} k) ≡ length (full (drop i ys)) =
+        omega (arith, length-replicate {A = Option T} k None, within) in
+        let bare : k + (c - length ys) ≡ c - length (take i ys) =
+        omega (arith, count, length-take-le i ys order) in
         ap (λ (s : List (Option T)). emptied i k s) parted
-        ∙ (laid-at i (full (take i ys)) (empty k) (full (drop i ys)) (empty (c - length ys)) before long
-        ∙ ap (λ (s : List (Option T)). full (take i ys) ++ s) (replicate-append-replicate k (c - length ys) None ∙ ap (λ (m : ℕ). empty m) bare))
+        ∙ (laid-at i (full (take i ys)) (empty k) (full (drop i ys))
+        (empty (c - length ys)) before long
+        ∙ ap (λ (s : List (Option T)). full (take i ys) ++ s)
+        (replicate-append-replicate k (c - length ys) None ∙ ap (λ (m : ℕ). empty m) bare))
 
 module _ {T A : Type 0} where
   -- items that are laid behind those of a list
-  pub settle-more : (b b' : Block T A) (a : A) (xs : List T) (n : ℕ) → IsThin b a → n ≡ b.len → n + length xs ≤ length b.slots → b'.slots ≡ laid n (full xs) b.slots → b'.len ≡ n + length xs → b'.alloc ≡ b.alloc
+  pub settle-more : (b b' : Block T A) (a : A) (xs : List T) (n : ℕ) → IsThin b a → n ≡ b.len
+      → n + length xs ≤ length b.slots → b'.slots ≡ laid n (full xs) b.slots
+      → b'.len ≡ n + length xs → b'.alloc ≡ b.alloc
       → Settled b' a (items_in b.slots ++ xs) (length b.slots)
   settle-more b b' a xs n t len room s l f =
       let ys : List T = items_in b.slots in
       let end : n ≡ length ys = len ∙ t.packed.len in
-      settled b' a (ys ++ xs) (length b.slots) (s ∙ ((λ m. laid (end m) (full xs) (t.packed.row m)) ∙ front-more ys xs (length b.slots) (omega (arith, room, end))))
-      (omega (arith, l, end, length-append ys xs)) (omega (arith, room, end, length-append ys xs)) (from-same b b' a t.from f)
+      settled b' a (ys ++ xs) (length b.slots)
+      (s ∙ ((λ m. laid (end m) (full xs) (t.packed.row m)) ∙ front-more ys xs (length b.slots)
+      (omega (arith, room, end))))
+      (omega (arith, l, end, length-append ys xs)) (omega (arith, room, end, length-append ys xs))
+      (from-same b b' a t.from f)
 
   -- the list that the items from i on of another go to
-  pub settle-joined : (b b' o : Block T A) (a p : A) (i k n : ℕ) → IsThin b a → IsThin o p → i ≤ length (items_in o.slots) → k ≡ o.len - i → n ≡ b.len → n + k ≤ length b.slots
-      → b'.slots ≡ laid n (run i k o.slots) b.slots → b'.len ≡ n + k → b'.alloc ≡ b.alloc → Settled b' a (items_in b.slots ++ drop i (items_in o.slots)) (length b.slots)
+  pub settle-joined : (b b' o : Block T A) (a p : A) (i k n : ℕ) → IsThin b a → IsThin o p
+      → i ≤ length (items_in o.slots) → k ≡ o.len - i → n ≡ b.len → n + k ≤ length b.slots
+      → b'.slots ≡ laid n (run i k o.slots) b.slots → b'.len ≡ n + k → b'.alloc ≡ b.alloc
+      → Settled b' a (items_in b.slots ++ drop i (items_in o.slots)) (length b.slots)
   settle-joined b b' o a p i k n t u order count len room s l f =
       let ys : List T = items_in o.slots in
       let all : k ≡ length ys - i = omega (arith, count, u.packed.len) in
       let more : length (drop i ys) ≡ k = omega (arith, all, length-drop i ys) in
-      let same : run i k o.slots ≡ full (drop i ys) = ap (λ (r : List (Option T)). run i k r) u.packed.row ∙ front-run ys (length o.slots) i k order (thin-room o p u) all in
-      settle-more b b' a (drop i ys) n t len (omega (arith, room, more)) (s ∙ ap (λ (r : List (Option T)). laid n r b.slots) same) (omega (arith, l, more)) f
+      let same : run i k o.slots ≡ full (drop i ys) = ap (λ (r : List (Option T)). run i k r)
+      u.packed.row ∙ front-run ys (length o.slots) i k order (thin-room o p u) all in
+      settle-more b b' a (drop i ys) n t len (omega (arith, room, more))
+      (s ∙ ap (λ (r : List (Option T)). laid n r b.slots) same) (omega (arith, l, more)) f
 
   -- and the one that they left
-  pub settle-cut : (o o' : Block T A) (p : A) (i k : ℕ) → IsThin o p → i ≤ length (items_in o.slots) → k ≡ o.len - i → o'.slots ≡ emptied i k o.slots → o'.len ≡ i → o'.alloc ≡ o.alloc
+  pub settle-cut : (o o' : Block T A) (p : A) (i k : ℕ) → IsThin o p → i ≤ length (items_in o.slots)
+      → k ≡ o.len - i → o'.slots ≡ emptied i k o.slots → o'.len ≡ i → o'.alloc ≡ o.alloc
       → Settled o' p (take i (items_in o.slots)) (length o.slots)
   settle-cut o o' p i k u order count s l f =
       let ys : List T = items_in o.slots in
       let few : length (take i ys) ≡ i = length-take-le i ys order in
       settled o' p (take i ys) (length o.slots)
-      (s ∙ (ap (λ (r : List (Option T)). emptied i k r) u.packed.row ∙ front-cut ys (length o.slots) i k order (thin-room o p u) (omega (arith, count, u.packed.len))))
+      (s ∙ (ap (λ (r : List (Option T)). emptied i k r) u.packed.row ∙ front-cut ys (length o.slots)
+      i k order (thin-room o p u) (omega (arith, count, u.packed.len))))
       (l ∙ sym few) (omega (arith, few, thin-room o p u, order)) (from-same o o' p u.from f)

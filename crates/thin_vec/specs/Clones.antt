@@ -23,26 +23,32 @@ module _ {T : Type 0} (clones : T → T → Type 0) where
     pub slots : s' ≡ laid i (full copies) s
 
 -- ys is xs, and behind it n clones of x
-pub record AppendsRepeats {T : Type 0} (clones : T → T → Type 0) (x : T) (n : ℕ) (xs ys : List T) : Type 0 where
+pub record AppendsRepeats {T : Type 0} (clones : T → T → Type 0) (x : T) (n : ℕ)
+    (xs ys : List T) : Type 0 where
   pub copies : List T
   pub cloned : All (clones x) copies
   pub count : length copies ≡ n
   pub items : ys ≡ xs ++ copies
 
 -- ys is xs at the length n: cut short, or with clones of x behind it, the last one x itself
-pub record IsResized {T : Type 0} (clones : T → T → Type 0) (xs : List T) (n : ℕ) (x : T) (ys : List T) : Type 0 where
+pub record IsResized {T : Type 0} (clones : T → T → Type 0) (xs : List T) (n : ℕ) (x : T)
+    (ys : List T) : Type 0 where
   pub shorter : n ≤ length xs → ys ≡ take n xs
-  pub longer : length xs < n → (copies : List T) × All (clones x) copies × (ys ≡ xs ++ (copies ++ x ∷ []))
+  pub longer : length xs < n → (copies : List T) × All (clones x) copies
+      × (ys ≡ xs ++ (copies ++ x ∷ []))
   pub len : length ys ≡ n
 
 -- the clone of the source at `at` may be refused, and there was one move for each source before it
-pub record StopsAtClone {T : Type 0} (infallible : T → Type 0) (sources : List T) (before after : Cost) : Type 0 where
+pub record StopsAtClone {T : Type 0} (infallible : T → Type 0) (sources : List T)
+    (before after : Cost) : Type 0 where
   pub at : ℕ
   pub in_bounds : at < length sources
   pub fallible : HoldsAt (λ x. ¬ (infallible x)) sources at
   pub cost : after ≡ moving at before
 
--- there was room for k items more than those of v, or it was made, and then the clone of a source was refused
-pub record IsCloneRefused {T A : Type 0} (rule : Rule) (R : RattleType) (infallible : T → Type 0) (sources : List T) (k : ℕ) (v w : Thin T A) : Type 0 where
+-- there was room for k items more than those of v, or it was made, and then the clone of a source
+-- was refused
+pub record IsCloneRefused {T A : Type 0} (rule : Rule) (R : RattleType) (infallible : T → Type 0)
+    (sources : List T) (k : ℕ) (v w : Thin T A) : Type 0 where
   pub capacity : capacity_for rule R v k ≡ Some w.capacity
   pub stopped : StopsAtClone infallible sources (cost_at v w.capacity) w.cost

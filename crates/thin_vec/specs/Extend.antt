@@ -1,4 +1,5 @@
--- What a list may have become once the items of an iterator went behind its own. (std: `Vec::extend`)
+-- What a list may have become once the items of an iterator went behind its own. (std:
+-- `Vec::extend`)
 use Rattle.std.specs.Prelude.{◌≡◌, ◌⊎◌, ℕ, ◌+◌, ◌<◌, ◌≤◌, List, ◌++◌, Option, length}
 use Rattle.std.specs.Iterator.{Count, Yields}
 use Rattle.std.specs.Iterator.SizeHint.{IsWithinCount}
@@ -10,21 +11,28 @@ use Rattle.thin_vec.specs.ThinVec.{Thin, capacity_for}
 
 -- the capacity d after c: as before, or at least one that the rule names after c
 abbrev pub IsLoose : Rule → RattleType → ℕ → ℕ → Type 0
-IsLoose rule R c d = (d ≡ c) ⊎ ((w : ℕ) × (n : ℕ) × (c < w) × (ruled_capacity rule R c w ≡ Some n) × (n ≤ d))
+IsLoose rule R c d =
+    (d ≡ c) ⊎ ((w : ℕ) × (n : ℕ) × (c < w) × (ruled_capacity rule R c w ≡ Some n) × (n ≤ d))
 
 -- d is c, or the capacity that the rule names for a want of at most n
 abbrev pub IsNamed : Rule → RattleType → ℕ → ℕ → ℕ → Type 0
-IsNamed rule R c d n = (d ≡ c) ⊎ ((e w : ℕ) × (e < w) × (w ≤ n) × (ruled_capacity rule R e w ≡ Some d))
+IsNamed rule R c d n =
+    (d ≡ c) ⊎ ((e w : ℕ) × (e < w) × (w ≤ n) × (ruled_capacity rule R e w ≡ Some d))
 
 module _ {T A : Type 0} where
-  -- what w has cost that was v, before items went in behind: one move for each of them; no block and no copied item more where
-  -- the capacity stayed; where it grew, at least one block more, into which at least the items of v were copied
+  -- what w has cost that was v, before items went in behind: one move for each of them; no block
+  -- and no copied item more where
+  -- the capacity stayed; where it grew, at least one block more, into which at least the items of v
+  -- were copied
   pub record IsExtendCost (v w : Thin T A) : Type 0 where
     pub moves : w.cost.moves + length v.items ≡ v.cost.moves + length w.items
-    pub kept : w.capacity ≡ v.capacity → (w.cost.blocks ≡ v.cost.blocks) × (w.cost.grown ≡ v.cost.grown)
-    pub grown : v.capacity < w.capacity → (v.cost.blocks < w.cost.blocks) × (v.cost.grown + length v.items ≤ w.cost.grown)
+    pub kept : w.capacity ≡ v.capacity → (w.cost.blocks ≡ v.cost.blocks)
+        × (w.cost.grown ≡ v.cost.grown)
+    pub grown : v.capacity < w.capacity → (v.cost.blocks < w.cost.blocks)
+        × (v.cost.grown + length v.items ≤ w.cost.grown)
 
-  -- no capacity is ruled for what was wanted: one place more, for the item in hand, or, where no item was drawn, as many more
+  -- no capacity is ruled for what was wanted: one place more, for the item in hand, or, where no
+  -- item was drawn, as many more
   -- as a hint allows that has `left` to give
   abbrev pub Overflows : Rule → RattleType → Thin T A → Option T → Count → Type 0
   Overflows rule R v (Some x) left = capacity_for rule R v 1 ≡ None
@@ -36,5 +44,6 @@ module _ {T A : Type 0} where
   OverflowsNew rule R v None left = (h : ℕ) × IsWithinCount h left × (exact_capacity R 0 h ≡ None)
 
 -- calls of `next` from s gave what was placed, then the item in hand, and led to the rest
-abbrev pub GaveUp : {S X : Type 0} → (S → Option X → S → Type 0) → S → List X → Option X → S → Type 0
+abbrev pub GaveUp : {S X : Type 0} → (S → Option X → S → Type 0) → S → List X
+    → Option X → S → Type 0
 GaveUp steps s placed in_hand rest = Yields steps s (placed ++ option_to_list in_hand) rest

@@ -1,4 +1,5 @@
--- The iterator that a list becomes. It is seen as a list is, by the items that remain. (std: `vec::IntoIter`)
+-- The iterator that a list becomes. It is seen as a list is, by the items that remain. (std:
+-- `vec::IntoIter`)
 use Rattle.std.specs.Prelude.{◌≡◌, ◌++◌, ℕ, ◌+◌, ◌-◌, List, length}
 use Rattle.std.specs.Iterator.{YieldsFirst, YieldsLast}
 use Rattle.std.specs.Iterator.Runs.{YieldsInOrder, YieldsInReverse}
@@ -8,7 +9,8 @@ use Rattle.thin_block.specs.declared.block.Block.{Block}
 use Rattle.thin_vec.specs.ThinVec.{Thin}
 
 module _ {T A : Type 0} where
-  -- the items lie in the slots from `start` up to `end` and in no other, and the memory came from the allocator a
+  -- the items lie in the slots from `start` up to `end` and in no other, and the memory came from
+  -- the allocator a
   pub record IsWalked (b : Block T A) (a : A) (start end : ℕ) : Type 0 where
     pub row : b.slots ≡ empty start ++ (full (items_in b.slots) ++ empty (length b.slots - end))
     pub len : start + length (items_in b.slots) ≡ end

@@ -19,7 +19,8 @@ module _ {T A : Type 0} where
   abbrev pub with_item : Thin T A → ℕ → T → Thin T A
   with_item v i w = record v { items = slice_set v.items i w }
 
-module _ (T A G : RattleType) (a : AllocatorGhosts A.Denot) (g : GrowthGhosts G.Denot) (v : MutBor (Thin T.Denot A.Denot)) where
+module _ (T A G : RattleType) (a : AllocatorGhosts A.Denot) (g : GrowthGhosts G.Denot)
+    (v : MutBor (Thin T.Denot A.Denot)) where
   -- r is the items of v
   abbrev pub LendsItems : MutBor (List T.Denot) → Fml
   LendsItems r = Lends (the_row T A G a g) (Array T 0) v r (with_items v.now)
@@ -30,7 +31,8 @@ module _ (T A G : RattleType) (a : AllocatorGhosts A.Denot) (g : GrowthGhosts G.
 
   -- the items of v are those that the iteration it goes over
   abbrev pub LendsIter : IterMut T.Denot → Fml
-  LendsIter it = follows (the_row T A G a g) (Array T 0) v.ghost_name (iter_mut_name it) (with_items v.now)
+  LendsIter it = follows (the_row T A G a g) (Array T 0) v.ghost_name
+      (iter_mut_name it) (with_items v.now)
 
   -- r is the items that remain of v, where v is the iterator that a list became
   abbrev pub LendsRest : MutBor (List T.Denot) → Fml

@@ -1,4 +1,5 @@
--- That items lie in the first slots is told by which slots are filled. Here and not in proofs/, since a file of specs/formers/ cites it.
+-- That items lie in the first slots is told by which slots are filled. Here and not in proofs/,
+-- since a file of specs/formers/ cites it.
 use Rattle.std.specs.Prelude.{◌≡◌, ℕ, suc, zero, List, [], ◌∷◌, ◌++◌, Bool, true, false, Option, length, map, replicate}
 use Rattle.std.specs.declared.option.Option.TheVariants.{Some, None}
 use mathlib.Core.Path.{refl, ap, ◌∙◌}
@@ -10,27 +11,37 @@ use Rattle.thin_block.specs.Slots.{empty, full, items_in}
 abbrev pub shape : ℕ → ℕ → List Bool
 shape n m = replicate n true ++ replicate m false
 
+-- a list of answers by its first: none, yes or no, as a number
 head_of : List Bool → ℕ
 head_of [] = 0
 head_of (true ∷ bs) = 1
 head_of (false ∷ bs) = 2
 
+-- the answers but for the first
 abbrev tail_of : List Bool → List Bool
 tail_of [] = []
 tail_of (b ∷ bs) = bs
 
-none_there : (X : Type 0) (m : ℕ) → map there (let none : List (Option X) = empty m in none) ≡ replicate m false
+-- of empty slots, none is filled
+none_there : (X : Type 0) (m : ℕ) → map there (let none : List (Option X) = empty m in
+    none) ≡ replicate m false
 none_there X zero = refl
 none_there X (suc m) = ap (λ l. false ∷ l) (none_there X m)
 
-front_there : {X : Type 0} (ys : List X) (m : ℕ) → map there (full ys ++ empty m) ≡ shape (length ys) m
+-- of a list in front, the first slots are filled
+front_there : {X : Type 0} (ys : List X) (m : ℕ)
+    → map there (full ys ++ empty m) ≡ shape (length ys) m
 front_there {X} [] m = none_there X m
 front_there (y ∷ ys) m = ap (λ l. true ∷ l) (front_there ys m)
 
-pub to_there : {X : Type 0} (s : List (Option X)) (m : ℕ) → s ≡ full (items_in s) ++ empty m → map there s ≡ shape (length (items_in s)) m
+-- items in front fill the first slots
+pub to_there : {X : Type 0} (s : List (Option X)) (m : ℕ) → s ≡ full (items_in s) ++ empty m
+    → map there s ≡ shape (length (items_in s)) m
 to_there s m e = ap (map there) e ∙ front_there (items_in s) m
 
-all_none : {X : Type 0} (s : List (Option X)) (m : ℕ) → map there s ≡ replicate m false → s ≡ empty m
+-- slots none of which is filled are empty
+all_none : {X : Type 0} (s : List (Option X)) (m : ℕ)
+    → map there s ≡ replicate m false → s ≡ empty m
 unfolding head_of
 all_none [] zero e = refl
 all_none [] (suc m) e = let n : 0 ≡ 2 = ap head_of e in absurd (omega (arith, n))
@@ -38,12 +49,16 @@ all_none (x ∷ s) zero e = let n = ap length e in absurd (omega (arith, n))
 all_none (Some x ∷ s) (suc m) e = let n : 1 ≡ 2 = ap head_of e in absurd (omega (arith, n))
 all_none (None ∷ s) (suc m) e = ap (λ l. None ∷ l) (all_none s m (ap tail_of e))
 
-none_first : {X : Type 0} (s : List (Option X)) (ys : List X) (m : ℕ) → false ∷ map there s ≡ shape (length ys) m → None ∷ s ≡ full ys ++ empty m
+-- a list whose first slot is empty has no item in front
+none_first : {X : Type 0} (s : List (Option X)) (ys : List X) (m : ℕ) → false ∷ map there s ≡ shape
+    (length ys) m → None ∷ s ≡ full ys ++ empty m
 unfolding head_of
 none_first s [] m e = all_none (None ∷ s) m e
 none_first s (y ∷ ys) m e = let n : 2 ≡ 1 = ap head_of e in absurd (omega (arith, n))
 
-pub from_there : {X : Type 0} (s : List (Option X)) (m : ℕ) → map there s ≡ shape (length (items_in s)) m → s ≡ full (items_in s) ++ empty m
+-- slots of which the first are filled, and no other, hold their items in front
+pub from_there : {X : Type 0} (s : List (Option X)) (m : ℕ)
+    → map there s ≡ shape (length (items_in s)) m → s ≡ full (items_in s) ++ empty m
 unfolding head_of
 from_there [] zero e = refl
 from_there [] (suc m) e = let n : 0 ≡ 2 = ap head_of e in absurd (omega (arith, n))

@@ -11,26 +11,37 @@ use Rattle.thin_block.specs.Growth.{Rule, exact_capacity, ruled_capacity}
 use Rattle.thin_block.specs.Slots.{IsPacked, items_in}
 use Rattle.thin_block.specs.declared.block.Block.{Block}
 
--- the items in order, how many there is room for, the allocator, and what the list's blocks have cost
+-- the items in order, how many there is room for, the allocator, and what the list's blocks have
+-- cost
 pub record Thin (T A : Type 0) : Type 0 where
   pub items : List T
   pub capacity : ℕ
   pub alloc : A
   pub cost : Cost
 
+-- what is seen of a list is stored as its four parts
 abbrev pub thin_code : {T A : Type 0} → Coded T → Coded A → Coded (Thin T A)
 thin_code {T} {A} t a =
-    code_by (List T × (ℕ × (A × Cost))) (coded× (coded_list t) (coded× coded_ℕ (coded× a cost_code)))
-    (λ v. (v.items, (v.capacity, (v.alloc, v.cost)))) (λ p. record { items = p.0; capacity = p.1.0; alloc = p.1.1.0; cost = p.1.1.1 }) (λ _. refl)
+    code_by (List T × (ℕ × (A × Cost)))
+    (coded× (coded_list t) (coded× coded_ℕ (coded× a cost_code)))
+    (λ v. (v.items, (v.capacity, (v.alloc, v.cost))))
+    (λ p. record { items = p.0; capacity = p.1.0; alloc = p.1.1.0; cost = p.1.1.1 }) (λ _. refl)
 
 module _ {T A : Type 0} where
-  -- the items lie in the first slots, the stored length counts them, and the memory came from the list's allocator
+  -- the items lie in the first slots, the stored length counts them, and the memory came from the
+  -- list's allocator
   pub record IsThin (b : Block T A) (a : A) : Type 0 where
     pub packed : IsPacked b.slots b.len
     pub from : IsFrom b a
 
+  -- what is seen of a block and an allocator
   abbrev pub thin_of : Block T A → A → Thin T A
-  thin_of b a = record { items = items_in b.slots; capacity = length b.slots; alloc = a; cost = b.cost }
+  thin_of b a = record {
+    items = items_in b.slots;
+    capacity = length b.slots;
+    alloc = a;
+    cost = b.cost;
+  }
 
   -- no item, no block, nothing paid
   pub record IsNew (v : Thin T A) (a : A) : Type 0 where
@@ -43,7 +54,8 @@ module _ {T A : Type 0} where
   abbrev pub HasRoomFor : Thin T A → ℕ → Type 0
   HasRoomFor v k = length v.items + k ≤ v.capacity
 
-  -- the capacity that a rule names where v is to have room for k more items of R: None where it overflows
+  -- the capacity that a rule names where v is to have room for k more items of R: None where it
+  -- overflows
   abbrev pub capacity_for : Rule → RattleType → Thin T A → ℕ → Option ℕ
   capacity_for rule R v k = ruled_capacity rule R v.capacity (length v.items + k)
 
@@ -51,13 +63,15 @@ module _ {T A : Type 0} where
   abbrev pub exact_for : RattleType → Thin T A → ℕ → Option ℕ
   exact_for R v k = exact_capacity R v.capacity (length v.items + k)
 
-  -- what v has cost once its capacity is c: one more block, into which its items were copied, where that is another
+  -- what v has cost once its capacity is c: one more block, into which its items were copied, where
+  -- that is another
   abbrev pub cost_at : Thin T A → ℕ → Cost
   cost_at v c = if c == v.capacity then v.cost else growing (length v.items) v.cost
 
   -- what v has cost once its capacity is its length
   abbrev pub cost_shrunk : Thin T A → Cost
-  cost_shrunk v = if length v.items == v.capacity then v.cost else (if length v.items == 0 then no_cost else growing (length v.items) v.cost)
+  cost_shrunk v = if length v.items == v.capacity then v.cost else
+      (if length v.items == 0 then no_cost else growing (length v.items) v.cost)
 
 -- it was refused as an overflow only where no capacity was named
 abbrev pub IsCause : Option ℕ → ThinVecError → Type 0

@@ -59,7 +59,10 @@ impl<T, A: Allocator, G: Growth> ThinVec<T, A, G> {
     }
 
     // `extend` that asks for no hint.
-    pub(crate) fn extend_unhinted<I: Iterator<Item = T>>(&mut self, iter: I) -> Result<(), ExtendRefused<T, I>>
+    pub(crate) fn extend_unhinted<I: Iterator<Item = T>>(
+        &mut self,
+        iter: I,
+    ) -> Result<(), ExtendRefused<T, I>>
         requires can_next { I.can_next iter }
         requires finite { IsFinite (I.remaining iter) }
         ensures succeeds { HasRoomFor self.old (size (I.remaining iter)) → IsOk result }

@@ -72,7 +72,11 @@ pub(crate) fn put_iter<T, A: Allocator, I: Iterator<Item = T>>(
 
 // Puts clones of `items` into the empty slots from `start` on, and answers how many: it ends before a clone that is
 // refused.
-pub(crate) fn put_clones<T: Clone, A: Allocator>(block: &mut Block<T, A>, start: usize, items: &[T]) -> usize
+pub(crate) fn put_clones<T: Clone, A: Allocator>(
+    block: &mut Block<T, A>,
+    start: usize,
+    items: &[T],
+) -> usize
     requires in_bounds { start + length items.now ≤ length block.old.slots }
     requires empty { AreEmpty block.old.slots start (length items.now) }
     ensures in_bounds { result ≤ length items.now }

@@ -14,14 +14,17 @@ when_some : (b : Bool) (m n : ℕ) → (if b then Some m else None) ≡ Some n �
 when_some true m n e = (refl, cc)
 when_some false m n e = cc
 
+-- what fits is itself
 fitting_is : (s a m n : ℕ) → fitting s a m ≡ Some n → IsTrue (fits s a m) × (m ≡ n)
 unfolding fitting
 fitting_is s a m n e = when_some (fits s a m) m n e
 
+-- the rule names what fits
 fitted : (small : Bool) (s a m n : ℕ) → (if small then fitting s a m else None) ≡ Some n → IsTrue (fits s a m) × (m ≡ n)
 fitted true s a m n e = fitting_is s a m n e
 fitted false s a m n e = cc
 
+-- the rule keeps the law
 pub fourfold_law : KeepsLaw fourfold
 unfolding fourfold
 fourfold_law s a c w n more word e =

@@ -1,6 +1,6 @@
 //! The calls that clone, also where a clone is refused.
-use crate::items::push_all;
 use crate::growth_rules::Fourfold;
+use crate::items::push_all;
 use crate::scarce::Scarce;
 use crate::standing::{assert_counts, assert_list, assert_same};
 use refusing::Refusing;

@@ -1,6 +1,6 @@
 //! Walks over a lent list, by `for`.
-use crate::items::push_all;
 use crate::growth_rules::Fourfold;
+use crate::items::push_all;
 use crate::standing::{assert_items, assert_same};
 use std::alloc::Global;
 use thin_vec::ThinVec;

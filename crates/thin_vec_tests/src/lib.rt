@@ -17,22 +17,22 @@ mod counted;
 #[cfg(test)]
 mod drops;
 #[cfg(test)]
+mod edits;
+#[cfg(test)]
 mod extend;
+#[cfg(test)]
+mod growth_rules;
+pub mod into_iter;
 #[cfg(test)]
 mod items;
 #[cfg(test)]
-mod growth_rules;
-#[cfg(test)]
-mod two_lists;
+mod iterating;
 #[cfg(test)]
 mod making;
-pub mod into_iter;
 #[cfg(test)]
 mod refusals;
 #[cfg(test)]
 mod scarce;
-#[cfg(test)]
-mod edits;
 #[cfg(test)]
 mod shrinks;
 #[cfg(test)]
@@ -44,4 +44,4 @@ mod standing;
 #[cfg(test)]
 mod trees;
 #[cfg(test)]
-mod iterating;
+mod two_lists;

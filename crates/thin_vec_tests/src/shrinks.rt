@@ -1,6 +1,6 @@
 //! `shrink_to_fit`: what it leaves, and when it asks for memory.
-use crate::items::push_all;
 use crate::growth_rules::Fourfold;
+use crate::items::push_all;
 use crate::standing::{assert_counts, assert_list, assert_same};
 use refusing::Refusing;
 use std::alloc::Global;

@@ -4,5 +4,7 @@ use Rattle.thin_vec_uses.specs.SyntaxTree.{children_of, count_step, node_count}
 use Rattle.thin_vec_uses.specs.declared.syntax_tree.Node.{Node}
 use Rattle.thin_vec_uses.specs.declared.syntax_tree.Node.TheFolds.{fold_out-Node}
 
-pub node_count_is : (node : Node) → node_count node ≡ 1 + sum (map node_count (children_of node).items)
+-- a node counts itself and all below it
+pub node_count_is : (node : Node) → node_count node ≡ 1 + sum
+    (map node_count (children_of node).items)
 node_count_is = fold_out-Node _ count_step

@@ -6,9 +6,11 @@ use Rattle.thin_vec_uses.specs.declared.syntax_tree.Node.{Node, out-Node}
 use Rattle.thin_vec_uses.specs.declared.syntax_tree.Node.TheFolds.{fold-Node}
 use Rattle.thin_vec_uses.specs.declared.syntax_tree.Node.TheOpen.{Node-F}
 
+-- a node's kind
 abbrev pub kind_of : Node → ℕ
 kind_of node = (out-Node node).kind
 
+-- a node's list of children
 abbrev pub children_of : Node → Thin Node Global
 children_of node = (out-Node node).children
 

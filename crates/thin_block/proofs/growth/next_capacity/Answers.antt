@@ -5,7 +5,15 @@ use denote.Param.{param}
 use Rattle.thin_block.proofs.growth.next_capacity.Goals as goal
 
 pub returns-then-want-cap : goal.returns-then-want-cap
-returns-then-want-cap g c = record { value = sym (ruled-same doubling (param 0 g.row.T) c.args.cap c.args.want (omega arith)) }
+returns-then-want-cap g c =
+    record {
+      value = sym
+          (ruled-same doubling (param 0 g.row.T) c.args.cap c.args.want (omega arith));
+    }
 
 pub returns : goal.returns
-returns g c = record { value = c.next_capacity.ensures.value ∙ sym (ruled-rule doubling (param 0 g.row.T) c.args.cap c.args.want (omega arith) (omega arith)) }
+returns g c = record {
+  value = c.next_capacity.ensures.value
+      ∙ sym (ruled-rule doubling (param 0 g.row.T) c.args.cap c.args.want
+      (omega arith) (omega arith));
+}

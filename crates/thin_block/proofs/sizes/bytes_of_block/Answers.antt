@@ -10,35 +10,49 @@ use denote.RattleType.{RattleType}
 use Rattle.thin_block.proofs.sizes.bytes_of_block.Goals as goal
 
 -- the sum is the items' end, for the size that the code sees
-summed : (R : RattleType) (c size : ℕ) → Fits R c → size ≡ capped (type_size R) → 16 + c * size ≡ items_offset (type_align R) + c * type_size R
+summed : (R : RattleType) (c size : ℕ) → Fits R c → size ≡ capped (type_size R)
+    → 16 + c * size ≡ items_offset (type_align R) + c * type_size R
 summed R c size fits is =
     let room = (fits_tells R c (opened R c fits)).room in
     let start = (rounded R 0).offset in
-    let same : c * size ≡ c * type_size R = ap (λ (k : ℕ). c * k) is ∙ capped_product c (type_size R) (omega arith) in
+    let same : c * size ≡ c * type_size R = ap (λ (k : ℕ). c * k) is
+    ∙ capped_product c (type_size R) (omega arith) in
     omega arith
 
 pub overflow_mul-cap : goal.overflow_mul-cap
 overflow_mul-cap g c =
-    let told = fits_tells (param 0 g.row.T) c.args.cap (opened (param 0 g.row.T) c.args.cap c.requires) in
+    let told = fits_tells (param 0 g.row.T) c.args.cap
+    (opened (param 0 g.row.T) c.args.cap c.requires) in
     let start = (rounded (param 0 g.row.T) 0).offset in
-    let sum = summed (param 0 g.row.T) c.args.cap c.item_size.result c.requires c.item_size.ensures.value in
+    let sum = summed (param 0 g.row.T) c.args.cap c.item_size.result c.requires
+    c.item_size.ensures.value in
     record { fits = omega arith }
 
 pub overflow_add-cap : goal.overflow_add-cap
 overflow_add-cap g c =
-    let told = fits_tells (param 0 g.row.T) c.args.cap (opened (param 0 g.row.T) c.args.cap c.requires) in
+    let told = fits_tells (param 0 g.row.T) c.args.cap
+    (opened (param 0 g.row.T) c.args.cap c.requires) in
     let start = (rounded (param 0 g.row.T) 0).offset in
-    let sum = summed (param 0 g.row.T) c.args.cap c.item_size.result c.requires c.item_size.ensures.value in
+    let sum = summed (param 0 g.row.T) c.args.cap c.item_size.result c.requires
+    c.item_size.ensures.value in
     record { fits = omega arith }
 
 pub next_multiple_of-requires-clause-fits : goal.next_multiple_of-requires-clause-fits
 next_multiple_of-requires-clause-fits g c =
-    let short = (fits_tells (param 0 g.row.T) c.args.cap (opened (param 0 g.row.T) c.args.cap c.requires)).short in
-    let sum = summed (param 0 g.row.T) c.args.cap c.item_size.result c.requires c.item_size.ensures.value in
-    let value : next_multiple_of (16 + c.args.cap * c.item_size.result) c.align_of_block.result ≡ block_bytes (type_size (param 0 g.row.T)) (type_align (param 0 g.row.T)) c.args.cap = (λ i. next_multiple_of (sum i) (c.align_of_block.ensures.value i)) in
+    let short = (fits_tells (param 0 g.row.T) c.args.cap
+    (opened (param 0 g.row.T) c.args.cap c.requires)).short in
+    let sum = summed (param 0 g.row.T) c.args.cap c.item_size.result c.requires
+    c.item_size.ensures.value in
+    let value : next_multiple_of (16 + c.args.cap * c.item_size.result) c.align_of_block.result
+    ≡ block_bytes (type_size (param 0 g.row.T)) (type_align (param 0 g.row.T)) c.args.cap =
+    (λ i. next_multiple_of (sum i) (c.align_of_block.ensures.value i)) in
     omega arith
 
 pub returns : goal.returns
 returns g c =
-    let sum = summed (param 0 g.row.T) c.args.cap c.item_size.result c.requires c.item_size.ensures.value in
-    record { value = c.next_multiple_of.ensures.value ∙ (λ i. next_multiple_of (sum i) (c.align_of_block.ensures.value i)) }
+    let sum = summed (param 0 g.row.T) c.args.cap c.item_size.result c.requires
+    c.item_size.ensures.value in
+    record {
+      value = c.next_multiple_of.ensures.value
+          ∙ (λ i. next_multiple_of (sum i) (c.align_of_block.ensures.value i));
+    }

@@ -11,7 +11,8 @@ use native.Mathlib.Nat.{mul-zero}
 use Rattle.thin_block.proofs.sizes.fits.Goals as goal
 
 -- items of no bytes take none
-nothing : (R : RattleType) (c size : ℕ) → size ≡ capped (type_size R) → size ≡ 0 → c * type_size R ≡ 0
+nothing : (R : RattleType) (c size : ℕ) → size ≡ capped (type_size R)
+    → size ≡ 0 → c * type_size R ≡ 0
 nothing R c size is none =
     let gone : capped (type_size R) ≡ 0 = sym is ∙ none in
     let zeroed : c * capped (type_size R) ≡ 0 = ap (λ (k : ℕ). c * k) gone ∙ mul-zero c in
@@ -19,33 +20,59 @@ nothing R c size is none =
 
 pub returns-then-cap : goal.returns-then-cap
 returns-then-cap g c =
-    record { value = (λ no. cc, λ fits. let few = (fits_tells (param 0 g.row.T) c.args.cap (opened (param 0 g.row.T) c.args.cap fits)).few in absurd (omega arith)) }
+    record {
+      value = (
+        λ no. cc,
+        λ fits. let few = (fits_tells (param 0 g.row.T) c.args.cap
+            (opened (param 0 g.row.T) c.args.cap fits)).few in absurd (omega arith),
+      );
+    }
 
 pub returns-then-size-eq0 : goal.returns-then-size-eq0
 returns-then-size-eq0 g c =
     let about = rounded (param 0 g.row.T) 0 in
-    let none = nothing (param 0 g.row.T) c.args.cap c.item_size-size.result c.item_size-size.ensures.value c.if-size-eq0.true in
-    record { value = (λ yes. closed (param 0 g.row.T) c.args.cap (fits_yes (param 0 g.row.T) c.args.cap (omega arith) (omega arith)), λ fits. refl) }
+    let none = nothing (param 0 g.row.T) c.args.cap c.item_size-size.result
+    c.item_size-size.ensures.value c.if-size-eq0.true in
+    record {
+      value = (
+        λ yes. closed (param 0 g.row.T) c.args.cap
+            (fits_yes (param 0 g.row.T) c.args.cap (omega arith) (omega arith)),
+        λ fits. refl,
+      );
+    }
 
 pub overflow_sub-result : goal.overflow_sub-result
-overflow_sub-result g c = let about = rounded (param 0 g.row.T) 0 in let is = c.align_of_block.ensures.value in omega arith
+overflow_sub-result g c = let about = rounded (param 0 g.row.T) 0 in
+    let is = c.align_of_block.ensures.value in omega arith
 
 pub overflow_sub-result-2 : goal.overflow_sub-result-2
-overflow_sub-result-2 g c = let about = rounded (param 0 g.row.T) 0 in let is = c.align_of_block.ensures.value in omega arith
+overflow_sub-result-2 g c = let about = rounded (param 0 g.row.T) 0 in
+    let is = c.align_of_block.ensures.value in omega arith
 
 -- the code's limit is the rule's
-same_limit : (R : RattleType) (c size align : ℕ) → align ≡ block_align (type_align R) → leb c ((2 ^ 63 - align - 16) / size) ≡ leb c ((2 ^ 63 - block_align (type_align R) - 16) / size)
+same_limit : (R : RattleType) (c size align : ℕ) → align ≡ block_align (type_align R)
+    → leb c ((2 ^ 63 - align - 16) / size) ≡ leb c
+    ((2 ^ 63 - block_align (type_align R) - 16) / size)
 same_limit R c size align is = ap (λ (a : ℕ). leb c ((2 ^ 63 - a - 16) / size)) is
 
-by_division : (R : RattleType) (c size align : ℕ) → align ≡ block_align (type_align R) → size ≡ capped (type_size R) → 0 < size → c < 2 ^ 63
-    → (leb c ((2 ^ 63 - align - 16) / size) ≡ true → Fits R c) × (Fits R c → leb c ((2 ^ 63 - align - 16) / size) ≡ true)
+by_division : (R : RattleType) (c size align : ℕ) → align ≡ block_align (type_align R)
+    → size ≡ capped (type_size R) → 0 < size → c < 2 ^ 63
+    → (leb c ((2 ^ 63 - align - 16) / size) ≡ true → Fits R c)
+    × (Fits R c → leb c ((2 ^ 63 - align - 16) / size) ≡ true)
 by_division R c size align is_align is some few =
     let limit = same_limit R c size align is_align in (
-      λ yes. closed R c (fits_yes R c few (divided R c size is some (leb-true c ((2 ^ 63 - block_align (type_align R) - 16) / size) (sym limit ∙ yes)))),
-      λ fits. limit ∙ le-leb c ((2 ^ 63 - block_align (type_align R) - 16) / size) (dividing R c size is some (fits_tells R c (opened R c fits)).room),
+      λ yes. closed R c (fits_yes R c few
+          (divided R c size is some
+          (leb-true c ((2 ^ 63 - block_align (type_align R) - 16) / size) (sym limit ∙ yes)))),
+      λ fits. limit ∙ le-leb c ((2 ^ 63 - block_align (type_align R) - 16) / size)
+          (dividing R c size is some (fits_tells R c (opened R c fits)).room),
     )
 
 pub returns : goal.returns
 returns g c =
     let some = positive c.item_size-size.result c.if-size-eq0.false in
-    record { value = by_division (param 0 g.row.T) c.args.cap c.item_size-size.result c.align_of_block.result c.align_of_block.ensures.value c.item_size-size.ensures.value some (omega arith) }
+    record {
+      value = by_division (param 0 g.row.T) c.args.cap c.item_size-size.result
+          c.align_of_block.result c.align_of_block.ensures.value c.item_size-size.ensures.value some
+          (omega arith);
+    }

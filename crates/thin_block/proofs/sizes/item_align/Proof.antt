@@ -37,10 +37,12 @@ use Rattle.thin_block.proofs.sizes.item_align.Code as code
 
 -- an `ensures` of two facts
 module _ {M : Type 1} {𝓤 : Ura M} {𝓛 : Logic 𝓤} {K : Type 0} {Γ : List (Item 𝓤)} where
-  says_both : K → {φ ψ : Type 0} {P : SProp 𝓤} → φ → ψ → Step K 𝓛 Γ (prop P) Γ (prop (sep 𝓤 P (sep 𝓤 (fact 𝓤 φ) (fact 𝓤 ψ))))
+  says_both : K → {φ ψ : Type 0} {P : SProp 𝓤} → φ → ψ
+      → Step K 𝓛 Γ (prop P) Γ (prop (sep 𝓤 P (sep 𝓤 (fact 𝓤 φ) (fact 𝓤 ψ))))
   says_both t {φ} {ψ} {P} x y = step (λ s. record {
     prf = via 𝓤 P s.prf (qed 𝓛 (raw P ∷ []) {P = sep 𝓤 P (sep 𝓤 (fact 𝓤 φ) (fact 𝓤 ψ))} (
-        frame ! $ use0 𝓛 (raw (fact 𝓤 ψ)) (fact_i 𝓤 ψ (emp 𝓤) y) $ use0 𝓛 (raw (fact 𝓤 φ)) (fact_i 𝓤 φ (emp 𝓤) x) $ done !));
+        frame ! $ use0 𝓛 (raw (fact 𝓤 ψ)) (fact_i 𝓤 ψ (emp 𝓤) y) $
+        use0 𝓛 (raw (fact 𝓤 φ)) (fact_i 𝓤 φ (emp 𝓤) x) $ done !));
   })
 
 -- every alignment is 1, 2, 4, 8 or 16
@@ -53,7 +55,9 @@ below w128 = omega arith
 
 align_known : (τ : Ty) → (capped (align τ) ≡ align τ) × IsAlign (capped (align τ))
 align_known τ =
-    let same : capped (align τ) ≡ align τ = capped_is (align τ) (subst (λ (k : ℕ). k < 2 ^ 64) (sym (align-bytes τ)) (below (align_w τ))) in
+    let same : capped (align τ) ≡ align τ =
+    capped_is (align τ)
+    (subst (λ (k : ℕ). k < 2 ^ 64) (sym (align-bytes τ)) (below (align_w τ))) in
     (same, (align_w τ, same ∙ align-bytes τ))
 
 module _ (X : RattleType) where
@@ -63,25 +67,34 @@ module _ (X : RattleType) where
   abbrev function : Fn
   function = inst_fn args code.function
 
-  module _ {M : Type 1} {𝓤 : Ura M} (𝓛 : Logic 𝓤) (at_mem : Memory → SProp 𝓤) (run : Routine → Fun 𝓤) (𝓣 : Tables 𝓤 𝓛.H) where
+  module _ {M : Type 1} {𝓤 : Ura M} (𝓛 : Logic 𝓤) (at_mem : Memory → SProp 𝓤)
+      (run : Routine → Fun 𝓤) (𝓣 : Tables 𝓤 𝓛.H) where
     open 𝓛 use {H}
 
     abbrev clauses : Clauses 𝓤 (F.ended X)
     clauses = F.clauses X 𝓛 at_mem run
 
-    walk : (κ : Lft) (q : Share) → ent 𝓤 (on_entry 𝓛 (F.signature X) (κ, tt) (q, tt) tt tt) (WpFn 𝓤 H 𝓣.C 𝓣.Λ function [] ((walk_of 𝓛 (F.ended X) tt clauses).post (((κ, tt), (q, tt), tt, tt, tt), tt)))
+    walk : (κ : Lft) (q : Share) → ent 𝓤 (on_entry 𝓛 (F.signature X) (κ, tt) (q, tt) tt tt)
+        (WpFn 𝓤 H 𝓣.C 𝓣.Λ function []
+        ((walk_of 𝓛 (F.ended X) tt clauses).post (((κ, tt), (q, tt), tt, tt, tt), tt)))
     walk κ q =
         let s : ℕ = capped (align (layout X)) in
         qed 𝓛 ((‵ (flft κ q) ⊛ ‵ ftrue) ∷ ‵ ftrue ∷ []) ∵ enter ! 𝓣.C 𝓣.Λ function [] _ $
         alloc_all ! (λ l. pass_all ! refl tt $
-        sets ! (of_opd ! (align_word !)) refl (tt, record { fits = capped_fits (align (layout X)) }) $
+        sets ! (of_opd ! (align_word !)) refl (tt, record { fits = capped_fits (align (layout X)) })
+        $
         returns ! (look_at ! 0 refl) $ free_all ! refl $
-        suffices ! _ (ends_at 𝓛 (F.ended X) tt clauses (((κ, tt), (q, tt), tt, tt, tt), tt) (vint w64 s) s tt tt) $ says_both ! (align_known (layout X)).0 (align_known (layout X)).1 $
-        flt_i ! s (2 ^ 64) (capped_fits (align (layout X))) $ feq_i ! (List Val) (vint w64 s ∷ []) (vint w64 s ∷ []) refl $ fjoin ! $ nothing ! $ join ! $ move ! (1 ∷ 0 ∷ []) $ join ! $ keep ! (0 ∷ []) $ done !)
+        suffices ! _ (ends_at 𝓛 (F.ended X) tt clauses (((κ, tt), (q, tt), tt, tt, tt), tt)
+        (vint w64 s) s tt tt) $ says_both ! (align_known (layout X)).0
+        (align_known (layout X)).1 $
+        flt_i ! s (2 ^ 64) (capped_fits (align (layout X))) $ feq_i ! (List Val) (vint w64 s ∷ [])
+        (vint w64 s ∷ []) refl $ fjoin ! $ nothing ! $ join ! $ move ! (1 ∷ 0 ∷ []) $ join ! $
+        keep ! (0 ∷ []) $ done !)
 
     meets : Meets 𝓛 (F.signature X) (WpFn 𝓤 H 𝓣.C 𝓣.Λ function) (closing 𝓛 (F.ended X) clauses)
     meets =
-        walk_Meets 𝓛 (F.ended X) tt tt clauses (WpFn 𝓤 H 𝓣.C 𝓣.Λ function) (WpFn-mono 𝓤 H 𝓛.laws 𝓣 function)
+        walk_Meets 𝓛 (F.ended X) tt tt clauses (WpFn 𝓤 H 𝓣.C 𝓣.Λ function)
+        (WpFn-mono 𝓤 H 𝓛.laws 𝓣 function)
         (walked 𝓛 (F.ended X) tt clauses (WpFn 𝓤 H 𝓣.C 𝓣.Λ function) (λ κs. tt) (λ κs. tt)
         (λ κs qs bounds a g are. via 𝓤 _ (fst∗ 𝓤 _ ((clauses κs a).requires g)) (walk κs.0 qs.0)))
 
@@ -90,5 +103,6 @@ unfolding tables_of
 item_align_spec 𝓤 𝓛 𝓜 𝓡 wired X L =
     let A = 𝓛.A in
     let 𝓣 : Tables 𝓤 𝓛.H = tables_of 𝓤 𝓛.H 𝓜 (tables 𝓤 𝓛.H 𝓜 𝓡 𝓡.env) in
-    entered 𝓤 𝓛.H (triple_of 𝓛 (F.signature X) (F.spec X 𝓛 𝓜.mem 𝓡.returns)) 𝓣.C 𝓣.Λ (#self (args X)) (function X) (code.unfolded 𝓤 𝓛.H 𝓜 𝓡 wired (X, tt))
+    entered 𝓤 𝓛.H (triple_of 𝓛 (F.signature X) (F.spec X 𝓛 𝓜.mem 𝓡.returns)) 𝓣.C 𝓣.Λ
+    (#self (args X)) (function X) (code.unfolded 𝓤 𝓛.H 𝓜 𝓡 wired (X, tt))
     (meets X 𝓛 𝓜.mem 𝓡.returns 𝓣)

@@ -41,32 +41,51 @@ on_slot h (Some x) = Some (h x)
 
 -- a slot as a former
 module _ (g : Former {0}) where
+  -- how many items below it a slot has
   abbrev pub slot_count : Option g.Shape → Count → Count
   slot_count None n = n
   slot_count (Some a) n = g.count a n
 
-  abbrev pub slot_put : (X : Type 0) (o : Option (g.Of X)) (n : Count) → Row X n → Row X (slot_count (on_slot (g.shape X) o) n)
+  -- the items below a slot, laid in front of a row
+  abbrev pub slot_put : (X : Type 0) (o : Option (g.Of X)) (n : Count) → Row X n
+      → Row X (slot_count (on_slot (g.shape X) o) n)
   slot_put X None n t = t
   slot_put X (Some y) n t = g.put X y n t
 
-  abbrev pub slot_get : (X : Type 0) (a : Option g.Shape) (n : Count) → Row X (slot_count a n) → Option (g.Of X) × Row X n
+  -- and taken from its front again
+  abbrev pub slot_get : (X : Type 0) (a : Option g.Shape) (n : Count) → Row X (slot_count a n)
+      → Option (g.Of X) × Row X n
   slot_get X None n v = (None, v)
   slot_get X (Some a) n v = let r : g.Of X × Row X n = g.get X a n v in (Some r.0, r.1)
 
-  pub slot_get-put : (X : Type 0) (o : Option (g.Of X)) (n : Count) (t : Row X n) → slot_get X (on_slot (g.shape X) o) n (slot_put X o n t) ≡ (o, t)
+  -- what is laid in front is what is taken
+  pub slot_get-put : (X : Type 0) (o : Option (g.Of X)) (n : Count) (t : Row X n)
+      → slot_get X (on_slot (g.shape X) o) n (slot_put X o n t) ≡ (o, t)
   slot_get-put X None n t = refl
   slot_get-put X (Some y) n t = λ i. (Some (g.get-put X y n t i).0, (g.get-put X y n t i).1)
 
+  -- and the other way round
   pub slot_put-get : (X : Type 0) (a : Option g.Shape) (n : Count) (v : Row X (slot_count a n))
-      → ◌≡◌ {A = (b : Option g.Shape) × Row X (slot_count b n)} (on_slot (g.shape X) (slot_get X a n v).0, slot_put X (slot_get X a n v).0 n (slot_get X a n v).1) (a, v)
+      → ◌≡◌ {A = (b : Option g.Shape) × Row X (slot_count b n)} (
+        on_slot (g.shape X) (slot_get X a n v).0,
+        slot_put X (slot_get X a n v).0 n
+            (slot_get X a n v).1,
+      ) (a, v)
   slot_put-get X None n v = refl
   slot_put-get X (Some a) n v = λ i. (Some (g.put-get X a n v i).0, (g.put-get X a n v i).1)
 
-  pub slot_get-map : (X Y : Type 0) (h : X → Y) (a : Option g.Shape) (n : Count) (v : Row X (slot_count a n))
-      → slot_get Y a n (over h (slot_count a n) v) ≡ (on_slot (g.map X Y h) (slot_get X a n v).0, over h n (slot_get X a n v).1)
+  -- a function that is applied to all is applied to what is taken
+  pub slot_get-map : (X Y : Type 0) (h : X → Y) (a : Option g.Shape) (n : Count)
+      (v : Row X (slot_count a n))
+      → slot_get Y a n (over h (slot_count a n) v) ≡ (
+        on_slot (g.map X Y h) (slot_get X a n v).0,
+        over h n (slot_get X a n v).1,
+      )
   slot_get-map X Y h None n v = refl
-  slot_get-map X Y h (Some a) n v = λ i. (Some (g.get-map X Y h a n v i).0, (g.get-map X Y h a n v i).1)
+  slot_get-map X Y h (Some a) n v =
+      λ i. (Some (g.get-map X Y h a n v i).0, (g.get-map X Y h a n v i).1)
 
+  -- the former of slots
   abbrev pub slot : Former {0}
   slot = record {
     Of = λ X. Option (g.Of X);
@@ -82,56 +101,111 @@ module _ (g : Former {0}) where
   }
 
 module _ {g : Former {0}} (w : Weighed g) where
+  -- how deep the items of a slot go
   abbrev pub slot_weight : (X : Type 0) → (X → ℕ) → Option (g.Of X) → ℕ
   slot_weight X μ None = 0
   slot_weight X μ (Some y) = w.weight X μ y
 
+  -- a row is as deep as the deepest that was laid in front of it
   pub slot_puts : (X : Type 0) (μ : X → ℕ) (o : Option (g.Of X)) (n : Count) (t : Row X n)
-      → deepest μ (slot_count g (on_slot (g.shape X) o) n) (slot_put g X o n t) ≡ max (slot_weight X μ o) (deepest μ n t)
+      → deepest μ (slot_count g (on_slot (g.shape X) o) n) (slot_put g X o n t) ≡ max
+      (slot_weight X μ o) (deepest μ n t)
   slot_puts X μ None n t = none_max (deepest μ n t)
   slot_puts X μ (Some y) n t = w.puts X μ y n t
 
+  -- slots have a depth
   abbrev pub w_slot : Weighed (slot g)
   w_slot = record { weight = slot_weight; puts = slot_puts }
 
 module _ {X Y Z : Type 0} (d : Block X Z) where
+  -- slots that may stand in the place of the block's
   abbrev pub Fits : List (Option Y) → Type 0
   Fits ys = (d.len ≤ length ys) × (there d.alloc ≡ any ys)
 
+  -- the block with these slots
   abbrev pub holding : (ys : List (Option Y)) → Fits ys → Block Y Z
-  holding ys sound = record { at = d.at; item = record {}; handle = record {}; slots = ys; len = d.len; alloc = d.alloc; cost = d.cost; sound = sound }
+  holding ys sound = record {
+    at = d.at;
+    item = record {};
+    handle = record {};
+    slots = ys;
+    len = d.len;
+    alloc = d.alloc;
+    cost = d.cost;
+    sound = sound;
+  }
 
+  -- as many slots may
   pub fits : (ys : List (Option Y)) → length ys ≡ length d.slots → Fits ys
   fits ys e = (let le = d.sound.0 in omega (arith, e, le), d.sound.1 ∙ sym (any_same d.slots ys e))
 
-  pub Fits-along : (ys zs : List (Option Y)) (e : ys ≡ zs) (p : Fits ys) (q : Fits zs) → PathP (λ i. Fits (e i)) p q
-  Fits-along ys zs e = is_prop→PathP (λ i. Fits (e i)) (λ i p q j. (le_prop p.0 q.0 j, Coded-set coded_bool _ _ p.1 q.1 j))
+  -- which proof says so does not matter
+  pub Fits-along : (ys zs : List (Option Y)) (e : ys ≡ zs) (p : Fits ys) (q : Fits zs)
+      → PathP (λ i. Fits (e i)) p q
+  Fits-along ys zs e = is_prop→PathP (λ i. Fits (e i))
+      (λ i p q j. (le_prop p.0 q.0 j, Coded-set coded_bool _ _ p.1 q.1 j))
 
-  abbrev pub holding_along : (ys zs : List (Option Y)) (e : ys ≡ zs) (p : Fits ys) (q : Fits zs) → holding ys p ≡ holding zs q
+  -- equal slots make equal blocks
+  abbrev pub holding_along : (ys zs : List (Option Y)) (e : ys ≡ zs) (p : Fits ys) (q : Fits zs)
+      → holding ys p ≡ holding zs q
   holding_along ys zs e p q = λ i. holding (e i) (Fits-along ys zs e p q i)
 
+-- the block with h applied to each item
 abbrev pub mapped : {X Y Z : Type 0} → (X → Y) → Block X Z → Block Y Z
-mapped h d = holding d (map (on_slot h) d.slots) (fits d (map (on_slot h) d.slots) (length-map d.slots (on_slot h)))
+mapped h d = holding d (map (on_slot h) d.slots)
+    (fits d (map (on_slot h) d.slots) (length-map d.slots (on_slot h)))
 
 module _ (g : Former {0}) (Z : Type 0) where
-  pub length_got : (X : Type 0) (a : List (Option g.Shape)) (n : Count) (v : Row X (list_count (slot g) a n)) → length (list_get (slot g) X a n v).0 ≡ length a
+  -- as many slots are taken from a row as were asked for
+  pub length_got : (X : Type 0) (a : List (Option g.Shape)) (n : Count)
+      (v : Row X (list_count (slot g) a n)) → length (list_get (slot g) X a n v).0 ≡ length a
   length_got X [] n v = refl
-  length_got X (a ∷ as') n v = ap suc (length_got X as' n ((slot g).get X a (list_count (slot g) as' n) v).1)
+  length_got X (a ∷ as') n v =
+      ap suc (length_got X as' n ((slot g).get X a (list_count (slot g) as' n) v).1)
 
-  abbrev pub got : (X : Type 0) (a : Block g.Shape Z) (n : Count) → Row X (list_count (slot g) a.slots n) → Block (g.Of X) Z × Row X n
-  got X a n v = let r : List (Option (g.Of X)) × Row X n = list_get (slot g) X a.slots n v in (holding a r.0 (fits a r.0 (length_got X a.slots n v)), r.1)
+  -- a block whose items are taken from a row
+  abbrev pub got : (X : Type 0) (a : Block g.Shape Z) (n : Count)
+      → Row X (list_count (slot g) a.slots n) → Block (g.Of X) Z × Row X n
+  got X a n v = let r : List (Option (g.Of X)) × Row X n = list_get (slot g) X a.slots n v in
+      (holding a r.0 (fits a r.0 (length_got X a.slots n v)), r.1)
 
-  pub got-put : (X : Type 0) (d : Block (g.Of X) Z) (n : Count) (t : Row X n) → got X (mapped (g.shape X) d) n ((list (slot g)).put X d.slots n t) ≡ (d, t)
-  got-put X d n t = λ i. (holding_along d _ _ (λ j. ((list (slot g)).get-put X d.slots n t j).0) (got X (mapped (g.shape X) d) n ((list (slot g)).put X d.slots n t)).0.sound d.sound i, ((list (slot g)).get-put X d.slots n t i).1)
+  -- what was laid in a row is what is taken from it
+  pub got-put : (X : Type 0) (d : Block (g.Of X) Z) (n : Count) (t : Row X n)
+      → got X (mapped (g.shape X) d) n ((list (slot g)).put X d.slots n t) ≡ (d, t)
+  got-put X d n t = λ i. (
+    holding_along d _ _ (λ j. ((list (slot g)).get-put X d.slots n t j).0)
+        (got X (mapped (g.shape X) d) n ((list (slot g)).put X d.slots n t)).0.sound d.sound i,
+    ((list (slot g)).get-put X d.slots n t i).1,
+  )
 
-  pub put-got : (X : Type 0) (a : Block g.Shape Z) (n : Count) (v : Row X (list_count (slot g) a.slots n))
-      → ◌≡◌ {A = (b : Block g.Shape Z) × Row X (list_count (slot g) b.slots n)} (mapped (g.shape X) (got X a n v).0, (list (slot g)).put X (got X a n v).0.slots n (got X a n v).1) (a, v)
-  put-got X a n v = λ i. (holding_along a _ _ (λ j. ((list (slot g)).put-get X a.slots n v j).0) (mapped (g.shape X) (got X a n v).0).sound a.sound i, ((list (slot g)).put-get X a.slots n v i).1)
+  -- and the other way round
+  pub put-got : (X : Type 0) (a : Block g.Shape Z) (n : Count)
+      (v : Row X (list_count (slot g) a.slots n))
+      → ◌≡◌ {A = (b : Block g.Shape Z) × Row X (list_count (slot g) b.slots n)} (
+        mapped (g.shape X) (got X a n v).0,
+        (list (slot g)).put X (got X a n v).0.slots n
+            (got X a n v).1,
+      ) (a, v)
+  put-got X a n v = λ i. (
+    holding_along a _ _ (λ j. ((list (slot g)).put-get X a.slots n v j).0)
+        (mapped (g.shape X) (got X a n v).0).sound a.sound i,
+    ((list (slot g)).put-get X a.slots n v i).1,
+  )
 
-  pub got-map : (X Y : Type 0) (h : X → Y) (a : Block g.Shape Z) (n : Count) (v : Row X (list_count (slot g) a.slots n))
-      → got Y a n (over h (list_count (slot g) a.slots n) v) ≡ (mapped (g.map X Y h) (got X a n v).0, over h n (got X a n v).1)
-  got-map X Y h a n v = λ i. (holding_along a _ _ (λ j. ((list (slot g)).get-map X Y h a.slots n v j).0) (got Y a n (over h (list_count (slot g) a.slots n) v)).0.sound (mapped (g.map X Y h) (got X a n v).0).sound i, ((list (slot g)).get-map X Y h a.slots n v i).1)
+  -- a function that is applied to a row is applied to what is taken from it
+  pub got-map : (X Y : Type 0) (h : X → Y) (a : Block g.Shape Z) (n : Count)
+      (v : Row X (list_count (slot g) a.slots n))
+      → got Y a n (over h (list_count (slot g) a.slots n) v)
+      ≡ (mapped (g.map X Y h) (got X a n v).0, over h n (got X a n v).1)
+  got-map X Y h a n v =
+      λ i. (
+        holding_along a _ _ (λ j. ((list (slot g)).get-map X Y h a.slots n v j).0)
+            (got Y a n (over h (list_count (slot g) a.slots n) v)).0.sound
+            (mapped (g.map X Y h) (got X a n v).0).sound i,
+        ((list (slot g)).get-map X Y h a.slots n v i).1,
+      )
 
+  -- the former of blocks
   abbrev pub the_former : Former {0}
   the_former = record {
     Of = λ X. Block (g.Of X) Z;
@@ -146,74 +220,129 @@ module _ (g : Former {0}) (Z : Type 0) where
     get-map = got-map;
   }
 
+-- a block is as deep as its deepest item
 abbrev pub the_weighed : {g : Former {0}} → Weighed g → (Z : Type 0) → Weighed (the_former g Z)
-the_weighed w Z = record { weight = λ X μ d. most (slot_weight w X μ) d.slots; puts = λ X μ d. List-puts (w_slot w) X μ d.slots }
+the_weighed w Z = record {
+  weight = λ X μ d. most (slot_weight w X μ) d.slots;
+  puts = λ X μ d. List-puts (w_slot w) X μ d.slots;
+}
 
+-- a block of no slot
 abbrev pub the_empty : (Z : Type 0) → Z → Block ⊥ Z
-the_empty Z z = record { at = null_ptr; item = record {}; handle = record {}; slots = []; len = 0; alloc = None; cost = no_cost; sound = (omega arith, refl) }
+the_empty Z z = record {
+  at = null_ptr;
+  item = record {};
+  handle = record {};
+  slots = [];
+  len = 0;
+  alloc = None;
+  cost = no_cost;
+  sound = (omega arith, refl);
+}
 
-pub items_listed : (X : Type 0) (xs : List (Option X)) → listed _ (children (list (slot this)) X xs) ≡ items_in xs
+-- the items below a row of slots are those that the slots hold
+pub items_listed : (X : Type 0) (xs : List (Option X))
+    → listed _ (children (list (slot this)) X xs) ≡ items_in xs
 items_listed X [] = refl
 items_listed X (None ∷ xs) = items_listed X xs
 items_listed X (Some x ∷ xs) = ap (λ l. x ∷ l) (items_listed X xs)
 
+-- the items of a block
 abbrev pub the_items : (Z X : Type 0) → Block X Z → List X
 the_items Z X d = items_in d.slots
 
-pub the_items_listed : (Z X : Type 0) (d : Block X Z) → listed _ (children (the_former this Z) X d) ≡ the_items Z X d
+-- they are those below it
+pub the_items_listed : (Z X : Type 0) (d : Block X Z)
+    → listed _ (children (the_former this Z) X d) ≡ the_items Z X d
 the_items_listed Z X d = items_listed X d.slots
 
 -- the codes of a list of items, for a list over a block
-pub codes_of : {X Y : Type 0} (c : X → Gv) (c' : Y → Gv) (h : X → Y) → ((x : X) → c' (h x) ≡ c x) → (xs : List X) → code_l c' (map h xs) ≡ code_l c xs
+pub codes_of : {X Y : Type 0} (c : X → Gv) (c' : Y → Gv) (h : X → Y) → ((x : X) → c' (h x) ≡ c x)
+    → (xs : List X) → code_l c' (map h xs) ≡ code_l c xs
 codes_of = codes_placed
 
+-- codes that differ in their first part
 first : {a b c : Gv} → a ≡ b → gcons a c ≡ gcons b c
 first {c = c} e = λ i. gcons (e i) c
 
+-- and in their second
 second : {a b c : Gv} → a ≡ b → gcons c a ≡ gcons c b
 second {c = c} e = λ i. gcons c (e i)
 
 module _ (R R' : RattleType) (h : R.Denot → R'.Denot) (a : Alike R R' h) where
+  -- an item and its image have one size
   abbrev width : type_size R' ≡ type_size R
   width = λ i. size (lone (a.mir_same i))
 
+  -- a slot lies in memory as its image does
   place_placed : (x : Option R.Denot) (b o : ℕ) → place R' (on_slot h x) b o ≡ place R x b o
   place_placed None b o = λ i. room_for (raw (lone (a.mir_same i))) (block_ptr b o)
   place_placed (Some x) b o = lies_placed R R' h a full_share (block_ptr b o) x
 
-  places_placed : (xs : List (Option R.Denot)) (b o : ℕ) → places R' (map (on_slot h) xs) b o ≡ places R xs b o
+  -- and so does a row of slots
+  places_placed : (xs : List (Option R.Denot)) (b o : ℕ)
+      → places R' (map (on_slot h) xs) b o ≡ places R xs b o
   places_placed [] b o = refl
-  places_placed (x ∷ xs) b o = (λ i. fsep (place_placed x b o i) (places R' (map (on_slot h) xs) b (o + width i))) ∙ ap (fsep (place R x b o)) (places_placed xs b (o + type_size R))
+  places_placed (x ∷ xs) b o =
+      (λ i. fsep (place_placed x b o i) (places R' (map (on_slot h) xs) b (o + width i)))
+      ∙ ap (fsep (place R x b o)) (places_placed xs b (o + type_size R))
 
-  pub block_placed : {D : Type 0} (t : D → Ty → Ptr → Fml) (p : Ptr) (n : ℕ) (xs : List (Option R.Denot)) (w : Option D) → block_owns t R' p n (map (on_slot h) xs) w ≡ block_owns t R p n xs w
+  -- and so does a block
+  pub block_placed : {D : Type 0} (t : D → Ty → Ptr → Fml) (p : Ptr) (n : ℕ)
+      (xs : List (Option R.Denot)) (w : Option D) → block_owns t R' p n (map (on_slot h) xs)
+      w ≡ block_owns t R p n xs w
   block_placed t null_ptr n xs w = refl
   block_placed t (block_ptr b o) n xs None = refl
-  block_placed t (block_ptr b o) n xs (Some w) = λ i. fsep (frame (t w) (record R { mir = a.mir_same i }) n (length-map xs (on_slot h) i) b o) (places_placed xs b (o + 16) i)
+  block_placed t (block_ptr b o) n xs (Some w) =
+      λ i. fsep (frame (t w) (record R { mir = a.mir_same i }) n (length-map xs (on_slot h) i) b o)
+      (places_placed xs b (o + 16) i)
 
-  place_lent_placed : (x : Option R.Denot) (p : Ptr) → place_lent R' (on_slot h x) p ≡ place_lent R x p
+  -- a slot that is lent lies as its image does
+  place_lent_placed : (x : Option R.Denot) (p : Ptr)
+      → place_lent R' (on_slot h x) p ≡ place_lent R x p
   place_lent_placed None p = refl
   place_lent_placed (Some x) p = lent_at_placed R R' h a p x
 
-  places_lent_placed : (xs : List (Option R.Denot)) (b o : ℕ) → places_lent R' (map (on_slot h) xs) b o ≡ places_lent R xs b o
+  -- and so does a row of slots that is lent
+  places_lent_placed : (xs : List (Option R.Denot)) (b o : ℕ) → places_lent R' (map (on_slot h) xs)
+      b o ≡ places_lent R xs b o
   places_lent_placed [] b o = refl
-  places_lent_placed (x ∷ xs) b o = (λ i. beside (place_lent_placed x (block_ptr b o) i) (places_lent R' (map (on_slot h) xs) b (o + width i))) ∙ ap (beside (place_lent R x (block_ptr b o))) (places_lent_placed xs b (o + type_size R))
+  places_lent_placed (x ∷ xs) b o =
+      (λ i. beside (place_lent_placed x (block_ptr b o) i)
+      (places_lent R' (map (on_slot h) xs) b (o + width i)))
+      ∙ ap (beside (place_lent R x (block_ptr b o))) (places_lent_placed xs b (o + type_size R))
 
-  pub block_lent_placed : {D : Type 0} (p : Ptr) (n : ℕ) (xs : List (Option R.Denot)) (w : Option D) → block_lent R' p n (map (on_slot h) xs) w ≡ block_lent R p n xs w
+  -- and so does a block that is lent
+  pub block_lent_placed : {D : Type 0} (p : Ptr) (n : ℕ) (xs : List (Option R.Denot)) (w : Option D)
+      → block_lent R' p n (map (on_slot h) xs) w ≡ block_lent R p n xs w
   block_lent_placed null_ptr n xs w = refl
   block_lent_placed (block_ptr b o) n xs None = refl
-  block_lent_placed (block_ptr b o) n xs (Some w) = λ i. beside (frame_lent (record R { mir = a.mir_same i }) n (length-map xs (on_slot h) i) b o) (places_lent_placed xs b (o + 16) i)
+  block_lent_placed (block_ptr b o) n xs (Some w) =
+      λ i. beside (frame_lent (record R { mir = a.mir_same i }) n (length-map xs (on_slot h) i) b o)
+      (places_lent_placed xs b (o + 16) i)
 
 module _ (A : RattleType) (G : Ghosts A.Denot) (R R' : RattleType) (h : R.Denot → R'.Denot) where
-  pub the_places : Alike R R' h → Alike (C.the_row R A G) (C.the_row R' A G) ((the_former this A.Denot).map R.Denot R'.Denot h)
+  -- a block of items lies in memory as the block of their images
+  pub the_places : Alike R R' h → Alike (C.the_row R A G) (C.the_row R' A G)
+      ((the_former this A.Denot).map R.Denot R'.Denot h)
   the_places a = record {
     mir_same = refl;
-    own_same = λ d i vs. fsep ((Struct (shape (C.the_type R A G))).own_val (to (C.the_type R A G) d) vs) (block_placed R R' h a G.dealloc_token d.at d.len d.slots d.alloc i);
-    shr_same = λ d i b o κ. beside ((Struct (shape (C.the_type R A G))).shr_at (to (C.the_type R A G) d) b o) (block_lent_placed R R' h a d.at d.len d.slots d.alloc i) κ;
+    own_same = λ d i vs. fsep ((Struct (shape (C.the_type R A G))).own_val (to (C.the_type R A G) d)
+        vs) (block_placed R R' h a G.dealloc_token d.at d.len d.slots d.alloc i);
+    shr_same = λ d i b o κ. beside
+        ((Struct (shape (C.the_type R A G))).shr_at (to (C.the_type R A G) d) b o)
+        (block_lent_placed R R' h a d.at d.len d.slots d.alloc i) κ;
   }
 
-  slot_recoded : Recodes R R' h → (x : Option R.Denot) → (coded_option R'.coded).code (on_slot h x) ≡ (coded_option R.coded).code x
+  -- a slot's code is that of its image
+  slot_recoded : Recodes R R' h → (x : Option R.Denot) → (coded_option R'.coded).code (on_slot h x)
+      ≡ (coded_option R.coded).code x
   slot_recoded e None = refl
   slot_recoded e (Some x) = second (e x)
 
-  pub the_codes_placed : Recodes R R' h → Recodes (C.the_row R A G) (C.the_row R' A G) ((the_former this A.Denot).map R.Denot R'.Denot h)
-  the_codes_placed e d = second (first (codes_placed (coded_option R.coded).code (coded_option R'.coded).code (on_slot h) (slot_recoded e) d.slots))
+  -- and a block's is that of its image
+  pub the_codes_placed : Recodes R R' h → Recodes (C.the_row R A G) (C.the_row R' A G)
+      ((the_former this A.Denot).map R.Denot R'.Denot h)
+  the_codes_placed e d =
+      second (first (codes_placed (coded_option R.coded).code (coded_option R'.coded).code
+      (on_slot h) (slot_recoded e) d.slots))

@@ -8,19 +8,28 @@ use Rattle.thin_vec.proofs.placing.drop_items.Goals as goal
 pub loop-i-init : goal.loop-i-init
 loop-i-init g c =
     let old = c.args.block.now.slots in
-    record { slots = c.requires.packed.row ∙ sym (emptying-none (items_in old) 0 (length old)); alloc = refl }
+    record {
+      slots = c.requires.packed.row ∙ sym (emptying-none (items_in old) 0 (length old));
+      alloc = refl;
+    }
 
 pub take-requires : goal.take-requires
 take-requires g c =
     let old = c.args.block.now.slots in
-    record { filled = rw c.loop-i.invariant.slots (emptying-filled (items_in old) 0 c.loop-i.i (length old) (omega arith) (omega (arith, c.loop-i-test.true, c.requires.packed.len))) }
+    record {
+      filled = rw c.loop-i.invariant.slots
+          (emptying-filled (items_in old) 0 c.loop-i.i (length old) (omega arith)
+          (omega (arith, c.loop-i-test.true, c.requires.packed.len)));
+    }
 
 pub loop-i-preserved : goal.loop-i-preserved
 loop-i-preserved g c =
     let old = c.args.block.now.slots in
     let h = c.loop-i.invariant in
     record {
-      slots = c.take.ensures.slots ∙ (ap (λ s. set s c.loop-i.i None) h.slots ∙ emptying-take (items_in old) 0 c.loop-i.i (length old) (omega arith) (omega (arith, c.loop-i-test.true, c.requires.packed.len)));
+      slots = c.take.ensures.slots
+          ∙ (ap (λ s. set s c.loop-i.i None) h.slots ∙ emptying-take (items_in old) 0 c.loop-i.i
+          (length old) (omega arith) (omega (arith, c.loop-i-test.true, c.requires.packed.len)));
       alloc = c.take.ensures.alloc ∙ h.alloc;
     }
 
@@ -28,7 +37,11 @@ pub returns-clause-slots : goal.returns-clause-slots
 returns-clause-slots g c =
     let old = c.args.block.now.slots in
     let cap = length old in
-    let end : c.loop-i.i ≡ length (items_in old) = omega (arith, c.loop-i-test.false, c.loop-i.auto.i-end, c.requires.packed.len) in
-    let room : length (items_in old) ≤ cap = omega (arith, packed-le old c.args.len c.requires.packed, c.requires.packed.len) in
+    let end : c.loop-i.i ≡ length (items_in old) =
+    omega (arith, c.loop-i-test.false, c.loop-i.auto.i-end, c.requires.packed.len) in
+    let room : length (items_in old) ≤ cap =
+    omega (arith, packed-le old c.args.len c.requires.packed, c.requires.packed.len) in
     let none : cap - 0 ≡ cap = omega arith in
-    c.loop-i.invariant.slots ∙ (ap (λ k. emptying (items_in old) 0 k cap) end ∙ (emptying-all (items_in old) 0 cap (omega arith) room ∙ ap (λ k. empty k) none))
+    c.loop-i.invariant.slots
+    ∙ (ap (λ k. emptying (items_in old) 0 k cap) end
+    ∙ (emptying-all (items_in old) 0 cap (omega arith) room ∙ ap (λ k. empty k) none))

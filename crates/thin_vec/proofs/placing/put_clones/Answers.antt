@@ -12,7 +12,9 @@ loop-i-preserved g c =
     let old = c.args.block.now in
     let n = c.loop-i.i in
     record {
-      slots = lays-more g.T.Clone.is_clone items n start old.slots c.loop-i.block.slots _ c.in-Ok.item _ (omega arith) c.requires.in_bounds c.index-items-i.is c.in-Ok.ensures.cases was.slots c.put.ensures.slots;
+      slots = lays-more g.T.Clone.is_clone items n start old.slots c.loop-i.block.slots _
+          c.in-Ok.item _ (omega arith) c.requires.in_bounds c.index-items-i.is c.in-Ok.ensures.cases
+          was.slots c.put.ensures.slots;
       len = c.put.ensures.len ∙ was.len;
       alloc = c.put.ensures.alloc ∙ was.alloc;
       cost = c.put.ensures.cost ∙ (ap (λ d. moving 1 d) was.cost ∙ moving-one n old.cost);

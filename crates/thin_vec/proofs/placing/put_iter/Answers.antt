@@ -14,13 +14,17 @@ loop-i-preserved g c =
       finite = goes.1;
       placed = (
         xs ++ x ∷ [],
-        laid-more c.loop-i.block.slots c.put.new.self.slots c.args.block.now.slots c.args.start c.loop-i.i xs x held.placed.1 held.placed.2 (omega (arith, c.loop-i-test.true, c.requires.in_bounds)) c.put.ensures.slots,
+        laid-more c.loop-i.block.slots c.put.new.self.slots c.args.block.now.slots c.args.start
+            c.loop-i.i xs x held.placed.1 held.placed.2
+            (omega (arith, c.loop-i-test.true, c.requires.in_bounds)) c.put.ensures.slots,
         omega (arith, held.placed.2, length_push xs x),
-        yields-more g.I.Iterator.next_gives c.args.iter c.loop-i.rest c.next.new.self xs x held.placed.3 c.in-Some.ensures.steps,
+        yields-more g.I.Iterator.next_gives c.args.iter c.loop-i.rest c.next.new.self xs x
+            held.placed.3 c.in-Some.ensures.steps,
       );
       within = omega (arith, c.loop-i-test.true);
       len = c.put.ensures.len ∙ held.len;
       alloc = c.put.ensures.alloc ∙ held.alloc;
-      cost = c.put.ensures.cost ∙ moving-more c.loop-i.i c.args.start c.loop-i.block.cost c.args.block.now.cost (omega (arith, held.placed.2)) held.cost;
+      cost = c.put.ensures.cost ∙ moving-more c.loop-i.i c.args.start c.loop-i.block.cost
+          c.args.block.now.cost (omega (arith, held.placed.2)) held.cost;
       nearer = omega (arith, held.nearer, goes.2);
     }

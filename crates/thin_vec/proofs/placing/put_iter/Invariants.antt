@@ -9,10 +9,12 @@ abbrev pub invariant-loop-i : goal.invariant-loop-i
 invariant-loop-i g l = record {
   can : g.I.Iterator.can_next l.rest;
   finite : IsFinite (g.I.Iterator.remaining l.rest);
-  placed : (xs : List g.row.T.Denot) × (l.block.slots ≡ laid l.start (full xs) l.fn.block.slots) × (l.i ≡ l.start + length xs) × Yields g.I.Iterator.next_gives l.fn.iter xs l.rest;
+  placed : (xs : List g.row.T.Denot) × (l.block.slots ≡ laid l.start (full xs) l.fn.block.slots)
+      × (l.i ≡ l.start + length xs) × Yields g.I.Iterator.next_gives l.fn.iter xs l.rest;
   within : l.i ≤ l.end;
   len : l.block.len ≡ l.fn.block.len;
   alloc : l.block.alloc ≡ l.fn.block.alloc;
   cost : l.block.cost ≡ moving (l.i - l.start) l.fn.block.cost;
-  nearer : l.i + size (g.I.Iterator.remaining l.rest) ≤ l.start + size (g.I.Iterator.remaining l.fn.iter);
+  nearer : l.i + size (g.I.Iterator.remaining l.rest) ≤ l.start + size
+      (g.I.Iterator.remaining l.fn.iter);
 }

@@ -15,7 +15,9 @@ loop-i-preserved g c =
     let old = c.args.block.now in
     let n = c.loop-i.i in
     record {
-      slots = lays-more g.T.Clone.is_clone sources n start old.slots c.loop-i.block.slots x c.in-Ok.item _ (omega arith) (omega (arith, c.requires.in_bounds, many)) (sym (get_or-replicate c.args.count n x x (omega arith)))
+      slots = lays-more g.T.Clone.is_clone sources n start old.slots c.loop-i.block.slots x
+          c.in-Ok.item _ (omega arith) (omega (arith, c.requires.in_bounds, many))
+          (sym (get_or-replicate c.args.count n x x (omega arith)))
           c.in-Ok.ensures.cases was.slots c.put.ensures.slots;
       len = c.put.ensures.len ∙ was.len;
       alloc = c.put.ensures.alloc ∙ was.alloc;

@@ -7,7 +7,8 @@ use Rattle.thin_vec.proofs.placing.put_repeated.Given as goal
 abbrev pub invariant-loop-i : goal.invariant-loop-i
 invariant-loop-i g l =
     record {
-      slots : LaysClones g.T.Clone.is_clone (replicate l.count l.value) l.i l.start l.fn.block.slots l.block.slots;
+      slots : LaysClones g.T.Clone.is_clone (replicate l.count l.value)
+          l.i l.start l.fn.block.slots l.block.slots;
       len : l.block.len ≡ l.fn.block.len;
       alloc : l.block.alloc ≡ l.fn.block.alloc;
       cost : l.block.cost ≡ moving l.i l.fn.block.cost;

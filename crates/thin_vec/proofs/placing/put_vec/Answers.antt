@@ -5,7 +5,8 @@ use Rattle.thin_vec.proofs.placing.put_vec.Goals as goal
 
 pub loop-item-init : goal.loop-item-init
 loop-item-init g c = record {
-  slots = moving-first c.args.items.now.items c.args.block.now.slots c.requires.empty c.requires.room;
+  slots = moving-first c.args.items.now.items c.args.block.now.slots
+      c.requires.empty c.requires.room;
   len = refl;
   alloc = refl;
   cost = moving-none (length c.args.items.now.items) c.args.block.now.cost;
@@ -17,13 +18,20 @@ loop-item-preserved g c =
     let left = c.pop.new.self.items in
     let was = c.loop-item.invariant in
     let cap = length c.args.block.now.slots in
-    let before = subst (λ l. IsMoving xs l cap c.loop-item.block.slots) c.in-Some.ensures.items was.slots in
+    let before = subst (λ l. IsMoving xs l cap c.loop-item.block.slots)
+    c.in-Some.ensures.items was.slots in
     record {
       slots = subst (λ s. IsMoving xs left cap s) (sym c.put.ensures.slots)
-          (moving-next xs left cap c.len.result c.in-Some.item c.loop-item.block.slots before (c.len.ensures ∙ c.pop.new.self.ok.0));
+          (moving-next xs left cap c.len.result c.in-Some.item c.loop-item.block.slots before
+          (c.len.ensures ∙ c.pop.new.self.ok.0));
       len = c.put.ensures.len ∙ was.len;
       alloc = c.put.ensures.alloc ∙ was.alloc;
-      cost = moving-more (length xs) c.args.block.now.cost (length left) (length c.loop-item.items.items) c.loop-item.block.cost c.put.new.self.cost
+      cost = moving-more (length xs) c.args.block.now.cost (length left)
+          (length c.loop-item.items.items) c.loop-item.block.cost c.put.new.self.cost
           (ap length c.in-Some.ensures.items ∙ length_push left c.in-Some.item)
-          (omega (arith, ap length was.slots.parts, length-append c.loop-item.items.items was.slots.rest)) was.cost c.put.ensures.cost;
+          (omega (
+            arith,
+            ap length was.slots.parts,
+            length-append c.loop-item.items.items was.slots.rest,
+          )) was.cost c.put.ensures.cost;
     }

@@ -1,4 +1,5 @@
--- `ThinVec` as a type that may hold the type that holds it, by its items. Its rows of slots are told apart by shape alone.
+-- `ThinVec` as a type that may hold the type that holds it, by its items. Its rows of slots are
+-- told apart by shape alone.
 use Rattle.std.specs.Prelude.{◌≡◌, ℕ, ◌-◌, List, [], ◌∷◌, Option, length, map}
 use Rattle.std.specs.declared.option.Option.TheVariants.{Some, None}
 use mathlib.Core.Path.{refl, sym, ap, ◌∙◌}
@@ -30,54 +31,78 @@ use Rattle.thin_vec.specs.declared.list.ThinVec.TheView.{view, invariant}
 use Rattle.thin_vec.specs.contracts.list.ThinVec as C
 use Rattle.thin_vec.specs.contracts.list.ThinVec.TheInside as I
 
+-- the former of lists
 abbrev pub the_former : Former {0} → Type 0 → Type 0 → Former {0}
 the_former g Z Q =
-    via (pair (list g) (const (ℕ × (Z × Cost)))) (λ X. Thin (g.Of X) Z) (λ X v. (v.items, (v.capacity, (v.alloc, v.cost))))
-    (λ X p. record { items = p.0; capacity = p.1.0; alloc = p.1.1.0; cost = p.1.1.1 }) (λ X v. refl) (λ X p. refl)
+    via (pair (list g) (const (ℕ × (Z × Cost)))) (λ X. Thin (g.Of X) Z)
+    (λ X v. (v.items, (v.capacity, (v.alloc, v.cost))))
+    (λ X p. record { items = p.0; capacity = p.1.0; alloc = p.1.1.0; cost = p.1.1.1 })
+    (λ X v. refl) (λ X p. refl)
 
+-- a list is as deep as its deepest item
 abbrev pub the_weighed : {g : Former {0}} → Weighed g → (Z Q : Type 0) → Weighed (the_former g Z Q)
-the_weighed w Z Q = record { weight = λ X μ v. most (w.weight X μ) v.items; puts = λ X μ v. List-puts w X μ v.items }
+the_weighed w Z Q =
+    record {
+      weight = λ X μ v. most (w.weight X μ) v.items;
+      puts = λ X μ v. List-puts w X μ v.items;
+    }
 
+-- a list of no item
 pub the_empty : (Z Q : Type 0) → Z → Q → Thin ⊥ Z
 the_empty Z Q z q = record { items = []; capacity = 0; alloc = z; cost = no_cost }
 
+-- the items of a list
 abbrev pub the_items : (Z Q X : Type 0) → Thin X Z → List X
 the_items Z Q X v = v.items
 
-pub the_items_listed : (Z Q X : Type 0) (v : Thin X Z) → listed _ (children (the_former this Z Q) X v) ≡ the_items Z Q X v
+-- they are those below it
+pub the_items_listed : (Z Q X : Type 0) (v : Thin X Z)
+    → listed _ (children (the_former this Z Q) X v) ≡ the_items Z Q X v
 the_items_listed Z Q X v = list-listed X v.items
 
+-- a list by its fields: the block and the allocator
 abbrev fields : Type 0 → Type 0 → Former {0}
 fields Z Q =
-    via (pair (block.the_former this Z) (const Z)) (λ X. Inside X Z Q) (λ X a. (a.block, a.alloc)) (λ X v. record { block = v.0; alloc = v.1; growth = record {} }) (λ X a. refl) (λ X v. refl)
+    via (pair (block.the_former this Z) (const Z)) (λ X. Inside X Z Q) (λ X a. (a.block, a.alloc))
+    (λ X v. record { block = v.0; alloc = v.1; growth = record {} }) (λ X a. refl) (λ X v. refl)
 
 -- h is applied to each item
 module _ {X Y : Type 0} (h : X → Y) where
+  -- the items are the images
   items_in-map : (s : List (Option X)) → items_in (map (on_slot h) s) ≡ map h (items_in s)
   items_in-map [] = refl
   items_in-map (None ∷ s) = items_in-map s
   items_in-map (Some x ∷ s) = ap (λ l. h x ∷ l) (items_in-map s)
 
+  -- the same slots are filled
   there-map : (s : List (Option X)) → map there (map (on_slot h) s) ≡ map there s
   there-map [] = refl
   there-map (None ∷ s) = ap (λ l. there {X = X} None ∷ l) (there-map s)
   there-map (Some x ∷ s) = ap (λ l. there (Some x) ∷ l) (there-map s)
 
+  -- as many items as before
   count-map : (s : List (Option X)) → length (items_in (map (on_slot h) s)) ≡ length (items_in s)
   count-map s = ap length (items_in-map s) ∙ length-map (items_in s) h
 
-  left-map : (s : List (Option X)) → length (map (on_slot h) s) - length (items_in (map (on_slot h) s)) ≡ length s - length (items_in s)
+  -- as many empty slots as before
+  left-map : (s : List (Option X)) → length (map (on_slot h) s) - length
+      (items_in (map (on_slot h) s)) ≡ length s - length (items_in s)
   left-map s = λ i. length-map s (on_slot h) i - count-map s i
 
+  -- items in front stay there
   packed_to : (s : List (Option X)) (n : ℕ) → IsPacked s n → IsPacked (map (on_slot h) s) n
   packed_to s n p = record {
-    row = from_there (map (on_slot h) s) _ (there-map s ∙ (to_there s _ p.row ∙ sym (λ i. shape (count-map s i) (left-map s i))));
+    row = from_there (map (on_slot h) s) _
+        (there-map s ∙ (to_there s _ p.row ∙ sym (λ i. shape (count-map s i) (left-map s i))));
     len = p.len ∙ sym (count-map s);
   }
 
+  -- and were
   packed_from : (s : List (Option X)) (n : ℕ) → IsPacked (map (on_slot h) s) n → IsPacked s n
   packed_from s n p = record {
-    row = from_there s _ (sym (there-map s) ∙ (to_there (map (on_slot h) s) _ p.row ∙ (λ i. shape (count-map s i) (left-map s i))));
+    row = from_there s _
+        (sym (there-map s)
+        ∙ (to_there (map (on_slot h) s) _ p.row ∙ (λ i. shape (count-map s i) (left-map s i))));
     len = p.len ∙ count-map s;
   }
 
@@ -88,16 +113,21 @@ module _ {X Y : Type 0} (h : X → Y) where
     thin_from : IsThin (block.mapped h b) a → IsThin b a
     thin_from t = record { packed = packed_from b.slots b.len t.packed; from = t.from }
 
-items_in-held : (X : Type 0) (s : List (Option X)) → held (list this) X (items_in s) ≡ held (list (slot this)) X s
+-- the items below the slots are those that the slots hold
+items_in-held : (X : Type 0) (s : List (Option X))
+    → held (list this) X (items_in s) ≡ held (list (slot this)) X s
 items_in-held X [] = refl
 items_in-held X (None ∷ s) = items_in-held X s
 items_in-held X (Some x ∷ s) = λ i. (one_more (items_in-held X s i).0, (x, (items_in-held X s i).1))
 
+-- codes that differ in their first part
 first : {a b c : Gv} → a ≡ b → gcons a c ≡ gcons b c
 first {c = c} e = λ i. gcons (e i) c
 
 module _ (Z Q : RattleType) (G : AllocatorGhosts Z.Denot) (K : GrowthGhosts Q.Denot) where
-  IsThin-prop : {X : Type 0} (code : Coded X) (b : Block X Z.Denot) (a : Z.Denot) → IsProp (IsThin b a)
+  -- which proof of `IsThin` does not matter
+  IsThin-prop : {X : Type 0} (code : Coded X) (b : Block X Z.Denot)
+      (a : Z.Denot) → IsProp (IsThin b a)
   IsThin-prop code b a p q = λ i. record {
     packed = record {
       row = Coded-set (coded_list (coded_option code)) _ _ p.packed.row q.packed.row i;
@@ -107,16 +137,29 @@ module _ (Z Q : RattleType) (G : AllocatorGhosts Z.Denot) (K : GrowthGhosts Q.De
   }
 
   module _ (R S : RattleType) (h : R.Denot → S.Denot) where
-    pub the_places : Alike R S h → Alike (C.the_row R Z Q G K) (C.the_row S Z Q G K) ((the_former this Z.Denot Q.Denot).map R.Denot S.Denot h)
-    the_places a = view_places (fields Z.Denot Q.Denot) (the_former this Z.Denot Q.Denot) (λ X. view X Z.Denot Q.Denot G K)
-        (λ X Y k u i. record { items = items_in-map k u.block.slots i; capacity = length-map u.block.slots (on_slot k) i; alloc = u.alloc; cost = u.block.cost })
+    pub the_places : Alike R S h → Alike (C.the_row R Z Q G K) (C.the_row S Z Q G K)
+        ((the_former this Z.Denot Q.Denot).map R.Denot S.Denot h)
+    the_places a = view_places (fields Z.Denot Q.Denot) (the_former this Z.Denot Q.Denot)
+        (λ X. view X Z.Denot Q.Denot G K)
+        (λ X Y k u i. record {
+          items = items_in-map k u.block.slots i;
+          capacity = length-map u.block.slots (on_slot k) i;
+          alloc =
+              u.alloc;
+          cost = u.block.cost;
+        })
         (λ X u. items_in-held X u.block.slots)
         R.Denot S.Denot h (C.the_row R Z Q G K).coded (C.the_row S Z Q G K).coded
-        (invariant R.Denot Z.Denot Q.Denot G K) (invariant S.Denot Z.Denot Q.Denot G K) (λ u. IsThin-prop R.coded u.block u.alloc) (λ u. IsThin-prop S.coded u.block u.alloc)
+        (invariant R.Denot Z.Denot Q.Denot G K) (invariant S.Denot Z.Denot Q.Denot G K)
+        (λ u. IsThin-prop R.coded u.block u.alloc) (λ u. IsThin-prop S.coded u.block u.alloc)
         (λ u. thin_to h u.block u.alloc) (λ u. thin_from h u.block u.alloc)
         (over (I.the_row R Z Q G K)) (over (I.the_row S Z Q G K))
-        (struct_places (I.the_type R Z Q G K) (I.the_type S Z Q G K) (block.mapped h, (λ n. n, (λ n. n, tt))) _ (λ d. refl) refl
-        (laid _ _ _ (block.the_places Z G R S h a), ((refl, (λ n. refl, λ n. refl)), ((refl, (λ n. refl, λ n. refl)), tt))))
+        (struct_places (I.the_type R Z Q G K) (I.the_type S Z Q G K)
+        (block.mapped h, (λ n. n, (λ n. n, tt))) _ (λ d. refl) refl (
+          laid _ _ _ (block.the_places Z G R S h a),
+          ((refl, (λ n. refl, λ n. refl)), ((refl, (λ n. refl, λ n. refl)), tt)),
+        ))
 
-    pub the_codes_placed : Recodes R S h → Recodes (C.the_row R Z Q G K) (C.the_row S Z Q G K) ((the_former this Z.Denot Q.Denot).map R.Denot S.Denot h)
+    pub the_codes_placed : Recodes R S h → Recodes (C.the_row R Z Q G K) (C.the_row S Z Q G K)
+        ((the_former this Z.Denot Q.Denot).map R.Denot S.Denot h)
     the_codes_placed e d = first (block.codes_of R.coded.code S.coded.code h e d.items)

@@ -1,4 +1,5 @@
--- A `&` to a block lends each word and each item that is there, each as its own type does. Assumes `Logic`.
+-- A `&` to a block lends each word and each item that is there, each as its own type does. Assumes
+-- `Logic`.
 use mathlib.Core.List.{List, [], ◌∷◌, ◌++◌, not-mem-nil}
 use Prim.Native.Nat.{ℕ, ◌+◌}
 use mathlib.Core.Bool.{Bool, true}
@@ -45,18 +46,27 @@ module _ (R : RattleType) (L : RowLaws R) where
 
   places_laws : (xs : List (Option R.Denot)) (b o : ℕ) → ShrLaws (places_lent R xs b o)
   places_laws [] b o = nothing_shr_laws
-  places_laws (x ∷ xs) b o = beside_shr_laws (place_lent R x (block_ptr b o)) (places_lent R xs b (o + type_size R)) (place_laws x (block_ptr b o)) (places_laws xs b (o + type_size R))
+  places_laws (x ∷ xs) b o = beside_shr_laws (place_lent R x (block_ptr b o))
+      (places_lent R xs b (o + type_size R)) (place_laws x (block_ptr b o))
+      (places_laws xs b (o + type_size R))
 
   frame_laws : (n c b o : ℕ) → ShrLaws (frame_lent R n c b o)
   frame_laws n c b o =
       let small = feq Bool (fits_block R c) true in
-      beside_shr_laws (lent_at usize (block_ptr b o) c) (beside (lent_at usize (block_ptr b (o + 8)) n) (said small)) (word_laws (block_ptr b o) c)
-      (beside_shr_laws (lent_at usize (block_ptr b (o + 8)) n) (said small) (word_laws (block_ptr b (o + 8)) n) (said_shr_laws small tt))
+      beside_shr_laws (lent_at usize (block_ptr b o) c)
+      (beside (lent_at usize (block_ptr b (o + 8)) n) (said small))
+      (word_laws (block_ptr b o) c)
+      (beside_shr_laws (lent_at usize (block_ptr b (o + 8)) n) (said small)
+      (word_laws (block_ptr b (o + 8)) n) (said_shr_laws small tt))
 
-  block_laws : {D : Type 0} (p : Ptr) (n : ℕ) (xs : List (Option R.Denot)) (a : Option D) → ShrLaws (block_lent R p n xs a)
+  block_laws : {D : Type 0} (p : Ptr) (n : ℕ) (xs : List (Option R.Denot)) (a : Option D)
+      → ShrLaws (block_lent R p n xs a)
   block_laws null_ptr n xs a = said_shr_laws ffalse tt
-  block_laws (block_ptr b o) n xs None = beside_shr_laws (lent_at usize (block_ptr b o) 0) (lent_at usize (block_ptr b (o + 8)) 0) (word_laws (block_ptr b o) 0) (word_laws (block_ptr b (o + 8)) 0)
-  block_laws (block_ptr b o) n xs (Some a) = beside_shr_laws (frame_lent R n (length xs) b o) (places_lent R xs b (o + 16)) (frame_laws n (length xs) b o) (places_laws xs b (o + 16))
+  block_laws (block_ptr b o) n xs None = beside_shr_laws (lent_at usize (block_ptr b o) 0)
+      (lent_at usize (block_ptr b (o + 8)) 0) (word_laws (block_ptr b o) 0)
+      (word_laws (block_ptr b (o + 8)) 0)
+  block_laws (block_ptr b o) n xs (Some a) = beside_shr_laws (frame_lent R n (length xs) b o)
+      (places_lent R xs b (o + 16)) (frame_laws n (length xs) b o) (places_laws xs b (o + 16))
 
 module _ {M : Type 1} {𝓤 : Ura M} (𝓛 : Logic 𝓤) where
   open 𝓛 use {H, A}
@@ -66,46 +76,77 @@ module _ {M : Type 1} {𝓤 : Ura M} (𝓛 : Logic 𝓤) where
   Lends-kept t L l κ ts inc sp =
       let P : Fml = t [] in
       qed 𝓛 (‵ (fbor κ P) ∷ raw (lfts 𝓛 ts) ∷ []) {P = H.⇛ (sep 𝓤 (sem 𝓛 (t κ)) (lfts 𝓛 ts))} (
-      updating ! $ use2 𝓛 (later (‵ P ⊛ raw (wand 𝓤 (sem 𝓛 P) (H.⇛ (sep 𝓤 (A.bor κ P) (lfts 𝓛 ts)))))) (𝓛.more.bor_acc_by κ ts P sp) $ await ! tt $ split ! $
+      updating ! $ use2 𝓛
+      (later (‵ P ⊛ raw (wand 𝓤 (sem 𝓛 P) (H.⇛ (sep 𝓤 (A.bor κ P) (lfts 𝓛 ts))))))
+      (𝓛.more.bor_acc_by κ ts P sp) $ await ! tt $ split ! $
       use1 𝓛 (‵ P ⊛ ‵ P) (L.contraction M 𝓤 𝓛 []) $ split ! $ move ! (0 ∷ 2 ∷ []) $
-      use2 𝓛 (later (‵ (fbor κ P) ⊛ raw (lfts 𝓛 ts))) (apply∗ 𝓤 (sem 𝓛 P) (H.⇛ (sep 𝓤 (A.bor κ P) (lfts 𝓛 ts)))) $ await ! tt $ split ! $ drop ! $ move ! (1 ∷ []) $
-      nothing ! $ fpack ! (Incl κ []) (λ _. ftrue) (λ a m. absurd (not-mem-nil m)) $ fpack ! (List Lft) (λ νs. chain νs κ []) [] $ move ! (0 ∷ 1 ∷ []) $
+      use2 𝓛 (later (‵ (fbor κ P) ⊛ raw (lfts 𝓛 ts)))
+      (apply∗ 𝓤 (sem 𝓛 P) (H.⇛ (sep 𝓤 (A.bor κ P) (lfts 𝓛 ts)))) $ await ! tt $ split ! $
+      drop ! $ move ! (1 ∷ []) $
+      nothing ! $ fpack ! (Incl κ []) (λ _. ftrue) (λ a m. absurd (not-mem-nil m)) $
+      fpack ! (List Lft) (λ νs. chain νs κ []) [] $ move ! (0 ∷ 1 ∷ []) $
       use2 𝓛 (‵ (t κ)) (L.mono M 𝓤 𝓛 κ []) $ now ! $ done !)
 
   module _ (R : RattleType) (l : Lft) (s : Shares 𝓛 R l) where
     Lends-word : (p : Ptr) (n : ℕ) → Lends 𝓛 (lies_at usize full_share p n) (lent_at usize p n) l
     Lends-word p n = Lends-lies 𝓛 usize l p n ((uint_Copied 𝓛 w64).shares full_share l n)
 
-    Lends-place : (x : Option R.Denot) (b o : ℕ) → Lends 𝓛 (place R x b o) (place_lent R x (block_ptr b o)) l
+    Lends-place : (x : Option R.Denot) (b o : ℕ)
+        → Lends 𝓛 (place R x b o) (place_lent R x (block_ptr b o)) l
     Lends-place (Some x) b o = Lends-lies 𝓛 R l (block_ptr b o) x (s x)
     Lends-place None b o = Lends-nothing 𝓛 (place R None b o) l
 
-    Lends-places : (xs : List (Option R.Denot)) (b o : ℕ) → Lends 𝓛 (places R xs b o) (places_lent R xs b o) l
+    Lends-places : (xs : List (Option R.Denot)) (b o : ℕ) → Lends 𝓛 (places R xs b o)
+        (places_lent R xs b o) l
     Lends-places [] b o = Lends-nothing 𝓛 ftrue l
-    Lends-places (x ∷ xs) b o = Lends-both 𝓛 (place R x b o) (places R xs b (o + type_size R)) (place_lent R x (block_ptr b o)) (places_lent R xs b (o + type_size R)) l (Lends-place x b o) (Lends-places xs b (o + type_size R))
+    Lends-places (x ∷ xs) b o = Lends-both 𝓛 (place R x b o) (places R xs b (o + type_size R))
+        (place_lent R x (block_ptr b o)) (places_lent R xs b (o + type_size R)) l
+        (Lends-place x b o) (Lends-places xs b (o + type_size R))
 
-    Lends-frame : (t : Ty → Ptr → Fml) (n c b o : ℕ) → Lends 𝓛 (frame t R n c b o) (frame_lent R n c b o) l
+    Lends-frame : (t : Ty → Ptr → Fml) (n c b o : ℕ) → Lends 𝓛 (frame t R n c b o)
+        (frame_lent R n c b o) l
     Lends-frame t n c b o =
         let small = feq Bool (fits_block R c) true in
         let first = lies_at usize full_share (block_ptr b o) c in
         let second = lies_at usize full_share (block_ptr b (o + 8)) n in
-        Lends-both 𝓛 first (fsep second (fsep small (backing t R c b o))) (lent_at usize (block_ptr b o) c) (beside (lent_at usize (block_ptr b (o + 8)) n) (said small)) l (Lends-word (block_ptr b o) c)
-        (Lends-both 𝓛 second (fsep small (backing t R c b o)) (lent_at usize (block_ptr b (o + 8)) n) (said small) l (Lends-word (block_ptr b (o + 8)) n)
+        Lends-both 𝓛 first (fsep second (fsep small (backing t R c b o)))
+        (lent_at usize (block_ptr b o) c)
+        (beside (lent_at usize (block_ptr b (o + 8)) n) (said small)) l
+        (Lends-word (block_ptr b o) c)
+        (Lends-both 𝓛 second (fsep small (backing t R c b o))
+        (lent_at usize (block_ptr b (o + 8)) n) (said small) l
+        (Lends-word (block_ptr b (o + 8)) n)
         (Lends-first 𝓛 small (backing t R c b o) (said small) l (Lends-said 𝓛 small tt l)))
 
-    Lends-block : {D : Type 0} (t : D → Ty → Ptr → Fml) (p : Ptr) (n : ℕ) (xs : List (Option R.Denot)) (a : Option D) → Lends 𝓛 (block_owns t R p n xs a) (block_lent R p n xs a) l
+    Lends-block : {D : Type 0} (t : D → Ty → Ptr → Fml) (p : Ptr) (n : ℕ)
+        (xs : List (Option R.Denot)) (a : Option D) → Lends 𝓛 (block_owns t R p n xs a)
+        (block_lent R p n xs a) l
     Lends-block t null_ptr n xs a = Lends-false 𝓛 (said ffalse) l
     Lends-block t (block_ptr b o) n xs None =
         let first = lent_at usize (block_ptr b o) 0 in
         let second = lent_at usize (block_ptr b (o + 8)) 0 in
-        Lends-both 𝓛 (first []) (second []) first second l (Lends-kept first (word_laws (block_ptr b o) 0) l) (Lends-kept second (word_laws (block_ptr b (o + 8)) 0) l)
+        Lends-both 𝓛 (first []) (second []) first second l
+        (Lends-kept first (word_laws (block_ptr b o) 0) l)
+        (Lends-kept second (word_laws (block_ptr b (o + 8)) 0) l)
     Lends-block t (block_ptr b o) n xs (Some a) =
-        Lends-both 𝓛 (frame (t a) R n (length xs) b o) (places R xs b (o + 16)) (frame_lent R n (length xs) b o) (places_lent R xs b (o + 16)) l (Lends-frame (t a) n (length xs) b o) (Lends-places xs b (o + 16))
+        Lends-both 𝓛 (frame (t a) R n (length xs) b o) (places R xs b (o + 16))
+        (frame_lent R n (length xs) b o) (places_lent R xs b (o + 16)) l
+        (Lends-frame (t a) n (length xs) b o) (Lends-places xs b (o + 16))
 
 pub shares : (R Z : RattleType) (g : Ghosts Z.Denot) (L : Laws R) (K : Laws Z) → statement R Z g L K
-shares R Z g L K = of_Lends (C.struct R Z g) (C.the_codes R.Denot Z.Denot R.coded Z.coded (marker.the_row R).coded (marker.the_row Z).coded) (C.the_heap R Z g) (C.the_lent R Z g)
-    (λ d p. block_laws R L.shr_laws d.at d.len d.slots d.alloc)
-    (copy_shared RawPtr-field RawPtr-copy, (copy_shared (marker.the_field R) (field_copy (marker.the_type R) tt), (copy_shared (marker.the_field Z) (field_copy (marker.the_type Z) tt), tt)))
+shares R Z g L K =
+    of_Lends (C.struct R Z g) (C.the_codes R.Denot Z.Denot R.coded Z.coded (marker.the_row R).coded
+    (marker.the_row Z).coded) (C.the_heap R Z g) (C.the_lent R Z g)
+    (λ d p. block_laws R L.shr_laws d.at d.len d.slots d.alloc) (
+      copy_shared RawPtr-field RawPtr-copy,
+      (
+        copy_shared (marker.the_field R) (field_copy (marker.the_type R) tt),
+        (copy_shared (marker.the_field Z) (field_copy (marker.the_type Z) tt), tt),
+      ),
+    )
     (λ M 𝓤 𝓛 d p.
     let l = (C.the_row R Z g).lives in
-    Lends-block 𝓛 R l (Shares-less 𝓛 R R.lives l (Incl-trans (meet_⊑_left (R.lives ++ (Z.lives ++ [])) _) (meet_⊑_left R.lives (Z.lives ++ []))) (L.shares 𝓛)) g.dealloc_token d.at d.len d.slots d.alloc)
+    Lends-block 𝓛 R l (Shares-less 𝓛 R R.lives l
+    (Incl-trans (meet_⊑_left (R.lives ++ (Z.lives ++ [])) _)
+    (meet_⊑_left R.lives (Z.lives ++ []))) (L.shares 𝓛))
+    g.dealloc_token d.at d.len d.slots d.alloc)

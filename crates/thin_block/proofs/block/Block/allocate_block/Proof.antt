@@ -1,4 +1,5 @@
--- `allocate_block` asks for the room of a whole block, writes the two words of its header, and leaves the slots empty. Assumes `Logic`.
+-- `allocate_block` asks for the room of a whole block, writes the two words of its header, and
+-- leaves the slots empty. Assumes `Logic`.
 use Rattle.std.proofs.Common.{◌≡◌, ℕ, ◌+◌, ◌<◌, List, [], ◌∷◌, ◌++◌, length, replicate, Bool, true, refl, sym, ap, ◌∙◌, arith, lit<, w64, Some, None, Option}
 use mir.Syntax.{Ty, Fn, Body, ty_int}
 use mir.Val.{Val, WT, vint, vptr, vstruct, vcons, vnil}
@@ -57,13 +58,29 @@ allocate_block_spec 𝓤 𝓛 𝓜 𝓡 wired T A LT LA g d dd met md =
     let c = clauses T A g d dd 𝓛 𝓜.mem 𝓡.returns in
     let fn : Fn = inst_fn (args E Y) compiled.function in
     let ps = En₀.signature.params in
-    let hs : Stays ps En₀.kept =
-    (stay_dropped (slot_at 0 ps) En₀.kept.0, (stay_dropped (slot_at 1 ps) En₀.kept.1.0, (stay_dropped (slot_at 2 ps) En₀.kept.1.1.0, (stay_dropped (slot_at 3 ps) En₀.kept.1.1.1.0, tt)))) in
+    let hs : Stays ps En₀.kept = (
+      stay_dropped (slot_at 0 ps) En₀.kept.0,
+      (
+        stay_dropped (slot_at 1 ps) En₀.kept.1.0,
+        (
+          stay_dropped (slot_at 2 ps) En₀.kept.1.1.0,
+          (stay_dropped (slot_at 3 ps) En₀.kept.1.1.1.0, tt),
+        ),
+      ),
+    ) in
     let 𝓣 = tables 𝓤 H 𝓜 𝓡 𝓡.env in
     let C = 𝓣.C in
     let Λ = 𝓣.Λ in
-    proved_at 𝓛 En₀ hs c 𝓜 𝓡
-    (Goes-dropped 𝓛 3 (slot_at 0 ps) En₀.kept.0 (λ κs x f. refl), (Goes-dropped 𝓛 3 (slot_at 1 ps) En₀.kept.1.0 (λ κs x f. refl), (Goes-dropped 𝓛 3 (slot_at 2 ps) En₀.kept.1.1.0 (λ κs x f. refl), (Goes-dropped 𝓛 3 (slot_at 3 ps) En₀.kept.1.1.1.0 (λ κs x f. refl), tt))))
+    proved_at 𝓛 En₀ hs c 𝓜 𝓡 (
+      Goes-dropped 𝓛 3 (slot_at 0 ps) En₀.kept.0 (λ κs x f. refl),
+      (
+        Goes-dropped 𝓛 3 (slot_at 1 ps) En₀.kept.1.0 (λ κs x f. refl),
+        (
+          Goes-dropped 𝓛 3 (slot_at 2 ps) En₀.kept.1.1.0 (λ κs x f. refl),
+          (Goes-dropped 𝓛 3 (slot_at 3 ps) En₀.kept.1.1.1.0 (λ κs x f. refl), tt),
+        ),
+      ),
+    )
     (#self (args E Y)) fn (compiled.unfolded 𝓤 H 𝓜 𝓡 wired (T, (A, tt)) d dd) (λ z are.
     let Post : Val → SProp 𝓤 = (walk_of 𝓛 En₀ hs c).post z in
     let a = z.0.3 in
@@ -85,22 +102,42 @@ allocate_block_spec 𝓤 𝓛 𝓜 𝓡 wired T A LT LA g d dd met md =
     let Bytes : Type 0 = bytes ≡ size_of_block in
     let Align : Type 0 = al ≡ align_of_block in
     let y = at_takes Y 𝓛 𝓜.mem 𝓡.returns κ q at h bytes al τ in
-    qed 𝓛 (((‵ (flft κ q) ⊛ ‵ (flft z.0.0.1.0 z.0.1.1.0) ⊛ ‵ (flft z.0.0.1.1.0 z.0.1.1.1.0) ⊛ ‵ ftrue) ⊛ ‵ (owns (types_at ps z.0.0) a vss))
-    ∷ (raw (fact 𝓤 (z.0.0.1.0 ⊑ T.lives)) ⊛ raw (fact 𝓤 (z.0.0.1.1.0 ⊑ A.lives)) ⊛ raw (fact 𝓤 Any) ⊛ raw (fact 𝓤 Small) ⊛ raw (fact 𝓤 Bytes) ⊛ raw (fact 𝓤 Align)) ∷ []) ∵
-    move ! (1 ∷ []) $ split3 ! $ drop ! $ heard ! (z.0.0.1.1.0 ⊑ A.lives) (λ le. split3 ! $ heard ! Any (λ some. heard ! Small (λ small. split ! $ heard ! Bytes (λ bytes_are. heard ! Align (λ align_is.
+    qed 𝓛 (((‵ (flft κ q) ⊛ ‵ (flft z.0.0.1.0 z.0.1.1.0) ⊛ ‵ (flft z.0.0.1.1.0 z.0.1.1.1.0)
+    ⊛ ‵ ftrue) ⊛ ‵ (owns (types_at ps z.0.0) a vss))
+    ∷ (raw (fact 𝓤 (z.0.0.1.0 ⊑ T.lives)) ⊛ raw (fact 𝓤 (z.0.0.1.1.0 ⊑ A.lives)) ⊛ raw (fact 𝓤 Any)
+    ⊛ raw (fact 𝓤 Small) ⊛ raw (fact 𝓤 Bytes) ⊛ raw (fact 𝓤 Align)) ∷ []) ∵
+    move ! (1 ∷ []) $ split3 ! $ drop ! $ heard ! (z.0.0.1.1.0 ⊑ A.lives)
+    (λ le. split3 ! $ heard ! Any
+    (λ some. heard ! Small
+    (λ small. split ! $ heard ! Bytes (λ bytes_are. heard ! Align (λ align_is.
     split ! $ split ! $ move ! (2 ∷ []) $ fsplit ! $ fsplit ! $ drop ! $ keep ! (0 ∷ 2 ∷ 3 ∷ []) $
     -- [the handle's `&`; its token; the other tokens]
     let fits : fits_block Rt cap ≡ true = opened Rt cap small in
     let short = (fits_tells Rt cap fits).short in
     let sixteen = (rounded Rt 0).most in
-    let sized : capped (size τ) ≡ bytes = ap capped (whole_size Rt cap) ∙ capped_is size_of_block (omega arith) ∙ sym bytes_are in
-    let laid : capped (align τ) ≡ al = ap capped (whole_align Rt cap) ∙ capped_is align_of_block (omega arith) ∙ sym align_is in
-    regoal ! (λ (us : List Val). prop (WpFn 𝓤 H C Λ fn us Post)) (λ i. are.0.0 i ++ (are.1.0.0 i ++ (are.1.1.0.0 i ++ (are.1.1.1.0.0 i ++ [])))) refl $
+    let sized : capped (size τ) ≡ bytes = ap capped (whole_size Rt cap)
+    ∙ capped_is size_of_block (omega arith) ∙ sym bytes_are in
+    let laid : capped (align τ) ≡ al = ap capped (whole_align Rt cap)
+    ∙ capped_is align_of_block (omega arith) ∙ sym align_is in
+    regoal ! (λ (us : List Val). prop (WpFn 𝓤 H C Λ fn us Post))
+    (λ i. are.0.0 i ++ (are.1.0.0 i ++ (are.1.1.0.0 i ++ (are.1.1.1.0.0 i ++ [])))) refl $
     enter ! C Λ fn (vptr at.0 at.1 ∷ vint w64 cap ∷ vint w64 bytes ∷ vint w64 al ∷ []) Post $
-    alloc_all ! (λ l. pass_all ! refl ((tt, tt), ((tt, record { fits = are.1.0.1 }), ((tt, record { fits = are.1.1.0.1 }), ((tt, record { fits = are.1.1.1.0.1 }), tt)))) $ let En : Env 𝓤 𝓛.H = env fn.locals l in
-    use2 𝓛 (raw ((Takes Y 𝓛 𝓜.mem 𝓡.returns).pre y)) (Takes-goes Y 𝓛 𝓜.mem 𝓡.returns κ q at h (⊑_trans κ z.0.0.1.1.0 A.lives z.0.2.0 le) bytes al τ sized laid are.1.1.0.1 are.1.1.1.0.1) $
-    calls_at ! (fm 𝓛 𝓜 𝓡) (Takes Y 𝓛 𝓜.mem 𝓡.returns) (met.allocate dd) y (and_then ! (get ! refl) (and_then ! (get ! refl) (and_then ! (get ! refl) (no_more !)))) (λ v.
-    use1 𝓛 (later (raw (Answered Y 𝓛 𝓜.mem 𝓡.returns h τ v) ⊛ ‵ (flft κ q))) (Takes-gives Y 𝓛 𝓜.mem 𝓡.returns κ q at h bytes al τ v) $ await ! tt $ split ! $
+    alloc_all ! (λ l. pass_all ! refl (
+      (tt, tt),
+      (
+        (tt, record { fits = are.1.0.1 }),
+        ((tt, record { fits = are.1.1.0.1 }), ((tt, record { fits = are.1.1.1.0.1 }), tt)),
+      ),
+    ) $
+    let En : Env 𝓤 𝓛.H = env fn.locals l in
+    use2 𝓛 (raw ((Takes Y 𝓛 𝓜.mem 𝓡.returns).pre y))
+    (Takes-goes Y 𝓛 𝓜.mem 𝓡.returns κ q at h (⊑_trans κ z.0.0.1.1.0 A.lives z.0.2.0 le)
+    bytes al τ sized laid are.1.1.0.1 are.1.1.1.0.1) $
+    calls_at ! (fm 𝓛 𝓜 𝓡) (Takes Y 𝓛 𝓜.mem 𝓡.returns) (met.allocate dd) y
+    (and_then ! (get ! refl) (and_then ! (get ! refl) (and_then ! (get ! refl) (no_more !))))
+    (λ v.
+    use1 𝓛 (later (raw (Answered Y 𝓛 𝓜.mem 𝓡.returns h τ v) ⊛ ‵ (flft κ q)))
+    (Takes-gives Y 𝓛 𝓜.mem 𝓡.returns κ q at h bytes al τ v) $ await ! tt $ split ! $
     move ! (1 ∷ 2 ∷ []) $ join ! $ move ! (1 ∷ []) $
     let both : Body = head (after 1 fn.body) in
     let Then : After 𝓤 H = then_runs 𝓛 C Λ En (after 2 fn.body) (at_ret En Post) in
@@ -111,47 +148,79 @@ allocate_block_spec 𝓤 𝓛 𝓜 𝓡 wired T A LT LA g d dd met md =
     let none : List (Option T.Denot) = replicate cap None in
     let long : length none ≡ cap = length-replicate cap None in
     let x : B.Denot =
-    record { at = p; item = record {}; handle = record {}; slots = none; len = 0; alloc = Some h; cost = growing 0 no_cost; sound = (omega arith, any_some none (omega arith)) } in
+    record {
+      at = p;
+      item = record {};
+      handle = record {};
+      slots = none;
+      len = 0;
+      alloc = Some h;
+      cost = growing 0 no_cost;
+      sound = (omega arith, any_some none (omega arith));
+    } in
     lands_as ! e refl (tt, (record { fits = lit< tt }, (tt, tt))) $
-    first ! $ switches_on ! (get_tag ! (vrt ! refl (fld ! refl (stop !))) (whole !)) $ exec ! C Λ En (arm_body 0 both) Then $
-    sets ! (of_opd ! (get_in ! (vrt ! refl (fld ! refl (stop !))) (in_variant ! 0 0 refl refl (whole !)))) refl (tt, tt) $
+    first ! $ switches_on ! (get_tag ! (vrt ! refl (fld ! refl (stop !))) (whole !)) $
+    exec ! C Λ En (arm_body 0 both) Then $
+    sets ! (of_opd ! (get_in ! (vrt ! refl (fld ! refl (stop !)))
+    (in_variant ! 0 0 refl refl (whole !)))) refl (tt, tt) $
     sets ! (of_opd ! (get ! refl)) refl (tt, tt) $
-    use1 𝓛 (‵ (froom (ty_int w64) b o) ⊛ ‵ (froom (ty_int w64) b (o + 8)) ⊛ ‵ (froom (items Rt cap) b (o + 16)) ⊛ ‵ (fwand (parts Rt cap b o) (froom τ b o))) (carve 𝓛 Rt cap b o) $ split3 ! $ move ! (2 ∷ []) $ split ! $ move ! (2 ∷ 3 ∷ []) $
+    use1 𝓛 (‵ (froom (ty_int w64) b o) ⊛ ‵ (froom (ty_int w64) b (o + 8)) ⊛ ‵
+    (froom (items Rt cap) b (o + 16)) ⊛ ‵ (fwand (parts Rt cap b o) (froom τ b o)))
+    (carve 𝓛 Rt cap b o) $ split3 ! $ move ! (2 ∷ []) $ split ! $ move ! (2 ∷ 3 ∷ []) $
     -- [the two words; the items; the way back; the token; the lifetimes]
-    rewrite ! 1 (λ (k : ℕ). ‵ (froom (ty_int w64) b k)) (let turned : o + 8 ≡ 8 + o = omega arith in turned) refl $
+    rewrite ! 1 (λ (k : ℕ). ‵ (froom (ty_int w64) b k))
+    (let turned : o + 8 ≡ 8 + o = omega arith in turned) refl $
     first ! $ blocks ! $
-    assigns ! (of_opd ! (get ! refl)) (through ! refl (stop !)) (init ! 0 refl (tt, record { fits = are.1.0.1 })) $
+    assigns ! (of_opd ! (get ! refl)) (through ! refl (stop !))
+    (init ! 0 refl (tt, record { fits = are.1.0.1 })) $
     sets ! (bin ! (get ! refl) (lit ! tt) tt) refl (tt, tt) $
-    assigns_last ! (of_opd ! (lit ! tt)) (through ! refl (stop !)) (init ! 1 refl (tt, record { fits = lit< tt })) $
+    assigns_last ! (of_opd ! (lit ! tt)) (through ! refl (stop !))
+    (init ! 1 refl (tt, record { fits = lit< tt })) $
     exec ! C Λ En (after 3 (arm_body 0 both)) Then $
     sets ! (agg ! (no_more !)) refl (tt, tt) $
     sets ! (agg ! (no_more !)) refl (tt, tt) $
-    sets ! (agg ! (and_then ! (get ! refl) (and_then ! (get ! refl) (and_then ! (get ! refl) (no_more !))))) refl (tt, words) $
-    sets_last ! (agg ! (and_then ! (lit ! tt) (and_then ! (get ! refl) (no_more !)))) refl (tt, (record { fits = lit< tt }, (words, tt))) $
+    sets ! (agg ! (and_then ! (get ! refl)
+    (and_then ! (get ! refl) (and_then ! (get ! refl) (no_more !))))) refl (tt, words) $
+    sets_last ! (agg ! (and_then ! (lit ! tt) (and_then ! (get ! refl) (no_more !)))) refl
+    (tt, (record { fits = lit< tt }, (words, tt))) $
     exec ! C Λ En (after 2 fn.body) (at_ret En Post) $
     sets ! (of_opd ! (get ! refl)) refl (tt, (record { fits = lit< tt }, (words, tt))) $
     returns ! (look_at ! 0 refl) $ free_all ! refl $
-    rewrite ! 1 (λ (k : ℕ). ‵ (fat full_share (ty_int w64) b k (vint w64 0))) (let turned : 8 + o ≡ o + 8 = omega arith in turned) refl $
-    use1 𝓛 (‵ (lies_at usize full_share (block_ptr b o) cap)) (uint_in 𝓛 full_share w64 cap b o) $ move ! (1 ∷ []) $
-    use1 𝓛 (‵ (lies_at usize full_share (block_ptr b (o + 8)) 0)) (uint_in 𝓛 full_share w64 0 b (o + 8)) $ move ! (2 ∷ []) $
-    use1 𝓛 (‵ (places Rt none b (o + 16))) (of_raw E 𝓛 b cap (o + 16)) $ move ! (3 ∷ 4 ∷ []) $ fjoin ! $ feq_i ! Bool (fits_block Rt cap) true fits $ fjoin ! $
-    move ! (2 ∷ 0 ∷ []) $ fjoin ! $ move ! (2 ∷ 0 ∷ []) $ fjoin ! $ rewrite ! 0 (λ (k : ℕ). ‵ (frame (token Y h) Rt 0 k b o)) (sym long) refl $
+    rewrite ! 1 (λ (k : ℕ). ‵ (fat full_share (ty_int w64) b k (vint w64 0)))
+    (let turned : 8 + o ≡ o + 8 = omega arith in turned) refl $
+    use1 𝓛 (‵ (lies_at usize full_share (block_ptr b o) cap)) (uint_in 𝓛 full_share w64 cap b o) $
+    move ! (1 ∷ []) $
+    use1 𝓛 (‵ (lies_at usize full_share (block_ptr b (o + 8)) 0))
+    (uint_in 𝓛 full_share w64 0 b (o + 8)) $ move ! (2 ∷ []) $
+    use1 𝓛 (‵ (places Rt none b (o + 16))) (of_raw E 𝓛 b cap (o + 16)) $ move ! (3 ∷ 4 ∷ []) $
+    fjoin ! $ feq_i ! Bool (fits_block Rt cap) true fits $ fjoin ! $
+    move ! (2 ∷ 0 ∷ []) $ fjoin ! $ move ! (2 ∷ 0 ∷ []) $ fjoin ! $
+    rewrite ! 0 (λ (k : ℕ). ‵ (frame (token Y h) Rt 0 k b o)) (sym long) refl $
     block_made E Y ! x b o refl $
-    use1 𝓛 (‵ (Out.own_val (Ok x) (live 0 (vcons (block_val p) vnil) ∷ []))) (ok_of 𝓛 B AE.the_row x (block_val p)) $
-    nothing ! $ nothing ! $ fjoin ! $ nothing ! $ fjoin ! $ nothing ! $ fjoin ! $ nothing ! $ fjoin ! $ move ! (0 ∷ 1 ∷ []) $ join ! $ move ! (1 ∷ 0 ∷ []) $ join ! $
-    suffices ! _ (ends_at 𝓛 En₀ hs c z (live 0 (vcons (block_val p) vnil)) (Ok x) (tt, (tt, (tt, (tt, tt)))) (tt, (tt, (tt, (tt, tt))))) $
+    use1 𝓛 (‵ (Out.own_val (Ok x) (live 0 (vcons (block_val p) vnil) ∷ [])))
+    (ok_of 𝓛 B AE.the_row x (block_val p)) $
+    nothing ! $ nothing ! $ fjoin ! $ nothing ! $ fjoin ! $ nothing ! $ fjoin ! $ nothing ! $
+    fjoin ! $ move ! (0 ∷ 1 ∷ []) $ join ! $ move ! (1 ∷ 0 ∷ []) $ join ! $
+    suffices ! _ (ends_at 𝓛 En₀ hs c z (live 0 (vcons (block_val p) vnil)) (Ok x)
+    (tt, (tt, (tt, (tt, tt)))) (tt, (tt, (tt, (tt, tt))))) $
     says_all ! (_ ∷ _ ∷ _ ∷ _ ∷ []) (refl, (refl, (refl, refl))) $ done !)
     (λ e.
     let none : WT (live 1 (vcons (vstruct vnil) vnil)) = (record { fits = lit< tt }, (tt, tt)) in
     lands_as ! e refl (tt, (record { fits = lit< tt }, (tt, tt))) $
-    first ! $ switches_on ! (get_tag ! (vrt ! refl (fld ! refl (stop !))) (whole !)) $ exec ! C Λ En (arm_body 1 both) Then $
-    sets ! (of_opd ! (get_in ! (vrt ! refl (fld ! refl (stop !))) (in_variant ! 1 0 refl refl (whole !)))) refl (tt, tt) $
-    sets_last ! (agg ! (and_then ! (lit ! tt) (and_then ! (get ! refl) (no_more !)))) refl (tt, none) $
+    first ! $ switches_on ! (get_tag ! (vrt ! refl (fld ! refl (stop !))) (whole !)) $
+    exec ! C Λ En (arm_body 1 both) Then $
+    sets ! (of_opd ! (get_in ! (vrt ! refl (fld ! refl (stop !)))
+    (in_variant ! 1 0 refl refl (whole !)))) refl (tt, tt) $
+    sets_last ! (agg ! (and_then ! (lit ! tt) (and_then ! (get ! refl) (no_more !)))) refl
+    (tt, none) $
     exec ! C Λ En (after 2 fn.body) (at_ret En Post) $
     sets ! (of_opd ! (get ! refl)) refl (tt, none) $
     returns ! (look_at ! 0 refl) $ free_all ! refl $
     use0 𝓛 (‵ (AE.the_row.own_val (record {}) (vstruct vnil ∷ []))) (refused_made 𝓛) $
-    use1 𝓛 (‵ (Out.own_val (Err (record {})) (live 1 (vcons (vstruct vnil) vnil) ∷ []))) (err_of 𝓛 B AE.the_row (record {}) (vstruct vnil)) $
-    nothing ! $ nothing ! $ fjoin ! $ nothing ! $ fjoin ! $ nothing ! $ fjoin ! $ nothing ! $ fjoin ! $ move ! (0 ∷ 1 ∷ []) $ join ! $ move ! (1 ∷ 0 ∷ []) $ join ! $
-    suffices ! _ (ends_at 𝓛 En₀ hs c z (live 1 (vcons (vstruct vnil) vnil)) (Err (record {})) (tt, (tt, (tt, (tt, tt)))) (tt, (tt, (tt, (tt, tt))))) $
+    use1 𝓛 (‵ (Out.own_val (Err (record {})) (live 1 (vcons (vstruct vnil) vnil) ∷ [])))
+    (err_of 𝓛 B AE.the_row (record {}) (vstruct vnil)) $
+    nothing ! $ nothing ! $ fjoin ! $ nothing ! $ fjoin ! $ nothing ! $ fjoin ! $ nothing ! $
+    fjoin ! $ move ! (0 ∷ 1 ∷ []) $ join ! $ move ! (1 ∷ 0 ∷ []) $ join ! $
+    suffices ! _ (ends_at 𝓛 En₀ hs c z (live 1 (vcons (vstruct vnil) vnil)) (Err (record {}))
+    (tt, (tt, (tt, (tt, tt)))) (tt, (tt, (tt, (tt, tt))))) $
     says_all ! (_ ∷ _ ∷ _ ∷ _ ∷ []) (tt, (tt, (tt, tt))) $ done !)))))))))

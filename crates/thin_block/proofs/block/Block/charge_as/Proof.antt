@@ -37,9 +37,13 @@ charge_as_spec 𝓤 𝓛 𝓜 𝓡 wired T A LT LA g d dd met md =
     let ps = En₀.signature.params in
     let c = clauses T A g d dd 𝓛 𝓜.mem 𝓡.returns in
     let fn : Fn = inst_fn (args E Y) compiled.function in
-    let hs : Stays ps En₀.kept = (stay_ref (0 ∷ []) tt (plain (λ _. B)), (stay_dropped (slot_at 1 ps) En₀.kept.1.0, tt)) in
+    let hs : Stays ps En₀.kept =
+    (stay_ref (0 ∷ []) tt (plain (λ _. B)), (stay_dropped (slot_at 1 ps) En₀.kept.1.0, tt)) in
     let 𝓣 = tables 𝓤 H 𝓜 𝓡 𝓡.env in
-    proved_at 𝓛 En₀ hs c 𝓜 𝓡 (Goes-ref 𝓛 4 0 tt (plain (λ _. B)), (Goes-dropped 𝓛 4 (slot_at 1 ps) En₀.kept.1.0 (λ κs x f. refl), tt))
+    proved_at 𝓛 En₀ hs c 𝓜 𝓡 (
+      Goes-ref 𝓛 4 0 tt (plain (λ _. B)),
+      (Goes-dropped 𝓛 4 (slot_at 1 ps) En₀.kept.1.0 (λ κs x f. refl), tt),
+    )
     (#self (args E Y)) fn (compiled.unfolded 𝓤 H 𝓜 𝓡 wired (T, (A, tt)) d dd) (λ z are.
     let Post : Val → SProp 𝓤 = (walk_of 𝓛 En₀ hs c).post z in
     let a = z.0.3 in
@@ -52,10 +56,13 @@ charge_as_spec 𝓤 𝓛 𝓜 𝓡 wired T A LT LA g d dd met md =
     let from = a.1.0.now in
     let fb : ℕ = a.1.0.ref_ptr.0 in
     let fo : ℕ = a.1.0.ref_ptr.1 in
-    qed 𝓛 (((‵ (flft κ q) ⊛ ‵ (flft z.0.0.1.0 z.0.1.1.0) ⊛ ‵ (flft z.0.0.1.1.0 z.0.1.1.1.0) ⊛ ‵ (flft z.0.0.1.1.1.0 z.0.1.1.1.1.0) ⊛ ‵ ftrue) ⊛ ‵ (owns (types_at ps z.0.0) a vss))
-    ∷ (raw (fact 𝓤 (z.0.0.1.1.0 ⊑ T.lives)) ⊛ raw (fact 𝓤 (z.0.0.1.1.1.0 ⊑ A.lives)) ⊛ ‵ ftrue) ∷ []) ∵
+    qed 𝓛 (((‵ (flft κ q) ⊛ ‵ (flft z.0.0.1.0 z.0.1.1.0) ⊛ ‵ (flft z.0.0.1.1.0 z.0.1.1.1.0) ⊛ ‵
+    (flft z.0.0.1.1.1.0 z.0.1.1.1.1.0) ⊛ ‵ ftrue) ⊛ ‵ (owns (types_at ps z.0.0) a vss))
+    ∷ (raw (fact 𝓤 (z.0.0.1.1.0 ⊑ T.lives)) ⊛ raw
+    (fact 𝓤 (z.0.0.1.1.1.0 ⊑ A.lives)) ⊛ ‵ ftrue) ∷ []) ∵
     split ! $ split ! $ move ! (2 ∷ []) $ fsplit ! $ fsplit3 ! $ keep ! (1 ∷ 2 ∷ 4 ∷ 5 ∷ []) $
-    regoal ! (λ (us : List Val). prop (WpFn 𝓤 H 𝓣.C 𝓣.Λ fn us Post)) (λ k. are.0.0 k ++ (are.1.0.0 k ++ [])) refl $
+    regoal ! (λ (us : List Val). prop (WpFn 𝓤 H 𝓣.C 𝓣.Λ fn us Post))
+    (λ k. are.0.0 k ++ (are.1.0.0 k ++ [])) refl $
     enter ! 𝓣.C 𝓣.Λ fn (vptr rb ro ∷ vptr fb fo ∷ []) Post $
     alloc_all ! (λ l. pass_all ! refl ((tt, tt), ((tt, tt), tt)) $
     let En : Env 𝓤 H = env fn.locals l in
@@ -65,6 +72,9 @@ charge_as_spec 𝓤 𝓛 𝓜 𝓡 wired T A LT LA g d dd met md =
     block_closes E Y ! tt y b o rb ro at $
     -- [the `&mut`, in two entries; its token; the other tokens]
     returns ! (look_at ! 0 refl) $ free_all ! refl $
-    feq_i ! (List Val) vss.0 (vptr rb ro ∷ []) are.0.0 $ fjoin3 ! $ nothing ! $ nothing ! $ fjoin ! $ move ! (1 ∷ 0 ∷ []) $ fjoin ! $
-    feq_i ! (List Val) (vunit ∷ []) (vunit ∷ []) refl $ move ! (1 ∷ 0 ∷ []) $ join ! $ move ! (1 ∷ 2 ∷ []) $ join ! $ join ! $
-    suffices ! _ (ends_at 𝓛 En₀ hs c z vunit tt (y, (tt, tt)) (tt, (tt, tt))) $ says_all ! (_ ∷ _ ∷ _ ∷ _ ∷ []) (refl, (refl, (refl, refl))) $ done !)))
+    feq_i ! (List Val) vss.0 (vptr rb ro ∷ []) are.0.0 $ fjoin3 ! $ nothing ! $ nothing ! $
+    fjoin ! $ move ! (1 ∷ 0 ∷ []) $ fjoin ! $
+    feq_i ! (List Val) (vunit ∷ []) (vunit ∷ []) refl $ move ! (1 ∷ 0 ∷ []) $ join ! $
+    move ! (1 ∷ 2 ∷ []) $ join ! $ join ! $
+    suffices ! _ (ends_at 𝓛 En₀ hs c z vunit tt (y, (tt, tt)) (tt, (tt, tt))) $
+    says_all ! (_ ∷ _ ∷ _ ∷ _ ∷ []) (refl, (refl, (refl, refl))) $ done !)))

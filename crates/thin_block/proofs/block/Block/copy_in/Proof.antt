@@ -1,4 +1,5 @@
--- `copy_in` takes the room of a run of slots out of the row, has core's `Slots` copy the items there, and puts the filled run back. Assumes `Logic`.
+-- `copy_in` takes the room of a run of slots out of the row, has core's `Slots` copy the items
+-- there, and puts the filled run back. Assumes `Logic`.
 use Rattle.std.proofs.Common.{◌≡◌, ℕ, Some, None, false, ◌+◌, ◌*◌, ◌^◌, ◌<◌, ◌≤◌, List, ◌∷◌, [], ◌++◌, length, refl, sym, ap, subst, ◌∙◌, arith, w64}
 use lib.ListN.{length-map, length-replicate, replicate}
 use mir.Syntax.{Fn, Args, ty_array, a_type, dcons, dnil, named}
@@ -63,15 +64,27 @@ copy_in_spec 𝓤 𝓛 𝓜 𝓡 wired T A LT LA copies gc dc g d dd metc met md
     let Y : Al = record { row = A; laws = LA; g = g; d = d; drops = dd } in
     let V : vecs.El = record { row = T; laws = LT; al = Y } in
     let B : RattleType = block.the_row (copied 0 T) (param 1 A) g in
-    let args : Args = bounded (a_type ∷ a_type ∷ []) (T, (A, tt)) (dcons dc (dcons d (dcons dd dnil))) in
+    let args : Args = bounded (a_type ∷ a_type ∷ []) (T, (A, tt))
+    (dcons dc (dcons d (dcons dd dnil))) in
     let En₀ = ended T A gc dc g d dd in
     let ps = En₀.signature.params in
     let c = clauses T A gc dc g d dd 𝓛 𝓜.mem 𝓡.returns in
     let fn : Fn = inst_fn args compiled.function in
-    let hs : Stays ps En₀.kept = (stay_ref (0 ∷ []) tt (plain (λ _. B)), (stay_dropped (slot_at 1 ps) En₀.kept.1.0, (stay_dropped (slot_at 2 ps) En₀.kept.1.1.0, tt))) in
+    let hs : Stays ps En₀.kept = (
+      stay_ref (0 ∷ []) tt (plain (λ _. B)),
+      (
+        stay_dropped (slot_at 1 ps) En₀.kept.1.0,
+        (stay_dropped (slot_at 2 ps) En₀.kept.1.1.0, tt),
+      ),
+    ) in
     let 𝓣 = tables 𝓤 H 𝓜 𝓡 𝓡.env in
-    proved_at 𝓛 En₀ hs c 𝓜 𝓡
-    (Goes-ref 𝓛 4 0 tt (plain (λ _. B)), (Goes-dropped 𝓛 4 (slot_at 1 ps) En₀.kept.1.0 (λ κs x f. refl), (Goes-dropped 𝓛 4 (slot_at 2 ps) En₀.kept.1.1.0 (λ κs x f. refl), tt)))
+    proved_at 𝓛 En₀ hs c 𝓜 𝓡 (
+      Goes-ref 𝓛 4 0 tt (plain (λ _. B)),
+      (
+        Goes-dropped 𝓛 4 (slot_at 1 ps) En₀.kept.1.0 (λ κs x f. refl),
+        (Goes-dropped 𝓛 4 (slot_at 2 ps) En₀.kept.1.1.0 (λ κs x f. refl), tt),
+      ),
+    )
     (#self args) fn (compiled.unfolded 𝓤 H 𝓜 𝓡 wired (T, (A, tt)) dc d dd) (λ z are.
     let Post : Val → SProp 𝓤 = (walk_of 𝓛 En₀ hs c).post z in
     let a = z.0.3 in
@@ -92,81 +105,138 @@ copy_in_spec 𝓤 𝓛 𝓜 𝓡 wired T A LT LA copies gc dc g d dd metc met md
     let s : ℕ = sz E in
     let Within : Type 0 = i + n ≤ length x.slots in
     let Empty : Type 0 = (k : ℕ) → i ≤ k → k < i + n → slot x.slots k ≡ None in
-    qed 𝓛 (((‵ (flft κ q) ⊛ ‵ (flft κ₁ q₁) ⊛ ‵ (flft κ₂ q₂) ⊛ ‵ (flft z.0.0.1.1.1.0 z.0.1.1.1.1.0) ⊛ ‵ ftrue) ⊛ ‵ (owns (types_at ps z.0.0) a vss))
-    ∷ (raw (fact 𝓤 (κ₂ ⊑ T.lives)) ⊛ raw (fact 𝓤 (z.0.0.1.1.1.0 ⊑ A.lives)) ⊛ raw (fact 𝓤 Within) ⊛ raw (fact 𝓤 Empty)) ∷ []) ∵
-    move ! (1 ∷ []) $ split3 ! $ heard ! (κ₂ ⊑ T.lives) (λ lives. drop ! $ split ! $ heard ! Within (λ within. heard ! Empty (λ bare.
+    qed 𝓛 (((‵ (flft κ q) ⊛ ‵ (flft κ₁ q₁) ⊛ ‵ (flft κ₂ q₂) ⊛ ‵ (flft z.0.0.1.1.1.0 z.0.1.1.1.1.0)
+    ⊛ ‵ ftrue) ⊛ ‵ (owns (types_at ps z.0.0) a vss))
+    ∷ (raw (fact 𝓤 (κ₂ ⊑ T.lives)) ⊛ raw (fact 𝓤 (z.0.0.1.1.1.0 ⊑ A.lives)) ⊛ raw (fact 𝓤 Within)
+    ⊛ raw (fact 𝓤 Empty)) ∷ []) ∵
+    move ! (1 ∷ []) $ split3 ! $
+    heard ! (κ₂ ⊑ T.lives)
+    (λ lives. drop ! $ split ! $ heard ! Within (λ within. heard ! Empty (λ bare.
     let fi = are.1.0.1 in
     let roomy = are.1.1.0.0.1 in
     let fk : n < 2 ^ 64 = roomy.0 in
-    split ! $ split ! $ move ! (2 ∷ []) $ fsplit ! $ fsplit3 ! $ move ! (3 ∷ []) $ fsplit ! $ move ! (1 ∷ []) $ fsplit ! $ keep ! (4 ∷ 5 ∷ 6 ∷ 7 ∷ 0 ∷ []) $
-    rewrite ! 4 (λ (us : List Val). ‵ ((ShrSlice (named 1) κ₁ (copied 0 T)).own_val items us)) are.1.1.0.0.0 refl $
-    regoal ! (λ (us : List Val). prop (WpFn 𝓤 H 𝓣.C 𝓣.Λ fn us Post)) (λ k. are.0.0 k ++ (are.1.0.0 k ++ (are.1.1.0.0.0 k ++ []))) refl $
+    split ! $ split ! $ move ! (2 ∷ []) $ fsplit ! $ fsplit3 ! $ move ! (3 ∷ []) $ fsplit ! $
+    move ! (1 ∷ []) $ fsplit ! $ keep ! (4 ∷ 5 ∷ 6 ∷ 7 ∷ 0 ∷ []) $
+    rewrite ! 4 (λ (us : List Val). ‵ ((ShrSlice (named 1) κ₁ (copied 0 T)).own_val items us))
+    are.1.1.0.0.0 refl $
+    regoal ! (λ (us : List Val). prop (WpFn 𝓤 H 𝓣.C 𝓣.Λ fn us Post))
+    (λ k. are.0.0 k ++ (are.1.0.0 k ++ (are.1.1.0.0.0 k ++ []))) refl $
     enter ! 𝓣.C 𝓣.Λ fn (vptr rb ro ∷ vint w64 i ∷ slice_val items.ref_ptr n ∷ []) Post $
-    alloc_all ! (λ l. pass_all ! refl ((tt, tt), ((tt, record { fits = fi }), ((tt, (tt, (record { fits = fk }, tt))), tt))) $
+    alloc_all ! (λ l. pass_all ! refl
+    ((tt, tt), ((tt, record { fits = fi }), ((tt, (tt, (record { fits = fk }, tt))), tt))) $
     let En : Env 𝓤 H = env fn.locals l in
     block_opens E Y ! tt x rb ro (λ b o at fits.
-    -- [the header; the slots; the block's cell; the open borrow, in three entries; the other tokens; the slice]
+    -- [the header; the slots; the block's cell; the open borrow, in three entries; the other
+    -- tokens; the slice]
     let here : ℕ = i * s + (o + 16) in
     let near : i * s < 2 ^ 63 = reach (R E) i (length x.slots) fits (omega arith) in
     let fm : i * s < 2 ^ 64 = omega arith in
-    sets ! (of_opd ! (load ! (through ! refl (fld ! refl (stop !))) (look_in ! 2 (sub ! 0 refl (whole !))))) refl (tt, tt) $
+    sets ! (of_opd ! (load ! (through ! refl (fld ! refl (stop !)))
+    (look_in ! 2 (sub ! 0 refl (whole !))))) refl (tt, tt) $
     first ! $ blocks ! $
-    sets ! (is ! (bin ! (get ! refl) (lit ! tt) tt) (ap (vptr b) (let turned : 16 + o ≡ o + 16 = omega arith in turned))) refl (tt, tt) $
+    sets ! (is ! (bin ! (get ! refl) (lit ! tt) tt)
+    (ap (vptr b) (let turned : 16 + o ≡ o + 16 = omega arith in turned))) refl (tt, tt) $
     sets ! (of_opd ! (get ! refl)) refl (tt, tt) $
-    sets ! (is ! (bin ! (get ! refl) (size_word !) (record { fits = subst (λ (k : ℕ). k < 2 ^ 64) (sym (uncapped i s fm)) fm })) (ap (vint w64) (uncapped i s fm))) refl (tt, record { fits = fm }) $
+    sets ! (is ! (bin ! (get ! refl) (size_word !)
+    (record { fits = subst (λ (k : ℕ). k < 2 ^ 64) (sym (uncapped i s fm)) fm }))
+    (ap (vint w64) (uncapped i s fm))) refl (tt, record { fits = fm }) $
     sets ! (bin ! (get ! refl) (get ! refl) tt) refl (tt, tt) $
-    sets ! (of_opd ! (get_in ! (fld ! refl (stop !)) (sub ! 1 refl (whole !)))) refl (tt, record { fits = fk }) $
-    move ! (1 ∷ []) $ use1 𝓛 (‵ (places (R E) (empty n) b here) ⊛ ‵ (around E 𝓛 b (o + 16) x.slots i n)) (run_out E 𝓛 b (o + 16) x.slots i n within (empty n) (empty-run x.slots i n within bare)) $ split ! $
+    sets ! (of_opd ! (get_in ! (fld ! refl (stop !)) (sub ! 1 refl (whole !)))) refl
+    (tt, record { fits = fk }) $
+    move ! (1 ∷ []) $ use1 𝓛
+    (‵ (places (R E) (empty n) b here) ⊛ ‵ (around E 𝓛 b (o + 16) x.slots i n))
+    (run_out E 𝓛 b (o + 16) x.slots i n within (empty n) (empty-run x.slots i n within bare)) $
+    split ! $
     use1 𝓛 (‵ (froom (ty_array (layout T) n) b here)) (to_room E 𝓛 b n here) $
-    use1 𝓛 (‵ (all V b here xs (replicate n false))) (of_space E 𝓛 b here n xs refl) $ move ! (7 ∷ []) $ split3 ! $ move ! (3 ∷ 1 ∷ []) $
-    -- [the run; the token of T; the token of the items; the last token; the other slots; the header; the cell; the open borrow, in three entries; the slice]
+    use1 𝓛 (‵ (all V b here xs (replicate n false))) (of_space E 𝓛 b here n xs refl) $
+    move ! (7 ∷ []) $ split3 ! $ move ! (3 ∷ 1 ∷ []) $
+    -- [the run; the token of T; the token of the items; the last token; the other slots; the
+    -- header; the cell; the open borrow, in three entries; the slice]
     let y₁ = at_from V 𝓛 𝓜.mem 𝓡.returns κ₂ q₂ b here n xs (replicate n false) in
-    use2 𝓛 (raw ((From V 𝓛 𝓜.mem 𝓡.returns).pre y₁)) (from_goes V 𝓛 𝓜.mem 𝓡.returns κ₂ q₂ b here n xs (replicate n false) lives refl (sym (length-replicate n false)) fk roomy.1) $
-    calls_at ! (framed 𝓛 𝓜 𝓡) (From V 𝓛 𝓜.mem 𝓡.returns) (from_met.met 𝓤 𝓛 𝓜 𝓡 (compiled.calls-core::slots::Slots::from_raw_parts 𝓡.env wired) T LT) y₁ (and_then ! (get ! refl) (and_then ! (get ! refl) (no_more !))) (λ v₁.
-    use1 𝓛 (later (exists (λ (r : (Row V).Denot). given ((v₁ ≡ row_val b here n) × Made V 𝓛 𝓜.mem 𝓡.returns κ₂ q₂ b here n xs (replicate n false) r) (‵ ((Row V).own_val r (row_val b here n ∷ [])) ⊛ ‵ (flft κ₂ q₂)))))
-    (from_gives V 𝓛 𝓜.mem 𝓡.returns κ₂ q₂ b here n xs (replicate n false) v₁) $ await ! tt $ pick ! (λ r. learn ! (λ made. split ! $
+    use2 𝓛 (raw ((From V 𝓛 𝓜.mem 𝓡.returns).pre y₁))
+    (from_goes V 𝓛 𝓜.mem 𝓡.returns κ₂ q₂ b here n xs (replicate n false) lives refl
+    (sym (length-replicate n false)) fk roomy.1) $
+    calls_at ! (framed 𝓛 𝓜 𝓡) (From V 𝓛 𝓜.mem 𝓡.returns)
+    (from_met.met 𝓤 𝓛 𝓜 𝓡 (compiled.calls-core::slots::Slots::from_raw_parts 𝓡.env wired) T LT)
+    y₁ (and_then ! (get ! refl) (and_then ! (get ! refl) (no_more !))) (λ v₁.
+    use1 𝓛 (later (exists
+    (λ (r : (Row V).Denot). given
+    ((v₁ ≡ row_val b here n) × Made V 𝓛 𝓜.mem 𝓡.returns κ₂ q₂ b here n xs (replicate n false) r)
+    (‵ ((Row V).own_val r (row_val b here n ∷ [])) ⊛ ‵ (flft κ₂ q₂)))))
+    (from_gives V 𝓛 𝓜.mem 𝓡.returns κ₂ q₂ b here n xs (replicate n false) v₁) $ await ! tt $
+    pick ! (λ r. learn ! (λ made. split ! $
     let words : WT (row_val b here n) = (tt, (record { fits = fk }, tt)) in
     lands_as ! made.0 refl (tt, words) $
     sets ! (of_opd ! (get ! refl)) refl (tt, words) $
-    -- [the row; the token of T; the token of the items; the last token; the other slots; the header; the cell; the open borrow, in three entries; the slice]
+    -- [the row; the token of T; the token of the items; the last token; the other slots; the
+    -- header; the cell; the open borrow, in three entries; the slice]
     move ! (2 ∷ 1 ∷ []) $ join ! $ move ! (1 ∷ 9 ∷ 0 ∷ []) $
     let Cp = Copied V gc dc 𝓛 𝓜.mem 𝓡.returns in
-    let y₂ : Cp.Ghost = at_copied V gc dc 𝓛 𝓜.mem 𝓡.returns κ₁ κ₂ q₁ q₂ z.0.2.1.1.0 r b here n items in
-    use3 𝓛 (raw (Cp.pre y₂)) (Copied-goes V gc dc 𝓛 𝓜.mem 𝓡.returns κ₁ κ₂ q₁ q₂ z.0.2.1.1.0 r b here n items lives made.1.1) $
-    calls_at ! (framed 𝓛 𝓜 𝓡) Cp (copied_met.met 𝓤 𝓛 𝓜 𝓡 (compiled.calls-thin_block::slots::copied 𝓡.env wired) T LT copies gc dc metc) y₂ (and_then ! (get ! refl) (and_then ! (get ! refl) (no_more !))) (λ v₂.
-    use1 𝓛 (later (exists (λ (f : (Row V).Denot). given ((v₂ ≡ row_val b here (slots_len f)) × (slots_ptr f ≡ block_ptr b here) × IsCopy V gc dc 𝓛 𝓜.mem 𝓡.returns κ₁ κ₂ q₁ q₂ z.0.2.1.1.0 r b here n items f)
+    let y₂ : Cp.Ghost = at_copied V gc dc 𝓛 𝓜.mem 𝓡.returns κ₁ κ₂ q₁ q₂
+    z.0.2.1.1.0 r b here n items in
+    use3 𝓛 (raw (Cp.pre y₂))
+    (Copied-goes V gc dc 𝓛 𝓜.mem 𝓡.returns κ₁ κ₂ q₁ q₂ z.0.2.1.1.0 r b here n
+    items lives made.1.1) $
+    calls_at ! (framed 𝓛 𝓜 𝓡) Cp
+    (copied_met.met 𝓤 𝓛 𝓜 𝓡 (compiled.calls-thin_block::slots::copied 𝓡.env wired)
+    T LT copies gc dc metc) y₂ (and_then ! (get ! refl) (and_then ! (get ! refl) (no_more !)))
+    (λ v₂.
+    use1 𝓛 (later (exists
+    (λ (f : (Row V).Denot). given
+    ((v₂ ≡ row_val b here (slots_len f)) × (slots_ptr f ≡ block_ptr b here)
+    × IsCopy V gc dc 𝓛 𝓜.mem 𝓡.returns κ₁ κ₂ q₁ q₂ z.0.2.1.1.0 r b here n items f)
     (‵ ((Row V).own_val f (row_val b here (slots_len f) ∷ [])) ⊛ ‵ (flft κ₁ q₁) ⊛ ‵ (flft κ₂ q₂)))))
-    (Copied-gives V gc dc 𝓛 𝓜.mem 𝓡.returns κ₁ κ₂ q₁ q₂ z.0.2.1.1.0 r b here n items v₂ made.1.0) $ await ! tt $ pick ! (λ f. learn ! (λ is_copy. split3 ! $
+    (Copied-gives V gc dc 𝓛 𝓜.mem 𝓡.returns κ₁ κ₂ q₁ q₂ z.0.2.1.1.0 r b here n items v₂ made.1.0) $
+    await ! tt $ pick ! (λ f. learn ! (λ is_copy. split3 ! $
     let copy = is_copy.2 in
     let fz : slots_len f < 2 ^ 64 = slots_small f in
     lands_as ! is_copy.0 refl (tt, (tt, (record { fits = fz }, tt))) $
-    -- [the row; the token of the items; the token of T; the last token; the other slots; the header; the cell; the open borrow, in three entries]
+    -- [the row; the token of the items; the token of T; the last token; the other slots; the
+    -- header; the cell; the open borrow, in three entries]
     let y₃ = at_into V 𝓛 𝓜.mem 𝓡.returns κ₂ q₂ f b here in
     move ! (0 ∷ 2 ∷ []) $
-    use2 𝓛 (raw ((Into V 𝓛 𝓜.mem 𝓡.returns).pre y₃)) (Into-goes V 𝓛 𝓜.mem 𝓡.returns κ₂ q₂ f b here lives) $
-    calls_at_last ! (framed 𝓛 𝓜 𝓡) (Into V 𝓛 𝓜.mem 𝓡.returns) (into_met.met 𝓤 𝓛 𝓜 𝓡 (compiled.calls-core::slots::Slots::into_raw_parts 𝓡.env wired) T LT) y₃ (and_then ! (get ! refl) (no_more !)) (λ v₃.
-    use1 𝓛 (later (given (v₃ ≡ row_val b here (slots_len f)) (‵ (all V b here (slots_items f) (slots_filled f)) ⊛ ‵ (flft κ₂ q₂)))) (Into-gives V 𝓛 𝓜.mem 𝓡.returns κ₂ q₂ f b here v₃ is_copy.1) $ await ! tt $ learn ! (λ e₃. split ! $
+    use2 𝓛 (raw ((Into V 𝓛 𝓜.mem 𝓡.returns).pre y₃))
+    (Into-goes V 𝓛 𝓜.mem 𝓡.returns κ₂ q₂ f b here lives) $
+    calls_at_last ! (framed 𝓛 𝓜 𝓡) (Into V 𝓛 𝓜.mem 𝓡.returns)
+    (into_met.met 𝓤 𝓛 𝓜 𝓡 (compiled.calls-core::slots::Slots::into_raw_parts 𝓡.env wired) T LT)
+    y₃ (and_then ! (get ! refl) (no_more !)) (λ v₃.
+    use1 𝓛 (later (given (v₃ ≡ row_val b here (slots_len f))
+    (‵ (all V b here (slots_items f) (slots_filled f)) ⊛ ‵ (flft κ₂ q₂))))
+    (Into-gives V 𝓛 𝓜.mem 𝓡.returns κ₂ q₂ f b here v₃ is_copy.1) $ await ! tt $
+    learn ! (λ e₃. split ! $
     lands_last ! refl (parts_typed v₃ b here (slots_len f) e₃ fz) $
-    exec ! 𝓣.C 𝓣.Λ En (after 2 fn.body) (at_ret En Post) $ sets ! (of_opd ! (unit_lit !)) refl (tt, tt) $
-    -- [the run; the token of T; the token of the items; the last token; the other slots; the header; the cell; the open borrow, in three entries]
+    exec ! 𝓣.C 𝓣.Λ En (after 2 fn.body) (at_ret En Post) $
+    sets ! (of_opd ! (unit_lit !)) refl (tt, tt) $
+    -- [the run; the token of T; the token of the items; the last token; the other slots; the
+    -- header; the cell; the open borrow, in three entries]
     let many : slots_len f ≡ n = copy.same.count ∙ made.1.1 in
     let flags : length (slots_filled f) ≡ n = sym (slots_counts f).1 ∙ many in
-    let filled : Filled (slots_filled f) 0 n = subst (λ (k : ℕ). Filled (slots_filled f) 0 k) many copy.full in
+    let filled : Filled (slots_filled f) 0 n =
+    subst (λ (k : ℕ). Filled (slots_filled f) 0 k) many copy.full in
     rewrite ! 0 (λ (ys : List T.Denot). ‵ (all V b here ys (slots_filled f))) copy.items refl $
-    use1 𝓛 (‵ (part_at (Array (R E) n) full_share xs b here)) (to_values E 𝓛 b here n xs refl (slots_filled f) flags filled) $
+    use1 𝓛 (‵ (part_at (Array (R E) n) full_share xs b here))
+    (to_values E 𝓛 b here n xs refl (slots_filled f) flags filled) $
     let laid_in : List (Option T.Denot) = laid i (full xs) x.slots in
     let long_full : length (full xs) ≡ n = length-map xs Some in
     let long : length laid_in ≡ length x.slots = length-laid i (full xs) x.slots (omega arith) in
     let y : B.Denot = record (with_slots x laid_in long) { cost = moving n x.cost } in
     use1 𝓛 (‵ (places (R E) (full xs) b here)) (of_items E 𝓛 b n xs here) $ move ! (0 ∷ 4 ∷ []) $
-    use2 𝓛 (‵ (places (R E) laid_in b (o + 16))) (run_in E 𝓛 b (o + 16) x.slots i n within (full xs) long_full) $
-    -- [the slots; the token of T; the token of the items; the last token; the header; the cell; the open borrow, in three entries]
+    use2 𝓛 (‵ (places (R E) laid_in b (o + 16)))
+    (run_in E 𝓛 b (o + 16) x.slots i n within (full xs) long_full) $
+    -- [the slots; the token of T; the token of the items; the last token; the header; the cell; the
+    -- open borrow, in three entries]
     move ! (4 ∷ 0 ∷ 5 ∷ 6 ∷ 7 ∷ 8 ∷ []) $
     rewrite ! 0 (λ (k : ℕ). ‵ (header (t E Y) (R E) x.len k x.alloc b o)) (sym long) refl $
     block_closes E Y ! tt y b o rb ro at $
-    -- [the `&mut`, in two entries; its token; the token of T; the token of the items; the last token]
+    -- [the `&mut`, in two entries; its token; the token of T; the token of the items; the last
+    -- token]
     returns ! (look_at ! 0 refl) $ free_all ! refl $
-    feq_i ! (List Val) vss.0 (vptr rb ro ∷ []) are.0.0 $ fjoin3 ! $ nothing ! $ nothing ! $ fjoin ! $ nothing ! $ fjoin ! $ move ! (1 ∷ 0 ∷ []) $ fjoin ! $
-    -- [the parameters; the token of the `&mut`; the token of T; the token of the items; the last token]
-    feq_i ! (List Val) (vunit ∷ []) (vunit ∷ []) refl $ move ! (1 ∷ 0 ∷ []) $ join ! $ move ! (2 ∷ 4 ∷ []) $ join ! $ move ! (3 ∷ 0 ∷ []) $ join ! $ move ! (2 ∷ 0 ∷ []) $ join ! $ join ! $
-    suffices ! _ (ends_at 𝓛 En₀ hs c z vunit tt (y, (tt, (tt, tt))) (tt, (tt, (tt, tt)))) $ says_all ! (_ ∷ _ ∷ _ ∷ _ ∷ []) (refl, (refl, (refl, refl))) $ done !))))))))))))))
+    feq_i ! (List Val) vss.0 (vptr rb ro ∷ []) are.0.0 $ fjoin3 ! $ nothing ! $ nothing ! $
+    fjoin ! $ nothing ! $ fjoin ! $ move ! (1 ∷ 0 ∷ []) $ fjoin ! $
+    -- [the parameters; the token of the `&mut`; the token of T; the token of the items; the last
+    -- token]
+    feq_i ! (List Val) (vunit ∷ []) (vunit ∷ []) refl $ move ! (1 ∷ 0 ∷ []) $ join ! $
+    move ! (2 ∷ 4 ∷ []) $ join ! $ move ! (3 ∷ 0 ∷ []) $ join ! $
+    move ! (2 ∷ 0 ∷ []) $ join ! $ join ! $
+    suffices ! _ (ends_at 𝓛 En₀ hs c z vunit tt (y, (tt, (tt, tt))) (tt, (tt, (tt, tt)))) $
+    says_all ! (_ ∷ _ ∷ _ ∷ _ ∷ []) (refl, (refl, (refl, refl))) $ done !))))))))))))))

@@ -7,4 +7,6 @@ use Rattle.thin_block.proofs.block.Block.grow.Goals as goal
 pub returns-clause-slots : goal.returns-clause-slots
 returns-clause-slots g c =
     let larger = c.requires.larger in
-    on-ok c.remake.result (λ e. e ∙ packed-grown c.args.self.now.slots c.args.self.now.len c.requires.packed c.args.cap (omega arith)) c.remake.ensures.slots
+    on-ok c.remake.result
+    (λ e. e ∙ packed-grown c.args.self.now.slots c.args.self.now.len c.requires.packed
+    c.args.cap (omega arith)) c.remake.ensures.slots

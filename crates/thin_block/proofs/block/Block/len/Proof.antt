@@ -52,7 +52,8 @@ len_spec 𝓤 𝓛 𝓜 𝓡 wired T A LT LA g d dd met md =
     let rb : ℕ = a.0.ref_ptr.0 in
     let ro : ℕ = a.0.ref_ptr.1 in
     let n : ℕ = x.len in
-    qed 𝓛 (((‵ (flft κ q) ⊛ ‵ (flft z.0.0.1.0 z.0.1.1.0) ⊛ ‵ (flft z.0.0.1.1.0 z.0.1.1.1.0) ⊛ ‵ ftrue) ⊛ ‵ (owns (types_at ps z.0.0) a vss))
+    qed 𝓛 (((‵ (flft κ q) ⊛ ‵ (flft z.0.0.1.0 z.0.1.1.0) ⊛ ‵ (flft z.0.0.1.1.0 z.0.1.1.1.0)
+    ⊛ ‵ ftrue) ⊛ ‵ (owns (types_at ps z.0.0) a vss))
     ∷ (raw (fact 𝓤 (z.0.0.1.0 ⊑ T.lives)) ⊛ raw (fact 𝓤 (z.0.0.1.1.0 ⊑ A.lives)) ⊛ ‵ ftrue) ∷ []) ∵
     split ! $ split ! $ move ! (2 ∷ []) $ fsplit ! $ fsplit ! $ drop ! $
     block_seen E Y ! x rb ro (λ b o at small. keep ! (0 ∷ 5 ∷ 2 ∷ 6 ∷ []) $
@@ -62,17 +63,31 @@ len_spec 𝓤 𝓛 𝓜 𝓡 wired T A LT LA g d dd met md =
     alloc_all ! (λ l. pass_all ! refl ((tt, tt), tt) $
     let En : Env 𝓤 H = env fn.locals l in
     pointer_in ! tt x.at b o at rb (ro + 0) (λ q₀.
-    sets ! (of_opd ! (load ! (through ! refl (fld ! refl (stop !))) (look ! 0 refl))) refl (tt, tt) $
+    sets ! (of_opd ! (load ! (through ! refl (fld ! refl (stop !))) (look ! 0 refl))) refl (tt, tt)
+    $
     pointer_out ! tt x.at b o at rb (ro + 0) $ move ! (1 ∷ 0 ∷ []) $
     word_in ! tt n b (8 + o) (λ q₁ fits.
     first ! $ blocks ! $
     sets ! (bin ! (get ! refl) (lit ! tt) tt) refl (tt, tt) $
-    sets_last ! (of_opd ! (load ! (through ! refl (stop !)) (look ! 0 refl))) refl (tt, record { fits = fits }) $
+    sets_last ! (of_opd ! (load ! (through ! refl (stop !)) (look ! 0 refl))) refl
+    (tt, record { fits = fits }) $
     exec ! 𝓣.C 𝓣.Λ En (after 2 fn.body) (at_ret En Post) $
     word_out ! tt n b (8 + o) fits $
     sets ! (of_opd ! (get ! refl)) refl (tt, record { fits = fits }) $
     returns ! (look_at ! 0 refl) $ free_all ! refl $
-    flt_i ! n (2 ^ 64) fits $ feq_i ! (List Val) (vint w64 n ∷ []) (vint w64 n ∷ []) refl $ fjoin ! $
-    nothing ! $ nothing ! $ fjoin ! $ move ! (0 ∷ 1 ∷ []) $ join ! $ move ! (1 ∷ 2 ∷ []) $ join ! $ join ! $
-    suffices ! _ (ends_at 𝓛 En₀ hs c z (vint w64 n) n (tt, tt) (tt, tt)) $ says_all ! (_ ∷ _ ∷ _ ∷ _ ∷ [])
-    (refl, (x.sound.0, ((fits_tells (R E) (length x.slots) small).few, fits-less (R E) n (length x.slots) (closed (R E) (length x.slots) small) x.sound.0))) $ done !)))))
+    flt_i ! n (2 ^ 64) fits $ feq_i ! (List Val) (vint w64 n ∷ []) (vint w64 n ∷ []) refl $
+    fjoin ! $
+    nothing ! $ nothing ! $ fjoin ! $ move ! (0 ∷ 1 ∷ []) $ join ! $
+    move ! (1 ∷ 2 ∷ []) $ join ! $ join ! $
+    suffices ! _ (ends_at 𝓛 En₀ hs c z (vint w64 n) n (tt, tt) (tt, tt)) $
+    says_all ! (_ ∷ _ ∷ _ ∷ _ ∷ []) (
+      refl,
+      (
+        x.sound.0,
+        (
+          (fits_tells (R E) (length x.slots) small).few,
+          fits-less (R E) n (length x.slots)
+              (closed (R E) (length x.slots) small) x.sound.0,
+        ),
+      ),
+    ) $ done !)))))

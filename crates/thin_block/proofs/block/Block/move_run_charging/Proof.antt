@@ -1,4 +1,5 @@
--- `move_run_charging` takes a run of items out of one block's row and a run of room out of the other's, copies the one to the other, and puts both back. Assumes `Logic`.
+-- `move_run_charging` takes a run of items out of one block's row and a run of room out of the
+-- other's, copies the one to the other, and puts both back. Assumes `Logic`.
 use Rattle.std.proofs.Common.{◌≡◌, ℕ, Some, None, ◌+◌, ◌*◌, ◌^◌, ◌<◌, ◌≤◌, List, ◌∷◌, [], ◌++◌, length, refl, sym, ap, subst, ◌∙◌, arith, w64}
 use lib.Dec.{T as Holds}
 use lib.ListN.{length-map, length-replicate}
@@ -55,8 +56,19 @@ move_run_charging_spec 𝓤 𝓛 𝓜 𝓡 wired T A LT LA g d dd met md =
     let ps = En₀.signature.params in
     let c = clauses T A g d dd 𝓛 𝓜.mem 𝓡.returns in
     let fn : Fn = inst_fn (args E Y) compiled.function in
-    let hs : Stays ps En₀.kept =
-    (stay_ref (0 ∷ []) tt (plain (λ _. B)), (stay_dropped (slot_at 1 ps) En₀.kept.1.0, (stay_ref (1 ∷ []) tt (plain (λ _. B)), (stay_dropped (slot_at 3 ps) En₀.kept.1.1.1.0, (stay_dropped (slot_at 4 ps) En₀.kept.1.1.1.1.0, tt))))) in
+    let hs : Stays ps En₀.kept = (
+      stay_ref (0 ∷ []) tt (plain (λ _. B)),
+      (
+        stay_dropped (slot_at 1 ps) En₀.kept.1.0,
+        (
+          stay_ref (1 ∷ []) tt (plain (λ _. B)),
+          (
+            stay_dropped (slot_at 3 ps) En₀.kept.1.1.1.0,
+            (stay_dropped (slot_at 4 ps) En₀.kept.1.1.1.1.0, tt),
+          ),
+        ),
+      ),
+    ) in
     let 𝓣 = tables 𝓤 H 𝓜 𝓡 𝓡.env in
     proved_at 𝓛 En₀ hs c 𝓜 𝓡 (
       Goes-ref 𝓛 4 0 tt (plain (λ _. B)),
@@ -64,7 +76,10 @@ move_run_charging_spec 𝓤 𝓛 𝓜 𝓡 wired T A LT LA g d dd met md =
         Goes-dropped 𝓛 4 (slot_at 1 ps) En₀.kept.1.0 (λ κs x f. refl),
         (
           Goes-ref 𝓛 4 1 tt (plain (λ _. B)),
-          (Goes-dropped 𝓛 4 (slot_at 3 ps) En₀.kept.1.1.1.0 (λ κs x f. refl), (Goes-dropped 𝓛 4 (slot_at 4 ps) En₀.kept.1.1.1.1.0 (λ κs x f. refl), tt)),
+          (
+            Goes-dropped 𝓛 4 (slot_at 3 ps) En₀.kept.1.1.1.0 (λ κs x f. refl),
+            (Goes-dropped 𝓛 4 (slot_at 4 ps) En₀.kept.1.1.1.1.0 (λ κs x f. refl), tt),
+          ),
         ),
       ),
     )
@@ -95,24 +110,39 @@ move_run_charging_spec 𝓤 𝓛 𝓜 𝓡 wired T A LT LA g d dd met md =
     let Target : Type 0 = to + k ≤ length y.slots in
     let Filled : Type 0 = (i : ℕ) → from ≤ i → i < from + k → IsSome (slot x.slots i) in
     let Empty : Type 0 = (i : ℕ) → to ≤ i → i < to + k → slot y.slots i ≡ None in
-    qed 𝓛 (((‵ (flft κ₀ q₀) ⊛ ‵ (flft κ₁ q₁) ⊛ ‵ (flft κ₂ q₂) ⊛ ‵ (flft κ₃ q₃) ⊛ ‵ ftrue) ⊛ ‵ (owns (types_at ps z.0.0) a vss))
-    ∷ (raw (fact 𝓤 (κ₂ ⊑ T.lives)) ⊛ raw (fact 𝓤 (κ₃ ⊑ A.lives)) ⊛ raw (fact 𝓤 Source) ⊛ raw (fact 𝓤 Target) ⊛ raw (fact 𝓤 Filled) ⊛ raw (fact 𝓤 Empty)) ∷ []) ∵
+    qed 𝓛 (((‵ (flft κ₀ q₀) ⊛ ‵ (flft κ₁ q₁) ⊛ ‵ (flft κ₂ q₂) ⊛ ‵ (flft κ₃ q₃) ⊛ ‵ ftrue) ⊛ ‵
+    (owns (types_at ps z.0.0) a vss))
+    ∷ (raw (fact 𝓤 (κ₂ ⊑ T.lives)) ⊛ raw (fact 𝓤 (κ₃ ⊑ A.lives)) ⊛ raw (fact 𝓤 Source) ⊛ raw
+    (fact 𝓤 Target) ⊛ raw (fact 𝓤 Filled) ⊛ raw (fact 𝓤 Empty)) ∷ []) ∵
     move ! (1 ∷ []) $ split3 ! $ heard ! (κ₂ ⊑ T.lives) (λ lives. drop ! $ split3 ! $
-    heard ! Source (λ source. heard ! Target (λ target. split ! $ heard ! Filled (λ filled. heard ! Empty (λ bare.
+    heard ! Source (λ source. heard ! Target
+    (λ target. split ! $ heard ! Filled (λ filled. heard ! Empty (λ bare.
     let items = full-run x.slots from k source filled in
     let xs : List T.Denot = items.0 in
-    let long : length xs ≡ k = sym (length-map xs Some) ∙ ap length (sym items.1) ∙ length-run x.slots from k source in
+    let long : length xs ≡ k = sym (length-map xs Some) ∙ ap length (sym items.1)
+    ∙ length-run x.slots from k source in
     let ff = are.1.0.1 in
     let ft = are.1.1.1.0.1 in
     let fk = are.1.1.1.1.0.1 in
-    split ! $ split3 ! $ move ! (3 ∷ []) $ fsplit3 ! $ move ! (2 ∷ []) $ fsplit ! $ fsplit3 ! $ move ! (4 ∷ []) $ fsplit3 ! $ keep ! (1 ∷ 2 ∷ 8 ∷ 4 ∷ 5 ∷ 9 ∷ 10 ∷ []) $
-    regoal ! (λ (us : List Val). prop (WpFn 𝓤 H 𝓣.C 𝓣.Λ fn us Post)) (λ n. are.0.0 n ++ (are.1.0.0 n ++ (are.1.1.0.0 n ++ (are.1.1.1.0.0 n ++ (are.1.1.1.1.0.0 n ++ []))))) refl $
-    enter ! 𝓣.C 𝓣.Λ fn (vptr rb ro ∷ vint w64 from ∷ vptr sb so ∷ vint w64 to ∷ vint w64 k ∷ []) Post $
-    alloc_all ! (λ l. pass_all ! refl ((tt, tt), ((tt, record { fits = ff }), ((tt, tt), ((tt, record { fits = ft }), ((tt, record { fits = fk }), tt))))) $
+    split ! $ split3 ! $ move ! (3 ∷ []) $ fsplit3 ! $ move ! (2 ∷ []) $ fsplit ! $ fsplit3 ! $
+    move ! (4 ∷ []) $ fsplit3 ! $ keep ! (1 ∷ 2 ∷ 8 ∷ 4 ∷ 5 ∷ 9 ∷ 10 ∷ []) $
+    regoal ! (λ (us : List Val). prop (WpFn 𝓤 H 𝓣.C 𝓣.Λ fn us Post))
+    (λ n. are.0.0 n ++ (are.1.0.0 n
+    ++ (are.1.1.0.0 n ++ (are.1.1.1.0.0 n ++ (are.1.1.1.1.0.0 n ++ []))))) refl $
+    enter ! 𝓣.C 𝓣.Λ fn (vptr rb ro ∷ vint w64 from ∷ vptr sb so ∷ vint w64 to ∷ vint w64 k ∷ [])
+    Post $
+    alloc_all ! (λ l. pass_all ! refl (
+      (tt, tt),
+      (
+        (tt, record { fits = ff }),
+        ((tt, tt), ((tt, record { fits = ft }), ((tt, record { fits = fk }), tt))),
+      ),
+    ) $
     let En : Env 𝓤 H = env fn.locals l in
     block_opens E Y ! tt x rb ro (λ b o at fits. move ! (6 ∷ 7 ∷ 8 ∷ []) $
     block_opens E Y ! tt y sb so (λ b' o' at' fits'.
-    -- [the other's header; its slots; its cell; its open borrow, in three entries; self's header; slots; cell; borrow; the other tokens]
+    -- [the other's header; its slots; its cell; its open borrow, in three entries; self's header;
+    -- slots; cell; borrow; the other tokens]
     let src : ℕ = from * s + (o + 16) in
     let dst : ℕ = to * s + (o' + 16) in
     let near : from * s < 2 ^ 63 = reach (R E) from (length x.slots) fits (omega arith) in
@@ -120,52 +150,101 @@ move_run_charging_spec 𝓤 𝓛 𝓜 𝓡 wired T A LT LA g d dd met md =
     let light : k * s < 2 ^ 63 = reach (R E) k (length x.slots) fits (omega arith) in
     let fm : from * s < 2 ^ 64 = omega arith in
     let fm' : to * s < 2 ^ 64 = omega arith in
-    sets ! (of_opd ! (load ! (through ! refl (fld ! refl (stop !))) (look_in ! 8 (sub ! 0 refl (whole !))))) refl (tt, tt) $
-    sets ! (of_opd ! (load ! (through ! refl (fld ! refl (stop !))) (look_in ! 2 (sub ! 0 refl (whole !))))) refl (tt, tt) $
+    sets ! (of_opd ! (load ! (through ! refl (fld ! refl (stop !)))
+    (look_in ! 8 (sub ! 0 refl (whole !))))) refl (tt, tt) $
+    sets ! (of_opd ! (load ! (through ! refl (fld ! refl (stop !)))
+    (look_in ! 2 (sub ! 0 refl (whole !))))) refl (tt, tt) $
     first ! $ blocks ! $
-    sets ! (is ! (bin ! (get ! refl) (lit ! tt) tt) (ap (vptr b) (let turned : 16 + o ≡ o + 16 = omega arith in turned))) refl (tt, tt) $
+    sets ! (is ! (bin ! (get ! refl) (lit ! tt) tt)
+    (ap (vptr b) (let turned : 16 + o ≡ o + 16 = omega arith in turned))) refl (tt, tt) $
     sets ! (of_opd ! (get ! refl)) refl (tt, tt) $
-    sets ! (is ! (bin ! (get ! refl) (size_word !) (record { fits = subst (λ (k : ℕ). k < 2 ^ 64) (sym (uncapped from s fm)) fm })) (ap (vint w64) (uncapped from s fm))) refl (tt, record { fits = fm }) $
+    sets ! (is ! (bin ! (get ! refl) (size_word !)
+    (record { fits = subst (λ (k : ℕ). k < 2 ^ 64) (sym (uncapped from s fm)) fm }))
+    (ap (vint w64) (uncapped from s fm))) refl (tt, record { fits = fm }) $
     sets ! (bin ! (get ! refl) (get ! refl) tt) refl (tt, tt) $
-    sets ! (is ! (bin ! (get ! refl) (lit ! tt) tt) (ap (vptr b') (let turned : 16 + o' ≡ o' + 16 = omega arith in turned))) refl (tt, tt) $
+    sets ! (is ! (bin ! (get ! refl) (lit ! tt) tt)
+    (ap (vptr b') (let turned : 16 + o' ≡ o' + 16 = omega arith in turned))) refl (tt, tt) $
     sets ! (of_opd ! (get ! refl)) refl (tt, tt) $
-    sets ! (is ! (bin ! (get ! refl) (size_word !) (record { fits = subst (λ (k : ℕ). k < 2 ^ 64) (sym (uncapped to s fm')) fm' })) (ap (vint w64) (uncapped to s fm'))) refl (tt, record { fits = fm' }) $
+    sets ! (is ! (bin ! (get ! refl) (size_word !)
+    (record { fits = subst (λ (k : ℕ). k < 2 ^ 64) (sym (uncapped to s fm')) fm' }))
+    (ap (vint w64) (uncapped to s fm'))) refl (tt, record { fits = fm' }) $
     sets ! (bin ! (get ! refl) (get ! refl) tt) refl (tt, tt) $
-    move ! (1 ∷ []) $ use1 𝓛 (‵ (places (R E) (empty k) b' dst) ⊛ ‵ (around E 𝓛 b' (o' + 16) y.slots to k)) (run_out E 𝓛 b' (o' + 16) y.slots to k target (empty k) (empty-run y.slots to k target bare)) $ split ! $
+    move ! (1 ∷ []) $ use1 𝓛
+    (‵ (places (R E) (empty k) b' dst) ⊛ ‵ (around E 𝓛 b' (o' + 16) y.slots to k))
+    (run_out E 𝓛 b' (o' + 16) y.slots to k target (empty k)
+    (empty-run y.slots to k target bare)) $ split ! $
     use1 𝓛 (‵ (froom (ty_array (layout T) k) b' dst)) (to_room E 𝓛 b' k dst) $ move ! (8 ∷ []) $
-    use1 𝓛 (‵ (places (R E) (full xs) b src) ⊛ ‵ (around E 𝓛 b (o + 16) x.slots from k)) (run_out E 𝓛 b (o + 16) x.slots from k source (full xs) items.1) $ split ! $
-    use1 𝓛 (‵ (part_at (Array (R E) k) full_share xs b src)) (to_items E 𝓛 b k xs src long) $ move ! (0 ∷ 2 ∷ []) $ move ! (14 ∷ []) $ split ! $ move ! (2 ∷ 3 ∷ 0 ∷ []) $
-    -- [the items; the room; the token of T; the last token; the slots around each; the other's header, cell and borrow; self's]
+    use1 𝓛 (‵ (places (R E) (full xs) b src) ⊛ ‵ (around E 𝓛 b (o + 16) x.slots from k))
+    (run_out E 𝓛 b (o + 16) x.slots from k source (full xs) items.1) $ split ! $
+    use1 𝓛 (‵ (part_at (Array (R E) k) full_share xs b src)) (to_items E 𝓛 b k xs src long) $
+    move ! (0 ∷ 2 ∷ []) $ move ! (14 ∷ []) $ split ! $ move ! (2 ∷ 3 ∷ 0 ∷ []) $
+    -- [the items; the room; the token of T; the last token; the slots around each; the other's
+    -- header, cell and borrow; self's]
     let G = Copies T 𝓛 𝓜.mem 𝓡.returns in
     let y₀ : G.Ghost = at_copies T 𝓛 𝓜.mem 𝓡.returns κ₂ q₂ b src b' dst k xs in
-    use3 𝓛 (raw (G.pre y₀)) (Copies-goes T 𝓛 𝓜.mem 𝓡.returns κ₂ q₂ b src b' dst k xs lives fk light) $
-    calls_at_last ! (framed 𝓛 𝓜 𝓡) G (copy_met.met 𝓤 𝓛 𝓜 𝓡 (compiled.calls-core::ptr::copy_nonoverlapping 𝓡.env wired) T LT) y₀
+    use3 𝓛 (raw (G.pre y₀)) (Copies-goes T 𝓛 𝓜.mem 𝓡.returns κ₂ q₂ b src b' dst k xs lives fk light)
+    $
+    calls_at_last ! (framed 𝓛 𝓜 𝓡) G
+    (copy_met.met 𝓤 𝓛 𝓜 𝓡 (compiled.calls-core::ptr::copy_nonoverlapping 𝓡.env wired) T LT) y₀
     (and_then ! (get ! refl) (and_then ! (get ! refl) (and_then ! (get ! refl) (no_more !)))) (λ v.
-    use1 𝓛 (later (given (v ≡ vunit) (‵ (part_at (Array (R E) k) full_share xs b' dst) ⊛ ‵ (froom (ty_array (layout T) k) b src) ⊛ ‵ (flft κ₂ q₂))))
-    (Copies-gives T 𝓛 𝓜.mem 𝓡.returns κ₂ q₂ b src b' dst k xs v) $ await ! tt $ learn ! (λ e. split3 ! $
+    use1 𝓛 (later (given (v ≡ vunit)
+    (‵ (part_at (Array (R E) k) full_share xs b' dst) ⊛ ‵
+    (froom (ty_array (layout T) k) b src) ⊛ ‵ (flft κ₂ q₂))))
+    (Copies-gives T 𝓛 𝓜.mem 𝓡.returns κ₂ q₂ b src b' dst k xs v) $ await ! tt $
+    learn ! (λ e. split3 ! $
     lands_last ! refl (subst (λ (u : Val). Holds (has_ty ty_unit u) × WT u) (sym e) (tt, tt)) $
-    exec ! 𝓣.C 𝓣.Λ En (after 3 fn.body) (at_ret En Post) $ sets ! (of_opd ! (unit_lit !)) refl (tt, tt) $
-    -- [the items; the room; the token of T; the last token; the slots around each; the other's header, cell and borrow; self's]
+    exec ! 𝓣.C 𝓣.Λ En (after 3 fn.body) (at_ret En Post) $
+    sets ! (of_opd ! (unit_lit !)) refl (tt, tt) $
+    -- [the items; the room; the token of T; the last token; the slots around each; the other's
+    -- header, cell and borrow; self's]
     let laid_to : List (Option T.Denot) = laid to (full xs) y.slots in
     let long_full : length (full xs) ≡ k = length-map xs Some ∙ long in
-    let long_to : length laid_to ≡ length y.slots = length-laid to (full xs) y.slots (omega arith) in
+    let long_to : length laid_to ≡ length y.slots =
+    length-laid to (full xs) y.slots (omega arith) in
     let y' : B.Denot = record (with_slots y laid_to long_to) { cost = cost } in
     use1 𝓛 (‵ (places (R E) (full xs) b' dst)) (of_items E 𝓛 b' k xs dst) $ move ! (0 ∷ 5 ∷ []) $
-    use2 𝓛 (‵ (places (R E) laid_to b' (o' + 16))) (run_in E 𝓛 b' (o' + 16) y.slots to k target (full xs) long_full) $ move ! (5 ∷ 0 ∷ 6 ∷ 7 ∷ 8 ∷ 9 ∷ []) $
-    rewrite ! 0 (λ (n : ℕ). ‵ (header (t E Y) (R E) y.len n y.alloc b' o')) (sym long_to) refl $ block_closes E Y ! tt y' b' o' sb so at' $
-    -- [the other's `&mut`, in two entries; its token; the room; the token of T; the last token; the slots around it; self's header, cell and borrow]
+    use2 𝓛 (‵ (places (R E) laid_to b' (o' + 16)))
+    (run_in E 𝓛 b' (o' + 16) y.slots to k target (full xs) long_full) $
+    move ! (5 ∷ 0 ∷ 6 ∷ 7 ∷ 8 ∷ 9 ∷ []) $
+    rewrite ! 0 (λ (n : ℕ). ‵ (header (t E Y) (R E) y.len n y.alloc b' o')) (sym long_to) refl $
+    block_closes E Y ! tt y' b' o' sb so at' $
+    -- [the other's `&mut`, in two entries; its token; the room; the token of T; the last token; the
+    -- slots around it; self's header, cell and borrow]
     let left : List (Option T.Denot) = emptied from k x.slots in
     let long_empty : length (empty {T = T.Denot} k) ≡ k = length-replicate k None in
-    let long_left : length left ≡ length x.slots = length-laid from (empty k) x.slots (omega arith) in
+    let long_left : length left ≡ length x.slots =
+    length-laid from (empty k) x.slots (omega arith) in
     let x' : B.Denot = with_slots x left long_left in
     move ! (3 ∷ 6 ∷ []) $ use1 𝓛 (‵ (places (R E) (empty k) b src)) (of_room E 𝓛 b k src) $
-    use2 𝓛 (‵ (places (R E) left b (o + 16))) (run_in E 𝓛 b (o + 16) x.slots from k source (empty k) long_empty) $ move ! (6 ∷ 0 ∷ 7 ∷ 8 ∷ 9 ∷ 10 ∷ []) $
-    rewrite ! 0 (λ (n : ℕ). ‵ (header (t E Y) (R E) x.len n x.alloc b o)) (sym long_left) refl $ block_closes E Y ! tt x' b o rb ro at $
+    use2 𝓛 (‵ (places (R E) left b (o + 16)))
+    (run_in E 𝓛 b (o + 16) x.slots from k source (empty k) long_empty) $
+    move ! (6 ∷ 0 ∷ 7 ∷ 8 ∷ 9 ∷ 10 ∷ []) $
+    rewrite ! 0 (λ (n : ℕ). ‵ (header (t E Y) (R E) x.len n x.alloc b o)) (sym long_left) refl $
+    block_closes E Y ! tt x' b o rb ro at $
     -- [self's `&mut`, in two entries; its token; the other's; the token of T; the last token]
     returns ! (look_at ! 0 refl) $ free_all ! refl $
-    feq_i ! (List Val) vss.0 (vptr rb ro ∷ []) are.0.0 $ fjoin3 ! $ move ! (2 ∷ 3 ∷ []) $ feq_i ! (List Val) vss.1.1.0 (vptr sb so ∷ []) are.1.1.0.0 $ fjoin3 ! $
-    nothing ! $ nothing ! $ fjoin ! $ nothing ! $ fjoin ! $ move ! (1 ∷ 0 ∷ []) $ fjoin ! $ nothing ! $ fjoin ! $ move ! (1 ∷ 0 ∷ []) $ fjoin ! $
+    feq_i ! (List Val) vss.0 (vptr rb ro ∷ []) are.0.0 $ fjoin3 ! $ move ! (2 ∷ 3 ∷ []) $
+    feq_i ! (List Val) vss.1.1.0 (vptr sb so ∷ []) are.1.1.0.0 $ fjoin3 ! $
+    nothing ! $ nothing ! $ fjoin ! $ nothing ! $ fjoin ! $ move ! (1 ∷ 0 ∷ []) $ fjoin ! $
+    nothing ! $ fjoin ! $ move ! (1 ∷ 0 ∷ []) $ fjoin ! $
     feq_i ! (List Val) (vunit ∷ []) (vunit ∷ []) refl $ move ! (1 ∷ 0 ∷ []) $ join ! $
-    move ! (3 ∷ 4 ∷ []) $ join ! $ move ! (3 ∷ 0 ∷ []) $ join ! $ move ! (2 ∷ 0 ∷ []) $ join ! $ join ! $
-    suffices ! _ (ends_at 𝓛 En₀ hs c z vunit tt (x', (tt, (y', (tt, (tt, tt))))) (tt, (tt, (tt, (tt, (tt, tt)))))) $
-    says_all ! (_ ∷ _ ∷ _ ∷ _ ∷ _ ∷ _ ∷ _ ∷ _ ∷ []) (refl, (refl, (refl, (refl, (ap (λ (ys : List (Option T.Denot)). laid to ys y.slots) (sym items.1), (refl, (refl, refl))))))) $ done !)))))))))))
+    move ! (3 ∷ 4 ∷ []) $ join ! $ move ! (3 ∷ 0 ∷ []) $ join ! $
+    move ! (2 ∷ 0 ∷ []) $ join ! $ join ! $
+    suffices ! _ (ends_at 𝓛 En₀ hs c z vunit tt (x', (tt, (y', (tt, (tt, tt)))))
+    (tt, (tt, (tt, (tt, (tt, tt)))))) $
+    says_all ! (_ ∷ _ ∷ _ ∷ _ ∷ _ ∷ _ ∷ _ ∷ _ ∷ []) (
+      refl,
+      (
+        refl,
+        (
+          refl,
+          (
+            refl,
+            (
+              ap (λ (ys : List (Option T.Denot)). laid to ys y.slots) (sym items.1),
+              (refl, (refl, refl)),
+            ),
+          ),
+        ),
+      ),
+    ) $ done !)))))))))))

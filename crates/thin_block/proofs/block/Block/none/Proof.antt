@@ -43,33 +43,54 @@ none_spec 𝓤 𝓛 𝓜 𝓡 wired T A LT LA g d dd met md =
     let fn : Fn = inst_fn (args E Y) compiled.function in
     let hs : Stays En₀.signature.params En₀.kept = tt in
     let 𝓣 = tables 𝓤 H 𝓜 𝓡 𝓡.env in
-    proved_at 𝓛 En₀ hs c 𝓜 𝓡 tt (#self (args E Y)) fn (compiled.unfolded 𝓤 H 𝓜 𝓡 wired (T, (A, tt)) d dd) (λ z are.
+    proved_at 𝓛 En₀ hs c 𝓜 𝓡 tt (#self (args E Y)) fn
+    (compiled.unfolded 𝓤 H 𝓜 𝓡 wired (T, (A, tt)) d dd) (λ z are.
     let Post : Val → SProp 𝓤 = (walk_of 𝓛 En₀ hs c).post z in
     let a = z.0.3 in
     let vss = z.0.4 in
-    qed 𝓛 ((raw (alive 𝓛 En₀.signature z.0.0 z.0.1) ⊛ ‵ (owns (types_at En₀.signature.params z.0.0) a vss)) ∷ (raw (fact 𝓤 (z.0.0.0 ⊑ T.lives)) ⊛ raw (fact 𝓤 (z.0.0.1.0 ⊑ A.lives)) ⊛ ‵ ftrue) ∷ []) ∵
+    qed 𝓛 ((raw (alive 𝓛 En₀.signature z.0.0 z.0.1) ⊛ ‵
+    (owns (types_at En₀.signature.params z.0.0) a vss)) ∷ (raw (fact 𝓤 (z.0.0.0 ⊑ T.lives))
+    ⊛ raw (fact 𝓤 (z.0.0.1.0 ⊑ A.lives)) ⊛ ‵ ftrue) ∷ []) ∵
     split ! $ keep ! (0 ∷ []) $
     enter ! 𝓣.C 𝓣.Λ fn [] Post $
     alloc_all ! (λ l. pass_all ! refl tt $
-    statics ! (λ _. (tt, (record { fits = lit< tt }, (record { fits = lit< tt }, (tt, tt))))) (λ b s.
+    statics ! (λ _. (tt, (record { fits = lit< tt }, (record { fits = lit< tt }, (tt, tt)))))
+    (λ b s.
     lands_as ! refl refl (tt, tt) $
     sets ! (addr ! (through ! refl (stop !))) refl (tt, tt) $
     sets ! (agg ! (no_more !)) refl (tt, tt) $
     sets ! (agg ! (no_more !)) refl (tt, tt) $
-    sets ! (agg ! (and_then ! (get ! refl) (and_then ! (get ! refl) (and_then ! (get ! refl) (no_more !))))) refl (tt, (tt, (tt, (tt, tt)))) $
+    sets ! (agg ! (and_then ! (get ! refl)
+    (and_then ! (get ! refl) (and_then ! (get ! refl) (no_more !))))) refl
+    (tt, (tt, (tt, (tt, tt)))) $
     let word : Ty = ty_int w64 in
     let τs : Tys = tcons word (tcons word (tcons (ty_array (ty_int w128) 0) tnil)) in
     let vs : Vals = vcons (vint w64 0) (vcons (vint w64 0) (vcons (vstruct vnil) vnil)) in
-    use1 𝓛 ((‵ (fat s word b 0 (vint w64 0)) ⊛ ‵ (fat s word b 8 (vint w64 0)) ⊛ ‵ (fat s (ty_array (ty_int w128) 0) b 16 (vstruct vnil)) ⊛ ‵ ftrue) ⊛ raw (H.left s (ty_struct _ τs) τs b 0)) (𝓛.laws.struct_apart s _ τs b 0 vs) $ split ! $ split3 ! $
+    use1 𝓛 ((‵ (fat s word b 0 (vint w64 0)) ⊛ ‵ (fat s word b 8 (vint w64 0)) ⊛ ‵
+    (fat s (ty_array (ty_int w128) 0) b 16 (vstruct vnil)) ⊛ ‵ ftrue) ⊛ raw
+    (H.left s (ty_struct _ τs) τs b 0)) (𝓛.laws.struct_apart s _ τs b 0 vs) $ split ! $
+    split3 ! $
     use1 𝓛 (‵ (part_at usize s 0 b 0)) (uint_in 𝓛 s w64 0 b 0) $
-    use1 𝓛 (later (‵ (shared_of usize 0 b 0 []) ⊛ ‵ (flent [] (part_at usize s 0 b 0)))) ((uint_Copied 𝓛 w64).lends s 0 b 0 []) $ await ! tt $ split ! $
+    use1 𝓛 (later (‵ (shared_of usize 0 b 0 []) ⊛ ‵ (flent [] (part_at usize s 0 b 0))))
+    ((uint_Copied 𝓛 w64).lends s 0 b 0 []) $ await ! tt $ split ! $
     nothing ! $ fjoin ! $ move ! (2 ∷ []) $
     use1 𝓛 (‵ (part_at usize s 0 b 8)) (uint_in 𝓛 s w64 0 b 8) $
-    use1 𝓛 (later (‵ (shared_of usize 0 b 8 []) ⊛ ‵ (flent [] (part_at usize s 0 b 8)))) ((uint_Copied 𝓛 w64).lends s 0 b 8 []) $ await ! tt $ split ! $
+    use1 𝓛 (later (‵ (shared_of usize 0 b 8 []) ⊛ ‵ (flent [] (part_at usize s 0 b 8))))
+    ((uint_Copied 𝓛 w64).lends s 0 b 8 []) $ await ! tt $ split ! $
     nothing ! $ fjoin ! $ move ! (2 ∷ 0 ∷ []) $ fjoin ! $ move ! (0 ∷ 5 ∷ []) $
     let x : (Br E Y).Denot =
-    record { at = block_ptr b 0; item = record {}; handle = record {}; slots = []; len = 0; alloc = None; cost = no_cost; sound = (omega arith, refl) } in
+    record {
+      at = block_ptr b 0;
+      item = record {};
+      handle = record {};
+      slots = [];
+      len = 0;
+      alloc = None;
+      cost = no_cost;
+      sound = (omega arith, refl);
+    } in
     returns ! (look_at ! 0 refl) $ free_all ! refl $ keep ! (0 ∷ 1 ∷ []) $
     nothing ! $ move ! (1 ∷ 0 ∷ []) $ block_made E Y ! x b 0 refl $
     nothing ! $ move ! (0 ∷ 1 ∷ []) $ join ! $ move ! (1 ∷ 0 ∷ []) $ join ! $
-    suffices ! _ (ends_at 𝓛 En₀ hs c z (block_val (block_ptr b 0)) x tt tt) $ says_all ! (_ ∷ _ ∷ _ ∷ _ ∷ []) (refl, (refl, (refl, refl))) $ done !)))
+    suffices ! _ (ends_at 𝓛 En₀ hs c z (block_val (block_ptr b 0)) x tt tt) $
+    says_all ! (_ ∷ _ ∷ _ ∷ _ ∷ []) (refl, (refl, (refl, refl))) $ done !)))

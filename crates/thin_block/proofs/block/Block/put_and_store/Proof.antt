@@ -50,10 +50,27 @@ put_and_store_spec 𝓤 𝓛 𝓜 𝓡 wired T A LT LA g d dd met md =
     let ps = En₀.signature.params in
     let c = clauses T A g d dd 𝓛 𝓜.mem 𝓡.returns in
     let fn : Fn = inst_fn (args E Y) compiled.function in
-    let hs : Stays ps En₀.kept = (stay_ref (0 ∷ []) tt (plain (λ _. B)), (stay_dropped (slot_at 1 ps) En₀.kept.1.0, (stay_dropped (slot_at 2 ps) En₀.kept.1.1.0, (stay_dropped (slot_at 3 ps) En₀.kept.1.1.1.0, tt)))) in
+    let hs : Stays ps En₀.kept = (
+      stay_ref (0 ∷ []) tt (plain (λ _. B)),
+      (
+        stay_dropped (slot_at 1 ps) En₀.kept.1.0,
+        (
+          stay_dropped (slot_at 2 ps) En₀.kept.1.1.0,
+          (stay_dropped (slot_at 3 ps) En₀.kept.1.1.1.0, tt),
+        ),
+      ),
+    ) in
     let 𝓣 = tables 𝓤 H 𝓜 𝓡 𝓡.env in
-    proved_at 𝓛 En₀ hs c 𝓜 𝓡
-    (Goes-ref 𝓛 3 0 tt (plain (λ _. B)), (Goes-dropped 𝓛 3 (slot_at 1 ps) En₀.kept.1.0 (λ κs x f. refl), (Goes-dropped 𝓛 3 (slot_at 2 ps) En₀.kept.1.1.0 (λ κs x f. refl), (Goes-dropped 𝓛 3 (slot_at 3 ps) En₀.kept.1.1.1.0 (λ κs x f. refl), tt))))
+    proved_at 𝓛 En₀ hs c 𝓜 𝓡 (
+      Goes-ref 𝓛 3 0 tt (plain (λ _. B)),
+      (
+        Goes-dropped 𝓛 3 (slot_at 1 ps) En₀.kept.1.0 (λ κs x f. refl),
+        (
+          Goes-dropped 𝓛 3 (slot_at 2 ps) En₀.kept.1.1.0 (λ κs x f. refl),
+          (Goes-dropped 𝓛 3 (slot_at 3 ps) En₀.kept.1.1.1.0 (λ κs x f. refl), tt),
+        ),
+      ),
+    )
     (#self (args E Y)) fn (compiled.unfolded 𝓤 H 𝓜 𝓡 wired (T, (A, tt)) d dd) (λ z are.
     let Post : Val → SProp 𝓤 = (walk_of 𝓛 En₀ hs c).post z in
     let a = z.0.3 in
@@ -71,9 +88,12 @@ put_and_store_spec 𝓤 𝓛 𝓜 𝓡 wired T A LT LA g d dd met md =
     let Within : Type 0 = i < length x.slots in
     let Empty : Type 0 = get_or x.slots i None ≡ None in
     let Counted : Type 0 = n ≤ cap in
-    qed 𝓛 (((‵ (flft κ q) ⊛ ‵ (flft z.0.0.1.0 z.0.1.1.0) ⊛ ‵ (flft z.0.0.1.1.0 z.0.1.1.1.0) ⊛ ‵ ftrue) ⊛ ‵ (owns (types_at ps z.0.0) a vss))
-    ∷ (raw (fact 𝓤 (z.0.0.1.0 ⊑ T.lives)) ⊛ raw (fact 𝓤 (z.0.0.1.1.0 ⊑ A.lives)) ⊛ raw (fact 𝓤 Within) ⊛ raw (fact 𝓤 Empty) ⊛ raw (fact 𝓤 Counted)) ∷ []) ∵
-    move ! (1 ∷ []) $ split3 ! $ drop ! $ drop ! $ split3 ! $ heard ! Within (λ within. heard ! Empty (λ empty. heard ! Counted (λ counted.
+    qed 𝓛 (((‵ (flft κ q) ⊛ ‵ (flft z.0.0.1.0 z.0.1.1.0) ⊛ ‵ (flft z.0.0.1.1.0 z.0.1.1.1.0)
+    ⊛ ‵ ftrue) ⊛ ‵ (owns (types_at ps z.0.0) a vss))
+    ∷ (raw (fact 𝓤 (z.0.0.1.0 ⊑ T.lives)) ⊛ raw (fact 𝓤 (z.0.0.1.1.0 ⊑ A.lives)) ⊛ raw
+    (fact 𝓤 Within) ⊛ raw (fact 𝓤 Empty) ⊛ raw (fact 𝓤 Counted)) ∷ []) ∵
+    move ! (1 ∷ []) $ split3 ! $ drop ! $ drop ! $ split3 ! $
+    heard ! Within (λ within. heard ! Empty (λ empty. heard ! Counted (λ counted.
     let got = one E vss.1.1.0 ((lawful E 𝓛).typed value vss.1.1.0 are.1.1.0) in
     let v : Val = got.0 in
     let good = got.2 in
@@ -81,48 +101,77 @@ put_and_store_spec 𝓤 𝓛 𝓜 𝓡 wired T A LT LA g d dd met md =
     let fl = are.1.1.1.0.1 in
     let alloc = alloc_there x.alloc x.slots x.sound.1 (omega arith) in
     let h : A.Denot = alloc.0 in
-    split ! $ split ! $ move ! (2 ∷ []) $ fsplit ! $ fsplit3 ! $ move ! (3 ∷ []) $ fsplit ! $ move ! (1 ∷ []) $ fsplit ! $ keep ! (4 ∷ 5 ∷ 6 ∷ 7 ∷ 0 ∷ []) $
+    split ! $ split ! $ move ! (2 ∷ []) $ fsplit ! $ fsplit3 ! $ move ! (3 ∷ []) $ fsplit ! $
+    move ! (1 ∷ []) $ fsplit ! $ keep ! (4 ∷ 5 ∷ 6 ∷ 7 ∷ 0 ∷ []) $
     rewrite ! 4 (λ (us : List Val). ‵ (T.own_val value us)) got.1 refl $
-    regoal ! (λ (us : List Val). prop (WpFn 𝓤 H 𝓣.C 𝓣.Λ fn us Post)) (λ k. are.0.0 k ++ (are.1.0.0 k ++ (got.1 k ++ (are.1.1.1.0.0 k ++ [])))) refl $
+    regoal ! (λ (us : List Val). prop (WpFn 𝓤 H 𝓣.C 𝓣.Λ fn us Post))
+    (λ k. are.0.0 k ++ (are.1.0.0 k ++ (got.1 k ++ (are.1.1.1.0.0 k ++ [])))) refl $
     enter ! 𝓣.C 𝓣.Λ fn (vptr rb ro ∷ vint w64 i ∷ v ∷ vint w64 n ∷ []) Post $
-    alloc_all ! (λ l. pass_all ! refl ((tt, tt), ((tt, record { fits = fi }), (good, ((tt, record { fits = fl }), tt)))) $
+    alloc_all ! (λ l. pass_all ! refl
+    ((tt, tt), ((tt, record { fits = fi }), (good, ((tt, record { fits = fl }), tt)))) $
     let En : Env 𝓤 H = env fn.locals l in
     block_opens E Y ! tt x rb ro (λ b o at fits.
-    -- [the header; the slots; the block's cell; the open borrow, in three entries; the other tokens; what the item owns]
+    -- [the header; the slots; the block's cell; the open borrow, in three entries; the other
+    -- tokens; what the item owns]
     let here : ℕ = i * s + (o + 16) in
     let near : i * s < 2 ^ 63 = reach (R E) i (length x.slots) fits (omega arith) in
     let fm : i * s < 2 ^ 64 = omega arith in
-    sets ! (of_opd ! (load ! (through ! refl (fld ! refl (stop !))) (look_in ! 2 (sub ! 0 refl (whole !))))) refl (tt, tt) $
+    sets ! (of_opd ! (load ! (through ! refl (fld ! refl (stop !)))
+    (look_in ! 2 (sub ! 0 refl (whole !))))) refl (tt, tt) $
     first ! $ blocks ! $
-    sets ! (is ! (bin ! (get ! refl) (lit ! tt) tt) (ap (vptr b) (let turned : 16 + o ≡ o + 16 = omega arith in turned))) refl (tt, tt) $
+    sets ! (is ! (bin ! (get ! refl) (lit ! tt) tt)
+    (ap (vptr b) (let turned : 16 + o ≡ o + 16 = omega arith in turned))) refl (tt, tt) $
     sets ! (of_opd ! (get ! refl)) refl (tt, tt) $
-    sets ! (is ! (bin ! (get ! refl) (size_word !) (record { fits = subst (λ (k : ℕ). k < 2 ^ 64) (sym (uncapped i s fm)) fm })) (ap (vint w64) (uncapped i s fm))) refl (tt, record { fits = fm }) $
+    sets ! (is ! (bin ! (get ! refl) (size_word !)
+    (record { fits = subst (λ (k : ℕ). k < 2 ^ 64) (sym (uncapped i s fm)) fm }))
+    (ap (vint w64) (uncapped i s fm))) refl (tt, record { fits = fm }) $
     sets ! (bin ! (get ! refl) (get ! refl) tt) refl (tt, tt) $
-    move ! (1 ∷ []) $ use1 𝓛 (‵ (place (R E) (get_or x.slots i None) b here) ⊛ ‵ (besides E 𝓛 b (o + 16) x.slots i)) (slot_out E 𝓛 b (o + 16) x.slots i within) $ split ! $
-    rewrite ! 0 (λ (y : Option T.Denot). ‵ (place (R E) y b here)) empty refl $ use1 𝓛 (‵ (froom (layout T) b here)) (𝓛.laws.raw-room (layout T) b here) $
-    -- [the room; the other slots; the header; the cell; the open borrow, in three entries; the other tokens; what the item owns]
+    move ! (1 ∷ []) $ use1 𝓛
+    (‵ (place (R E) (get_or x.slots i None) b here) ⊛ ‵ (besides E 𝓛 b (o + 16) x.slots i))
+    (slot_out E 𝓛 b (o + 16) x.slots i within) $ split ! $
+    rewrite ! 0 (λ (y : Option T.Denot). ‵ (place (R E) y b here)) empty refl $
+    use1 𝓛 (‵ (froom (layout T) b here)) (𝓛.laws.raw-room (layout T) b here) $
+    -- [the room; the other slots; the header; the cell; the open borrow, in three entries; the
+    -- other tokens; what the item owns]
     sets ! (of_opd ! (get ! refl)) refl good $
     assigns ! (of_opd ! (get ! refl)) (through ! refl (stop !)) (init ! 0 refl good) $
     move ! (0 ∷ 8 ∷ []) $ use2 𝓛 (‵ (place (R E) (Some value) b here)) (el_in E 𝓛 b value here v) $
     let filled : List (Option T.Denot) = set x.slots i (Some value) in
     let long : length filled ≡ length x.slots = length-set x.slots i (Some value) in
-    use2 𝓛 (‵ (places (R E) filled b (o + 16))) (slot_in E 𝓛 b (o + 16) x.slots i within (Some value)) $ move ! (1 ∷ []) $
+    use2 𝓛 (‵ (places (R E) filled b (o + 16)))
+    (slot_in E 𝓛 b (o + 16) x.slots i within (Some value)) $ move ! (1 ∷ []) $
     rewrite ! 0 (λ (u : Option A.Denot). ‵ (header (t E Y) (R E) x.len cap u b o)) alloc.1 refl $
-    fsplit ! $ move ! (1 ∷ []) $ fsplit ! $ use1 𝓛 (‵ (fat full_share (ty_int w64) b (o + 8) (vint w64 x.len))) (uint_out 𝓛 full_share w64 x.len b (o + 8)) $
-    rewrite ! 0 (λ (k : ℕ). ‵ (fat full_share (ty_int w64) b k (vint w64 x.len))) (let turned : o + 8 ≡ 8 + o = omega arith in turned) refl $
-    -- [the length; the rest of the header; the capacity; the slots; the block's cell; the open borrow, in three entries; the other tokens]
+    fsplit ! $ move ! (1 ∷ []) $ fsplit ! $
+    use1 𝓛 (‵ (fat full_share (ty_int w64) b (o + 8) (vint w64 x.len)))
+    (uint_out 𝓛 full_share w64 x.len b (o + 8)) $
+    rewrite ! 0 (λ (k : ℕ). ‵ (fat full_share (ty_int w64) b k (vint w64 x.len)))
+    (let turned : o + 8 ≡ 8 + o = omega arith in turned) refl $
+    -- [the length; the rest of the header; the capacity; the slots; the block's cell; the open
+    -- borrow, in three entries; the other tokens]
     sets ! (bin ! (get ! refl) (lit ! tt) tt) refl (tt, tt) $
-    assigns_last ! (of_opd ! (get ! refl)) (through ! refl (stop !)) (store ! 0 refl (tt, record { fits = fl })) $
-    exec ! 𝓣.C 𝓣.Λ En (after 2 fn.body) (at_ret En Post) $ sets ! (of_opd ! (unit_lit !)) refl (tt, tt) $
-    rewrite ! 0 (λ (k : ℕ). ‵ (fat full_share (ty_int w64) b k (vint w64 n))) (let turned : 8 + o ≡ o + 8 = omega arith in turned) refl $
-    use1 𝓛 (‵ (lies_at usize full_share (block_ptr b (o + 8)) n)) (uint_in 𝓛 full_share w64 n b (o + 8)) $ fjoin ! $ move ! (1 ∷ 0 ∷ []) $ fjoin ! $
+    assigns_last ! (of_opd ! (get ! refl)) (through ! refl (stop !))
+    (store ! 0 refl (tt, record { fits = fl })) $
+    exec ! 𝓣.C 𝓣.Λ En (after 2 fn.body) (at_ret En Post) $
+    sets ! (of_opd ! (unit_lit !)) refl (tt, tt) $
+    rewrite ! 0 (λ (k : ℕ). ‵ (fat full_share (ty_int w64) b k (vint w64 n)))
+    (let turned : 8 + o ≡ o + 8 = omega arith in turned) refl $
+    use1 𝓛 (‵ (lies_at usize full_share (block_ptr b (o + 8)) n))
+    (uint_in 𝓛 full_share w64 n b (o + 8)) $ fjoin ! $ move ! (1 ∷ 0 ∷ []) $ fjoin ! $
     rewrite ! 0 (λ (u : Option A.Denot). ‵ (header (t E Y) (R E) n cap u b o)) (sym alloc.1) refl $
     let z₀ : B.Denot = with_slots x filled long in
-    let y : B.Denot = record z₀ { len = n; cost = moving 1 x.cost; sound = (subst (λ (k : ℕ). n ≤ k) (sym long) counted, z₀.sound.1) } in
+    let y : B.Denot = record z₀ {
+      len = n;
+      cost = moving 1 x.cost;
+      sound = (subst (λ (k : ℕ). n ≤ k) (sym long) counted, z₀.sound.1);
+    } in
     rewrite ! 0 (λ (k : ℕ). ‵ (header (t E Y) (R E) n k x.alloc b o)) (sym long) refl $
     block_closes E Y ! tt y b o rb ro at $
     -- [the `&mut`, in two entries; its token; the other tokens]
     returns ! (look_at ! 0 refl) $ free_all ! refl $
-    feq_i ! (List Val) vss.0 (vptr rb ro ∷ []) are.0.0 $ fjoin3 ! $ nothing ! $ nothing ! $ fjoin ! $ nothing ! $ fjoin ! $ nothing ! $ fjoin ! $ move ! (1 ∷ 0 ∷ []) $ fjoin ! $
-    feq_i ! (List Val) (vunit ∷ []) (vunit ∷ []) refl $ move ! (1 ∷ 0 ∷ []) $ join ! $ move ! (1 ∷ 2 ∷ []) $ join ! $ join ! $
-    suffices ! _ (ends_at 𝓛 En₀ hs c z vunit tt (y, (tt, (tt, (tt, tt)))) (tt, (tt, (tt, (tt, tt))))) $ says_all ! (_ ∷ _ ∷ _ ∷ _ ∷ []) (refl, (refl, (refl, refl))) $ done !))))))
+    feq_i ! (List Val) vss.0 (vptr rb ro ∷ []) are.0.0 $ fjoin3 ! $ nothing ! $ nothing ! $
+    fjoin ! $ nothing ! $ fjoin ! $ nothing ! $ fjoin ! $ move ! (1 ∷ 0 ∷ []) $ fjoin ! $
+    feq_i ! (List Val) (vunit ∷ []) (vunit ∷ []) refl $ move ! (1 ∷ 0 ∷ []) $ join ! $
+    move ! (1 ∷ 2 ∷ []) $ join ! $ join ! $
+    suffices ! _ (ends_at 𝓛 En₀ hs c z vunit tt (y, (tt, (tt, (tt, tt))))
+    (tt, (tt, (tt, (tt, tt))))) $ says_all ! (_ ∷ _ ∷ _ ∷ _ ∷ []) (refl, (refl, (refl, refl))) $
+    done !))))))

@@ -10,8 +10,10 @@ use Rattle.thin_block.proofs.block.Block.remake.Goals.{then-len-gt0, else-len-gt
 pub move_run_charging-requires : goal.move_run_charging-requires
 move_run_charging-requires g c κs within =
     let old = c.args.self.now.slots in
-    let bare : c.store_len.new.self.slots ≡ empty c.args.cap = c.store_len.ensures.slots ∙ c.in_ok-other.ensures.slots in
-    let long : length c.store_len.new.self.slots ≡ c.args.cap = ap length bare ∙ length-replicate c.args.cap None in
+    let bare : c.store_len.new.self.slots ≡ empty c.args.cap = c.store_len.ensures.slots
+    ∙ c.in_ok-other.ensures.slots in
+    let long : length c.store_len.new.self.slots ≡ c.args.cap = ap length bare
+    ∙ length-replicate c.args.cap None in
     let room = c.requires.room in
     let len = c.len-len.ensures.value in
     let le = packed-le old c.args.self.now.len c.requires.packed in (
@@ -22,7 +24,10 @@ move_run_charging-requires g c κs within =
           omega arith,
           (
             omega arith,
-            ((λ i p q. packed-filled old c.args.self.now.len c.requires.packed i (omega arith)), λ i p q. ap (λ (s : List (Option _)). slot s i) bare ∙ slot-empty c.args.cap i),
+            (
+              (λ i p q. packed-filled old c.args.self.now.len c.requires.packed i (omega arith)),
+              λ i p q. ap (λ (s : List (Option _)). slot s i) bare ∙ slot-empty c.args.cap i,
+            ),
           ),
         ),
       ),
@@ -34,8 +39,15 @@ release-requires-clause-empty g c =
     let old = c.args.self.now.slots in
     let gone : c.if-len-gt0.self.slots ≡ empty (length old) =
     elim c.if-len-gt0.branch [
-      | then-len-gt0 w ↦ ap (λ b. b.slots) w.self-is ∙ (w.move_run_charging.ensures.slots ∙ (ap (λ (k : ℕ). emptied 0 k old) c.len-len.ensures.value ∙ packed-emptied old c.args.self.now.len c.requires.packed))
-      | else-len-gt0 w ↦ ap (λ b. b.slots) w.self-is ∙ (let none : 0 ≡ c.args.self.now.len = omega (arith, w.if-len-gt0, c.len-len.ensures.value) in ap (λ (k : ℕ). emptied 0 k old) none ∙ packed-emptied old c.args.self.now.len c.requires.packed)
+      | then-len-gt0 w ↦ ap (λ b. b.slots) w.self-is
+          ∙ (w.move_run_charging.ensures.slots
+          ∙ (ap (λ (k : ℕ). emptied 0 k old) c.len-len.ensures.value
+          ∙ packed-emptied old c.args.self.now.len c.requires.packed))
+      | else-len-gt0 w ↦ ap (λ b. b.slots) w.self-is
+          ∙ (let none : 0 ≡ c.args.self.now.len = omega
+          (arith, w.if-len-gt0, c.len-len.ensures.value) in ap (λ (k : ℕ). emptied 0 k old) none
+          ∙ packed-emptied old c.args.self.now.len c.requires.packed)
     ] in
-    let left : c.replace-old.result.slots ≡ empty (length old) = (λ i. (c.replace-old.ensures.value i).slots) ∙ gone in
+    let left : c.replace-old.result.slots ≡ empty (length old) =
+    (λ i. (c.replace-old.ensures.value i).slots) ∙ gone in
     left ∙ ap (λ (k : ℕ). empty k) (sym (ap length left ∙ length-replicate (length old) None))

@@ -16,4 +16,6 @@ remake-requires-clause-fits g c =
 pub returns-clause-slots : goal.returns-clause-slots
 returns-clause-slots g c =
     let smaller = c.requires.smaller in
-    on-ok c.remake.result (λ e. e ∙ packed-shrunk c.args.self.now.slots c.args.self.now.len c.requires.packed c.args.cap c.requires.room (omega arith)) c.remake.ensures.slots
+    on-ok c.remake.result
+    (λ e. e ∙ packed-shrunk c.args.self.now.slots c.args.self.now.len c.requires.packed
+    c.args.cap c.requires.room (omega arith)) c.remake.ensures.slots

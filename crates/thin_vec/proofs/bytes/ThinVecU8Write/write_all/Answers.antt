@@ -7,8 +7,10 @@ use Rattle.thin_vec.proofs.bytes.ThinVecU8Write.write_all.Goals as goal
 -- the bytes' type as `reserve` sees it has the same size and alignment
 pub returns-clause-capacity : goal.returns-clause-capacity
 returns-clause-capacity g c =
-    ruled-at u8 _ c.args.self.now.capacity (length c.args.self.now.items + length c.args.buf.now) refl refl g.G.Growth.rule
-    ∙ (c.in-Ok.ensures.capacity ∙ ap (λ n. Some n) (sym c.extend_from_copies_reserved.ensures.capacity))
+    ruled-at u8 _ c.args.self.now.capacity (length c.args.self.now.items + length c.args.buf.now)
+    refl refl g.G.Growth.rule
+    ∙ (c.in-Ok.ensures.capacity
+    ∙ ap (λ n. Some n) (sym c.extend_from_copies_reserved.ensures.capacity))
 
 pub returns-clause-overflow : goal.returns-clause-overflow
 returns-clause-overflow g c = λ none. none-some none (returns-clause-capacity g c)

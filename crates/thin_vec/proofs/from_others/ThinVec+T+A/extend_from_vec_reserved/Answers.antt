@@ -2,11 +2,15 @@ use Rattle.std.proofs.Common.{◌∙◌, ap, arith, length}
 use Rattle.thin_vec.proofs.ListLemmas.{Settled, from-same, settled}
 use Rattle.thin_vec.proofs.from_others.ThinVec+T+A.extend_from_vec_reserved.Goals as goal
 
-facts : (g : _) (c : goal.After-destroy_empty g) → Settled c.set_len.new.self c.self.inside.alloc c.args.items.items (length c.self.inside.block.slots)
+facts : (g : _) (c : goal.After-destroy_empty g) → Settled c.set_len.new.self c.self.inside.alloc
+    c.args.items.items (length c.self.inside.block.slots)
 facts g c =
-    settled c.set_len.new.self c.self.inside.alloc c.args.items.items (length c.self.inside.block.slots) (c.set_len.ensures.slots ∙ c.put_vec.ensures.slots)
-    (c.set_len.ensures.len ∙ (c.len-len.ensures ∙ c.args.items.ok.0)) (omega (arith, c.requires.room, ap (λ v. v.capacity) c.self.view_is))
-    (from-same c.self.inside.block c.set_len.new.self c.self.inside.alloc c.self.invariant.from (c.set_len.ensures.alloc ∙ c.put_vec.ensures.alloc))
+    settled c.set_len.new.self c.self.inside.alloc c.args.items.items
+    (length c.self.inside.block.slots) (c.set_len.ensures.slots ∙ c.put_vec.ensures.slots)
+    (c.set_len.ensures.len ∙ (c.len-len.ensures ∙ c.args.items.ok.0))
+    (omega (arith, c.requires.room, ap (λ v. v.capacity) c.self.view_is))
+    (from-same c.self.inside.block c.set_len.new.self c.self.inside.alloc c.self.invariant.from
+    (c.set_len.ensures.alloc ∙ c.put_vec.ensures.alloc))
 
 pub invariant_of-self : goal.invariant_of-self
 invariant_of-self g c = (facts g c).thin

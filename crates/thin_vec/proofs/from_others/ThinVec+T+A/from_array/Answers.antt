@@ -4,15 +4,26 @@ use Rattle.thin_vec.proofs.TwoListsLemmas.{settle-more}
 use Rattle.thin_vec.proofs.ListLemmas.{Settled}
 use Rattle.thin_vec.proofs.from_others.ThinVec+T+A.from_array.Goals as goal
 
-facts : (g : _) (c : goal.After-set_len g) → Settled c.set_len.new.self c.list.inside.alloc (items_in c.list.inside.block.slots ++ c.args.items) (length c.list.inside.block.slots)
+facts : (g : _) (c : goal.After-set_len g) → Settled c.set_len.new.self c.list.inside.alloc
+    (items_in c.list.inside.block.slots ++ c.args.items) (length c.list.inside.block.slots)
 facts g c =
     let none = ap length (ap (λ v. v.items) c.list.view_is ∙ c.in-Ok.ensures.items) in
-    settle-more c.list.inside.block c.set_len.new.self c.list.inside.alloc c.args.items 0 c.list.invariant (sym (c.list.invariant.packed.len ∙ none))
-    (omega (arith, c.count-len.ensures.value, c.count-len.ensures.length, c.in-Ok.ensures.capacity, ap (λ v. v.capacity) c.list.view_is))
-    (c.set_len.ensures.slots ∙ c.put_array.ensures.slots) (omega (arith, c.set_len.ensures.len, c.count-len.ensures.length)) (c.set_len.ensures.alloc ∙ c.put_array.ensures.alloc)
+    settle-more c.list.inside.block c.set_len.new.self c.list.inside.alloc c.args.items 0
+    c.list.invariant (sym (c.list.invariant.packed.len ∙ none))
+    (omega (
+      arith,
+      c.count-len.ensures.value,
+      c.count-len.ensures.length,
+      c.in-Ok.ensures.capacity,
+      ap (λ v. v.capacity) c.list.view_is,
+    ))
+    (c.set_len.ensures.slots ∙ c.put_array.ensures.slots)
+    (omega (arith, c.set_len.ensures.len, c.count-len.ensures.length))
+    (c.set_len.ensures.alloc ∙ c.put_array.ensures.alloc)
 
 pub invariant_of-list : goal.invariant_of-list
 invariant_of-list g c = (facts g c).thin
 
 pub returns-in-Ok-clause-items : goal.returns-in-Ok-clause-items
-returns-in-Ok-clause-items g c = (facts g c).items ∙ ap (λ xs. xs ++ c.args.items) (ap (λ v. v.items) c.list.view_is ∙ c.in-Ok.ensures.items)
+returns-in-Ok-clause-items g c = (facts g c).items ∙ ap (λ xs. xs ++ c.args.items)
+    (ap (λ v. v.items) c.list.view_is ∙ c.in-Ok.ensures.items)

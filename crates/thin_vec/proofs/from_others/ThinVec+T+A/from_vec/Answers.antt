@@ -5,4 +5,6 @@ use Rattle.thin_block.proofs.Outcomes.{err-same}
 use Rattle.thin_vec.proofs.from_others.ThinVec+T+A.from_vec.Goals as goal
 
 pub returns-in-Err-clause-overflow : goal.returns-in-Err-clause-overflow
-returns-in-Err-clause-overflow g c = λ none. err-same (c.in-Err.ensures.overflow (ap (λ n. exact_capacity (param 0 g.row.T) 0 n) (c.len.ensures ∙ c.args.items.ok.0) ∙ none))
+returns-in-Err-clause-overflow g c =
+    λ none. err-same (c.in-Err.ensures.overflow
+    (ap (λ n. exact_capacity (param 0 g.row.T) 0 n) (c.len.ensures ∙ c.args.items.ok.0) ∙ none))

@@ -9,20 +9,33 @@ use Rattle.thin_vec.proofs.indexing.ThinVecIndexMutUsize.index_mut.Goals as goal
 
 pub slot_mut-requires : goal.slot_mut-requires
 slot_mut-requires g c =
-    let within : c.args.index < length (items_in c.self.inside.block.slots) = omega (arith, c.requires, ap (λ v. length v.items) c.self.view_is) in
-    record { filled = thin-filled c.self.inside.block c.self.inside.alloc c.args.index c.self.invariant within }
+    let within : c.args.index < length (items_in c.self.inside.block.slots) =
+    omega (arith, c.requires, ap (λ v. length v.items) c.self.view_is) in
+    record {
+      filled = thin-filled c.self.inside.block c.self.inside.alloc c.args.index
+          c.self.invariant within;
+    }
 
 pub invariant_of-self-lent : goal.invariant_of-self-lent
 invariant_of-self-lent g c = λ w.
-    let within : c.args.index < length (items_in c.self.inside.block.slots) = omega (arith, c.requires, ap (λ v. length v.items) c.self.view_is) in
-    (settle-set c.self.inside.block (block_with_item c.self.inside.block c.args.index w) c.self.inside.alloc c.args.index w c.self.invariant within refl refl refl).thin
+    let within : c.args.index < length (items_in c.self.inside.block.slots) =
+    omega (arith, c.requires, ap (λ v. length v.items) c.self.view_is) in
+    (settle-set c.self.inside.block (block_with_item c.self.inside.block c.args.index w)
+    c.self.inside.alloc c.args.index w c.self.invariant within refl refl refl).thin
 
 pub returns : goal.returns
 returns g c =
-    let within : c.args.index < length (items_in c.self.inside.block.slots) = omega (arith, c.requires, ap (λ v. length v.items) c.self.view_is) in (
-      (refl, λ w. view-with_item c.self.inside.block c.self.inside.alloc c.args.index w c.self.invariant within ∙ ap (λ v. with_item v c.args.index w) c.self.view_is),
+    let within : c.args.index < length (items_in c.self.inside.block.slots) =
+    omega (arith, c.requires, ap (λ v. length v.items) c.self.view_is) in (
+      (
+        refl,
+        λ w. view-with_item c.self.inside.block c.self.inside.alloc c.args.index w
+            c.self.invariant within ∙ ap (λ v. with_item v c.args.index w) c.self.view_is,
+      ),
       record {
         writes_back = tt;
-        value = sym (ap (λ v. slice_get v.items c.args.index) c.self.view_is) ∙ thin-get c.self.inside.block c.self.inside.alloc c.args.index c.slot_mut.result.now c.self.invariant within c.slot_mut.ensures.value;
+        value = sym (ap (λ v. slice_get v.items c.args.index) c.self.view_is)
+            ∙ thin-get c.self.inside.block c.self.inside.alloc c.args.index c.slot_mut.result.now
+            c.self.invariant within c.slot_mut.ensures.value;
       },
     )

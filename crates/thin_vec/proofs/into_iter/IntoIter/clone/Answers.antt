@@ -8,4 +8,15 @@ pub with_fitting_capacity-requires : goal.with_fitting_capacity-requires
 with_fitting_capacity-requires g c =
     let it = c.self.inside in
     let room = walked-room it.block it.alloc it.start it.end c.self.invariant in
-    record { fits = fits-less (param 0 g.row.T) c.len.result c.cap-room.result c.cap-room.ensures.fits (omega (arith, room, c.self.invariant.len, c.cap-room.ensures.value, c.len.ensures.value, ap (λ v. length v.items) c.self.view_is)) }
+    record {
+      fits = fits-less (param 0 g.row.T) c.len.result c.cap-room.result
+          c.cap-room.ensures.fits
+          (omega (
+            arith,
+            room,
+            c.self.invariant.len,
+            c.cap-room.ensures.value,
+            c.len.ensures.value,
+            ap (λ v. length v.items) c.self.view_is,
+          ));
+    }

@@ -4,15 +4,32 @@ use Rattle.thin_vec.proofs.IntoIterLemmas.{Walking, first-item, settle-first, wa
 use Rattle.thin_vec.proofs.into_iter.IntoIter.take_first.Goals as goal
 
 some : (g : _) (c : goal.After-take g) → c.self.inside.start < c.self.inside.end
-some g c = omega (arith, c.self.invariant.len, c.requires.some, ap (λ v. length v.items) c.self.view_is)
+some g c = omega (
+  arith,
+  c.self.invariant.len,
+  c.requires.some,
+  ap (λ v. length v.items) c.self.view_is,
+)
 
 pub take-requires : goal.take-requires
 take-requires g c =
-    record { filled = walked-filled c.self.inside.block c.self.inside.alloc c.self.inside.start c.self.inside.end c.self.inside.start c.self.invariant (omega arith) (omega (arith, c.self.invariant.len, c.requires.some, ap (λ v. length v.items) c.self.view_is)) }
+    record {
+      filled = walked-filled c.self.inside.block c.self.inside.alloc c.self.inside.start
+          c.self.inside.end c.self.inside.start c.self.invariant (omega arith)
+          (omega (
+            arith,
+            c.self.invariant.len,
+            c.requires.some,
+            ap (λ v. length v.items) c.self.view_is,
+          ));
+    }
 
-facts : (g : _) (c : goal.After-take g) → Walking c.take.new.self c.self.inside.alloc (drop 1 (items_in c.self.inside.block.slots)) (c.self.inside.start + 1) c.self.inside.end (length c.self.inside.block.slots)
+facts : (g : _) (c : goal.After-take g) → Walking c.take.new.self c.self.inside.alloc
+    (drop 1 (items_in c.self.inside.block.slots)) (c.self.inside.start + 1) c.self.inside.end
+    (length c.self.inside.block.slots)
 facts g c =
-    settle-first c.self.inside.block c.take.new.self c.self.inside.alloc c.self.inside.start c.self.inside.end c.take.result c.self.invariant (some g c)
+    settle-first c.self.inside.block c.take.new.self c.self.inside.alloc c.self.inside.start
+    c.self.inside.end c.take.result c.self.invariant (some g c)
     c.take.ensures.value c.take.ensures.slots c.take.ensures.alloc
 
 pub invariant_of-self : goal.invariant_of-self
@@ -21,5 +38,6 @@ invariant_of-self g c = (facts g c).walked
 pub returns-clause-items : goal.returns-clause-items
 returns-clause-items g c =
     sym (ap (λ v. v.items) c.self.view_is)
-    ∙ (first-item c.self.inside.block c.take.new.self c.self.inside.alloc c.self.inside.start c.self.inside.end c.take.result c.self.invariant (some g c) c.take.ensures.value
+    ∙ (first-item c.self.inside.block c.take.new.self c.self.inside.alloc c.self.inside.start
+    c.self.inside.end c.take.result c.self.invariant (some g c) c.take.ensures.value
     ∙ ap (λ xs. c.take.result ∷ xs) (sym (facts g c).items))

@@ -6,16 +6,25 @@ use Rattle.thin_vec.proofs.into_iter.IntoIter.take_last.Goals as goal
 
 -- an item remains
 some : (g : _) (c : goal.After-take g) → c.self.inside.start < c.self.inside.end
-some g c = omega (arith, c.self.invariant.len, c.requires.some, ap (λ v. length v.items) c.self.view_is)
+some g c = omega (
+  arith,
+  c.self.invariant.len,
+  c.requires.some,
+  ap (λ v. length v.items) c.self.view_is,
+)
 
 -- so the slot before the end is filled
 pub take-requires : goal.take-requires
 take-requires g c =
     let it = c.self.inside in
     let remain = ap (λ v. length v.items) c.self.view_is in
-    let from : it.start ≤ it.end - 1 = omega (arith, c.self.invariant.len, c.requires.some, remain) in
+    let from : it.start ≤ it.end - 1 =
+    omega (arith, c.self.invariant.len, c.requires.some, remain) in
     let to : it.end - 1 < it.end = omega (arith, c.self.invariant.len, c.requires.some, remain) in
-    record { filled = walked-filled it.block it.alloc it.start it.end (it.end - 1) c.self.invariant from to }
+    record {
+      filled = walked-filled it.block it.alloc it.start it.end (it.end - 1)
+          c.self.invariant from to;
+    }
 
 -- the block afterwards: all items but the last, between the same start and an end one slot sooner
 facts : (g : _) (c : goal.After-take g)
@@ -24,7 +33,8 @@ facts : (g : _) (c : goal.After-take g)
     Walking c.take.new.self it.alloc most it.start (it.end - 1) (length it.block.slots)
 facts g c =
     let it = c.self.inside in
-    settle-last it.block c.take.new.self it.alloc it.start it.end c.take.result c.self.invariant (some g c)
+    settle-last it.block c.take.new.self it.alloc it.start it.end c.take.result
+    c.self.invariant (some g c)
     c.take.ensures.slots c.take.ensures.alloc
 
 pub invariant_of-self : goal.invariant_of-self
@@ -33,6 +43,7 @@ invariant_of-self g c = (facts g c).walked
 pub returns-clause-items : goal.returns-clause-items
 returns-clause-items g c =
     let it = c.self.inside in
-    let parted = last-item it.block c.take.new.self it.alloc it.start it.end c.take.result c.self.invariant (some g c) c.take.ensures.value in
+    let parted = last-item it.block c.take.new.self it.alloc it.start it.end c.take.result
+    c.self.invariant (some g c) c.take.ensures.value in
     sym (ap (λ v. v.items) c.self.view_is)
     ∙ (parted ∙ ap (λ xs. xs ++ c.take.result ∷ []) (sym (facts g c).items))

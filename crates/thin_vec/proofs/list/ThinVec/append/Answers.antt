@@ -4,7 +4,11 @@ use Rattle.thin_vec.specs.ThinVec.{capacity_for}
 use Rattle.thin_vec.proofs.list.ThinVec.append.Goals as goal
 
 pub returns-in-Err-clause-overflow : goal.returns-in-Err-clause-overflow
-returns-in-Err-clause-overflow g c = λ none. c.in-Err.ensures.overflow (ap (λ n. capacity_for g.G.Growth.rule (param 0 g.row.T) c.args.self.now n) c.len.ensures.value ∙ none)
+returns-in-Err-clause-overflow g c = λ none. c.in-Err.ensures.overflow
+    (ap (λ n. capacity_for g.G.Growth.rule (param 0 g.row.T) c.args.self.now n) c.len.ensures.value
+    ∙ none)
 
 pub returns-clause-overflow : goal.returns-clause-overflow
-returns-clause-overflow g c = λ none. c.in-Ok.ensures.overflow (ap (λ n. capacity_for g.G.Growth.rule (param 0 g.row.T) c.args.self.now n) c.len.ensures.value ∙ none)
+returns-clause-overflow g c = λ none. c.in-Ok.ensures.overflow
+    (ap (λ n. capacity_for g.G.Growth.rule (param 0 g.row.T) c.args.self.now n) c.len.ensures.value
+    ∙ none)

@@ -6,21 +6,49 @@ use Rattle.thin_vec.proofs.list.ThinVec.append_reserved.Goals as goal
 
 pub move_run_to-requires-clause-filled : goal.move_run_to-requires-clause-filled
 move_run_to-requires-clause-filled g c = λ i low high.
-    thin-filled c.other.inside.block c.other.inside.alloc i c.other.invariant (omega (arith, low, high, c.len.ensures.value, c.other.invariant.packed.len, c.requires.in_bounds, ap (λ v. length v.items) c.other.view_is))
+    thin-filled c.other.inside.block c.other.inside.alloc i c.other.invariant
+    (omega (
+      arith,
+      low,
+      high,
+      c.len.ensures.value,
+      c.other.invariant.packed.len,
+      c.requires.in_bounds,
+      ap (λ v. length v.items) c.other.view_is,
+    ))
 
-cut : (g : _) (c : goal.After-set_len-2 g) → Settled c.set_len.new.self c.other.inside.alloc (take c.args.start (items_in c.other.inside.block.slots)) (length c.other.inside.block.slots)
+cut : (g : _) (c : goal.After-set_len-2 g) → Settled c.set_len.new.self c.other.inside.alloc
+    (take c.args.start (items_in c.other.inside.block.slots)) (length c.other.inside.block.slots)
 cut g c =
-    settle-cut c.other.inside.block c.set_len.new.self c.other.inside.alloc c.args.start _ c.other.invariant
-    (omega (arith, c.requires.in_bounds, ap (λ v. length v.items) c.other.view_is)) (ap (λ n. n - c.args.start) c.len.ensures.value)
-    (c.set_len.ensures.slots ∙ c.move_run_to.ensures.slots) c.set_len.ensures.len (c.set_len.ensures.alloc ∙ c.move_run_to.ensures.alloc)
+    settle-cut c.other.inside.block c.set_len.new.self c.other.inside.alloc
+    c.args.start _ c.other.invariant
+    (omega (arith, c.requires.in_bounds, ap (λ v. length v.items) c.other.view_is))
+    (ap (λ n. n - c.args.start) c.len.ensures.value)
+    (c.set_len.ensures.slots ∙ c.move_run_to.ensures.slots) c.set_len.ensures.len
+    (c.set_len.ensures.alloc ∙ c.move_run_to.ensures.alloc)
 
 joined : (g : _) (c : goal.After-set_len-2 g)
-    → Settled c.set_len-2.new.self c.self.inside.alloc (items_in c.self.inside.block.slots ++ drop c.args.start (items_in c.other.inside.block.slots)) (length c.self.inside.block.slots)
+    → Settled c.set_len-2.new.self c.self.inside.alloc
+    (items_in c.self.inside.block.slots ++ drop c.args.start
+    (items_in c.other.inside.block.slots)) (length c.self.inside.block.slots)
 joined g c =
-    settle-joined c.self.inside.block c.set_len-2.new.self c.other.inside.block c.self.inside.alloc c.other.inside.alloc c.args.start _ _ c.self.invariant c.other.invariant
-    (omega (arith, c.requires.in_bounds, ap (λ v. length v.items) c.other.view_is)) (ap (λ n. n - c.args.start) c.len.ensures.value) c.len-len.ensures.value
-    (omega (arith, c.requires.room, c.len.ensures.value, c.len-len.ensures.value, c.self.invariant.packed.len, c.other.invariant.packed.len, ap (λ v. length v.items) c.self.view_is, ap (λ v. length v.items) c.other.view_is, ap (λ v. v.capacity) c.self.view_is))
-    (c.set_len-2.ensures.slots ∙ c.move_run_to.ensures.other_slots) c.set_len-2.ensures.len (c.set_len-2.ensures.alloc ∙ c.move_run_to.ensures.other_alloc)
+    settle-joined c.self.inside.block c.set_len-2.new.self c.other.inside.block c.self.inside.alloc
+    c.other.inside.alloc c.args.start _ _ c.self.invariant c.other.invariant
+    (omega (arith, c.requires.in_bounds, ap (λ v. length v.items) c.other.view_is))
+    (ap (λ n. n - c.args.start) c.len.ensures.value) c.len-len.ensures.value
+    (omega (
+      arith,
+      c.requires.room,
+      c.len.ensures.value,
+      c.len-len.ensures.value,
+      c.self.invariant.packed.len,
+      c.other.invariant.packed.len,
+      ap (λ v. length v.items) c.self.view_is,
+      ap (λ v. length v.items) c.other.view_is,
+      ap (λ v. v.capacity) c.self.view_is,
+    ))
+    (c.set_len-2.ensures.slots ∙ c.move_run_to.ensures.other_slots) c.set_len-2.ensures.len
+    (c.set_len-2.ensures.alloc ∙ c.move_run_to.ensures.other_alloc)
 
 pub invariant_of-self : goal.invariant_of-self
 invariant_of-self g c = (joined g c).thin
@@ -29,7 +57,9 @@ pub invariant_of-other : goal.invariant_of-other
 invariant_of-other g c = (cut g c).thin
 
 pub returns-clause-items : goal.returns-clause-items
-returns-clause-items g c = (joined g c).items ∙ (λ i. (c.self.view_is i).items ++ drop c.args.start (c.other.view_is i).items)
+returns-clause-items g c = (joined g c).items
+    ∙ (λ i. (c.self.view_is i).items ++ drop c.args.start (c.other.view_is i).items)
 
 pub returns-clause-other_items : goal.returns-clause-other_items
-returns-clause-other_items g c = (cut g c).items ∙ ap (λ v. take c.args.start v.items) c.other.view_is
+returns-clause-other_items g c = (cut g c).items
+    ∙ ap (λ v. take c.args.start v.items) c.other.view_is

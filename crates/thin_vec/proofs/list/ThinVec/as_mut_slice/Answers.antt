@@ -7,16 +7,25 @@ use Rattle.thin_vec.proofs.list.ThinVec.as_mut_slice.Goals as goal
 
 pub slice_mut-requires-clause-filled : goal.slice_mut-requires-clause-filled
 slice_mut-requires-clause-filled g c = λ i low high.
-    thin-filled c.self.inside.block c.self.inside.alloc i c.self.invariant (omega (arith, high, c.len-len.ensures.value, c.self.invariant.packed.len))
+    thin-filled c.self.inside.block c.self.inside.alloc i c.self.invariant
+    (omega (arith, high, c.len-len.ensures.value, c.self.invariant.packed.len))
 
 pub invariant_of-self-lent : goal.invariant_of-self-lent
-invariant_of-self-lent g c = λ w. (settle-over c.self.inside.block (block_with_items c.self.inside.block 0 w) c.self.inside.alloc w c.self.invariant refl refl refl).thin
+invariant_of-self-lent g c =
+    λ w. (settle-over c.self.inside.block (block_with_items c.self.inside.block 0 w)
+    c.self.inside.alloc w c.self.invariant refl refl refl).thin
 
 pub returns : goal.returns
 returns g c = (
-  (refl, λ w. view-with_items c.self.inside.block c.self.inside.alloc w c.self.invariant ∙ ap (λ v. with_items v w) c.self.view_is),
+  (
+    refl,
+    λ w. view-with_items c.self.inside.block c.self.inside.alloc w c.self.invariant
+        ∙ ap (λ v. with_items v w) c.self.view_is,
+  ),
   record {
     writes_back = tt;
-    value = thin-run c.self.inside.block c.self.inside.alloc c.slice_mut.result.now c.len-len.result c.self.invariant c.len-len.ensures.value c.slice_mut.ensures.value ∙ ap (λ v. v.items) c.self.view_is;
+    value = thin-run c.self.inside.block c.self.inside.alloc c.slice_mut.result.now c.len-len.result
+        c.self.invariant c.len-len.ensures.value c.slice_mut.ensures.value
+        ∙ ap (λ v. v.items) c.self.view_is;
   },
 )

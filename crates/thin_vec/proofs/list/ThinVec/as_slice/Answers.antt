@@ -4,10 +4,13 @@ use Rattle.thin_vec.proofs.list.ThinVec.as_slice.Goals as goal
 
 pub slice-requires-clause-filled : goal.slice-requires-clause-filled
 slice-requires-clause-filled g c = λ i low high.
-    thin-filled c.self.inside.block c.self.inside.alloc i c.self.invariant (omega (arith, high, c.len.ensures.value, c.self.invariant.packed.len))
+    thin-filled c.self.inside.block c.self.inside.alloc i c.self.invariant
+    (omega (arith, high, c.len.ensures.value, c.self.invariant.packed.len))
 
 pub returns : goal.returns
 returns g c =
     record {
-      value = thin-run c.self.inside.block c.self.inside.alloc c.slice.result.now c.len.result c.self.invariant c.len.ensures.value c.slice.ensures.value ∙ ap (λ v. v.items) c.self.view_is;
+      value = thin-run c.self.inside.block c.self.inside.alloc c.slice.result.now c.len.result
+          c.self.invariant c.len.ensures.value c.slice.ensures.value
+          ∙ ap (λ v. v.items) c.self.view_is;
     }

@@ -4,11 +4,21 @@ use Rattle.thin_vec.proofs.TwoListsLemmas.{settle-more}
 use Rattle.thin_vec.proofs.ListLemmas.{Settled}
 use Rattle.thin_vec.proofs.list.ThinVec.extend_from_copies_reserved.Goals as goal
 
-facts : (g : _) (c : goal.After-store_len g) → Settled c.store_len.new.self c.self.inside.alloc (items_in c.self.inside.block.slots ++ c.args.items.now) (length c.self.inside.block.slots)
+facts : (g : _) (c : goal.After-store_len g) → Settled c.store_len.new.self c.self.inside.alloc
+    (items_in c.self.inside.block.slots ++ c.args.items.now) (length c.self.inside.block.slots)
 facts g c =
-    settle-more c.self.inside.block c.store_len.new.self c.self.inside.alloc c.args.items.now _ c.self.invariant c.len-len.ensures.value
-    (omega (arith, c.requires.room, c.len-len.ensures.value, c.self.invariant.packed.len, ap (λ v. length v.items) c.self.view_is, ap (λ v. v.capacity) c.self.view_is))
-    (c.store_len.ensures.slots ∙ c.copy_in.ensures.slots) c.store_len.ensures.len (c.store_len.ensures.alloc ∙ c.copy_in.ensures.alloc)
+    settle-more c.self.inside.block c.store_len.new.self c.self.inside.alloc c.args.items.now _
+    c.self.invariant c.len-len.ensures.value
+    (omega (
+      arith,
+      c.requires.room,
+      c.len-len.ensures.value,
+      c.self.invariant.packed.len,
+      ap (λ v. length v.items) c.self.view_is,
+      ap (λ v. v.capacity) c.self.view_is,
+    ))
+    (c.store_len.ensures.slots ∙ c.copy_in.ensures.slots) c.store_len.ensures.len
+    (c.store_len.ensures.alloc ∙ c.copy_in.ensures.alloc)
 
 pub invariant_of-self : goal.invariant_of-self
 invariant_of-self g c = (facts g c).thin

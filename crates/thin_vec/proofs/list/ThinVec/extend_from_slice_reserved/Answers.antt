@@ -3,14 +3,17 @@ use Rattle.std.proofs.lemmas.List.Elements.{same_from_all_zip}
 use Rattle.thin_vec.proofs.ClonesLemmas.{not-all}
 use Rattle.thin_vec.proofs.list.ThinVec.extend_from_slice_reserved.Goals as goal
 
-pub returns-then-push_clones_reserved-items-clause-succeeds : goal.returns-then-push_clones_reserved-items-clause-succeeds
+pub returns-then-push_clones_reserved-items-clause-succeeds :
+    goal.returns-then-push_clones_reserved-items-clause-succeeds
 returns-then-push_clones_reserved-items-clause-succeeds g c = λ all.
     let less = c.if-push_clones_reserved-items.true in
-    absurd (not-all g.T.Clone.is_infallible c.args.items.now c.push_clones_reserved.result less (c.push_clones_reserved.ensures.refused less) all)
+    absurd (not-all g.T.Clone.is_infallible c.args.items.now c.push_clones_reserved.result less
+    (c.push_clones_reserved.ensures.refused less) all)
 
 pub returns-clause-items_if_clones_equal : goal.returns-clause-items_if_clones_equal
 returns-clause-items_if_clones_equal g c = λ equal.
     let old = c.args.self.now.items in
     let items = c.args.items.now in
     let placed = c.push_clones_reserved.ensures.items in
-    placed.1 ∙ ap (λ ys. old ++ ys) (same_from_all_zip g.T.Clone.is_clone _ placed.0 placed.2 equal ∙ take_all c.push_clones_reserved.result items c.if-push_clones_reserved-items.false)
+    placed.1 ∙ ap (λ ys. old ++ ys) (same_from_all_zip g.T.Clone.is_clone _ placed.0 placed.2 equal
+    ∙ take_all c.push_clones_reserved.result items c.if-push_clones_reserved-items.false)

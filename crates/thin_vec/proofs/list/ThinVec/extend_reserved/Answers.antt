@@ -7,20 +7,35 @@ use Rattle.thin_vec.proofs.ListLemmas.{Settled, thin-room}
 use Rattle.thin_block.proofs.Outcomes.{on-some}
 use Rattle.thin_vec.proofs.list.ThinVec.extend_reserved.Goals as goal
 
-facts : (g : _) (c : goal.After-set_len g) → Settled c.set_len.new.self c.self.inside.alloc (items_in c.self.inside.block.slots ++ c.put_iter-rest.ensures.slots.0) (length c.self.inside.block.slots)
+facts : (g : _) (c : goal.After-set_len g) → Settled c.set_len.new.self c.self.inside.alloc
+    (items_in c.self.inside.block.slots ++ c.put_iter-rest.ensures.slots.0)
+    (length c.self.inside.block.slots)
 facts g c =
     let gave = c.put_iter-rest.ensures.slots in
-    settle-more c.self.inside.block c.set_len.new.self c.self.inside.alloc gave.0 c.len-len.result c.self.invariant c.len-len.ensures.value
-    (omega (arith, gave.2, c.put_iter-rest.ensures.within, c.cap-cap.ensures.value)) (c.set_len.ensures.slots ∙ gave.1) (c.set_len.ensures.len ∙ gave.2) (c.set_len.ensures.alloc ∙ c.put_iter-rest.ensures.alloc)
+    settle-more c.self.inside.block c.set_len.new.self c.self.inside.alloc gave.0 c.len-len.result
+    c.self.invariant c.len-len.ensures.value
+    (omega (arith, gave.2, c.put_iter-rest.ensures.within, c.cap-cap.ensures.value))
+    (c.set_len.ensures.slots ∙ gave.1) (c.set_len.ensures.len ∙ gave.2)
+    (c.set_len.ensures.alloc ∙ c.put_iter-rest.ensures.alloc)
 
 -- where the items end
-ends : (g : _) (c : goal.After-set_len g) → length (items_in c.set_len.new.self.slots) ≡ c.put_iter-rest.result.1
+ends : (g : _) (c : goal.After-set_len g) → length (items_in c.set_len.new.self.slots)
+    ≡ c.put_iter-rest.result.1
 ends g c =
     let gave = c.put_iter-rest.ensures.slots in
-    omega (arith, ap length (facts g c).items, length-append (items_in c.self.inside.block.slots) gave.0, gave.2, c.len-len.ensures.value, c.self.invariant.packed.len)
+    omega (
+      arith,
+      ap length (facts g c).items,
+      length-append (items_in c.self.inside.block.slots)
+          gave.0,
+      gave.2,
+      c.len-len.ensures.value,
+      c.self.invariant.packed.len,
+    )
 
 begins : (g : _) (c : goal.After-set_len g) → c.len-len.result ≡ length c.args.self.now.items
-begins g c = c.len-len.ensures.value ∙ (c.self.invariant.packed.len ∙ ap (λ v. length v.items) c.self.view_is)
+begins g c = c.len-len.ensures.value
+    ∙ (c.self.invariant.packed.len ∙ ap (λ v. length v.items) c.self.view_is)
 
 pub invariant_of-self : goal.invariant_of-self
 invariant_of-self g c = (facts g c).thin
@@ -35,13 +50,19 @@ returns-clause-room g c = thin-room c.set_len.new.self c.self.inside.alloc (fact
 
 pub returns-clause-cost : goal.returns-clause-cost
 returns-clause-cost g c =
-    c.set_len.ensures.cost ∙ (c.put_iter-rest.ensures.cost ∙ (ap (λ v. moving (c.put_iter-rest.result.1 - c.len-len.result) v.cost) c.self.view_is
+    c.set_len.ensures.cost
+    ∙ (c.put_iter-rest.ensures.cost
+    ∙ (ap (λ v. moving (c.put_iter-rest.result.1 - c.len-len.result) v.cost) c.self.view_is
     ∙ ap (λ k. moving k c.args.self.now.cost) (omega (arith, ends g c, begins g c))))
 
 pub returns-clause-nearer : goal.returns-clause-nearer
 returns-clause-nearer g c =
-    on-some c.put_iter-rest.result.2 (λ (less : c.put_iter-rest.result.1 + size (g.I.Iterator.remaining c.put_iter-rest.result.0) < c.len-len.result + size (g.I.Iterator.remaining c.args.iter)). omega (arith, less, ends g c, begins g c)) c.put_iter-rest.ensures.nearer
+    on-some c.put_iter-rest.result.2
+    (λ (less : c.put_iter-rest.result.1 + size (g.I.Iterator.remaining c.put_iter-rest.result.0) < c.len-len.result + size (g.I.Iterator.remaining c.args.iter)). omega (arith, less, ends g c, begins g c)) c.put_iter-rest.ensures.nearer
 
 pub returns-clause-full : goal.returns-clause-full
 returns-clause-full g c =
-    on-some c.put_iter-rest.result.2 (λ (end : c.put_iter-rest.result.1 ≡ c.cap-cap.result). omega (arith, end, ends g c, (facts g c).cap, c.cap-cap.ensures.value)) c.put_iter-rest.ensures.full
+    on-some c.put_iter-rest.result.2
+    (λ (end : c.put_iter-rest.result.1 ≡ c.cap-cap.result). omega
+    (arith, end, ends g c, (facts g c).cap, c.cap-cap.ensures.value))
+    c.put_iter-rest.ensures.full

@@ -12,9 +12,18 @@ returns-in_default-clause-items g c =
     let steps = g.I.Iterator.next_gives in
     let before = c.loop-item.invariant.placed in
     let now = c.extend_reserved-left.ensures.items in
-    let none = subst (λ o. steps now.2.0 o c.extend_reserved-left.result.0) c.in_default.is now.2.2 in (
+    let none = subst (λ o. steps now.2.0 o c.extend_reserved-left.result.0)
+    c.in_default.is now.2.2 in (
       before.0 ++ now.0,
-      (c.extend_reserved-left.result.0, (now.2.0, yields-join steps c.args.iter c.loop-item.rest now.2.0 before.0 now.0 before.2 now.2.1, none)),
+      (
+        c.extend_reserved-left.result.0,
+        (
+          now.2.0,
+          yields-join steps c.args.iter c.loop-item.rest now.2.0 before.0 now.0
+              before.2 now.2.1,
+          none,
+        ),
+      ),
       now.1 ∙ (ap (λ l. l ++ now.0) before.1 ∙ append_assoc c.args.self.now.items before.0 now.0),
     )
 
@@ -24,21 +33,35 @@ returns-in-Err-clause-placed g c =
     let before = c.loop-item.invariant.placed in
     let now = c.extend_reserved-left.ensures.items in
     let drawn = subst (λ o. steps now.2.0 o c.extend_reserved-left.result.0) c.in-Some.is now.2.2 in
-    let items = now.1 ∙ (ap (λ l. l ++ now.0) before.1 ∙ append_assoc c.args.self.now.items before.0 now.0) in
-    let gave = yields-more steps c.args.iter now.2.0 c.extend_reserved-left.result.0 (before.0 ++ now.0) c.in-Some.item (yields-join steps c.args.iter c.loop-item.rest now.2.0 before.0 now.0 before.2 now.2.1) drawn in
-    (before.0 ++ now.0, ap (λ v. v.items) c.in-Err.ensures.err ∙ items, rw c.in-Err.ensures.value_returned gave)
+    let items = now.1 ∙ (ap (λ l. l ++ now.0) before.1
+    ∙ append_assoc c.args.self.now.items before.0 now.0) in
+    let gave = yields-more steps c.args.iter now.2.0 c.extend_reserved-left.result.0
+    (before.0 ++ now.0) c.in-Some.item
+    (yields-join steps c.args.iter c.loop-item.rest now.2.0 before.0 now.0 before.2 now.2.1)
+    drawn in (
+      before.0 ++ now.0,
+      ap (λ v. v.items) c.in-Err.ensures.err ∙ items,
+      rw c.in-Err.ensures.value_returned gave,
+    )
 
 pub returns-in_default-clause-named : goal.returns-in_default-clause-named
 returns-in_default-clause-named g c =
     let u = c.loop-item.self in let w = c.extend_reserved-left.new.self in
     let now = c.extend_reserved-left.ensures.items in
-    named-more g.G.Growth.rule (param 0 g.row.T) g.met.G.Growth.law c.args.self.now.capacity u.capacity w.capacity (length u.items) (length w.items) c.extend_reserved-left.ensures.capacity (omega (arith, ap length now.1, length-append u.items now.0)) c.loop-item.invariant.named
+    named-more g.G.Growth.rule (param 0 g.row.T) g.met.G.Growth.law c.args.self.now.capacity
+    u.capacity w.capacity (length u.items) (length w.items)
+    c.extend_reserved-left.ensures.capacity
+    (omega (arith, ap length now.1, length-append u.items now.0)) c.loop-item.invariant.named
 
 pub returns-in-Err-clause-named : goal.returns-in-Err-clause-named
 returns-in-Err-clause-named g c =
     let u = c.loop-item.self in let w = c.extend_reserved-left.new.self in
     let now = c.extend_reserved-left.ensures.items in
-    rw c.in-Err.ensures.err (named-more g.G.Growth.rule (param 0 g.row.T) g.met.G.Growth.law c.args.self.now.capacity u.capacity w.capacity (length u.items) (length w.items) c.extend_reserved-left.ensures.capacity (omega (arith, ap length now.1, length-append u.items now.0)) c.loop-item.invariant.named)
+    rw c.in-Err.ensures.err
+    (named-more g.G.Growth.rule (param 0 g.row.T) g.met.G.Growth.law c.args.self.now.capacity
+    u.capacity w.capacity (length u.items) (length w.items)
+    c.extend_reserved-left.ensures.capacity
+    (omega (arith, ap length now.1, length-append u.items now.0)) c.loop-item.invariant.named)
 
 pub loop-item-preserved : goal.loop-item-preserved
 loop-item-preserved g c =
@@ -48,17 +71,24 @@ loop-item-preserved g c =
     let before = held.placed in
     let now = c.extend_reserved-left.ensures.items in
     let drawn = subst (λ o. steps now.2.0 o c.extend_reserved-left.result.0) c.in-Some.is now.2.2 in
-    let gave = yields-more steps c.args.iter now.2.0 c.extend_reserved-left.result.0 (before.0 ++ now.0) c.in-Some.item (yields-join steps c.args.iter c.loop-item.rest now.2.0 before.0 now.0 before.2 now.2.1) drawn in
-    let items = now.1 ∙ (ap (λ l. l ++ now.0) before.1 ∙ append_assoc c.args.self.now.items before.0 now.0) in
+    let gave = yields-more steps c.args.iter now.2.0 c.extend_reserved-left.result.0
+    (before.0 ++ now.0) c.in-Some.item
+    (yields-join steps c.args.iter c.loop-item.rest now.2.0 before.0 now.0 before.2 now.2.1)
+    drawn in
+    let items = now.1 ∙ (ap (λ l. l ++ now.0) before.1
+    ∙ append_assoc c.args.self.now.items before.0 now.0) in
     let rest = at-some c.in-Some.is c.extend_reserved-left.ensures.rest in
     let nearer = at-some c.in-Some.is c.extend_reserved-left.ensures.nearer in
-    let v = c.args.self.now in let u = c.loop-item.self in let w = c.extend_reserved-left.new.self in let z = c.push.new.self in
+    let v = c.args.self.now in let u = c.loop-item.self in
+    let w = c.extend_reserved-left.new.self in let z = c.push.new.self in
     let pushed = c.in-Ok.ensures in
     let long = ap length pushed.items ∙ length_push w.items c.in-Some.item in
     let more = ap length now.1 ∙ length-append u.items now.0 in
     let some = ap length before.1 ∙ length-append v.items before.0 in
     let grown = loose-ruled rule T law w 1 z.capacity pushed.capacity in
-    let spare = filled-spare u w (length w.items - length u.items) c.extend_reserved-left.ensures.cost c.extend_reserved-left.ensures.capacity (omega (arith, more)) in
+    let spare = filled-spare u w (length w.items - length u.items)
+    c.extend_reserved-left.ensures.cost c.extend_reserved-left.ensures.capacity
+    (omega (arith, more)) in
     let push = filled-at w z 1 pushed.cost long in
     let high = loose-le rule T law w.capacity z.capacity grown in
     let low = loose-le rule T law v.capacity u.capacity held.capacity in
@@ -67,15 +97,35 @@ loop-item-preserved g c =
       finite = rest.1;
       placed = (
         (before.0 ++ now.0) ++ c.in-Some.item ∷ [],
-        pushed.items ∙ (ap (λ l. l ++ c.in-Some.item ∷ []) items ∙ append_assoc v.items (before.0 ++ now.0) (c.in-Some.item ∷ [])),
+        pushed.items ∙ (ap (λ l. l ++ c.in-Some.item ∷ []) items
+            ∙ append_assoc v.items (before.0 ++ now.0) (c.in-Some.item ∷ [])),
         gave,
       );
       nearer = omega (arith, held.nearer, nearer, long);
-      capacity = loose-join rule T law v.capacity u.capacity z.capacity held.capacity (subst (λ n. IsLoose rule T n z.capacity) c.extend_reserved-left.ensures.capacity grown);
-      had_room = λ fit. let same = held.had_room fit in pushed.had_room (omega (arith, fit, held.nearer, nearer, same, c.extend_reserved-left.ensures.capacity)) ∙ (c.extend_reserved-left.ensures.capacity ∙ same);
-      cost = filled-join v u z low (omega (arith, high, c.extend_reserved-left.ensures.capacity)) (omega (arith, some)) held.cost
-          (filled-join u w z (omega (arith, c.extend_reserved-left.ensures.capacity)) high (omega (arith, more)) spare push);
-      named = let full = at-some c.in-Some.is c.extend_reserved-left.ensures.full in inr (w.capacity, length w.items + 1, omega (arith, full), omega (arith, long), pushed.capacity);
+      capacity = loose-join rule T law v.capacity u.capacity z.capacity held.capacity
+          (subst (λ n. IsLoose rule T n z.capacity) c.extend_reserved-left.ensures.capacity grown);
+      had_room = λ fit. let same = held.had_room fit in
+          pushed.had_room (omega (
+            arith,
+            fit,
+            held.nearer,
+            nearer,
+            same,
+            c.extend_reserved-left.ensures.capacity,
+          ))
+          ∙ (c.extend_reserved-left.ensures.capacity ∙ same);
+      cost = filled-join v u z low (omega (arith, high, c.extend_reserved-left.ensures.capacity))
+          (omega (arith, some)) held.cost
+          (filled-join u w z (omega (arith, c.extend_reserved-left.ensures.capacity)) high
+          (omega (arith, more)) spare push);
+      named = let full = at-some c.in-Some.is c.extend_reserved-left.ensures.full in
+          inr (
+            w.capacity,
+            length w.items + 1,
+            omega (arith, full),
+            omega (arith, long),
+            pushed.capacity,
+          );
       alloc = pushed.alloc ∙ (c.extend_reserved-left.ensures.alloc ∙ held.alloc);
       cheap = λ first. pushed.cheap (c.extend_reserved-left.ensures.cheap (held.cheap first));
     }
@@ -84,20 +134,30 @@ pub returns-in-Err-clause-succeeds : goal.returns-in-Err-clause-succeeds
 returns-in-Err-clause-succeeds g c = λ fit.
     let held = c.loop-item.invariant in
     let nearer = at-some c.in-Some.is c.extend_reserved-left.ensures.nearer in
-    let low = loose-le g.G.Growth.rule (param 0 g.row.T) g.met.G.Growth.law c.args.self.now.capacity c.loop-item.self.capacity held.capacity in
-    c.in-Err.ensures.succeeds (omega (arith, fit, held.nearer, nearer, low, c.extend_reserved-left.ensures.capacity))
+    let low = loose-le g.G.Growth.rule (param 0 g.row.T) g.met.G.Growth.law c.args.self.now.capacity
+    c.loop-item.self.capacity held.capacity in
+    c.in-Err.ensures.succeeds
+    (omega (arith, fit, held.nearer, nearer, low, c.extend_reserved-left.ensures.capacity))
 
 pub returns-in-Err-clause-overflow : goal.returns-in-Err-clause-overflow
 returns-in-Err-clause-overflow g c =
-    λ none. c.in-Err.ensures.overflow (ap (λ v. capacity_for g.G.Growth.rule (param 0 g.row.T) v 1) (sym c.in-Err.ensures.err) ∙ none)
+    λ none. c.in-Err.ensures.overflow
+    (ap (λ v. capacity_for g.G.Growth.rule (param 0 g.row.T) v 1) (sym c.in-Err.ensures.err)
+    ∙ none)
 
 pub returns-in-Err-clause-cost : goal.returns-in-Err-clause-cost
 returns-in-Err-clause-cost g c =
     let held = c.loop-item.invariant in
     let now = c.extend_reserved-left.ensures.items in
-    let v = c.args.self.now in let u = c.loop-item.self in let w = c.extend_reserved-left.new.self in
+    let v = c.args.self.now in let u = c.loop-item.self in
+    let w = c.extend_reserved-left.new.self in
     let more = ap length now.1 ∙ length-append u.items now.0 in
     let some = ap length held.placed.1 ∙ length-append v.items held.placed.0 in
-    let low = loose-le g.G.Growth.rule (param 0 g.row.T) g.met.G.Growth.law v.capacity u.capacity held.capacity in
-    let spare = filled-spare u w (length w.items - length u.items) c.extend_reserved-left.ensures.cost c.extend_reserved-left.ensures.capacity (omega (arith, more)) in
-    rw c.in-Err.ensures.err (filled-join v u w low (omega (arith, c.extend_reserved-left.ensures.capacity)) (omega (arith, some)) held.cost spare)
+    let low = loose-le g.G.Growth.rule (param 0 g.row.T) g.met.G.Growth.law v.capacity
+    u.capacity held.capacity in
+    let spare = filled-spare u w (length w.items - length u.items)
+    c.extend_reserved-left.ensures.cost c.extend_reserved-left.ensures.capacity
+    (omega (arith, more)) in
+    rw c.in-Err.ensures.err
+    (filled-join v u w low (omega (arith, c.extend_reserved-left.ensures.capacity))
+    (omega (arith, some)) held.cost spare)

@@ -10,12 +10,16 @@ abbrev pub invariant-loop-item : goal.invariant-loop-item
 invariant-loop-item g l = record {
   can : g.I.Iterator.can_next l.rest;
   finite : IsFinite (g.I.Iterator.remaining l.rest);
-  placed : (xs : List g.row.T.Denot) × (l.self.items ≡ l.fn.self.items ++ xs) × Yields g.I.Iterator.next_gives l.fn.iter xs l.rest;
-  nearer : length l.self.items + size (g.I.Iterator.remaining l.rest) ≤ length l.fn.self.items + size (g.I.Iterator.remaining l.fn.iter);
+  placed : (xs : List g.row.T.Denot) × (l.self.items ≡ l.fn.self.items ++ xs)
+      × Yields g.I.Iterator.next_gives l.fn.iter xs l.rest;
+  nearer : length l.self.items + size (g.I.Iterator.remaining l.rest)
+      ≤ length l.fn.self.items + size (g.I.Iterator.remaining l.fn.iter);
   capacity : IsLoose g.G.Growth.rule (param 0 g.row.T) l.fn.self.capacity l.self.capacity;
-  had_room : length l.fn.self.items + size (g.I.Iterator.remaining l.fn.iter) ≤ l.fn.self.capacity → l.self.capacity ≡ l.fn.self.capacity;
+  had_room : length l.fn.self.items + size (g.I.Iterator.remaining l.fn.iter) ≤ l.fn.self.capacity
+      → l.self.capacity ≡ l.fn.self.capacity;
   cost : IsExtendCost l.fn.self l.self;
-  named : IsNamed g.G.Growth.rule (param 0 g.row.T) l.fn.self.capacity l.self.capacity (length l.self.items);
+  named : IsNamed g.G.Growth.rule (param 0 g.row.T) l.fn.self.capacity
+      l.self.capacity (length l.self.items);
   alloc : l.self.alloc ≡ l.fn.self.alloc;
   cheap : IsCheap l.fn.self → IsCheap l.self;
 }

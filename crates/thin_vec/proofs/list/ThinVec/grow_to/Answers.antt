@@ -5,10 +5,12 @@ use Rattle.thin_vec.proofs.list.ThinVec.grow_to.Goals.{In_ok-grow}
 use Rattle.thin_vec.proofs.CapacityLemmas.{settle-grow}
 use Rattle.thin_vec.proofs.list.ThinVec.grow_to.Goals as goal
 
-facts : (g : _) (c : In_ok-grow g) → Settled c.grow.new.self c.self.inside.alloc (items_in c.self.inside.block.slots) c.args.cap
+facts : (g : _) (c : In_ok-grow g) → Settled c.grow.new.self c.self.inside.alloc
+    (items_in c.self.inside.block.slots) c.args.cap
 facts g c =
     settle-grow c.self.inside.block c.grow.new.self c.self.inside.alloc c.args.cap c.self.invariant
-    (omega (arith, c.requires.larger, ap (λ v. v.capacity) c.self.view_is)) c.in_ok-grow.ensures.slots c.grow.ensures.len c.in_ok-grow.ensures.alloc
+    (omega (arith, c.requires.larger, ap (λ v. v.capacity) c.self.view_is))
+    c.in_ok-grow.ensures.slots c.grow.ensures.len c.in_ok-grow.ensures.alloc
 
 pub invariant_of-self-2 : goal.invariant_of-self-2
 invariant_of-self-2 g c = (facts g c).thin

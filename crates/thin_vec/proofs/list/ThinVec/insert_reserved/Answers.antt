@@ -8,25 +8,53 @@ use Rattle.thin_vec.proofs.list.ThinVec.insert_reserved.Goals as goal
 
 pub move_run-requires-clause-filled : goal.move_run-requires-clause-filled
 move_run-requires-clause-filled g c = λ j low high.
-    thin-filled c.self.inside.block c.self.inside.alloc j c.self.invariant (omega (arith, low, high, c.requires.in_bounds, c.len-len.ensures.value, c.self.invariant.packed.len, ap (λ v. length v.items) c.self.view_is))
+    thin-filled c.self.inside.block c.self.inside.alloc j c.self.invariant
+    (omega (
+      arith,
+      low,
+      high,
+      c.requires.in_bounds,
+      c.len-len.ensures.value,
+      c.self.invariant.packed.len,
+      ap (λ v. length v.items) c.self.view_is,
+    ))
 
 pub put_and_store-requires-clause-empty : goal.put_and_store-requires-clause-empty
 put_and_store-requires-clause-empty g c =
-    thin-gap c.self.inside.block c.self.inside.alloc c.args.index _ _ c.move_run.new.self.slots c.self.invariant
+    thin-gap c.self.inside.block c.self.inside.alloc c.args.index _ _
+    c.move_run.new.self.slots c.self.invariant
     (omega (arith, c.requires.in_bounds, ap (λ v. length v.items) c.self.view_is))
-    (omega (arith, c.requires.room, c.self.invariant.packed.len, ap (λ v. length v.items) c.self.view_is, ap (λ v. v.capacity) c.self.view_is))
+    (omega (
+      arith,
+      c.requires.room,
+      c.self.invariant.packed.len,
+      ap (λ v. length v.items) c.self.view_is,
+      ap (λ v. v.capacity) c.self.view_is,
+    ))
     refl (ap (λ n. n - c.args.index) c.len-len.ensures.value) c.move_run.ensures.slots
 
-facts : (g : _) (c : After-put_and_store g) → Settled c.put_and_store.new.self c.self.inside.alloc (insert (items_in c.self.inside.block.slots) c.args.index c.args.value) (length c.self.inside.block.slots)
+facts : (g : _) (c : After-put_and_store g) → Settled c.put_and_store.new.self c.self.inside.alloc
+    (insert (items_in c.self.inside.block.slots) c.args.index c.args.value)
+    (length c.self.inside.block.slots)
 facts g c =
-    settle-insert c.self.inside.block c.put_and_store.new.self c.self.inside.alloc c.args.index _ _ c.args.value c.move_run.new.self.slots c.self.invariant
+    settle-insert c.self.inside.block c.put_and_store.new.self c.self.inside.alloc c.args.index _ _
+    c.args.value c.move_run.new.self.slots c.self.invariant
     (omega (arith, c.requires.in_bounds, ap (λ v. length v.items) c.self.view_is))
-    (omega (arith, c.requires.room, c.self.invariant.packed.len, ap (λ v. length v.items) c.self.view_is, ap (λ v. v.capacity) c.self.view_is))
-    refl (ap (λ n. n - c.args.index) c.len-len.ensures.value) c.move_run.ensures.slots c.put_and_store.ensures.slots
-    (c.put_and_store.ensures.len ∙ ap (λ n. n + 1) c.len-len.ensures.value) (c.put_and_store.ensures.alloc ∙ c.move_run.ensures.alloc)
+    (omega (
+      arith,
+      c.requires.room,
+      c.self.invariant.packed.len,
+      ap (λ v. length v.items) c.self.view_is,
+      ap (λ v. v.capacity) c.self.view_is,
+    ))
+    refl (ap (λ n. n - c.args.index) c.len-len.ensures.value) c.move_run.ensures.slots
+    c.put_and_store.ensures.slots
+    (c.put_and_store.ensures.len ∙ ap (λ n. n + 1) c.len-len.ensures.value)
+    (c.put_and_store.ensures.alloc ∙ c.move_run.ensures.alloc)
 
 pub invariant_of-self : goal.invariant_of-self
 invariant_of-self g c = (facts g c).thin
 
 pub returns-clause-items : goal.returns-clause-items
-returns-clause-items g c = (facts g c).items ∙ ap (λ v. insert v.items c.args.index c.args.value) c.self.view_is
+returns-clause-items g c = (facts g c).items
+    ∙ ap (λ v. insert v.items c.args.index c.args.value) c.self.view_is

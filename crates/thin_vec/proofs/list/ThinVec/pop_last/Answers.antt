@@ -6,16 +6,33 @@ use Rattle.thin_vec.proofs.list.ThinVec.pop_last.Goals as goal
 pub take-value-requires : goal.take-value-requires
 take-value-requires g c =
     record {
-      filled = thin-filled c.self.inside.block c.self.inside.alloc _ c.self.invariant (omega (arith, c.requires.some, c.len-last.ensures.value, c.self.invariant.packed.len, ap (λ v. length v.items) c.self.view_is));
+      filled = thin-filled c.self.inside.block c.self.inside.alloc _ c.self.invariant
+          (omega (
+            arith,
+            c.requires.some,
+            c.len-last.ensures.value,
+            c.self.invariant.packed.len,
+            ap (λ v. length v.items) c.self.view_is,
+          ));
     }
 
 stored : (g : _) (c : goal.After-store_len g) → c.len-last.result - 1 + 1 ≡ c.self.inside.block.len
-stored g c = omega (arith, c.requires.some, c.len-last.ensures.value, c.self.invariant.packed.len, ap (λ v. length v.items) c.self.view_is)
+stored g c = omega (
+  arith,
+  c.requires.some,
+  c.len-last.ensures.value,
+  c.self.invariant.packed.len,
+  ap (λ v. length v.items) c.self.view_is,
+)
 
-facts : (g : _) (c : goal.After-store_len g) → Settled c.store_len.new.self c.self.inside.alloc (take (c.len-last.result - 1) (items_in c.self.inside.block.slots)) (length c.self.inside.block.slots)
+facts : (g : _) (c : goal.After-store_len g) → Settled c.store_len.new.self c.self.inside.alloc
+    (take (c.len-last.result - 1) (items_in c.self.inside.block.slots))
+    (length c.self.inside.block.slots)
 facts g c =
-    settle-pop c.self.inside.block c.store_len.new.self c.self.inside.alloc c.take-value.result (c.len-last.result - 1) c.self.invariant (stored g c)
-    c.take-value.ensures.value (c.store_len.ensures.slots ∙ c.take-value.ensures.slots) c.store_len.ensures.len (c.store_len.ensures.alloc ∙ c.take-value.ensures.alloc)
+    settle-pop c.self.inside.block c.store_len.new.self c.self.inside.alloc c.take-value.result
+    (c.len-last.result - 1) c.self.invariant (stored g c)
+    c.take-value.ensures.value (c.store_len.ensures.slots ∙ c.take-value.ensures.slots)
+    c.store_len.ensures.len (c.store_len.ensures.alloc ∙ c.take-value.ensures.alloc)
 
 pub invariant_of-self : goal.invariant_of-self
 invariant_of-self g c = (facts g c).thin
@@ -23,5 +40,6 @@ invariant_of-self g c = (facts g c).thin
 pub returns-clause-items : goal.returns-clause-items
 returns-clause-items g c =
     sym (ap (λ v. v.items) c.self.view_is)
-    ∙ (last-item c.self.inside.block c.self.inside.alloc c.take-value.result (c.len-last.result - 1) c.self.invariant (stored g c) c.take-value.ensures.value
+    ∙ (last-item c.self.inside.block c.self.inside.alloc c.take-value.result (c.len-last.result - 1)
+    c.self.invariant (stored g c) c.take-value.ensures.value
     ∙ ap (λ xs. xs ++ c.take-value.result ∷ []) (sym (facts g c).items))

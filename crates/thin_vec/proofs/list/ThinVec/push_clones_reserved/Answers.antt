@@ -5,16 +5,30 @@ use Rattle.thin_vec.proofs.TwoListsLemmas.{settle-more}
 use Rattle.thin_vec.proofs.ListLemmas.{Settled}
 use Rattle.thin_vec.proofs.list.ThinVec.push_clones_reserved.Goals as goal
 
-facts : (g : _) (c : goal.After-set_len g) → Settled c.set_len.new.self c.self.inside.alloc (items_in c.self.inside.block.slots ++ c.put_clones-placed.ensures.slots.copies) (length c.self.inside.block.slots)
+facts : (g : _) (c : goal.After-set_len g) → Settled c.set_len.new.self c.self.inside.alloc
+    (items_in c.self.inside.block.slots ++ c.put_clones-placed.ensures.slots.copies)
+    (length c.self.inside.block.slots)
 facts g c =
     let b = c.self.inside.block in
     let put = c.put_clones-placed.ensures in
     let placed = c.put_clones-placed.result in
     let len = c.len-len in
-    let many = length-copies g.T.Clone.is_clone c.args.items.now placed len.result b.slots c.put_clones-placed.new.block.slots put.in_bounds put.slots in
-    settle-more b c.set_len.new.self c.self.inside.alloc put.slots.copies len.result c.self.invariant len.ensures.value
-    (omega (arith, c.requires.room, put.in_bounds, many, len.ensures.value, c.self.invariant.packed.len, ap (λ v. length v.items) c.self.view_is, ap (λ v. v.capacity) c.self.view_is))
-    (c.set_len.ensures.slots ∙ put.slots.slots) (omega (arith, c.set_len.ensures.len, many)) (c.set_len.ensures.alloc ∙ put.alloc)
+    let many = length-copies g.T.Clone.is_clone c.args.items.now placed len.result b.slots
+    c.put_clones-placed.new.block.slots put.in_bounds put.slots in
+    settle-more b c.set_len.new.self c.self.inside.alloc put.slots.copies len.result
+    c.self.invariant len.ensures.value
+    (omega (
+      arith,
+      c.requires.room,
+      put.in_bounds,
+      many,
+      len.ensures.value,
+      c.self.invariant.packed.len,
+      ap (λ v. length v.items) c.self.view_is,
+      ap (λ v. v.capacity) c.self.view_is,
+    ))
+    (c.set_len.ensures.slots ∙ put.slots.slots) (omega (arith, c.set_len.ensures.len, many))
+    (c.set_len.ensures.alloc ∙ put.alloc)
 
 pub invariant_of-self : goal.invariant_of-self
 invariant_of-self g c = (facts g c).thin

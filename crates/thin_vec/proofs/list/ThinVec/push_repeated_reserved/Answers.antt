@@ -6,20 +6,36 @@ use Rattle.thin_vec.proofs.TwoListsLemmas.{settle-more}
 use Rattle.thin_vec.proofs.ListLemmas.{Settled}
 use Rattle.thin_vec.proofs.list.ThinVec.push_repeated_reserved.Goals as goal
 
-many : (g : _) (c : goal.After-set_len g) → length c.put_repeated-placed.ensures.slots.copies ≡ c.put_repeated-placed.result
+many : (g : _) (c : goal.After-set_len g) → length c.put_repeated-placed.ensures.slots.copies
+    ≡ c.put_repeated-placed.result
 many g c =
     let put = c.put_repeated-placed.ensures in
     let x = c.args.value.now in
-    length-copies g.T.Clone.is_clone (replicate c.args.count x) c.put_repeated-placed.result c.len-len.result c.self.inside.block.slots c.put_repeated-placed.new.block.slots (omega (arith, put.in_bounds, length-replicate c.args.count x)) put.slots
+    length-copies g.T.Clone.is_clone (replicate c.args.count x) c.put_repeated-placed.result
+    c.len-len.result c.self.inside.block.slots c.put_repeated-placed.new.block.slots
+    (omega (arith, put.in_bounds, length-replicate c.args.count x)) put.slots
 
-facts : (g : _) (c : goal.After-set_len g) → Settled c.set_len.new.self c.self.inside.alloc (items_in c.self.inside.block.slots ++ c.put_repeated-placed.ensures.slots.copies) (length c.self.inside.block.slots)
+facts : (g : _) (c : goal.After-set_len g) → Settled c.set_len.new.self c.self.inside.alloc
+    (items_in c.self.inside.block.slots ++ c.put_repeated-placed.ensures.slots.copies)
+    (length c.self.inside.block.slots)
 facts g c =
     let b = c.self.inside.block in
     let put = c.put_repeated-placed.ensures in
     let len = c.len-len in
-    settle-more b c.set_len.new.self c.self.inside.alloc put.slots.copies len.result c.self.invariant len.ensures.value
-    (omega (arith, c.requires.room, put.in_bounds, many g c, len.ensures.value, c.self.invariant.packed.len, ap (λ v. length v.items) c.self.view_is, ap (λ v. v.capacity) c.self.view_is))
-    (c.set_len.ensures.slots ∙ put.slots.slots) (omega (arith, c.set_len.ensures.len, many g c)) (c.set_len.ensures.alloc ∙ put.alloc)
+    settle-more b c.set_len.new.self c.self.inside.alloc put.slots.copies len.result
+    c.self.invariant len.ensures.value
+    (omega (
+      arith,
+      c.requires.room,
+      put.in_bounds,
+      many g c,
+      len.ensures.value,
+      c.self.invariant.packed.len,
+      ap (λ v. length v.items) c.self.view_is,
+      ap (λ v. v.capacity) c.self.view_is,
+    ))
+    (c.set_len.ensures.slots ∙ put.slots.slots) (omega (arith, c.set_len.ensures.len, many g c))
+    (c.set_len.ensures.alloc ∙ put.alloc)
 
 pub invariant_of-self : goal.invariant_of-self
 invariant_of-self g c = (facts g c).thin
@@ -29,7 +45,8 @@ returns-clause-items g c =
     let lays = c.put_repeated-placed.ensures.slots in
     record {
       copies = lays.copies;
-      cloned = all-repeated g.T.Clone.is_clone c.args.value.now c.put_repeated-placed.result c.args.count lays.copies lays.cloned;
+      cloned = all-repeated g.T.Clone.is_clone c.args.value.now c.put_repeated-placed.result
+          c.args.count lays.copies lays.cloned;
       count = many g c;
       items = (facts g c).items ∙ ap (λ v. v.items ++ lays.copies) c.self.view_is;
     }

@@ -3,10 +3,20 @@ use Rattle.thin_vec.proofs.ListLemmas.{Settled, settle-push}
 use Rattle.thin_block.specs.Slots.{items_in}
 use Rattle.thin_vec.proofs.list.ThinVec.push_reserved.Goals as goal
 
-facts : (g : _) (c : goal.After-put_and_store g) → Settled c.put_and_store.new.self c.self.inside.alloc (items_in c.self.inside.block.slots ++ c.args.value ∷ []) (length c.self.inside.block.slots)
+facts : (g : _) (c : goal.After-put_and_store g)
+    → Settled c.put_and_store.new.self c.self.inside.alloc
+    (items_in c.self.inside.block.slots ++ c.args.value ∷ []) (length c.self.inside.block.slots)
 facts g c =
-    settle-push c.self.inside.block c.put_and_store.new.self c.self.inside.alloc c.args.value c.len-len.result c.self.invariant c.len-len.ensures.value
-    (omega (arith, c.requires.room, c.len-len.ensures.value, c.self.invariant.packed.len, ap (λ v. length v.items) c.self.view_is, ap (λ v. v.capacity) c.self.view_is))
+    settle-push c.self.inside.block c.put_and_store.new.self c.self.inside.alloc c.args.value
+    c.len-len.result c.self.invariant c.len-len.ensures.value
+    (omega (
+      arith,
+      c.requires.room,
+      c.len-len.ensures.value,
+      c.self.invariant.packed.len,
+      ap (λ v. length v.items) c.self.view_is,
+      ap (λ v. v.capacity) c.self.view_is,
+    ))
     c.put_and_store.ensures.slots c.put_and_store.ensures.len c.put_and_store.ensures.alloc
 
 pub invariant_of-self : goal.invariant_of-self

@@ -8,21 +8,35 @@ use Rattle.thin_vec.proofs.list.ThinVec.remove.Goals as goal
 
 pub take-value-requires : goal.take-value-requires
 take-value-requires g c =
-    record { filled = thin-filled c.self.inside.block c.self.inside.alloc c.args.index c.self.invariant (omega (arith, c.requires.in_bounds, ap (λ v. length v.items) c.self.view_is)) }
+    record {
+      filled = thin-filled c.self.inside.block c.self.inside.alloc c.args.index
+          c.self.invariant (omega
+          (arith, c.requires.in_bounds, ap (λ v. length v.items) c.self.view_is));
+    }
 
 pub move_run-requires-clause-filled : goal.move_run-requires-clause-filled
 move_run-requires-clause-filled g c = λ j low high.
-    kept-filled c.self.inside.block c.self.inside.alloc c.args.index j _ c.self.invariant (omega arith) (omega (arith, high, c.len-len.ensures.value, c.self.invariant.packed.len)) c.take-value.ensures.slots
+    kept-filled c.self.inside.block c.self.inside.alloc c.args.index j _ c.self.invariant
+    (omega arith) (omega (arith, high, c.len-len.ensures.value, c.self.invariant.packed.len))
+    c.take-value.ensures.slots
 
 pub returns-clause-value : goal.returns-clause-value
 returns-clause-value g c =
-    rw (← ap (λ v. v.items) c.self.view_is) (thin-get c.self.inside.block c.self.inside.alloc c.args.index c.take-value.result c.self.invariant (omega (arith, c.requires.in_bounds, ap (λ v. length v.items) c.self.view_is)) c.take-value.ensures.value)
+    rw (← ap (λ v. v.items) c.self.view_is)
+    (thin-get c.self.inside.block c.self.inside.alloc c.args.index c.take-value.result
+    c.self.invariant (omega
+    (arith, c.requires.in_bounds, ap (λ v. length v.items) c.self.view_is))
+    c.take-value.ensures.value)
 
-facts : (g : _) (c : After-store_len g) → Settled c.store_len.new.self c.self.inside.alloc (remove (items_in c.self.inside.block.slots) c.args.index) (length c.self.inside.block.slots)
+facts : (g : _) (c : After-store_len g) → Settled c.store_len.new.self c.self.inside.alloc
+    (remove (items_in c.self.inside.block.slots) c.args.index) (length c.self.inside.block.slots)
 facts g c =
-    settle-remove c.self.inside.block c.store_len.new.self c.self.inside.alloc c.args.index _ _ c.take-value.new.self.slots c.self.invariant
-    (omega (arith, c.requires.in_bounds, ap (λ v. length v.items) c.self.view_is)) refl (ap (λ n. n - (c.args.index + 1)) c.len-len.ensures.value)
-    c.take-value.ensures.slots (c.store_len.ensures.slots ∙ c.move_run.ensures.slots) (c.store_len.ensures.len ∙ ap (λ n. n - 1) c.len-len.ensures.value)
+    settle-remove c.self.inside.block c.store_len.new.self c.self.inside.alloc c.args.index _ _
+    c.take-value.new.self.slots c.self.invariant
+    (omega (arith, c.requires.in_bounds, ap (λ v. length v.items) c.self.view_is)) refl
+    (ap (λ n. n - (c.args.index + 1)) c.len-len.ensures.value)
+    c.take-value.ensures.slots (c.store_len.ensures.slots ∙ c.move_run.ensures.slots)
+    (c.store_len.ensures.len ∙ ap (λ n. n - 1) c.len-len.ensures.value)
     (c.store_len.ensures.alloc ∙ (c.move_run.ensures.alloc ∙ c.take-value.ensures.alloc))
 
 pub invariant_of-self : goal.invariant_of-self

@@ -8,7 +8,8 @@ use Rattle.thin_vec.proofs.list.ThinVec.resize.Goals as goal
 
 pub returns-clause-overflow : goal.returns-clause-overflow
 returns-clause-overflow g c = λ none.
-    absurd (none-some (ap (λ n. capacity_for g.G.Growth.rule (param 0 g.row.T) c.args.self.now (c.args.len - n)) c.len-old.ensures.value ∙ none) c.in_ok-reserve.ensures.capacity)
+    absurd (none-some (ap (λ n. capacity_for g.G.Growth.rule (param 0 g.row.T) c.args.self.now
+    (c.args.len - n)) c.len-old.ensures.value ∙ none) c.in_ok-reserve.ensures.capacity)
 
 pub returns-clause-items : goal.returns-clause-items
 returns-clause-items g c =
@@ -16,17 +17,24 @@ returns-clause-items g c =
     let r = c.resize_reserved.result in
     let new = c.resize_reserved.new.self.items in
     let same = c.reserve.ensures.items in
-    let long : length grown + (c.args.len - c.len-old.result) ≡ c.args.len = omega (arith, ap length same, c.len-old.ensures.value, c.if-len-old.false) in
+    let long : length grown + (c.args.len - c.len-old.result) ≡ c.args.len =
+    omega (arith, ap length same, c.len-old.ensures.value, c.if-len-old.false) in
     subst (λ xs. OnOk r (IsResized g.T.Clone.is_clone xs c.args.len c.args.value new)) same
-    (subst (λ n. OnOk r (IsResized g.T.Clone.is_clone grown n c.args.value new)) long c.resize_reserved.ensures.items)
+    (subst (λ n. OnOk r (IsResized g.T.Clone.is_clone grown n c.args.value new))
+    long c.resize_reserved.ensures.items)
 
 pub returns-clause-items_if_clones_equal : goal.returns-clause-items_if_clones_equal
 returns-clause-items_if_clones_equal g c =
     let old = c.args.self.now.items in
     let x = c.args.value in
-    let all : take c.args.len old ≡ old = take_all c.args.len old (omega (arith, c.len-old.ensures.value, c.if-len-old.false)) in
-    let same = ap (λ xs. xs ++ replicate (c.args.len - c.len-old.result) x) (c.reserve.ensures.items ∙ sym all) ∙ ap (λ n. take c.args.len old ++ replicate (c.args.len - n) x) c.len-old.ensures.value in
-    subst (λ xs. OnOk c.resize_reserved.result (CloneEquals g.T.Clone.is_clone x → c.resize_reserved.new.self.items ≡ xs)) same c.resize_reserved.ensures.items_if_clones_equal
+    let all : take c.args.len old ≡ old =
+    take_all c.args.len old (omega (arith, c.len-old.ensures.value, c.if-len-old.false)) in
+    let same = ap (λ xs. xs ++ replicate (c.args.len - c.len-old.result) x)
+    (c.reserve.ensures.items ∙ sym all)
+    ∙ ap (λ n. take c.args.len old ++ replicate (c.args.len - n) x) c.len-old.ensures.value in
+    subst (λ xs. OnOk c.resize_reserved.result
+    (CloneEquals g.T.Clone.is_clone x → c.resize_reserved.new.self.items ≡ xs))
+    same c.resize_reserved.ensures.items_if_clones_equal
 
 pub returns-clause-refused : goal.returns-clause-refused
 returns-clause-refused g c =
@@ -36,9 +44,13 @@ returns-clause-refused g c =
     let grown = c.reserve.new.self in
     let new = c.resize_reserved.new.self in
     let capacity = sym c.resize_reserved.ensures.capacity in
-    let paid : grown.cost ≡ cost_at v new.capacity = c.in_ok-reserve.ensures.cost ∙ ap (λ n. cost_at v n) capacity in
+    let paid : grown.cost ≡ cost_at v new.capacity = c.in_ok-reserve.ensures.cost
+    ∙ ap (λ n. cost_at v n) capacity in
     on-err c.resize_reserved.result (λ stops. inr (record {
-      capacity = sym (ap (λ n. capacity_for g.G.Growth.rule (param 0 g.row.T) v (c.args.len - n)) old) ∙ (c.in_ok-reserve.ensures.capacity ∙ ap Some capacity);
-      stopped = subst (λ n. StopsAtClone g.T.Clone.is_infallible (replicate (c.args.len - n - 1) x) (cost_at v new.capacity) new.cost) old
-          (subst (λ k. StopsAtClone g.T.Clone.is_infallible (replicate (c.args.len - c.len-old.result - 1) x) k new.cost) paid stops);
+      capacity = sym (ap (λ n. capacity_for g.G.Growth.rule (param 0 g.row.T) v (c.args.len - n))
+          old) ∙ (c.in_ok-reserve.ensures.capacity ∙ ap Some capacity);
+      stopped = subst (λ n. StopsAtClone g.T.Clone.is_infallible (replicate (c.args.len - n - 1) x)
+          (cost_at v new.capacity) new.cost) old
+          (subst (λ k. StopsAtClone g.T.Clone.is_infallible
+          (replicate (c.args.len - c.len-old.result - 1) x) k new.cost) paid stops);
     })) c.resize_reserved.ensures.refused

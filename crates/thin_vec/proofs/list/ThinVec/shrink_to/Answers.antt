@@ -5,10 +5,13 @@ use Rattle.thin_vec.proofs.list.ThinVec.shrink_to.Goals.{In_ok-shrink}
 use Rattle.thin_vec.proofs.CapacityLemmas.{settle-shrink}
 use Rattle.thin_vec.proofs.list.ThinVec.shrink_to.Goals as goal
 
-facts : (g : _) (c : In_ok-shrink g) → Settled c.shrink.new.self c.self.inside.alloc (items_in c.self.inside.block.slots) c.args.len
+facts : (g : _) (c : In_ok-shrink g) → Settled c.shrink.new.self c.self.inside.alloc
+    (items_in c.self.inside.block.slots) c.args.len
 facts g c =
-    settle-shrink c.self.inside.block c.shrink.new.self c.self.inside.alloc c.args.len c.self.invariant
-    (c.requires.all ∙ sym (ap (λ v. length v.items) c.self.view_is)) c.in_ok-shrink.ensures.slots c.shrink.ensures.len c.in_ok-shrink.ensures.alloc
+    settle-shrink c.self.inside.block c.shrink.new.self c.self.inside.alloc
+    c.args.len c.self.invariant
+    (c.requires.all ∙ sym (ap (λ v. length v.items) c.self.view_is)) c.in_ok-shrink.ensures.slots
+    c.shrink.ensures.len c.in_ok-shrink.ensures.alloc
 
 pub invariant_of-self-2 : goal.invariant_of-self-2
 invariant_of-self-2 g c = (facts g c).thin

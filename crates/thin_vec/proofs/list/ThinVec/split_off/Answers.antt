@@ -4,4 +4,8 @@ use Rattle.thin_block.proofs.CapacityLemmas.{fits-less}
 use Rattle.thin_vec.proofs.list.ThinVec.split_off.Goals as goal
 
 pub with_fitting_capacity-requires : goal.with_fitting_capacity-requires
-with_fitting_capacity-requires g c = record { fits = fits-less (param 0 g.row.T) (c.len.result - c.args.at) c.len.result c.len.ensures.fits (omega arith) }
+with_fitting_capacity-requires g c =
+    record {
+      fits = fits-less (param 0 g.row.T) (c.len.result - c.args.at)
+          c.len.result c.len.ensures.fits (omega arith);
+    }

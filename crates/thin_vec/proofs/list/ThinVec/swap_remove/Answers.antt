@@ -8,19 +8,42 @@ use Rattle.thin_vec.proofs.list.ThinVec.swap_remove.Goals as goal
 pub take_replacing-value-requires : goal.take_replacing-value-requires
 take_replacing-value-requires g c =
     record {
-      first = thin-filled c.self.inside.block c.self.inside.alloc c.args.index c.self.invariant (omega (arith, c.requires.in_bounds, ap (λ v. length v.items) c.self.view_is));
+      first = thin-filled c.self.inside.block c.self.inside.alloc c.args.index c.self.invariant
+          (omega (arith, c.requires.in_bounds, ap (λ v. length v.items) c.self.view_is));
       second = thin-filled c.self.inside.block c.self.inside.alloc _ c.self.invariant
-          (omega (arith, c.requires.in_bounds, c.len-last.ensures.value, c.self.invariant.packed.len, ap (λ v. length v.items) c.self.view_is));
+          (omega (
+            arith,
+            c.requires.in_bounds,
+            c.len-last.ensures.value,
+            c.self.invariant.packed.len,
+            ap (λ v. length v.items) c.self.view_is,
+          ));
     }
 
 facts : (g : _) (c : goal.After-store_len g)
-    → Settled c.store_len.new.self c.self.inside.alloc (swap_remove (items_in c.self.inside.block.slots) c.args.index c.take_replacing-value.result) (length c.self.inside.block.slots)
+    → Settled c.store_len.new.self c.self.inside.alloc
+    (swap_remove (items_in c.self.inside.block.slots)
+    c.args.index c.take_replacing-value.result) (length c.self.inside.block.slots)
 facts g c =
     let long = ap (λ v. length v.items) c.self.view_is in
-    settle-replaced c.self.inside.block c.store_len.new.self c.self.inside.alloc c.args.index (c.len-last.result - 1) c.take_replacing-value.result c.self.invariant
-    (omega (arith, c.requires.in_bounds, c.len-last.ensures.value, c.self.invariant.packed.len, long))
-    (omega (arith, c.requires.in_bounds, c.len-last.ensures.value, c.self.invariant.packed.len, long))
-    c.take_replacing-value.ensures.value (c.store_len.ensures.slots ∙ c.take_replacing-value.ensures.slots) c.store_len.ensures.len
+    settle-replaced c.self.inside.block c.store_len.new.self c.self.inside.alloc c.args.index
+    (c.len-last.result - 1) c.take_replacing-value.result c.self.invariant
+    (omega (
+      arith,
+      c.requires.in_bounds,
+      c.len-last.ensures.value,
+      c.self.invariant.packed.len,
+      long,
+    ))
+    (omega (
+      arith,
+      c.requires.in_bounds,
+      c.len-last.ensures.value,
+      c.self.invariant.packed.len,
+      long,
+    ))
+    c.take_replacing-value.ensures.value
+    (c.store_len.ensures.slots ∙ c.take_replacing-value.ensures.slots) c.store_len.ensures.len
     (c.store_len.ensures.alloc ∙ c.take_replacing-value.ensures.alloc)
 
 pub invariant_of-self : goal.invariant_of-self
@@ -30,7 +53,10 @@ pub returns-clause-value : goal.returns-clause-value
 returns-clause-value g c =
     let long = ap (λ v. length v.items) c.self.view_is in
     sym (ap (λ v. slice_get v.items c.args.index) c.self.view_is)
-    ∙ thin-get c.self.inside.block c.self.inside.alloc c.args.index c.take_replacing-value.result c.self.invariant (omega (arith, c.requires.in_bounds, long)) c.take_replacing-value.ensures.value
+    ∙ thin-get c.self.inside.block c.self.inside.alloc c.args.index c.take_replacing-value.result
+    c.self.invariant (omega (arith, c.requires.in_bounds, long))
+    c.take_replacing-value.ensures.value
 
 pub returns-clause-items : goal.returns-clause-items
-returns-clause-items g c = (facts g c).items ∙ ap (λ v. swap_remove v.items c.args.index c.take_replacing-value.result) c.self.view_is
+returns-clause-items g c = (facts g c).items
+    ∙ ap (λ v. swap_remove v.items c.args.index c.take_replacing-value.result) c.self.view_is

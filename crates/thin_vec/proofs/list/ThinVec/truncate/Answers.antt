@@ -10,7 +10,9 @@ pub loop-i-init : goal.loop-i-init
 loop-i-init g c =
     let row = ap (λ v. front v.items v.capacity) c.self.view_is in
     record {
-      slots = c.store_len.ensures.slots ∙ (c.self.invariant.packed.row ∙ (row ∙ sym (emptying-none c.args.self.now.items c.args.len c.args.self.now.capacity)));
+      slots = c.store_len.ensures.slots
+          ∙ (c.self.invariant.packed.row
+          ∙ (row ∙ sym (emptying-none c.args.self.now.items c.args.len c.args.self.now.capacity)));
       len = c.store_len.ensures.len;
       from = λ x e. c.self.invariant.from x (sym c.store_len.ensures.alloc ∙ e);
       alloc = ap (λ v. v.alloc) c.self.view_is;
@@ -19,29 +21,49 @@ loop-i-init g c =
 
 pub take-requires : goal.take-requires
 take-requires g c =
-    let n : c.len-old.result ≡ length c.args.self.now.items = c.len-old.ensures.value ∙ (c.self.invariant.packed.len ∙ ap (λ v. length v.items) c.self.view_is) in
-    record { filled = rw c.loop-i.invariant.slots (emptying-filled c.args.self.now.items c.args.len c.loop-i.i c.args.self.now.capacity c.loop-i.auto.i (omega (arith, c.loop-i-test.true, n))) }
+    let n : c.len-old.result ≡ length c.args.self.now.items = c.len-old.ensures.value
+    ∙ (c.self.invariant.packed.len ∙ ap (λ v. length v.items) c.self.view_is) in
+    record {
+      filled = rw c.loop-i.invariant.slots
+          (emptying-filled c.args.self.now.items c.args.len c.loop-i.i c.args.self.now.capacity
+          c.loop-i.auto.i (omega (arith, c.loop-i-test.true, n)));
+    }
 
 pub loop-i-preserved : goal.loop-i-preserved
 loop-i-preserved g c =
-    let n : c.len-old.result ≡ length c.args.self.now.items = c.len-old.ensures.value ∙ (c.self.invariant.packed.len ∙ ap (λ v. length v.items) c.self.view_is) in
+    let n : c.len-old.result ≡ length c.args.self.now.items = c.len-old.ensures.value
+    ∙ (c.self.invariant.packed.len ∙ ap (λ v. length v.items) c.self.view_is) in
     let h = c.loop-i.invariant in
     record {
-      slots = c.take.ensures.slots ∙ (ap (λ s. set s c.loop-i.i None) h.slots ∙ emptying-take c.args.self.now.items c.args.len c.loop-i.i c.args.self.now.capacity c.loop-i.auto.i (omega (arith, c.loop-i-test.true, n)));
+      slots = c.take.ensures.slots
+          ∙ (ap (λ s. set s c.loop-i.i None) h.slots
+          ∙ emptying-take c.args.self.now.items c.args.len c.loop-i.i c.args.self.now.capacity
+          c.loop-i.auto.i (omega (arith, c.loop-i-test.true, n)));
       len = c.take.ensures.len ∙ h.len;
       from = λ x e. h.from x (sym c.take.ensures.alloc ∙ e);
       alloc = h.alloc;
       cost = c.take.ensures.cost ∙ h.cost;
     }
 
-facts : (g : _) (c : goal.After-loop-i g) → Settled c.loop-i.self-inside.block c.loop-i.self-inside.alloc (take c.args.len c.args.self.now.items) c.args.self.now.capacity
+facts : (g : _) (c : goal.After-loop-i g)
+    → Settled c.loop-i.self-inside.block c.loop-i.self-inside.alloc
+    (take c.args.len c.args.self.now.items) c.args.self.now.capacity
 facts g c =
     let v = c.args.self.now in
-    let n : c.len-old.result ≡ length v.items = c.len-old.ensures.value ∙ (c.self.invariant.packed.len ∙ ap (λ v. length v.items) c.self.view_is) in
+    let n : c.len-old.result ≡ length v.items = c.len-old.ensures.value
+    ∙ (c.self.invariant.packed.len ∙ ap (λ v. length v.items) c.self.view_is) in
     let h = c.loop-i.invariant in
-    let end : c.loop-i.i ≡ length v.items = omega (arith, n, c.loop-i-test.false, c.loop-i.auto.i-end, c.if-len-old.false) in
-    let room : length v.items ≤ v.capacity = omega (arith, thin-room c.self.inside.block c.self.inside.alloc c.self.invariant, ap (λ w. length w.items) c.self.view_is, ap (λ w. w.capacity) c.self.view_is) in
-    settle-truncate c.loop-i.self-inside.block c.loop-i.self-inside.alloc v.items c.args.len v.capacity (omega (arith, n, c.if-len-old.false)) room
+    let end : c.loop-i.i ≡ length v.items =
+    omega (arith, n, c.loop-i-test.false, c.loop-i.auto.i-end, c.if-len-old.false) in
+    let room : length v.items ≤ v.capacity =
+    omega (
+      arith,
+      thin-room c.self.inside.block c.self.inside.alloc c.self.invariant,
+      ap (λ w. length w.items) c.self.view_is,
+      ap (λ w. w.capacity) c.self.view_is,
+    ) in
+    settle-truncate c.loop-i.self-inside.block c.loop-i.self-inside.alloc v.items c.args.len
+    v.capacity (omega (arith, n, c.if-len-old.false)) room
     (h.slots ∙ ap (λ k. emptying v.items c.args.len k v.capacity) end) h.len h.from
 
 pub invariant_of-self : goal.invariant_of-self

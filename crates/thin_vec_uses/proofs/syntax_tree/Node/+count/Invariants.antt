@@ -4,4 +4,6 @@ use Rattle.thin_vec_uses.proofs.syntax_tree.Node.+count.Given as goal
 
 -- what was counted, and what is to come
 abbrev pub invariant-loop-child : goal.invariant-loop-child
-invariant-loop-child l = (min (l.count + sum (map node_count l.child-iterator.rest.now)) (2 ^ 64 - 1) ≡ min (node_count l.self) (2 ^ 64 - 1)) × (l.count < 2 ^ 64)
+invariant-loop-child l =
+    (min (l.count + sum (map node_count l.child-iterator.rest.now)) (2 ^ 64 - 1) ≡ min
+    (node_count l.self) (2 ^ 64 - 1)) × (l.count < 2 ^ 64)
