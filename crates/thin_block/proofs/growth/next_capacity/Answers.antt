@@ -1,3 +1,4 @@
+-- Each way through the code is that of `ruled_capacity`.
 use Rattle.std.proofs.Common.{sym, ◌∙◌, arith}
 use Rattle.thin_block.specs.Growth.{doubling}
 use Rattle.thin_block.proofs.CapacityLemmas.{ruled-same, ruled-rule}

@@ -1,3 +1,4 @@
+-- No sum or product is past what a word holds, where the capacity fits.
 use Rattle.std.proofs.Common.{◌≡◌, ℕ, ◌+◌, ◌*◌, ap, ◌∙◌, arith}
 use Rattle.std.specs.Mem.{type_size}
 use Rattle.std.specs.Align.{type_align}

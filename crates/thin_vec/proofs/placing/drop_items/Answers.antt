@@ -1,3 +1,4 @@
+-- The slots are emptied one by one.
 use Rattle.std.proofs.Common.{◌≡◌, ◌≤◌, ◌-◌, sym, ap, ◌∙◌, length, arith, None, refl}
 use lib.ListN.{set}
 use Rattle.thin_block.proofs.SlotsLemmas.{packed-le}

@@ -1,3 +1,4 @@
+-- One clone more is laid.
 use Rattle.std.proofs.Common.{ap, arith, ◌∙◌}
 use Rattle.thin_block.specs.Cost.{moving}
 use Rattle.thin_vec.proofs.ClonesLemmas.{lays-more, moving-one}

@@ -1,3 +1,4 @@
+-- So many clones are laid.
 use Rattle.std.proofs.Common.{◌≡◌}
 use Rattle.thin_block.specs.Cost.{moving}
 use Rattle.thin_vec.specs.Clones.{LaysClones}

@@ -1,3 +1,4 @@
+-- One item more is laid.
 use Rattle.std.proofs.Common.{◌∷◌, ◌++◌, [], ◌∙◌, arith}
 use Rattle.std.proofs.lemmas.List.{length_push}
 use Rattle.thin_vec.proofs.ExtendLemmas.{laid-more, moving-more, yields-more}

@@ -1,3 +1,4 @@
+-- One clone more is laid.
 use Rattle.std.proofs.Common.{ap, arith, replicate, sym, ◌∙◌}
 use Rattle.std.proofs.lemmas.List.{get_or-replicate, length-replicate}
 use Rattle.thin_block.specs.Cost.{moving}

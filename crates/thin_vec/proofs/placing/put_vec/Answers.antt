@@ -1,3 +1,4 @@
+-- One item more has come in, from the last on.
 use Rattle.std.proofs.Common.{◌∙◌, ap, arith, length, length-append, refl, subst, sym}
 use Rattle.std.proofs.lemmas.List.{length_push}
 use Rattle.thin_vec.proofs.FromOthersLemmas.{IsMoving, moving-first, moving-more, moving-next, moving-none}

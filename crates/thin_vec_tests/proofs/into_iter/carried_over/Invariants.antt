@@ -1,3 +1,4 @@
+-- What came over, and what is to come, are all the items.
 use Rattle.std.proofs.Common.{◌≡◌, ◌++◌, length}
 use Rattle.thin_vec_tests.proofs.into_iter.carried_over.Given as goal
 

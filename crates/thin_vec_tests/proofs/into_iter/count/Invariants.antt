@@ -1,3 +1,4 @@
+-- As many as were handed out.
 use Rattle.std.proofs.Common.{◌≡◌, length}
 use Rattle.thin_vec_tests.proofs.into_iter.count.Given as goal
 

@@ -1,3 +1,4 @@
+-- The least of those that were handed out so far.
 use Rattle.std.proofs.Common.{◌≡◌, min}
 use Rattle.std.specs.List.{fold}
 use Rattle.thin_vec_tests.proofs.into_iter.least.Given as goal

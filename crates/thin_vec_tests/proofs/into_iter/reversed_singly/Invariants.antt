@@ -1,3 +1,4 @@
+-- What came over is what was handed out.
 use Rattle.std.proofs.Common.{◌≡◌}
 use Rattle.thin_vec_tests.proofs.into_iter.reversed_singly.Given as goal
 

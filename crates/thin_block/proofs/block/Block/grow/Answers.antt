@@ -1,3 +1,4 @@
+-- The slots laid in a larger row are the old ones and empty ones.
 use Rattle.std.proofs.Common.{◌∙◌, arith}
 use Rattle.thin_block.proofs.SlotsLemmas.{packed-grown}
 use Rattle.thin_block.proofs.Outcomes.{on-ok}

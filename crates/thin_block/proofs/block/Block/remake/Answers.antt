@@ -1,3 +1,4 @@
+-- The run that moves is filled, and what is left is empty.
 use Rattle.std.proofs.Common.{◌≡◌, ℕ, length, List, None, sym, ap, ◌∙◌, arith}
 use Rattle.std.specs.Prelude.{Option}
 use Rattle.std.proofs.lemmas.List.{length-replicate}

@@ -1,3 +1,4 @@
+-- The cost that the new block has by then: one block more, with the items.
 use Rattle.thin_block.specs.Cost.{growing}
 use Rattle.thin_block.proofs.block.Block.remake.Given as goal
 

@@ -1,3 +1,4 @@
+-- The slots laid in a smaller row are the first of the old ones.
 use Rattle.std.proofs.Common.{◌∙◌, arith}
 use denote.Param.{param}
 use Rattle.thin_block.proofs.CapacityLemmas.{fits-less}

@@ -1,3 +1,4 @@
+-- The capacity at `u8` is the one at items of its size.
 use Rattle.std.proofs.Common.{◌∙◌, length, refl}
 use Rattle.std.specs.Borrow.{u8}
 use Rattle.thin_block.proofs.CapacityLemmas.{exact-at}

@@ -1,3 +1,4 @@
+-- What was refused of a new list, and the whole run of the iterator.
 use Rattle.std.proofs.Common.{◌+◌, ◌++◌, ◌≡◌, ◌∙◌, ap, arith, length, sym}
 use denote.Param.{param}
 use Rattle.thin_block.specs.Growth.{exact_capacity}

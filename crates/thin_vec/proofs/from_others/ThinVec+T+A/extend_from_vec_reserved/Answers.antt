@@ -1,3 +1,4 @@
+-- The items of the `Vec` lie in front.
 use Rattle.std.proofs.Common.{◌∙◌, ap, arith, length}
 use Rattle.thin_vec.proofs.ListLemmas.{Settled, from-same, settled}
 use Rattle.thin_vec.proofs.from_others.ThinVec+T+A.extend_from_vec_reserved.Goals as goal

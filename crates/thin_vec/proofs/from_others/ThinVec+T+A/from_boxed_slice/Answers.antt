@@ -1,3 +1,4 @@
+-- The cause, by the slice's length.
 use Rattle.std.proofs.Common.{◌∙◌, ap}
 use denote.Param.{param}
 use Rattle.thin_block.specs.Growth.{exact_capacity}

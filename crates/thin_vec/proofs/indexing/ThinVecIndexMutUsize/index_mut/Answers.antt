@@ -1,3 +1,4 @@
+-- The slot of an item is filled, and a list is one again once it is written.
 use Rattle.std.proofs.Common.{◌<◌, ap, arith, length, refl, sym, ◌∙◌}
 use Rattle.std.specs.List.{slice_get}
 use Rattle.thin_block.specs.Lends.{with_item as block_with_item}

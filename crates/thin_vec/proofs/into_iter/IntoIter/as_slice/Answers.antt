@@ -1,3 +1,4 @@
+-- The slots that remain are filled.
 use Rattle.std.proofs.Common.{ap, ◌∙◌}
 use Rattle.thin_vec.proofs.IntoIterLemmas.{walked-filled, walked-run}
 use Rattle.thin_vec.proofs.into_iter.IntoIter.as_slice.Goals as goal

@@ -1,3 +1,4 @@
+-- Fewer items than the capacity fit.
 use Rattle.std.proofs.Common.{ap, arith, length}
 use denote.Param.{param}
 use Rattle.thin_block.proofs.CapacityLemmas.{fits-less}

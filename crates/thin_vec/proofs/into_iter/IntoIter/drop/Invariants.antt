@@ -1,3 +1,4 @@
+-- Fewer items remain each time.
 use Rattle.std.proofs.Common.{length}
 use Rattle.thin_vec.proofs.into_iter.IntoIter.drop.Given as goal
 

@@ -1,3 +1,4 @@
+-- With no item left, each slot is empty.
 use Rattle.std.proofs.Common.{ap, arith, length}
 use Rattle.thin_vec.proofs.IntoIterLemmas.{walked-empty}
 use Rattle.thin_vec.proofs.into_iter.IntoIter.release.Goals as goal

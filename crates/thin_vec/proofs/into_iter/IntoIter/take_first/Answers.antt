@@ -1,3 +1,4 @@
+-- The first slot that remains is filled, and then empty.
 use Rattle.std.proofs.Common.{◌+◌, ◌<◌, ◌∷◌, ap, sym, ◌∙◌, arith, drop, length}
 use Rattle.thin_block.specs.Slots.{items_in}
 use Rattle.thin_vec.proofs.IntoIterLemmas.{Walking, first-item, settle-first, walked-filled}

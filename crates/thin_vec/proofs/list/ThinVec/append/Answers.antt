@@ -1,3 +1,4 @@
+-- The capacity is that for the other list's length.
 use Rattle.std.proofs.Common.{ap, ◌∙◌}
 use denote.Param.{param}
 use Rattle.thin_vec.specs.ThinVec.{capacity_for}

@@ -1,3 +1,4 @@
+-- The items' slots are filled, and a list is one again once they are written.
 use Rattle.std.proofs.Common.{ap, arith, refl, ◌∙◌}
 use Rattle.thin_block.specs.Lends.{with_items as block_with_items}
 use Rattle.thin_vec.specs.Lends.{with_items}

@@ -1,3 +1,4 @@
+-- The items' slots are filled.
 use Rattle.std.proofs.Common.{ap, arith, ◌∙◌}
 use Rattle.thin_vec.proofs.ListLemmas.{thin-filled, thin-run}
 use Rattle.thin_vec.proofs.list.ThinVec.as_slice.Goals as goal

@@ -1,3 +1,4 @@
+-- One growth for the hint, and those of the rest: capacity, cost and cause of both.
 use Rattle.std.proofs.Common.{◌≡◌, ◌++◌, ◌∙◌, ap, arith, length, subst}
 use Rattle.std.specs.Iterator.Runs.{WholeRun}
 use Rattle.std.specs.Prelude.{OnOk}

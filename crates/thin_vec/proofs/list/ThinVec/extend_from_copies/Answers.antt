@@ -1,3 +1,4 @@
+-- The items' type as `reserve` sees it has the same size and alignment.
 use Rattle.std.proofs.Common.{◌+◌, ◌∙◌, Some, ap, length, refl, sym}
 use Rattle.thin_block.proofs.CapacityLemmas.{ruled-at}
 use Rattle.thin_block.proofs.Outcomes.{none-some}

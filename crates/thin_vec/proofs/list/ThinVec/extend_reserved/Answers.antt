@@ -1,3 +1,4 @@
+-- What the iterator gave lies behind the items.
 use Rattle.std.proofs.Common.{◌++◌, ◌-◌, ◌+◌, ◌<◌, ◌≡◌, ◌∙◌, ap, arith, length, length-append}
 use Rattle.std.specs.Iterator.{size}
 use Rattle.thin_block.specs.Cost.{moving}

@@ -1,3 +1,4 @@
+-- What came in so far, and one item more.
 use Rattle.std.proofs.Common.{◌++◌, ◌∷◌, [], ◌-◌, ◌∙◌, ap, arith, append_assoc, length, length-append, subst, sym, ◌+◌, inr}
 use Rattle.std.proofs.lemmas.List.{length_push}
 use denote.Param.{param}

@@ -1,3 +1,4 @@
+-- The items lie in front of a larger block.
 use Rattle.std.proofs.Common.{ap, ◌∙◌, arith}
 use Rattle.thin_vec.proofs.ListLemmas.{Settled}
 use Rattle.thin_block.specs.Slots.{items_in}

@@ -1,3 +1,4 @@
+-- The items from the index on make room, and the value goes in.
 use Rattle.std.proofs.Common.{◌+◌, ◌-◌, ap, ◌∙◌, length, arith, refl}
 use Rattle.std.specs.Prelude.{insert}
 use Rattle.thin_vec.proofs.ListLemmas.{Settled, thin-filled}

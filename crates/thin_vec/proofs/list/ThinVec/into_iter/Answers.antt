@@ -1,3 +1,4 @@
+-- What the walks give, from either end.
 use Rattle.thin_vec.proofs.IntoIterLemmas.{rest_in_order, rest_in_reverse}
 use Rattle.thin_vec.proofs.list.ThinVec.into_iter.Goals as goal
 

@@ -1,3 +1,4 @@
+-- The last slot is filled, and then empty.
 use Rattle.std.proofs.Common.{◌≡◌, ◌+◌, ◌++◌, ◌∷◌, [], sym, ap, ◌∙◌, length, take, arith, ◌-◌}
 use Rattle.thin_vec.proofs.ListLemmas.{Settled, last-item, settle-pop, thin-filled}
 use Rattle.thin_block.specs.Slots.{items_in}

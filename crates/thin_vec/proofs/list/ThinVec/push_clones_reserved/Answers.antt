@@ -1,3 +1,4 @@
+-- The clones lie behind the items.
 use Rattle.std.proofs.Common.{◌++◌, ap, arith, length, ◌∙◌}
 use Rattle.thin_block.specs.Slots.{items_in}
 use Rattle.thin_vec.proofs.ClonesLemmas.{length-copies}

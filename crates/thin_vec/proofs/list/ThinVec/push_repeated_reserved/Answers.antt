@@ -1,3 +1,4 @@
+-- The clones lie behind the items.
 use Rattle.std.proofs.Common.{◌≡◌, ◌++◌, ap, arith, length, replicate, ◌∙◌}
 use Rattle.std.proofs.lemmas.List.{length-replicate}
 use Rattle.thin_block.specs.Slots.{items_in}

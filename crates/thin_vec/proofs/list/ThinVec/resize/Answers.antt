@@ -1,3 +1,4 @@
+-- The list is shorter, or clones and the value lie behind the items.
 use Rattle.std.proofs.Common.{◌≡◌, ◌+◌, ◌-◌, ◌++◌, ap, arith, inr, length, replicate, subst, sym, take, take_all, ◌∙◌}
 use Rattle.std.specs.Prelude.{OnOk, Some}
 use denote.Param.{param}

@@ -1,3 +1,4 @@
+-- Clones that are equal, and the value, are so many times the value.
 use Rattle.std.proofs.Common.{arith}
 use Rattle.thin_vec.proofs.ClonesLemmas.{equal-repeated}
 use Rattle.thin_vec.proofs.list.ThinVec.resize_reserved.Goals as goal

@@ -1,3 +1,4 @@
+-- What the rule names keeps its law.
 use Rattle.std.proofs.Common.{arith}
 use denote.Param.{param}
 use Rattle.thin_vec.proofs.CapacityLemmas.{grows-rule}

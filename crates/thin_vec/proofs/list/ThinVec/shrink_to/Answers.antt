@@ -1,3 +1,4 @@
+-- The items lie in front of a smaller block.
 use Rattle.std.proofs.Common.{sym, ap, ◌∙◌, length}
 use Rattle.thin_block.specs.Slots.{items_in}
 use Rattle.thin_vec.proofs.ListLemmas.{Settled}

@@ -1,3 +1,4 @@
+-- Fewer items than the length fit.
 use Rattle.std.proofs.Common.{◌-◌, arith}
 use denote.Param.{param}
 use Rattle.thin_block.proofs.CapacityLemmas.{fits-less}

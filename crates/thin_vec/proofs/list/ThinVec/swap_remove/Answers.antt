@@ -1,3 +1,4 @@
+-- One slot is emptied, and the last item takes it.
 use Rattle.std.proofs.Common.{◌-◌, sym, ap, ◌∙◌, length, arith}
 use Rattle.std.specs.List.{slice_get, swap_remove}
 use Rattle.thin_block.specs.Slots.{items_in}

@@ -1,3 +1,4 @@
+-- The first slots, as an array, are the items; no slot is filled afterwards.
 use Rattle.std.proofs.Common.{[], ◌∙◌, ap, arith, length, subst}
 use denote.Param.{param}
 use Rattle.thin_block.specs.Capacity.{Fits}

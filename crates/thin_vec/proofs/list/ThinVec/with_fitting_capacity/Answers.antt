@@ -1,3 +1,4 @@
+-- A new block holds no item.
 use Rattle.std.proofs.Common.{[]}
 use Rattle.thin_vec.proofs.ListLemmas.{Settled}
 use Rattle.thin_vec.proofs.list.ThinVec.with_fitting_capacity.Goals.{In_ok-block}

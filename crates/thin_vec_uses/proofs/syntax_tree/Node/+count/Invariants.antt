@@ -1,3 +1,4 @@
+-- What was counted, and what is to come, are all nodes, or more than a word holds.
 use Rattle.std.proofs.Common.{◌≡◌, ◌+◌, ◌-◌, ◌^◌, ◌<◌, map, min, sum}
 use Rattle.thin_vec_uses.specs.SyntaxTree.{node_count}
 use Rattle.thin_vec_uses.proofs.syntax_tree.Node.+count.Given as goal
