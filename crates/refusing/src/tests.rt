@@ -79,3 +79,18 @@ fn a_block_that_inner_refuses_is_not_counted(rt: HostRuntime) -> Result<(), Fail
     );
     Ok(())
 }
+
+#[test]
+fn each_number_refuses_its_own_request(rt: HostRuntime) {
+    for refused in 1..9 {
+        let refusing = Refusing::new(rt.alloc(), refused);
+        let mut kept = Vec::new(rt.alloc());
+        for request in 1..10 {
+            let mut one = Vec::new(&refusing);
+            let answer = (refused, request, one.push(request).is_ok());
+            assert_eq!(rt; answer, (refused, request, request != refused));
+            kept.push(one).ok().expect(&rt, "memory");
+        }
+        assert_eq!(rt; (refusing.requests(), refusing.blocks()), (9, 8));
+    }
+}

@@ -1,15 +1,17 @@
 -- What the crates above need to know of capacities.
-use Rattle.std.proofs.Common.{if◌then◌else◌, Bool, true, false, IsTrue, ◌≡◌, ℕ, zero, suc, ◌*◌, ◌^◌, ◌<◌, ◌≤◌, refl, sym, ◌∙◌, arith}
+use Rattle.std.proofs.Common.{if◌then◌else◌, Bool, true, false, IsTrue, ◌≡◌, ℕ, zero, suc, ◌*◌, ◌^◌, ◌<◌, ◌≤◌, ap, refl, subst, sym, ◌∙◌, arith}
 use Rattle.std.specs.declared.option.Option.TheVariants.{Some, None}
 use borrow.Author.Tests.{lt-ltb, le-ltb, le-leb, lt-leb}
-use native.Mathlib.Nat.{mul-le-mul_right}
+use native.Mathlib.Nat.{mul-le-mul_left, mul-le-mul_right}
 use native.Mathlib.Decide.{dec_lt}
 use denote.RattleType.{RattleType}
 use Rattle.std.specs.Mem.{type_size}
 use Rattle.std.specs.Align.{type_align}
-use Rattle.thin_block.specs.Capacity.{fits, Fits}
-use Rattle.thin_block.specs.Growth.{Rule, KeepsLaw, exact_capacity, fitting, ruled_capacity}
-use Rattle.thin_block.proofs.SizesLemmas.{opened, closed, fits_none, fits_tells, fits_yes}
+use Rattle.std.specs.Prelude.{◌==◌, max}
+use Rattle.std.proofs.lemmas.Bool.Decides.{nat_tests}
+use Rattle.thin_block.specs.Capacity.{fits, first, Fits}
+use Rattle.thin_block.specs.Growth.{Rule, KeepsLaw, doubling, exact_capacity, fitting, ruled_capacity}
+use Rattle.thin_block.proofs.SizesLemmas.{opened, closed, fits_none, fits_tells, fits_yes, rounded}
 
 -- a capacity that suffices stays
 pub ruled-same : (rule : Rule) (R : RattleType) (c w : ℕ) → w ≤ c
@@ -69,6 +71,56 @@ fits-less R c d e less =
 pub fits-none : (R : RattleType) → Fits R 0
 fits-none R = closed R 0 (fits_none R)
 
+-- ---- numbers that are far below every limit, for callers at a known type: fewer than 2 ^ 31 items
+-- of fewer than 2 ^ 31 bytes
+
+pub few_bytes : (c s : ℕ) → c < 2 ^ 31 → s < 2 ^ 31 → c * s < 2 ^ 62
+few_bytes c s few small =
+    let wide : c * s ≤ c * (2 ^ 31) =
+    mul-le-mul_left c (let less : s ≤ 2 ^ 31 = omega arith in less) in
+    omega arith
+
+-- so many fit
+pub small_fits : (R : RattleType) (c : ℕ) → c < 2 ^ 31 → type_size R < 2 ^ 31 → Fits R c
+small_fits R c few small =
+    let bytes : c * type_size R < 2 ^ 62 = few_bytes c (type_size R) few small in
+    let about = rounded R 0 in
+    closed R c (fits_yes R c (omega arith) (omega (arith, about.most)))
+
+-- doubling gives a list without a block 4 places, for up to 4 items
+pub doubling_first : (R : RattleType) (c w : ℕ) → c ≡ 0 → 0 < w → w ≤ 4 → type_size R < 2 ^ 31
+    → ruled_capacity doubling R c w ≡ Some 4
+unfolding doubling fitting first
+doubling_first R c w none some few small =
+    let s : ℕ = type_size R in
+    let more : c < w = omega arith in
+    let four : max w (if c == 0 then first s else 2 * c) ≡ 4 = grind (arith, nat_tests) in
+    let fit : fits s (type_align R) (max w (if c == 0 then first s else 2 * c)) ≡ true =
+    subst (Fits R) (sym four) (small_fits R 4 (omega arith) small) in
+    ruled-rule doubling R c w more (omega arith) ∙ (rw fit (ap Some four))
+
+-- and any other twice its places, where they suffice
+pub doubling_next : (R : RattleType) (c w : ℕ) → 0 < c → c < w → w ≤ 2 * c → c < 2 ^ 30
+    → type_size R < 2 ^ 31 → ruled_capacity doubling R c w ≡ Some (2 * c)
+unfolding doubling fitting
+doubling_next R c w some more enough few small =
+    let s : ℕ = type_size R in
+    let twice : max w (if c == 0 then first s else 2 * c) ≡ 2 * c = grind (arith, nat_tests) in
+    let fit : fits s (type_align R) (max w (if c == 0 then first s else 2 * c)) ≡ true =
+    subst (Fits R) (sym twice) (small_fits R (2 * c) (omega arith) small) in
+    ruled-rule doubling R c w more (omega arith) ∙ (rw fit (ap Some twice))
+
+-- or as many as are wanted, where those are more
+pub doubling_wanted : (R : RattleType) (c w : ℕ) → 0 < c → 2 * c < w → w < 2 ^ 31
+    → type_size R < 2 ^ 31 → ruled_capacity doubling R c w ≡ Some w
+unfolding doubling fitting
+doubling_wanted R c w some more few small =
+    let s : ℕ = type_size R in
+    let wanted : max w (if c == 0 then first s else 2 * c) ≡ w = grind (arith, nat_tests) in
+    let fit : fits s (type_align R) (max w (if c == 0 then first s else 2 * c)) ≡ true =
+    subst (Fits R) (sym wanted) (small_fits R w few small) in
+    ruled-rule doubling R c w (omega arith) (omega arith) ∙ (rw fit (ap Some wanted))
+
 -- an exact capacity that suffices stays
 pub exact-same : (R : RattleType) (c w : ℕ) → w ≤ c → exact_capacity R c w ≡ Some c
 unfolding exact_capacity
@@ -79,16 +131,21 @@ pub exact-fits : (R : RattleType) (c w : ℕ) → c < w → Fits R w → exact_c
 unfolding exact_capacity fitting
 exact-fits R c w more fit = rw (lt-leb w c more, fit) refl
 
+no_answer : (b : Bool) (n : ℕ) → (IsTrue b → ⊥) → (if b then Some n else None) ≡ None
+no_answer true n never = absurd (never refl)
+no_answer false n never = refl
+
+-- a rule names nothing that does not fit
+pub fitting_none : (R : RattleType) (n : ℕ) → (Fits R n → ⊥)
+    → fitting (type_size R) (type_align R) n ≡ None
+unfolding fitting
+fitting_none R n never = no_answer (fits (type_size R) (type_align R) n) n never
+
 -- and one that does not fit overflows
 pub exact-overflow : (R : RattleType) (c w : ℕ) → c < w → (Fits R w → ⊥)
     → exact_capacity R c w ≡ None
-unfolding exact_capacity fitting
-exact-overflow R c w more never =
-    rw (lt-leb w c more) (not_fitting (fits (type_size R) (type_align R) w) never)
-  where
-    not_fitting : (b : Bool) → (IsTrue b → ⊥) → (if b then Some w else None) ≡ None
-    not_fitting true wrong = absurd (wrong refl)
-    not_fitting false wrong = refl
+unfolding exact_capacity
+exact-overflow R c w more never = rw (lt-leb w c more) (fitting_none R w never)
 
 -- where there was no block, as well at a want of nothing, which fits
 pub exact-none : (R : RattleType) (w : ℕ) → (Fits R w → ⊥) → exact_capacity R 0 w ≡ None

@@ -1,4 +1,5 @@
 mod SizesLemmas
+mod PowersLemmas
 mod Walks
 mod HeaderMemory
 mod SlotMemory

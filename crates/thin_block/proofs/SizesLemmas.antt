@@ -10,7 +10,9 @@ use prog.Capped.{capped_is, capped_small}
 use denote.RattleType.{RattleType}
 use denote.Param.{layout}
 use native.Mathlib.Nat.{mul-le-mul_right}
-use Rattle.std.specs.Prelude.{max, ◌==◌, if◌then◌else◌}
+use Rattle.std.specs.Prelude.{max, min, ◌==◌, if◌then◌else◌}
+use Rattle.std.proofs.Common.{inl, inr, eq-zero-or-pos as eq-or-pos}
+use Rattle.std.proofs.lemmas.Bool.{cases_lt}
 use Rattle.std.specs.declared.option.Option.TheVariants.{Some, None}
 use Rattle.std.specs.Int.{next_multiple_of}
 use Rattle.std.specs.Mem.{type_size}
@@ -255,21 +257,24 @@ tried_first s c w d none is = grind (arith, nat_tests)
 pub tried_twice : (s c w d : ℕ) → (c ≡ 0 → ⊥) → d ≡ 2 * c → max w d ≡ tried s c w
 tried_twice s c w d some is = grind (arith, nat_tests)
 
--- doubling names what fits
-pub doubling_some : (s a c w n : ℕ) → n ≡ tried s c w → fits s a n ≡ true
-    → Some n ≡ doubling s a c w
-unfolding doubling fitting
-doubling_some s a c w n is small = (λ i. if sym small i then Some n else None)
-    ∙ ap (λ (k : ℕ). if fits s a k then Some k else None) is
+pub fitting_past : (s a n : ℕ) → 2 ^ 63 ≤ n → fitting s a n ≡ None
+unfolding fitting
+fitting_past s a n many = λ i. if fits_no s a n many i then Some n else None
 
--- doubling names nothing where nothing fits
-pub doubling_none : (s a c w n : ℕ) → n ≡ tried s c w → fits s a n ≡ false → None ≡ doubling s a c w
-unfolding doubling fitting
-doubling_none s a c w n is large = (λ i. if sym large i then Some n else None)
-    ∙ ap (λ (k : ℕ). if fits s a k then Some k else None) is
-
--- nor after a capacity of 2 ^ 63 or more
-pub doubling_past : (s a c w : ℕ) → c < w → 2 ^ 63 ≤ c → None ≡ doubling s a c w
-doubling_past s a c w more many =
-    let high : w ≤ tried s c w = omega arith in
-    doubling_none s a c w (tried s c w) refl (fits_no s a (tried s c w) (omega arith))
+-- what the code tries, of which each number past `usize::MAX` is that number, fits where the rule's
+-- fits
+pub doubling_is : (s a c w d : ℕ) → c < w → (c ≡ 0 → d ≡ first s)
+    → ((c ≡ 0 → ⊥) → d ≡ min (c * 2) (2 ^ 64 - 1)) → fitting s a (max w d) ≡ doubling s a c w
+unfolding doubling
+doubling_is s a c w d more none some = elim (cases_lt c (2 ^ 63)) [
+  | inl few ↦ ap (fitting s a) (tries few)
+  | inr many ↦ fitting_past s a (max w d) (omega arith)
+      ∙ sym (fitting_past s a (tried s c w) (omega arith))
+]
+  where
+    tries : c < 2 ^ 63 → max w d ≡ tried s c w
+    tries few = elim (eq-or-pos c) [
+      | inl zeroed ↦ tried_first s c w d zeroed (none zeroed)
+      | inr positive ↦ tried_twice s c w d (λ e. omega (arith, e))
+          (omega (arith, some (λ e. omega (arith, e))))
+    ]

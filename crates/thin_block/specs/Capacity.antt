@@ -38,6 +38,6 @@ abbrev pub Fits : RattleType → ℕ → Type 0
 Fits R c = IsTrue (fits (type_size R) (type_align R) c)
 
 -- the least capacity that a growth by doubling makes: 1 for items of more than `usize::MAX / 8`
--- bytes, 4 for others
+-- bytes, 4 for others (thin-vec)
 unfoldable pub first : ℕ → ℕ
 first s = if nat_lt (2 ^ 61 - 1) s then 1 else 4

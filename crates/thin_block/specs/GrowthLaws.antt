@@ -13,7 +13,7 @@ when_some true m n e = (refl, cc)
 when_some false m n e = cc
 
 -- what fits is itself
-fitting_is : (s a m n : ℕ) → fitting s a m ≡ Some n → IsTrue (fits s a m) × (m ≡ n)
+pub fitting_is : (s a m n : ℕ) → fitting s a m ≡ Some n → IsTrue (fits s a m) × (m ≡ n)
 unfolding fitting
 fitting_is s a m n e = when_some (fits s a m) m n e
 

@@ -2,7 +2,7 @@
 use Rattle.std.specs.Prelude.{◌≡◌, ℕ, zero, suc, ◌≤◌, List, [], ◌∷◌, length, Option, slice_set}
 use Rattle.std.specs.declared.option.Option.TheVariants.{None, Some}
 use Rattle.core.specs.declared.alloc.Allocator.{Ghosts}
-use Rattle.core.specs.Borrow.{Lends, LendsBoth, MutBor, Fml, RattleType, Array}
+use Rattle.core.specs.Borrow.{Lends, MutBor, Fml, RattleType, Array}
 use mathlib.Core.Path.{refl, sym, ap, subst, ◌∙◌}
 use lib.ListN.{length-set}
 use Rattle.thin_block.specs.Ownership.{any_same}
@@ -44,13 +44,6 @@ module _ {X Z : Type 0} where
   abbrev pub with_item : Block X Z → ℕ → X → Block X Z
   with_item b i w = with_slots b (slice_set b.slots i (Some w)) (length-set b.slots i (Some w))
 
-  -- b with the items v and w in the slots i and j
-  abbrev pub with_two : Block X Z → ℕ → ℕ → X → X → Block X Z
-  with_two b i j v w =
-      let s : List (Option X) = slice_set b.slots i (Some v) in
-      with_slots b (slice_set s j (Some w))
-      (length-set s j (Some w) ∙ length-set b.slots i (Some v))
-
   -- b with the items ws in the slots from i on
   abbrev pub with_items : Block X Z → ℕ → List X → Block X Z
   with_items b i ws = with_slots b (over b.slots i ws) (length-over b.slots i ws)
@@ -59,10 +52,6 @@ module _ (T A : RattleType) (g : Ghosts A.Denot) (b : MutBor (Block T.Denot A.De
   -- r is the item in the slot i of b
   abbrev pub LendsItem : ℕ → MutBor T.Denot → Fml
   LendsItem i r = Lends (the_row T A g) T b r (with_item b.now i)
-
-  -- r is the items in the slots i and j of b
-  abbrev pub LendsTwo : ℕ → ℕ → MutBor T.Denot × MutBor T.Denot → Fml
-  LendsTwo i j r = LendsBoth (the_row T A g) T T b r (with_two b.now i j)
 
   -- r is the items in the slots from i on
   abbrev pub LendsItems : ℕ → MutBor (List T.Denot) → Fml

@@ -1,6 +1,7 @@
 pub mod Capacity
 pub mod Growth
 pub mod GrowthLaws
+pub mod PowerLaws
 pub mod Slots
 pub mod Cost
 pub mod Ownership

@@ -67,6 +67,7 @@ impl<T, A: Allocator> Block<T, A> {
         ensures in_bounds { result ≤ length self.now.slots }
         ensures small { length self.now.slots < 2 ^ 63 }
         ensures fits { Fits T.row result }
+        ensures slots_fit { Fits T.row (length self.now.slots) }
     {
         let at = self.at;
         unsafe { *at.add(1) }
@@ -75,6 +76,8 @@ impl<T, A: Allocator> Block<T, A> {
     /// The number of slots: 0 exactly where there is no block.
     pub fn cap(&self) -> usize
         ensures value { result ≡ length self.now.slots }
+        ensures in_bounds { self.now.len ≤ result }
+        ensures small { result < 2 ^ 63 }
         ensures fits { Fits T.row result }
     {
         let at = self.at;

@@ -1,8 +1,12 @@
 //! Why a call was refused.
+ghost use Rattle.std.specs.IoError.{error_kind};
 ghost use Rattle.std.specs.Prelude.{◌≡◌};
+ghost use Rattle.std.specs.declared.io.ErrorKind.TheVariants as Kind;
 ghost use Rattle.thin_block.specs.declared.errors.ThinVecError.TheVariants.{OutOfMemory};
 
 use std::alloc::AllocError;
+use std::io;
+use std::io::ErrorKind;
 use thiserror::Error;
 
 /// Why a call was refused.
@@ -21,5 +25,21 @@ impl From<AllocError> for ThinVecError {
 
     fn from(_refused: AllocError) -> ThinVecError {
         ThinVecError::OutOfMemory
+    }
+}
+
+impl From<ThinVecError> for AllocError {
+    // The cause is not told.
+    fn from(_cause: ThinVecError) -> AllocError {
+        AllocError
+    }
+}
+
+impl From<ThinVecError> for io::Error {
+    ghost from_gives = { λ _ error. error_kind error ≡ Kind.OutOfMemory };
+
+    // An overflow too is an error of the kind `OutOfMemory`: std has none of its own for it.
+    fn from(_cause: ThinVecError) -> io::Error {
+        io::Error::from(ErrorKind::OutOfMemory)
     }
 }

@@ -1,5 +1,5 @@
 //! What a block lends: its items in place.
-ghost use Rattle.std.specs.Prelude.{◌≡◌, ◌≢◌, ℕ, ◌<◌, ◌≤◌, IsSome, length, slice_range};
+ghost use Rattle.std.specs.Prelude.{◌≡◌, ℕ, ◌<◌, ◌≤◌, IsSome, length, slice_range};
 ghost use Rattle.std.specs.declared.option.Option.TheVariants.{Some};
 ghost use types.Logic.{sem};
 ghost use Rattle.thin_block.specs.Slots.{full, slot};
@@ -9,7 +9,7 @@ use crate::sizes::HEADER_WORDS;
 use std::alloc::Allocator;
 
 impl<T, A: Allocator> Block<T, A> {
-    ghost use Rattle.thin_block.specs.Lends.{LendsItem, LendsItems, LendsTwo};
+    ghost use Rattle.thin_block.specs.Lends.{LendsItem, LendsItems};
 
     /// The items in the slots from `start` up to `end`. The range may be empty, also without a block.
     pub fn slice(&self, start: usize, end: usize) -> &[T]
@@ -33,23 +33,6 @@ impl<T, A: Allocator> Block<T, A> {
     {
         let at = self.at;
         unsafe { &mut *(at.add(HEADER_WORDS) as *mut T).add(i) }
-    }
-
-    /// The items in two different slots, to be written.
-    // Callers learn what the block holds afterwards from `slice_mut` and `split_at_mut`, and not yet from this pair.
-    pub fn two_mut(&mut self, i: usize, j: usize) -> (&mut T, &mut T)
-        requires different { i ≢ j }
-        requires first { IsSome (slot self.old.slots i) }
-        requires second { IsSome (slot self.old.slots j) }
-        ensures* writes_back { sem 𝓛 (LendsTwo T.row A.row A.Allocator self.entry i j result) }
-        ensures first { slot self.old.slots i ≡ Some result.0.now }
-        ensures second { slot self.old.slots j ≡ Some result.1.now }
-    {
-        let at = self.at;
-        unsafe {
-            let items = at.add(HEADER_WORDS) as *mut T;
-            (&mut *items.add(i), &mut *items.add(j))
-        }
     }
 
     /// The items in the slots from `start` up to `end`, to be written. The range may be empty, also without a block.

@@ -14,5 +14,7 @@ mod tests;
 
 pub use block::Block;
 pub use errors::ThinVecError;
-pub use growth::{Doubling, Growth, first_capacity, next_capacity};
+pub use growth::Growth;
+pub use growth::doubling::{Doubling, first_capacity, next_capacity};
+pub use growth::power_bytes::PowerBytes;
 pub use sizes::fits;

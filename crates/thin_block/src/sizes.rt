@@ -8,7 +8,7 @@ ghost use Rattle.thin_block.specs.Capacity.{IsAlign, block_align, block_bytes, F
 use std::mem::{align_of, size_of};
 
 // The bytes of the capacity and the length. No type has an alignment above 16, so the items always begin here.
-const HEADER: usize = 16;
+pub(crate) const HEADER: usize = 16;
 
 // The same in words: how far behind the capacity the first item lies.
 pub(crate) const HEADER_WORDS: usize = 2;

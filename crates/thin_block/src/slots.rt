@@ -11,6 +11,9 @@ use crate::sizes::HEADER_WORDS;
 use core::slots::Slots;
 use std::alloc::Allocator;
 
+// So many items, or fewer, are copied in one by one.
+const FEW: usize = 16;
+
 impl<T, A: Allocator> Block<T, A> {
     /// Moves `value` into the empty slot `i`, which owns it afterwards.
     pub fn put(&mut self, i: usize, value: T)
@@ -261,13 +264,32 @@ impl<T: Copy, A: Allocator> Block<T, A> {
     }
 }
 
-// `row` with a copy of each of `items`, as many as it has places. It is one copy, by std's `Slots::copy_in`.
+// `row` with a copy of each of `items`, as many as it has places.
+//
+// std's `Slots::copy_in` is one copy, by a call and behind a test whether the two runs overlap. For a few items that would
+// cost more than the items.
 fn copied<T: Copy>(mut row: Slots<T>, items: &[T]) -> Slots<T>
     requires room { slots_len row ≡ length items.now }
     ensures cap { SamePlaces row result }
     ensures items { slots_items result ≡ items.now }
     ensures filled { IsFull result }
 {
+    if items.len() <= FEW {
+        return copied_singly(row, items);
+    }
     row.copy_in(0, items);
+    row
+}
+
+// `copied`, item by item.
+fn copied_singly<T: Copy>(mut row: Slots<T>, items: &[T]) -> Slots<T>
+    requires room { slots_len row ≡ length items.now }
+    ensures cap { SamePlaces row result }
+    ensures items { slots_items result ≡ items.now }
+    ensures filled { IsFull result }
+{
+    for i in 0..items.len() {
+        row.put(i, items[i]);
+    }
     row
 }

@@ -3,7 +3,9 @@ ghost use Rattle.std.specs.Prelude.{◌≡◌, IsTrue, IsFalse, ◌^◌, ◌-◌
 ghost use Rattle.thin_block.specs.Capacity.{items_offset, fits as fits_at};
 
 use crate::errors::ThinVecError;
-use crate::growth::{first_capacity, next_capacity};
+use crate::growth::Growth;
+use crate::growth::doubling::{first_capacity, next_capacity};
+use crate::growth::power_bytes::PowerBytes;
 use crate::sizes::fits;
 use std::alloc::AllocError;
 use std::test::Fail;
@@ -38,6 +40,16 @@ fn the_next_capacity(rt: HostRuntime) {
     );
     assert_eq!(rt; next_capacity::<u8>(1 << 62, (1 << 62) + 1), None);
     assert_eq!(rt; next_capacity::<()>(1 << 62, (1 << 62) + 1), None);
+}
+
+// The greatest want that a block of 2 ^ 62 bytes has room for, and the next one.
+#[test]
+fn the_last_power_of_two(rt: HostRuntime) {
+    let last = (1 << 62) - 16;
+    assert_eq!(rt; PowerBytes::next_capacity::<u8>(0, last), Some(last));
+    assert_eq!(rt; PowerBytes::next_capacity::<u8>(0, last + 1), None);
+    assert_eq!(rt; next_capacity::<u8>(0, last), Some(last));
+    assert_eq!(rt; next_capacity::<u8>(0, last + 1), Some(last + 1));
 }
 
 #[test]

@@ -23,7 +23,7 @@ use Rattle.core.proofs.slots.Lent.{pointer_in, pointer_out, word_in, word_out}
 use Rattle.thin_block.proofs.Walks.{slot_at, after, says_all}
 use Rattle.thin_block.proofs.HeaderMemory.{args}
 use Rattle.thin_block.proofs.Sharing.{block_seen}
-use Rattle.thin_block.proofs.SizesLemmas.{closed}
+use Rattle.thin_block.proofs.SizesLemmas.{closed, fits_tells}
 use Rattle.thin_block.specs.contracts.block.Block.cap.{ended, clauses}
 use Rattle.thin_block.specs.contracts.block.Block.cap.Key.{name as #self}
 use Rattle.thin_block.proofs.block.Block.cap.Statement.{statement}
@@ -78,4 +78,5 @@ cap_spec 𝓤 𝓛 𝓜 𝓡 wired T A LT LA g d dd met md =
     nothing ! $ nothing ! $ fjoin ! $ move ! (0 ∷ 1 ∷ []) $ join ! $
     move ! (1 ∷ 2 ∷ []) $ join ! $ join ! $
     suffices ! _ (ends_at 𝓛 En₀ hs c z (vint w64 n) n (tt, tt) (tt, tt)) $
-    says_all ! (_ ∷ _ ∷ []) (refl, closed (R E) n small) $ done !)))))
+    says_all ! (_ ∷ _ ∷ _ ∷ _ ∷ [])
+    (refl, (x.sound.0, ((fits_tells (R E) n small).few, closed (R E) n small))) $ done !)))))

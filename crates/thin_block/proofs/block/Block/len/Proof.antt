@@ -80,14 +80,16 @@ len_spec 𝓤 𝓛 𝓜 𝓡 wired T A LT LA g d dd met md =
     nothing ! $ nothing ! $ fjoin ! $ move ! (0 ∷ 1 ∷ []) $ join ! $
     move ! (1 ∷ 2 ∷ []) $ join ! $ join ! $
     suffices ! _ (ends_at 𝓛 En₀ hs c z (vint w64 n) n (tt, tt) (tt, tt)) $
-    says_all ! (_ ∷ _ ∷ _ ∷ _ ∷ []) (
+    says_all ! (_ ∷ _ ∷ _ ∷ _ ∷ _ ∷ []) (
       refl,
       (
         x.sound.0,
         (
           (fits_tells (R E) (length x.slots) small).few,
-          fits-less (R E) n (length x.slots)
-              (closed (R E) (length x.slots) small) x.sound.0,
+          (
+            fits-less (R E) n (length x.slots) (closed (R E) (length x.slots) small) x.sound.0,
+            closed (R E) (length x.slots) small,
+          ),
         ),
       ),
     ) $ done !)))))

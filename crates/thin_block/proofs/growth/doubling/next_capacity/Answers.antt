@@ -1,9 +1,8 @@
--- Each way through the code is that of `ruled_capacity`.
 use Rattle.std.proofs.Common.{sym, ◌∙◌, arith}
 use Rattle.thin_block.specs.Growth.{doubling}
 use Rattle.thin_block.proofs.CapacityLemmas.{ruled-same, ruled-rule}
 use denote.Param.{param}
-use Rattle.thin_block.proofs.growth.next_capacity.Goals as goal
+use Rattle.thin_block.proofs.growth.doubling.next_capacity.Goals as goal
 
 pub returns-then-want-cap : goal.returns-then-want-cap
 returns-then-want-cap g c =

@@ -1,9 +1,8 @@
--- Each way through the code is that of `first`.
 use Rattle.std.proofs.Common.{arith}
 use Rattle.std.specs.Mem.{type_size}
 use Rattle.thin_block.proofs.SizesLemmas.{first_one, first_many}
 use denote.Param.{param}
-use Rattle.thin_block.proofs.growth.first_capacity.Goals as goal
+use Rattle.thin_block.proofs.growth.doubling.first_capacity.Goals as goal
 
 pub returns-then-item_size : goal.returns-then-item_size
 returns-then-item_size g c = let is = c.item_size.ensures.value in

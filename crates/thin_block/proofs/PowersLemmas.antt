@@ -1,0 +1,96 @@
+-- What the code of the rule of powers of two computes is what the rule says.
+use Rattle.std.proofs.Common.{◌≡◌, ℕ, ◌+◌, ◌-◌, ◌*◌, ◌/◌, ◌^◌, ◌<◌, ◌≤◌, Option, IfSome, inl, inr, max, min, sym, ap, subst, ◌∙◌, arith}
+use Rattle.std.specs.declared.option.Option.TheVariants.{Some, None}
+use Rattle.std.specs.Mem.{type_size}
+use Rattle.std.specs.Align.{type_align}
+use prog.Memory.{capped}
+use prog.Capped.{capped_fits, capped_is, capped_small}
+use denote.RattleType.{RattleType}
+use native.Mathlib.Nat.{mul-le-mul_left, mul-le-mul_right}
+use Rattle.std.proofs.lemmas.Nat.{le-div}
+use Rattle.std.proofs.lemmas.Bool.{cases_lt}
+use Rattle.thin_block.specs.Capacity.{Fits, items_offset}
+use Rattle.thin_block.specs.Growth.{FillsPower, fitting, least_power, power_bytes}
+use Rattle.thin_block.specs.PowerLaws.{least_power_is, powers_filled, powers_of_some}
+use Rattle.thin_block.proofs.CapacityLemmas.{fitting_none}
+use Rattle.thin_block.proofs.SizesLemmas.{fits_tells, opened, rounded}
+
+-- a number of bytes that the code sees as 0 is 0
+pub takes_none : (s size : ℕ) → size ≡ capped s → size ≡ 0 → s ≡ 0
+takes_none s size is none =
+    let low : s < 2 ^ 63 = capped_small s (omega (arith, is, none)) in
+    omega (arith, capped_is s (omega (arith, low)), is, none)
+
+capped_le : (s : ℕ) → capped s ≤ s
+capped_le s = elim (cases_lt s (2 ^ 64)) [
+  | inl low ↦ omega (arith, capped_is s low)
+  | inr high ↦ omega (arith, capped_fits s, high)
+]
+
+takes_some : (s size : ℕ) → size ≡ capped s → 0 < size → 0 < s
+takes_some s size is some = omega (arith, is, some, capped_le s)
+
+-- each capacity that the rule names fills a power
+pub each_fills : (s a c w : ℕ) (r : Option ℕ) → r ≡ power_bytes s a c w → 0 < s
+    → IfSome r (FillsPower s a)
+each_fills s a c w None e some = tt
+each_fills s a c w (Some n) e some = powers_filled s a c w n some (sym e)
+
+module _ (R : RattleType) (c w size : ℕ) (is : size ≡ capped (type_size R))
+    (some : 0 < size) (more : c < w) where
+  abbrev s : ℕ
+  s = type_size R
+
+  abbrev a : ℕ
+  a = type_align R
+
+  -- as many items as the code and the rule go by
+  abbrev items : ℕ
+  items = max w (min (c * 2) (2 ^ 64 - 1))
+
+  abbrev wanted : ℕ
+  wanted = max w (2 * c)
+
+  -- where their bytes are few, no number was past `usize::MAX`
+  module _ (small : 16 + items * size ≤ 2 ^ 63) where
+    size_is : s ≡ size
+    size_is =
+        let one : 1 * size ≤ items * size =
+        mul-le-mul_right size (let low : 1 ≤ items = omega (arith, more) in low) in
+        let low : s < 2 ^ 63 = capped_small s (omega (arith, one, small, is)) in
+        sym (is ∙ capped_is s (omega (arith, low)))
+
+    items_are : items ≡ wanted
+    items_are =
+        let one : items * 1 ≤ items * size =
+        mul-le-mul_left items (let low : 1 ≤ size = some in low) in
+        omega (arith, one, small)
+
+    pub power_is : (power : ℕ) → power ≡ least_power (16 + items * size)
+        → fitting s a ((power - 16) / size) ≡ power_bytes s a c w
+    power_is power e =
+        let offset : 16 ≡ items_offset a = sym (rounded R 0).offset in
+        let bytes : 16 + items * size ≡ items_offset a + wanted * s =
+        λ i. offset i + items_are i * sym size_is i in
+        let next : (power - 16)
+        / size ≡ (least_power (items_offset a + wanted * s) - items_offset a) / s =
+        λ i. ((e ∙ ap least_power bytes) i - offset i) / sym size_is i in
+        ap (fitting s a) next ∙ sym (powers_of_some s a c w (omega (arith, size_is, some)))
+
+  -- where they are many, the capacity does not fit
+  pub power_past : 2 ^ 63 < 16 + items * size → None ≡ power_bytes s a c w
+  power_past large =
+      let offset = (rounded R 0).offset in
+      let takes : 0 < s = takes_some s size is some in
+      let n : ℕ = (least_power (items_offset a + wanted * s) - items_offset a) / s in
+      let power = (least_power_is (items_offset a + wanted * s)).1 in
+      let held : wanted ≤ n =
+      le-div wanted (least_power (items_offset a + wanted * s) - items_offset a) s takes
+      (omega (arith, power)) in
+      let less : items * size ≤ items * s =
+      mul-le-mul_left items (let low : size ≤ s = omega (arith, is, capped_le s) in low) in
+      let more : items * s ≤ n * s =
+      mul-le-mul_right s (let few : items ≤ n = omega (arith, held) in few) in
+      let never : Fits R n → ⊥ = λ fit. (let room = (fits_tells R n (opened R n fit)).room in
+      omega (arith, room, large, less, more)) in
+      sym (powers_of_some s a c w takes ∙ fitting_none R n never)
