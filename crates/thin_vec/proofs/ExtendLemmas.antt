@@ -1,23 +1,26 @@
 -- What calls of `next` gave, and what a block and a list are once it was placed.
-use Rattle.std.proofs.Common.{true, ◌≡◌, ℕ, ◌+◌, ◌-◌, ◌<◌, ◌≤◌, List, [], ◌∷◌, ◌++◌, inl, inr, length, Option, Some, refl, sym, ap, subst, ◌∙◌, arith}
+use Rattle.std.proofs.Common.{true, ◌≡◌, ℕ, ◌+◌, ◌-◌, ◌<◌, ◌≤◌, List, [], ◌∷◌, ◌++◌, inl, inr, length, Option, Some, refl, sym, ap, subst, ◌∙◌, arith, false, None}
 use Rattle.std.proofs.lemmas.Bool.{cases_lt}
 use Rattle.std.proofs.lemmas.List.{map-append}
 use Rattle.std.specs.Borrow.{RattleType}
 use Rattle.std.proofs.iter.runs.Made.{run, to_end}
-use Rattle.std.specs.Iterator.{Drains, Yields}
-use Rattle.std.specs.Iterator.Runs.{WholeRun}
+use Rattle.std.specs.Iterator.{Count, Drains, Yields}
+use Rattle.std.specs.Iterator.SizeHint.{IsWithinCount}
+use Rattle.std.specs.Iterator.Runs.{SomeRun, WholeRun}
 use Rattle.std.specs.declared.result.Result.{Result}
 use Rattle.std.specs.declared.result.Result.TheVariants.{Ok, Err}
-use Rattle.std.specs.Prelude.{OnOk}
+use Rattle.std.specs.Prelude.{OnOk, IfErr, OnSome}
+use Rattle.std.proofs.lemmas.Bool.{false≢true}
+use Rattle.std.specs.Option.{option_to_list}
 use lib.ListN.{set}
 use Rattle.thin_block.specs.Cost.{Cost, moving}
-use Rattle.thin_block.specs.Growth.{Rule, KeepsLaw}
+use Rattle.thin_block.specs.Growth.{Rule, KeepsLaw, exact_capacity}
 use Rattle.thin_block.specs.Slots.{full, laid}
 use Rattle.thin_block.proofs.CapacityLemmas.{ruled-grows}
 use Rattle.thin_block.proofs.SlotsLemmas.{laid-one}
 use Rattle.std.specs.Prelude.{◌⊎◌}
-use Rattle.thin_vec.specs.Extend.{IsNamed, IsExtendCost, IsLoose}
-use Rattle.thin_vec.specs.ThinVec.{Thin, capacity_for, cost_at}
+use Rattle.thin_vec.specs.Extend.{GaveUp, IsCollected, IsExtendCost, IsLoose, IsNamed}
+use Rattle.thin_vec.specs.ThinVec.{IsNew, Thin, capacity_for, cost_at, exact_for}
 use Rattle.thin_vec.proofs.ClonesLemmas.{moving-one}
 use Rattle.thin_vec.proofs.ListLemmas.{length-full}
 use Rattle.thin_vec.proofs.ThinVecLemmas.{cap-kept, cost_at-more, cost_at-moves, cost_at-same}
@@ -35,6 +38,11 @@ module _ {S X : Type 0} (steps : S → Option X → S → Type 0) where
   yields-join s t u [] ys e more = subst (λ r. Yields steps r ys u) (sym e) more
   yields-join s t u (x ∷ xs) ys e more = (e.0, e.1, yields-join e.0 t u xs ys e.2 more)
 
+  -- the first of several calls, alone
+  pub yields-first : (s u : S) (xs ys : List X) → Yields steps s (xs ++ ys) u → (t : S) × Yields steps s xs t
+  yields-first s u [] ys e = (s, refl)
+  yields-first s u (x ∷ xs) ys e = let rest = yields-first e.0 u xs ys e.2 in (rest.0, (e.0, e.1, rest.1))
+
   -- calls that went on to `None`, as a run
   pub run_of : (s : S) (P : List X → Type 0) → (xs : List X) × Drains steps s xs × P xs
       → WholeRun steps s (λ p. P p.items)
@@ -46,6 +54,25 @@ module _ {S X : Type 0} (steps : S → Option X → S → Type 0) where
       → OnOk r (WholeRun steps s (λ p. P p.items))
   run_of_ok s P (Ok _) all = run_of s P all
   run_of_ok s P (Err _) all = tt
+
+module _ {S X : Type 0} (steps : S → Option X → S → Type 0) where
+  -- what calls gave up to a refusal, as a run
+  pub run_given : (s : S) (xs : List X) (o : Option X) (t : S) (P : List X → Type 0)
+      → GaveUp steps s xs o t → P (xs ++ option_to_list o) → SomeRun steps s (λ p. P p.items)
+  run_given s xs o t P gave h =
+      (run steps s (xs ++ option_to_list o) false (t, gave, λ e. absurd (false≢true e)), refl, h)
+
+  -- the same, where the answer is `Err`
+  pub run_given_err : {E : Type 0} (hand : E → Option X) (rest : E → S) (s : S)
+      (P : List X → Type 0) (r : Result (Unit {0}) E)
+      → IfErr r (λ e. (xs : List X) × P xs × GaveUp steps s xs (hand e) (rest e))
+      → IfErr r (λ e. SomeRun steps s
+      (λ p. (xs : List X) × P xs × (p.items ≡ xs ++ option_to_list (hand e))))
+  run_given_err hand rest s P (Ok _) all = tt
+  run_given_err hand rest s P (Err e) all =
+      run_given s all.0 (hand e) (rest e)
+      (λ l. (xs : List X) × P xs × (l ≡ xs ++ option_to_list (hand e)))
+      all.2 (all.0, all.1, refl)
 
 module _ {T : Type 0} where
   -- one item more in a row
@@ -92,6 +119,20 @@ module _ (rule : Rule) (R : RattleType) (law : KeepsLaw rule) where
       → IsNamed rule R c e n ⊎ P
   named-after c d e n P (inl same) f = inr (f same)
   named-after c d e n P (inr p) f = inl (inr p)
+
+  -- a list that was new, and then took exactly as many places as a hint says
+  pub collected-after : {T A : Type 0} (v : Thin T A) (a : A) (c d n h : ℕ) (left : Count)
+      → IsNew v a → IsWithinCount h left → exact_for R v h ≡ Some c → IsNamed rule R c d n
+      → IsCollected rule R d n left
+  collected-after v a c d n h left new hint e (inl same) =
+      let want : length v.items + h ≡ h = omega (arith, ap length new.items) in
+      inr (
+        h,
+        hint,
+        sym (λ i. exact_capacity R (new.capacity i) (want i))
+            ∙ (e ∙ ap Some (sym same)),
+      )
+  collected-after v a c d n h left new hint e (inr p) = inl p
 
   -- a ruled capacity
   pub loose-ruled : {T A : Type 0} (v : Thin T A) (k d : ℕ) → capacity_for rule R v k ≡ Some d

@@ -8,3 +8,10 @@ mod TwoListsLemmas
 mod FromOthersLemmas
 mod ExtendLemmas
 mod IntoIterLemmas
+mod HoleLemmas
+mod DrainLemmas
+mod SiftingLemmas
+mod PairsLemmas
+pub mod DedupLemmas
+pub mod FiltersLemmas
+mod ExtractLemmas

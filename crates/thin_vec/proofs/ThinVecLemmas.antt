@@ -1,15 +1,75 @@
 -- What follows from the words of `specs/ThinVec.antt` and `specs/Costs.antt`, for callers.
 use Rattle.thin_block.proofs.Outcomes.{some-same}
-use Rattle.std.proofs.Common.{if◌then◌else◌, Bool, ◌≡◌, ℕ, zero, suc, ◌+◌, ◌*◌, ◌^◌, ◌<◌, ◌≤◌, true, false, Some, ap, arith, eqb, inl, inr, length, refl, sym, ◌∙◌}
+use Rattle.std.proofs.Common.{if◌then◌else◌, Bool, ◌≡◌, ℕ, zero, suc, ◌+◌, ◌*◌, ◌^◌, ◌<◌, ◌≤◌, true, false, Some, ap, List, [], arith, eqb, inl, inr, length, refl, subst, sym, ◌∙◌}
 use Rattle.std.specs.Borrow.{RattleType}
 use Rattle.std.proofs.lemmas.Bool.{cases_lt}
 use Rattle.std.proofs.lemmas.Bool.Decides.{nat_tests}
 use Rattle.std.proofs.lemmas.Grind.{pow_more}
 use Rattle.thin_block.specs.Cost.{Cost, growing}
 use Rattle.thin_block.specs.Growth.{Rule, KeepsLaw}
-use Rattle.thin_block.proofs.CapacityLemmas.{ruled-same, ruled-grows}
+use Rattle.thin_block.specs.Capacity.{Fits}
+use Rattle.thin_block.specs.declared.block.Block.{Block}
+use Rattle.thin_block.proofs.CapacityLemmas.{fits-none, fits-small, ruled-same, ruled-grows}
+use Rattle.thin_vec.proofs.ListLemmas.{Settled, thin-room}
 use Rattle.thin_vec.specs.Cheap.{IsCheap, IsCheapAt}
-use Rattle.thin_vec.specs.ThinVec.{Thin, capacity_for, cost_at}
+use Rattle.thin_vec.specs.ThinVec.{IsThin, IsWithin, Thin, capacity_for, cost_at, thin_of}
+
+module _ {T A : Type 0} (R : RattleType) (b : Block T A) (a : A) where
+  -- a list whose block fits is within its capacity
+  pub within-of : (v : Thin T A) → IsThin b a → thin_of b a ≡ v
+      → Fits R (length b.slots) → IsWithin R v
+  within-of v thin is fits =
+      let here : IsWithin R (thin_of b a) =
+      record { room = thin-room b a thin; small = fits-small R (length b.slots) fits; fits = fits }
+      in
+      subst (IsWithin R) is here
+
+  -- and so it is after a step that left it a capacity that fits
+  pub within-settled : (xs : List T) (c : ℕ) → Fits R c → Settled b a xs c
+      → IsWithin R (thin_of b a)
+  within-settled xs c fits after =
+      within-of (thin_of b a) after.thin refl (subst (Fits R) (sym after.cap) fits)
+
+  -- or that kept the capacity of a list that was within it
+  pub within-stays : (b' : Block T A) (v : Thin T A) (xs : List T) → IsWithin R v → thin_of b a ≡ v
+      → Settled b' a xs (length b.slots) → IsWithin R (thin_of b' a)
+  within-stays b' v xs kept is after = record {
+    room = thin-room b' a after.thin;
+    small = omega (arith, after.cap, ap (λ (w : Thin T A). w.capacity) is, kept.small);
+    fits = subst (Fits R) (sym (after.cap ∙ ap (λ (w : Thin T A). w.capacity) is)) kept.fits;
+  }
+
+  -- before and after a step that kept the capacity
+  pub within-kept : (b' : Block T A) (v : Thin T A) (xs : List T) → IsThin b a → thin_of b a ≡ v
+      → Fits R (length b.slots) → Settled b' a xs (length b.slots) → IsWithin R v
+      × IsWithin R (thin_of b' a)
+  within-kept b' v xs thin is fits after = (
+    within-of v thin is fits,
+    record {
+      room = thin-room b' a after.thin;
+      small = fits-small R (length b'.slots) (subst (Fits R) (sym after.cap) fits);
+      fits = subst (Fits R) (sym after.cap) fits;
+    },
+  )
+
+module _ {T A : Type 0} (R : RattleType) (w : Thin T A) where
+  -- a list of no capacity is within it
+  pub within-none : w.items ≡ [] → w.capacity ≡ 0 → IsWithin R w
+  within-none none nothing = record {
+    room = omega (arith, ap length none);
+    small = omega arith;
+    fits = subst (Fits R) (sym nothing) (fits-none R);
+  }
+
+  -- as many items as there is room for are within the same capacity
+  pub within-like : (v : Thin T A) → IsWithin R v → w.capacity ≡ v.capacity
+      → length w.items ≤ v.capacity → IsWithin R w
+  within-like v kept same room =
+      record {
+        room = omega arith;
+        small = omega (arith, kept.small);
+        fits = subst (Fits R) (sym same) kept.fits;
+      }
 
 -- what a list has cost once its capacity is c
 module _ {T A : Type 0} (v : Thin T A) (c : ℕ) where
@@ -28,6 +88,9 @@ module _ {T A : Type 0} (v : Thin T A) (c : ℕ) where
       go : (b : Bool) → (if b then v.cost else growing (length v.items) v.cost).moves ≡ v.cost.moves
       go true = refl
       go false = refl
+
+-- what a growth has cost, for callers at numbers that they know
+pub ruleset costs = (cost_at-same, cost_at-more)
 
 module _ {T A : Type 0} (rule : Rule) (R : RattleType) (law : KeepsLaw rule)
     (v : Thin T A) (k c : ℕ) where

@@ -14,10 +14,26 @@ abbrev pub IsLoose : Rule → RattleType → ℕ → ℕ → Type 0
 IsLoose rule R c d =
     (d ≡ c) ⊎ ((w : ℕ) × (n : ℕ) × (c < w) × (ruled_capacity rule R c w ≡ Some n) × (n ≤ d))
 
--- d is c, or the capacity that the rule names for a want of at most n
+-- d is the capacity that the rule names for a want of at most n, after a lesser one
+abbrev pub IsRuled : Rule → RattleType → ℕ → ℕ → Type 0
+IsRuled rule R d n = (e w : ℕ) × (e < w) × (w ≤ n) × (ruled_capacity rule R e w ≡ Some d)
+
+-- the same, or d is c
 abbrev pub IsNamed : Rule → RattleType → ℕ → ℕ → ℕ → Type 0
-IsNamed rule R c d n =
-    (d ≡ c) ⊎ ((e w : ℕ) × (e < w) × (w ≤ n) × (ruled_capacity rule R e w ≡ Some d))
+IsNamed rule R c d n = (d ≡ c) ⊎ IsRuled rule R d n
+
+-- the capacity d of a list that was v, into which the items of an iterator went that has `left` to
+-- give, so that there are n:
+-- as before, or named for a want of at most n, or for as many more as a hint allows
+abbrev pub IsExtended : {T A : Type 0} → Rule → RattleType → Thin T A → ℕ → ℕ → Count → Type 0
+IsExtended rule R v d n left =
+    IsNamed rule R v.capacity d n
+    ⊎ ((h : ℕ) × IsWithinCount h left × (capacity_for rule R v h ≡ Some d))
+
+-- the same of a new list, which begins with exactly as many places as a hint says
+abbrev pub IsCollected : Rule → RattleType → ℕ → ℕ → Count → Type 0
+IsCollected rule R d n left =
+    IsRuled rule R d n ⊎ ((h : ℕ) × IsWithinCount h left × (exact_capacity R 0 h ≡ Some d))
 
 module _ {T A : Type 0} where
   -- what w has cost that was v, before items went in behind: one move for each of them; no block

@@ -2,7 +2,16 @@ pub mod ThinVec
 pub mod Cheap
 pub mod Clones
 pub mod Extend
+pub mod Filters
+pub mod Sifting
+pub mod Pairs
+pub mod Open
+pub mod Hole
 pub mod Lends
+pub mod Ranges
+pub mod Drain
+pub mod Extract
+pub mod ExtractIf
 pub mod IntoIter
 pub mod Shapes
 pub mod formers

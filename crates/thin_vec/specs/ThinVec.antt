@@ -1,11 +1,12 @@
 -- What a contract sees of a `ThinVec`: a list of items and a capacity. (std: `Vec`, "Guarantees")
-use Rattle.std.specs.Prelude.{◌≡◌, ℕ, ◌+◌, ◌≤◌, ◌==◌, List, [], Option, if◌then◌else◌, length, refl}
+use Rattle.std.specs.Prelude.{◌≡◌, ℕ, ◌+◌, ◌^◌, ◌<◌, ◌≤◌, ◌==◌, List, [], Option, if◌then◌else◌, length, refl}
 use Rattle.std.specs.declared.option.Option.TheVariants.{None}
 use Rattle.thin_block.specs.declared.errors.ThinVecError.{ThinVecError}
 use Rattle.thin_block.specs.declared.errors.ThinVecError.TheVariants.{CapacityOverflow}
 use Rattle.std.specs.Borrow.{RattleType}
 use Rattle.std.specs.Coded.{Coded, code_by, coded×, coded_ℕ, coded_list}
 use Rattle.thin_block.specs.Block.{IsFrom}
+use Rattle.thin_block.specs.Capacity.{Fits}
 use Rattle.thin_block.specs.Cost.{Cost, cost_code, no_cost, growing}
 use Rattle.thin_block.specs.Growth.{Rule, exact_capacity, ruled_capacity}
 use Rattle.thin_block.specs.Slots.{IsPacked, items_in}
@@ -49,6 +50,13 @@ module _ {T A : Type 0} where
     pub capacity : v.capacity ≡ 0
     pub alloc : v.alloc ≡ a
     pub cost : v.cost ≡ no_cost
+
+  -- what every list of items of R keeps: its items are at most its capacity, and a block of that
+  -- capacity fits
+  pub record IsWithin (R : RattleType) (v : Thin T A) : Type 0 where
+    pub room : length v.items ≤ v.capacity
+    pub small : v.capacity < 2 ^ 63
+    pub fits : Fits R v.capacity
 
   -- k more items fit with no growth
   abbrev pub HasRoomFor : Thin T A → ℕ → Type 0

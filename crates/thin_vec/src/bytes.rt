@@ -1,10 +1,11 @@
 //! Lists of bytes: made from text, and written to.
-ghost use Rattle.std.specs.Prelude.{◌≡◌, ◌+◌, [], ◌++◌, IfErr, IfOk, IsErrAnd, IsErrOf, IsOk, None, OnErr, OnOk, Some, length};
+ghost use Rattle.std.specs.Prelude.{◌≡◌, ◌+◌, [], ◌++◌, IfErr, IfOk, IsErrAnd, IsErrOf, IsOk, None, OnErr, OnOk, Some, length, ◌≤◌};
 ghost use Rattle.std.specs.Borrow.{u8};
 ghost use Rattle.std.specs.IoError.{error_kind};
 ghost use Rattle.thin_block.specs.Cost.{moving};
 ghost use Rattle.thin_block.specs.Growth.{exact_capacity};
 ghost use Rattle.thin_vec.specs.Cheap.{IsCheap};
+ghost use Rattle.thin_vec.specs.ThinVec.{HasRoomFor, IsCause, IsWithin};
 
 use crate::list::ThinVec;
 use std::alloc::Allocator;
@@ -19,7 +20,7 @@ impl<A: Allocator> ThinVec<u8, A> {
     ///
     /// It is refused where that capacity does not fit, or where memory is refused.
     pub fn from_str(alloc: A, text: &str) -> Result<ThinVec<u8, A>, ThinVecError>
-        ensures succeeds_empty { text.now ≡ [] → IsOk result }
+        ensures succeeds_empty { length text.now ≡ 0 → IsOk result }
         ensures overflow { exact_capacity u8 0 (length text.now) ≡ None → IsErrOf result ThinVecError.CapacityOverflow }
         ensures cause { IfErr result (IsCause (exact_capacity u8 0 (length text.now))) }
         ensures items { IfOk result (λ list. list.items ≡ text.now) }
@@ -27,14 +28,9 @@ impl<A: Allocator> ThinVec<u8, A> {
         ensures alloc { IfOk result (λ list. list.alloc ≡ alloc) }
         ensures cost { IfOk result (λ list. list.cost ≡ moving (length text.now) (cost_new (length text.now))) }
         ensures cheap { IfOk result (λ list. IsCheap list) }
+        ensures within { IfOk result (λ list. IsWithin u8 list) }
     {
-        match ThinVec::with_capacity(alloc, text.len()) {
-            Ok(mut list) => {
-                list.extend_from_copies_reserved(text.as_bytes());
-                Ok(list)
-            }
-            Err(cause) => Err(cause),
-        }
+        ThinVec::from_copies(alloc, text.as_bytes())
     }
 }
 
@@ -49,7 +45,7 @@ impl<A: Allocator, G: Growth> Write for ThinVec<u8, A, G> {
     /// capacity overflows.
     fn write(&mut self, buf: &[u8]) -> io::Result<usize>
         ensures succeeds { HasRoomFor self.old (length buf.now) → IsOk result }
-        ensures succeeds_empty { buf.now ≡ [] → IsOk result }
+        ensures succeeds_empty { length buf.now ≡ 0 → IsOk result }
         ensures overflow { capacity_for G.rule u8 self.old (length buf.now) ≡ None → IsErrAnd result (λ error. error_kind error ≡ ErrorKind.OutOfMemory) }
         ensures cause { IfErr result (λ error. error_kind error ≡ ErrorKind.OutOfMemory) }
         ensures value { IfOk result (λ count. count ≡ length buf.now) }
@@ -60,6 +56,8 @@ impl<A: Allocator, G: Growth> Write for ThinVec<u8, A, G> {
         ensures alloc { self.new.alloc ≡ self.old.alloc }
         ensures cheap { IsCheap self.old → IsCheap self.new }
         ensures err { OnErr result (self.new ≡ self.old) }
+        ensures never_less { self.old.capacity ≤ self.new.capacity }
+        ensures within { IsWithin u8 self.old × IsWithin u8 self.new }
     {
         self.write_all(buf)?;
         Ok(buf.len())
@@ -70,7 +68,7 @@ impl<A: Allocator, G: Growth> Write for ThinVec<u8, A, G> {
     /// It is refused as `write` is.
     fn write_all(&mut self, buf: &[u8]) -> io::Result<()>
         ensures succeeds { HasRoomFor self.old (length buf.now) → IsOk result }
-        ensures succeeds_empty { buf.now ≡ [] → IsOk result }
+        ensures succeeds_empty { length buf.now ≡ 0 → IsOk result }
         ensures overflow { capacity_for G.rule u8 self.old (length buf.now) ≡ None → IsErrAnd result (λ error. error_kind error ≡ ErrorKind.OutOfMemory) }
         ensures cause { IfErr result (λ error. error_kind error ≡ ErrorKind.OutOfMemory) }
         ensures items { OnOk result (self.new.items ≡ self.old.items ++ buf.now) }
@@ -80,8 +78,10 @@ impl<A: Allocator, G: Growth> Write for ThinVec<u8, A, G> {
         ensures alloc { self.new.alloc ≡ self.old.alloc }
         ensures cheap { IsCheap self.old → IsCheap self.new }
         ensures err { OnErr result (self.new ≡ self.old) }
+        ensures never_less { self.old.capacity ≤ self.new.capacity }
+        ensures within { IsWithin u8 self.old × IsWithin u8 self.new }
     {
-        match self.reserve(buf.len()) {
+        match self.reserve_run(buf.len()) {
             Ok(()) => (),
             Err(_refused) => return Err(io::Error::from(ErrorKind::OutOfMemory)),
         }

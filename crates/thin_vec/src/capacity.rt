@@ -1,5 +1,5 @@
 //! How a list's capacity changes: the one function that computes a ruled capacity, and the one that makes a growth.
-ghost use Rattle.std.specs.Prelude.{◌≡◌, ◌+◌, ◌<◌, ◌≤◌, [], IfErr, IfOk, IfSome, IsErrOf, IsOk, None, OnErr, OnOk, Some, length};
+ghost use Rattle.std.specs.Prelude.{◌≡◌, ◌+◌, ◌<◌, ◌≤◌, [], IfErr, IfOk, IfSome, IsErrOf, IsFalse, IsOk, IsTrue, None, OnErr, OnOk, Some, length};
 ghost use Rattle.thin_block.specs.Capacity.{Fits};
 ghost use Rattle.thin_block.specs.Cost.{growing, no_cost};
 ghost use Rattle.thin_block.specs.Growth.{Grows, exact_capacity};
@@ -12,7 +12,7 @@ use thin_block::{Block, Growth, ThinVecError, fits};
 
 impl<T, A: Allocator, G: Growth> ThinVec<T, A, G> {
     ghost use Rattle.thin_vec.specs.Cheap.{IsCheap};
-    ghost use Rattle.thin_vec.specs.ThinVec.{HasRoomFor, IsCause, capacity_for, cost_at, cost_new, cost_shrunk, exact_for};
+    ghost use Rattle.thin_vec.specs.ThinVec.{HasRoomFor, IsCause, IsWithin, capacity_for, cost_at, cost_new, cost_shrunk, exact_for};
 
     /// Makes room for `additional` more items: where there is not room enough, the capacity becomes the ruled one.
     ///
@@ -28,6 +28,7 @@ impl<T, A: Allocator, G: Growth> ThinVec<T, A, G> {
         ensures had_room { HasRoomFor self.old additional → self.new.capacity ≡ self.old.capacity }
         ensures room { OnOk result (HasRoomFor self.new additional) }
         ensures never_less { self.old.capacity ≤ self.new.capacity }
+        ensures within { IsWithin T.row self.old × IsWithin T.row self.new }
         ensures alloc { self.new.alloc ≡ self.old.alloc }
         ensures cost { OnOk result (self.new.cost ≡ cost_at self.old self.new.capacity) }
         ensures err { OnErr result (self.new ≡ self.old) }
@@ -57,6 +58,8 @@ impl<T, A: Allocator, G: Growth> ThinVec<T, A, G> {
         ensures alloc { self.new.alloc ≡ self.old.alloc }
         ensures cost { OnOk result (self.new.cost ≡ cost_at self.old self.new.capacity) }
         ensures err { OnErr result (self.new ≡ self.old) }
+        ensures never_less { self.old.capacity ≤ self.new.capacity }
+        ensures within { IsWithin T.row self.old × IsWithin T.row self.new }
     {
         if additional <= self.capacity() - self.len() {
             return Ok(());
@@ -72,7 +75,7 @@ impl<T, A: Allocator, G: Growth> ThinVec<T, A, G> {
     /// It is refused only where memory is, and then nothing changes. An empty list that gives its block back begins its
     /// counters again.
     pub fn shrink_to_fit(&mut self) -> Result<(), ThinVecError>
-        ensures succeeds_empty { self.old.items ≡ [] → IsOk result }
+        ensures succeeds_empty { length self.old.items ≡ 0 → IsOk result }
         ensures succeeds_full { length self.old.items ≡ self.old.capacity → IsOk result }
         ensures items { self.new.items ≡ self.old.items }
         ensures capacity { OnOk result (self.new.capacity ≡ length self.old.items) }
@@ -80,6 +83,7 @@ impl<T, A: Allocator, G: Growth> ThinVec<T, A, G> {
         ensures cost { OnOk result (self.new.cost ≡ cost_shrunk self.old) }
         ensures err { OnErr result (self.new ≡ self.old) }
         ensures cause { IfErr result (λ cause. cause ≡ ThinVecError.OutOfMemory) }
+        ensures within { IsWithin T.row self.old × IsWithin T.row self.new }
     {
         let len = self.len();
         if len == self.capacity() {
@@ -90,6 +94,45 @@ impl<T, A: Allocator, G: Growth> ThinVec<T, A, G> {
             return Ok(());
         }
         self.shrink_to(len)
+    }
+
+    // `reserve` for a run of items. Its test is one comparison where the run's length is known when this is compiled, as
+    // that of a literal is; for the one item of a push, the test of `reserve` is.
+    #[tactic(auto, using(thin_block::proofs::CapacityLemmas::ruled))]
+    pub(crate) fn reserve_run(&mut self, additional: usize) -> Result<(), ThinVecError>
+        ensures succeeds { HasRoomFor self.old additional → IsOk result }
+        ensures succeeds_empty { additional ≡ 0 → IsOk result }
+        ensures overflow { capacity_for G.rule T.row self.old additional ≡ None → IsErrOf result ThinVecError.CapacityOverflow }
+        ensures cause { IfErr result (IsCause (capacity_for G.rule T.row self.old additional)) }
+        ensures items { self.new.items ≡ self.old.items }
+        ensures capacity { OnOk result (capacity_for G.rule T.row self.old additional ≡ Some self.new.capacity) }
+        ensures had_room { HasRoomFor self.old additional → self.new.capacity ≡ self.old.capacity }
+        ensures room { OnOk result (HasRoomFor self.new additional) }
+        ensures alloc { self.new.alloc ≡ self.old.alloc }
+        ensures cost { OnOk result (self.new.cost ≡ cost_at self.old self.new.capacity) }
+        ensures err { OnErr result (self.new ≡ self.old) }
+        ensures cheap { IsCheap self.old → IsCheap self.new }
+        ensures never_less { self.old.capacity ≤ self.new.capacity }
+        ensures within { IsWithin T.row self.old × IsWithin T.row self.new }
+    {
+        if !self.has_room_for(additional) {
+            return self.grow_for(additional);
+        }
+        Ok(())
+    }
+
+    // Whether `additional` more items fit with no growth. No length is past `isize::MAX`, so the sum can't overflow.
+    fn has_room_for(&self, additional: usize) -> bool
+        ensures within { IsWithin T.row self.now }
+        ensures room { IsTrue result → HasRoomFor self.now additional }
+        ensures more { IsFalse result → self.now.capacity < length self.now.items + additional }
+    {
+        let len = self.len();
+        let cap = self.capacity();
+        if additional > isize::MAX as usize {
+            return false;
+        }
+        len + additional <= cap
     }
 
     // `reserve` where there is not room enough.
@@ -104,6 +147,7 @@ impl<T, A: Allocator, G: Growth> ThinVec<T, A, G> {
         ensures alloc { self.new.alloc ≡ self.old.alloc }
         ensures cost { OnOk result (self.new.cost ≡ growing (length self.old.items) self.old.cost) }
         ensures err { OnErr result (self.new ≡ self.old) }
+        ensures within { IsWithin T.row self.old × IsWithin T.row self.new }
     {
         match self.ruled_capacity(additional) {
             Some(next) => self.grow_to(next),
@@ -117,6 +161,7 @@ impl<T, A: Allocator, G: Growth> ThinVec<T, A, G> {
         requires more { self.now.capacity < length self.now.items + additional }
         ensures value { result ≡ capacity_for G.rule T.row self.now additional }
         ensures grown { IfSome result (λ next. Grows T.row self.now.capacity (length self.now.items + additional) next) }
+        ensures within { IsWithin T.row self.now }
     {
         match self.len().checked_add(additional) {
             Some(want) => G::next_capacity::<T>(self.capacity(), want),
@@ -128,12 +173,14 @@ impl<T, A: Allocator, G: Growth> ThinVec<T, A, G> {
     pub(crate) fn grow_to(&mut self, cap: usize) -> Result<(), ThinVecError>
         requires larger { self.old.capacity < cap }
         requires fits { Fits T.row cap }
+        requires within { IsWithin T.row self.old }
         ensures items { self.new.items ≡ self.old.items }
         ensures capacity { OnOk result (self.new.capacity ≡ cap) }
         ensures alloc { self.new.alloc ≡ self.old.alloc }
         ensures cost { OnOk result (self.new.cost ≡ growing (length self.old.items) self.old.cost) }
         ensures err { OnErr result (self.new ≡ self.old) }
         ensures cause { IfErr result (λ cause. cause ≡ ThinVecError.OutOfMemory) }
+        ensures within { IsWithin T.row self.new }
     {
         self.block.grow(&self.alloc, cap)?;
         Ok(())
@@ -144,12 +191,14 @@ impl<T, A: Allocator, G: Growth> ThinVec<T, A, G> {
         requires some { 0 < len }
         requires all { len ≡ length self.old.items }
         requires smaller { len < self.old.capacity }
+        requires within { IsWithin T.row self.old }
         ensures items { self.new.items ≡ self.old.items }
         ensures capacity { OnOk result (self.new.capacity ≡ len) }
         ensures alloc { self.new.alloc ≡ self.old.alloc }
         ensures cost { OnOk result (self.new.cost ≡ growing len self.old.cost) }
         ensures err { OnErr result (self.new ≡ self.old) }
         ensures cause { IfErr result (λ cause. cause ≡ ThinVecError.OutOfMemory) }
+        ensures within { IsWithin T.row self.new }
     {
         self.block.shrink(&self.alloc, len)?;
         Ok(())
@@ -162,6 +211,7 @@ impl<T, A: Allocator, G: Growth> ThinVec<T, A, G> {
         ensures capacity { self.new.capacity ≡ 0 }
         ensures alloc { self.new.alloc ≡ self.old.alloc }
         ensures cost { self.new.cost ≡ no_cost }
+        ensures within { IsWithin T.row self.new }
     {
         let block = mem::replace(&mut self.block, Block::none());
         block.release(&self.alloc);
@@ -180,6 +230,7 @@ impl<T, A: Allocator, G: Growth> ThinVec<T, A, G> {
         ensures alloc { IfOk result (λ list. list.alloc ≡ alloc) }
         ensures cost { IfOk result (λ list. list.cost ≡ cost_new capacity) }
         ensures cheap { IfOk result (λ list. IsCheap list) }
+        ensures within { IfOk result (λ list. IsWithin T.row list) }
     {
         if capacity == 0 {
             return Ok(ThinVec::ruled(alloc));
@@ -194,7 +245,7 @@ impl<T, A: Allocator, G: Growth> ThinVec<T, A, G> {
 }
 
 impl<T, A: Allocator> ThinVec<T, A> {
-    ghost use Rattle.thin_vec.specs.ThinVec.{IsCause, cost_new};
+    ghost use Rattle.thin_vec.specs.ThinVec.{IsCause, IsWithin, cost_new};
     ghost use Rattle.thin_vec.specs.Cheap.{IsCheap};
 
     /// An empty list with room for exactly `capacity` items. At 0 it owns no block.
@@ -210,6 +261,7 @@ impl<T, A: Allocator> ThinVec<T, A> {
         ensures alloc { IfOk result (λ list. list.alloc ≡ alloc) }
         ensures cost { IfOk result (λ list. list.cost ≡ cost_new capacity) }
         ensures cheap { IfOk result (λ list. IsCheap list) }
+        ensures within { IfOk result (λ list. IsWithin T.row list) }
     {
         if !fits::<T>(capacity) {
             return Err(ThinVecError::CapacityOverflow);

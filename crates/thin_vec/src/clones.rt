@@ -11,14 +11,14 @@ use thin_block::{Growth, ThinVecError};
 
 impl<T: Copy, A: Allocator, G: Growth> ThinVec<T, A, G> {
     ghost use Rattle.thin_vec.specs.Cheap.{IsCheap};
-    ghost use Rattle.thin_vec.specs.ThinVec.{HasRoomFor, IsCause, capacity_for, cost_at, cost_new};
+    ghost use Rattle.thin_vec.specs.ThinVec.{HasRoomFor, IsCause, IsWithin, capacity_for, cost_at, cost_new};
 
     /// `extend_from_slice` of items that are copied: they come in as one run.
     ///
     /// It is refused as `reserve` is, and then nothing changes.
     pub fn extend_from_copies(&mut self, items: &[T]) -> Result<(), ThinVecError>
         ensures succeeds { HasRoomFor self.old (length items.now) → IsOk result }
-        ensures succeeds_empty { items.now ≡ [] → IsOk result }
+        ensures succeeds_empty { length items.now ≡ 0 → IsOk result }
         ensures overflow { capacity_for G.rule T.row self.old (length items.now) ≡ None → IsErrOf result ThinVecError.CapacityOverflow }
         ensures cause { IfErr result (IsCause (capacity_for G.rule T.row self.old (length items.now))) }
         ensures items { OnOk result (self.new.items ≡ self.old.items ++ items.now) }
@@ -28,8 +28,10 @@ impl<T: Copy, A: Allocator, G: Growth> ThinVec<T, A, G> {
         ensures alloc { self.new.alloc ≡ self.old.alloc }
         ensures cheap { IsCheap self.old → IsCheap self.new }
         ensures err { OnErr result (self.new ≡ self.old) }
+        ensures never_less { self.old.capacity ≤ self.new.capacity }
+        ensures within { IsWithin T.row self.old × IsWithin T.row self.new }
     {
-        match self.reserve(items.len()) {
+        match self.reserve_run(items.len()) {
             Ok(()) => (),
             Err(cause) => return Err(cause),
         }
@@ -41,13 +43,14 @@ impl<T: Copy, A: Allocator, G: Growth> ThinVec<T, A, G> {
     ///
     /// It is refused only where memory is.
     pub fn clone_copies(&self, alloc: A) -> Result<ThinVec<T, A, G>, ThinVecError>
-        ensures succeeds_empty { self.now.items ≡ [] → IsOk result }
+        ensures succeeds_empty { length self.now.items ≡ 0 → IsOk result }
         ensures cause { IfErr result (λ cause. cause ≡ ThinVecError.OutOfMemory) }
         ensures items { IfOk result (λ list. list.items ≡ self.now.items) }
         ensures capacity { IfOk result (λ list. list.capacity ≡ length self.now.items) }
         ensures alloc { IfOk result (λ list. list.alloc ≡ alloc) }
         ensures cost { IfOk result (λ list. list.cost ≡ moving (length self.now.items) (cost_new (length self.now.items))) }
         ensures cheap { IfOk result (λ list. IsCheap list) }
+        ensures within { IfOk result (λ list. IsWithin T.row list) }
     {
         let mut list = ThinVec::with_fitting_capacity(alloc, self.len())?;
         list.extend_from_copies_reserved(self.as_slice());
@@ -57,10 +60,12 @@ impl<T: Copy, A: Allocator, G: Growth> ThinVec<T, A, G> {
     // Copies `items` into the spare room, as one run.
     pub(crate) fn extend_from_copies_reserved(&mut self, items: &[T])
         requires room { HasRoomFor self.old (length items.now) }
+        requires within { IsWithin T.row self.old }
         ensures items { self.new.items ≡ self.old.items ++ items.now }
         ensures capacity { self.new.capacity ≡ self.old.capacity }
         ensures alloc { self.new.alloc ≡ self.old.alloc }
         ensures cost { self.new.cost ≡ moving (length items.now) self.old.cost }
+        ensures within { IsWithin T.row self.new }
     {
         if items.is_empty() {
             return;
@@ -73,15 +78,15 @@ impl<T: Copy, A: Allocator, G: Growth> ThinVec<T, A, G> {
 
 impl<T: Clone, A: Allocator, G: Growth> ThinVec<T, A, G> {
     ghost use Rattle.thin_vec.specs.Cheap.{IsCheap};
-    ghost use Rattle.thin_vec.specs.ThinVec.{HasRoomFor, IsCause, capacity_for, cost_at, cost_new};
+    ghost use Rattle.thin_vec.specs.ThinVec.{HasRoomFor, IsCause, IsWithin, capacity_for, cost_at, cost_new};
 
-    /// Appends a clone of each of `items`, in order.
+    /// Appends a clone of each of `items`, in order. Items that are `Copy` come in faster by `extend_from_copies`.
     ///
     /// It is refused as `reserve` is, and then nothing changes. It is refused as `OutOfMemory` also where a clone is:
     /// the clones made until then are dropped, the list has its old items, and the room that was made stays.
     pub fn extend_from_slice(&mut self, items: &[T]) -> Result<(), ThinVecError>
         ensures succeeds { HasRoomFor self.old (length items.now) → All T.is_infallible items.now → IsOk result }
-        ensures succeeds_empty { items.now ≡ [] → IsOk result }
+        ensures succeeds_empty { length items.now ≡ 0 → IsOk result }
         ensures overflow { capacity_for G.rule T.row self.old (length items.now) ≡ None → IsErrOf result ThinVecError.CapacityOverflow }
         ensures cause { IfErr result (IsCause (capacity_for G.rule T.row self.old (length items.now))) }
 
@@ -98,6 +103,8 @@ impl<T: Clone, A: Allocator, G: Growth> ThinVec<T, A, G> {
         ensures err_items { OnErr result (self.new.items ≡ self.old.items) }
         ensures refused { OnErr result ((self.new ≡ self.old) ⊎ IsCloneRefused G.rule T.row T.is_infallible items.now (length items.now) self.old self.new) }
         ensures err { All T.is_infallible items.now → OnErr result (self.new ≡ self.old) }
+        ensures never_less { self.old.capacity ≤ self.new.capacity }
+        ensures within { IsWithin T.row self.old × IsWithin T.row self.new }
     {
         self.reserve(items.len())?;
         self.extend_from_slice_reserved(items)
@@ -130,6 +137,8 @@ impl<T: Clone, A: Allocator, G: Growth> ThinVec<T, A, G> {
         ensures err_items { OnErr result (self.new.items ≡ self.old.items) }
         ensures refused { OnErr result ((self.new ≡ self.old) ⊎ IsCloneRefused G.rule T.row T.is_infallible (replicate (len - length self.old.items - 1) value) (len - length self.old.items) self.old self.new) }
         ensures err { T.is_infallible value → OnErr result (self.new ≡ self.old) }
+        ensures never_less { self.old.capacity ≤ self.new.capacity }
+        ensures within { IsWithin T.row self.old × IsWithin T.row self.new }
     {
         let old = self.len();
         if len <= old {
@@ -141,11 +150,11 @@ impl<T: Clone, A: Allocator, G: Growth> ThinVec<T, A, G> {
     }
 
     /// A list on `alloc` of a clone of each item, in order, under the same growth rule. Its capacity is the length: the
-    /// clone of an empty list owns no block.
+    /// clone of an empty list owns no block. Items that are `Copy` come over faster by `clone_copies`.
     ///
     /// It is refused where memory is, also that of an item's clone, and then the clones made until then are dropped.
     pub fn clone(&self, alloc: A) -> Result<ThinVec<T, A, G>, ThinVecError>
-        ensures succeeds_empty { self.now.items ≡ [] → IsOk result }
+        ensures succeeds_empty { length self.now.items ≡ 0 → IsOk result }
         ensures cause { IfErr result (λ cause. cause ≡ ThinVecError.OutOfMemory) }
         ensures items { IfOk result (λ list. AllZip T.is_clone self.now.items list.items) }
         ensures items_if_clones_equal { IfOk result (λ list. ClonesEqual T.is_clone → list.items ≡ self.now.items) }
@@ -153,6 +162,7 @@ impl<T: Clone, A: Allocator, G: Growth> ThinVec<T, A, G> {
         ensures alloc { IfOk result (λ list. list.alloc ≡ alloc) }
         ensures cost { IfOk result (λ list. list.cost ≡ moving (length self.now.items) (cost_new (length self.now.items))) }
         ensures cheap { IfOk result (λ list. IsCheap list) }
+        ensures within { IfOk result (λ list. IsWithin T.row list) }
     {
         let mut list = ThinVec::with_fitting_capacity(alloc, self.len())?;
         list.extend_from_slice_reserved(self.as_slice())?;
@@ -171,6 +181,7 @@ impl<T: Clone, A: Allocator, G: Growth> ThinVec<T, A, G> {
         ensures err_items { OnErr result (self.new.items ≡ self.old.items) }
         ensures refused { OnErr result (StopsAtClone T.is_infallible items.now self.old.cost self.new.cost) }
         ensures cause { IfErr result (λ cause. cause ≡ ThinVecError.OutOfMemory) }
+        ensures within { IsWithin T.row self.old × IsWithin T.row self.new }
     {
         let len = self.len();
         if self.push_clones_reserved(items) < items.len() {
@@ -195,6 +206,7 @@ impl<T: Clone, A: Allocator, G: Growth> ThinVec<T, A, G> {
         ensures err_items { OnErr result (self.new.items ≡ self.old.items) }
         ensures refused { OnErr result (StopsAtClone T.is_infallible (replicate (count - 1) value) self.old.cost self.new.cost) }
         ensures cause { IfErr result (λ cause. cause ≡ ThinVecError.OutOfMemory) }
+        ensures within { IsWithin T.row self.old × IsWithin T.row self.new }
     {
         let len = self.len();
         if self.push_repeated_reserved(&value, count - 1) < count - 1 {
@@ -214,6 +226,7 @@ impl<T: Clone, A: Allocator, G: Growth> ThinVec<T, A, G> {
         ensures alloc { self.new.alloc ≡ self.old.alloc }
         ensures cost { self.new.cost ≡ moving result self.old.cost }
         ensures refused { result < length items.now → HoldsAt (λ x. ¬ (T.is_infallible x)) items.now result }
+        ensures within { IsWithin T.row self.old × IsWithin T.row self.new }
     {
         let len = self.block.len();
         let placed = put_clones(&mut self.block, len, items);
@@ -230,6 +243,7 @@ impl<T: Clone, A: Allocator, G: Growth> ThinVec<T, A, G> {
         ensures alloc { self.new.alloc ≡ self.old.alloc }
         ensures cost { self.new.cost ≡ moving result self.old.cost }
         ensures refused { result < count → ¬ (T.is_infallible value.now) }
+        ensures within { IsWithin T.row self.old × IsWithin T.row self.new }
     {
         let len = self.block.len();
         let placed = put_repeated(&mut self.block, len, value, count);

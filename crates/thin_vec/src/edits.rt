@@ -10,7 +10,7 @@ use thin_block::{Growth, ThinVecError};
 
 impl<T, A: Allocator, G: Growth> ThinVec<T, A, G> {
     ghost use Rattle.thin_vec.specs.Cheap.{IsCheap};
-    ghost use Rattle.thin_vec.specs.ThinVec.{HasRoomFor, IsCause, capacity_for, cost_at};
+    ghost use Rattle.thin_vec.specs.ThinVec.{HasRoomFor, IsCause, IsWithin, capacity_for, cost_at};
 
     /// Puts `value` at `index`, and moves the items from there on one place back. The list owns it afterwards.
     ///
@@ -32,6 +32,8 @@ impl<T, A: Allocator, G: Growth> ThinVec<T, A, G> {
         // Refused, the caller has the value back, and nothing changed.
         ensures err { OnErr result (self.new ≡ self.old) }
         ensures value_returned { IfErr result (λ refused. refused.value ≡ value) }
+        ensures never_less { self.old.capacity ≤ self.new.capacity }
+        ensures within { IsWithin T.row self.old × IsWithin T.row self.new }
     {
         if let Err(cause) = self.reserve(1) {
             return Err(Rejected { value, cause });
@@ -40,14 +42,16 @@ impl<T, A: Allocator, G: Growth> ThinVec<T, A, G> {
         Ok(())
     }
 
-    // `insert` into spare room.
-    fn insert_reserved(&mut self, index: usize, value: T)
+    /// `insert` into room that the caller has shown to be there: it answers no `Result`.
+    pub fn insert_reserved(&mut self, index: usize, value: T)
         requires in_bounds { index ≤ length self.old.items }
         requires room { HasRoomFor self.old 1 }
         ensures items { self.new.items ≡ insert self.old.items index value }
         ensures capacity { self.new.capacity ≡ self.old.capacity }
         ensures alloc { self.new.alloc ≡ self.old.alloc }
         ensures cost { self.new.cost ≡ moving (length self.old.items - index + 1) self.old.cost }
+        ensures cheap { IsCheap self.old → IsCheap self.new }
+        ensures within { IsWithin T.row self.old × IsWithin T.row self.new }
     {
         let len = self.block.len();
         self.block.move_run(index, index + 1, len - index);
@@ -62,6 +66,7 @@ impl<T, A: Allocator, G: Growth> ThinVec<T, A, G> {
         ensures capacity { self.new.capacity ≡ self.old.capacity }
         ensures alloc { self.new.alloc ≡ self.old.alloc }
         ensures cost { self.new.cost ≡ moving (length self.old.items - (index + 1)) self.old.cost }
+        ensures within { IsWithin T.row self.old × IsWithin T.row self.new }
     {
         let len = self.block.len();
         let value = self.block.take(index);
@@ -78,6 +83,7 @@ impl<T, A: Allocator, G: Growth> ThinVec<T, A, G> {
         ensures capacity { self.new.capacity ≡ self.old.capacity }
         ensures alloc { self.new.alloc ≡ self.old.alloc }
         ensures cost { self.new.cost ≡ moving (if index + 1 == length self.old.items then 0 else 1) self.old.cost }
+        ensures within { IsWithin T.row self.old × IsWithin T.row self.new }
     {
         let last = self.block.len() - 1;
         let value = self.block.take_replacing(index, last);
@@ -87,12 +93,15 @@ impl<T, A: Allocator, G: Growth> ThinVec<T, A, G> {
 }
 
 impl<T: Drop, A: Allocator, G: Growth> ThinVec<T, A, G> {
+    ghost use Rattle.thin_vec.specs.ThinVec.{IsWithin};
+
     /// Keeps the first `len` items and drops the rest. The capacity stays.
     pub fn truncate(&mut self, len: usize)
         ensures items { self.new.items ≡ take len self.old.items }
         ensures capacity { self.new.capacity ≡ self.old.capacity }
         ensures alloc { self.new.alloc ≡ self.old.alloc }
         ensures cost { self.new.cost ≡ self.old.cost }
+        ensures within { IsWithin T.row self.old × IsWithin T.row self.new }
     {
         let old = self.block.len();
         if len >= old {
@@ -110,6 +119,7 @@ impl<T: Drop, A: Allocator, G: Growth> ThinVec<T, A, G> {
         ensures capacity { self.new.capacity ≡ self.old.capacity }
         ensures alloc { self.new.alloc ≡ self.old.alloc }
         ensures cost { self.new.cost ≡ self.old.cost }
+        ensures within { IsWithin T.row self.old × IsWithin T.row self.new }
     {
         self.truncate(0);
     }

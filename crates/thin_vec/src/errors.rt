@@ -1,8 +1,12 @@
 //! What a refused call hands back.
 ghost use Rattle.std.specs.Prelude.{◌≡◌};
+ghost use Rattle.std.specs.IoError.{error_kind};
+ghost use Rattle.std.specs.declared.io.ErrorKind.TheVariants as Kind;
 
 use crate::list::ThinVec;
-use std::alloc::{Allocator, Global};
+use std::alloc::{AllocError, Allocator, Global};
+use std::io;
+use std::io::ErrorKind;
 use thin_block::ThinVecError;
 
 /// A value that a refused call hands back to its caller, who owns it again.
@@ -44,5 +48,71 @@ impl<S: Drop> From<Rejected<S>> for ThinVecError {
     // The value is dropped.
     fn from(refused: Rejected<S>) -> ThinVecError {
         refused.cause
+    }
+}
+
+impl<T: Drop, I: Drop> From<ExtendRefused<T, I>> for ThinVecError {
+    ghost from_gives = { λ refused cause. cause ≡ refused.cause };
+
+    // The item in hand and the rest of the iterator are dropped.
+    fn from(refused: ExtendRefused<T, I>) -> ThinVecError {
+        refused.cause
+    }
+}
+
+impl<T: Drop, I: Drop, A: Allocator> From<CollectRefused<T, I, A>> for ThinVecError {
+    ghost from_gives = { λ refused cause. cause ≡ refused.cause };
+
+    // The list is dropped, and with it the item in hand and the rest of the iterator.
+    fn from(refused: CollectRefused<T, I, A>) -> ThinVecError {
+        refused.cause
+    }
+}
+
+impl<S: Drop> From<Rejected<S>> for AllocError {
+    // The value is dropped, and the cause is not told.
+    fn from(_refused: Rejected<S>) -> AllocError {
+        AllocError
+    }
+}
+
+impl<T: Drop, I: Drop> From<ExtendRefused<T, I>> for AllocError {
+    // What was handed back is dropped, and the cause is not told.
+    fn from(_refused: ExtendRefused<T, I>) -> AllocError {
+        AllocError
+    }
+}
+
+impl<T: Drop, I: Drop, A: Allocator> From<CollectRefused<T, I, A>> for AllocError {
+    // What was handed back is dropped, and the cause is not told.
+    fn from(_refused: CollectRefused<T, I, A>) -> AllocError {
+        AllocError
+    }
+}
+
+impl<S: Drop> From<Rejected<S>> for io::Error {
+    ghost from_gives = { λ _ error. error_kind error ≡ Kind.OutOfMemory };
+
+    // The value is dropped.
+    fn from(_refused: Rejected<S>) -> io::Error {
+        io::Error::from(ErrorKind::OutOfMemory)
+    }
+}
+
+impl<T: Drop, I: Drop> From<ExtendRefused<T, I>> for io::Error {
+    ghost from_gives = { λ _ error. error_kind error ≡ Kind.OutOfMemory };
+
+    // What was handed back is dropped.
+    fn from(_refused: ExtendRefused<T, I>) -> io::Error {
+        io::Error::from(ErrorKind::OutOfMemory)
+    }
+}
+
+impl<T: Drop, I: Drop, A: Allocator> From<CollectRefused<T, I, A>> for io::Error {
+    ghost from_gives = { λ _ error. error_kind error ≡ Kind.OutOfMemory };
+
+    // What was handed back is dropped.
+    fn from(_refused: CollectRefused<T, I, A>) -> io::Error {
+        io::Error::from(ErrorKind::OutOfMemory)
     }
 }

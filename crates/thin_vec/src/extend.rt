@@ -1,21 +1,20 @@
 //! Lists that take the items of an iterator.
-ghost use Rattle.std.specs.Prelude.{◌≡◌, ℕ, ◌+◌, ◌-◌, ◌<◌, ◌≤◌, List, ◌++◌, IfErr, IfOk, IsOk, IsSome, None, OnErr, OnOk, OnSome, length};
-ghost use Rattle.std.specs.Iterator.Runs.{WholeRun};
+ghost use Rattle.std.specs.Prelude.{◌≡◌, ◌+◌, ◌-◌, ◌<◌, ◌≤◌, List, ◌++◌, IfErr, IfOk, IsOk, IsSome, None, OnErr, OnOk, OnSome, length};
+ghost use Rattle.std.specs.Iterator.Runs.{SomeRun, WholeRun};
 ghost use Rattle.std.specs.Iterator.{Drains, IsFinite, YieldsThen, size};
+ghost use Rattle.std.specs.Option.{option_to_list};
 ghost use Rattle.thin_block.specs.Cost.{moving};
 ghost use Rattle.thin_block.specs.Growth.{doubling};
 ghost use Rattle.thin_block.specs.Slots.{full};
 ghost use Rattle.thin_vec.specs.Cheap.{IsCheap};
-ghost use Rattle.std.specs.Prelude.{◌⊎◌};
-ghost use Rattle.std.specs.Iterator.SizeHint.{IsWithinCount};
-ghost use Rattle.thin_vec.specs.Extend.{GaveUp, IsExtendCost, IsLoose, IsNamed, Overflows, OverflowsNew};
-ghost use Rattle.thin_vec.specs.ThinVec.{HasRoomFor, IsCause, IsNew, capacity_for};
+ghost use Rattle.thin_vec.specs.Extend.{GaveUp, IsCollected, IsExtended, IsExtendCost, IsLoose, IsNamed, Overflows, OverflowsNew};
+ghost use Rattle.thin_vec.specs.ThinVec.{HasRoomFor, IsCause, IsNew, IsWithin, capacity_for};
 
 use crate::errors::{CollectRefused, ExtendRefused, Rejected};
 use crate::list::ThinVec;
 use crate::placing::put_iter;
-use std::alloc::Allocator;
-use std::iter::Iterator;
+use std::alloc::{AllocError, Allocator};
+use std::iter::{Extend, FromIterator, IntoIterator, Iterator};
 use thin_block::{Growth, ThinVecError};
 
 impl<T, A: Allocator, G: Growth> ThinVec<T, A, G> {
@@ -28,6 +27,7 @@ impl<T, A: Allocator, G: Growth> ThinVec<T, A, G> {
         requires can_next { I.can_next iter }
         requires finite { IsFinite (I.remaining iter) }
         ensures succeeds { HasRoomFor self.old (size (I.remaining iter)) → IsOk result }
+        ensures succeeds_empty { size (I.remaining iter) ≡ 0 → IsOk result }
         ensures overflow { IfErr result (λ refused. IsSome refused.in_hand → capacity_for G.rule T.row self.new 1 ≡ None → refused.cause ≡ ThinVecError.CapacityOverflow) }
         ensures cause { IfErr result (λ refused. refused.cause ≡ ThinVecError.CapacityOverflow → Overflows G.rule T.row self.new refused.in_hand (I.remaining refused.rest)) }
         ensures items { OnOk result ((xs : List T) × Drains I.next_gives iter xs × (self.new.items ≡ self.old.items ++ xs)) }
@@ -35,18 +35,20 @@ impl<T, A: Allocator, G: Growth> ThinVec<T, A, G> {
 
         // Accepted or refused, each item that came in has moved once.
         ensures capacity { IsLoose G.rule T.row self.old.capacity self.new.capacity }
+        ensures named { IsExtended G.rule T.row self.old self.new.capacity (length self.new.items) (I.remaining iter) }
         ensures had_room { HasRoomFor self.old (size (I.remaining iter)) → self.new.capacity ≡ self.old.capacity }
         ensures cost { IsExtendCost self.old self.new }
         ensures alloc { self.new.alloc ≡ self.old.alloc }
         ensures cheap { IsCheap self.old → IsCheap self.new }
 
-        ensures named { IsNamed G.rule T.row self.old.capacity self.new.capacity (length self.new.items) ⊎ ((h : ℕ) × IsWithinCount h (I.remaining iter) × (capacity_for G.rule T.row self.old h ≡ Some self.new.capacity)) }
-
         // Refused, no item is lost. One is in hand only where the list is full, and else nothing happened.
         ensures placed { IfErr result (λ refused. (xs : List T) × (self.new.items ≡ self.old.items ++ xs) × GaveUp I.next_gives iter xs refused.in_hand refused.rest) }
+        ensures runs_err { IfErr result (λ refused. SomeRun I.next_gives iter (λ p. (xs : List T) × (self.new.items ≡ self.old.items ++ xs) × (p.items ≡ xs ++ option_to_list refused.in_hand))) }
         ensures rest { IfErr result (λ refused. I.can_next refused.rest × IsFinite (I.remaining refused.rest)) }
         ensures full { IfErr result (λ refused. IsSome refused.in_hand → length self.new.items ≡ self.new.capacity) }
         ensures err { IfErr result (λ refused. refused.in_hand ≡ None → (self.new ≡ self.old) × (refused.rest ≡ iter)) }
+        ensures never_less { self.old.capacity ≤ self.new.capacity }
+        ensures within { IsWithin T.row self.old × IsWithin T.row self.new }
     {
         match self.reserve(iter.size_hint().0) {
             Ok(()) => self.extend_unhinted(iter),
@@ -65,6 +67,7 @@ impl<T, A: Allocator, G: Growth> ThinVec<T, A, G> {
     ) -> Result<(), ExtendRefused<T, I>>
         requires can_next { I.can_next iter }
         requires finite { IsFinite (I.remaining iter) }
+        requires within { IsWithin T.row self.old }
         ensures succeeds { HasRoomFor self.old (size (I.remaining iter)) → IsOk result }
         ensures overflow { IfErr result (λ refused. capacity_for G.rule T.row self.new 1 ≡ None → refused.cause ≡ ThinVecError.CapacityOverflow) }
         ensures cause { IfErr result (λ refused. IsCause (capacity_for G.rule T.row self.new 1) refused.cause) }
@@ -79,6 +82,8 @@ impl<T, A: Allocator, G: Growth> ThinVec<T, A, G> {
         ensures named { IsNamed G.rule T.row self.old.capacity self.new.capacity (length self.new.items) }
         ensures in_hand { IfErr result (λ refused. IsSome refused.in_hand) }
         ensures full { OnErr result (length self.new.items ≡ self.new.capacity) }
+        ensures never_less { self.old.capacity ≤ self.new.capacity }
+        ensures within { IsWithin T.row self.new }
     {
         let mut rest = iter;
         loop {
@@ -114,6 +119,7 @@ impl<T, A: Allocator, G: Growth> ThinVec<T, A, G> {
         ensures rest { OnSome result.1 (I.can_next result.0 × IsFinite (I.remaining result.0)) }
         ensures nearer { OnSome result.1 (length self.new.items + size (I.remaining result.0) < length self.old.items + size (I.remaining iter)) }
         ensures full { OnSome result.1 (length self.new.items ≡ self.new.capacity) }
+        ensures within { IsWithin T.row self.old × IsWithin T.row self.new }
     {
         let len = self.block.len();
         let cap = self.block.cap();
@@ -141,18 +147,23 @@ impl<T, A: Allocator> ThinVec<T, A> {
         ensures items { IfOk result (λ list. Drains I.next_gives iter list.items) }
         ensures runs { IfOk result (λ list. WholeRun I.next_gives iter (λ p. list.items ≡ p.items)) }
         ensures capacity { size (I.remaining iter) ≡ 0 → IfOk result (λ list. list.capacity ≡ 0) }
+        ensures named { IfOk result (λ list. IsCollected doubling T.row list.capacity (length list.items) (I.remaining iter)) }
         ensures moves { IfOk result (λ list. list.cost.moves ≡ length list.items) }
         ensures alloc { IfOk result (λ list. list.alloc ≡ alloc) }
         ensures cheap { IfOk result (λ list. IsCheap list) }
 
         // Refused, no item is lost. One is in hand only where the list is full, and else nothing happened.
         ensures placed { IfErr result (λ refused. GaveUp I.next_gives iter refused.list.items refused.in_hand refused.rest) }
+        ensures runs_err { IfErr result (λ refused. SomeRun I.next_gives iter (λ p. p.items ≡ refused.list.items ++ option_to_list refused.in_hand)) }
         ensures rest { IfErr result (λ refused. I.can_next refused.rest × IsFinite (I.remaining refused.rest)) }
         ensures full { IfErr result (λ refused. IsSome refused.in_hand → length refused.list.items ≡ refused.list.capacity) }
         ensures err { IfErr result (λ refused. refused.in_hand ≡ None → IsNew refused.list alloc × (refused.rest ≡ iter)) }
+        ensures err_named { IfErr result (λ refused. IsCollected doubling T.row refused.list.capacity (length refused.list.items) (I.remaining iter)) }
         ensures err_moves { IfErr result (λ refused. refused.list.cost.moves ≡ length refused.list.items) }
         ensures err_alloc { IfErr result (λ refused. refused.list.alloc ≡ alloc) }
         ensures err_cheap { IfErr result (λ refused. IsCheap refused.list) }
+        ensures within { IfOk result (λ list. IsWithin T.row list) }
+        ensures err_within { IfErr result (λ refused. IsWithin T.row refused.list) }
     {
         let mut list = ThinVec::new(alloc);
         match list.reserve_exact(iter.size_hint().0) {
@@ -181,6 +192,35 @@ impl<T, A: Allocator> ThinVec<T, A> {
                     rest,
                 })
             }
+        }
+    }
+}
+
+impl<T: Drop, A: Allocator, G: Growth> Extend<T> for ThinVec<T, A, G> {
+    ghost extend_gives = { λ list xs extended. extended.items ≡ list.items ++ xs };
+
+    // What was not placed is dropped where it is refused.
+    fn extend<U: IntoIterator<Item = T>>(&mut self, iter: U) -> Result<(), AllocError> {
+        match ThinVec::extend(self, iter.into_iter()) {
+            Ok(()) => Ok(()),
+            Err(_refused) => Err(AllocError),
+        }
+    }
+}
+
+impl<T: Drop, A: Allocator> FromIterator<T> for ThinVec<T, A> {
+    type Alloc = A;
+
+    ghost from_iter_gives = { λ xs list. list.items ≡ xs };
+
+    // What was drawn is dropped where it is refused.
+    fn from_iter<U: IntoIterator<Item = T>>(
+        alloc: A,
+        iter: U,
+    ) -> Result<ThinVec<T, A>, AllocError> {
+        match ThinVec::from_iter(alloc, iter.into_iter()) {
+            Ok(list) => Ok(list),
+            Err(_refused) => Err(AllocError),
         }
     }
 }

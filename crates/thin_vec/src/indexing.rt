@@ -1,9 +1,10 @@
 //! The standard traits at `ThinVec`: indexing, and iteration over a borrowed list.
-ghost use Rattle.std.specs.Prelude.{◌≡◌, ◌^◌, ◌<◌, Some, length, slice_get};
+ghost use Rattle.std.specs.Prelude.{◌≡◌, ◌^◌, ◌<◌, Some, length, slice_get, slice_index_or};
 ghost use Rattle.std.specs.Iterator.Runs.{EveryRun, ItemsMapTo};
 ghost use Rattle.std.specs.Slice.Iter.{iter_mut_rest, iter_mut_steps, iter_rest, iter_steps};
 ghost use types.Logic.{sem};
 ghost use Rattle.thin_vec.specs.Lends.{LendsItem, LendsItems, LendsIter};
+ghost use Rattle.thin_vec.specs.ThinVec.{IsWithin};
 
 use crate::list::ThinVec;
 use std::alloc::Allocator;
@@ -26,6 +27,7 @@ impl<T, A: Allocator, G: Growth> DerefSliceMut for ThinVec<T, A, G> {
     fn deref_mut(&mut self) -> &mut [T]
         ensures* writes_back { sem 𝓛 (LendsItems T.row A.row G.row A.Allocator G.Growth self.entry result) }
         ensures value { result.now ≡ self.old.items }
+        ensures within { IsWithin T.row self.old }
     {
         self.as_mut_slice()
     }
@@ -44,7 +46,7 @@ impl<T, A: Allocator, G: Growth> Index<usize> for ThinVec<T, A, G> {
 
     ghost can_index = { λ list index. index < length list.items };
 
-    ghost index_gives = { λ list index item. slice_get list.items index ≡ Some item };
+    ghost index_gives = { λ list index item. (slice_get list.items index ≡ Some item) × (item ≡ slice_index_or list.items index item) };
 
     fn index(&self, index: usize) -> &T {
         &self.as_slice()[index]
@@ -57,6 +59,7 @@ impl<T, A: Allocator, G: Growth> IndexMut<usize> for ThinVec<T, A, G> {
         requires { index < length self.old.items }
         ensures* writes_back { sem 𝓛 (LendsItem T.row A.row G.row A.Allocator G.Growth self.entry index result) }
         ensures value { slice_get self.old.items index ≡ Some result.now }
+        ensures item { result.now ≡ slice_index_or self.old.items index result.now }
     {
         self.block.slot_mut(index)
     }

@@ -182,7 +182,7 @@ impl<T: Clone, A: Allocator, G: Growth> IntoIter<T, A, G> {
     ///
     /// It is refused where memory is, also that of an item's clone, and then the clones made until then are dropped.
     pub fn clone(&self, alloc: A) -> Result<IntoIter<T, A, G>, ThinVecError>
-        ensures succeeds_empty { self.now.items ≡ [] → IsOk result }
+        ensures succeeds_empty { length self.now.items ≡ 0 → IsOk result }
         ensures cause { IfErr result (λ cause. cause ≡ ThinVecError.OutOfMemory) }
         ensures items { IfOk result (λ it. AllZip T.is_clone self.now.items it.items) }
         ensures items_if_clones_equal { IfOk result (λ it. ClonesEqual T.is_clone → it.items ≡ self.now.items) }

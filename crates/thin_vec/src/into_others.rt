@@ -1,6 +1,7 @@
 //! Other types that a list is turned into.
 ghost use Rattle.std.specs.Prelude.{◌≡◌, ◌↔◌, ◌≤◌, [], IfErr, IfOk, IsOk, length, vec_capacity, vec_len};
 ghost use Rattle.std.specs.Box.{boxed_slice_items, boxed_slice_len};
+ghost use Rattle.thin_vec.specs.ThinVec.{IsWithin};
 
 use crate::errors::Rejected;
 use crate::list::ThinVec;
@@ -13,12 +14,13 @@ impl<T, A: Allocator, G: Growth> ThinVec<T, A, G> {
     ///
     /// It is refused only where memory is, and then the list is handed back. A list of no item takes no memory.
     pub fn into_vec(self, alloc: A) -> Result<Vec<T, A>, Rejected<ThinVec<T, A, G>>>
-        ensures succeeds_empty { self.items ≡ [] → IsOk result }
+        ensures succeeds_empty { length self.items ≡ 0 → IsOk result }
         ensures cause { IfErr result (λ refused. refused.cause ≡ ThinVecError.OutOfMemory) }
         ensures items { IfOk result (λ vec. vec.items ≡ self.items) }
         ensures len { IfOk result (λ vec. vec_len vec ≡ length self.items) }
         ensures capacity { IfOk result (λ vec. vec_capacity vec ≡ length self.items) }
         ensures value_returned { IfErr result (λ refused. refused.value ≡ self) }
+        ensures err_within { IfErr result (λ refused. IsWithin T.row refused.value) }
     {
         match Vec::with_capacity(alloc, self.len()) {
             Ok(vec) => Ok(self.moved_to(vec)),
@@ -49,11 +51,12 @@ impl<T, A: Allocator, G: Growth> ThinVec<T, A, G> {
     ///
     /// It is refused only where memory is, and then the list is handed back. A list of no item takes no memory.
     pub fn into_boxed_slice(self, alloc: A) -> Result<BoxedSlice<T, A>, Rejected<ThinVec<T, A, G>>>
-        ensures succeeds_empty { self.items ≡ [] → IsOk result }
+        ensures succeeds_empty { length self.items ≡ 0 → IsOk result }
         ensures cause { IfErr result (λ refused. refused.cause ≡ ThinVecError.OutOfMemory) }
         ensures items { IfOk result (λ boxed. boxed_slice_items boxed ≡ self.items) }
         ensures len { IfOk result (λ boxed. boxed_slice_len boxed ≡ length self.items) }
         ensures value_returned { IfErr result (λ refused. refused.value ≡ self) }
+        ensures err_within { IfErr result (λ refused. IsWithin T.row refused.value) }
     {
         Ok(self.into_vec(alloc)?.into_boxed_slice())
     }
@@ -61,10 +64,15 @@ impl<T, A: Allocator, G: Growth> ThinVec<T, A, G> {
     /// The items, in order, as an array, where there are N of them. The list's block is given back.
     ///
     /// A list of any other length is handed back as it was. No memory is asked for.
+    ///
+    /// N items have to take fewer than 2^63 bytes, as any array: at a known type each caller shows that by itself, and one
+    /// that is generic in T requires it, as `N * type_size T.row < 2 ^ 63` with `type_size` of `Rattle.std.specs.Mem`.
+    /// `into_vec` and `into_iter` ask for nothing of the kind.
     pub fn into_array<const N: usize>(mut self) -> Result<[T; N], ThinVec<T, A, G>>
         ensures variant { IsOk result ↔ (length self.items ≡ N) }
         ensures items { IfOk result (λ items. items ≡ self.items) }
         ensures value_returned { IfErr result (λ list. list ≡ self) }
+        ensures err_within { IfErr result (λ list. IsWithin T.row list) }
     {
         if self.len() != N {
             return Err(self);

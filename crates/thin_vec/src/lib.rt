@@ -4,21 +4,38 @@
 mod bytes;
 mod capacity;
 mod clones;
+mod drain;
 mod edits;
 mod errors;
 mod extend;
+mod extract_if;
+mod filters;
 mod from_others;
+mod holds;
+mod hole;
 mod indexing;
 mod into_iter;
 mod into_others;
 mod list;
 mod macros;
+mod pairs;
 mod placing;
+mod ranges;
+mod sifting;
 mod traits;
 mod two_lists;
 
+pub use drain::Drain;
 pub use errors::{CollectRefused, ExtendRefused, Rejected};
+pub use extract_if::ExtractIf;
+#[doc(hidden)]
+pub use extract_if::{Extracting, Picks};
+#[doc(hidden)]
+pub use holds::{Holder, Holds};
+#[doc(hidden)]
+pub use hole::Hole;
 pub use into_iter::IntoIter;
 pub use list::ThinVec;
-pub use macros::{repeated, written_out};
-pub use thin_block::{Doubling, Growth, ThinVecError, fits};
+pub use macros::{place, repeated};
+pub use ranges::bounds;
+pub use thin_block::{Doubling, Growth, PowerBytes, ThinVecError, fits};

@@ -33,11 +33,12 @@ impl<T, A: Allocator, G: Growth> Model for ThinVec<T, A, G> {
 }
 
 impl<T, A: Allocator> ThinVec<T, A> {
-    ghost use Rattle.thin_vec.specs.ThinVec.{IsNew};
+    ghost use Rattle.thin_vec.specs.ThinVec.{IsNew, IsWithin};
 
     /// An empty list of capacity 0, without a block. It takes no memory.
     pub fn new(alloc: A) -> ThinVec<T, A>
         ensures new { IsNew result alloc }
+        ensures within { IsWithin T.row result }
     {
         ThinVec::ruled(alloc)
     }
@@ -45,6 +46,7 @@ impl<T, A: Allocator> ThinVec<T, A> {
     /// The same as `new`, in the place of `Default`, which has no allocator to give.
     pub fn default_in(alloc: A) -> ThinVec<T, A>
         ensures new { IsNew result alloc }
+        ensures within { IsWithin T.row result }
     {
         ThinVec::new(alloc)
     }
@@ -55,12 +57,13 @@ impl<T, A: Allocator, G: Growth> ThinVec<T, A, G> {
     ghost use Rattle.thin_block.specs.Block.{IsFrom};
     ghost use Rattle.thin_block.specs.Slots.{front};
     ghost use Rattle.thin_vec.specs.Lends.{LendsItems};
-    ghost use Rattle.thin_vec.specs.ThinVec.{HasRoomFor, IsCause, IsNew, capacity_for, cost_at};
+    ghost use Rattle.thin_vec.specs.ThinVec.{HasRoomFor, IsCause, IsNew, IsWithin, capacity_for, cost_at};
     ghost use Rattle.thin_vec.specs.Cheap.{IsCheap};
 
     /// `new` under any growth rule.
     pub fn ruled(alloc: A) -> ThinVec<T, A, G>
         ensures new { IsNew result alloc }
+        ensures within { IsWithin T.row result }
     {
         ThinVec {
             block: Block::none(),
@@ -72,8 +75,8 @@ impl<T, A: Allocator, G: Growth> ThinVec<T, A, G> {
     /// The number of items.
     pub fn len(&self) -> usize
         ensures value { result ≡ length self.now.items }
-        ensures in_bounds { result ≤ self.now.capacity }
         ensures fits { Fits T.row result }
+        ensures within { IsWithin T.row self.now }
     {
         self.block.len()
     }
@@ -88,6 +91,7 @@ impl<T, A: Allocator, G: Growth> ThinVec<T, A, G> {
     /// Whether there is no item.
     pub fn is_empty(&self) -> bool
         ensures value { IsTrue result ↔ (self.now.items ≡ []) }
+        ensures within { IsWithin T.row self.now }
     {
         self.len() == 0
     }
@@ -95,8 +99,7 @@ impl<T, A: Allocator, G: Growth> ThinVec<T, A, G> {
     /// How many items there is room for.
     pub fn capacity(&self) -> usize
         ensures value { result ≡ self.now.capacity }
-        ensures in_bounds { length self.now.items ≤ result }
-        ensures fits { Fits T.row result }
+        ensures within { IsWithin T.row self.now }
     {
         self.block.cap()
     }
@@ -129,6 +132,7 @@ impl<T, A: Allocator, G: Growth> ThinVec<T, A, G> {
         ensures err { OnErr result (self.new ≡ self.old) }
         ensures value_returned { IfErr result (λ refused. refused.value ≡ value) }
         ensures never_less { self.old.capacity ≤ self.new.capacity }
+        ensures within { IsWithin T.row self.old × IsWithin T.row self.new }
     {
         if let Err(cause) = self.reserve(1) {
             return Err(Rejected { value, cause });
@@ -148,18 +152,22 @@ impl<T, A: Allocator, G: Growth> ThinVec<T, A, G> {
     pub fn as_mut_slice(&mut self) -> &mut [T]
         ensures* writes_back { sem 𝓛 (LendsItems T.row A.row G.row A.Allocator G.Growth self.entry result) }
         ensures value { result.now ≡ self.old.items }
+        ensures within { IsWithin T.row self.old }
     {
         let len = self.block.len();
         self.block.slice_mut(0, len)
     }
 
-    // `push` into spare room.
-    pub(crate) fn push_reserved(&mut self, value: T)
+    /// `push` into room that the caller has shown to be there, as behind `reserve`: it answers no `Result`. (std: `Vec::push_reserved`
+    /// of the kit, and `smallvec`'s)
+    pub fn push_reserved(&mut self, value: T)
         requires room { HasRoomFor self.old 1 }
         ensures items { self.new.items ≡ self.old.items ++ value ∷ [] }
         ensures capacity { self.new.capacity ≡ self.old.capacity }
         ensures alloc { self.new.alloc ≡ self.old.alloc }
         ensures cost { self.new.cost ≡ moving 1 self.old.cost }
+        ensures cheap { IsCheap self.old → IsCheap self.new }
+        ensures within { IsWithin T.row self.old × IsWithin T.row self.new }
     {
         let len = self.block.len();
         self.block.put_and_store(len, value, len + 1);
@@ -172,6 +180,7 @@ impl<T, A: Allocator, G: Growth> ThinVec<T, A, G> {
         ensures capacity { self.new.capacity ≡ self.old.capacity }
         ensures alloc { self.new.alloc ≡ self.old.alloc }
         ensures cost { self.new.cost ≡ self.old.cost }
+        ensures within { IsWithin T.row self.old × IsWithin T.row self.new }
     {
         if self.is_empty() {
             return None;

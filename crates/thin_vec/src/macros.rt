@@ -1,10 +1,10 @@
-//! `thin_vec!`: a list written out, and the two functions that it calls.
-ghost use Rattle.std.specs.Prelude.{◌≡◌, [], IfErr, IfOk, IsErrOf, IsOk, None, replicate};
+//! `thin_vec!`: a list written out, and what it calls.
+ghost use Rattle.std.specs.Prelude.{◌≡◌, [], ◌∷◌, ◌++◌, IfErr, IfOk, IsErrOf, IsOk, None, Some, replicate};
 ghost use Rattle.thin_block.specs.Cost.{moving};
-ghost use Rattle.thin_block.specs.Growth.{doubling, exact_capacity, ruled_capacity};
+ghost use Rattle.thin_block.specs.Growth.{doubling, ruled_capacity};
 ghost use Rattle.thin_vec.specs.Clones.{CloneEquals, IsResized};
 ghost use Rattle.thin_vec.specs.Cheap.{IsCheap};
-ghost use Rattle.thin_vec.specs.ThinVec.{IsCause, cost_new};
+ghost use Rattle.thin_vec.specs.ThinVec.{HasRoomFor, IsCause, IsWithin, cost_new};
 
 use crate::list::ThinVec;
 use std::alloc::Allocator;
@@ -14,8 +14,10 @@ use thin_block::ThinVecError;
 /// capacity of their count. `thin_vec![alloc => x; k]` is `new` and then `resize(k, x)`: clones of x, and x itself as the
 /// last of k, at the capacity that `Doubling` names for k items.
 ///
-/// Each form gives a `Result<ThinVec<T, A>, ThinVecError>`, and is used inside a function's body. A trailing comma is
-/// allowed, but not behind k. Refused, the items are dropped.
+/// Each form gives a `Result<ThinVec<T, A>, ThinVecError>`, and is used inside a function's body, whatever that function
+/// answers. A trailing comma is allowed, but not behind k. `alloc` is evaluated once and first. Items that are written out
+/// are evaluated once each, in order, and only where the memory was granted; x and then k are evaluated before it is asked
+/// for, and a refused x is dropped.
 #[macro_export]
 macro_rules! thin_vec {
     ($alloc:expr =>) => {
@@ -25,29 +27,40 @@ macro_rules! thin_vec {
         $crate::repeated($alloc, $item, $count)
     };
     ($alloc:expr => $($item:expr),+ $(,)?) => {
-        $crate::written_out($alloc, [$($item),+])
+        match $crate::ThinVec::with_capacity($alloc, $crate::count_items!($($item),+)) {
+            Ok(mut list) => {
+                $($crate::place(&mut list, $item);)+
+                Ok::<_, $crate::ThinVecError>(list)
+            }
+            Err(cause) => Err(cause),
+        }
     };
 }
 
-/// What `thin_vec!` calls: `from_array`, whose array is dropped where it is refused.
+/// What `thin_vec!` calls: how many items are written out. None is evaluated.
 #[doc(hidden)]
-pub fn written_out<T: Drop, A: Allocator, const N: usize>(
-    alloc: A,
-    items: [T; N],
-) -> Result<ThinVec<T, A>, ThinVecError>
-    ensures succeeds { N ≡ 0 → IsOk result }
-    ensures overflow { exact_capacity T.row 0 N ≡ None → IsErrOf result ThinVecError.CapacityOverflow }
-    ensures cause { IfErr result (IsCause (exact_capacity T.row 0 N)) }
-    ensures items { IfOk result (λ list. list.items ≡ items) }
-    ensures capacity { IfOk result (λ list. list.capacity ≡ N) }
-    ensures alloc { IfOk result (λ list. list.alloc ≡ alloc) }
-    ensures cost { IfOk result (λ list. list.cost ≡ moving N (cost_new N)) }
-    ensures cheap { IfOk result (λ list. IsCheap list) }
+#[macro_export]
+macro_rules! count_items {
+    ($item:expr) => {
+        1
+    };
+    ($item:expr, $($rest:expr),+) => {
+        1 + $crate::count_items!($($rest),+)
+    };
+}
+
+/// What `thin_vec!` calls for each item: `push` into the room that it has made.
+#[doc(hidden)]
+pub fn place<T, A: Allocator>(list: &mut ThinVec<T, A>, value: T)
+    requires room { HasRoomFor list.old 1 }
+    ensures items { list.new.items ≡ list.old.items ++ value ∷ [] }
+    ensures capacity { list.new.capacity ≡ list.old.capacity }
+    ensures alloc { list.new.alloc ≡ list.old.alloc }
+    ensures cost { list.new.cost ≡ moving 1 list.old.cost }
+    ensures cheap { IsCheap list.old → IsCheap list.new }
+    ensures within { IsWithin T.row list.old × IsWithin T.row list.new }
 {
-    match ThinVec::from_array(alloc, items) {
-        Ok(list) => Ok(list),
-        Err(refused) => Err(refused.cause),
-    }
+    list.push_reserved(value);
 }
 
 /// What `thin_vec!` calls for `count` times the same: `new`, and then `resize`.
@@ -67,6 +80,7 @@ pub fn repeated<T: Clone, A: Allocator>(
     ensures alloc { IfOk result (λ list. list.alloc ≡ alloc) }
     ensures cost { IfOk result (λ list. list.cost ≡ moving count (cost_new list.capacity)) }
     ensures cheap { IfOk result (λ list. IsCheap list) }
+    ensures within { IfOk result (λ list. IsWithin T.row list) }
 {
     let mut list = ThinVec::new(alloc);
     list.resize(count, value)?;

@@ -8,13 +8,14 @@ use thin_block::{Growth, ThinVecError};
 
 impl<T, A: Allocator, G: Growth> ThinVec<T, A, G> {
     ghost use Rattle.thin_vec.specs.Cheap.{IsCheap};
-    ghost use Rattle.thin_vec.specs.ThinVec.{HasRoomFor, IsCause, capacity_for, cost_at, cost_new};
+    ghost use Rattle.thin_vec.specs.ThinVec.{HasRoomFor, IsCause, IsWithin, capacity_for, cost_at, cost_new};
 
     /// Moves all items of `other` behind those of this list. `other` is left empty, with its capacity.
     ///
     /// It is refused as `reserve` is, before either list changes.
     pub fn append(&mut self, other: &mut ThinVec<T, A, G>) -> Result<(), ThinVecError>
         ensures succeeds { HasRoomFor self.old (length other.old.items) → IsOk result }
+        ensures succeeds_empty { length other.old.items ≡ 0 → IsOk result }
         ensures overflow { capacity_for G.rule T.row self.old (length other.old.items) ≡ None → IsErrOf result ThinVecError.CapacityOverflow }
         ensures cause { IfErr result (IsCause (capacity_for G.rule T.row self.old (length other.old.items))) }
 
@@ -35,6 +36,9 @@ impl<T, A: Allocator, G: Growth> ThinVec<T, A, G> {
         // Refused, nothing changed.
         ensures err { OnErr result (self.new ≡ self.old) }
         ensures other_err { OnErr result (other.new ≡ other.old) }
+        ensures never_less { self.old.capacity ≤ self.new.capacity }
+        ensures within { IsWithin T.row self.old × IsWithin T.row self.new }
+        ensures other_within { IsWithin T.row other.old × IsWithin T.row other.new }
     {
         match self.reserve(other.len()) {
             Ok(()) => (),
@@ -64,6 +68,8 @@ impl<T, A: Allocator, G: Growth> ThinVec<T, A, G> {
         ensures other_cost { IfOk result (λ tail. tail.cost ≡ moving (length self.old.items - at) (cost_new (length self.old.items - at))) }
         ensures other_alloc { IfOk result (λ tail. tail.alloc ≡ alloc) }
         ensures other_cheap { IfOk result (λ tail. IsCheap tail) }
+        ensures within { IsWithin T.row self.old × IsWithin T.row self.new }
+        ensures other_within { IfOk result (λ tail. IsWithin T.row tail) }
     {
         let mut tail = ThinVec::with_fitting_capacity(alloc, self.len() - at)?;
         tail.append_reserved(self, at);
@@ -82,6 +88,8 @@ impl<T, A: Allocator, G: Growth> ThinVec<T, A, G> {
         ensures other_capacity { other.new.capacity ≡ other.old.capacity }
         ensures other_cost { other.new.cost ≡ other.old.cost }
         ensures other_alloc { other.new.alloc ≡ other.old.alloc }
+        ensures within { IsWithin T.row self.old × IsWithin T.row self.new }
+        ensures other_within { IsWithin T.row other.old × IsWithin T.row other.new }
     {
         let len = self.block.len();
         let count = other.block.len() - start;

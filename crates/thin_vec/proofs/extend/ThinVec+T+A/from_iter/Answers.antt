@@ -1,8 +1,12 @@
 -- What was refused of a new list, and the whole run of the iterator.
-use Rattle.std.proofs.Common.{◌+◌, ◌++◌, ◌≡◌, ◌∙◌, ap, arith, length, sym}
+use Rattle.std.specs.Option.{option_to_list}
+use Rattle.std.proofs.Common.{None, [], refl, Some, inr, ◌+◌, ◌++◌, ◌≡◌, ◌∙◌, ap, arith, length, sym}
 use denote.Param.{param}
 use Rattle.thin_block.specs.Growth.{exact_capacity}
-use Rattle.thin_vec.proofs.ExtendLemmas.{run_of}
+use Rattle.thin_block.specs.Growth.{doubling}
+use Rattle.thin_block.specs.GrowthLaws.{doubling_law}
+use Rattle.thin_block.proofs.CapacityLemmas.{exact-same}
+use Rattle.thin_vec.proofs.ExtendLemmas.{collected-after, run_given, run_of}
 use Rattle.thin_vec.proofs.extend.ThinVec+T+A.from_iter.Goals as goal
 
 pub returns-in-Err-clause-cause : goal.returns-in-Err-clause-cause
@@ -25,3 +29,36 @@ returns-in-Ok-extend_unhinted-clause-runs g c =
       filled.2 ∙ ap (λ old. old ++ filled.0)
           (c.reserve_exact.ensures.items ∙ c.new-list.ensures.new.items),
     )
+
+pub returns-in-Err-clause-err_named : goal.returns-in-Err-clause-err_named
+returns-in-Err-clause-err_named g c =
+    let none = ap (λ v. v.capacity) c.in-Err.ensures.err ∙ c.new-list.ensures.new.capacity in
+    let least = exact-same (param 0 g.row.T) 0 0 (omega arith) in
+    inr (0, (λ _. omega arith), least ∙ ap Some (sym none))
+
+pub returns-in-Ok-extend_unhinted-clause-named : goal.returns-in-Ok-extend_unhinted-clause-named
+returns-in-Ok-extend_unhinted-clause-named g c =
+    collected-after doubling (param 0 g.row.T) doubling_law _ _ _ _ _ _ _ c.new-list.ensures.new
+    c.size_hint.ensures.lower c.in-Ok.ensures.capacity c.extend_unhinted.ensures.named
+
+pub returns-in-Err-extend_unhinted-clause-err_named : goal.returns-in-Err-extend_unhinted-clause-err_named
+returns-in-Err-extend_unhinted-clause-err_named g c =
+    collected-after doubling (param 0 g.row.T) doubling_law _ _ _ _ _ _ _ c.new-list.ensures.new
+    c.size_hint.ensures.lower c.in-Ok.ensures.capacity c.extend_unhinted.ensures.named
+
+pub returns-in-Err-clause-runs_err : goal.returns-in-Err-clause-runs_err
+returns-in-Err-clause-runs_err g c =
+    let none = c.reserve_exact.ensures.items ∙ c.new-list.ensures.new.items in
+    run_given g.I.Iterator.next_gives c.args.iter [] None c.args.iter
+    (λ l. l ≡ c.reserve_exact.new.self.items ++ []) refl
+    (ap (λ l. l ++ []) (sym none))
+
+pub returns-in-Err-extend_unhinted-clause-runs_err : goal.returns-in-Err-extend_unhinted-clause-runs_err
+returns-in-Err-extend_unhinted-clause-runs_err g c =
+    let placed = c.in-Err-extend_unhinted.ensures.placed in
+    let items = placed.1 ∙ ap (λ old. old ++ placed.0)
+    (c.reserve_exact.ensures.items ∙ c.new-list.ensures.new.items) in
+    let hand = c.in-Err-extend_unhinted.refused.in_hand in
+    run_given g.I.Iterator.next_gives c.args.iter placed.0 hand c.in-Err-extend_unhinted.refused.rest
+    (λ l. l ≡ c.extend_unhinted.new.self.items ++ option_to_list hand) placed.2
+    (ap (λ l. l ++ option_to_list hand) (sym items))

@@ -2,6 +2,7 @@
 use Rattle.std.proofs.Common.{◌∙◌, ap, arith, length}
 use Rattle.thin_vec.proofs.ListLemmas.{Settled, from-same, settled}
 use Rattle.thin_vec.proofs.from_others.ThinVec+T+A.extend_from_vec_reserved.Goals as goal
+use Rattle.thin_vec.proofs.ThinVecLemmas.{within-stays}
 
 facts : (g : _) (c : goal.After-destroy_empty g) → Settled c.set_len.new.self c.self.inside.alloc
     c.args.items.items (length c.self.inside.block.slots)
@@ -18,3 +19,8 @@ invariant_of-self g c = (facts g c).thin
 
 pub returns-clause-items : goal.returns-clause-items
 returns-clause-items g c = (facts g c).items
+
+pub returns-clause-within : goal.returns-clause-within
+returns-clause-within g c =
+    within-stays _ c.self.inside.block c.self.inside.alloc c.set_len.new.self _ _ c.requires.within
+    c.self.view_is (facts g c)

@@ -3,6 +3,7 @@ use Rattle.std.proofs.Common.{◌++◌, ap, arith, length, sym, ◌∙◌}
 use Rattle.thin_block.specs.Slots.{items_in}
 use Rattle.thin_vec.proofs.TwoListsLemmas.{settle-more}
 use Rattle.thin_vec.proofs.ListLemmas.{Settled}
+use Rattle.thin_vec.proofs.ThinVecLemmas.{within-stays}
 use Rattle.thin_vec.proofs.from_others.ThinVec+T+A.from_array.Goals as goal
 
 facts : (g : _) (c : goal.After-set_len g) → Settled c.set_len.new.self c.list.inside.alloc
@@ -28,3 +29,7 @@ invariant_of-list g c = (facts g c).thin
 pub returns-in-Ok-clause-items : goal.returns-in-Ok-clause-items
 returns-in-Ok-clause-items g c = (facts g c).items ∙ ap (λ xs. xs ++ c.args.items)
     (ap (λ v. v.items) c.list.view_is ∙ c.in-Ok.ensures.items)
+
+pub returns-in-Ok-clause-within : goal.returns-in-Ok-clause-within
+returns-in-Ok-clause-within g c = within-stays _ c.list.inside.block c.list.inside.alloc
+    c.set_len.new.self _ _ c.in-Ok.ensures.within c.list.view_is (facts g c)

@@ -1,6 +1,7 @@
 -- The slot of an item is filled, and a list is one again once it is written.
 use Rattle.std.proofs.Common.{◌<◌, ap, arith, length, refl, sym, ◌∙◌}
 use Rattle.std.specs.List.{slice_get}
+use Rattle.std.proofs.lemmas.Option.{get_or_from_slice_get}
 use Rattle.thin_block.specs.Lends.{with_item as block_with_item}
 use Rattle.thin_block.specs.Slots.{items_in}
 use Rattle.thin_vec.specs.Lends.{with_item}
@@ -27,7 +28,10 @@ invariant_of-self-lent g c = λ w.
 pub returns : goal.returns
 returns g c =
     let within : c.args.index < length (items_in c.self.inside.block.slots) =
-    omega (arith, c.requires, ap (λ v. length v.items) c.self.view_is) in (
+    omega (arith, c.requires, ap (λ v. length v.items) c.self.view_is) in
+    let item = sym (ap (λ v. slice_get v.items c.args.index) c.self.view_is)
+    ∙ thin-get c.self.inside.block c.self.inside.alloc c.args.index c.slot_mut.result.now
+    c.self.invariant within c.slot_mut.ensures.value in (
       (
         refl,
         λ w. view-with_item c.self.inside.block c.self.inside.alloc c.args.index w
@@ -35,8 +39,8 @@ returns g c =
       ),
       record {
         writes_back = tt;
-        value = sym (ap (λ v. slice_get v.items c.args.index) c.self.view_is)
-            ∙ thin-get c.self.inside.block c.self.inside.alloc c.args.index c.slot_mut.result.now
-            c.self.invariant within c.slot_mut.ensures.value;
+        value = item;
+        item = sym (get_or_from_slice_get c.args.self.now.items c.args.index c.slot_mut.result.now
+            c.slot_mut.result.now item);
       },
     )

@@ -3,6 +3,7 @@ use Rattle.std.proofs.Common.{◌-◌, ◌++◌, ◌∙◌, ap, arith, drop, len
 use Rattle.thin_block.specs.Slots.{items_in}
 use Rattle.thin_vec.proofs.TwoListsLemmas.{settle-cut, settle-joined}
 use Rattle.thin_vec.proofs.ListLemmas.{Settled, thin-filled}
+use Rattle.thin_vec.proofs.ThinVecLemmas.{within-kept}
 use Rattle.thin_vec.proofs.list.ThinVec.append_reserved.Goals as goal
 
 pub move_run_to-requires-clause-filled : goal.move_run_to-requires-clause-filled
@@ -64,3 +65,11 @@ returns-clause-items g c = (joined g c).items
 pub returns-clause-other_items : goal.returns-clause-other_items
 returns-clause-other_items g c = (cut g c).items
     ∙ ap (λ v. take c.args.start v.items) c.other.view_is
+
+pub returns-clause-within : goal.returns-clause-within
+returns-clause-within g c =
+    within-kept _ _ _ _ _ _ c.self.invariant c.self.view_is c.len-len.ensures.slots_fit (joined g c)
+
+pub returns-clause-other_within : goal.returns-clause-other_within
+returns-clause-other_within g c =
+    within-kept _ _ _ _ _ _ c.other.invariant c.other.view_is c.len.ensures.slots_fit (cut g c)

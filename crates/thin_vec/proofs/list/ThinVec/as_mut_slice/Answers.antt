@@ -4,6 +4,7 @@ use Rattle.thin_block.specs.Lends.{with_items as block_with_items}
 use Rattle.thin_vec.specs.Lends.{with_items}
 use Rattle.thin_vec.proofs.LendsLemmas.{settle-over, view-with_items}
 use Rattle.thin_vec.proofs.ListLemmas.{thin-filled, thin-run}
+use Rattle.thin_vec.proofs.ThinVecLemmas.{within-of}
 use Rattle.thin_vec.proofs.list.ThinVec.as_mut_slice.Goals as goal
 
 pub slice_mut-requires-clause-filled : goal.slice_mut-requires-clause-filled
@@ -28,5 +29,6 @@ returns g c = (
     value = thin-run c.self.inside.block c.self.inside.alloc c.slice_mut.result.now c.len-len.result
         c.self.invariant c.len-len.ensures.value c.slice_mut.ensures.value
         ∙ ap (λ v. v.items) c.self.view_is;
+    within = within-of _ _ _ _ c.self.invariant c.self.view_is c.len-len.ensures.slots_fit;
   },
 )

@@ -1,11 +1,13 @@
 -- One growth for the hint, and those of the rest: capacity, cost and cause of both.
 use Rattle.std.proofs.Common.{◌≡◌, ◌++◌, ◌∙◌, ap, arith, length, subst}
-use Rattle.std.specs.Iterator.Runs.{WholeRun}
-use Rattle.std.specs.Prelude.{OnOk}
+use Rattle.std.proofs.lemmas.List.{append-nil}
+use Rattle.std.specs.Iterator.Runs.{SomeRun, WholeRun}
+use Rattle.std.specs.Option.{option_to_list}
+use Rattle.std.specs.Prelude.{IfErr, OnOk}
 use denote.Param.{param}
 use Rattle.thin_vec.specs.ThinVec.{capacity_for}
-use Rattle.std.proofs.Common.{inl, sym, Some}
-use Rattle.thin_vec.proofs.ExtendLemmas.{named-after, run_of_ok, filled-join, filled-reserved, loose-join, loose-le, loose-ruled}
+use Rattle.std.proofs.Common.{inl, sym, Some, List, None, [], inr, refl}
+use Rattle.thin_vec.proofs.ExtendLemmas.{named-after, run_of_ok, filled-join, filled-reserved, loose-join, loose-le, loose-ruled, run_given, run_given_err}
 use Rattle.thin_vec.proofs.list.ThinVec.extend.Goals as goal
 
 pub returns-in-Ok-clause-capacity : goal.returns-in-Ok-clause-capacity
@@ -57,3 +59,21 @@ returns-in-Ok-clause-runs g c =
     (WholeRun steps c.args.iter (λ p. w.items ≡ old ++ p.items))) c.reserve.ensures.items
     (run_of_ok steps c.args.iter (λ xs. w.items ≡ c.reserve.new.self.items ++ xs)
     c.extend_unhinted.result c.extend_unhinted.ensures.items)
+
+pub returns-in-Ok-clause-runs_err : goal.returns-in-Ok-clause-runs_err
+returns-in-Ok-clause-runs_err g c =
+    let steps = g.I.Iterator.next_gives in let w = c.extend_unhinted.new.self in
+    subst (λ old. IfErr c.extend_unhinted.result
+    (λ refused. SomeRun steps c.args.iter
+    (λ p. (xs : List g.row.T.Denot) × (w.items ≡ old ++ xs)
+    × (p.items ≡ xs ++ option_to_list refused.in_hand)))) c.reserve.ensures.items
+    (run_given_err steps (λ refused. refused.in_hand) (λ refused. refused.rest) c.args.iter
+    (λ xs. w.items ≡ c.reserve.new.self.items ++ xs) c.extend_unhinted.result
+    c.extend_unhinted.ensures.placed)
+
+pub returns-in-Err-clause-runs_err : goal.returns-in-Err-clause-runs_err
+returns-in-Err-clause-runs_err g c =
+    run_given g.I.Iterator.next_gives c.args.iter [] None c.args.iter
+    (λ l. (xs : List g.row.T.Denot) × (c.reserve.new.self.items ≡ c.args.self.now.items ++ xs)
+    × (l ≡ xs ++ [])) refl
+    ([], c.reserve.ensures.items ∙ sym (append-nil c.args.self.now.items), refl)

@@ -5,6 +5,7 @@ use Rattle.thin_block.specs.Cost.{moving}
 use Rattle.thin_block.specs.Slots.{items_in}
 use Rattle.thin_vec.proofs.TwoListsLemmas.{settle-more}
 use Rattle.thin_vec.proofs.ListLemmas.{Settled, thin-room}
+use Rattle.thin_vec.proofs.ThinVecLemmas.{within-kept}
 use Rattle.thin_block.proofs.Outcomes.{on-some}
 use Rattle.thin_vec.proofs.list.ThinVec.extend_reserved.Goals as goal
 
@@ -67,3 +68,7 @@ returns-clause-full g c =
     (λ (end : c.put_iter-rest.result.1 ≡ c.cap-cap.result). omega
     (arith, end, ends g c, (facts g c).cap, c.cap-cap.ensures.value))
     c.put_iter-rest.ensures.full
+
+pub returns-clause-within : goal.returns-clause-within
+returns-clause-within g c =
+    within-kept _ _ _ _ _ _ c.self.invariant c.self.view_is c.len-len.ensures.slots_fit (facts g c)

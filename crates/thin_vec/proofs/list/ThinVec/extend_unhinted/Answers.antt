@@ -105,6 +105,12 @@ loop-item-preserved g c =
       nearer = omega (arith, held.nearer, nearer, long);
       capacity = loose-join rule T law v.capacity u.capacity z.capacity held.capacity
           (subst (λ n. IsLoose rule T n z.capacity) c.extend_reserved-left.ensures.capacity grown);
+      never_less = omega (
+        arith,
+        held.never_less,
+        pushed.never_less,
+        c.extend_reserved-left.ensures.capacity,
+      );
       had_room = λ fit. let same = held.had_room fit in
           pushed.had_room (omega (
             arith,

@@ -15,6 +15,7 @@ invariant-loop-item g l = record {
   nearer : length l.self.items + size (g.I.Iterator.remaining l.rest)
       ≤ length l.fn.self.items + size (g.I.Iterator.remaining l.fn.iter);
   capacity : IsLoose g.G.Growth.rule (param 0 g.row.T) l.fn.self.capacity l.self.capacity;
+  never_less : l.fn.self.capacity ≤ l.self.capacity;
   had_room : length l.fn.self.items + size (g.I.Iterator.remaining l.fn.iter) ≤ l.fn.self.capacity
       → l.self.capacity ≡ l.fn.self.capacity;
   cost : IsExtendCost l.fn.self l.self;

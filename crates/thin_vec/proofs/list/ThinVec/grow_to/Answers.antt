@@ -2,6 +2,7 @@
 use Rattle.std.proofs.Common.{ap, ◌∙◌, arith}
 use Rattle.thin_vec.proofs.ListLemmas.{Settled}
 use Rattle.thin_block.specs.Slots.{items_in}
+use Rattle.thin_vec.proofs.ThinVecLemmas.{within-settled}
 use Rattle.thin_vec.proofs.list.ThinVec.grow_to.Goals.{In_ok-grow}
 use Rattle.thin_vec.proofs.CapacityLemmas.{settle-grow}
 use Rattle.thin_vec.proofs.list.ThinVec.grow_to.Goals as goal
@@ -18,3 +19,7 @@ invariant_of-self-2 g c = (facts g c).thin
 
 pub returns-clause-items : goal.returns-clause-items
 returns-clause-items g c = (facts g c).items ∙ ap (λ v. v.items) c.self.view_is
+
+pub returns-clause-within : goal.returns-clause-within
+returns-clause-within g c =
+    within-settled _ _ _ _ _ c.requires.fits (facts g c)

@@ -3,6 +3,7 @@ use Rattle.std.proofs.Common.{◌+◌, ◌-◌, ap, ◌∙◌, length, arith, re
 use Rattle.std.specs.Prelude.{insert}
 use Rattle.thin_vec.proofs.ListLemmas.{Settled, thin-filled}
 use Rattle.thin_block.specs.Slots.{items_in}
+use Rattle.thin_vec.proofs.ThinVecLemmas.{within-kept}
 use Rattle.thin_vec.proofs.list.ThinVec.insert_reserved.Goals.{After-put_and_store}
 use Rattle.thin_vec.proofs.EditsLemmas.{settle-insert, thin-gap}
 use Rattle.thin_vec.proofs.list.ThinVec.insert_reserved.Goals as goal
@@ -59,3 +60,7 @@ invariant_of-self g c = (facts g c).thin
 pub returns-clause-items : goal.returns-clause-items
 returns-clause-items g c = (facts g c).items
     ∙ ap (λ v. insert v.items c.args.index c.args.value) c.self.view_is
+
+pub returns-clause-within : goal.returns-clause-within
+returns-clause-within g c =
+    within-kept _ _ _ _ _ _ c.self.invariant c.self.view_is c.len-len.ensures.slots_fit (facts g c)

@@ -4,6 +4,7 @@ use Rattle.thin_block.specs.Slots.{items_in}
 use Rattle.thin_vec.proofs.ClonesLemmas.{length-copies}
 use Rattle.thin_vec.proofs.TwoListsLemmas.{settle-more}
 use Rattle.thin_vec.proofs.ListLemmas.{Settled}
+use Rattle.thin_vec.proofs.ThinVecLemmas.{within-kept}
 use Rattle.thin_vec.proofs.list.ThinVec.push_clones_reserved.Goals as goal
 
 facts : (g : _) (c : goal.After-set_len g) → Settled c.set_len.new.self c.self.inside.alloc
@@ -38,3 +39,7 @@ pub returns-clause-items : goal.returns-clause-items
 returns-clause-items g c =
     let lays = c.put_clones-placed.ensures.slots in
     (lays.copies, (facts g c).items ∙ ap (λ v. v.items ++ lays.copies) c.self.view_is, lays.cloned)
+
+pub returns-clause-within : goal.returns-clause-within
+returns-clause-within g c =
+    within-kept _ _ _ _ _ _ c.self.invariant c.self.view_is c.len-len.ensures.slots_fit (facts g c)

@@ -5,6 +5,7 @@ use Rattle.thin_block.specs.Slots.{items_in}
 use Rattle.thin_vec.proofs.ClonesLemmas.{all-repeated, length-copies}
 use Rattle.thin_vec.proofs.TwoListsLemmas.{settle-more}
 use Rattle.thin_vec.proofs.ListLemmas.{Settled}
+use Rattle.thin_vec.proofs.ThinVecLemmas.{within-kept}
 use Rattle.thin_vec.proofs.list.ThinVec.push_repeated_reserved.Goals as goal
 
 many : (g : _) (c : goal.After-set_len g) → length c.put_repeated-placed.ensures.slots.copies
@@ -51,3 +52,7 @@ returns-clause-items g c =
       count = many g c;
       items = (facts g c).items ∙ ap (λ v. v.items ++ lays.copies) c.self.view_is;
     }
+
+pub returns-clause-within : goal.returns-clause-within
+returns-clause-within g c =
+    within-kept _ _ _ _ _ _ c.self.invariant c.self.view_is c.len-len.ensures.slots_fit (facts g c)

@@ -2,6 +2,7 @@
 use Rattle.std.proofs.Common.{◌++◌, ◌∷◌, [], ap, ◌∙◌, length, arith}
 use Rattle.thin_vec.proofs.ListLemmas.{Settled, settle-push}
 use Rattle.thin_block.specs.Slots.{items_in}
+use Rattle.thin_vec.proofs.ThinVecLemmas.{within-kept}
 use Rattle.thin_vec.proofs.list.ThinVec.push_reserved.Goals as goal
 
 facts : (g : _) (c : goal.After-put_and_store g)
@@ -25,3 +26,7 @@ invariant_of-self g c = (facts g c).thin
 
 pub returns-clause-items : goal.returns-clause-items
 returns-clause-items g c = (facts g c).items ∙ ap (λ v. v.items ++ c.args.value ∷ []) c.self.view_is
+
+pub returns-clause-within : goal.returns-clause-within
+returns-clause-within g c =
+    within-kept _ _ _ _ _ _ c.self.invariant c.self.view_is c.len-len.ensures.slots_fit (facts g c)

@@ -1,7 +1,10 @@
 -- The items lie in front of a smaller block.
-use Rattle.std.proofs.Common.{sym, ap, ◌∙◌, length}
+use Rattle.std.proofs.Common.{sym, ap, ◌∙◌, arith, length}
 use Rattle.thin_block.specs.Slots.{items_in}
 use Rattle.thin_vec.proofs.ListLemmas.{Settled}
+use Rattle.thin_block.proofs.CapacityLemmas.{fits-less}
+use denote.Param.{param}
+use Rattle.thin_vec.proofs.ThinVecLemmas.{within-settled}
 use Rattle.thin_vec.proofs.list.ThinVec.shrink_to.Goals.{In_ok-shrink}
 use Rattle.thin_vec.proofs.CapacityLemmas.{settle-shrink}
 use Rattle.thin_vec.proofs.list.ThinVec.shrink_to.Goals as goal
@@ -19,3 +22,9 @@ invariant_of-self-2 g c = (facts g c).thin
 
 pub returns-clause-items : goal.returns-clause-items
 returns-clause-items g c = (facts g c).items ∙ ap (λ v. v.items) c.self.view_is
+
+pub returns-clause-within : goal.returns-clause-within
+returns-clause-within g c =
+    within-settled _ _ _ _ _
+    (fits-less (param 0 g.row.T) c.args.len c.args.self.now.capacity c.requires.within.fits
+    (omega arith)) (facts g c)

@@ -4,6 +4,7 @@ use Rattle.std.specs.List.{slice_get, swap_remove}
 use Rattle.thin_block.specs.Slots.{items_in}
 use Rattle.thin_vec.proofs.EditsLemmas.{settle-replaced}
 use Rattle.thin_vec.proofs.ListLemmas.{Settled, thin-filled, thin-get}
+use Rattle.thin_vec.proofs.ThinVecLemmas.{within-kept}
 use Rattle.thin_vec.proofs.list.ThinVec.swap_remove.Goals as goal
 
 pub take_replacing-value-requires : goal.take_replacing-value-requires
@@ -61,3 +62,7 @@ returns-clause-value g c =
 pub returns-clause-items : goal.returns-clause-items
 returns-clause-items g c = (facts g c).items
     ∙ ap (λ v. swap_remove v.items c.args.index c.take_replacing-value.result) c.self.view_is
+
+pub returns-clause-within : goal.returns-clause-within
+returns-clause-within g c =
+    within-kept _ _ _ _ _ _ c.self.invariant c.self.view_is c.len-last.ensures.slots_fit (facts g c)

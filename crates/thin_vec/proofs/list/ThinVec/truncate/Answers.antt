@@ -4,6 +4,8 @@ use lib.ListN.{set}
 use Rattle.thin_block.specs.Slots.{front}
 use Rattle.thin_vec.proofs.EditsLemmas.{emptying, emptying-none, emptying-filled, emptying-take, settle-truncate}
 use Rattle.thin_vec.proofs.ListLemmas.{Settled, thin-room}
+use Rattle.std.proofs.lemmas.List.{length-take}
+use Rattle.thin_vec.proofs.ThinVecLemmas.{within-like, within-of}
 use Rattle.thin_vec.proofs.list.ThinVec.truncate.Goals as goal
 
 pub loop-i-init : goal.loop-i-init
@@ -71,3 +73,16 @@ invariant_of-self g c = (facts g c).thin
 
 pub returns-clause-items : goal.returns-clause-items
 returns-clause-items g c = (facts g c).items
+
+pub returns-clause-within : goal.returns-clause-within
+returns-clause-within g c =
+    let before = within-of _ _ _ _ c.self.invariant c.self.view_is c.len-old.ensures.slots_fit in (
+      before,
+      within-like _ _ _ before (facts g c).cap
+          (omega (
+            arith,
+            ap length (facts g c).items,
+            length-take c.args.len c.args.self.now.items,
+            before.room,
+          )),
+    )

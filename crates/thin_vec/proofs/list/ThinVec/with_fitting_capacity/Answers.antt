@@ -1,6 +1,7 @@
 -- A new block holds no item.
 use Rattle.std.proofs.Common.{[]}
 use Rattle.thin_vec.proofs.ListLemmas.{Settled}
+use Rattle.thin_vec.proofs.ThinVecLemmas.{within-settled}
 use Rattle.thin_vec.proofs.list.ThinVec.with_fitting_capacity.Goals.{In_ok-block}
 use Rattle.thin_vec.proofs.CapacityLemmas.{settle-new}
 use Rattle.thin_vec.proofs.list.ThinVec.with_fitting_capacity.Goals as goal
@@ -14,3 +15,6 @@ invariant_of-result g c = (facts g c).thin
 
 pub returns-clause-items : goal.returns-clause-items
 returns-clause-items g c = (facts g c).items
+
+pub returns-clause-within : goal.returns-clause-within
+returns-clause-within g c = within-settled _ _ _ _ _ c.requires.fits (facts g c)

@@ -1,0 +1,152 @@
+-- What a closure picked, as items are asked about up to the first that goes.
+use Rattle.std.proofs.Common.{◌≡◌, ℕ, suc, ◌+◌, ◌≤◌, Bool, true, false, List, [], ◌∷◌, ◌++◌, Option, None, Some, length, take, drop, refl, sym, ap, subst, ◌∙◌, arith, length-append, add-one}
+use Rattle.std.proofs.lemmas.List.{drop_at, take_at}
+use Rattle.std.specs.List.Retain.{ExtractsNext}
+use Rattle.std.specs.Option.{option_to_list}
+use Rattle.std.specs.Prelude.{◌==◌, MatchBool, if◌then◌else◌, not}
+use Rattle.thin_block.specs.Cost.{Cost, moving}
+use Rattle.thin_vec.specs.Filters.{Answers, Asked, stay}
+use Rattle.thin_vec.specs.Sifting.{Runs, Stops}
+
+head-of : {X : Type 0} {x y : X} {xs ys : List X} → x ∷ xs ≡ y ∷ ys → x ≡ y
+head-of e = cc
+
+tail-of : {X : Type 0} {x y : X} {xs ys : List X} → x ∷ xs ≡ y ∷ ys → xs ≡ ys
+tail-of e = ap (drop 1) e
+
+not-nil : {X : Type 0} {x : X} {xs : List X} → x ∷ xs ≡ [] → ⊥
+not-nil e = let n = ap length e in omega (arith, n)
+
+pub nothing : {X : Type 0} (xs : List X) → length xs ≡ 0 → xs ≡ []
+nothing [] e = refl
+nothing (x ∷ xs) e = absurd (omega arith)
+
+pub not-not : (b : Bool) → not (not b) ≡ b
+not-not true = refl
+not-not false = refl
+
+module _ {F T : Type 0} (R : F → T → Bool → F → T → Type 0) where
+  by-answer : (s : F) (x : T) (xs : List T) (item : Option T) (t : F) (kept rest : List T) (u : F)
+      (y : T) → ((ks : List T) → ExtractsNext R u xs item t ks rest → length xs ≡ length ks + length
+      (option_to_list item) + length rest)
+      → (b : Bool) → MatchBool b ((item ≡ Some y) × (t ≡ u) × (kept ≡ []) × (rest ≡ xs))
+      ((ks : List T) × ExtractsNext R u xs item t ks rest × (kept ≡ y ∷ ks))
+      → length (x ∷ xs) ≡ length kept + length (option_to_list item) + length rest
+  by-answer s x xs item t kept rest u y more true m =
+      let i = ap (λ (o : Option T). length (option_to_list o)) m.0 in
+      let k = ap length m.2 in
+      let r = ap length m.3 in
+      omega (arith, i, k, r)
+  by-answer s x xs item t kept rest u y more false m =
+      let n = more m.0 m.1 in
+      let k = ap length m.2 in
+      omega (arith, n, k)
+
+  -- each item stays, is handed out, or is still to be asked about
+  pub picked-count : (s : F) (xs : List T) (item : Option T) (t : F) (kept rest : List T)
+      → ExtractsNext R s xs item t kept rest → length xs ≡ length kept + length
+      (option_to_list item) + length rest
+  picked-count s [] item t kept rest e =
+      let i = ap (λ (o : Option T). length (option_to_list o)) e.0 in
+      let k = ap length e.2 in
+      let r = ap length e.3 in
+      omega (arith, i, k, r)
+  picked-count s (x ∷ xs) item t kept rest e =
+      by-answer s x xs item t kept rest e.1 e.2
+      (λ (ks : List T) (m : ExtractsNext R e.1 xs item t ks rest). picked-count e.1 xs
+      item t ks rest m) e.0 e.4
+
+  module _ {S : Type 0} (of : S → F) where
+    -- a judge that keeps what the closure does not pick
+    abbrev J : S → T → Bool → S → T → Type 0
+    J s x b t y = R (of s) x (not b) (of t) y
+
+    picked-behind : (s between : S) (run left behind : List T) (item : Option T) (t : F)
+        (rest : List T) → Asked J s run (stay left) between
+        → ExtractsNext R (of between) behind item t [] rest
+        → ExtractsNext R (of s) (run ++ behind) item t left rest
+    picked-behind s between [] [] behind item t rest a e =
+        subst (λ (q : S). ExtractsNext R (of q) behind item t [] rest) a.1 e
+    picked-behind s between [] (y ∷ left) behind item t rest a e = absurd (not-nil a.0)
+    picked-behind s between (x ∷ run) [] behind item t rest a e = absurd (not-nil (sym a.6))
+    picked-behind s between (x ∷ run) (z ∷ left) behind item t rest a e =
+        let h = head-of a.6 in
+        let answer : true ≡ a.0 = ap (λ (p : Bool × T). p.0) h in
+        let as_left : z ≡ a.1 = ap (λ (p : Bool × T). p.1) h in
+        let called : R (of s) x false (of a.2) z =
+        subst (λ (w : T). R (of s) x false (of a.2) w) (sym as_left)
+        (subst (λ (b : Bool). R (of s) x (not b) (of a.2) a.1) (sym answer) a.4) in
+        let on : Asked J a.2 run (stay left) between =
+        subst (λ (q : Answers T). Asked J a.2 run q between) (sym (tail-of a.6)) a.5 in (
+          false,
+          of a.2,
+          z,
+          called,
+          (left, picked-behind a.2 between run left behind item t rest on e, refl),
+        )
+
+    stops-at-end : (between t : S) (behind ys : List T) → Stops J between behind t ys → ys ≡ []
+        → ExtractsNext R (of between) behind None (of t) [] ys
+    stops-at-end between t [] ys a none = (refl, ap of a.1, refl, none)
+    stops-at-end between t (x ∷ xs) ys a none = absurd (not-nil (sym a.2 ∙ none))
+
+    stops-at-item : (between t : S) (behind ys : List T) (v : T) (zs : List T)
+        → Stops J between behind t ys → ys ≡ v ∷ zs → ExtractsNext R (of between)
+        behind (Some v) (of t) [] zs
+    stops-at-item between t [] ys v zs a some = absurd (not-nil (sym some ∙ a.0))
+    stops-at-item between t (x ∷ xs) ys v zs a some =
+        let same : v ∷ zs ≡ a.0 ∷ xs = sym some ∙ a.2 in
+        (true, of t, a.0, a.1, (ap Some (head-of same), refl, refl, tail-of same))
+
+    module _ (m : ℕ) (s : S) (xs : List T) (t : S) (ys : List T) (h : Runs J 0 m s xs t ys) where
+      none-before : h.before ≡ []
+      none-before = nothing h.before h.place
+
+      was : xs ≡ h.run ++ h.behind
+      was = h.was ∙ ap (λ (l : List T). l ++ (h.run ++ h.behind)) none-before
+
+      now : ys ≡ h.left ++ h.end
+      now = h.now ∙ ap (λ (l : List T). l ++ (h.left ++ h.end)) none-before
+
+      reached : length h.left ≡ m
+      reached = omega (arith, h.reached)
+
+      left-is : take m ys ≡ h.left
+      left-is = ap (take m) now ∙ take_at h.left h.end m reached
+
+      end-is : drop m ys ≡ h.end
+      end-is = ap (drop m) now ∙ drop_at h.left h.end m reached
+
+      pub picked-room : m ≤ length ys
+      picked-room = omega (arith, reached, ap length now, length-append h.left h.end)
+
+      whole : (item : Option T) (rest : List T) → ExtractsNext R (of h.between) h.behind item (of t)
+          [] rest → ExtractsNext R (of s) xs item (of t) (take m ys) rest
+      whole item rest e =
+          subst (λ (l : List T). ExtractsNext R (of s) l item (of t) (take m ys) rest) (sym was)
+          (subst (λ (l : List T). ExtractsNext R (of s) (h.run ++ h.behind) item (of t) l rest)
+          (sym left-is) (picked-behind s h.between h.run h.left h.behind item
+          (of t) rest h.asked e))
+
+      -- no item goes
+      pub picked-none : drop m ys ≡ [] → ExtractsNext R (of s) xs None (of t)
+          (take m ys) (drop m ys)
+      picked-none none =
+          whole None (drop m ys)
+          (subst (λ (l : List T). ExtractsNext R (of h.between) h.behind None (of t) [] l)
+          (sym end-is) (stops-at-end h.between t h.behind h.end h.stops (sym end-is ∙ none)))
+
+      -- the item v goes
+      pub picked-some : (v : T) (zs : List T) → drop m ys ≡ v ∷ zs
+          → ExtractsNext R (of s) xs (Some v) (of t) (take m ys) zs
+      picked-some v zs some =
+          whole (Some v) zs (stops-at-item h.between t h.behind h.end v zs
+          h.stops (sym end-is ∙ some))
+
+-- what k moves cost where there was a hole
+pub cost-of : (old_before before : ℕ) (old_cost cost new : Cost) (k n : ℕ) → before ≡ old_before
+    → cost ≡ old_cost → k ≡ n
+    → new ≡ (if before == 0 then cost else moving k cost)
+    → new ≡ (if old_before == 0 then old_cost else moving n old_cost)
+cost-of old_before before old_cost cost new k n b c same e = e
+    ∙ (λ i. if b i == 0 then c i else moving (same i) (c i))

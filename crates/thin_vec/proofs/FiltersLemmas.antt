@@ -1,0 +1,575 @@
+-- What answers about items leave, as one stretch of items follows another.
+use Rattle.std.proofs.Common.{◌≡◌, ℕ, zero, suc, ◌+◌, ◌-◌, ◌<◌, ◌≤◌, Bool, true, false, List, [], ◌∷◌, ◌++◌, length, take, drop, refl, sym, ap, subst, ◌∙◌, arith, length-append, append_assoc}
+use Rattle.std.proofs.lemmas.List.{append-nil, drop_at, length-take-le, map-append, map_push, take-append-drop, take_at}
+use Rattle.std.specs.List.{filter, items_where_true}
+use Rattle.std.specs.List.Retain.{IsFiltered, ReturnsInTurn}
+use Rattle.std.proofs.lemmas.Fn.{filter_same}
+use Rattle.thin_block.specs.Cost.{Cost, moving}
+use Rattle.thin_vec.specs.Filters.{Answers, Asked, IsRetained, IsRetainedTo, Looks, flags_of, left_at, moved_up, stay, trues}
+use Rattle.thin_vec.specs.Open.{Open}
+use Rattle.thin_vec.specs.ThinVec.{Thin}
+use Rattle.thin_vec.specs.Sifting.{IsAskedAt, IsSifted, Runs, Sifts, Stops}
+
+-- moves add up
+pub moving-more : (a b : ℕ) (c : Cost) → moving a (moving b c) ≡ moving (b + a) c
+moving-more a b c = let e : c.moves + b + a ≡ c.moves + (b + a) = omega arith in
+    λ i. record { blocks = c.blocks; grown = c.grown; moves = e i }
+
+pub moving-none : (c : Cost) → moving 0 c ≡ c
+moving-none c = let e : c.moves + 0 ≡ c.moves = omega arith in
+    λ i. record { blocks = c.blocks; grown = c.grown; moves = e i }
+
+-- a list of one item and more, by its parts
+pub cons-head : {X : Type 0} {x y : X} {xs ys : List X} → x ∷ xs ≡ y ∷ ys → x ≡ y
+cons-head e = cc
+
+pub cons-tail : {X : Type 0} {x y : X} {xs ys : List X} → x ∷ xs ≡ y ∷ ys → xs ≡ ys
+cons-tail e = ap (drop 1) e
+
+pub cons-not-nil : {X : Type 0} {x : X} {xs : List X} → x ∷ xs ≡ [] → ⊥
+cons-not-nil e = let n = ap length e in omega (arith, n)
+
+-- a list of no items
+pub nothing : {X : Type 0} (xs : List X) → length xs ≡ 0 → xs ≡ []
+nothing [] e = refl
+nothing (x ∷ xs) e = absurd (omega arith)
+
+module _ {T : Type 0} where
+  pub left_at-append : (a b : Answers T) → left_at true (a ++ b) ≡ left_at true a ++ left_at true b
+  left_at-append [] b = refl
+  left_at-append ((true, x) ∷ a) b = ap (λ (l : List T). x ∷ l) (left_at-append a b)
+  left_at-append ((false, x) ∷ a) b = left_at-append a b
+
+  pub trues-append : (a b : Answers T) → trues (flags_of (a ++ b)) ≡ trues
+      (flags_of a) + trues (flags_of b)
+  trues-append [] b = omega arith
+  trues-append ((true, x) ∷ a) b = let e = trues-append a b in omega arith
+  trues-append ((false, x) ∷ a) b = trues-append a b
+
+  -- where each item stays
+  pub left_at-stay : (xs : List T) → left_at true (stay xs) ≡ xs
+  left_at-stay [] = refl
+  left_at-stay (x ∷ xs) = ap (λ (l : List T). x ∷ l) (left_at-stay xs)
+
+  pub trues-stay : (xs : List T) → trues (flags_of (stay xs)) ≡ length xs
+  trues-stay [] = refl
+  trues-stay (x ∷ xs) = ap suc (trues-stay xs)
+
+  pub moved_up-stay : (xs : List T) (a : Answers T) → moved_up (flags_of (stay xs ++ a))
+      ≡ moved_up (flags_of a)
+  moved_up-stay [] a = refl
+  moved_up-stay (x ∷ xs) a = moved_up-stay xs a
+
+module _ {S T : Type 0} (R : S → T → Bool → S → T → Type 0) where
+  -- one stretch after another
+  pub asked-append : (xs : List T) (s t u : S) (ys : List T) (a b : Answers T) → Asked R s xs a t
+      → Asked R t ys b u → Asked R s (xs ++ ys) (a ++ b) u
+  asked-append [] s t u ys a b h k = subst (λ (c : Answers T). Asked R s ys (c ++ b) u) (sym h.0)
+      (subst (λ (q : S). Asked R q ys b u) h.1 k)
+  asked-append (x ∷ xs) s t u ys a b h k = (
+    h.0,
+    h.1,
+    h.2,
+    h.3 ++ b,
+    h.4,
+    asked-append xs h.2 t u ys h.3 b h.5 k,
+    ap (λ (c : Answers T). c ++ b) h.6,
+  )
+
+  pub asked-one : (s t : S) (x y : T) (b : Bool) → R s x b t y → Asked R s (x ∷ []) ((b, y) ∷ []) t
+  asked-one s t x y b h = (b, y, t, [], h, (refl, refl), refl)
+
+  -- the first item was asked about
+  pub record AskedFirst (s : S) (xs : List T) (b : Bool) (t : S) (ys : List T) : Type 0 where
+    pub item : T
+    pub left : T
+    pub behind : List T
+    pub was : xs ≡ item ∷ behind
+    pub asked : R s item b t left
+    pub now : ys ≡ left ∷ behind
+
+  pub asked-first : (s : S) (xs : List T) (b : Bool) (t : S) (ys : List T)
+      → IsAskedAt R 0 s xs b t ys → AskedFirst s xs b t ys
+  asked-first s xs b t ys h =
+      let none = nothing h.before h.place in
+      record {
+        item = h.item;
+        left = h.left;
+        behind = h.behind;
+        was = h.was ∙ ap (λ (l : List T). l ++ h.item ∷ h.behind) none;
+        asked = h.asked;
+        now = h.now ∙ ap (λ (l : List T). l ++ h.left ∷ h.behind) none;
+      }
+
+  -- ---- a run of items that stay
+
+  -- the items from k up to m were asked about, and each stays
+  pub record Stays (k m : ℕ) (s : S) (xs : List T) (t : S) (ys : List T) : Type 0 where
+    pub before : List T
+    pub run : List T
+    pub left : List T
+    pub more : List T
+    pub place : length before ≡ k
+    pub reached : k + length left ≡ m
+    pub was : xs ≡ before ++ (run ++ more)
+    pub asked : Asked R s run (stay left) t
+    pub now : ys ≡ before ++ (left ++ more)
+
+  pub stays-start : (k : ℕ) (s : S) (xs : List T) → k ≤ length xs → Stays k k s xs s xs
+  stays-start k s xs low =
+      record {
+        before = take k xs;
+        run = [];
+        left = [];
+        more = drop k xs;
+        place = length-take-le k xs low;
+        reached = omega arith;
+        was = sym (take-append-drop k xs);
+        asked = (refl, refl);
+        now = sym (take-append-drop k xs);
+      }
+
+  module _ (k m : ℕ) (s : S) (xs : List T) (t : S) (ys : List T) (h : Stays k m s xs t ys) where
+    abbrev asked-part : List T
+    asked-part = h.before ++ h.left
+
+    long : length asked-part ≡ m
+    long = omega (arith, length-append h.before h.left, h.place, h.reached)
+
+    parted : ys ≡ asked-part ++ h.more
+    parted = h.now ∙ sym (append_assoc h.before h.left h.more)
+
+    -- where the next item stands
+    next-parts : (b : Bool) (u : S) (zs : List T) (a : IsAskedAt R m t ys b u zs)
+        → (a.before ≡ asked-part) × (h.more ≡ a.item ∷ a.behind)
+    next-parts b u zs a =
+        let e : asked-part ++ h.more ≡ a.before ++ a.item ∷ a.behind = sym parted ∙ a.was in (
+          sym (take_at a.before (a.item ∷ a.behind) m a.place)
+              ∙ (ap (take m) (sym e) ∙ take_at asked-part h.more m long),
+          sym (drop_at asked-part h.more m long)
+              ∙ (ap (drop m) e ∙ drop_at a.before (a.item ∷ a.behind) m a.place),
+        )
+
+    next-now : (b : Bool) (u : S) (zs : List T) (a : IsAskedAt R m t ys b u zs)
+        → zs ≡ h.before ++ (h.left ++ a.left ∷ a.behind)
+    next-now b u zs a = a.now ∙ (ap (λ (l : List T). l ++ a.left ∷ a.behind) (next-parts b u zs a).0
+        ∙ append_assoc h.before h.left (a.left ∷ a.behind))
+
+    pub stays-more : (u : S) (zs : List T) → IsAskedAt R m t ys true u zs
+        → Stays k (m + 1) s xs u zs
+    stays-more u zs a =
+        let joined : stay h.left ++ (true, a.left) ∷ [] ≡ stay (h.left ++ a.left ∷ []) =
+        sym (map_push (λ (x : T). (true, x)) h.left a.left) in
+        record {
+          before = h.before;
+          run = h.run ++ a.item ∷ [];
+          left = h.left ++ a.left ∷ [];
+          more = a.behind;
+          place = h.place;
+          reached = omega (arith, h.reached, length-append h.left (a.left ∷ []));
+          was = h.was ∙ ap (λ (l : List T). h.before ++ l)
+              (ap (λ (l : List T). h.run ++ l) (next-parts true u zs a).1
+              ∙ sym (append_assoc h.run (a.item ∷ []) a.behind));
+          asked = subst (λ (c : Answers T). Asked R s (h.run ++ a.item ∷ []) c u) joined
+              (asked-append h.run s t u (a.item ∷ []) (stay h.left) ((true, a.left) ∷ []) h.asked
+              (asked-one t u a.item a.left true a.asked));
+          now = next-now true u zs a ∙ ap (λ (l : List T). h.before ++ l)
+              (sym (append_assoc h.left (a.left ∷ []) a.behind));
+        }
+
+    pub stays-goes : (u : S) (zs : List T) → IsAskedAt R m t ys false u zs → Runs R k m s xs u zs
+    stays-goes u zs a =
+        record {
+          before = h.before;
+          run = h.run;
+          left = h.left;
+          behind = a.item ∷ a.behind;
+          end = a.left ∷ a.behind;
+          between = t;
+          place = h.place;
+          reached = h.reached;
+          was = h.was ∙ ap (λ (l : List T). h.before ++ (h.run ++ l)) (next-parts false u zs a).1;
+          asked = h.asked;
+          stops = (a.left, a.asked, refl);
+          now = next-now false u zs a;
+        }
+
+    pub stays-end : length ys ≤ m → Runs R k m s xs t ys
+    stays-end short =
+        let none : h.more ≡ [] =
+        nothing h.more (omega
+        (arith, short, ap length parted, length-append asked-part h.more, long)) in
+        record {
+          before = h.before;
+          run = h.run;
+          left = h.left;
+          behind = [];
+          end = [];
+          between = t;
+          place = h.place;
+          reached = h.reached;
+          was = h.was ∙ ap (λ (l : List T). h.before ++ (h.run ++ l)) none;
+          asked = h.asked;
+          stops = (refl, refl);
+          now = h.now ∙ ap (λ (l : List T). h.before ++ (h.left ++ l)) none;
+        }
+
+  -- as many items are left as were asked about
+  pub asked-count : (k : ℕ) (s : S) (xs : List T) (b : Bool) (t : S) (ys : List T)
+      → IsAskedAt R k s xs b t ys → length ys ≡ length xs
+  asked-count k s xs b t ys h =
+      omega (
+        arith,
+        ap length h.was,
+        ap length h.now,
+        length-append h.before (h.item ∷ h.behind),
+        length-append h.before (h.left ∷ h.behind),
+      )
+
+  stay-count : (xs : List T) (s t : S) (ys : List T) → Asked R s xs (stay ys) t
+      → length xs ≡ length ys
+  stay-count [] s t [] h = refl
+  stay-count [] s t (y ∷ ys) h = absurd (cons-not-nil h.0)
+  stay-count (x ∷ xs) s t [] h = absurd (cons-not-nil (sym h.6))
+  stay-count (x ∷ xs) s t (y ∷ ys) h =
+      ap suc (stay-count xs h.2 t ys
+      (subst (λ (a : Answers T). Asked R h.2 xs a t) (sym (cons-tail h.6)) h.5))
+
+  stop-count : (u : S) (b : List T) (t : S) (e : List T) → Stops R u b t e → length e ≡ length b
+  stop-count u [] t e h = ap length h.0
+  stop-count u (x ∷ b) t e h = ap length h.2
+
+  pub runs-count : (k m : ℕ) (s : S) (xs : List T) (t : S) (ys : List T) → Runs R k m s xs t ys
+      → length ys ≡ length xs
+  runs-count k m s xs t ys r =
+      omega (
+        arith,
+        ap length r.was,
+        ap length r.now,
+        length-append r.before (r.run ++ r.behind),
+        length-append r.run r.behind,
+        length-append r.before (r.left ++ r.end),
+        length-append r.left r.end,
+        stay-count r.run s r.between r.left r.asked,
+        stop-count r.between r.behind t r.end r.stops,
+      )
+
+  -- one item stays; two do
+  pub one-stays : (s : S) (xs : List T) (t : S) (ys : List T)
+      → IsAskedAt R 0 s xs true t ys → Stays 0 1 s xs t ys
+  one-stays s xs t ys a = stays-more 0 0 s xs s xs (stays-start 0 s xs (omega arith)) t ys a
+
+  pub two-stay : (s : S) (xs : List T) (t : S) (ys : List T) (u : S) (zs : List T)
+      → IsAskedAt R 0 s xs true t ys → IsAskedAt R 1 t ys true u zs → Stays 0 2 s xs u zs
+  two-stay s xs t ys u zs a b = stays-more 0 1 s xs t ys (one-stays s xs t ys a) u zs b
+
+  -- two runs, one behind the other
+  pub runs-join : (m n : ℕ) (s : S) (xs : List T) (t : S) (ys : List T) (u : S) (zs : List T)
+      → Stays 0 m s xs t ys → Runs R m n t ys u zs → Runs R 0 n s xs u zs
+  runs-join m n s xs t ys u zs h r =
+      let none = nothing h.before h.place in
+      let same : h.left ++ h.more ≡ r.before ++ (r.run ++ r.behind) =
+      sym (h.now ∙ ap (λ (l : List T). l ++ (h.left ++ h.more)) none) ∙ r.was in
+      let long : length h.left ≡ m = omega (arith, h.reached) in
+      let first : r.before ≡ h.left =
+      sym (take_at r.before (r.run ++ r.behind) m r.place)
+      ∙ (ap (take m) (sym same) ∙ take_at h.left h.more m long) in
+      let second : h.more ≡ r.run ++ r.behind =
+      sym (drop_at h.left h.more m long)
+      ∙ (ap (drop m) same ∙ drop_at r.before (r.run ++ r.behind) m r.place) in
+      let joined : stay h.left ++ stay r.left ≡ stay (h.left ++ r.left) =
+      sym (map-append (λ (x : T). (true, x)) h.left r.left) in
+      record {
+        before = [];
+        run = h.run ++ r.run;
+        left = h.left ++ r.left;
+        behind = r.behind;
+        end = r.end;
+        between = r.between;
+        place = refl;
+        reached = omega (arith, length-append h.left r.left, long, r.reached);
+        was = h.was ∙ (ap (λ (l : List T). l ++ (h.run ++ h.more)) none
+            ∙ (ap (λ (l : List T). h.run ++ l) second ∙ sym (append_assoc h.run r.run r.behind)));
+        asked = subst (λ (c : Answers T). Asked R s (h.run ++ r.run) c r.between) joined
+            (asked-append h.run s t r.between r.run (stay h.left) (stay r.left) h.asked r.asked);
+        stops = r.stops;
+        now = r.now ∙ (ap (λ (l : List T). l ++ (r.left ++ r.end)) first
+            ∙ sym (append_assoc h.left r.left r.end));
+      }
+
+  -- ---- what a run leaves, once its items are in front
+
+  -- some first items were asked about: what stays of them, how many those are, and what is left to
+  -- ask about
+  pub record Part (m : ℕ) (s : S) (xs : List T) (t : S) (kept rest : List T) : Type 0 where
+    pub done : List T
+    pub answers : Answers T
+    pub was : xs ≡ done ++ rest
+    pub asked : Asked R s done answers t
+    pub left : left_at true answers ≡ kept
+    pub count : trues (flags_of answers) ≡ m
+
+  module _ (m : ℕ) (s : S) (xs : List T) (t : S) (ys : List T) (r : Runs R 0 m s xs t ys) where
+    run-none : r.before ≡ []
+    run-none = nothing r.before r.place
+
+    run-long : length r.left ≡ m
+    run-long = omega (arith, r.reached)
+
+    run-now : ys ≡ r.left ++ r.end
+    run-now = r.now ∙ ap (λ (l : List T). l ++ (r.left ++ r.end)) run-none
+
+    pub run-was : xs ≡ r.run ++ r.behind
+    run-was = r.was ∙ ap (λ (l : List T). l ++ (r.run ++ r.behind)) run-none
+
+    pub run-kept : take m ys ≡ r.left
+    run-kept = ap (take m) run-now ∙ take_at r.left r.end m run-long
+
+    pub run-end : drop m ys ≡ r.end
+    run-end = ap (drop m) run-now ∙ drop_at r.left r.end m run-long
+
+    -- the item behind the run goes
+    pub stop-goes : (u : S) (b e : List T) (v : T) (rest : List T) → Stops R u b t e → e ≡ v ∷ rest
+        → (x : T) × (b ≡ x ∷ rest) × R u x false t v
+    stop-goes u [] e v rest h k = absurd (cons-not-nil (sym k ∙ h.0))
+    stop-goes u (x ∷ b) e v rest h k =
+        let same : h.0 ∷ b ≡ v ∷ rest = sym h.2 ∙ k in (
+          x,
+          ap (λ (l : List T). x ∷ l) (cons-tail same),
+          subst (λ (y : T). R u x false t y) (cons-head same) h.1,
+        )
+
+    pub part-goes : (v : T) (rest : List T) → drop m ys ≡ v ∷ rest → Part m s xs t (take m ys) rest
+    part-goes v rest k =
+        let g = stop-goes r.between r.behind r.end v rest r.stops (sym run-end ∙ k) in
+        record {
+          done = r.run ++ g.0 ∷ [];
+          answers = stay r.left ++ (false, v) ∷ [];
+          was = run-was ∙ (ap (λ (l : List T). r.run ++ l) g.1
+              ∙ sym (append_assoc r.run (g.0 ∷ []) rest));
+          asked = asked-append r.run s r.between t (g.0 ∷ []) (stay r.left) ((false, v) ∷ [])
+              r.asked (asked-one r.between t g.0 v false g.2);
+          left = left_at-append (stay r.left) ((false, v) ∷ [])
+              ∙ (append-nil (left_at true (stay r.left)) ∙ (left_at-stay r.left ∙ sym run-kept));
+          count = let none : trues (flags_of (let one : Answers T = (false, v) ∷ [] in one)) ≡ 0 =
+              refl in omega (
+                arith,
+                trues-append (stay r.left) ((false, v) ∷ []),
+                trues-stay r.left,
+                run-long,
+                none,
+              );
+        }
+
+    -- there is none
+    pub stop-ends : (u : S) (b e : List T) → Stops R u b t e → e ≡ [] → (b ≡ []) × (t ≡ u)
+    stop-ends u [] e h k = (refl, h.1)
+    stop-ends u (x ∷ b) e h k = absurd (cons-not-nil (sym h.2 ∙ k))
+
+    pub part-ends : drop m ys ≡ [] → Part m s xs t (take m ys) []
+    part-ends k =
+        let g = stop-ends r.between r.behind r.end r.stops (sym run-end ∙ k) in
+        record {
+          done = r.run;
+          answers = stay r.left;
+          was = run-was ∙ ap (λ (l : List T). r.run ++ l) g.0;
+          asked = subst (λ (q : S). Asked R s r.run (stay r.left) q) (sym g.1) r.asked;
+          left = left_at-stay r.left ∙ sym run-kept;
+          count = trues-stay r.left ∙ run-long;
+        }
+
+  -- ---- on blocks that are open
+
+  module _ {A : Type 0} (v w : Open T A) where
+    -- w has a hole, and of v the tail, the slots and where they came from
+    pub record Alike : Type 0 where
+      pub hole : 0 < w.before
+      pub behind : w.behind ≡ v.behind
+      pub tail : w.tail ≡ v.tail
+      pub capacity : w.capacity ≡ v.capacity
+      pub alloc : w.alloc ≡ v.alloc
+
+    pub sifts-of : (m : ℕ) (s t : S) (kept : List T) → Part m s v.rest t kept w.rest
+        → w.front ≡ v.front ++ kept → w.cost ≡ moving m v.cost → Alike → Sifts R s v t w
+    sifts-of m s t kept p front cost alike =
+        record {
+          done = p.done;
+          answers = p.answers;
+          rest = p.was;
+          asked = p.asked;
+          front = front ∙ ap (λ (l : List T). v.front ++ l) (sym p.left);
+          cost = cost ∙ ap (λ (n : ℕ). moving n v.cost) (sym p.count);
+          hole = alike.hole;
+          behind = alike.behind;
+          tail = alike.tail;
+          capacity = alike.capacity;
+          alloc = alike.alloc;
+        }
+
+  -- nothing was asked yet; and one stretch after another
+  pub sifts-start : {A : Type 0} (s : S) (v : Open T A) → 0 < v.before → Sifts R s v s v
+  sifts-start s v hole =
+      record {
+        done = [];
+        answers = [];
+        rest = refl;
+        asked = (refl, refl);
+        front = sym (append-nil v.front);
+        cost = sym (moving-none v.cost);
+        hole = hole;
+        behind = refl;
+        tail = refl;
+        capacity = refl;
+        alloc = refl;
+      }
+
+  pub sifts-then : {A : Type 0} (s t u : S) (v w z : Open T A) → Sifts R s v t w
+      → Sifts R t w u z → Sifts R s v u z
+  sifts-then s t u v w z h k =
+      record {
+        done = h.done ++ k.done;
+        answers = h.answers ++ k.answers;
+        rest = h.rest ∙ (ap (λ (l : List T). h.done ++ l) k.rest
+            ∙ sym (append_assoc h.done k.done z.rest));
+        asked = asked-append h.done s t u k.done h.answers k.answers h.asked k.asked;
+        front = k.front ∙ (ap (λ (l : List T). l ++ left_at true k.answers) h.front
+            ∙ (append_assoc v.front (left_at true h.answers) (left_at true k.answers)
+            ∙ ap (λ (l : List T). v.front ++ l) (sym (left_at-append h.answers k.answers))));
+        cost = k.cost ∙ (ap (λ (c : Cost). moving (trues (flags_of k.answers)) c) h.cost
+            ∙ (moving-more (trues (flags_of k.answers)) (trues (flags_of h.answers)) v.cost
+            ∙ ap (λ (n : ℕ). moving n v.cost) (sym (trues-append h.answers k.answers))));
+        hole = k.hole;
+        behind = k.behind ∙ h.behind;
+        tail = k.tail ∙ h.tail;
+        capacity = k.capacity ∙ h.capacity;
+        alloc = k.alloc ∙ h.alloc;
+      }
+
+  module _ {A : Type 0} (v w : Open T A) (m : ℕ) (s t : S) (ys : List T)
+      (run : Runs R 0 m s v.rest t ys) where
+    -- of v, w has the tail, the slots and where they came from, and the run in front of it, for
+    -- nothing
+    pub record Passed : Type 0 where
+      pub front : w.front ≡ v.front ++ take m ys
+      pub cost : w.cost ≡ v.cost
+      pub behind : w.behind ≡ v.behind
+      pub tail : w.tail ≡ v.tail
+      pub capacity : w.capacity ≡ v.capacity
+      pub alloc : w.alloc ≡ v.alloc
+
+    -- the item behind the run goes, and then all others were asked about
+    pub sifted-goes : (value : T) (u : S) (z : Open T A) → Passed → drop m ys ≡ value ∷ w.rest
+        → Sifts R t w u z → z.rest ≡ [] → IsSifted R s v u z
+    unfolding part-goes
+    sifted-goes value u z p k h none =
+        let part = part-goes m s v.rest t ys run value w.rest k in
+        let stays : List T = run.left in
+        let answers : Answers T = part.answers ++ h.answers in
+        let up : moved_up (flags_of answers) ≡ trues (flags_of h.answers) =
+        ap (λ (a : Answers T). moved_up (flags_of a))
+        (append_assoc (stay stays) ((false, value) ∷ []) h.answers)
+        ∙ moved_up-stay stays ((false, value) ∷ h.answers) in
+        let all : h.done ≡ w.rest =
+        sym (h.rest ∙ (ap (λ (l : List T). h.done ++ l) none ∙ append-nil h.done)) in
+        record {
+          answers = answers;
+          asked = subst (λ (l : List T). Asked R s l answers u)
+              (ap (λ (l : List T). part.done ++ l) all ∙ sym part.was)
+              (asked-append part.done s t u h.done part.answers h.answers part.asked h.asked);
+          rest = none;
+          front = h.front ∙ (ap (λ (l : List T). l ++ left_at true h.answers)
+              (p.front ∙ ap (λ (l : List T). v.front ++ l) (sym part.left))
+              ∙ (append_assoc v.front (left_at true part.answers) (left_at true h.answers)
+              ∙ ap (λ (l : List T). v.front ++ l)
+              (sym (left_at-append part.answers h.answers))));
+          cost = h.cost ∙ (λ i. moving (sym up i) (p.cost i));
+          behind = h.behind ∙ p.behind;
+          tail = h.tail ∙ p.tail;
+          capacity = h.capacity ∙ p.capacity;
+          alloc = h.alloc ∙ p.alloc;
+        }
+
+    -- all items stay
+    pub sifted-ends : Passed → drop m ys ≡ [] → w.rest ≡ [] → IsSifted R s v t w
+    unfolding part-ends
+    sifted-ends p k none =
+        let part = part-ends m s v.rest t ys run k in
+        let up : moved_up (flags_of part.answers) ≡ 0 =
+        ap (λ (a : Answers T). moved_up (flags_of a)) (sym (append-nil part.answers))
+        ∙ moved_up-stay run.left [] in
+        record {
+          answers = part.answers;
+          asked = subst (λ (l : List T). Asked R s l part.answers t)
+              (sym (append-nil part.done) ∙ sym part.was) part.asked;
+          rest = none;
+          front = p.front ∙ ap (λ (l : List T). v.front ++ l) (sym part.left);
+          cost = p.cost ∙ (sym (moving-none v.cost) ∙ ap (λ (n : ℕ). moving n v.cost) (sym up));
+          behind = p.behind;
+          tail = p.tail;
+          capacity = p.capacity;
+          alloc = p.alloc;
+        }
+
+-- a judge that holds a closure answers as the closure does
+module _ {J S T : Type 0} (R : S → T → Bool → S → T → Type 0) (inside : J → S) where
+  abbrev through : J → T → Bool → J → T → Type 0
+  through s x b t y = R (inside s) x b (inside t) y
+
+  pub asked-through : (xs : List T) (s t : J) (a : Answers T) → Asked through s xs a t
+      → Asked R (inside s) xs a (inside t)
+  asked-through [] s t a h = (h.0, ap inside h.1)
+  asked-through (x ∷ xs) s t a h =
+      (h.0, h.1, inside h.2, h.3, h.4, asked-through xs h.2 t h.3 h.5, h.6)
+
+  pub retained-through : {A : Type 0} (s : J) (v w : Thin T A) (t : J)
+      → IsRetainedTo through s v w t → IsRetained R (inside s) v w
+  retained-through s v w t h = (
+    inside t,
+    record {
+      answers = h.answers;
+      asked = asked-through v.items s t h.answers h.asked;
+      items = h.items;
+      cost = h.cost;
+    },
+  )
+
+-- ---- for callers
+
+-- the answers of a closure that only looks, alone
+module _ {S T : Type 0} (R : S → T → Bool → S → Type 0) where
+  told : (xs : List T) (s t : S) (a : Answers T) → Asked (Looks R) s xs a t
+      → (length (flags_of a) ≡ length xs) × ReturnsInTurn R s (flags_of a) xs t
+      × (left_at true a ≡ items_where_true (flags_of a) xs)
+  told [] s t [] h = (refl, sym h.1, refl)
+  told [] s t (q ∷ a) h = absurd (cons-not-nil h.0)
+  told (x ∷ xs) s t [] h = absurd (cons-not-nil (sym h.6))
+  told (x ∷ xs) s t ((b, y) ∷ a) h =
+      let same : (b, y) ≡ (h.0, h.1) = cons-head h.6 in
+      let rest = told xs h.2 t a
+      (subst (λ (c : Answers T). Asked (Looks R) h.2 xs c t) (sym (cons-tail h.6)) h.5) in
+      let answer : R s x b h.2 = subst (λ (c : Bool). R s x c h.2)
+      (sym (ap (λ (p : Bool × T). p.0) same)) h.4.0 in
+      let left : y ≡ x = ap (λ (p : Bool × T). p.1) same ∙ h.4.1 in
+      (ap suc rest.0, (h.2, answer, rest.1), first b y x a xs left rest.2)
+    where
+      first : (b : Bool) (y x : T) (a : Answers T) (xs : List T) → y ≡ x
+          → left_at true a ≡ items_where_true (flags_of a) xs
+          → left_at true ((b, y) ∷ a) ≡ items_where_true (b ∷ flags_of a) (x ∷ xs)
+      first true y x a xs e f = λ i. e i ∷ f i
+      first false y x a xs e f = f
+
+  -- std's word for what `retain` leaves, for whose lemmas see the kit's `lemmas/Fn`
+  pub retained_filtered : {A : Type 0} (s : S) (v w : Thin T A) → IsRetained (Looks R) s v w
+      → IsFiltered R s v.items w.items
+  retained_filtered s v w h =
+      let r = h.1 in
+      let t = told v.items s h.0 r.answers r.asked in
+      (flags_of r.answers, h.0, t.0, t.1, r.items ∙ t.2)
+
+  -- where each answer is that of a test, and the closure stays as it was, the items are those that
+  -- pass it
+  pub retained_filter : {A : Type 0} (test : T → Bool) (s : S) (v w : Thin T A)
+      → ((x : T) (b : Bool) (t : S) → R s x b t → (b ≡ test x) × (t ≡ s))
+      → IsRetained (Looks R) s v w → w.items ≡ filter test v.items
+  retained_filter test s v w says h = filter_same R test s says v.items w.items
+      (retained_filtered s v w h)

@@ -1,0 +1,12 @@
+use Rattle.std.proofs.Common.{Bool, rules, sym, subst}
+use Rattle.std.specs.Fn.{CalledAtMut}
+use Rattle.thin_vec.proofs.ExtractLemmas.{not-not}
+use Rattle.thin_vec.proofs.extract_if.PicksAsks.ask.Goals as goal
+
+-- the closure's answer is turned round twice
+pub returns-clause-asked : goal.returns-clause-asked
+returns-clause-asked g c =
+    let called : CalledAtMut g.F.FnMut c.args.self.now.pick c.args.item.now c.pick.result
+    c.pick.new.self c.pick.new.arg2 = search rules in
+    subst (λ (b : Bool). CalledAtMut g.F.FnMut c.args.self.now.pick c.args.item.now b
+    c.pick.new.self c.pick.new.arg2) (sym (not-not c.pick.result)) called

@@ -1,0 +1,12 @@
+use Rattle.std.proofs.Common.{◌≡◌, refl, rules}
+use Rattle.thin_vec.proofs.filters.KeyingAsksPairs.ask.Goals as goal
+
+pub returns-clause-asked : goal.returns-clause-asked
+returns-clause-asked g c = record {
+  between = c.key-key.new.self;
+  key = c.key-key.result;
+  other = c.key.result;
+  first = search rules;
+  second = search rules;
+  compared = search rules;
+}

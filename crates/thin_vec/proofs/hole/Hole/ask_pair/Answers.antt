@@ -1,0 +1,62 @@
+use Rattle.std.proofs.Common.{◌≡◌, ◌<◌, ◌+◌, ◌-◌, suc, refl, ap, sym, ◌∙◌, arith, length, rules}
+use Rattle.thin_vec.specs.Hole.{open_of}
+use Rattle.thin_vec.proofs.HoleLemmas.{rest-filled}
+use Rattle.thin_vec.proofs.PairsLemmas.{WrittenTwo, write-two-step}
+use Rattle.thin_vec.proofs.hole.Hole.ask_pair.Goals as goal
+
+pub ask_neighbours-requires-clause-filled : goal.ask_neighbours-requires-clause-filled
+ask_neighbours-requires-clause-filled g c = λ j low high.
+    let o = c.self.invariant in
+    rest-filled c.self.inside (open_of c.self.inside) o j (omega (arith, low))
+    (omega (
+      arith,
+      high,
+      o.rest,
+      c.requires.in_bounds,
+      c.requires.some,
+      ap (λ v. length v.rest) c.self.view_is,
+    ))
+
+-- what the block shows afterwards
+facts : (g : _) (c : goal.After-ask_neighbours g) → WrittenTwo c.self.inside c.self.invariant
+    (c.args.k - 1) c.ask_neighbours.new.block c.ask_neighbours.ensures.asked.kept
+    c.ask_neighbours.ensures.asked.later c.ask_neighbours.ensures.asked.kept_left
+    c.ask_neighbours.ensures.asked.later_left
+facts g c =
+    let a = c.ask_neighbours.ensures.asked in
+    write-two-step c.self.inside c.self.invariant (c.args.k - 1) c.ask_neighbours.new.block a.kept
+    a.later a.kept_left a.later_left c.ask_neighbours.ensures.alloc
+    c.ask_neighbours.ensures.cost
+    (omega (arith, c.requires.in_bounds, c.requires.some, ap (λ v. length v.rest) c.self.view_is))
+    a.first a.second a.now
+
+pub invariant_of-self : goal.invariant_of-self
+invariant_of-self g c = (facts g c).shown.lies
+
+pub returns-clause-asked : goal.returns-clause-asked
+returns-clause-asked g c =
+    let f = facts g c in
+    let a = c.ask_neighbours.ensures.asked in
+    record {
+      before = f.pre;
+      kept = a.kept;
+      later = a.later;
+      kept_left = a.kept_left;
+      later_left = a.later_left;
+      behind = f.post;
+      place = omega (arith, f.place, c.requires.some);
+      was = sym (ap (λ v. v.rest) c.self.view_is) ∙ f.was;
+      asked = a.asked;
+      now = ap (λ v. v.rest) f.shown.view;
+    }
+
+pub returns-clause-front : goal.returns-clause-front
+returns-clause-front g c = ap (λ v. v.front) (facts g c).shown.view
+    ∙ ap (λ v. v.front) c.self.view_is
+
+pub returns-clause-tail : goal.returns-clause-tail
+returns-clause-tail g c = ap (λ v. v.tail) (facts g c).shown.view ∙ ap (λ v. v.tail) c.self.view_is
+
+pub returns-clause-capacity : goal.returns-clause-capacity
+returns-clause-capacity g c = ap (λ v. v.capacity) (facts g c).shown.view
+    ∙ ap (λ v. v.capacity) c.self.view_is

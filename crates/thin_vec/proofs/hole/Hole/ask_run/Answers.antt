@@ -1,0 +1,39 @@
+use Rattle.std.proofs.Common.{◌+◌, refl, rules}
+use Rattle.thin_vec.proofs.FiltersLemmas.{stays-goes, stays-more, stays-start}
+use Rattle.thin_vec.proofs.hole.Hole.ask_run.Goals as goal
+
+pub loop-at-init : goal.loop-at-init
+loop-at-init g c = record {
+  stays = stays-start g.J.Asks.asks c.args.k c.args.judge.now
+      c.args.self.now.rest c.requires.in_bounds;
+  ready = c.requires.ready;
+  before = refl;
+  behind = refl;
+  front = refl;
+  tail = refl;
+  capacity = refl;
+  alloc = refl;
+  cost = refl;
+}
+
+pub returns-then-not-ask-clause-asked : goal.returns-then-not-ask-clause-asked
+returns-then-not-ask-clause-asked g c =
+    let l = c.loop-at in
+    stays-goes g.J.Asks.asks c.args.k l.at c.args.judge.now c.args.self.now.rest l.judge l.self.rest
+    l.invariant.stays c.ask.new.judge c.ask.new.self.rest (search rules)
+
+pub loop-at-preserved : goal.loop-at-preserved
+loop-at-preserved g c =
+    let l = c.loop-at in
+    record {
+      stays = stays-more g.J.Asks.asks c.args.k l.at c.args.judge.now c.args.self.now.rest l.judge
+          l.self.rest l.invariant.stays c.ask.new.judge c.ask.new.self.rest (search rules);
+      ready = search rules;
+      before = search rules;
+      behind = search rules;
+      front = search rules;
+      tail = search rules;
+      capacity = search rules;
+      alloc = search rules;
+      cost = search rules;
+    }

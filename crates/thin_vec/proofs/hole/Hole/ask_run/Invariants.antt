@@ -1,0 +1,20 @@
+-- Each item so far stays, and nothing else of the block has changed.
+use Rattle.std.proofs.Common.{◌≡◌, ◌-◌, ◌≤◌, length}
+use Rattle.thin_vec.proofs.FiltersLemmas.{Stays}
+use Rattle.thin_vec.proofs.hole.Hole.ask_run.Given as goal
+
+abbrev pub invariant-loop-at : goal.invariant-loop-at
+invariant-loop-at g l = record {
+  stays : Stays g.J.Asks.asks l.fn.k l.at l.fn.judge l.fn.self.rest l.judge l.self.rest;
+  ready : g.J.Asks.ready l.judge;
+  before : l.self.before ≡ l.fn.self.before;
+  behind : l.self.behind ≡ l.fn.self.behind;
+  front : l.self.front ≡ l.fn.self.front;
+  tail : l.self.tail ≡ l.fn.self.tail;
+  capacity : l.self.capacity ≡ l.fn.self.capacity;
+  alloc : l.self.alloc ≡ l.fn.self.alloc;
+  cost : l.self.cost ≡ l.fn.self.cost;
+}
+
+abbrev pub decreases-loop-at : goal.decreases-loop-at
+decreases-loop-at g l = length l.self.rest - l.at

@@ -1,0 +1,23 @@
+use Rattle.std.proofs.Common.{ap, arith, ◌∙◌}
+use Rattle.thin_block.specs.Slots.{front}
+use Rattle.thin_vec.specs.Open.{items_of}
+use Rattle.thin_vec.proofs.HoleLemmas.{behind-filled, close-row, closed-row}
+use Rattle.thin_vec.proofs.hole.Hole.into_closed.Goals.{else-kept-at, then-kept-at}
+use Rattle.thin_vec.proofs.hole.Hole.into_closed.Goals as goal
+
+pub move_run-requires-clause-filled : goal.move_run-requires-clause-filled
+move_run-requires-clause-filled g c = λ j low high.
+    behind-filled c.self.inside c.self.invariant
+    (ap (λ v. v.behind) c.self.view_is ∙ c.requires.behind) j low (omega (arith, high))
+
+pub returns-clause-slots : goal.returns-clause-slots
+returns-clause-slots g c =
+    let none = ap (λ v. v.behind) c.self.view_is ∙ c.requires.behind in
+    c.set_len.ensures.slots
+    ∙ (elim c.if-kept-at.branch [
+      | then-kept-at w ↦ ap (λ b. b.slots) w.block-is
+          ∙ (w.move_run.ensures.slots ∙ close-row c.self.inside c.self.invariant none)
+      | else-kept-at w ↦ ap (λ b. b.slots) w.block-is
+          ∙ closed-row c.self.inside c.self.invariant none w.if-kept-at.false
+    ]
+    ∙ ap (λ v. front (items_of v) v.capacity) c.self.view_is)

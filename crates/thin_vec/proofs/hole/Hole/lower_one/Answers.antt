@@ -1,0 +1,38 @@
+use Rattle.std.proofs.Common.{◌≡◌, ◌≤◌, ◌++◌, ap, ◌∙◌, arith, length, take, drop}
+use Rattle.thin_vec.specs.Hole.{open_of}
+use Rattle.thin_vec.proofs.HoleLemmas.{Found, rest-filled}
+use Rattle.thin_vec.proofs.SiftingLemmas.{lowered, lowered-seen, lower-one-step}
+use Rattle.thin_vec.proofs.hole.Hole.lower_one.Goals as goal
+
+pub take-value-requires : goal.take-value-requires
+take-value-requires g c =
+    let o = c.self.invariant in
+    record {
+      filled = rest-filled c.self.inside (open_of c.self.inside) o c.self.inside.at
+          (omega arith) (omega
+          (arith, o.rest, c.requires.some, ap (λ v. length v.rest) c.self.view_is));
+    }
+
+facts : (g : _) (c : goal.After-self-2-1 g)
+    → let some : 1 ≤ length (open_of c.self.inside).rest =
+    omega (arith, c.requires.some, ap (λ v. length v.rest) c.self.view_is) in
+    Found (lowered c.self.inside c.self.invariant 1 some c.put.new.self)
+    (lowered-seen c.self.inside c.self.invariant 1 some c.put.new.self)
+facts g c =
+    let some : 1 ≤ length (open_of c.self.inside).rest =
+    omega (arith, c.requires.some, ap (λ v. length v.rest) c.self.view_is) in
+    lower-one-step c.self.inside c.self.invariant some
+    (omega (arith, c.requires.hole, ap (λ v. v.before) c.self.view_is))
+    c.put.new.self c.take-value.result c.take-value.new.self.slots
+    c.take-value.ensures.value c.take-value.ensures.slots c.put.ensures.slots
+    (c.put.ensures.alloc ∙ c.take-value.ensures.alloc)
+
+pub invariant_of-self : goal.invariant_of-self
+invariant_of-self g c = (facts g c).lies
+
+pub returns-clause-front : goal.returns-clause-front
+returns-clause-front g c = ap (λ v. v.front) (facts g c).view
+    ∙ ap (λ v. v.front ++ take 1 v.rest) c.self.view_is
+
+pub returns-clause-rest : goal.returns-clause-rest
+returns-clause-rest g c = ap (λ v. v.rest) (facts g c).view ∙ ap (λ v. drop 1 v.rest) c.self.view_is

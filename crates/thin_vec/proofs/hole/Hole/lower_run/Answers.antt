@@ -1,0 +1,36 @@
+use Rattle.std.proofs.Common.{◌≡◌, ◌≤◌, ◌++◌, ap, ◌∙◌, arith, length, take, drop}
+use Rattle.thin_vec.specs.Hole.{open_of}
+use Rattle.thin_vec.proofs.HoleLemmas.{Found, rest-filled}
+use Rattle.thin_vec.proofs.SiftingLemmas.{lowered, lowered-seen, lower-step}
+use Rattle.thin_vec.proofs.hole.Hole.lower_run.Goals as goal
+
+pub move_run-requires-clause-filled : goal.move_run-requires-clause-filled
+move_run-requires-clause-filled g c = λ j low high.
+    let o = c.self.invariant in
+    rest-filled c.self.inside (open_of c.self.inside) o j low
+    (omega (arith, high, o.rest, c.requires.in_bounds, ap (λ v. length v.rest) c.self.view_is))
+
+facts : (g : _) (c : goal.After-self-2-1 g)
+    → let low : c.args.k ≤ length (open_of c.self.inside).rest =
+    omega (arith, c.requires.in_bounds, ap (λ v. length v.rest) c.self.view_is) in
+    Found (lowered c.self.inside c.self.invariant c.args.k low c.move_run.new.self)
+    (lowered-seen c.self.inside c.self.invariant c.args.k low c.move_run.new.self)
+facts g c =
+    let low : c.args.k ≤ length (open_of c.self.inside).rest =
+    omega (arith, c.requires.in_bounds, ap (λ v. length v.rest) c.self.view_is) in
+    lower-step c.self.inside c.self.invariant c.args.k low c.move_run.new.self
+    c.move_run.ensures.slots c.move_run.ensures.alloc
+
+pub invariant_of-self : goal.invariant_of-self
+invariant_of-self g c = (facts g c).lies
+
+pub returns-clause-front : goal.returns-clause-front
+returns-clause-front g c = ap (λ v. v.front) (facts g c).view
+    ∙ ap (λ v. v.front ++ take c.args.k v.rest) c.self.view_is
+
+pub returns-clause-rest : goal.returns-clause-rest
+returns-clause-rest g c = ap (λ v. v.rest) (facts g c).view
+    ∙ ap (λ v. drop c.args.k v.rest) c.self.view_is
+
+pub returns-clause-tail : goal.returns-clause-tail
+returns-clause-tail g c = ap (λ v. v.tail) (facts g c).view ∙ ap (λ v. v.tail) c.self.view_is

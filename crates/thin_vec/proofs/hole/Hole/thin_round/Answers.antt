@@ -1,0 +1,105 @@
+use Rattle.std.proofs.Common.{◌≡◌, ◌++◌, ◌∷◌, [], Bool, false, true, suc, length, take, refl, sym, ap, ◌∙◌, arith, rules}
+use Rattle.std.proofs.lemmas.List.{append-nil}
+use Rattle.thin_vec.specs.Pairs.{PairRuns}
+use Rattle.thin_vec.proofs.DedupLemmas.{run-count, run-ends, run-goes, thins-goes, thins-run, thins-stays, thins-two}
+use Rattle.thin_vec.proofs.FiltersLemmas.{nothing}
+use Rattle.thin_vec.proofs.hole.Hole.thin_round.Goals as goal
+
+-- the next item goes
+pub returns-then-ask_last-clause-thins : goal.returns-then-ask_last-clause-thins
+returns-then-ask_last-clause-thins g c =
+    thins-goes g.J.AsksPairs.asks c.args.self.now c.ask_last.new.self c.args.judge.now
+    c.ask_last.new.judge c.take_first-later.result c.ask_last.new.later
+    c.ask_last.new.self.front
+    (search rules) (search rules) refl (search rules)
+    (record {
+      hole = search rules;
+      behind = search rules;
+      tail = search rules;
+      capacity = search rules;
+      alloc = search rules;
+    })
+
+-- it stays, and is the last
+pub returns-then-rest_len-eq0-clause-thins : goal.returns-then-rest_len-eq0-clause-thins
+returns-then-rest_len-eq0-clause-thins g c =
+    thins-stays g.J.AsksPairs.asks c.args.self.now c.put_front.new.self c.args.judge.now
+    c.ask_last.new.judge c.take_first-later.result c.ask_last.new.later
+    c.ask_last.new.self.front
+    (search rules) (search rules) (search rules) (search rules)
+    (record {
+      hole = search rules;
+      behind = search rules;
+      tail = search rules;
+      capacity = search rules;
+      alloc = search rules;
+    })
+
+-- it stays, and the one behind it goes
+pub returns-then-goes-clause-thins : goal.returns-then-goes-clause-thins
+returns-then-goes-clause-thins g c =
+    thins-two g.J.AsksPairs.asks c.args.self.now c.take_first.new.self c.args.judge.now
+    c.ask_last.new.judge c.ask_next-goes.new.judge c.take_first-later.result
+    c.ask_last.new.later c.ask_next-goes.new.kept
+    c.ask_last.new.self.front c.ask_last.new.self.rest c.ask_next-goes.new.self.rest (search rules)
+    c.ask_next-goes.result c.ask_next-goes.ensures.asked (search rules)
+    c.if-goes.true c.take_first.result (search rules) (search rules) (search rules)
+    (record {
+      hole = search rules;
+      behind = search rules;
+      tail = search rules;
+      capacity = search rules;
+      alloc = search rules;
+    })
+
+-- both stay, with a run, and the one behind that goes
+pub returns-then-rest_len-gt0-clause-thins : goal.returns-then-rest_len-gt0-clause-thins
+returns-then-rest_len-gt0-clause-thins g c =
+    let R = g.J.AsksPairs.asks in
+    let r = c.ask_pairs-kept.ensures.asked in
+    let w = c.take_first-then-rest_len-gt0.new.self in
+    let goes = run-goes R c.ask_pairs-kept.result c.ask_next-goes.new.judge
+    c.put_front-2.new.self.rest c.ask_pairs-kept.new.judge c.ask_pairs-kept.new.self.rest r
+    c.take_first-then-rest_len-gt0.result w.rest
+    (sym c.lower.ensures.rest ∙ c.take_first-then-rest_len-gt0.ensures.rest) in
+    thins-run R c.args.self.now w c.args.judge.now c.ask_last.new.judge c.ask_next-goes.new.judge
+    c.take_first-later.result c.ask_last.new.later c.ask_next-goes.new.kept
+    c.ask_last.new.self.front c.ask_last.new.self.rest c.put_front-2.new.self.rest (search rules)
+    c.ask_next-goes.result (search rules) (search rules)
+    c.if-goes.false c.ask_pairs-kept.result c.ask_pairs-kept.new.judge
+    c.ask_pairs-kept.new.self.rest r goes.0 (run-count R _ _ _ _ _ r (false ∷ []) refl goes.1)
+    (search rules) (search rules)
+    (record {
+      hole = search rules;
+      behind = search rules;
+      tail = search rules;
+      capacity = search rules;
+      alloc = search rules;
+    })
+
+-- and so do all others
+pub returns-else-rest_len-gt0-clause-thins : goal.returns-else-rest_len-gt0-clause-thins
+returns-else-rest_len-gt0-clause-thins g c =
+    let R = g.J.AsksPairs.asks in
+    let r = c.ask_pairs-kept.ensures.asked in
+    let w = c.lower.new.self in
+    let none : w.rest ≡ [] =
+    nothing w.rest (omega (arith, c.rest_len-2.ensures.value, c.if-rest_len-gt0.false)) in
+    let ends = run-ends R c.ask_pairs-kept.result c.ask_next-goes.new.judge
+    c.put_front-2.new.self.rest c.ask_pairs-kept.new.judge c.ask_pairs-kept.new.self.rest r
+    (sym c.lower.ensures.rest ∙ none) in
+    thins-run R c.args.self.now w c.args.judge.now c.ask_last.new.judge c.ask_next-goes.new.judge
+    c.take_first-later.result c.ask_last.new.later c.ask_next-goes.new.kept
+    c.ask_last.new.self.front c.ask_last.new.self.rest c.put_front-2.new.self.rest (search rules)
+    c.ask_next-goes.result (search rules) (search rules)
+    c.if-goes.false c.ask_pairs-kept.result c.ask_pairs-kept.new.judge
+    c.ask_pairs-kept.new.self.rest r (ends.0 ∙ sym none)
+    (run-count R _ _ _ _ _ r [] refl (ends.1 ∙ sym (append-nil _)))
+    (search rules) (search rules)
+    (record {
+      hole = search rules;
+      behind = search rules;
+      tail = search rules;
+      capacity = search rules;
+      alloc = search rules;
+    })

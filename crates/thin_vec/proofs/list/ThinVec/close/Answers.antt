@@ -1,0 +1,23 @@
+use Rattle.std.proofs.Common.{ap, sym, ◌∙◌}
+use Rattle.thin_vec.specs.Open.{items_of}
+use Rattle.thin_vec.proofs.ListLemmas.{Settled, settled, thin-room}
+use Rattle.thin_vec.proofs.list.ThinVec.close.Goals as goal
+
+facts : (g : _) (c : goal.After-release g) → Settled c.replace-none.new.dest c.self.inside.alloc
+    (items_of c.args.hole) c.args.hole.capacity
+facts g c =
+    let is = c.replace-none.ensures.after in
+    settled c.replace-none.new.dest c.self.inside.alloc (items_of c.args.hole) c.args.hole.capacity
+    (ap (λ b. b.slots) is ∙ c.into_closed.ensures.slots)
+    (ap (λ b. b.len) is ∙ c.into_closed.ensures.len) c.into_closed.ensures.in_bounds
+    (λ x e. c.requires.from x (sym c.into_closed.ensures.alloc ∙ (sym (ap (λ b. b.alloc) is) ∙ e))
+    ∙ sym (ap (λ v. v.alloc) c.self.view_is))
+
+pub invariant_of-self : goal.invariant_of-self
+invariant_of-self g c = (facts g c).thin
+
+pub returns-clause-items : goal.returns-clause-items
+returns-clause-items g c = (facts g c).items
+
+pub returns-clause-room : goal.returns-clause-room
+returns-clause-room g c = thin-room c.replace-none.new.dest c.self.inside.alloc (facts g c).thin

@@ -1,0 +1,9 @@
+use Rattle.std.proofs.Common.{◌≡◌}
+use Rattle.std.specs.Fn.{CalledAtPairMut}
+use Rattle.thin_vec.proofs.DedupLemmas.{deduped-through}
+use Rattle.thin_vec.proofs.list.ThinVec.dedup_by.Goals as goal
+
+pub returns-clause-deduped : goal.returns-clause-deduped
+returns-clause-deduped g c =
+    deduped-through (CalledAtPairMut g.F.FnMut) (λ s. s.same)
+    _ c.args.self.now c.merge_those.new.self _ c.merge_those.ensures.deduped

@@ -1,0 +1,9 @@
+use Rattle.std.proofs.Common.{◌≡◌}
+use Rattle.std.specs.Fn.{ComparesKeys}
+use Rattle.thin_vec.proofs.DedupLemmas.{deduped-through}
+use Rattle.thin_vec.proofs.list.ThinVec.dedup_by_key.Goals as goal
+
+pub returns-clause-deduped : goal.returns-clause-deduped
+returns-clause-deduped g c =
+    deduped-through (ComparesKeys g.F.FnMut g.K.PartialEq.eq) (λ s. s.key)
+    _ c.args.self.now c.merge_those.new.self _ c.merge_those.ensures.deduped

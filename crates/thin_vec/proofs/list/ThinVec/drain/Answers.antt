@@ -1,0 +1,11 @@
+use Rattle.thin_vec.proofs.DrainLemmas.{drain_keeps_along, drains_in_order, drains_in_reverse}
+use Rattle.thin_vec.proofs.list.ThinVec.drain.Goals as goal
+
+pub returns-clause-runs : goal.returns-clause-runs
+returns-clause-runs g c = drains_in_order
+
+pub returns-clause-runs_back : goal.returns-clause-runs_back
+returns-clause-runs_back g c = drains_in_reverse
+
+pub returns-clause-stays : goal.returns-clause-stays
+returns-clause-stays g c = drain_keeps_along _

@@ -1,0 +1,10 @@
+use Rattle.std.proofs.Common.{◌≡◌}
+use Rattle.std.specs.Fn.{CalledAt}
+use Rattle.thin_vec.specs.Filters.{Looks}
+use Rattle.thin_vec.proofs.FiltersLemmas.{retained-through}
+use Rattle.thin_vec.proofs.list.ThinVec.retain.Goals as goal
+
+pub returns-clause-retained : goal.returns-clause-retained
+returns-clause-retained g c =
+    retained-through (Looks (CalledAt g.F.FnMut)) (λ s. s.keep)
+    _ c.args.self.now c.keep_those.new.self _ c.keep_those.ensures.retained

@@ -1,0 +1,9 @@
+use Rattle.std.proofs.Common.{◌≡◌}
+use Rattle.std.specs.Fn.{CalledAtMut}
+use Rattle.thin_vec.proofs.FiltersLemmas.{retained-through}
+use Rattle.thin_vec.proofs.list.ThinVec.retain_mut.Goals as goal
+
+pub returns-clause-retained : goal.returns-clause-retained
+returns-clause-retained g c =
+    retained-through (CalledAtMut g.F.FnMut) (λ s. s.keep) _ c.args.self.now c.keep_those.new.self _
+    c.keep_those.ensures.retained

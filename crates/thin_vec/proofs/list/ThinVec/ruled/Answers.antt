@@ -1,0 +1,9 @@
+-- No block has no item and no slot.
+use Rattle.std.proofs.Common.{ap, length}
+use Rattle.thin_block.specs.Slots.{items_in}
+use Rattle.thin_vec.proofs.ThinVecLemmas.{within-none}
+use Rattle.thin_vec.proofs.list.ThinVec.ruled.Goals as goal
+
+pub returns-clause-within : goal.returns-clause-within
+returns-clause-within g c =
+    within-none _ _ (ap items_in c.none.ensures.slots) (ap length c.none.ensures.slots)

@@ -1,0 +1,81 @@
+-- What a contract sees of an `ExtractIf`. (std: `Vec::extract_if`)
+use Rattle.std.specs.Prelude.{◌≡◌, ℕ, ◌+◌, ◌==◌, Bool, List, ◌++◌, Option, if◌then◌else◌, length}
+use Rattle.std.specs.Borrow.{GName}
+use Rattle.std.specs.List.Retain.{ExtractsNext}
+use Rattle.std.specs.Option.{option_to_list}
+use Rattle.thin_block.specs.Cost.{Cost, moving}
+use Rattle.thin_block.specs.declared.growth.Growth.{Ghosts}
+use Rattle.thin_vec.specs.Open.{Open, cost_closed, items_of}
+use Rattle.thin_vec.specs.declared.extract_if.ExtractIf.{ExtractIf}
+use Rattle.thin_vec.specs.declared.extract_if.Extracting.{Extracting}
+use Rattle.thin_vec.specs.declared.holds.Holder.{Holder}
+use Rattle.thin_vec.specs.declared.holds.Holds.{Ghosts as HoldsGhosts}
+
+-- All of it speaks of the holder that users get by default.
+module _ {T F A G : Type 0} {g : Ghosts G}
+    {h : HoldsGhosts (Holder (Extracting T F A)) (Extracting T F A)} where
+  -- the items that stay in front: those before the range, and those that were asked about and stay,
+  -- as the closure left them
+  abbrev pub extract_front : ExtractIf T F A G (Holder (Extracting T F A)) g h → List T
+  extract_front e = e.held.value.hole.front
+
+  -- the items that are still to be asked about
+  abbrev pub extract_rest : ExtractIf T F A G (Holder (Extracting T F A)) g h → List T
+  extract_rest e = e.held.value.hole.rest
+
+  -- the items behind the range
+  abbrev pub extract_tail : ExtractIf T F A G (Holder (Extracting T F A)) g h → List T
+  extract_tail e = e.held.value.hole.tail
+
+  -- how many items were handed out
+  abbrev pub extract_gone : ExtractIf T F A G (Holder (Extracting T F A)) g h → ℕ
+  extract_gone e = e.held.value.hole.before
+
+  -- the closure
+  abbrev pub extract_callee : ExtractIf T F A G (Holder (Extracting T F A)) g h → F
+  extract_callee e = e.held.value.picks.pick
+
+  -- what the list's blocks have cost so far
+  abbrev pub extract_cost : ExtractIf T F A G (Holder (Extracting T F A)) g h → Cost
+  extract_cost e = e.held.value.hole.cost
+
+  -- what the list has once the `ExtractIf` is dropped: its items, its capacity, its allocator, and
+  -- what it has cost, a move more
+  -- for each item that was not asked about or stands behind the range, where an item was handed out
+  abbrev pub extract_kept : ExtractIf T F A G (Holder (Extracting T F A)) g h → List T
+  extract_kept e = items_of e.held.value.hole
+
+  abbrev pub extract_capacity : ExtractIf T F A G (Holder (Extracting T F A)) g h → ℕ
+  extract_capacity e = e.held.value.hole.capacity
+
+  abbrev pub extract_alloc : ExtractIf T F A G (Holder (Extracting T F A)) g h → A
+  extract_alloc e = e.list.now.alloc
+
+  abbrev pub extract_cost_left : ExtractIf T F A G (Holder (Extracting T F A)) g h → Cost
+  extract_cost_left e = cost_closed e.held.value.hole
+
+  -- the ghost name of the reference to the list
+  abbrev pub extract_lender : ExtractIf T F A G (Holder (Extracting T F A)) g h → GName
+  extract_lender e = e.list.ghost_name
+
+  -- `next` took old to new, and gave the item. It asked about items up to the first that goes,
+  -- which is that item, or up to the
+  -- end. `kept` are those that stay, as the closure left them: they stand in front, for a move each
+  -- where items were handed out
+  -- before
+  pub record ExtractSteps (R : F → T → Bool → F → T → Type 0)
+      (old : ExtractIf T F A G (Holder (Extracting T F A)) g h) (item : Option T)
+      (new : ExtractIf T F A G (Holder (Extracting T F A)) g h) : Type 0 where
+    pub kept : List T
+    pub asked : ExtractsNext R (extract_callee old) (extract_rest old) item (extract_callee new)
+        kept (extract_rest new)
+    pub count : length (extract_rest old) ≡ length kept + length
+        (option_to_list item) + length (extract_rest new)
+    pub front : extract_front new ≡ extract_front old ++ kept
+    pub gone : extract_gone new ≡ extract_gone old + length (option_to_list item)
+    pub tail : extract_tail new ≡ extract_tail old
+    pub cost : extract_cost new ≡ (if extract_gone old == 0 then extract_cost old else moving
+        (length kept) (extract_cost old))
+    pub lender : extract_lender new ≡ extract_lender old
+    pub capacity : extract_capacity new ≡ extract_capacity old
+    pub alloc : extract_alloc new ≡ extract_alloc old

@@ -1,0 +1,113 @@
+-- What is left of a list once a closure was asked which items stay. (std: `Vec::retain_mut`,
+-- `Vec::dedup_by`)
+use Rattle.std.specs.Prelude.{◌≡◌, ℕ, zero, suc, List, [], ◌∷◌, ◌++◌, Bool, true, false, MatchBool, if◌then◌else◌, map, not}
+use Rattle.thin_block.specs.Cost.{moving}
+use Rattle.thin_vec.specs.ThinVec.{Thin}
+
+-- how many of the flags are true
+abbrev pub trues : List Bool → ℕ
+trues [] = zero
+trues (true ∷ flags) = suc (trues flags)
+trues (false ∷ flags) = trues flags
+
+-- a flag an item says whether it stays: how many stay and change their place, which are those
+-- behind the first that goes
+abbrev pub moved_up : List Bool → ℕ
+moved_up [] = zero
+moved_up (true ∷ stays) = moved_up stays
+moved_up (false ∷ stays) = trues stays
+
+-- answers to a question about each item, each beside the item as it was left by then
+abbrev pub Answers : Type 0 → Type 0
+Answers T = List (Bool × T)
+
+module _ {T : Type 0} where
+  -- the items of which the answer was the given one, as they were left
+  abbrev pub left_at : Bool → Answers T → List T
+  left_at b [] = []
+  left_at true ((true, x) ∷ answers) = x ∷ left_at true answers
+  left_at true ((false, x) ∷ answers) = left_at true answers
+  left_at false ((true, x) ∷ answers) = left_at false answers
+  left_at false ((false, x) ∷ answers) = x ∷ left_at false answers
+
+  -- each item stays, left as it is
+  abbrev pub stay : List T → Answers T
+  stay xs = map (λ (x : T). (true, x)) xs
+
+  -- the answers alone
+  abbrev pub flags_of : Answers T → List Bool
+  flags_of answers = map (λ (answer : Bool × T). answer.0) answers
+
+-- R relates a state, an item, the answer, the state afterwards and the item as it was left
+module _ {S T : Type 0} (R : S → T → Bool → S → T → Type 0) where
+  -- from the state s on, each item was asked about once, in order; t is the state afterwards
+  abbrev pub Asked : S → List T → Answers T → S → Type 0
+  Asked s [] answers t = (answers ≡ []) × (t ≡ s)
+  Asked s (x ∷ xs) answers t =
+      (b : Bool) × (y : T) × (u : S) × (rest : Answers T) × R s x b u y × Asked u xs rest t
+      × (answers ≡ (b, y) ∷ rest)
+
+  -- w is what is left of the list v: the items whose answer was true, as they were left, for one
+  -- move each that has changed its
+  -- place; t is the last state
+  pub record IsRetainedTo {A : Type 0} (s : S) (v w : Thin T A) (t : S) : Type 0 where
+    pub answers : Answers T
+    pub asked : Asked s v.items answers t
+    pub items : w.items ≡ left_at true answers
+    pub cost : w.cost ≡ moving (moved_up (flags_of answers)) v.cost
+
+  -- the same with some last state
+  abbrev pub IsRetained : {A : Type 0} → S → Thin T A → Thin T A → Type 0
+  IsRetained s v w = (t : S) × IsRetainedTo s v w t
+
+-- the relation of a closure that only looks at the item
+abbrev pub Looks : {S T : Type 0} → (S → T → Bool → S → Type 0) → S → T → Bool → S → T → Type 0
+Looks R s x b t y = R s x b t × (y ≡ x)
+
+-- R relates a state, a later item, the last item kept, whether the later one goes, the state
+-- afterwards and both items as they
+-- were left
+module _ {S T : Type 0} (R : S → T → T → Bool → S → T → T → Type 0) where
+  -- k is the last item kept; from the state s on, each later item was asked about once beside the
+  -- last item kept by then. The
+  -- flags say which of them stay, ys is k and those, as they were left, and t is the state
+  -- afterwards
+  abbrev pub AskedLast : S → T → List T → List Bool → List T → S → Type 0
+  AskedLast s k [] stays ys t = (stays ≡ []) × (ys ≡ k ∷ []) × (t ≡ s)
+  AskedLast s k (x ∷ xs) stays ys t =
+      (b : Bool) × (x' : T) × (k' : T) × (u : S) × (rest : List Bool) × R s x k b u x' k'
+      × (stays ≡ not b ∷ rest)
+      × MatchBool b (AskedLast u k' xs rest ys t)
+      ((zs : List T) × AskedLast u x' xs rest zs t × (ys ≡ k' ∷ zs))
+
+  -- the same from the first item on, which stays
+  abbrev pub AskedPairs : S → List T → List Bool → List T → S → Type 0
+  AskedPairs s [] stays ys t = (stays ≡ []) × (ys ≡ []) × (t ≡ s)
+  AskedPairs s (x ∷ xs) stays ys t = AskedLast s x xs stays ys t
+
+  -- w is what is left of the list v, for one move each that has changed its place; t is the last
+  -- state
+  pub record IsDedupedTo {A : Type 0} (s : S) (v w : Thin T A) (t : S) : Type 0 where
+    pub stays : List Bool
+    pub asked : AskedPairs s v.items stays w.items t
+    pub cost : w.cost ≡ moving (moved_up stays) v.cost
+
+  -- the same with some last state
+  abbrev pub IsDedupedBy : {A : Type 0} → S → Thin T A → Thin T A → Type 0
+  IsDedupedBy s v w = (t : S) × IsDedupedTo s v w t
+
+-- the relation of a test that E decides: it has no state, and leaves both items as they are
+abbrev pub Compares : {S T : Type 0} → (T → T → Bool) → S → T → T → Bool → S → T → T → Type 0
+Compares E s x k b t y l = (b ≡ E x k) × (y ≡ x) × (l ≡ k)
+
+module _ {T : Type 0} (E : T → T → Bool) where
+  -- k is the last item kept: of each later one, whether it stays, as E tells it from the last one
+  -- kept by then
+  abbrev pub unlike_from : T → List T → List Bool
+  unlike_from k [] = []
+  unlike_from k (x ∷ xs) = if E x k then false ∷ unlike_from k xs else true ∷ unlike_from x xs
+
+  -- the same of all items but the first, which stays
+  abbrev pub unlike : List T → List Bool
+  unlike [] = []
+  unlike (x ∷ xs) = unlike_from x xs

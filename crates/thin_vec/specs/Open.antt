@@ -1,0 +1,75 @@
+-- What a contract sees of a block that is open: its items lie in three runs, with empty slots
+-- between them, while an edit works on it.
+use Rattle.std.specs.Prelude.{◌≡◌, ℕ, ◌+◌, ◌-◌, ◌==◌, List, ◌++◌, Option, if◌then◌else◌, length, refl}
+use Rattle.std.specs.Coded.{Coded, code_by, coded×, coded_ℕ, coded_list, coded_option}
+use Rattle.std.specs.declared.option.Option.TheVariants.{Some}
+use Rattle.thin_block.specs.Cost.{Cost, cost_code, moving}
+use Rattle.thin_block.specs.Slots.{empty, full}
+
+-- the items that stay in front; how many empty slots lie behind them; the items of the middle run;
+-- how many empty slots lie behind
+-- those; the items that the edit has not reached; how many slots there are; the allocator that the
+-- memory came from; the cost
+pub record Open (T A : Type 0) : Type 0 where
+  pub front : List T
+  pub before : ℕ
+  pub rest : List T
+  pub behind : ℕ
+  pub tail : List T
+  pub capacity : ℕ
+  pub alloc : Option A
+  pub cost : Cost
+
+abbrev pub open_code : {T A : Type 0} → Coded T → Coded A → Coded (Open T A)
+open_code {T} {A} t a =
+    code_by (List T × (ℕ × (List T × (ℕ × (List T × (ℕ × (Option A × Cost)))))))
+    (coded× (coded_list t)
+    (coded× coded_ℕ (coded× (coded_list t)
+    (coded× coded_ℕ (coded× (coded_list t)
+    (coded× coded_ℕ (coded× (coded_option a) cost_code)))))))
+    (λ v. (v.front, (v.before, (v.rest, (v.behind, (v.tail, (v.capacity, (v.alloc, v.cost))))))))
+    (λ p. record {
+      front = p.0;
+      before = p.1.0;
+      rest = p.1.1.0;
+      behind = p.1.1.1.0;
+      tail = p.1.1.1.1.0;
+      capacity = p.1.1.1.1.1.0;
+      alloc = p.1.1.1.1.1.1.0;
+      cost = p.1.1.1.1.1.1.1;
+    })
+    (λ _. refl)
+
+module _ {T A : Type 0} where
+  -- the slot of the first item of the tail
+  abbrev pub tail_start : Open T A → ℕ
+  tail_start v = length v.front + v.before + length v.rest + v.behind
+
+  -- how many slots there are up to the last item
+  abbrev pub reach : Open T A → ℕ
+  reach v = tail_start v + length v.tail
+
+  -- the slots, in order
+  abbrev pub row_of : Open T A → List (Option T)
+  row_of v = full v.front
+      ++ (empty v.before
+      ++ (full v.rest ++ (empty v.behind ++ (full v.tail ++ empty (v.capacity - reach v)))))
+
+  -- the items, in order
+  abbrev pub items_of : Open T A → List T
+  items_of v = v.front ++ (v.rest ++ v.tail)
+
+  -- what it has cost once the empty slots behind the front are closed: a move for each item behind
+  -- them, where there are any
+  abbrev pub cost_closed : Open T A → Cost
+  cost_closed v = if v.before == 0 then v.cost else moving (length v.rest + length v.tail) v.cost
+
+  -- what it has cost once the middle run is gone and the hole is closed: a move for each item of
+  -- the tail, where there is a hole
+  abbrev pub cost_drained : Open T A → Cost
+  cost_drained v = if v.before + length v.rest + v.behind == 0 then v.cost else
+      moving (length v.tail) v.cost
+
+-- memory of this origin came from the allocator a, or there is none
+abbrev pub IsOf : {A : Type 0} → Option A → A → Type 0
+IsOf {A} alloc a = (x : A) → alloc ≡ Some x → x ≡ a

@@ -1,0 +1,182 @@
+//! `extract_if`: the items of a range at which a closure answers true go out of a list, one by one.
+//!
+//! Up to the first item that goes nothing moves. From then on the list has a hole, and the items that stay wait where they are
+//! until the next one goes or the range ends: then they go to the front of the hole as one run.
+ghost use Rattle.std.specs.Prelude.{◌≡◌, ◌≤◌, ◌==◌, IfSome, Some, drop, length, not, slice_range, take};
+ghost use Rattle.std.specs.Fn.{CalledAtMut};
+ghost use Rattle.std.specs.Iterator.{UpTo, at_most};
+ghost use Rattle.std.specs.Iterator.SizeHint.{IsWithinCount};
+ghost use Rattle.thin_vec.specs.Open.{IsOf, cost_closed, items_of};
+
+use crate::holds::{Holder, Holds};
+use crate::hole::Hole;
+use crate::list::ThinVec;
+use crate::sifting::Asks;
+use std::alloc::{Allocator, Global};
+use thin_block::{Doubling, Growth};
+
+/// The items of a range of a list at which a closure answers true, handed out in order, as the closure left them. Dropped at any
+/// moment, it asks about no item more, and the list has all items but those that were handed out.
+///
+/// While it lives it owns the list's block, and the list is empty and without one: one that is forgotten leaves such a list.
+pub struct ExtractIf<
+    'a,
+    T,
+    F,
+    A: Allocator = Global,
+    G: Growth = Doubling,
+    H: Holds<Inner = Extracting<T, F, A>> = Holder<Extracting<T, F, A>>,
+> {
+    list: &'a mut ThinVec<T, A, G>,
+    held: H,
+    ghost from: { IsOf (H.inner held).hole.alloc list.now.alloc },
+}
+
+/// What an `ExtractIf` owns: the open block, of which the middle run is still to be asked about, and the closure.
+pub struct Extracting<T, F, A: Allocator> {
+    hole: Hole<T, A>,
+    picks: Picks<F>,
+    ghost adjacent: { hole.behind ≡ 0 },
+}
+
+/// A closure that answers true at an item that goes.
+pub struct Picks<F> {
+    pick: F,
+}
+
+impl<T, F: FnMut(&mut T) -> bool> Asks<T> for Picks<F> {
+    ghost use Rattle.std.specs.Fn.{CalledAtMut};
+
+    ghost asks = { λ s x stays t y. CalledAtMut F.FnMut s.pick x (not stays) t.pick y };
+
+    ghost ready = { λ s. F.IsAlwaysCallable s.pick };
+
+    // Whether the item stays.
+    fn ask(&mut self, item: &mut T) -> bool {
+        !(self.pick)(item)
+    }
+}
+
+impl<'a, T: Drop, F: Drop, A: Allocator, G: Growth, H: Holds<Inner = Extracting<T, F, A>>> Drop
+    for ExtractIf<'a, T, F, A, G, H> {
+    // What was not asked about and what stands behind the range close the hole, as one run.
+    fn drop(self)
+        ensures items { self.exit.0.now.items ≡ items_of (H.inner self.entry.held).hole }
+        ensures capacity { self.exit.0.now.capacity ≡ (H.inner self.entry.held).hole.capacity }
+        ensures alloc { self.exit.0.now.alloc ≡ self.entry.list.now.alloc }
+        ensures cost { self.exit.0.now.cost ≡ cost_closed (H.inner self.entry.held).hole }
+    {
+        let ExtractIf { list, held } = self;
+        let Extracting { hole, picks } = held.into_inner();
+        let Picks { pick } = picks;
+        list.clear();
+        list.close(hole);
+        drop(pick);
+    }
+}
+
+impl<T, F: FnMut(&mut T) -> bool, A: Allocator> Extracting<T, F, A> {
+    ghost use Rattle.thin_vec.specs.Extract.{Extracts};
+
+    // Asks about items up to the first that goes, and hands it out. Those before it move to the front, where there is a hole.
+    fn next_picked(&mut self) -> Option<T>
+        requires callable { F.IsAlwaysCallable self.old.picks.pick }
+        ensures extracts { Extracts (CalledAtMut F.FnMut) self.old result self.new }
+        ensures callable { F.IsAlwaysCallable self.new.picks.pick }
+    {
+        let count = self.hole.ask_run(0, &mut self.picks);
+        self.hole.settle(count);
+        if self.hole.rest_len() == 0 {
+            return None;
+        }
+        Some(self.hole.take_first())
+    }
+}
+
+impl<T: Drop, A: Allocator, G: Growth> ThinVec<T, A, G> {
+    ghost use Rattle.thin_vec.specs.ExtractIf.{extract_alloc, extract_callee, extract_capacity, extract_cost, extract_front, extract_gone, extract_lender, extract_rest, extract_tail};
+
+    /// Takes those items from `start` up to `end` out of the list at which `pick` answers true: the answer hands them out, in
+    /// order, as `pick` left them. It is called at each item of the range once, in order, as far as the answer is walked.
+    ///
+    /// Once the answer is dropped, the list has all items but those that were handed out, its capacity and its allocator. Neither
+    /// takes memory. `bounds` is the test for the range.
+    pub fn extract_if<F: FnMut(&mut T) -> bool>(
+        &mut self,
+        start: usize,
+        end: usize,
+        pick: F,
+    ) -> ExtractIf<'_, T, F, A, G>
+        requires start_le_end { start ≤ end }
+        requires in_bounds { end ≤ length self.old.items }
+        ensures front { extract_front result ≡ take start self.old.items }
+        ensures rest { extract_rest result ≡ slice_range self.old.items start end }
+        ensures tail { extract_tail result ≡ drop end self.old.items }
+        ensures gone { extract_gone result ≡ 0 }
+        ensures callee { extract_callee result ≡ pick }
+        ensures same_reference { extract_lender result ≡ self.entry.ghost_name }
+        ensures capacity { extract_capacity result ≡ self.old.capacity }
+        ensures alloc { extract_alloc result ≡ self.old.alloc }
+        ensures cost { extract_cost result ≡ self.old.cost }
+    {
+        let hole = self.open(start, end);
+        let picks = Picks { pick };
+        ExtractIf {
+            list: self,
+            held: Holder {
+                value: Extracting { hole, picks },
+            },
+        }
+    }
+}
+
+impl<'a, T, F, A: Allocator, G: Growth> ExtractIf<'a, T, F, A, G> {
+    ghost use Rattle.thin_vec.specs.ExtractIf.{extract_rest};
+
+    /// How many items may come: from none to all that are still to be asked about.
+    pub fn size_hint(&self) -> (usize, Option<usize>)
+        ensures value { result ≡ (0, Some (length (extract_rest self.now))) }
+    {
+        (0, Some(self.held.value.hole.rest_len()))
+    }
+}
+
+impl<'a, T, F: FnMut(&mut T) -> bool, A: Allocator, G: Growth> ExtractIf<'a, T, F, A, G> {
+    ghost use Rattle.thin_vec.specs.ExtractIf.{ExtractSteps, extract_callee};
+
+    /// Asks about items up to the first at which the closure answers true, and hands that one out, or answers `None` where the
+    /// range has no such item any more.
+    pub fn next(&mut self) -> Option<T>
+        requires callable { F.IsAlwaysCallable (extract_callee self.old) }
+        ensures steps { ExtractSteps (CalledAtMut F.FnMut) self.old result self.new }
+        ensures callable { F.IsAlwaysCallable (extract_callee self.new) }
+    {
+        self.held.value.next_picked()
+    }
+}
+
+impl<'a, T: Drop, F: FnMut(&mut T) -> bool, A: Allocator, G: Growth> Iterator
+    for ExtractIf<'a, T, F, A, G> {
+    ghost use Rattle.thin_vec.specs.ExtractIf.{ExtractSteps, extract_callee, extract_rest};
+    ghost use denote.Param.Always.{always_mut};
+
+    type Item = T;
+
+    ghost can_next = { λ extract. always_mut F.FnMut (extract_callee extract) };
+
+    ghost next_gives = { ExtractSteps (CalledAtMut F.FnMut) };
+
+    ghost remaining = { λ extract. at_most (length (extract_rest extract)) };
+
+    fn next(&mut self) -> Option<T> {
+        ExtractIf::next(self)
+    }
+
+    fn size_hint(&self) -> (usize, Option<usize>)
+        ensures lower { IsWithinCount result.0 (at_most (length (extract_rest self.now))) }
+        ensures upper { IfSome result.1 (UpTo (at_most (length (extract_rest self.now)))) }
+        ensures value { result ≡ (0, Some (length (extract_rest self.now))) }
+    {
+        ExtractIf::size_hint(self)
+    }
+}

@@ -1,0 +1,221 @@
+//! Items go by what a closure says of them: `retain` and `dedup`, in their forms.
+//!
+//! Up to the first item that goes nothing moves. From then on the list has a hole, and items that stay side by side wait where
+//! they are until a later one goes or the walk ends: then they go to the front of the hole as one run.
+ghost use Rattle.std.specs.Prelude.{◌≡◌, ◌+◌, ◌<◌};
+ghost use Rattle.std.specs.Fn.{CalledAt, CalledAtMut, CalledAtPairMut, ComparesKeys};
+ghost use Rattle.std.specs.List.{dedup};
+ghost use Rattle.thin_block.specs.Cost.{moving};
+
+use crate::list::ThinVec;
+use crate::pairs::AsksPairs;
+use crate::sifting::Asks;
+use std::alloc::Allocator;
+use thin_block::Growth;
+
+impl<T: Drop, A: Allocator, G: Growth> ThinVec<T, A, G> {
+    ghost use Rattle.thin_vec.specs.Filters.{IsDedupedBy, IsDedupedTo, IsRetained, IsRetainedTo, Looks};
+    ghost use Rattle.thin_vec.specs.ThinVec.{IsWithin};
+
+    /// Keeps the items at which `keep` answers true, and drops the others. It is called at each item once, in order.
+    ///
+    /// Each item that stays behind the first that goes moves once, and no other. The capacity stays.
+    pub fn retain<F: FnMut(&T) -> bool>(&mut self, keep: F)
+        requires callable { F.IsAlwaysCallable keep }
+        ensures retained { IsRetained (Looks (CalledAt F.FnMut)) keep self.old self.new }
+        ensures capacity { self.new.capacity ≡ self.old.capacity }
+        ensures alloc { self.new.alloc ≡ self.old.alloc }
+        ensures blocks { self.new.cost.blocks ≡ self.old.cost.blocks }
+        ensures grown { self.new.cost.grown ≡ self.old.cost.grown }
+        ensures within { IsWithin T.row self.old × IsWithin T.row self.new }
+    {
+        let mut judge = Looking { keep };
+        self.keep_those(&mut judge);
+        let Looking { keep: _ } = judge;
+    }
+
+    /// `retain` with a closure that may write to each item. What it writes stays on those that stay.
+    pub fn retain_mut<F: FnMut(&mut T) -> bool>(&mut self, keep: F)
+        requires callable { F.IsAlwaysCallable keep }
+        ensures retained { IsRetained (CalledAtMut F.FnMut) keep self.old self.new }
+        ensures capacity { self.new.capacity ≡ self.old.capacity }
+        ensures alloc { self.new.alloc ≡ self.old.alloc }
+        ensures blocks { self.new.cost.blocks ≡ self.old.cost.blocks }
+        ensures grown { self.new.cost.grown ≡ self.old.cost.grown }
+        ensures within { IsWithin T.row self.old × IsWithin T.row self.new }
+    {
+        let mut judge = Writing { keep };
+        self.keep_those(&mut judge);
+        let Writing { keep: _ } = judge;
+    }
+
+    // Asks about each item once, in order, and keeps those that stay.
+    fn keep_those<J: Asks<T>>(&mut self, judge: &mut J)
+        requires ready { J.ready judge.old }
+        ensures retained { IsRetainedTo J.asks judge.old self.old self.new judge.new }
+        ensures capacity { self.new.capacity ≡ self.old.capacity }
+        ensures alloc { self.new.alloc ≡ self.old.alloc }
+        ensures within { IsWithin T.row self.old × IsWithin T.row self.new }
+    {
+        let len = self.len();
+        let mut hole = self.open(0, len);
+        hole.sift(judge);
+        self.close(hole);
+    }
+
+    /// Of items that stand side by side and of which `same` answers true, keeps the first and drops the others.
+    ///
+    /// `same` is called at each item but the first, with the item and the last one kept before it, in this order, and may write
+    /// to both. It is not called for fewer than two items. What moves is as for `retain`.
+    pub fn dedup_by<F: FnMut(&mut T, &mut T) -> bool>(&mut self, same: F)
+        requires callable { F.IsAlwaysCallable same }
+        ensures deduped { IsDedupedBy (CalledAtPairMut F.FnMut) same self.old self.new }
+        ensures capacity { self.new.capacity ≡ self.old.capacity }
+        ensures alloc { self.new.alloc ≡ self.old.alloc }
+        ensures blocks { self.new.cost.blocks ≡ self.old.cost.blocks }
+        ensures grown { self.new.cost.grown ≡ self.old.cost.grown }
+        ensures within { IsWithin T.row self.old × IsWithin T.row self.new }
+    {
+        let mut judge = Merging { same };
+        self.merge_those(&mut judge);
+        let Merging { same: _ } = judge;
+    }
+
+    // Asks about each item but the first, in order, beside the last one kept, and drops those that go.
+    fn merge_those<J: AsksPairs<T>>(&mut self, judge: &mut J)
+        requires ready { J.ready judge.old }
+        ensures deduped { IsDedupedTo J.asks judge.old self.old self.new judge.new }
+        ensures capacity { self.new.capacity ≡ self.old.capacity }
+        ensures alloc { self.new.alloc ≡ self.old.alloc }
+        ensures within { IsWithin T.row self.old × IsWithin T.row self.new }
+    {
+        let len = self.len();
+        if len < 2 {
+            return;
+        }
+        let mut hole = self.open(0, len);
+        hole.thin_out(judge);
+        self.close(hole);
+    }
+
+    /// `dedup_by` for items whose keys are equal. Of each two the key of the later item is asked first.
+    pub fn dedup_by_key<K: PartialEq + Drop, F: FnMut(&mut T) -> K>(&mut self, key: F)
+        requires callable { F.IsAlwaysCallable key }
+        ensures deduped { IsDedupedBy (ComparesKeys F.FnMut K.eq) key self.old self.new }
+        ensures capacity { self.new.capacity ≡ self.old.capacity }
+        ensures alloc { self.new.alloc ≡ self.old.alloc }
+        ensures blocks { self.new.cost.blocks ≡ self.old.cost.blocks }
+        ensures grown { self.new.cost.grown ≡ self.old.cost.grown }
+        ensures within { IsWithin T.row self.old × IsWithin T.row self.new }
+    {
+        let mut judge = Keying { key };
+        self.merge_those(&mut judge);
+        let Keying { key: _ } = judge;
+    }
+}
+
+impl<T: PartialEq + Drop, A: Allocator, G: Growth> ThinVec<T, A, G> {
+    ghost use Rattle.thin_vec.specs.Filters.{moved_up, unlike};
+    ghost use Rattle.thin_vec.specs.ThinVec.{IsWithin};
+
+    /// Of equal items that stand side by side, keeps the first and drops the others: of a sorted list it leaves each value once.
+    ///
+    /// What moves is as for `retain`.
+    pub fn dedup(&mut self)
+        ensures items { self.new.items ≡ dedup T.eq self.old.items }
+        ensures capacity { self.new.capacity ≡ self.old.capacity }
+        ensures alloc { self.new.alloc ≡ self.old.alloc }
+        ensures cost { self.new.cost ≡ moving (moved_up (unlike T.eq self.old.items)) self.old.cost }
+        ensures within { IsWithin T.row self.old × IsWithin T.row self.new }
+    {
+        let mut judge = Comparing {};
+        self.merge_those(&mut judge);
+        let Comparing {} = judge;
+    }
+}
+
+// A closure that only looks at the items.
+struct Looking<F> {
+    keep: F,
+}
+
+// A closure that may write to the items.
+struct Writing<F> {
+    keep: F,
+}
+
+impl<T, F: FnMut(&T) -> bool> Asks<T> for Looking<F> {
+    ghost use Rattle.std.specs.Fn.{CalledAt};
+    ghost use Rattle.thin_vec.specs.Filters.{Looks};
+
+    ghost asks = { λ s x b t y. Looks (CalledAt F.FnMut) s.keep x b t.keep y };
+
+    ghost ready = { λ s. F.IsAlwaysCallable s.keep };
+
+    fn ask(&mut self, item: &mut T) -> bool {
+        (self.keep)(&*item)
+    }
+}
+
+impl<T, F: FnMut(&mut T) -> bool> Asks<T> for Writing<F> {
+    ghost use Rattle.std.specs.Fn.{CalledAtMut};
+
+    ghost asks = { λ s x b t y. CalledAtMut F.FnMut s.keep x b t.keep y };
+
+    ghost ready = { λ s. F.IsAlwaysCallable s.keep };
+
+    fn ask(&mut self, item: &mut T) -> bool {
+        (self.keep)(item)
+    }
+}
+
+// A closure that says of two items whether the later one goes.
+struct Merging<F> {
+    same: F,
+}
+
+// A closure that gives the key by which two items are the same.
+struct Keying<F> {
+    key: F,
+}
+
+// Two equal items are the same.
+struct Comparing {}
+
+impl<T, F: FnMut(&mut T, &mut T) -> bool> AsksPairs<T> for Merging<F> {
+    ghost use Rattle.std.specs.Fn.{CalledAtPairMut};
+
+    ghost asks = { λ s x k b t y l. CalledAtPairMut F.FnMut s.same x k b t.same y l };
+
+    ghost ready = { λ s. F.IsAlwaysCallable s.same };
+
+    fn ask(&mut self, later: &mut T, kept: &mut T) -> bool {
+        (self.same)(later, kept)
+    }
+}
+
+impl<T, K: PartialEq + Drop, F: FnMut(&mut T) -> K> AsksPairs<T> for Keying<F> {
+    ghost use Rattle.std.specs.Fn.{ComparesKeys};
+
+    ghost asks = { λ s x k b t y l. ComparesKeys F.FnMut K.eq s.key x k b t.key y l };
+
+    ghost ready = { λ s. F.IsAlwaysCallable s.key };
+
+    fn ask(&mut self, later: &mut T, kept: &mut T) -> bool {
+        let key = (self.key)(later);
+        key == (self.key)(kept)
+    }
+}
+
+impl<T: PartialEq> AsksPairs<T> for Comparing {
+    ghost use Rattle.std.specs.Prelude.{⊤};
+    ghost use Rattle.thin_vec.specs.Filters.{Compares};
+
+    ghost asks = { Compares T.eq };
+
+    ghost ready = { λ s. ⊤ };
+
+    fn ask(&mut self, later: &mut T, kept: &mut T) -> bool {
+        *later == *kept
+    }
+}

@@ -1,0 +1,219 @@
+//! A list's block while an edit works on it, with empty slots between its items.
+ghost use Rattle.std.specs.Prelude.{◌≡◌, ◌↔◌, ◌+◌, ◌-◌, ◌<◌, ◌≤◌, ◌∷◌, ◌++◌, [], IsTrue, drop, length, slice_range, take};
+ghost use Rattle.thin_block.specs.Cost.{no_cost};
+ghost use Rattle.thin_block.specs.Slots.{front};
+ghost use Rattle.thin_vec.specs.Open.{IsOf, cost_closed, items_of, tail_start};
+
+use crate::list::ThinVec;
+use std::alloc::Allocator;
+use std::marker::Model;
+use std::mem;
+use thin_block::{Block, Growth};
+
+/// A block that is open: the items in front stay, and behind them lie empty slots, the items of the middle run, empty slots
+/// again, and the items that the edit has not reached.
+///
+/// It owns the block and its items, and is no owner that drops: `close` puts the block back into the list.
+pub struct Hole<T, A: Allocator> {
+    pub(crate) block: Block<T, A>,
+    // The first slot behind the front.
+    pub(crate) kept: usize,
+    // The middle run lies in the slots from `at` up to `end`.
+    pub(crate) at: usize,
+    pub(crate) end: usize,
+    // The tail lies in the slots from `stop` up to `len`.
+    pub(crate) stop: usize,
+    pub(crate) len: usize,
+}
+
+impl<T, A: Allocator> Model for Hole<T, A> {
+    ghost use Rattle.thin_vec.specs.Open.{Open, open_code};
+
+    ghost Value = { Open T A };
+
+    ghost coded = { open_code T.code A.code };
+
+    ghost use Rattle.thin_vec.specs.Hole.{IsOpen, open_of};
+
+    ghost view = { open_of };
+
+    ghost invariant = { IsOpen };
+}
+
+impl<T, A: Allocator, G: Growth> ThinVec<T, A, G> {
+    // The list's block, in which the items from `start` up to `stop` are the middle run. The list is left empty and without a
+    // block.
+    pub(crate) fn open(&mut self, start: usize, stop: usize) -> Hole<T, A>
+        requires start_le_end { start ≤ stop }
+        requires in_bounds { stop ≤ length self.old.items }
+        ensures front { result.front ≡ take start self.old.items }
+        ensures rest { result.rest ≡ slice_range self.old.items start stop }
+        ensures tail { result.tail ≡ drop stop self.old.items }
+        ensures before { result.before ≡ 0 }
+        ensures behind { result.behind ≡ 0 }
+        ensures other_capacity { result.capacity ≡ self.old.capacity }
+        ensures from { IsOf result.alloc self.old.alloc }
+        ensures other_cost { result.cost ≡ self.old.cost }
+        ensures items { self.new.items ≡ [] }
+        ensures capacity { self.new.capacity ≡ 0 }
+        ensures alloc { self.new.alloc ≡ self.old.alloc }
+        ensures cost { self.new.cost ≡ no_cost }
+    {
+        let len = self.block.len();
+        let block = mem::replace(&mut self.block, Block::none());
+        Hole {
+            block,
+            kept: start,
+            at: start,
+            end: stop,
+            stop,
+            len,
+        }
+    }
+
+    // Closes the hole by one move of all items behind it, and makes the block the list's again.
+    pub(crate) fn close(&mut self, hole: Hole<T, A>)
+        requires empty { self.old.items ≡ [] }
+        requires behind { hole.behind ≡ 0 }
+        requires from { IsOf hole.alloc self.old.alloc }
+        ensures items { self.new.items ≡ items_of hole }
+        ensures capacity { self.new.capacity ≡ hole.capacity }
+        ensures alloc { self.new.alloc ≡ self.old.alloc }
+        ensures cost { self.new.cost ≡ cost_closed hole }
+        ensures room { length self.new.items ≤ self.new.capacity }
+    {
+        let none = mem::replace(&mut self.block, hole.into_closed());
+        none.release(&self.alloc);
+    }
+}
+
+impl<T, A: Allocator> Hole<T, A> {
+    // The first slot behind the front: how many items the front has.
+    pub(crate) fn front_end(&self) -> usize
+        ensures value { result ≡ length self.now.front }
+        ensures in_bounds { result ≤ self.now.capacity }
+    {
+        self.kept
+    }
+
+    // The slot of the first item of the tail.
+    pub(crate) fn tail_start(&self) -> usize
+        ensures value { result ≡ tail_start self.now }
+        ensures in_bounds { result + length self.now.tail ≤ self.now.capacity }
+    {
+        self.stop
+    }
+
+    // How many items the middle run has.
+    pub(crate) fn rest_len(&self) -> usize
+        ensures value { result ≡ length self.now.rest }
+    {
+        self.end - self.at
+    }
+
+    // The first item of the middle run leaves.
+    pub(crate) fn take_first(&mut self) -> T
+        requires some { 0 < length self.old.rest }
+        ensures rest { self.old.rest ≡ result ∷ self.new.rest }
+        ensures before { self.new.before ≡ self.old.before + 1 }
+        ensures behind { self.new.behind ≡ self.old.behind }
+        ensures front { self.new.front ≡ self.old.front }
+        ensures tail { self.new.tail ≡ self.old.tail }
+        ensures capacity { self.new.capacity ≡ self.old.capacity }
+        ensures alloc { self.new.alloc ≡ self.old.alloc }
+        ensures cost { self.new.cost ≡ self.old.cost }
+    {
+        let first = self.at;
+        self.at += 1;
+        self.block.take(first)
+    }
+
+    // The last item of the middle run leaves.
+    pub(crate) fn take_last(&mut self) -> T
+        requires some { 0 < length self.old.rest }
+        ensures rest { self.old.rest ≡ self.new.rest ++ result ∷ [] }
+        ensures before { self.new.before ≡ self.old.before }
+        ensures behind { self.new.behind ≡ self.old.behind + 1 }
+        ensures front { self.new.front ≡ self.old.front }
+        ensures tail { self.new.tail ≡ self.old.tail }
+        ensures capacity { self.new.capacity ≡ self.old.capacity }
+        ensures alloc { self.new.alloc ≡ self.old.alloc }
+        ensures cost { self.new.cost ≡ self.old.cost }
+    {
+        self.end -= 1;
+        self.block.take(self.end)
+    }
+
+    // The items of the middle run, in order.
+    pub(crate) fn rest_slice(&self) -> &[T]
+        ensures value { result.now ≡ self.now.rest }
+    {
+        self.block.slice(self.at, self.end)
+    }
+
+    // Whether there is an empty slot behind the front.
+    pub(crate) fn has_hole(&self) -> bool
+        ensures value { IsTrue result ↔ (0 < self.now.before) }
+    {
+        self.kept < self.at
+    }
+
+    // Counts all empty slots as one hole. The middle run is empty.
+    pub(crate) fn join(&mut self)
+        requires none { self.old.rest ≡ [] }
+        ensures rest { self.new.rest ≡ [] }
+        ensures before { self.new.before ≡ self.old.before + self.old.behind }
+        ensures behind { self.new.behind ≡ 0 }
+        ensures front { self.new.front ≡ self.old.front }
+        ensures tail { self.new.tail ≡ self.old.tail }
+        ensures capacity { self.new.capacity ≡ self.old.capacity }
+        ensures alloc { self.new.alloc ≡ self.old.alloc }
+        ensures cost { self.new.cost ≡ self.old.cost }
+    {
+        self.at = self.stop;
+        self.end = self.stop;
+    }
+
+    // The block once its items lie in front.
+    fn into_closed(self) -> Block<T, A>
+        requires behind { self.behind ≡ 0 }
+        ensures slots { result.slots ≡ front (items_of self) self.capacity }
+        ensures len { result.len ≡ length (items_of self) }
+        ensures in_bounds { length (items_of self) ≤ self.capacity }
+        ensures alloc { result.alloc ≡ self.alloc }
+        ensures cost { result.cost ≡ cost_closed self }
+    {
+        let Hole {
+            mut block,
+            kept,
+            at,
+            end: _,
+            stop: _,
+            len,
+        } = self;
+        if kept != at {
+            block.move_run(at, kept, len - at);
+        }
+        block.set_len(len - (at - kept));
+        block
+    }
+}
+
+impl<T: Drop, A: Allocator> Hole<T, A> {
+    // Drops what is left of the middle run, and counts all empty slots as one hole. Nothing moves.
+    pub(crate) fn drop_rest(&mut self)
+        ensures rest { self.new.rest ≡ [] }
+        ensures before { self.new.before ≡ self.old.before + length self.old.rest + self.old.behind }
+        ensures behind { self.new.behind ≡ 0 }
+        ensures front { self.new.front ≡ self.old.front }
+        ensures tail { self.new.tail ≡ self.old.tail }
+        ensures capacity { self.new.capacity ≡ self.old.capacity }
+        ensures alloc { self.new.alloc ≡ self.old.alloc }
+        ensures cost { self.new.cost ≡ self.old.cost }
+    {
+        while self.rest_len() > 0 {
+            drop(self.take_first());
+        }
+        self.join();
+    }
+}
