@@ -1,9 +1,12 @@
-//! Five uses of `thin_vec`, as a caller writes them.
+//! Uses of `thin_vec`, and one of `thin_rows`, as a caller writes them.
 #![tactic(auto)]
 
+pub mod first_list;
 pub mod refused_push;
 pub mod reserved_room;
 pub mod sorting;
+pub mod sparse_counts;
+pub mod std_errors;
 pub mod style_lists;
 pub mod syntax_tree;
 #[cfg(test)]

@@ -1,5 +1,6 @@
 //! A refused push hands its value back.
-ghost use Rattle.std.specs.Prelude.{◌≡◌, ◌<◌, [], ◌∷◌, ◌++◌, IfNone, IfSome, IsNone, OnSome, length};
+ghost use Rattle.std.specs.Prelude.{◌≡◌, [], ◌∷◌, ◌++◌, IfNone, IfSome, IsNone, OnSome};
+ghost use Rattle.thin_vec.specs.ThinVec.{HasRoomFor};
 
 use std::alloc::Allocator;
 use thin_vec::{Growth, ThinVec};
@@ -9,7 +10,7 @@ pub fn push_or_return<T: Drop, A: Allocator, G: Growth>(
     list: &mut ThinVec<T, A, G>,
     value: T,
 ) -> Option<T>
-    ensures succeeds { length list.old.items < list.old.capacity → IsNone result }
+    ensures succeeds { HasRoomFor list.old 1 → IsNone result }
     ensures items { IfNone result (list.new.items ≡ list.old.items ++ value ∷ []) }
     ensures err { OnSome result (list.new ≡ list.old) }
     ensures value_returned { IfSome result (λ returned. returned ≡ value) }

@@ -1,6 +1,6 @@
 //! Two pushes into reserved room, which no allocator can refuse.
-ghost use Rattle.std.specs.Prelude.{◌≡◌, ◌+◌, ◌≤◌, ◌++◌, [], ◌∷◌, IfErr, IsErrOf, IsOk, None, OnErr, OnOk, length};
-ghost use Rattle.thin_vec.specs.ThinVec.{capacity_for};
+ghost use Rattle.std.specs.Prelude.{◌≡◌, ◌++◌, [], ◌∷◌, IfErr, IsErrOf, IsOk, None, OnErr, OnOk};
+ghost use Rattle.thin_vec.specs.ThinVec.{HasRoomFor, IsCause, capacity_for};
 
 use std::alloc::Allocator;
 use thin_vec::{Growth, ThinVec, ThinVecError};
@@ -11,20 +11,14 @@ pub fn push_both<T: Drop, A: Allocator, G: Growth>(
     first: T,
     second: T,
 ) -> Result<(), ThinVecError>
-    ensures succeeds { length list.old.items + 2 ≤ list.old.capacity → IsOk result }
+    ensures succeeds { HasRoomFor list.old 2 → IsOk result }
     ensures overflow { capacity_for G.rule T.row list.old 2 ≡ None → IsErrOf result ThinVecError.CapacityOverflow }
-    ensures cause { IfErr result (λ cause. cause ≡ ThinVecError.CapacityOverflow → capacity_for G.rule T.row list.old 2 ≡ None) }
+    ensures cause { IfErr result (IsCause (capacity_for G.rule T.row list.old 2)) }
     ensures items { OnOk result (list.new.items ≡ list.old.items ++ first ∷ second ∷ []) }
     ensures err { OnErr result (list.new ≡ list.old) }
 {
     list.reserve(2)?;
-    match list.push(first) {
-        Ok(()) => (),
-        Err(_refused) => unreachable!(),
-    }
-    match list.push(second) {
-        Ok(()) => (),
-        Err(_refused) => unreachable!(),
-    }
+    list.push_reserved(first);
+    list.push_reserved(second);
     Ok(())
 }

@@ -1,6 +1,6 @@
 //! A syntax tree, whose leaves own no block.
-ghost use Rattle.std.specs.Prelude.{◌≡◌, ◌+◌, ◌-◌, ◌^◌, ◌<◌, [], ◌∷◌, ◌++◌, IfErr, IsOk, OnErr, OnOk, length, min};
-ghost use Rattle.thin_vec.specs.ThinVec.{IsNew};
+ghost use Rattle.std.specs.Prelude.{◌≡◌, ◌+◌, ◌-◌, ◌^◌, [], ◌∷◌, ◌++◌, IfErr, IsOk, OnErr, OnOk, min};
+ghost use Rattle.thin_vec.specs.ThinVec.{HasRoomFor, IsNew};
 ghost use Rattle.thin_vec_uses.specs.SyntaxTree.{children_of, kind_of, node_count};
 
 use std::alloc::Global;
@@ -29,7 +29,7 @@ impl Node {
 
     /// Appends `child`, which this node owns afterwards. Refused, it is handed back with all that is below it.
     pub fn add_child(&mut self, child: Node) -> Result<(), Rejected<Node>>
-        ensures succeeds { length (children_of self.old).items < (children_of self.old).capacity → IsOk result }
+        ensures succeeds { HasRoomFor (children_of self.old) 1 → IsOk result }
         ensures kind { kind_of self.new ≡ kind_of self.old }
         ensures children { OnOk result ((children_of self.new).items ≡ (children_of self.old).items ++ child ∷ []) }
         ensures count { OnOk result (node_count self.new ≡ node_count self.old + node_count child) }

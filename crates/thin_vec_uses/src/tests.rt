@@ -2,10 +2,12 @@
 use crate::refused_push::push_or_return;
 use crate::reserved_room::push_both;
 use crate::sorting::sort;
+use crate::sparse_counts::{add, halve, is_row_empty, take};
 use crate::style_lists::{same_style, style_hash};
 use crate::syntax_tree::Node;
 use refusing::Refusing;
 use std::test::Fail;
+use thin_rows::Rows;
 use thin_vec::{ThinVec, thin_vec};
 
 #[test]
@@ -62,5 +64,25 @@ fn a_refused_push_hands_its_value_back(rt: HostRuntime) -> Result<(), Fail> {
     assert_eq!(rt; returned, Some(7));
     assert_eq!(rt; push_or_return(&mut list, 7), None);
     assert_eq!(rt; list.as_slice(), [7].as_slice());
+    Ok(())
+}
+
+#[test]
+fn counts_are_kept_by_row_and_column(rt: HostRuntime) -> Result<(), Fail> {
+    let mut counts = Rows::with_rows(rt.alloc(), 2)?;
+    if counts.rows() == 2 {
+        add(&mut counts, 1, 70, 5)?;
+    }
+    if counts.rows() == 2 {
+        halve(&mut counts, 1, 70);
+    }
+    if counts.rows() == 2 {
+        assert!(rt; is_row_empty(&counts, 0));
+        assert_eq!(rt; counts.row(1), [(70, 2)].as_slice());
+        assert_eq!(rt; take(&mut counts, 1, 70), 2);
+    }
+    if counts.rows() == 2 {
+        assert!(rt; is_row_empty(&counts, 1));
+    }
     Ok(())
 }

@@ -1,0 +1,3 @@
+pub mod EntriesLemmas
+pub mod RowLemmas
+mod RowTypeLemmas

@@ -1,0 +1,4 @@
+pub mod Table
+pub mod Entries
+pub mod RowType
+pub mod Lends

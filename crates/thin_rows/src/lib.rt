@@ -1,0 +1,10 @@
+//! A sparse table over `thin_vec`: a row without entries owns no block.
+#![tactic(auto)]
+
+mod row;
+mod table;
+#[cfg(test)]
+mod tests;
+
+pub use table::Rows;
+pub use thin_vec::{Rejected, ThinVecError};

@@ -1,0 +1,173 @@
+//! One row of a table: its entries in a list, by rising columns.
+ghost use Rattle.std.specs.Prelude.{◌≡◌, ◌↔◌, ◌<◌, IfErr, IfOk, IsOk, IsSome, IsTrue, None, OnErr, OnOk, Some, length};
+ghost use Rattle.std.specs.FinMap as map;
+ghost use Rattle.std.specs.Option.{option_copied};
+ghost use Rattle.thin_rows.specs.Entries.{IsGapFor, IsPlaceOf, IsRising};
+
+use std::alloc::Allocator;
+use std::marker::Model;
+use std::{fmt, mem};
+use thin_vec::{Rejected, ThinVec};
+
+// A finite map from columns to values. It owns a block only where there is an entry.
+#[derive(Drop)]
+pub(crate) struct Row<V, A: Allocator> {
+    entries: ThinVec<(usize, V), A>,
+}
+
+impl<V, A: Allocator> Model for Row<V, A> {
+    ghost use Rattle.std.specs.Coded.{coded_ℕ};
+    ghost use Rattle.std.specs.FinMap as map;
+    ghost use Rattle.thin_rows.specs.Table.{Columns};
+
+    ghost Value = { Columns V };
+
+    ghost coded = { map.code coded_ℕ V.code };
+
+    ghost use Rattle.thin_rows.specs.Entries.{IsRow, columns_of};
+
+    ghost view = { λ row. columns_of row.entries };
+
+    ghost invariant = { λ row. IsRow row.entries };
+}
+
+impl<V, A: Allocator> Row<V, A> {
+    ghost use types.Logic.{sem};
+    ghost use Rattle.std.specs.Option.{option_copied_mut};
+    ghost use Rattle.thin_rows.specs.Lends.{LendsColumn, LendsIfThere};
+
+    // A row without entries. It takes no memory.
+    pub(crate) fn new(alloc: A) -> Row<V, A>
+        ensures new { result ≡ map.empty }
+    {
+        Row {
+            entries: ThinVec::new(alloc),
+        }
+    }
+
+    // The entries, by rising columns.
+    pub(crate) fn entries(&self) -> &[(usize, V)]
+        ensures value { result.now ≡ map.entries self.now }
+        ensures rising { IsRising result.now }
+    {
+        self.entries.as_slice()
+    }
+
+    // The number of entries.
+    pub(crate) fn len(&self) -> usize
+        ensures value { result ≡ map.len self.now }
+    {
+        self.entries.len()
+    }
+
+    // Whether there is a block, which is so where there is an entry.
+    pub(crate) fn owns_block(&self) -> bool
+        ensures value { IsTrue result ↔ (0 < map.len self.now) }
+    {
+        self.entries.has_capacity()
+    }
+
+    // The value at a column, if there is an entry.
+    pub(crate) fn get(&self, column: usize) -> Option<&V>
+        ensures value { option_copied result ≡ map.get self.now column }
+    {
+        let entries = self.entries.as_slice();
+        match place(entries, column) {
+            Ok(at) => Some(&entries[at].1),
+            Err(_gap) => None,
+        }
+    }
+
+    // The value at a column, to be written, if there is an entry.
+    pub(crate) fn get_mut(&mut self, column: usize) -> Option<&mut V>
+        ensures* writes_back { sem 𝓛 (LendsIfThere V.row A.row A.Allocator self.entry column result) }
+        ensures value { option_copied_mut result ≡ map.get self.old column }
+    {
+        match place(self.entries.as_slice(), column) {
+            Ok(at) => Some(self.value_mut(column, at)),
+            Err(_gap) => None,
+        }
+    }
+
+    // The value at the place of its column, to be written.
+    fn value_mut(&mut self, column: usize, at: usize) -> &mut V
+        requires place { IsPlaceOf (map.entries self.old) column at }
+        ensures* writes_back { sem 𝓛 (LendsColumn V.row A.row A.Allocator self.entry column result) }
+        ensures value { map.get self.old column ≡ Some result.now }
+    {
+        &mut self.entries[at].1
+    }
+
+    // Writes `value` at a column, and answers the value that was there. Only a new entry may take memory: where that is
+    // refused, the value is handed back.
+    pub(crate) fn set(&mut self, column: usize, value: V) -> Result<Option<V>, Rejected<V>>
+        ensures succeeds { IsSome (map.get self.old column) → IsOk result }
+        ensures value { IfOk result (λ old. old ≡ map.get self.old column) }
+        ensures columns { OnOk result (self.new ≡ map.insert self.old column value) }
+        ensures err { OnErr result (self.new ≡ self.old) }
+        ensures value_returned { IfErr result (λ refused. refused.value ≡ value) }
+    {
+        match place(self.entries.as_slice(), column) {
+            Ok(at) => {
+                let (_column, old) = mem::replace(&mut self.entries[at], (column, value));
+                Ok(Some(old))
+            }
+            Err(at) => {
+                if let Err(refused) = self.entries.insert(at, (column, value)) {
+                    return Err(Rejected {
+                        value: refused.value.1,
+                        cause: refused.cause,
+                    });
+                }
+                Ok(None)
+            }
+        }
+    }
+
+    // Removes the entry at a column, if there is one. The last one gives the block back.
+    pub(crate) fn remove(&mut self, column: usize) -> Option<V>
+        ensures value { result ≡ map.get self.old column }
+        ensures columns { self.new ≡ map.remove self.old column }
+    {
+        let at = match place(self.entries.as_slice(), column) {
+            Ok(at) => at,
+            Err(_gap) => return None,
+        };
+        let (_column, value) = self.entries.remove(at);
+        give_block_back(&mut self.entries);
+        Some(value)
+    }
+}
+
+impl<V: fmt::Debug, A: Allocator> fmt::Debug for Row<V, A> {
+    // As std prints a map.
+    fn fmt<W: fmt::Write>(&self, f: &mut fmt::Formatter<W>) -> fmt::Result {
+        let mut map = f.debug_map();
+        for (column, value) in self.entries.as_slice() {
+            map.entry(column, value);
+        }
+        map.finish()
+    }
+}
+
+// A list that is empty by now gives its block back. No memory is asked for, so this can't be refused.
+fn give_block_back<T, A: Allocator>(list: &mut ThinVec<T, A>)
+    ensures items { list.new.items ≡ list.old.items }
+    ensures block { (0 < list.new.capacity) ↔ (0 < length list.new.items) }
+{
+    if list.is_empty() {
+        match list.shrink_to_fit() {
+            Ok(()) => (),
+            Err(_cause) => unreachable!(),
+        }
+    }
+}
+
+// Where the entry of a column is, or where it would go.
+fn place<V>(entries: &[(usize, V)], column: usize) -> Result<usize, usize>
+    requires rising { IsRising entries.now }
+    ensures found { IfOk result (IsPlaceOf entries.now column) }
+    ensures gap { IfErr result (IsGapFor entries.now column) }
+{
+    entries.binary_search_by_key(&column, |entry| entry.0)
+}

@@ -1,0 +1,154 @@
+//! The table: its type, what a contract sees of it, and its calls.
+ghost use Rattle.std.specs.Prelude.{◌≡◌, ◌↔◌, ◌-◌, ◌^◌, ◌<◌, IfErr, IfOk, IsErrOf, IsOk, IsSome, IsTrue, None, OnErr, OnOk, length, map, min, replicate, sum};
+ghost use Rattle.std.specs.FinMap as columns;
+ghost use Rattle.std.specs.List.Sorted.{IsStrictlyIncreasing};
+ghost use Rattle.std.specs.Option.{option_copied};
+ghost use Rattle.thin_rows.specs.Table.{row_of, value_at, with_value, without_value};
+
+use crate::row::Row;
+use std::alloc::{Allocator, Global};
+use std::fmt;
+use std::marker::Model;
+use thin_vec::{Rejected, ThinVec, ThinVecError};
+
+/// A sparse table: a finite map from row and column to value, whose number of rows is fixed.
+///
+/// A row keeps its entries by rising columns, in one block, and a row without entries owns none: it costs a pointer, beside
+/// its allocator. A call that names a row past the end is no refusal: it is a condition on the caller.
+#[derive(Drop)]
+pub struct Rows<V, A: Allocator = Global> {
+    rows: ThinVec<Row<V, A>, A>,
+}
+
+impl<V, A: Allocator> Model for Rows<V, A> {
+    ghost use Rattle.std.specs.Coded.{coded_list, coded_ℕ};
+    ghost use Rattle.std.specs.FinMap as map;
+    ghost use Rattle.thin_rows.specs.Table.{Table};
+
+    ghost Value = { Table V };
+
+    ghost coded = { coded_list (map.code coded_ℕ V.code) };
+
+    ghost view = { λ table. table.rows.items };
+}
+
+impl<V, A: Allocator + Copy> Rows<V, A> {
+    ghost use Rattle.thin_vec.specs.Growth.{exact_capacity};
+    ghost use Rattle.thin_vec.specs.ThinVec.{IsCause};
+    ghost use Rattle.thin_rows.specs.RowType.{row_type};
+
+    /// A table of `rows` rows without entries. It asks for one block, and for none at 0.
+    ///
+    /// It is refused where so many rows don't fit into a block, or where memory is refused.
+    pub fn with_rows(alloc: A, rows: usize) -> Result<Rows<V, A>, ThinVecError>
+        ensures succeeds { rows ≡ 0 → IsOk result }
+        ensures overflow { exact_capacity (row_type V.row A.row A.Allocator) 0 rows ≡ None → IsErrOf result ThinVecError.CapacityOverflow }
+        ensures cause { IfErr result (IsCause (exact_capacity (row_type V.row A.row A.Allocator) 0 rows)) }
+        ensures table { IfOk result (λ table. table ≡ replicate rows columns.empty) }
+    {
+        let mut empty_rows = match ThinVec::with_capacity(alloc, rows) {
+            Ok(made) => made,
+            Err(cause) => return Err(cause),
+        };
+        for _ in 0..rows {
+            match empty_rows.push(Row::new(alloc)) {
+                Ok(()) => (),
+                Err(_refused) => unreachable!(),
+            }
+        }
+        Ok(Rows { rows: empty_rows })
+    }
+}
+
+impl<V, A: Allocator> Rows<V, A> {
+    ghost use types.Logic.{sem};
+    ghost use Rattle.std.specs.Option.{option_copied_mut};
+    ghost use Rattle.thin_rows.specs.Lends.{LendsValue};
+
+    /// The number of rows.
+    pub fn rows(&self) -> usize
+        ensures value { result ≡ length self.now }
+    {
+        self.rows.len()
+    }
+
+    /// The number of entries in all rows, or `usize::MAX` where there are more, for which no memory has room. It visits
+    /// each row.
+    pub fn len(&self) -> usize
+        ensures value { result ≡ min (sum (map (λ row. columns.len row) self.now)) (2 ^ 64 - 1) }
+    {
+        let mut count = 0usize;
+        for row in &self.rows {
+            count = count.saturating_add(row.len());
+        }
+        count
+    }
+
+    /// The value at a row and a column, if there is an entry.
+    pub fn get(&self, row: usize, column: usize) -> Option<&V>
+        requires in_bounds { row < length self.now }
+        ensures value { option_copied result ≡ value_at self.now row column }
+    {
+        self.rows[row].get(column)
+    }
+
+    /// The value at a row and a column, to be written, if there is an entry. What is written is what the table then holds.
+    pub fn get_mut(&mut self, row: usize, column: usize) -> Option<&mut V>
+        requires in_bounds { row < length self.old }
+        ensures* writes_back { sem 𝓛 (LendsValue V.row A.row A.Allocator self.entry row column result) }
+        ensures value { option_copied_mut result ≡ value_at self.old row column }
+    {
+        self.rows[row].get_mut(column)
+    }
+
+    /// Writes `value` at a row and a column, and answers the value that was there. The table owns `value` afterwards, and the
+    /// caller the one that it answers.
+    ///
+    /// It is refused only where there was no entry, because memory is refused or the row's list overflows. Then the caller
+    /// has `value` back and the table is as it was: a row that owned no block owns none.
+    pub fn set(&mut self, row: usize, column: usize, value: V) -> Result<Option<V>, Rejected<V>>
+        requires in_bounds { row < length self.old }
+        ensures succeeds { IsSome (value_at self.old row column) → IsOk result }
+        ensures value { IfOk result (λ old. old ≡ value_at self.old row column) }
+        ensures table { OnOk result (self.new ≡ with_value self.old row column value) }
+        ensures err { OnErr result (self.new ≡ self.old) }
+        ensures value_returned { IfErr result (λ refused. refused.value ≡ value) }
+    {
+        self.rows[row].set(column, value)
+    }
+
+    /// Removes the entry at a row and a column, if there is one, and hands its value out. It takes no memory. The last entry
+    /// of a row gives the row's block back.
+    pub fn remove(&mut self, row: usize, column: usize) -> Option<V>
+        requires in_bounds { row < length self.old }
+        ensures value { result ≡ value_at self.old row column }
+        ensures table { self.new ≡ without_value self.old row column }
+    {
+        self.rows[row].remove(column)
+    }
+
+    /// The entries of a row, a column and its value each, by rising columns.
+    #[tactic(auto, using(crate::proofs::EntriesLemmas::columns_increase))]
+    pub fn row(&self, row: usize) -> &[(usize, V)]
+        requires in_bounds { row < length self.now }
+        ensures value { result.now ≡ columns.entries (row_of self.now row) }
+        ensures rising { IsStrictlyIncreasing (map (λ entry. entry.0) result.now) }
+    {
+        self.rows[row].entries()
+    }
+
+    /// Whether a row owns a block: it does where it has an entry, and only there.
+    pub fn owns_block(&self, row: usize) -> bool
+        requires in_bounds { row < length self.now }
+        ensures value { IsTrue result ↔ (0 < columns.len (row_of self.now row)) }
+    {
+        self.rows[row].owns_block()
+    }
+}
+
+impl<V: fmt::Debug, A: Allocator> fmt::Debug for Rows<V, A> {
+    // The rows in order, each as std prints a map.
+    fn fmt<W: fmt::Write>(&self, f: &mut fmt::Formatter<W>) -> fmt::Result {
+        self.rows.fmt(f)
+    }
+}

@@ -1,0 +1,52 @@
+//! Counts in a sparse table: a count that is 0 has no entry, and a row without counts owns no block.
+ghost use Rattle.std.specs.FinMap as columns;
+ghost use Rattle.std.specs.Option.{unwrap_or};
+ghost use Rattle.std.specs.Prelude.{◌≡◌, ◌↔◌, ◌+◌, ◌-◌, ◌^◌, ◌<◌, IsNone, IsOk, IsSome, IsTrue, None, OnErr, OnOk, length, min};
+ghost use Rattle.thin_rows.specs.Table.{row_of, value_at, with_value, without_value};
+
+use std::alloc::Allocator;
+use thin_rows::{Rows, ThinVecError};
+
+/// Adds to the count at a row and a column. A count that would be past `u32::MAX` is `u32::MAX`.
+pub fn add<A: Allocator>(
+    counts: &mut Rows<u32, A>,
+    row: usize,
+    column: usize,
+    more: u32,
+) -> Result<(), ThinVecError>
+    requires in_bounds { row < length counts.old }
+    ensures succeeds { IsSome (value_at counts.old row column) → IsOk result }
+    ensures table { OnOk result (counts.new ≡ with_value counts.old row column (min (unwrap_or (value_at counts.old row column) 0 + more) (2 ^ 32 - 1))) }
+    ensures err { OnErr result (counts.new ≡ counts.old) }
+{
+    let count = counts.get(row, column).copied().unwrap_or(0);
+    counts.set(row, column, count.saturating_add(more))?;
+    Ok(())
+}
+
+/// Takes the count at a row and a column out of the table.
+pub fn take<A: Allocator>(counts: &mut Rows<u32, A>, row: usize, column: usize) -> u32
+    requires in_bounds { row < length counts.old }
+    ensures value { result ≡ unwrap_or (value_at counts.old row column) 0 }
+    ensures table { counts.new ≡ without_value counts.old row column }
+{
+    counts.remove(row, column).unwrap_or(0)
+}
+
+/// Halves the count at a row and a column, if there is one. It takes no memory.
+pub fn halve<A: Allocator>(counts: &mut Rows<u32, A>, row: usize, column: usize)
+    requires in_bounds { row < length counts.old }
+    ensures none { IsNone (value_at counts.old row column) → counts.new ≡ counts.old }
+{
+    if let Some(count) = counts.get_mut(row, column) {
+        *count /= 2;
+    }
+}
+
+/// Whether nothing was counted in a row.
+pub fn is_row_empty<A: Allocator>(counts: &Rows<u32, A>, row: usize) -> bool
+    requires in_bounds { row < length counts.now }
+    ensures value { IsTrue result ↔ (columns.len (row_of counts.now row) ≡ 0) }
+{
+    !counts.owns_block(row)
+}

@@ -1,0 +1,37 @@
+//! The list where std's traits and errors are asked for: `collect`, and `?` in functions that answer them.
+ghost use Rattle.std.specs.Prelude.{◌≡◌, ◌*◌, ◌++◌, [], ◌∷◌, IfOk, OnOk, map};
+
+use std::alloc::{AllocError, Allocator};
+use std::io;
+use thin_vec::{Growth, ThinVec};
+
+/// Twice each number, collected into a list on `alloc`.
+pub fn doubled<A: Allocator>(alloc: A, numbers: &[u32]) -> Result<ThinVec<u64, A>, AllocError>
+    ensures items { IfOk result (λ list. list.items ≡ map (λ number. 2 * number) numbers.now) }
+{
+    numbers
+        .iter()
+        .map(|number| 2 * (*number as u64))
+        .collect(alloc)
+}
+
+/// Appends a line of text and its end.
+pub fn write_line<A: Allocator, G: Growth>(
+    bytes: &mut ThinVec<u8, A, G>,
+    line: &[u8],
+) -> io::Result<()>
+    ensures items { OnOk result (bytes.new.items ≡ bytes.old.items ++ (line.now ++ 10 ∷ [])) }
+{
+    bytes.extend_from_copies(line)?;
+    bytes.push(10)?;
+    Ok(())
+}
+
+/// The numbers of `list`, and then those below `end`. What was placed is dropped with the rest where it is refused.
+pub fn with_numbers<A: Allocator, G: Growth>(
+    mut list: ThinVec<u32, A, G>,
+    end: u32,
+) -> Result<ThinVec<u32, A, G>, AllocError> {
+    list.extend(0..end)?;
+    Ok(list)
+}
