@@ -1,1 +1,2 @@
-pub mod FourfoldRule
+pub mod LastDigits
+pub mod Judges

@@ -1,12 +1,12 @@
-//! Callers of `extend` and `from_iter` that promise what an iterator gave, with no proof file.
-ghost use Rattle.std.specs.Prelude.{◌≡◌, ◌+◌, ◌/◌, ◌≤◌, ◌++◌, [], IfSome, IsSome, IsTrue, filter, length, map, nat_lt};
+//! Callers that promise what an iterator gave, or what was copied, with no proof file.
+ghost use Rattle.std.specs.Prelude.{◌≡◌, ◌+◌, ◌/◌, ◌≤◌, ◌++◌, [], IfOk, IfSome, IsOk, IsSome, IsTrue, filter, length, map, nat_lt, OnErr, OnOk, ◌-◌, ◌<◌, slice_index, slice_set};
 
 use std::alloc::Allocator;
-use thin_vec::{Growth, ThinVec};
+use thin_vec::{Growth, ThinVec, ThinVecError};
 
 /// A list of half of each number, in order, or `None` where it is refused.
 pub fn halves<A: Allocator>(alloc: A, numbers: &[u32]) -> Option<ThinVec<u32, A>>
-    ensures succeeds_empty { numbers.now ≡ [] → IsSome result }
+    ensures succeeds_empty { length numbers.now ≡ 0 → IsSome result }
     ensures items { IfSome result (λ list. list.items ≡ map (λ number. number / 2) numbers.now) }
 {
     match ThinVec::from_iter(alloc, numbers.iter().map(|number| number / 2)) {
@@ -22,10 +22,97 @@ pub fn extend_below<A: Allocator, G: Growth>(
     limit: u32,
 ) -> bool
     ensures succeeds { length list.old.items + length numbers.now ≤ list.old.capacity → IsTrue result }
+    ensures succeeds_empty { length numbers.now ≡ 0 → IsTrue result }
     ensures items { IsTrue result → list.new.items ≡ list.old.items ++ filter (λ number. nat_lt number limit) numbers.now }
 {
     match list.extend(numbers.iter().copied().filter(|number| *number < limit)) {
         Ok(()) => true,
         Err(_refused) => false,
     }
+}
+
+/// A list of the numbers of both slices, in order.
+pub fn joined<A: Allocator>(
+    alloc: A,
+    first: &[u32],
+    second: &[u32],
+) -> Result<ThinVec<u32, A>, ThinVecError>
+    ensures succeeds_empty { first.now ≡ [] → second.now ≡ [] → IsOk result }
+    ensures items { IfOk result (λ list. list.items ≡ first.now ++ second.now) }
+{
+    let mut list = ThinVec::from_copies(alloc, first)?;
+    list.extend_from_copies(second)?;
+    Ok(list)
+}
+
+/// A copy of the list on `alloc`, and behind it the numbers `more`.
+pub fn continued<A: Allocator, G: Growth>(
+    list: &ThinVec<u32, A, G>,
+    alloc: A,
+    more: &[u32],
+) -> Result<ThinVec<u32, A, G>, ThinVecError>
+    ensures items { IfOk result (λ copy. copy.items ≡ list.now.items ++ more.now) }
+{
+    let mut copy = list.clone_copies(alloc)?;
+    copy.extend_from_copies(more)?;
+    Ok(copy)
+}
+
+/// Appends the numbers, and answers how many went in: all, or those before the one that was refused.
+pub fn extend_by_number<A: Allocator, G: Growth>(
+    list: &mut ThinVec<u32, A, G>,
+    numbers: &[u32],
+) -> usize
+    ensures grown { length list.new.items ≡ length list.old.items + result }
+    ensures in_bounds { result ≤ length numbers.now }
+    ensures all { length list.old.items + length numbers.now ≤ list.old.capacity → result ≡ length numbers.now }
+{
+    let before = list.len();
+    let _answer = list.extend(numbers.iter().copied()).is_ok();
+    list.len() - before
+}
+
+/// Makes the text `len` bytes long, by spaces behind it. Refused, it is as it was, and so is its capacity.
+pub fn pad<A: Allocator, G: Growth>(
+    text: &mut ThinVec<u8, A, G>,
+    len: usize,
+) -> Result<(), ThinVecError>
+    ensures succeeds { len ≤ text.old.capacity → IsOk result }
+    ensures err { OnErr result (text.new ≡ text.old) }
+{
+    text.resize(len, b' ')
+}
+
+/// Appends a line. Refused, the text is as it was.
+pub fn append_line<A: Allocator, G: Growth>(
+    text: &mut ThinVec<u8, A, G>,
+    line: &[u8],
+) -> Result<(), ThinVecError>
+    ensures succeeds_empty { length line.now ≡ 0 → IsOk result }
+    ensures items { OnOk result (text.new.items ≡ text.old.items ++ line.now) }
+    ensures err { OnErr result (text.new ≡ text.old) }
+{
+    text.extend_from_slice(line)
+}
+
+/// Takes all items of `other`. Where it has none, no memory is asked for.
+pub fn take_all<T, A: Allocator, G: Growth>(
+    list: &mut ThinVec<T, A, G>,
+    other: &mut ThinVec<T, A, G>,
+) -> Result<(), ThinVecError>
+    ensures succeeds_empty { other.old.items ≡ [] → IsOk result }
+{
+    list.append(other)
+}
+
+/// The first number, and what is left of it once `less` is taken off, written back.
+pub fn lower_first<A: Allocator, G: Growth>(list: &mut ThinVec<u32, A, G>, less: u32) -> u32
+    requires some { 0 < length list.old.items }
+    requires enough { less ≤ slice_index list.old.items 0 }
+    ensures value { result ≡ slice_index list.old.items 0 }
+    ensures items { list.new.items ≡ slice_set list.old.items 0 (slice_index list.old.items 0 - less) }
+{
+    let first = list[0];
+    list[0] = first - less;
+    first
 }

@@ -1,8 +1,8 @@
 //! The calls that clone, also where a clone is refused.
-use crate::growth_rules::Fourfold;
 use crate::items::push_all;
 use crate::scarce::Scarce;
 use crate::standing::{assert_counts, assert_list, assert_same};
+use other_rules::Fourfold;
 use refusing::Refusing;
 use std::alloc::{AllocError, Global};
 use std::cell::Cell;
@@ -28,6 +28,57 @@ fn test_clone(rt: HostRuntime) {
     let clone = list.clone(alloc).expect(&rt, "memory");
     assert!(rt; !clone.has_capacity());
     assert_same(&rt, (list.capacity(), clone.capacity()), (4, 0));
+}
+
+#[test]
+fn copies_come_in_as_they_are(rt: HostRuntime) {
+    let alloc = rt.alloc();
+    let mut list = ThinVec::from_copies(alloc, &[1, 2]).expect(&rt, "memory");
+    assert_list(&rt, &list, &[1, 2], 2);
+    list.extend_from_copies(&[3, 4, 5]).expect(&rt, "memory");
+    assert_list(&rt, &list, &[1, 2, 3, 4, 5], 5);
+    list.extend_from_copies(&[6]).expect(&rt, "memory");
+    assert_list(&rt, &list, &[1, 2, 3, 4, 5, 6], 10);
+    let copy = list.clone_copies(alloc).expect(&rt, "memory");
+    assert_list(&rt, &copy, &[1, 2, 3, 4, 5, 6], 6);
+}
+
+// Up to 16 are copied one by one, and more as one run.
+#[test]
+fn few_and_many_copies_come_in(rt: HostRuntime) {
+    for count in [0, 1, 16, 17, 40] {
+        let items = &[7; 40][..count];
+        let list = ThinVec::from_copies(rt.alloc(), items).expect(&rt, "memory");
+        assert_list(&rt, &list, items, count);
+    }
+}
+
+#[test]
+fn copies_that_are_refused_change_nothing(rt: HostRuntime) {
+    let refusing = Refusing::new(rt.alloc(), 2);
+    let mut list = ThinVec::from_copies(&refusing, &[1]).expect(&rt, "memory");
+    let refused = list.extend_from_copies(&[2, 3, 4]);
+    assert_same(&rt, refused, Err(ThinVecError::OutOfMemory));
+    assert_list(&rt, &list, &[1], 1);
+    assert_counts(&rt, &refusing, 2, 1);
+    refusing.refuse(1);
+    let refused = list.clone_copies(&refusing).err();
+    assert_same(&rt, refused, Some(ThinVecError::OutOfMemory));
+    refusing.refuse(1);
+    let refused = ThinVec::from_copies(&refusing, &[1]).err();
+    assert_same(&rt, refused, Some(ThinVecError::OutOfMemory));
+    assert_counts(&rt, &refusing, 1, 1);
+}
+
+#[test]
+fn copies_of_nothing_make_no_request(rt: HostRuntime) {
+    let refusing = Refusing::new(rt.alloc(), 1);
+    let mut list = ThinVec::from_copies(&refusing, &[]).expect(&rt, "memory");
+    list.extend_from_copies(&[]).expect(&rt, "memory");
+    let copy = list.clone_copies(&refusing).expect(&rt, "memory");
+    assert_list(&rt, &list, &[], 0);
+    assert_list(&rt, &copy, &[], 0);
+    assert_counts(&rt, &refusing, 0, 0);
 }
 
 fn boxed(alloc: Global, items: &[i32]) -> Result<ThinVec<Box<i32, Global>, Global>, AllocError> {

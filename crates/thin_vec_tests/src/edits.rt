@@ -1,8 +1,8 @@
 //! `insert` and `remove`: the items behind move, none is dropped, and a refused item is handed back.
 use crate::counted::Counted;
-use crate::growth_rules::Fourfold;
 use crate::items::push_all;
 use crate::standing::{assert_counts, assert_list, assert_same};
+use other_rules::Fourfold;
 use refusing::Refusing;
 use std::alloc::Global;
 use std::cell::Cell;

@@ -47,6 +47,22 @@ fn test_collect_capacity(rt: HostRuntime) {
 }
 
 #[test]
+fn a_true_hint_is_all_the_room_that_is_made(rt: HostRuntime) {
+    for count in [1, 5, 100, 300, 3000] {
+        let refusing = Refusing::new(rt.alloc(), 0);
+        let mut list = ThinVec::new(&refusing);
+        list.extend(0..count).ok().expect(&rt, "memory");
+        let other = ThinVec::from_iter(&refusing, 0..count)
+            .ok()
+            .expect(&rt, "memory");
+        let room = if count < 4 { 4 } else { count };
+        assert_same(&rt, (list.len(), list.capacity()), (count, room));
+        assert_same(&rt, (other.len(), other.capacity()), (count, count));
+        assert_counts(&rt, &refusing, 2, 2);
+    }
+}
+
+#[test]
 fn from_iter_begins_with_the_capacity_that_is_claimed(rt: HostRuntime) {
     let five = [Some(1), Some(2), Some(3), Some(4), Some(5)];
     for (lower, capacity) in [(0, 8), (3, 6), (5, 5), (9, 9)] {

@@ -1,47 +1,85 @@
-//! Each generic call at a second growth rule.
-use crate::standing::{assert_list, assert_same};
+//! Lists under each growth rule: the two that the list gives, and two of the tests.
+use crate::items::push_all;
+use crate::standing::{assert_items, assert_list, assert_same};
+use other_rules::{Fourfold, Threefold};
 use std::alloc::Global;
-use thin_vec::{Growth, ThinVec, fits};
+use std::process::Abort;
+use thin_vec::{Doubling, Growth, PowerBytes, ThinVec};
 
-/// At least four times the capacity.
-pub struct Fourfold {}
-
-impl Growth for Fourfold {
-    ghost use Rattle.thin_vec_tests.specs.FourfoldRule.{fourfold, fourfold_law};
-
-    ghost rule = { fourfold };
-
-    #[tactic(auto, unfolding(crate::specs::FourfoldRule::fourfold, thin_block::specs::Growth::fitting))]
-    fn next_capacity<T>(cap: usize, want: usize) -> Option<usize> {
-        if cap >= 1 << 61 {
-            return None;
+// Pushes until each of these capacities is full, and asserts the capacity at every length.
+fn assert_grows<T: Copy + Drop, G: Growth>(
+    rt: &impl Abort,
+    alloc: Global,
+    item: T,
+    capacities: &[usize],
+) {
+    let mut list = ThinVec::<T, Global, G>::ruled(alloc);
+    for &capacity in capacities {
+        for _ in list.len()..capacity {
+            list.push(item).ok().expect(rt, "memory");
+            assert_same(rt, list.capacity(), capacity);
         }
-        let next = want.max(4 * cap);
-        if fits::<T>(next) { Some(next) } else { None }
     }
-
-    ghost law = { fourfold_law };
 }
 
 #[test]
-fn grows_fourfold(rt: HostRuntime) {
-    let mut list = ThinVec::<i32, Global, Fourfold>::ruled(rt.alloc());
-    assert!(rt; list.is_empty());
-    assert!(rt; !list.has_capacity());
-    for (item, capacity) in [(10, 1), (20, 4), (30, 4), (40, 4), (50, 16)] {
-        list.push(item).ok().expect(&rt, "memory");
-        assert_same(&rt, (item, list.capacity()), (item, capacity));
-    }
-    list.reserve(12).expect(&rt, "memory");
-    assert_list(&rt, &list, &[10, 20, 30, 40, 50], 64);
-    list.reserve_exact(60).expect(&rt, "memory");
-    assert_list(&rt, &list, &[10, 20, 30, 40, 50], 65);
+fn blocks_fill_powers_of_two(rt: HostRuntime) {
+    let alloc = rt.alloc();
+    assert_grows::<u8, PowerBytes>(&rt, alloc, 7, &[16, 48, 112]);
+    assert_grows::<u32, PowerBytes>(&rt, alloc, 7, &[4, 12, 28, 60]);
+    assert_grows::<u64, PowerBytes>(&rt, alloc, 7, &[2, 6, 14]);
+    assert_grows::<[u64; 3], PowerBytes>(&rt, alloc, [7, 8, 9], &[2, 4, 10]);
+    assert_grows::<(), PowerBytes>(&rt, alloc, (), &[4, 8, 16]);
+}
 
-    assert_same(&rt, list.swap_remove(0), 10);
-    assert_same(&rt, list.pop(), Some(40));
-    assert_list(&rt, &list, &[50, 20, 30], 65);
+#[test]
+fn capacities_are_multiplied(rt: HostRuntime) {
+    let alloc = rt.alloc();
+    assert_grows::<u32, Doubling>(&rt, alloc, 7, &[4, 8, 16]);
+    assert_grows::<u32, Threefold>(&rt, alloc, 7, &[1, 3, 9, 27]);
+    assert_grows::<u32, Fourfold>(&rt, alloc, 7, &[1, 4, 16, 64]);
+}
+
+#[test]
+fn a_resized_list_fills_a_power_of_two(rt: HostRuntime) {
+    let mut list = ThinVec::<u32, Global, PowerBytes>::ruled(rt.alloc());
+    list.resize(5, 0).expect(&rt, "memory");
+    assert_items(&rt, list.as_slice(), &[0; 5]);
+    assert_same(&rt, list.capacity(), 12);
+}
+
+// Calls of a list whose capacity is the one, after five pushes, and the other, once there is room for twelve more.
+fn assert_calls<G: Growth>(rt: &impl Abort, alloc: Global, pushed: usize, reserved: usize) {
+    let mut list = ThinVec::<i32, Global, G>::ruled(alloc);
+    assert_list(rt, &list, &[], 0);
+    push_all(rt, &mut list, 0..5);
+    assert_list(rt, &list, &[0, 1, 2, 3, 4], pushed);
+    list.reserve(12).expect(rt, "memory");
+    assert_list(rt, &list, &[0, 1, 2, 3, 4], reserved);
+    list.reserve_exact(60).expect(rt, "memory");
+    assert_list(rt, &list, &[0, 1, 2, 3, 4], 65);
+    assert_edits(rt, list);
+}
+
+// Calls that leave the capacity of 65.
+fn assert_edits<G: Growth>(rt: &impl Abort, mut list: ThinVec<i32, Global, G>) {
+    assert_list(rt, &list, &[0, 1, 2, 3, 4], 65);
+    assert_same(rt, list.swap_remove(0), 0);
+    assert_same(rt, list.pop(), Some(3));
+    assert_list(rt, &list, &[4, 1, 2], 65);
     list.truncate(1);
-    assert_list(&rt, &list, &[50], 65);
+    assert_list(rt, &list, &[4], 65);
     list.clear();
-    assert_list(&rt, &list, &[], 65);
+    assert_list(rt, &list, &[], 65);
+    list.shrink_to_fit().expect(rt, "memory");
+    assert_list(rt, &list, &[], 0);
+}
+
+#[test]
+fn each_rule_names_the_capacity(rt: HostRuntime) {
+    let alloc = rt.alloc();
+    assert_calls::<Doubling>(&rt, alloc, 8, 17);
+    assert_calls::<PowerBytes>(&rt, alloc, 12, 28);
+    assert_calls::<Threefold>(&rt, alloc, 9, 27);
+    assert_calls::<Fourfold>(&rt, alloc, 16, 64);
 }

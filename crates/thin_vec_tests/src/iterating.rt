@@ -1,7 +1,7 @@
 //! Walks over a lent list, by `for`.
-use crate::growth_rules::Fourfold;
 use crate::items::push_all;
 use crate::standing::{assert_items, assert_same};
+use other_rules::Fourfold;
 use std::alloc::Global;
 use thin_vec::ThinVec;
 

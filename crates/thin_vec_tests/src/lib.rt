@@ -2,7 +2,11 @@
 #![tactic(auto)]
 
 #[cfg(test)]
+mod allocators;
+#[cfg(test)]
 mod answers;
+#[cfg(test)]
+mod arguments;
 pub mod callers;
 #[cfg(test)]
 mod capacities;
@@ -14,12 +18,18 @@ mod comparisons;
 mod conversions;
 #[cfg(test)]
 mod counted;
+pub mod doublings;
+pub mod drains;
 #[cfg(test)]
 mod drops;
 #[cfg(test)]
 mod edits;
 #[cfg(test)]
 mod extend;
+pub mod extracts;
+pub mod filter_callers;
+#[cfg(test)]
+mod filters;
 #[cfg(test)]
 mod growth_rules;
 pub mod into_iter;
@@ -27,10 +37,16 @@ pub mod into_iter;
 mod items;
 #[cfg(test)]
 mod iterating;
+pub mod last_digits;
 #[cfg(test)]
 mod making;
 #[cfg(test)]
+mod names;
+#[cfg(test)]
+mod questions;
+#[cfg(test)]
 mod refusals;
+pub mod rooms;
 #[cfg(test)]
 mod scarce;
 #[cfg(test)]
@@ -42,6 +58,10 @@ mod slices;
 #[cfg(test)]
 mod standing;
 #[cfg(test)]
+mod texts;
+#[cfg(test)]
 mod trees;
 #[cfg(test)]
 mod two_lists;
+pub mod widths;
+pub mod written;

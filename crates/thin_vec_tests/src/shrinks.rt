@@ -1,7 +1,7 @@
 //! `shrink_to_fit`: what it leaves, and when it asks for memory.
-use crate::growth_rules::Fourfold;
 use crate::items::push_all;
 use crate::standing::{assert_counts, assert_list, assert_same};
+use other_rules::Fourfold;
 use refusing::Refusing;
 use std::alloc::Global;
 use thin_vec::{ThinVec, ThinVecError};

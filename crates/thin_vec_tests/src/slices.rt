@@ -1,7 +1,7 @@
 //! What is written through a lent slice or a lent item is in the list afterwards.
-use crate::growth_rules::Fourfold;
 use crate::items::push_all;
 use crate::standing::{assert_items, assert_same};
+use other_rules::Fourfold;
 use std::alloc::Global;
 use thin_vec::{ThinVec, thin_vec};
 

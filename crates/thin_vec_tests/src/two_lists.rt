@@ -70,10 +70,11 @@ fn joins_drop_no_item(rt: HostRuntime) {
     let drops = Cell::new(0);
     {
         let alloc = rt.alloc();
-        let mut list = thin_vec![alloc => Counted::new(&drops), Counted::new(&drops)].expect(
-            &rt, "memory",
-        );
-        let mut other = thin_vec![alloc => Counted::new(&drops)].expect(&rt, "memory");
+        let mut list = ThinVec::new(alloc);
+        let mut other = ThinVec::new(alloc);
+        list.push(Counted::new(&drops)).ok().expect(&rt, "memory");
+        list.push(Counted::new(&drops)).ok().expect(&rt, "memory");
+        other.push(Counted::new(&drops)).ok().expect(&rt, "memory");
         list.append(&mut other).expect(&rt, "memory");
         let tail = list.split_off(alloc, 1).expect(&rt, "memory");
         assert_same(&rt, (drops.get(), tail.len()), (0, 2));

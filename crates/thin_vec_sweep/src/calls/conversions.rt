@@ -1,0 +1,254 @@
+//! Lists made from other types, and other types that a list is turned into.
+use crate::calls::rooms::is_too_much;
+use crate::case::{Case, List, Verdict, numbers};
+use crate::rules::Ruled;
+use crate::samples::Sample;
+use crate::shapes::Shape;
+use crate::sweep::Call;
+use refusing::Refusing;
+use std::alloc::Global;
+use std::process::Abort;
+use thin_vec::{Doubling, ThinVec, ThinVecError, thin_vec};
+
+// The number of an item that comes in.
+const FRESH: u64 = 70_000;
+
+/// `into_vec`, and a push into the `Vec`.
+pub struct IntoVec {}
+
+impl<T: Sample, G: Ruled> Call<T, G> for IntoVec {
+    const NAME: &'static str = "into_vec";
+
+    fn run<R: Abort>(rt: &R, case: &mut Case<T, G>, _argument: usize) {
+        let capacity = case.capacity;
+        let (list, items) = case.take();
+        let verdict = case.fresh(Some(items.len()), 0);
+        case.begin();
+        match list.into_vec(&case.ledger.alloc) {
+            Ok(vec) => {
+                case.answered(rt, Ok(()), verdict);
+                case.holds(rt, vec.as_slice(), items.as_slice());
+            }
+            Err(refused) => {
+                case.answered(rt, Err(refused.cause), verdict);
+                case.set(refused.value, items, capacity);
+            }
+        }
+    }
+}
+
+pub struct IntoBoxedSlice {}
+
+impl<T: Sample, G: Ruled> Call<T, G> for IntoBoxedSlice {
+    const NAME: &'static str = "into_boxed_slice";
+
+    fn run<R: Abort>(rt: &R, case: &mut Case<T, G>, _argument: usize) {
+        let capacity = case.capacity;
+        let (list, items) = case.take();
+        let verdict = case.fresh(Some(items.len()), 0);
+        case.begin();
+        match list.into_boxed_slice(&case.ledger.alloc) {
+            Ok(boxed) => {
+                case.answered(rt, Ok(()), verdict);
+                case.holds(rt, boxed.as_slice(), items.as_slice());
+            }
+            Err(refused) => {
+                case.answered(rt, Err(refused.cause), verdict);
+                case.set(refused.value, items, capacity);
+            }
+        }
+    }
+}
+
+// The list's items in a `Vec` of the same allocator, which has so many places more. The case has an empty list then.
+fn vec_of<T: Sample, R: Abort>(
+    rt: &R,
+    case: &mut Case<T, Doubling>,
+    spare: usize,
+) -> Vec<T, &'static Refusing<Global>> {
+    let (list, numbers) = case.take();
+    let mut items = Vec::new(&case.ledger.alloc);
+    let capacity = numbers.len().saturating_add(spare);
+    items.reserve(capacity).expect(rt, "memory");
+    for item in list {
+        items.push(item).ok().expect(rt, "memory");
+    }
+    items
+}
+
+/// Of a `Vec` without spare room, and with as much as the shape has.
+pub struct FromVec {}
+
+impl<T: Sample> Call<T, Doubling> for FromVec {
+    const NAME: &'static str = "from_vec";
+
+    fn run<R: Abort>(rt: &R, case: &mut Case<T, Doubling>, _argument: usize) {
+        let shape = case.at.shape;
+        let items = vec_of(rt, case, shape.spare);
+        let numbers = numbers(rt, case.ledger, 1, shape.length);
+        let verdict = case.fresh(Some(shape.length), 0);
+        case.begin();
+        match ThinVec::from_vec(&case.ledger.alloc, items) {
+            Ok(list) => {
+                case.answered(rt, Ok(()), verdict);
+                case.set(list, numbers, shape.length);
+            }
+            Err(refused) => {
+                case.answered(rt, Err(refused.cause), verdict);
+                case.holds(rt, refused.value.as_slice(), numbers.as_slice());
+            }
+        }
+    }
+}
+
+pub struct FromBoxedSlice {}
+
+impl<T: Sample> Call<T, Doubling> for FromBoxedSlice {
+    const NAME: &'static str = "from_boxed_slice";
+
+    fn arguments(shape: Shape) -> usize {
+        shape.alone(1)
+    }
+
+    fn run<R: Abort>(rt: &R, case: &mut Case<T, Doubling>, _argument: usize) {
+        let shape = case.at.shape;
+        let items = vec_of(rt, case, 0).into_boxed_slice();
+        let numbers = numbers(rt, case.ledger, 1, shape.length);
+        let verdict = case.fresh(Some(shape.length), 0);
+        case.begin();
+        match ThinVec::from_boxed_slice(&case.ledger.alloc, items) {
+            Ok(list) => {
+                case.answered(rt, Ok(()), verdict);
+                case.set(list, numbers, shape.length);
+            }
+            Err(refused) => {
+                case.answered(rt, Err(refused.cause), verdict);
+                case.holds(rt, refused.value.as_slice(), numbers.as_slice());
+            }
+        }
+    }
+}
+
+/// Of the items of another list.
+pub struct FromSlice {}
+
+impl<T: Sample> Call<T, Doubling> for FromSlice {
+    const NAME: &'static str = "from_slice";
+
+    fn arguments(shape: Shape) -> usize {
+        shape.alone(1)
+    }
+
+    fn run<R: Abort>(rt: &R, case: &mut Case<T, Doubling>, _argument: usize) {
+        let length = case.items.len();
+        let verdict = case.fresh(Some(length), length);
+        case.begin();
+        let answer = ThinVec::from_slice(&case.ledger.alloc, case.list.as_slice());
+        case.second(rt, answer, verdict, case.items.as_slice(), length);
+    }
+}
+
+/// With the length of the shape, and with the numbers about the greatest that fits.
+pub struct WithCapacity {}
+
+impl<T: Sample> Call<T, Doubling> for WithCapacity {
+    const NAME: &'static str = "with_capacity";
+
+    fn arguments(shape: Shape) -> usize {
+        shape.alone(5)
+    }
+
+    fn run<R: Abort>(rt: &R, case: &mut Case<T, Doubling>, argument: usize) {
+        drop(case.take());
+        let wanted = match argument {
+            0 => case.at.shape.length,
+            1 => T::LIMIT,
+            2 => T::LIMIT.saturating_add(1),
+            3 => isize::MAX as usize,
+            _ => usize::MAX,
+        };
+        let capacity = case.exact(wanted);
+        if is_too_much::<T>(capacity, case.at.refused) {
+            return;
+        }
+        let verdict = case.growth(capacity, 0);
+        case.begin();
+        made(
+            rt,
+            case,
+            ThinVec::with_capacity(&case.ledger.alloc, wanted),
+            verdict,
+        );
+    }
+}
+
+/// `thin_vec![alloc => x; k]`: k is the length of the shape.
+pub struct Repeated {}
+
+impl<T: Sample> Call<T, Doubling> for Repeated {
+    const NAME: &'static str = "thin_vec![a => x; k]";
+
+    fn arguments(shape: Shape) -> usize {
+        shape.alone(1)
+    }
+
+    fn run<R: Abort>(rt: &R, case: &mut Case<T, Doubling>, _argument: usize) {
+        drop(case.take());
+        let count = case.at.shape.length;
+        let item = case.item(rt, FRESH);
+        let capacity = case.ruled(count);
+        let verdict = case.growth(capacity, count.saturating_sub(1));
+        case.begin();
+        made(
+            rt,
+            case,
+            thin_vec![&case.ledger.alloc => item; count],
+            verdict,
+        );
+        if verdict == Verdict::Done {
+            case.items.resize(count, FRESH).expect(rt, "memory");
+        }
+        if verdict == Verdict::NoClone {
+            // The room goes with the list.
+            case.capacity = 0;
+        }
+    }
+}
+
+/// `new`, `default_in` and `thin_vec![alloc =>]`.
+pub struct New {}
+
+impl<T: Sample> Call<T, Doubling> for New {
+    const NAME: &'static str = "new, default_in, thin_vec![a =>]";
+
+    fn arguments(shape: Shape) -> usize {
+        if shape.length == 0 { 3 } else { 0 }
+    }
+
+    fn run<R: Abort>(rt: &R, case: &mut Case<T, Doubling>, argument: usize) {
+        drop(case.take());
+        case.begin();
+        let list = match argument {
+            0 => Ok(ThinVec::new(&case.ledger.alloc)),
+            1 => Ok(ThinVec::default_in(&case.ledger.alloc)),
+            _ => thin_vec![&case.ledger.alloc =>],
+        };
+        made(rt, case, list, Verdict::Done);
+    }
+}
+
+// The list that a call answered comes into the case.
+fn made<T: Sample, R: Abort>(
+    rt: &R,
+    case: &mut Case<T, Doubling>,
+    answer: Result<List<T, Doubling>, ThinVecError>,
+    verdict: Verdict,
+) {
+    match answer {
+        Ok(list) => {
+            case.answered(rt, Ok(()), verdict);
+            case.list = list;
+        }
+        Err(cause) => case.answered(rt, Err(cause), verdict),
+    }
+}

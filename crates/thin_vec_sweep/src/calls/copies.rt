@@ -1,0 +1,45 @@
+//! Items that are copied as one run.
+use crate::case::{Case, source};
+use crate::rules::Ruled;
+use crate::samples::Sample;
+use crate::shapes::Shape;
+use crate::sweep::Call;
+use std::process::Abort;
+
+// The number of the first item that comes in.
+const FRESH: u64 = 80_000;
+
+pub struct ExtendFromCopies {}
+
+impl<T: Sample + Copy, G: Ruled> Call<T, G> for ExtendFromCopies {
+    const NAME: &'static str = "extend_from_copies";
+
+    fn arguments(shape: Shape) -> usize {
+        shape.counts()
+    }
+
+    fn run<R: Abort>(rt: &R, case: &mut Case<T, G>, argument: usize) {
+        let count = case.at.shape.count(argument);
+        let new: Vec<T> = source(rt, case.ledger, FRESH, count);
+        let capacity = case.ruled(count);
+        let verdict = case.growth(capacity, 0);
+        case.begin();
+        let answer = case.list.extend_from_copies(new.as_slice());
+        case.answered(rt, answer, verdict);
+        case.add(rt, FRESH, count, verdict);
+    }
+}
+
+pub struct CloneCopies {}
+
+impl<T: Sample + Copy, G: Ruled> Call<T, G> for CloneCopies {
+    const NAME: &'static str = "clone_copies";
+
+    fn run<R: Abort>(rt: &R, case: &mut Case<T, G>, _argument: usize) {
+        let length = case.items.len();
+        let verdict = case.fresh(Some(length), 0);
+        case.begin();
+        let clone = case.list.clone_copies(&case.ledger.alloc);
+        case.second(rt, clone, verdict, case.items.as_slice(), length);
+    }
+}

@@ -1,0 +1,142 @@
+//! An item, or the rest of a list, comes in or goes out: `push`, `pop`, `insert`, `remove`, `swap_remove`, `truncate`,
+//! `clear`.
+use crate::case::{Case, same};
+use crate::rules::Ruled;
+use crate::samples::Sample;
+use crate::shapes::Shape;
+use crate::sweep::Call;
+use std::process::Abort;
+
+// The number of an item that comes in.
+const FRESH: u64 = 70_000;
+
+pub struct Push {}
+
+impl<T: Sample, G: Ruled> Call<T, G> for Push {
+    const NAME: &'static str = "push";
+
+    fn run<R: Abort>(rt: &R, case: &mut Case<T, G>, _argument: usize) {
+        let item = case.item(rt, FRESH);
+        let capacity = case.ruled(1);
+        let verdict = case.growth(capacity, 0);
+        case.begin();
+        let answer = case.list.push(item);
+        let index = case.items.len();
+        case.put(rt, index, FRESH, verdict, answer);
+    }
+}
+
+pub struct Insert {}
+
+impl<T: Sample, G: Ruled> Call<T, G> for Insert {
+    const NAME: &'static str = "insert";
+
+    fn arguments(shape: Shape) -> usize {
+        shape.indices()
+    }
+
+    fn run<R: Abort>(rt: &R, case: &mut Case<T, G>, argument: usize) {
+        let index = case.at.shape.index(argument);
+        let item = case.item(rt, FRESH);
+        let capacity = case.ruled(1);
+        let verdict = case.growth(capacity, 0);
+        case.begin();
+        if index > case.list.len() {
+            return;
+        }
+        let answer = case.list.insert(index, item);
+        case.put(rt, index, FRESH, verdict, answer);
+    }
+}
+
+pub struct Pop {}
+
+impl<T: Sample, G: Ruled> Call<T, G> for Pop {
+    const NAME: &'static str = "pop";
+
+    fn run<R: Abort>(rt: &R, case: &mut Case<T, G>, _argument: usize) {
+        case.begin();
+        let item = case.list.pop();
+        let number = case.items.pop();
+        case.handed_or_none(rt, item, number);
+    }
+}
+
+pub struct Remove {}
+
+impl<T: Sample, G: Ruled> Call<T, G> for Remove {
+    const NAME: &'static str = "remove";
+
+    fn arguments(shape: Shape) -> usize {
+        shape.indices()
+    }
+
+    fn run<R: Abort>(rt: &R, case: &mut Case<T, G>, argument: usize) {
+        let index = case.at.shape.index(argument);
+        case.begin();
+        if index < case.list.len() {
+            let item = case.list.remove(index);
+            if index < case.items.len() {
+                let number = case.items.remove(index);
+                case.handed(rt, &item, number);
+            }
+        }
+    }
+}
+
+pub struct SwapRemove {}
+
+impl<T: Sample, G: Ruled> Call<T, G> for SwapRemove {
+    const NAME: &'static str = "swap_remove";
+
+    fn arguments(shape: Shape) -> usize {
+        shape.indices()
+    }
+
+    fn run<R: Abort>(rt: &R, case: &mut Case<T, G>, argument: usize) {
+        let index = case.at.shape.index(argument);
+        case.begin();
+        if index < case.list.len() {
+            let item = case.list.swap_remove(index);
+            if index < case.items.len() {
+                let number = case.items.swap_remove(index);
+                case.handed(rt, &item, number);
+            }
+        }
+    }
+}
+
+/// To each index, to one past the length, and to `usize::MAX`.
+pub struct Truncate {}
+
+impl<T: Sample, G: Ruled> Call<T, G> for Truncate {
+    const NAME: &'static str = "truncate";
+
+    fn arguments(shape: Shape) -> usize {
+        shape.indices().saturating_add(2)
+    }
+
+    fn run<R: Abort>(_rt: &R, case: &mut Case<T, G>, argument: usize) {
+        let shape = case.at.shape;
+        let len = match argument.checked_sub(shape.indices()) {
+            None => shape.index(argument),
+            Some(0) => shape.length.saturating_add(1),
+            Some(_) => usize::MAX,
+        };
+        case.begin();
+        case.list.truncate(len);
+        case.items.truncate(len);
+    }
+}
+
+pub struct Clear {}
+
+impl<T: Sample, G: Ruled> Call<T, G> for Clear {
+    const NAME: &'static str = "clear";
+
+    fn run<R: Abort>(_rt: &R, case: &mut Case<T, G>, _argument: usize) {
+        case.begin();
+        case.list.clear();
+        case.items.clear();
+    }
+}

@@ -1,0 +1,108 @@
+//! The iterator that a list becomes, from both ends.
+use crate::case::{Case, same};
+use crate::rules::Ruled;
+use crate::samples::Sample;
+use crate::shapes::Shape;
+use crate::sweep::Call;
+use std::mem;
+use std::process::Abort;
+
+// The number of an item that comes in.
+const FRESH: u64 = 70_000;
+
+// From which ends the items are asked for: a bit a step, where 1 is the back.
+const ENDS: [u64; 4] = [0, u64::MAX, 0x5555_5555_5555_5555, 0xcccc_cccc_cccc_cccc];
+
+// How many steps are made: each number up to two past the length of a short list.
+fn steps(shape: Shape) -> usize {
+    shape.indices().saturating_add(2)
+}
+
+fn step(shape: Shape, number: usize) -> usize {
+    match number.checked_sub(shape.indices()) {
+        None => shape.index(number),
+        Some(more) => shape.length.saturating_add(more).saturating_add(1),
+    }
+}
+
+/// Some steps, and then what remains is dropped.
+pub struct IntoIter {}
+
+impl<T: Sample, G: Ruled> Call<T, G> for IntoIter {
+    const NAME: &'static str = "into_iter";
+
+    fn arguments(shape: Shape) -> usize {
+        steps(shape).saturating_mul(4)
+    }
+
+    fn run<R: Abort>(rt: &R, case: &mut Case<T, G>, argument: usize) {
+        let steps = step(case.at.shape, argument / 4);
+        let ends = ENDS[argument % 4];
+        let (list, numbers) = case.take();
+        let mut fresh = case.item(rt, FRESH);
+        case.begin();
+        let mut rest = list.into_iter();
+        let mut front: usize = 0;
+        let mut back = numbers.len();
+        for step in 0..steps {
+            let is_back = ends >> (step % 64) & 1 == 1;
+            let item = if is_back {
+                rest.next_back()
+            } else {
+                rest.next()
+            };
+            let number = if front >= back {
+                None
+            } else if is_back {
+                back = back.saturating_sub(1);
+                numbers.get(back).copied()
+            } else {
+                front = front.saturating_add(1);
+                numbers.get(front.saturating_sub(1)).copied()
+            };
+            case.handed_or_none(rt, item, number);
+        }
+        let numbers = numbers.as_slice().get(front..back).unwrap_or(&[]);
+        let count = numbers.len();
+        let hint = (rest.len(), rest.size_hint());
+        same(rt, &case.at, "hint", hint, (count, (count, Some(count))));
+        case.holds(rt, rest.as_slice(), numbers);
+        if let Some(place) = rest.as_mut_slice().first_mut() {
+            mem::swap(place, &mut fresh);
+        }
+        let next = if count == 0 { None } else { Some(FRESH) };
+        case.handed_or_none(rt, rest.next(), next);
+    }
+}
+
+/// `clone`, after some steps from the front.
+pub struct IntoIterClone {}
+
+impl<T: Sample, G: Ruled> Call<T, G> for IntoIterClone {
+    const NAME: &'static str = "clone of into_iter";
+
+    fn arguments(shape: Shape) -> usize {
+        steps(shape)
+    }
+
+    fn run<R: Abort>(rt: &R, case: &mut Case<T, G>, argument: usize) {
+        let steps = step(case.at.shape, argument);
+        let (list, numbers) = case.take();
+        let mut rest = list.into_iter();
+        for _ in 0..steps {
+            drop(rest.next());
+        }
+        let numbers = numbers.as_slice().get(steps..).unwrap_or(&[]);
+        let count = numbers.len();
+        let verdict = case.fresh(Some(count), count);
+        case.begin();
+        match rest.clone(&case.ledger.alloc) {
+            Ok(clone) => {
+                case.answered(rt, Ok(()), verdict);
+                case.holds(rt, clone.as_slice(), numbers);
+            }
+            Err(cause) => case.answered(rt, Err(cause), verdict),
+        }
+        case.holds(rt, rest.as_slice(), numbers);
+    }
+}

@@ -1,0 +1,64 @@
+//! Two lists: `append`, `split_off`.
+use crate::case::{Case, Verdict, filled, numbers};
+use crate::rules::Ruled;
+use crate::samples::Sample;
+use crate::shapes::Shape;
+use crate::sweep::Call;
+use std::process::Abort;
+
+// The number of the other list's first item.
+const FRESH: u64 = 80_000;
+
+/// A list of each count, with no spare room and with two places.
+pub struct Append {}
+
+impl<T: Sample, G: Ruled> Call<T, G> for Append {
+    const NAME: &'static str = "append";
+
+    fn arguments(shape: Shape) -> usize {
+        shape.counts().saturating_mul(2)
+    }
+
+    fn run<R: Abort>(rt: &R, case: &mut Case<T, G>, argument: usize) {
+        let length = case.at.shape.count(argument / 2);
+        let spare = argument % 2;
+        let mut other = filled(rt, case.ledger, Shape { length, spare }, FRESH);
+        let capacity = case.ruled(length);
+        let verdict = case.growth(capacity, 0);
+        case.begin();
+        let answer = case.list.append(&mut other);
+        case.answered(rt, answer, verdict);
+        case.add(rt, FRESH, length, verdict);
+
+        // The other list is empty now, or as it was, and has its block.
+        let left = if verdict == Verdict::Done { 0 } else { length };
+        let numbers = numbers(rt, case.ledger, FRESH, left);
+        case.stands(rt, &other, numbers.as_slice(), length.saturating_add(spare));
+    }
+}
+
+/// At each index.
+pub struct SplitOff {}
+
+impl<T: Sample, G: Ruled> Call<T, G> for SplitOff {
+    const NAME: &'static str = "split_off";
+
+    fn arguments(shape: Shape) -> usize {
+        shape.indices()
+    }
+
+    fn run<R: Abort>(rt: &R, case: &mut Case<T, G>, argument: usize) {
+        let at = case.at.shape.index(argument);
+        let count = case.items.len().saturating_sub(at);
+        let verdict = case.fresh(Some(count), 0);
+        case.begin();
+        if at > case.list.len() || at > case.items.len() {
+            return;
+        }
+        let tail = case.list.split_off(&case.ledger.alloc, at);
+        case.second(rt, tail, verdict, &case.items[at..], count);
+        if verdict == Verdict::Done {
+            case.items.truncate(at);
+        }
+    }
+}

@@ -1,0 +1,145 @@
+//! What is read, and what is written through a `&mut`: no call of these takes memory.
+use crate::case::{Case, List, same};
+use crate::rules::Ruled;
+use crate::samples::Sample;
+use crate::shapes::Shape;
+use crate::sweep::Call;
+use std::mem;
+use std::process::Abort;
+
+// The number of an item that comes in.
+const FRESH: u64 = 70_000;
+
+/// `len`, `is_empty`, `capacity`, `has_capacity`, `allocator`.
+pub struct Read {}
+
+impl<T: Sample, G: Ruled> Call<T, G> for Read {
+    const NAME: &'static str = "len, is_empty, capacity, has_capacity";
+
+    fn run<R: Abort>(rt: &R, case: &mut Case<T, G>, _argument: usize) {
+        case.begin();
+        let list = &case.list;
+        let read = (list.len(), list.is_empty(), list.has_capacity());
+        let length = case.items.len();
+        let wanted = (length, length == 0, case.capacity != 0);
+        same(rt, &case.at, "what was read", read, wanted);
+        let requests = list.allocator().requests();
+        same(rt, &case.at, "requests of the allocator", requests, 0);
+    }
+}
+
+/// Each item by its index.
+pub struct Index {}
+
+impl<T: Sample, G: Ruled> Call<T, G> for Index {
+    const NAME: &'static str = "index";
+
+    fn arguments(shape: Shape) -> usize {
+        shape.indices()
+    }
+
+    fn run<R: Abort>(rt: &R, case: &mut Case<T, G>, argument: usize) {
+        let index = case.at.shape.index(argument);
+        case.begin();
+        if index < case.list.len() && index < case.items.len() {
+            let number = case.items[index];
+            case.handed(rt, &case.list[index], number);
+        }
+    }
+}
+
+/// An iteration over `&list`.
+pub struct Iterate {}
+
+impl<T: Sample, G: Ruled> Call<T, G> for Iterate {
+    const NAME: &'static str = "iteration over &list";
+
+    fn run<R: Abort>(rt: &R, case: &mut Case<T, G>, _argument: usize) {
+        case.begin();
+        let difference = difference(&case.list, case.items.as_slice());
+        same(rt, &case.at, "first item that differs", difference, None);
+    }
+}
+
+// The first place at which an iteration gives another item than the one of that number.
+fn difference<T: Sample, G: Ruled>(list: &List<T, G>, numbers: &[u64]) -> Option<usize> {
+    let mut index: usize = 0;
+    for item in list {
+        let told = Some(item.told());
+        let telling = numbers.get(index).map(|number| T::telling(*number));
+        if told != telling {
+            return Some(index);
+        }
+        index = index.saturating_add(1);
+    }
+    if index == numbers.len() {
+        None
+    } else {
+        Some(index)
+    }
+}
+
+/// `as_mut_slice`, by which one item is exchanged.
+pub struct AsMutSlice {}
+
+impl<T: Sample, G: Ruled> Call<T, G> for AsMutSlice {
+    const NAME: &'static str = "as_mut_slice";
+
+    fn arguments(shape: Shape) -> usize {
+        shape.indices()
+    }
+
+    fn run<R: Abort>(rt: &R, case: &mut Case<T, G>, argument: usize) {
+        let index = case.at.shape.index(argument);
+        let mut item = case.item(rt, FRESH);
+        case.begin();
+        if let Some(place) = case.list.as_mut_slice().get_mut(index) {
+            mem::swap(place, &mut item);
+        }
+        if index < case.items.len() {
+            let number = mem::replace(&mut case.items[index], FRESH);
+            case.handed(rt, &item, number);
+        }
+    }
+}
+
+/// `list[index] = item`, which drops the item that was there.
+pub struct IndexMut {}
+
+impl<T: Sample, G: Ruled> Call<T, G> for IndexMut {
+    const NAME: &'static str = "index_mut";
+
+    fn arguments(shape: Shape) -> usize {
+        shape.indices()
+    }
+
+    fn run<R: Abort>(rt: &R, case: &mut Case<T, G>, argument: usize) {
+        let index = case.at.shape.index(argument);
+        let item = case.item(rt, FRESH);
+        case.begin();
+        if index < case.list.len() {
+            case.list[index] = item;
+        }
+        if index < case.items.len() {
+            case.items[index] = FRESH;
+        }
+    }
+}
+
+/// An iteration over `&mut list`, in which each item comes into the place of the one after it.
+pub struct IterateMut {}
+
+impl<T: Sample, G: Ruled> Call<T, G> for IterateMut {
+    const NAME: &'static str = "iteration over &mut list";
+
+    fn run<R: Abort>(rt: &R, case: &mut Case<T, G>, _argument: usize) {
+        let mut hand = case.item(rt, FRESH);
+        case.begin();
+        for place in &mut case.list {
+            mem::swap(place, &mut hand);
+        }
+        case.items.insert(0, FRESH).ok().expect(rt, "memory");
+        let last = case.items.pop();
+        case.handed_or_none(rt, Some(hand), last);
+    }
+}

@@ -1,0 +1,93 @@
+//! The capacity changes, and nothing else: `reserve`, `reserve_exact`, `shrink_to_fit`.
+use crate::case::Case;
+use crate::rules::Ruled;
+use crate::samples::Sample;
+use crate::shapes::Shape;
+use crate::sweep::Call;
+use std::process::Abort;
+
+/// By each count, by the numbers about the greatest that fits, and by `usize::MAX`.
+pub struct Reserve {}
+
+impl<T: Sample, G: Ruled> Call<T, G> for Reserve {
+    const NAME: &'static str = "reserve";
+
+    fn arguments(shape: Shape) -> usize {
+        shape.counts().saturating_add(GREAT)
+    }
+
+    fn run<R: Abort>(rt: &R, case: &mut Case<T, G>, argument: usize) {
+        let additional = additional::<T>(case.at.shape, argument);
+        let capacity = case.ruled(additional);
+        if is_too_much::<T>(capacity, case.at.refused) {
+            return;
+        }
+        let verdict = case.growth(capacity, 0);
+        case.begin();
+        let answer = case.list.reserve(additional);
+        case.answered(rt, answer, verdict);
+    }
+}
+
+/// By the same numbers.
+pub struct ReserveExact {}
+
+impl<T: Sample, G: Ruled> Call<T, G> for ReserveExact {
+    const NAME: &'static str = "reserve_exact";
+
+    fn arguments(shape: Shape) -> usize {
+        shape.counts().saturating_add(GREAT)
+    }
+
+    fn run<R: Abort>(rt: &R, case: &mut Case<T, G>, argument: usize) {
+        let additional = additional::<T>(case.at.shape, argument);
+        let capacity = case.exact(additional);
+        if is_too_much::<T>(capacity, case.at.refused) {
+            return;
+        }
+        let verdict = case.growth(capacity, 0);
+        case.begin();
+        let answer = case.list.reserve_exact(additional);
+        case.answered(rt, answer, verdict);
+    }
+}
+
+pub struct ShrinkToFit {}
+
+impl<T: Sample, G: Ruled> Call<T, G> for ShrinkToFit {
+    const NAME: &'static str = "shrink_to_fit";
+
+    fn run<R: Abort>(rt: &R, case: &mut Case<T, G>, _argument: usize) {
+        let length = case.items.len();
+        let verdict = case.growth(Some(length), 0);
+        case.begin();
+        let answer = case.list.shrink_to_fit();
+        case.answered(rt, answer, verdict);
+    }
+}
+
+// How many great numbers are tried.
+const GREAT: usize = 6;
+
+// How many more items. The great numbers come last: those by which the capacity becomes the greatest that fits, one
+// beyond, and more.
+fn additional<T: Sample>(shape: Shape, argument: usize) -> usize {
+    let most = T::LIMIT.saturating_sub(shape.length);
+    match argument.checked_sub(shape.counts()) {
+        None => shape.count(argument),
+        Some(0) => most,
+        Some(1) => most.saturating_add(1),
+        Some(2) => T::LIMIT,
+        Some(3) => isize::MAX as usize,
+        Some(4) => usize::MAX - shape.length.min(10_000),
+        Some(_) => usize::MAX,
+    }
+}
+
+/// Whether the capacity fits, but would take more memory than there is: then it is only tried where memory is refused.
+pub fn is_too_much<T: Sample>(capacity: Option<usize>, refused: u64) -> bool {
+    match capacity {
+        Some(capacity) => capacity > 1_000_000 && refused != 1 && T::LIMIT < isize::MAX as usize,
+        None => false,
+    }
+}

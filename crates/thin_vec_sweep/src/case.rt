@@ -1,0 +1,390 @@
+//! One case: a list of some shape, and beside it the reference, which is made of std's `Vec` and a number.
+use crate::ledger::Ledger;
+use crate::rules::Ruled;
+use crate::samples::Sample;
+use crate::shapes::Shape;
+use refusing::Refusing;
+use std::alloc::Global;
+use std::fmt::Debug;
+use std::mem;
+use std::process::Abort;
+use thin_vec::{Growth, Rejected, ThinVec, ThinVecError};
+
+/// A list of a test: its block is the ledger's.
+pub type List<T, G> = ThinVec<T, &'static Refusing<Global>, G>;
+
+/// Where a case stands: what an assertion that fails prints.
+#[derive(Debug, Clone, Copy)]
+pub struct At {
+    pub call: &'static str,
+    pub shape: Shape,
+    pub argument: usize,
+    /// The number of the request that is refused, or 0.
+    pub refused: u64,
+}
+
+/// Asserts that both are the same.
+pub fn same<T: PartialEq + Debug + Drop, R: Abort>(
+    rt: &R,
+    at: &At,
+    what: &'static str,
+    value: T,
+    wanted: T,
+) {
+    assert_eq!(rt; value, wanted, "{what}, {at:?}");
+}
+
+/// What a call has to end as.
+#[derive(Debug, Clone, Copy, PartialEq, Eq)]
+pub enum Verdict {
+    Done,
+    /// The capacity overflows: no request is made.
+    Overflow,
+    /// The block is refused: nothing changes.
+    NoRoom,
+    /// The clone of an item is refused, and those made before it are dropped.
+    NoClone,
+}
+
+impl Verdict {
+    /// What the call has to answer.
+    pub fn answer(self) -> Result<(), ThinVecError> {
+        match self {
+            Verdict::Done => Ok(()),
+            Verdict::Overflow => Err(ThinVecError::CapacityOverflow),
+            Verdict::NoRoom | Verdict::NoClone => Err(ThinVecError::OutOfMemory),
+        }
+    }
+}
+
+/// A list, what it has to be, and what the call that is swept has to have done.
+#[derive(Drop)]
+pub struct Case<T: Drop, G: Ruled> {
+    pub at: At,
+    pub ledger: &'static Ledger,
+    pub list: List<T, G>,
+    /// The number of each item that the list has to hold.
+    pub items: Vec<u64, Global>,
+    /// The capacity that the list has to have.
+    pub capacity: usize,
+    /// How many requests are due.
+    pub requests: u64,
+    /// How many clones are due.
+    pub clones: u64,
+}
+
+impl<T: Sample, G: Ruled> Case<T, G> {
+    /// A list of that shape, whose items are numbered from 1 on.
+    pub fn new<R: Abort>(rt: &R, ledger: &'static Ledger, at: At) -> Case<T, G> {
+        ledger.begin(0);
+        let list = filled(rt, ledger, at.shape, 1);
+        ledger.begin(0);
+        Case {
+            at,
+            ledger,
+            list,
+            items: numbers(rt, ledger, 1, at.shape.length),
+            capacity: at.shape.length.saturating_add(at.shape.spare),
+            requests: 0,
+            clones: 0,
+        }
+    }
+
+    /// An item to be passed to the call.
+    pub fn item<R: Abort>(&self, rt: &R, number: u64) -> T {
+        T::nth(rt, self.ledger, number)
+    }
+
+    /// The call comes next: what is counted is counted from here.
+    pub fn begin(&self) {
+        self.ledger.begin(self.at.refused);
+    }
+
+    /// The capacity that the rule names for `additional` more items, or `None` where it overflows.
+    pub fn ruled(&self, additional: usize) -> Option<usize> {
+        let want = self.items.len().checked_add(additional)?;
+        if want <= self.capacity {
+            return Some(self.capacity);
+        }
+        fitting::<T>(G::named(self.capacity, want))
+    }
+
+    /// The capacity that has room for exactly `additional` more items, or `None` where it overflows.
+    pub fn exact(&self, additional: usize) -> Option<usize> {
+        let want = self.items.len().checked_add(additional)?;
+        fitting::<T>(want.max(self.capacity))
+    }
+
+    /// What a call ends as that gives the list this capacity, and then makes so many clones.
+    pub fn growth(&mut self, capacity: Option<usize>, clones: usize) -> Verdict {
+        let Some(capacity) = capacity else {
+            return Verdict::Overflow;
+        };
+        let blocks = u64::from(capacity != self.capacity && capacity != 0);
+        let verdict = self.verdict(blocks, clones);
+        if verdict != Verdict::NoRoom {
+            self.capacity = capacity;
+        }
+        verdict
+    }
+
+    /// The same of one growth among several of a call: whether it is granted.
+    pub fn grows(&mut self, capacity: Option<usize>) -> bool {
+        let Some(capacity) = capacity else {
+            return false;
+        };
+        self.requests = self.requests.saturating_add(1);
+        if self.requests == self.at.refused {
+            return false;
+        }
+        self.capacity = capacity;
+        true
+    }
+
+    /// What a call ends as that makes another list, or a `Vec`, of this capacity and with so many clones.
+    pub fn fresh(&mut self, capacity: Option<usize>, clones: usize) -> Verdict {
+        match capacity {
+            Some(capacity) => self.verdict(u64::from(capacity != 0), clones),
+            None => Verdict::Overflow,
+        }
+    }
+
+    // What a call ends as that asks for so many blocks, and then makes so many clones. What is due is told the case.
+    fn verdict(&mut self, blocks: u64, clones: usize) -> Verdict {
+        let refused = self.at.refused;
+        let clones = clones as u64;
+        let asking = if T::OWNS_BLOCK { clones } else { 0 };
+        let requests = blocks.saturating_add(asking);
+        if refused == 0 || refused > requests {
+            self.requests = requests;
+            self.clones = if T::IS_COUNTED { clones } else { 0 };
+            return Verdict::Done;
+        }
+        self.requests = refused;
+        if refused <= blocks {
+            Verdict::NoRoom
+        } else {
+            Verdict::NoClone
+        }
+    }
+
+    /// Asserts that the call answered as it had to.
+    pub fn answered<R: Abort>(&self, rt: &R, answer: Result<(), ThinVecError>, verdict: Verdict) {
+        same(rt, &self.at, "answer", answer, verdict.answer());
+    }
+
+    /// What a call answered that puts an item at `index`: the item is there, or is handed back.
+    pub fn put<R: Abort>(
+        &mut self,
+        rt: &R,
+        index: usize,
+        number: u64,
+        verdict: Verdict,
+        answer: Result<(), Rejected<T>>,
+    ) {
+        match answer {
+            Ok(()) => {
+                self.answered(rt, Ok(()), verdict);
+                if index <= self.items.len() {
+                    self.items.insert(index, number).ok().expect(rt, "memory");
+                }
+            }
+            Err(refused) => {
+                self.answered(rt, Err(refused.cause), verdict);
+                self.handed(rt, &refused.value, number);
+            }
+        }
+    }
+
+    /// Asserts that an item that was handed out or back is the one of that number.
+    pub fn handed<R: Abort>(&self, rt: &R, item: &T, number: u64) {
+        same(rt, &self.at, "item", item.told(), T::telling(number));
+    }
+
+    /// The same of an item, if there was to be one.
+    pub fn handed_or_none<R: Abort>(&self, rt: &R, item: Option<T>, number: Option<u64>) {
+        let told = match item {
+            Some(item) => Some(item.told()),
+            None => None,
+        };
+        let telling = match number {
+            Some(number) => Some(T::telling(number)),
+            None => None,
+        };
+        same(rt, &self.at, "item", told, telling);
+    }
+
+    /// So many items, numbered from `first` on, have come in behind the others, where the call was not refused.
+    pub fn add<R: Abort>(&mut self, rt: &R, first: u64, count: usize, verdict: Verdict) {
+        if verdict == Verdict::Done {
+            let mut new = numbers(rt, self.ledger, first, count);
+            self.items.append(&mut new).expect(rt, "memory");
+        }
+    }
+
+    /// Asserts that those are the items of these numbers.
+    pub fn holds<R: Abort>(&self, rt: &R, items: &[T], numbers: &[u64]) {
+        same(rt, &self.at, "length", items.len(), numbers.len());
+        let difference = first_difference(items, numbers);
+        same(rt, &self.at, "first item that differs", difference, None);
+    }
+
+    /// Asserts that a list has the items of these numbers, and this capacity.
+    pub fn stands<H: Growth, R: Abort>(
+        &self,
+        rt: &R,
+        list: &List<T, H>,
+        numbers: &[u64],
+        capacity: usize,
+    ) {
+        self.holds(rt, list.as_slice(), numbers);
+        same(
+            rt,
+            &self.at,
+            "capacity of the list that was made",
+            list.capacity(),
+            capacity,
+        );
+    }
+
+    /// What a call answered that makes a second list: it has the items of these numbers, and this capacity.
+    pub fn second<H: Growth, R: Abort>(
+        &self,
+        rt: &R,
+        answer: Result<List<T, H>, ThinVecError>,
+        verdict: Verdict,
+        numbers: &[u64],
+        capacity: usize,
+    ) {
+        match answer {
+            Ok(list) => {
+                self.answered(rt, Ok(()), verdict);
+                self.stands(rt, &list, numbers, capacity);
+            }
+            Err(cause) => self.answered(rt, Err(cause), verdict),
+        }
+    }
+
+    /// Takes the list out of the case, and the numbers of its items. The case has an empty one afterwards.
+    pub fn take(&mut self) -> (List<T, G>, Vec<u64, Global>) {
+        self.capacity = 0;
+        let list = mem::replace(&mut self.list, ThinVec::ruled(&self.ledger.alloc));
+        let items = mem::replace(&mut self.items, Vec::new(self.ledger.global));
+        (list, items)
+    }
+
+    /// Puts a list in the place of an empty one. It has to have these items and this capacity.
+    pub fn set(&mut self, list: List<T, G>, items: Vec<u64, Global>, capacity: usize) {
+        self.list = list;
+        self.items = items;
+        self.capacity = capacity;
+    }
+
+    /// Asserts that the list is what it has to be, and that the call has done what was due.
+    pub fn check<R: Abort>(&self, rt: &R) {
+        let requests = self.ledger.alloc.requests();
+        same(rt, &self.at, "requests", requests, self.requests);
+        let clones = self.ledger.clones.get();
+        same(rt, &self.at, "clones", clones, self.clones);
+        self.holds(rt, self.list.as_slice(), self.items.as_slice());
+        let capacity = self.list.capacity();
+        same(rt, &self.at, "capacity", capacity, self.capacity);
+        assert_out::<T, R>(rt, &self.at, self.ledger, self.items.len(), self.capacity);
+    }
+
+    /// Ends the case, and asserts that nothing of it is left.
+    pub fn end<R: Abort>(self, rt: &R) {
+        let at = self.at;
+        let ledger = self.ledger;
+        drop(self);
+        assert_out::<T, R>(rt, &at, ledger, 0, 0);
+    }
+}
+
+/// A list of that shape, whose items are numbered from `first` on.
+pub fn filled<T: Sample, G: Ruled, R: Abort>(
+    rt: &R,
+    ledger: &'static Ledger,
+    shape: Shape,
+    first: u64,
+) -> List<T, G> {
+    let mut list = ThinVec::ruled(&ledger.alloc);
+    let capacity = shape.length.saturating_add(shape.spare);
+    list.reserve_exact(capacity).expect(rt, "memory");
+    for index in 0..shape.length {
+        let number = first.saturating_add(index as u64);
+        let item = T::nth(rt, ledger, number);
+        list.push(item).ok().expect(rt, "memory");
+    }
+    list
+}
+
+/// So many items, numbered from `first` on.
+pub fn source<T: Sample, R: Abort>(
+    rt: &R,
+    ledger: &'static Ledger,
+    first: u64,
+    count: usize,
+) -> Vec<T, Global> {
+    let mut items = Vec::new(ledger.global);
+    for index in 0..count {
+        let number = first.saturating_add(index as u64);
+        let item = T::nth(rt, ledger, number);
+        items.push(item).ok().expect(rt, "memory");
+    }
+    items
+}
+
+/// So many numbers from `first` on.
+pub fn numbers<R: Abort>(
+    rt: &R,
+    ledger: &'static Ledger,
+    first: u64,
+    count: usize,
+) -> Vec<u64, Global> {
+    let mut numbers = Vec::new(ledger.global);
+    for index in 0..count {
+        let number = first.saturating_add(index as u64);
+        numbers.push(number).ok().expect(rt, "memory");
+    }
+    numbers
+}
+
+// The capacity, where it fits.
+fn fitting<T: Sample>(capacity: usize) -> Option<usize> {
+    if capacity <= T::LIMIT {
+        Some(capacity)
+    } else {
+        None
+    }
+}
+
+// Asserts that so many items are there, and their blocks and the list's.
+fn assert_out<T: Sample, R: Abort>(
+    rt: &R,
+    at: &At,
+    ledger: &Ledger,
+    items: usize,
+    capacity: usize,
+) {
+    let items = items as u64;
+    let counted = if T::IS_COUNTED { items } else { 0 };
+    let standing = ledger.standing.get();
+    same(rt, at, "items that are not dropped", standing, counted);
+    let owned = if T::OWNS_BLOCK { items } else { 0 };
+    let blocks = owned.saturating_add(u64::from(capacity != 0));
+    let out = ledger.alloc.blocks();
+    same(rt, at, "blocks that are out", out, blocks);
+}
+
+// The first index at which an item does not tell its number.
+fn first_difference<T: Sample>(items: &[T], numbers: &[u64]) -> Option<usize> {
+    let mut index: usize = 0;
+    for (item, number) in items.iter().zip(numbers.iter()) {
+        if item.told() != T::telling(*number) {
+            return Some(index);
+        }
+        index = index.saturating_add(1);
+    }
+    None
+}

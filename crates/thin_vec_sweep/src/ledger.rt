@@ -1,0 +1,62 @@
+//! What a test counts: requests and blocks, and what its items tell of themselves.
+use refusing::Refusing;
+use std::alloc::Global;
+use std::cell::Cell;
+use std::process::Abort;
+
+/// The allocator of a test's lists, and the counts that its items keep.
+pub struct Ledger {
+    /// Where every list of the test has its block from, and every item that owns one.
+    pub alloc: Refusing<Global>,
+    /// Where the rest of the test has its memory from.
+    pub global: Global,
+    /// How many counted items there are that were not dropped yet.
+    pub standing: Cell<u64>,
+    /// How many clones of counted items were made since `begin`.
+    pub clones: Cell<u64>,
+    /// How often an iterator was asked for an item since `begin`.
+    pub asked: Cell<u64>,
+    /// How often an iterator was asked for its hint since `begin`.
+    pub hinted: Cell<u64>,
+}
+
+impl Ledger {
+    /// A ledger in which nothing is counted yet. It stays until the test ends.
+    pub fn new<R: Abort>(rt: &R, alloc: Global) -> &'static Ledger {
+        let ledger = Ledger {
+            alloc: Refusing::new(alloc, 0),
+            global: alloc,
+            standing: Cell::new(0),
+            clones: Cell::new(0),
+            asked: Cell::new(0),
+            hinted: Cell::new(0),
+        };
+        Box::leak(Box::new(alloc, ledger).ok().expect(rt, "memory"))
+    }
+
+    /// Counts requests, clones and questions anew, and refuses the request of that number; none at 0.
+    pub fn begin(&self, refused: u64) {
+        self.alloc.refuse(refused);
+        self.clones.set(0);
+        self.asked.set(0);
+        self.hinted.set(0);
+    }
+}
+
+impl Drop for Ledger {
+    fn drop(self) {
+        let Self {
+            alloc: _,
+            global: _,
+            standing: _,
+            clones: _,
+            asked: _,
+            hinted: _,
+        } = self;
+    }
+}
+
+/// Counts one more.
+pub fn count(cell: &Cell<u64>) {
+    cell.set(cell.get().saturating_add(1));
+}

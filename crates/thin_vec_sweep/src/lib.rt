@@ -1,0 +1,34 @@
+//! Every call of the list, swept over lists of a small scope, against a reference made of std's `Vec` and a number.
+//!
+//! A sweep makes the call on each shape of a list (`shapes.rt`), with each argument, with memory in plenty and with its
+//! first request refused, its second, and so on until none is. After each it compares what the call answered and handed
+//! back, the items, the capacity, how many requests and clones were made, how many items stand, and how many blocks are out:
+//! then, and once the list is gone. With memory in plenty no call may be refused but by an overflow.
+//!
+//! How a call joins: a struct in a file of `calls/`, with an impl of `Call` (`sweep.rt`), and a line in `calls.rt`. Its
+//! `arguments` says how many arguments are tried on a list of a shape; `run` makes the call. In `run`, in this order: make
+//! what the call is given; ask the reference how it has to end (`growth` where the list's capacity may change, `fresh`
+//! where another list is made; no question where it takes no memory); `begin`, from where on requests are counted and
+//! refused; the call, behind a test of what it requires; `answered`, and the same edit of `case.items`.
+//!
+//! A growth rule joins by an impl of `Ruled` (`rules.rt`), and an item type by one of `Sample` (`samples.rt`) and a test.
+#![tactic(auto)]
+
+#[cfg(test)]
+mod calls;
+#[cfg(test)]
+mod case;
+#[cfg(test)]
+mod claims;
+#[cfg(test)]
+mod ledger;
+#[cfg(test)]
+mod rules;
+#[cfg(test)]
+mod samples;
+#[cfg(test)]
+mod shapes;
+#[cfg(test)]
+mod sweep;
+#[cfg(test)]
+mod tests;

@@ -1,0 +1,229 @@
+//! The items of the swept lists: of no size, of 1 to 320 bytes, counted, and lists themselves.
+use crate::ledger::{Ledger, count};
+use refusing::Refusing;
+use std::alloc::{AllocError, Global};
+use std::process::Abort;
+use thin_vec::ThinVec;
+
+/// A type of items that can be told apart by a number, as far as it has different values.
+pub trait Sample: Clone + Drop {
+    /// Whether the ledger counts them and their clones.
+    const IS_COUNTED: bool;
+
+    /// Whether each owns a block of the ledger's allocator. Each clone is a request then.
+    const OWNS_BLOCK: bool;
+
+    /// The greatest capacity that fits, worked out by hand: a block is 16 bytes and the items, rounded up to its
+    /// alignment, which is 8 or that of an item, and has to be at most `isize::MAX`.
+    const LIMIT: usize;
+
+    /// The item of that number.
+    fn nth<R: Abort>(rt: &R, ledger: &'static Ledger, number: u64) -> Self;
+
+    /// What an item tells of the number that it was made of.
+    fn told(&self) -> u64;
+
+    /// What the item of that number has to tell.
+    fn telling(number: u64) -> u64;
+}
+
+impl Sample for () {
+    const IS_COUNTED: bool = false;
+
+    const OWNS_BLOCK: bool = false;
+
+    const LIMIT: usize = isize::MAX as usize;
+
+    fn nth<R: Abort>(_rt: &R, _ledger: &'static Ledger, _number: u64) {}
+
+    fn told(&self) -> u64 {
+        0
+    }
+
+    fn telling(_number: u64) -> u64 {
+        0
+    }
+}
+
+impl Sample for u8 {
+    const IS_COUNTED: bool = false;
+
+    const OWNS_BLOCK: bool = false;
+
+    const LIMIT: usize = 9_223_372_036_854_775_784;
+
+    fn nth<R: Abort>(_rt: &R, _ledger: &'static Ledger, number: u64) -> u8 {
+        (number % 251) as u8
+    }
+
+    fn told(&self) -> u64 {
+        u64::from(*self)
+    }
+
+    fn telling(number: u64) -> u64 {
+        number % 251
+    }
+}
+
+impl Sample for u32 {
+    const IS_COUNTED: bool = false;
+
+    const OWNS_BLOCK: bool = false;
+
+    const LIMIT: usize = 2_305_843_009_213_693_946;
+
+    fn nth<R: Abort>(_rt: &R, _ledger: &'static Ledger, number: u64) -> u32 {
+        (number % 4_294_967_291) as u32
+    }
+
+    fn told(&self) -> u64 {
+        u64::from(*self)
+    }
+
+    fn telling(number: u64) -> u64 {
+        number % 4_294_967_291
+    }
+}
+
+impl Sample for u64 {
+    const IS_COUNTED: bool = false;
+
+    const OWNS_BLOCK: bool = false;
+
+    const LIMIT: usize = 1_152_921_504_606_846_973;
+
+    fn nth<R: Abort>(_rt: &R, _ledger: &'static Ledger, number: u64) -> u64 {
+        number
+    }
+
+    fn told(&self) -> u64 {
+        *self
+    }
+
+    fn telling(number: u64) -> u64 {
+        number
+    }
+}
+
+impl Sample for u128 {
+    const IS_COUNTED: bool = false;
+
+    const OWNS_BLOCK: bool = false;
+
+    const LIMIT: usize = 576_460_752_303_423_486;
+
+    fn nth<R: Abort>(_rt: &R, _ledger: &'static Ledger, number: u64) -> u128 {
+        u128::from(number) << 64
+    }
+
+    fn told(&self) -> u64 {
+        (*self >> 64) as u64
+    }
+
+    fn telling(number: u64) -> u64 {
+        number
+    }
+}
+
+impl Sample for [u64; 40] {
+    const IS_COUNTED: bool = false;
+
+    const OWNS_BLOCK: bool = false;
+
+    const LIMIT: usize = 28_823_037_615_171_174;
+
+    fn nth<R: Abort>(_rt: &R, _ledger: &'static Ledger, number: u64) -> [u64; 40] {
+        let mut words = [0; 40];
+        words[0] = number;
+        words[39] = number;
+        words
+    }
+
+    // The first word and the last have to agree.
+    fn told(&self) -> u64 {
+        if self[0] == self[39] {
+            self[0]
+        } else {
+            u64::MAX
+        }
+    }
+
+    fn telling(number: u64) -> u64 {
+        number
+    }
+}
+
+/// An item that counts its drops and clones.
+pub struct Counted {
+    ledger: &'static Ledger,
+    number: u64,
+}
+
+impl Counted {
+    fn new(ledger: &'static Ledger, number: u64) -> Counted {
+        count(&ledger.standing);
+        Counted { ledger, number }
+    }
+}
+
+impl Drop for Counted {
+    fn drop(self) {
+        let Counted { ledger, number: _ } = self;
+        ledger.standing.set(ledger.standing.get().saturating_sub(1));
+    }
+}
+
+impl Clone for Counted {
+    fn clone(&self) -> Result<Self, AllocError> {
+        count(&self.ledger.clones);
+        Ok(Counted::new(self.ledger, self.number))
+    }
+}
+
+impl Sample for Counted {
+    const IS_COUNTED: bool = true;
+
+    const OWNS_BLOCK: bool = false;
+
+    const LIMIT: usize = 576_460_752_303_423_486;
+
+    fn nth<R: Abort>(_rt: &R, ledger: &'static Ledger, number: u64) -> Counted {
+        Counted::new(ledger, number)
+    }
+
+    fn told(&self) -> u64 {
+        self.number
+    }
+
+    fn telling(number: u64) -> u64 {
+        number
+    }
+}
+
+/// A list as an item: its clones are requests of the same allocator.
+pub type Inner = ThinVec<u64, &'static Refusing<Global>>;
+
+impl Sample for Inner {
+    const IS_COUNTED: bool = false;
+
+    const OWNS_BLOCK: bool = true;
+
+    const LIMIT: usize = 576_460_752_303_423_486;
+
+    fn nth<R: Abort>(rt: &R, ledger: &'static Ledger, number: u64) -> Inner {
+        let mut list = ThinVec::new(&ledger.alloc);
+        list.push(number).ok().expect(rt, "memory");
+        list
+    }
+
+    fn told(&self) -> u64 {
+        match self.as_slice() {
+            [number] => *number,
+            _ => u64::MAX,
+        }
+    }
+
+    fn telling(number: u64) -> u64 {
+        number
+    }
+}

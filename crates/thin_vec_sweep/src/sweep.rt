@@ -1,0 +1,66 @@
+//! How a call is swept: over each shape, each argument and each request that can be refused.
+use crate::case::{At, Case};
+use crate::ledger::Ledger;
+use crate::rules::Ruled;
+use crate::samples::Sample;
+use crate::shapes::{SHAPES, Shape};
+use std::process::Abort;
+
+/// A call that is swept, on lists of `T` under the rule `G`.
+pub trait Call<T: Sample, G: Ruled> {
+    /// What an assertion calls it.
+    const NAME: &'static str;
+
+    /// How many arguments are tried on a list of that shape.
+    fn arguments(_shape: Shape) -> usize {
+        1
+    }
+
+    /// Makes the call on the list of the case and on its reference, and compares what it answers. What stands afterwards
+    /// is compared by whoever calls this.
+    fn run<R: Abort>(rt: &R, case: &mut Case<T, G>, argument: usize);
+}
+
+/// Sweeps a call.
+pub fn sweep<C: Call<T, G>, T: Sample, G: Ruled, R: Abort>(rt: &R, ledger: &'static Ledger) {
+    for number in 0..SHAPES {
+        let shape = Shape::nth(number);
+        for argument in 0..C::arguments(shape) {
+            until_granted::<C, T, G, R>(rt, ledger, shape, argument);
+        }
+    }
+}
+
+// With memory in plenty, and then with the first request refused, the second, and so on until none is.
+fn until_granted<C: Call<T, G>, T: Sample, G: Ruled, R: Abort>(
+    rt: &R,
+    ledger: &'static Ledger,
+    shape: Shape,
+    argument: usize,
+) {
+    for refused in 0..shape.rounds() {
+        let at = At {
+            call: C::NAME,
+            shape,
+            argument,
+            refused,
+        };
+        if case::<C, T, G, R>(rt, ledger, at) < refused {
+            return;
+        }
+    }
+}
+
+// One case. Answers how many requests the call made.
+fn case<C: Call<T, G>, T: Sample, G: Ruled, R: Abort>(
+    rt: &R,
+    ledger: &'static Ledger,
+    at: At,
+) -> u64 {
+    let mut case = Case::new(rt, ledger, at);
+    C::run(rt, &mut case, at.argument);
+    case.check(rt);
+    let requests = case.requests;
+    case.end(rt);
+    requests
+}

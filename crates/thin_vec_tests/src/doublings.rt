@@ -1,0 +1,76 @@
+//! How the capacity of a list of numbers grows push by push, and what its blocks have cost: proved, with the numbers.
+ghost use Rattle.std.specs.Prelude.{◌≡◌, ◌+◌, ◌*◌, ◌<◌, ◌≤◌, ◌^◌, [], ◌∷◌, IfOk, OnOk, length};
+ghost use Rattle.thin_vec.specs.ThinVec.{HasRoomFor};
+
+use std::alloc::Allocator;
+use thin_vec::{Rejected, ThinVec, ThinVecError};
+
+/// Five pushes into a new list, and the capacity after each. The one block of 4 places was copied into one of 8.
+#[tactic(auto, using(thin_block::proofs::CapacityLemmas::doubling_first, thin_block::proofs::CapacityLemmas::doubling_next, thin_vec::proofs::ThinVecLemmas::costs))]
+pub fn five_pushes<A: Allocator>(alloc: A) -> Result<(ThinVec<u32, A>, [usize; 5]), ThinVecError>
+    ensures capacities { IfOk result (λ made. made.1 ≡ 4 ∷ 4 ∷ 4 ∷ 4 ∷ 8 ∷ []) }
+    ensures grown { IfOk result (λ made. made.0.cost.grown ≡ 4) }
+    ensures blocks { IfOk result (λ made. made.0.cost.blocks ≡ 2) }
+{
+    let mut list = ThinVec::new(alloc);
+    list.push(1)?;
+    let first = list.capacity();
+    list.push(2)?;
+    let second = list.capacity();
+    list.push(3)?;
+    let third = list.capacity();
+    list.push(4)?;
+    let fourth = list.capacity();
+    list.push(5)?;
+    let fifth = list.capacity();
+    Ok((list, [first, second, third, fourth, fifth]))
+}
+
+/// Seventeen pushes into a new list: 28 items were copied into four blocks, of 4, 8, 16 and 32 places.
+pub fn seventeen_pushes<A: Allocator>(alloc: A) -> Result<ThinVec<u32, A>, ThinVecError>
+    ensures len { IfOk result (λ list. length list.items ≡ 17) }
+    ensures capacity { IfOk result (λ list. list.capacity ≡ 32) }
+    ensures grown { IfOk result (λ list. list.cost.grown ≡ 28) }
+    ensures blocks { IfOk result (λ list. list.cost.blocks ≡ 4) }
+{
+    let mut list = ThinVec::new(alloc);
+    push_full(&mut list)?;
+    push_three(&mut list);
+    push_full(&mut list)?;
+    push_three(&mut list);
+    push_full(&mut list)?;
+    push_three(&mut list);
+    push_three(&mut list);
+    let _in_room = list.push(5).is_ok();
+    push_full(&mut list)?;
+    Ok(list)
+}
+
+// A push into a full list, which doubles the capacity.
+#[tactic(auto, using(thin_block::proofs::CapacityLemmas::doubling_first, thin_block::proofs::CapacityLemmas::doubling_next, thin_vec::proofs::ThinVecLemmas::costs))]
+fn push_full<A: Allocator>(list: &mut ThinVec<u32, A>) -> Result<(), ThinVecError>
+    requires full { length list.old.items ≡ list.old.capacity }
+    requires few { list.old.capacity < 100 }
+    ensures len { OnOk result (length list.new.items ≡ length list.old.items + 1) }
+    ensures first { list.old.capacity ≡ 0 → OnOk result (list.new.capacity ≡ 4) }
+    ensures twice { 0 < list.old.capacity → OnOk result (list.new.capacity ≡ 2 * list.old.capacity) }
+    ensures grown { OnOk result (list.new.cost.grown ≡ list.old.cost.grown + list.old.capacity) }
+    ensures blocks { OnOk result (list.new.cost.blocks ≡ list.old.cost.blocks + 1) }
+{
+    list.push(1)?;
+    Ok(())
+}
+
+// Three pushes into spare room.
+#[tactic(auto, using(thin_vec::proofs::ThinVecLemmas::costs))]
+fn push_three<A: Allocator>(list: &mut ThinVec<u32, A>)
+    requires room { HasRoomFor list.old 3 }
+    ensures len { length list.new.items ≡ length list.old.items + 3 }
+    ensures capacity { list.new.capacity ≡ list.old.capacity }
+    ensures grown { list.new.cost.grown ≡ list.old.cost.grown }
+    ensures blocks { list.new.cost.blocks ≡ list.old.cost.blocks }
+{
+    let _in_room = list.push(2).is_ok();
+    let _in_room = list.push(3).is_ok();
+    let _in_room = list.push(4).is_ok();
+}

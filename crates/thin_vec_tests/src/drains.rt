@@ -1,0 +1,428 @@
+//! `drain`: what a program may promise of it, and how it ends.
+ghost use Rattle.std.specs.Prelude.{◌≡◌, ◌+◌, ◌≤◌, ◌++◌, IfOk, IfSome, OnErr, OnOk, drop, length, max, reverse, slice_range, take};
+ghost use Rattle.std.specs.List.{fold, remove_range};
+ghost use Rattle.thin_vec.specs.Drain.{drain_lender};
+
+#[cfg(test)]
+use crate::counted::Counted;
+#[cfg(test)]
+use crate::standing::{assert_counts, assert_items, assert_list, assert_same};
+#[cfg(test)]
+use refusing::Refusing;
+use std::alloc::{AllocError, Allocator, Global};
+#[cfg(test)]
+use std::cell::Cell;
+#[cfg(test)]
+use std::mem;
+use std::ops::Bound;
+#[cfg(test)]
+use std::process::Abort;
+#[cfg(test)]
+use thin_vec::thin_vec;
+use thin_vec::{Drain, Growth, ThinVec, ThinVecError, bounds};
+
+/// Takes the items from `start` up to `end` out of the list, and answers the greatest of them, or `least` where that is more.
+pub fn greatest_out(list: &mut ThinVec<u32, Global>, start: usize, end: usize, least: u32) -> u32
+    requires start_le_end { start ≤ end }
+    requires in_bounds { end ≤ length list.old.items }
+    ensures value { result ≡ fold max least (slice_range list.old.items start end) }
+    ensures items { list.new.items ≡ remove_range list.old.items start end }
+    ensures capacity { list.new.capacity ≡ list.old.capacity }
+{
+    let mut greatest = least;
+    for item in list.drain(start, end) {
+        greatest = greatest.max(item);
+    }
+    greatest
+}
+
+/// Takes the items from `start` up to `end` out, and gives up after one of them. Those before and behind them stay.
+pub fn without<T: Drop, A: Allocator, G: Growth>(
+    list: &mut ThinVec<T, A, G>,
+    start: usize,
+    end: usize,
+) -> Option<T>
+    requires start_le_end { start ≤ end }
+    requires in_bounds { end ≤ length list.old.items }
+    ensures items { list.new.items ≡ take start list.old.items ++ drop end list.old.items }
+    ensures capacity { list.new.capacity ≡ list.old.capacity }
+{
+    let mut drain = list.drain(start, end);
+    drain.next()
+}
+
+/// Moves the items from `start` up to `end` behind those of `other`, or moves none.
+pub fn move_range<T: Drop, A: Allocator, G: Growth>(
+    list: &mut ThinVec<T, A, G>,
+    start: usize,
+    end: usize,
+    other: &mut ThinVec<T, A, G>,
+) -> Result<(), ThinVecError>
+    requires start_le_end { start ≤ end }
+    requires in_bounds { end ≤ length list.old.items }
+    ensures items { OnOk result (list.new.items ≡ remove_range list.old.items start end) }
+    ensures other_items { OnOk result (other.new.items ≡ other.old.items ++ slice_range list.old.items start end) }
+    ensures err { OnErr result (list.new ≡ list.old) }
+    ensures other_err { OnErr result (other.new ≡ other.old) }
+{
+    other.reserve(end - start)?;
+    for item in list.drain(start, end) {
+        match other.push(item) {
+            Ok(()) => (),
+            Err(_refused) => unreachable!(),
+        }
+    }
+    Ok(())
+}
+
+/// Appends the items from `start` up to `end` of `list` to `other`, by one call.
+pub fn extend_by_range(
+    list: &mut ThinVec<u32, Global>,
+    start: usize,
+    end: usize,
+    other: &mut ThinVec<u32, Global>,
+) -> Result<(), ThinVecError>
+    requires start_le_end { start ≤ end }
+    requires in_bounds { end ≤ length list.old.items }
+    ensures other_items { OnOk result (other.new.items ≡ other.old.items ++ slice_range list.old.items start end) }
+{
+    match other.extend(list.drain(start, end)) {
+        Ok(()) => Ok(()),
+        Err(refused) => Err(refused.cause),
+    }
+}
+
+/// The items from `start` up to `end`, in a `Vec`.
+pub fn collected(
+    list: &mut ThinVec<u32, Global>,
+    start: usize,
+    end: usize,
+    alloc: Global,
+) -> Result<Vec<u32>, AllocError>
+    requires start_le_end { start ≤ end }
+    requires in_bounds { end ≤ length list.old.items }
+    ensures items { IfOk result (λ vec. vec.items ≡ slice_range list.old.items start end) }
+{
+    list.drain(start, end).collect(alloc)
+}
+
+/// The same, last first.
+pub fn reversed(
+    list: &mut ThinVec<u32, Global>,
+    start: usize,
+    end: usize,
+    alloc: Global,
+) -> Result<Vec<u32>, AllocError>
+    requires start_le_end { start ≤ end }
+    requires in_bounds { end ≤ length list.old.items }
+    ensures items { IfOk result (λ vec. vec.items ≡ reverse (slice_range list.old.items start end)) }
+{
+    list.drain(start, end).rev().collect(alloc)
+}
+
+/// `drain` of a range in one of Rust's forms, or `None` where the list has no such range.
+pub fn drain_between<T: Drop, A: Allocator, G: Growth>(
+    list: &mut ThinVec<T, A, G>,
+    start: Bound<usize>,
+    end: Bound<usize>,
+) -> Option<Drain<'_, T, A, G>>
+    ensures same_reference { IfSome result (λ drain. drain_lender drain ≡ list.entry.ghost_name) }
+{
+    let (start, end) = bounds(start, end, list.len())?;
+    Some(list.drain(start, end))
+}
+
+// What a drain gives from the front, and the slice of the list that it leaves.
+#[cfg(test)]
+fn assert_drained<T: PartialEq + std::fmt::Debug + Drop, A: Allocator>(
+    rt: &impl Abort,
+    mut list: ThinVec<T, A>,
+    range: (Bound<usize>, Bound<usize>),
+    given: &[T],
+    left: &[T],
+) {
+    let capacity = list.capacity();
+    {
+        let mut drain = drain_between(&mut list, range.0, range.1).expect(rt, "a range");
+        assert_items(rt, drain.as_slice(), given);
+        assert_same(rt, drain.size_hint(), (given.len(), Some(given.len())));
+        for item in given {
+            assert_same(rt, drain.next().as_ref(), Some(item));
+        }
+        assert_same(rt, drain.len(), 0);
+        assert_same(rt, drain.next(), None);
+        assert_same(rt, drain.next_back(), None);
+    }
+    assert_items(rt, list.as_slice(), left);
+    assert_same(rt, list.capacity(), capacity);
+}
+
+// The same from the back.
+#[cfg(test)]
+fn assert_drained_back<T: PartialEq + std::fmt::Debug + Drop, A: Allocator>(
+    rt: &impl Abort,
+    mut list: ThinVec<T, A>,
+    range: (Bound<usize>, Bound<usize>),
+    given: &[T],
+    left: &[T],
+) {
+    {
+        let mut drain = drain_between(&mut list, range.0, range.1).expect(rt, "a range");
+        for item in given.iter().rev() {
+            assert_same(rt, drain.next_back().as_ref(), Some(item));
+        }
+        assert_same(rt, drain.next_back(), None);
+    }
+    assert_items(rt, list.as_slice(), left);
+}
+
+#[cfg(test)]
+const ALL: (Bound<usize>, Bound<usize>) = (Bound::Unbounded, Bound::Unbounded);
+
+#[test]
+fn test_drain_items(rt: HostRuntime) {
+    let list = thin_vec![rt.alloc() => 1, 2, 3].expect(&rt, "memory");
+    assert_drained(&rt, list, ALL, &[1, 2, 3], &[]);
+}
+
+#[test]
+fn test_drain_items_reverse(rt: HostRuntime) {
+    let list = thin_vec![rt.alloc() => 1, 2, 3].expect(&rt, "memory");
+    assert_drained_back(&rt, list, ALL, &[1, 2, 3], &[]);
+}
+
+#[test]
+fn test_drain_items_zero_sized(rt: HostRuntime) {
+    let list = thin_vec![rt.alloc() => (), (), ()].expect(&rt, "memory");
+    assert_drained(&rt, list, ALL, &[(), (), ()], &[]);
+}
+
+#[test]
+fn test_drain_range(rt: HostRuntime) {
+    let from_four = (Bound::Included(4), Bound::Unbounded);
+    let numbers = thin_vec![rt.alloc() => 1, 2, 3, 4, 5].expect(&rt, "memory");
+    assert_drained(&rt, numbers, from_four, &[5], &[1, 2, 3, 4]);
+    let inner = (Bound::Included(1), Bound::Excluded(4));
+    let texts = thin_vec![rt.alloc() => "1", "2", "3", "4", "5"].expect(&rt, "memory");
+    assert_drained(&rt, texts, inner, &["2", "3", "4"], &["1", "5"]);
+    let texts = thin_vec![rt.alloc() => "1", "2", "3", "4", "5"].expect(&rt, "memory");
+    assert_drained_back(&rt, texts, inner, &["2", "3", "4"], &["1", "5"]);
+    let units = thin_vec![rt.alloc() => (), (), (), (), ()].expect(&rt, "memory");
+    assert_drained(&rt, units, inner, &[(), (), ()], &[(), ()]);
+}
+
+#[test]
+fn test_drain_inclusive_range(rt: HostRuntime) {
+    let letters = thin_vec![rt.alloc() => 'a', 'b', 'c', 'd', 'e'].expect(&rt, "memory");
+    let inner = (Bound::Included(1), Bound::Included(3));
+    assert_drained(&rt, letters, inner, &['b', 'c', 'd'], &['a', 'e']);
+    let texts = thin_vec![rt.alloc() => "0", "1"].expect(&rt, "memory");
+    let first = (Bound::Unbounded, Bound::Included(0));
+    assert_drained(&rt, texts, first, &["0"], &["1"]);
+}
+
+#[test]
+fn test_drain_inclusive_range_of_texts(rt: HostRuntime) {
+    let all = ["0", "1", "2", "3", "4", "5"];
+    for (first, last, given, left) in [
+        (1, 5, &all[1..], &all[..1]),
+        (0, 5, &all[..], &all[..0]),
+        (0, 3, &all[..4], &all[4..]),
+    ] {
+        let texts = ThinVec::from_slice(rt.alloc(), &all).expect(&rt, "memory");
+        let range = (Bound::Included(first), Bound::Included(last));
+        assert_drained(&rt, texts, range, given, left);
+    }
+}
+
+#[test]
+fn a_range_that_is_not_there_has_no_drain(rt: HostRuntime) {
+    let mut list = thin_vec![rt.alloc() => 1, 2, 3].expect(&rt, "memory");
+    for (start, end) in [
+        (Bound::Included(3), Bound::Excluded(2)),
+        (Bound::Unbounded, Bound::Included(3)),
+        (Bound::Excluded(usize::MAX), Bound::Unbounded),
+        (Bound::Unbounded, Bound::Included(usize::MAX)),
+    ] {
+        assert!(rt; drain_between(&mut list, start, end).is_none());
+    }
+    assert_list(&rt, &list, &[1, 2, 3], 3);
+}
+
+#[test]
+fn collects_what_it_drains(rt: HostRuntime) {
+    let alloc = rt.alloc();
+    let mut list = thin_vec![alloc => 1u32, 2, 3, 4, 5, 6].expect(&rt, "memory");
+    assert_eq!(rt; list.len(), 6);
+    let front = collected(&mut list, 1, 3, alloc).expect(&rt, "memory");
+    assert_items(&rt, front.as_slice(), &[2, 3]);
+    assert_items(&rt, list.as_slice(), &[1, 4, 5, 6]);
+    assert_eq!(rt; list.len(), 4);
+    let back = reversed(&mut list, 0, 2, alloc).expect(&rt, "memory");
+    assert_items(&rt, back.as_slice(), &[4, 1]);
+    assert_items(&rt, list.as_slice(), &[5, 6]);
+}
+
+#[test]
+fn moves_a_range_to_another_list(rt: HostRuntime) {
+    let alloc = rt.alloc();
+    let mut list = thin_vec![alloc => 1u32, 2, 3, 4, 5].expect(&rt, "memory");
+    let mut other = thin_vec![alloc => 9u32].expect(&rt, "memory");
+    assert_eq!(rt; list.len(), 5);
+    move_range(&mut list, 1, 3, &mut other).expect(&rt, "memory");
+    assert_items(&rt, list.as_slice(), &[1, 4, 5]);
+    assert_items(&rt, other.as_slice(), &[9, 2, 3]);
+    assert_eq!(rt; list.len(), 3);
+    extend_by_range(&mut list, 0, 2, &mut other).expect(&rt, "memory");
+    assert_items(&rt, list.as_slice(), &[5]);
+    assert_items(&rt, other.as_slice(), &[9, 2, 3, 1, 4]);
+    assert_eq!(rt; list.len(), 1);
+    assert_same(&rt, greatest_out(&mut list, 0, 1, 3), 5);
+    assert_same(&rt, without(&mut list, 0, 0), None);
+    assert_items(&rt, list.as_slice(), &[]);
+}
+
+// Drains the items 1 to 4 of six by `steps` steps and gives up. The bits of `back`, the lowest first, say which step takes from
+// the back.
+#[cfg(test)]
+fn give_up_after<A: Allocator>(rt: &impl Abort, mut list: ThinVec<i32, A>, steps: u32, back: u32) {
+    assert_eq!(rt; list.len(), 6);
+    {
+        let mut drain = list.drain(1, 5);
+        let mut left = [2, 3, 4, 5].as_slice();
+        let mut bits = back;
+        for _ in 0..steps {
+            if bits % 2 == 1 {
+                assert_same(rt, drain.next_back(), left.last().copied());
+                left = but_last(left);
+            } else {
+                assert_same(rt, drain.next(), left.first().copied());
+                left = but_first(left);
+            }
+            bits /= 2;
+        }
+    }
+    assert_list(rt, &list, &[1, 6], 6);
+}
+
+#[cfg(test)]
+fn but_first(items: &[i32]) -> &[i32] {
+    if items.is_empty() {
+        return items;
+    }
+    &items[1..]
+}
+
+#[cfg(test)]
+fn but_last(items: &[i32]) -> &[i32] {
+    if items.is_empty() {
+        return items;
+    }
+    &items[..items.len() - 1]
+}
+
+#[test]
+fn a_drain_may_be_given_up_after_any_steps(rt: HostRuntime) {
+    for steps in 0..6 {
+        for back in 0..32 {
+            let list = thin_vec![rt.alloc() => 1, 2, 3, 4, 5, 6].expect(&rt, "memory");
+            give_up_after(&rt, list, steps, back);
+        }
+    }
+}
+
+// Takes steps as these in any list, and drops what is handed out at once: at a concrete type of item that holds a `&` no drain
+// is proved.
+#[cfg(test)]
+fn drop_after<T: Drop>(rt: &impl Abort, list: &mut ThinVec<T>, steps: u32, back: u32) {
+    assert_eq!(rt; list.len(), 6);
+    let mut drain = list.drain(1, 5);
+    let mut bits = back;
+    for _ in 0..steps {
+        if bits % 2 == 1 {
+            let _last = drain.next_back();
+        } else {
+            let _first = drain.next();
+        }
+        bits /= 2;
+    }
+}
+
+#[test]
+fn a_drain_drops_each_item_once(rt: HostRuntime) {
+    for steps in 0..6 {
+        for back in 0..32 {
+            let drops = Cell::new(0);
+            {
+                let mut list = ThinVec::new(rt.alloc());
+                for _ in 0..6 {
+                    list.push(Counted::new(&drops)).ok().expect(&rt, "memory");
+                }
+                drop_after(&rt, &mut list, steps, back);
+                assert_same(&rt, (drops.get(), list.len()), (4, 2));
+            }
+            assert_same(&rt, drops.get(), 6);
+        }
+    }
+}
+
+#[test]
+fn drains_nothing(rt: HostRuntime) {
+    let mut list = thin_vec![rt.alloc() => 1, 2, 3, 4, 5, 6].expect(&rt, "memory");
+    assert_eq!(rt; list.len(), 6);
+    assert_same(&rt, list.drain(6, 6).next(), None);
+    assert_list(&rt, &list, &[1, 2, 3, 4, 5, 6], 6);
+    drop(list.drain(0, 6));
+    assert_list(&rt, &list, &[], 6);
+}
+
+// Drains a list by a loop, and hands out how many items it had: at a concrete `&` to an allocator no loop is proved.
+#[cfg(test)]
+fn drain_all<T: Drop, A: Allocator>(list: &mut ThinVec<T, A>) -> u32 {
+    let mut count = 0u32;
+    let end = list.len();
+    for _item in list.drain(0, end) {
+        count = count.saturating_add(1);
+    }
+    count
+}
+
+#[test]
+fn a_drain_makes_no_request(rt: HostRuntime) {
+    let refusing = Refusing::new(rt.alloc(), 2);
+    {
+        let mut list = ThinVec::new(&refusing);
+        assert_same(&rt, drain_all(&mut list), 0);
+        assert_same(&rt, list.has_capacity(), false);
+        for item in 0..4 {
+            list.push(item).ok().expect(&rt, "memory");
+        }
+        assert_same(&rt, drain_all(&mut list), 4);
+        assert_list(&rt, &list, &[], 4);
+        assert_counts(&rt, &refusing, 1, 1);
+    }
+    assert_counts(&rt, &refusing, 1, 0);
+}
+
+#[test]
+fn a_forgotten_drain_leaves_a_list(rt: HostRuntime) {
+    let mut list = thin_vec![rt.alloc() => 1, 2, 3].expect(&rt, "memory");
+    assert_eq!(rt; list.len(), 3);
+    mem::forget(list.drain(1, 2));
+    list.push(9).ok().expect(&rt, "memory");
+    assert_same(&rt, list.as_slice().last(), Some(&9));
+}
+
+#[test]
+fn test_drain_debug(rt: HostRuntime) {
+    let mut list = thin_vec![rt.alloc() => 1, 2, 3].expect(&rt, "memory");
+    assert_eq!(rt; list.len(), 3);
+    let drain = list.drain(1, 3);
+    assert_same(
+        &rt,
+        format!(in rt.alloc(); "{drain:?}")
+            .expect(&rt, "memory")
+            .as_str(),
+        "Drain([2, 3])",
+    );
+}

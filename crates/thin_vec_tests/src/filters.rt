@@ -1,0 +1,222 @@
+//! `retain` and `dedup`, in their forms: what no clause says, and the cases of the Rust crate's own tests.
+use crate::counted::Counted;
+use crate::items::push_all;
+use crate::last_digits::LastDigit;
+use crate::standing::{assert_counts, assert_items, assert_list, assert_same};
+use other_rules::Fourfold;
+use refusing::Refusing;
+use std::alloc::Global;
+use std::boxed::Box;
+use std::cell::Cell;
+use std::cmp::Ordering;
+use std::hash::{DefaultHasher, Hash, Hasher};
+use std::process::Abort;
+use thin_vec::{ThinVec, thin_vec};
+
+#[test]
+fn test_retain(rt: HostRuntime) {
+    let mut list = thin_vec![rt.alloc() => 1, 2, 3, 4].expect(&rt, "memory");
+    list.retain(|item| item % 2 == 0);
+    assert_list(&rt, &list, &[2, 4], 4);
+}
+
+// What is written stays on the items that stay.
+#[test]
+fn test_retain_mut(rt: HostRuntime) {
+    let mut list = thin_vec![rt.alloc() => 9, 9, 9, 9].expect(&rt, "memory");
+    let mut number: i32 = 0;
+    list.retain_mut(|item| {
+        number = number.saturating_add(1);
+        *item = number;
+        number != 4
+    });
+    assert_list(&rt, &list, &[1, 2, 3], 4);
+}
+
+fn deduped(rt: &impl Abort, alloc: Global, items: &[i32], wanted: &[i32]) {
+    let mut list = ThinVec::from_slice(alloc, items).expect(rt, "memory");
+    list.dedup();
+    assert_list(rt, &list, wanted, items.len());
+}
+
+#[test]
+fn test_dedup(rt: HostRuntime) {
+    let alloc = rt.alloc();
+    deduped(&rt, alloc, &[], &[]);
+    deduped(&rt, alloc, &[1], &[1]);
+    deduped(&rt, alloc, &[1, 1], &[1]);
+    deduped(&rt, alloc, &[1, 2, 3], &[1, 2, 3]);
+    deduped(&rt, alloc, &[1, 1, 2, 3], &[1, 2, 3]);
+    deduped(&rt, alloc, &[1, 2, 2, 3], &[1, 2, 3]);
+    deduped(&rt, alloc, &[1, 2, 3, 3], &[1, 2, 3]);
+    deduped(&rt, alloc, &[1, 1, 2, 2, 2, 3, 3], &[1, 2, 3]);
+    deduped(&rt, alloc, &[1, 2, 2, 3, 2], &[1, 2, 3, 2]);
+}
+
+fn deduped_boxes(rt: &impl Abort, alloc: Global, items: &[i32]) {
+    let mut list = ThinVec::new(alloc);
+    for item in items {
+        let boxed = Box::new(alloc, *item).ok().expect(rt, "memory");
+        list.push(boxed).ok().expect(rt, "memory");
+    }
+    list.dedup();
+    assert_same(rt, list.len(), 3);
+    for (boxed, wanted) in list.iter().zip([1, 2, 3]) {
+        assert_same(rt, **boxed, wanted);
+    }
+}
+
+#[test]
+fn test_dedup_unique(rt: HostRuntime) {
+    let alloc = rt.alloc();
+    deduped_boxes(&rt, alloc, &[1, 2, 3]);
+    deduped_boxes(&rt, alloc, &[1, 1, 2, 3]);
+    deduped_boxes(&rt, alloc, &[1, 2, 2, 3]);
+    deduped_boxes(&rt, alloc, &[1, 2, 3, 3]);
+    deduped_boxes(&rt, alloc, &[1, 1, 2, 2, 2, 3, 3]);
+}
+
+fn deduped_by_tens(rt: &impl Abort, alloc: Global, items: &[i32], wanted: &[i32]) {
+    let mut list = ThinVec::from_slice(alloc, items).expect(rt, "memory");
+    list.dedup_by_key(|item| *item / 10);
+    assert_list(rt, &list, wanted, items.len());
+}
+
+#[test]
+fn test_dedup_by_key(rt: HostRuntime) {
+    let alloc = rt.alloc();
+    deduped_by_tens(&rt, alloc, &[], &[]);
+    deduped_by_tens(&rt, alloc, &[10], &[10]);
+    deduped_by_tens(&rt, alloc, &[10, 11], &[10]);
+    deduped_by_tens(&rt, alloc, &[10, 20, 30], &[10, 20, 30]);
+    deduped_by_tens(&rt, alloc, &[10, 11, 20, 30], &[10, 20, 30]);
+    deduped_by_tens(&rt, alloc, &[10, 20, 21, 30], &[10, 20, 30]);
+    deduped_by_tens(&rt, alloc, &[10, 20, 30, 31], &[10, 20, 30]);
+    deduped_by_tens(&rt, alloc, &[10, 11, 20, 21, 22, 30, 31], &[10, 20, 30]);
+}
+
+#[test]
+fn test_dedup_by(rt: HostRuntime) {
+    let mut list = thin_vec![rt.alloc() => "foo", "bar", "Bar", "baz", "bar"].expect(&rt, "memory");
+    list.dedup_by(|later, kept| later.eq_ignore_ascii_case(*kept));
+    assert_items(&rt, list.as_slice(), &["foo", "bar", "baz", "bar"]);
+}
+
+// The later item's key is asked first, then that of the last item kept.
+#[test]
+fn asks_for_keys_in_order(rt: HostRuntime) {
+    let mut list = thin_vec![rt.alloc() => 10u64, 11, 20].expect(&rt, "memory");
+    let asked = Cell::new(0u64);
+    list.dedup_by_key(|item| {
+        asked.set(asked.get().wrapping_mul(100).wrapping_add(*item));
+        *item / 10
+    });
+    assert_same(&rt, asked.get(), 11_10_20_10);
+    assert_items(&rt, list.as_slice(), &[10, 20]);
+}
+
+// Neither a list without items nor one of a single item is asked about by the dedup family.
+#[test]
+fn asks_nothing_of_fewer_than_two_items(rt: HostRuntime) {
+    for (end, len) in [(0, 0), (1, 1)] {
+        let mut list = ThinVec::new(rt.alloc());
+        push_all(&rt, &mut list, 0..end);
+        let calls = Cell::new(0u32);
+        list.dedup_by(|_later, _kept| {
+            calls.set(calls.get().wrapping_add(1));
+            true
+        });
+        list.dedup_by_key(|item| {
+            calls.set(calls.get().wrapping_add(1));
+            *item
+        });
+        assert_same(&rt, (calls.get(), list.len()), (0, len));
+    }
+}
+
+// A judge that answers true, false, true, .. by a count of its calls.
+#[test]
+fn judges_may_count_their_calls(rt: HostRuntime) {
+    let alloc = rt.alloc();
+    let mut list = thin_vec![alloc => 1, 2, 3, 4, 5, 6].expect(&rt, "memory");
+    let mut answer = false;
+    list.retain(|_item| {
+        answer = !answer;
+        answer
+    });
+    assert_list(&rt, &list, &[1, 3, 5], 6);
+
+    let mut list = thin_vec![alloc => 1, 2, 3, 4, 5, 6].expect(&rt, "memory");
+    let mut answer = false;
+    list.dedup_by(|_later, _kept| {
+        answer = !answer;
+        answer
+    });
+    assert_list(&rt, &list, &[1, 3, 5], 6);
+}
+
+fn digits(rt: &impl Abort, alloc: Global, numbers: &[u32]) -> ThinVec<LastDigit, Global> {
+    let mut list = ThinVec::new(alloc);
+    for number in numbers {
+        list.push(LastDigit { number: *number })
+            .ok()
+            .expect(rt, "memory");
+    }
+    list
+}
+
+fn hash_of(list: &ThinVec<LastDigit, Global>) -> u64 {
+    let mut hasher = DefaultHasher::new();
+    list.hash(&mut hasher);
+    hasher.finish()
+}
+
+// Items that are equal need not be the same: the first of them stays.
+#[test]
+fn goes_by_the_equality_of_the_items(rt: HostRuntime) {
+    let alloc = rt.alloc();
+    let mut list = digits(&rt, alloc, &[10, 20, 31, 1]);
+    list.dedup();
+    assert_same(&rt, list.len(), 2);
+    for (item, wanted) in list.iter().zip([10, 31]) {
+        assert_same(&rt, item.number, wanted);
+    }
+    let other = digits(&rt, alloc, &[0, 1]);
+    assert!(rt; list == other);
+    assert_same(&rt, list.cmp(&other), Ordering::Equal);
+    assert_same(&rt, hash_of(&list), hash_of(&other));
+}
+
+// No request for memory, and each item that goes is dropped once and at once.
+#[test]
+fn filters_without_a_request(rt: HostRuntime) {
+    let refusing = Refusing::new(rt.alloc(), 0);
+    let drops = Cell::new(0);
+    {
+        let mut list = ThinVec::with_capacity(&refusing, 8).expect(&rt, "memory");
+        for _ in 0..6 {
+            list.push(Counted::new(&drops)).ok().expect(&rt, "memory");
+        }
+        refusing.refuse(1);
+        let mut stays = false;
+        list.retain(|_item| {
+            stays = !stays;
+            stays
+        });
+        assert_same(&rt, (list.len(), list.capacity(), drops.get()), (3, 8, 3));
+        list.dedup_by(|_later, _kept| true);
+        assert_same(&rt, (list.len(), list.capacity(), drops.get()), (1, 8, 5));
+        assert_counts(&rt, &refusing, 0, 1);
+    }
+    assert_same(&rt, drops.get(), 6);
+}
+
+#[test]
+fn filters_at_a_second_growth_rule(rt: HostRuntime) {
+    let mut list = ThinVec::<i32, Global, Fourfold>::ruled(rt.alloc());
+    push_all(&rt, &mut list, 0..10);
+    list.retain(|item| *item > 4);
+    assert_list(&rt, &list, &[5, 6, 7, 8, 9], 16);
+    list.dedup_by_key(|item| *item / 3);
+    assert_list(&rt, &list, &[5, 6, 9], 16);
+}

@@ -1,0 +1,20 @@
+//! That a list is one word wide, and std's `Vec` three: for every item type and every growth rule.
+ghost use Rattle.std.specs.Prelude.{◌≡◌};
+
+use std::alloc::{Allocator, Global};
+use std::mem::size_of;
+use thin_block::Block;
+use thin_vec::{Growth, ThinVec};
+
+/// The bytes of a block, of a list on the global allocator, and of a `Vec` there.
+pub fn widths<T, A: Allocator, G: Growth>() -> (usize, usize, usize)
+    ensures block { result.0 ≡ 8 }
+    ensures list { result.1 ≡ 8 }
+    ensures vec { result.2 ≡ 24 }
+{
+    (
+        size_of::<Block<T, A>>(),
+        size_of::<ThinVec<T, Global, G>>(),
+        size_of::<Vec<T, Global>>(),
+    )
+}

@@ -1,0 +1,43 @@
+//! Lists written out in generic code, whose items nothing is known of, not even their size or that they may be dropped.
+ghost use Rattle.std.specs.Mem.{type_size};
+ghost use Rattle.std.specs.Prelude.{◌≡◌, ◌*◌, ◌^◌, ◌<◌, [], ◌∷◌, IfOk, IfSome};
+
+use std::alloc::Allocator;
+use thin_vec::{ThinVec, ThinVecError, thin_vec};
+
+/// A list of three items of any type.
+pub fn three<T: Drop, A: Allocator>(
+    alloc: A,
+    first: T,
+    second: T,
+    third: T,
+) -> Result<ThinVec<T, A>, ThinVecError>
+    ensures items { IfOk result (λ list. list.items ≡ first ∷ second ∷ third ∷ []) }
+    ensures capacity { IfOk result (λ list. list.capacity ≡ 3) }
+    ensures blocks { IfOk result (λ list. list.cost.blocks ≡ 1) }
+{
+    thin_vec![alloc => first, second, third]
+}
+
+/// How many items two lists have together, or 0 where memory was refused.
+pub fn together<T: Drop, A: Allocator + Copy>(alloc: A, items: [T; 2], more: T) -> usize {
+    let [first, second] = items;
+    let Ok(list) = thin_vec![alloc => first, second] else {
+        return 0;
+    };
+    let Ok(other) = thin_vec![alloc => more] else {
+        return 0;
+    };
+    list.len() + other.len()
+}
+
+/// The two items of a list of two.
+pub fn pair<T: Drop, A: Allocator>(list: ThinVec<T, A>) -> Option<(T, T)>
+    requires small { 2 * type_size T.row < 2 ^ 63 }
+    ensures items { IfSome result (λ both. list.items ≡ both.0 ∷ both.1 ∷ []) }
+{
+    match list.into_array::<2>() {
+        Ok([first, second]) => Some((first, second)),
+        Err(_list) => None,
+    }
+}
