@@ -1,17 +1,27 @@
 //! The worked rows: a function each, which does what the row says and compares.
 mod bulk;
+mod commands;
+mod edits;
+mod filters;
 mod forms;
+pub mod judges;
+mod others;
 mod plain;
 
 use crate::rows::bulk::{row_15, row_24, row_25, row_27, row_28};
+use crate::rows::commands::{row_1, row_41};
+use crate::rows::edits::{row_7, row_8, row_9, row_18, row_33, row_35};
+use crate::rows::filters::{row_13, row_14, row_34};
 use crate::rows::forms::{row_3, row_20, row_29, row_30, row_31, row_36};
-use crate::rows::plain::{row_1, row_2, row_4, row_5, row_6, row_17, row_19, row_23};
+use crate::rows::others::{row_21, row_40};
+use crate::rows::plain::{row_2, row_4, row_5, row_6, row_17, row_19, row_23};
 use std::alloc::Allocator;
 use thin_vec::{ThinVec, ThinVecError};
 
 /// The rows that the program runs, by number.
-pub const ROWS: [u32; 19] = [
-    1, 2, 3, 4, 5, 6, 15, 17, 19, 20, 23, 24, 25, 27, 28, 29, 30, 31, 36,
+pub const ROWS: [u32; 31] = [
+    1, 2, 3, 4, 5, 6, 7, 8, 9, 13, 14, 15, 17, 18, 19, 20, 21, 23, 24, 25, 27, 28, 29, 30, 31, 33,
+    34, 35, 36, 40, 41,
 ];
 
 /// Whether a row gave what it is to give, or why a call of it was refused that is not to be.
@@ -26,10 +36,17 @@ pub fn row<A: Allocator + Copy>(alloc: A, number: u32) -> Outcome {
         4 => row_4(alloc),
         5 => row_5(alloc),
         6 => row_6(alloc),
+        7 => row_7(alloc),
+        8 => row_8(alloc),
+        9 => row_9(alloc),
+        13 => row_13(alloc),
+        14 => row_14(alloc),
         15 => row_15(alloc),
         17 => row_17(alloc),
+        18 => row_18(alloc),
         19 => row_19(alloc),
         20 => row_20(alloc),
+        21 => row_21(alloc),
         23 => row_23(alloc),
         24 => row_24(alloc),
         25 => row_25(alloc),
@@ -38,7 +55,12 @@ pub fn row<A: Allocator + Copy>(alloc: A, number: u32) -> Outcome {
         29 => row_29(alloc),
         30 => row_30(alloc),
         31 => row_31(alloc),
+        33 => row_33(alloc),
+        34 => row_34(alloc),
+        35 => row_35(alloc),
         36 => row_36(alloc),
+        40 => row_40(alloc),
+        41 => row_41(alloc),
         _ => Ok(false),
     }
 }

@@ -1,12 +1,21 @@
 //! What no clause says of the runner and of the report.
+ghost use Rattle.std.specs.Prelude.{true};
+
+mod random;
+
 use crate::command::{Command, Reply};
-use crate::reporting::{report, report_rows};
-use crate::runner::run;
+use crate::judge::Judge;
+use crate::reporting::{Status, report, report_rows, write_row};
+use crate::rows::row;
+use crate::runner::{run, step};
+use other_rules::{Fourfold, Threefold};
 use refusing::Refusing;
+use std::alloc::{Allocator, Global};
 use std::io;
 use std::io::{ErrorKind, Write};
+use std::process::{Abort, ExitCode};
 use std::test::Fail;
-use thin_vec::{ThinVec, ThinVecError};
+use thin_vec::{Doubling, Growth, PowerBytes, ThinVec, ThinVecError, thin_vec};
 
 #[test]
 fn runs_commands_in_order(rt: HostRuntime) -> Result<(), Fail> {
@@ -19,7 +28,7 @@ fn runs_commands_in_order(rt: HostRuntime) -> Result<(), Fail> {
         Command::Pop,
         Command::Push(3),
     ]?;
-    run(alloc, &mut list, commands, &mut replies)
+    run(alloc, &mut list, commands, &mut replies, &Agrees)
         .ok()
         .ok_or("memory")?;
     assert_eq!(rt; list.as_slice(), [1, 3].as_slice());
@@ -33,6 +42,34 @@ fn runs_commands_in_order(rt: HostRuntime) -> Result<(), Fail> {
     Ok(())
 }
 
+// Five pushes and a pop under a growth rule, and the capacity that they leave.
+fn capacity_of_run<G: Growth>(alloc: Global) -> Result<usize, Fail> {
+    let mut list = ThinVec::<u32, Global, G>::ruled(alloc);
+    let mut replies = Vec::new(alloc);
+    let mut commands = vec![in alloc; Command::Push(0)]?;
+    for item in 1..5 {
+        commands.push(Command::Push(item))?;
+    }
+    commands.push(Command::Pop)?;
+    run(alloc, &mut list, commands, &mut replies, &Agrees)
+        .ok()
+        .ok_or("memory")?;
+    match replies.pop() {
+        Some(Reply::Item(Some(4))) => Ok(list.capacity()),
+        _ => Ok(0),
+    }
+}
+
+#[test]
+fn runs_under_each_growth_rule(rt: HostRuntime) -> Result<(), Fail> {
+    let alloc = rt.alloc();
+    assert_eq!(rt; capacity_of_run::<Doubling>(alloc)?, 8);
+    assert_eq!(rt; capacity_of_run::<PowerBytes>(alloc)?, 12);
+    assert_eq!(rt; capacity_of_run::<Threefold>(alloc)?, 9);
+    assert_eq!(rt; capacity_of_run::<Fourfold>(alloc)?, 16);
+    Ok(())
+}
+
 #[test]
 fn run_is_refused_room_for_its_replies(rt: HostRuntime) -> Result<(), Fail> {
     let refusing = Refusing::new(rt.alloc(), 0);
@@ -43,7 +80,7 @@ fn run_is_refused_room_for_its_replies(rt: HostRuntime) -> Result<(), Fail> {
     let commands = vec![in alloc; Command::Push(1), Command::Pop]?;
 
     refusing.refuse(1);
-    let refused = run(alloc, &mut list, commands, &mut replies);
+    let refused = run(alloc, &mut list, commands, &mut replies, &Agrees);
     assert!(rt; refused == Err(ThinVecError::OutOfMemory));
     assert_eq!(rt; list.as_slice(), [7].as_slice());
     assert_eq!(rt; list.capacity(), 4);
@@ -79,9 +116,18 @@ impl Write for Failing<'_> {
 }
 
 const REPORT: &str =
-    "row 1 ok\nrow 2 ok\nrow 3 ok\nrow 4 ok\nrow 5 ok\nrow 6 ok\nrow 15 ok\nrow 17 ok\n\
-    row 19 ok\nrow 20 ok\nrow 23 ok\nrow 24 ok\nrow 25 ok\nrow 27 ok\nrow 28 ok\nrow 29 ok\n\
-    row 30 ok\nrow 31 ok\nrow 36 ok\n19 rows ok\n";
+    "row 1 ok\nrow 2 ok\nrow 3 ok\nrow 4 ok\nrow 5 ok\nrow 6 ok\nrow 7 ok\nrow 8 ok\n\
+    row 9 ok\nrow 13 ok\nrow 14 ok\nrow 15 ok\nrow 17 ok\nrow 18 ok\nrow 19 ok\nrow 20 ok\n\
+    row 21 ok\nrow 23 ok\nrow 24 ok\nrow 25 ok\nrow 27 ok\nrow 28 ok\nrow 29 ok\nrow 30 ok\n\
+    row 31 ok\nrow 33 ok\nrow 34 ok\nrow 35 ok\nrow 36 ok\nrow 40 ok\nrow 41 ok\n\
+    31 rows ok\n";
+
+// Asserts that the program ends with that status. It is read from the text of the code, which has no other reader.
+fn assert_end(rt: &impl Abort, alloc: Global, end: ExitCode, status: u8) {
+    let text = format!(in alloc; "{end:?}").expect(rt, "memory");
+    let wanted = format!(in alloc; "ExitCode(unix_exit_status({status}))").expect(rt, "memory");
+    assert_eq!(rt; text.as_str(), wanted.as_str());
+}
 
 #[test]
 fn reports_until_a_line_is_refused(rt: HostRuntime) -> Result<(), Fail> {
@@ -94,7 +140,7 @@ fn reports_until_a_line_is_refused(rt: HostRuntime) -> Result<(), Fail> {
             calls: 0,
             failing: 0,
         };
-        assert_eq!(rt; report(alloc, &mut out), 0);
+        assert_end(&rt, rt.alloc(), report(alloc, &mut out), 0);
         calls = out.calls;
     }
     assert_eq!(rt; whole.as_str(), REPORT);
@@ -106,7 +152,7 @@ fn reports_until_a_line_is_refused(rt: HostRuntime) -> Result<(), Fail> {
                 calls: 0,
                 failing,
             };
-            assert_eq!(rt; report(alloc, &mut out), 3, "at call {failing}");
+            assert_end(&rt, rt.alloc(), report(alloc, &mut out), 3);
             assert_eq!(rt; out.calls, failing);
         }
         assert!(rt; REPORT.starts_with(text.as_str()), "at call {failing}");
@@ -124,7 +170,7 @@ fn reports_memory_refused_at_any_request(rt: HostRuntime) -> Result<(), Fail> {
             calls: 0,
             failing: 0,
         };
-        assert_eq!(rt; report(&granted, &mut out), 0);
+        assert_end(&rt, rt.alloc(), report(&granted, &mut out), 0);
     }
     let requests = granted.requests();
     assert!(rt; requests > 0);
@@ -137,7 +183,7 @@ fn reports_memory_refused_at_any_request(rt: HostRuntime) -> Result<(), Fail> {
                 calls: 0,
                 failing: 0,
             };
-            assert_eq!(rt; report(&refusing, &mut out), 2, "at request {nth}");
+            assert_end(&rt, rt.alloc(), report(&refusing, &mut out), 2);
         }
         let rows = text
             .as_str()
@@ -148,18 +194,263 @@ fn reports_memory_refused_at_any_request(rt: HostRuntime) -> Result<(), Fail> {
     Ok(())
 }
 
-#[test]
-fn counts_the_rows_that_failed(rt: HostRuntime) -> Result<(), Fail> {
-    let mut text = String::new(rt.alloc());
+// What is written of these rows, and the status.
+fn reported(rt: &impl Abort, alloc: Global, rows: &[u32], wanted: &str, status: Status) {
+    let mut text = String::new(alloc);
     {
         let mut out = Failing {
             text: &mut text,
             calls: 0,
             failing: 0,
         };
-        // There is no row 0, which therefore fails.
-        assert_eq!(rt; report_rows(rt.alloc(), [0, 1].as_slice(), &mut out), 1);
+        assert_eq!(rt; report_rows(alloc, rows, &mut out), status);
     }
-    assert_eq!(rt; text.as_str(), "row 0 failed\nrow 1 ok\n1 rows failed\n");
+    assert_eq!(rt; text.as_str(), wanted);
+}
+
+#[test]
+fn counts_the_rows_that_failed(rt: HostRuntime) {
+    // There is no row 0, which therefore fails.
+    for (rows, text) in [
+        ([0, 1].as_slice(), "row 0 failed\nrow 1 ok\n1 rows failed\n"),
+        (
+            [1, 0, 5].as_slice(),
+            "row 1 ok\nrow 0 failed\nrow 5 ok\n1 rows failed\n",
+        ),
+        (
+            [0, 1, 0].as_slice(),
+            "row 0 failed\nrow 1 ok\nrow 0 failed\n2 rows failed\n",
+        ),
+    ] {
+        reported(&rt, rt.alloc(), rows, text, Status::RowFailed);
+    }
+    reported(
+        &rt,
+        rt.alloc(),
+        &[1, 6],
+        "row 1 ok\nrow 6 ok\n2 rows ok\n",
+        Status::EveryRowOk,
+    );
+}
+
+#[test]
+fn a_row_that_overflows_has_failed(rt: HostRuntime) {
+    for (outcome, line, status) in [
+        (Ok(true), "row 7 ok\n", Status::EveryRowOk),
+        (Ok(false), "row 7 failed\n", Status::RowFailed),
+        (
+            Err(ThinVecError::CapacityOverflow),
+            "row 7 failed\n",
+            Status::RowFailed,
+        ),
+        (
+            Err(ThinVecError::OutOfMemory),
+            "out of memory\n",
+            Status::OutOfMemory,
+        ),
+    ] {
+        let mut text = String::new(rt.alloc());
+        {
+            let mut out = Failing {
+                text: &mut text,
+                calls: 0,
+                failing: 0,
+            };
+            assert!(rt;
+                write_row(7, outcome, &mut out).ok() == Some(status),
+                "{line}"
+            );
+        }
+        assert_eq!(rt; text.as_str(), line);
+    }
+}
+
+// How many requests each row makes, counted by hand: a row that does another's work makes others.
+const REQUESTS: [(u32, u64); 19] = [
+    (1, 2),
+    (2, 2),
+    (3, 2),
+    (4, 6),
+    (5, 2),
+    (6, 1),
+    (15, 2),
+    (17, 1),
+    (19, 1),
+    (20, 2),
+    (23, 2),
+    (24, 10),
+    (25, 2),
+    (27, 19),
+    (28, 3),
+    (29, 2),
+    (30, 5),
+    (31, 3),
+    (36, 3),
+];
+
+#[test]
+fn each_row_makes_its_own_requests(rt: HostRuntime) {
+    for (number, requests) in REQUESTS {
+        let refusing = Refusing::new(rt.alloc(), 0);
+        assert!(rt; matches!(row(&refusing, number), Ok(true)), "row {number}");
+        assert_eq!(rt;
+            (number, refusing.requests(), refusing.blocks()),
+            (number, requests, 0)
+        );
+    }
+}
+
+#[test]
+fn a_refused_run_drops_its_commands(rt: HostRuntime) {
+    let refusing = Refusing::new(rt.alloc(), 0);
+    let alloc = &refusing;
+    let mut list = ThinVec::new(alloc);
+    let mut replies = Vec::new(alloc);
+    let mut commands = Vec::new(alloc);
+    for _ in 0..3 {
+        let item = thin_vec![alloc => 1].expect(&rt, "memory");
+        commands
+            .push(Command::Push(item))
+            .ok()
+            .expect(&rt, "memory");
+    }
+    assert_eq!(rt; refusing.blocks(), 4);
+    refusing.refuse(1);
+    assert!(rt; run(alloc, &mut list, commands, &mut replies, &Agrees).is_err());
+    assert_eq!(rt; (refusing.requests(), refusing.blocks()), (1, 0));
+}
+
+#[test]
+fn runs_a_hundred_commands(rt: HostRuntime) {
+    let alloc = rt.alloc();
+    let mut list = ThinVec::new(alloc);
+    let mut replies = Vec::new(alloc);
+    let mut commands = Vec::new(alloc);
+    for item in 0..100 {
+        commands
+            .push(Command::Push(item))
+            .ok()
+            .expect(&rt, "memory");
+    }
+    assert!(rt; run(alloc, &mut list, commands, &mut replies, &Agrees).is_ok());
+    assert_eq!(rt;
+        (list.len(), list.capacity(), replies.len()),
+        (100, 128, 100)
+    );
+    let done = replies.iter().filter(|reply| matches!(reply, Reply::Done));
+    assert_eq!(rt; done.count(), 100);
+}
+
+// It says yes to every question.
+#[derive(Clone, Copy)]
+struct Agrees;
+
+impl<T> Judge<T> for Agrees {
+    ghost judging = { record {
+      look = λ j x. (true, j);
+      keep = λ j x. (true, x, j);
+      same = λ j x y. (true, x, y, j);
+      key = λ j x. (0, x, j);
+      take = λ j x. (true, x, j);
+    } };
+
+    fn look(&mut self, _item: &T) -> bool {
+        true
+    }
+
+    fn keep(&mut self, _item: &mut T) -> bool {
+        true
+    }
+
+    fn same(&mut self, _later: &mut T, _kept: &mut T) -> bool {
+        true
+    }
+
+    fn key(&mut self, _item: &mut T) -> u64 {
+        0
+    }
+
+    fn take(&mut self, _item: &mut T) -> bool {
+        true
+    }
+}
+
+// Items whose clones are other values: another block holds them.
+fn texts_and_boxes<A: Allocator + Copy>(alloc: A) -> Result<bool, ThinVecError> {
+    let mut texts: ThinVec<String<A>, A> = ThinVec::new(alloc);
+    let resized = step(
+        alloc,
+        &mut texts,
+        Command::Resize(3, String::new(alloc)),
+        &Agrees,
+    );
+    let boxed: Box<i32, A> = match Box::new(alloc, 7) {
+        Ok(boxed) => boxed,
+        Err(_refused) => return Err(ThinVecError::OutOfMemory),
+    };
+    let mut boxes: ThinVec<Box<i32, A>, A> = ThinVec::new(alloc);
+    let pushed = step(alloc, &mut boxes, Command::Push(boxed), &Agrees);
+    let cloned = step(alloc, &mut boxes, Command::Clone, &Agrees);
+    Ok(
+        matches!(resized, Reply::Done)
+            && matches!(pushed, Reply::Done)
+            && matches!(cloned, Reply::List(_))
+            && texts.len() == 3,
+    )
+}
+
+#[test]
+fn runs_on_texts_and_boxes(rt: HostRuntime) -> Result<(), Fail> {
+    assert!(rt; texts_and_boxes(rt.alloc()).ok().ok_or("memory")?);
+    Ok(())
+}
+
+#[test]
+fn does_each_command(rt: HostRuntime) -> Result<(), Fail> {
+    let alloc = rt.alloc();
+    let mut list = ThinVec::new(alloc);
+    let mut replies = Vec::new(alloc);
+    let mut other = ThinVec::new(alloc);
+    other.push(8).ok().ok_or("memory")?;
+    let commands = vec![in alloc;
+        Command::Push(1),
+        Command::Insert(0, 2),
+        Command::Insert(9, 2),
+        Command::Set(1, 3),
+        Command::Resize(4, 7),
+        Command::Append(other),
+        Command::Extend(vec![in alloc; 5, 6]?, 0),
+        Command::ExtendFromSlice(vec![in alloc; 9]?),
+        Command::SwapRemove(0),
+        Command::Remove(0),
+        Command::SplitOff(3),
+        Command::Clone,
+        Command::Reserve(1),
+        Command::ReserveExact(20),
+        Command::Truncate(1),
+        Command::ShrinkToFit,
+        Command::Clear,
+        Command::ShrinkToFit,
+        Command::Extend(vec![in alloc; 5, 6]?, usize::MAX),
+        Command::Reserve(usize::MAX),
+    ]?;
+    run(alloc, &mut list, commands, &mut replies, &Agrees)
+        .ok()
+        .ok_or("memory")?;
+    assert_eq!(rt; replies.len(), 20);
+    assert!(rt; matches!(&replies[2], Reply::OutOfRange(Command::Insert(9, 2))));
+    assert!(rt; matches!(&replies[5], Reply::Other(_, None)));
+    assert!(rt; matches!(&replies[8], Reply::Item(Some(2))));
+    assert!(rt; matches!(&replies[10], Reply::List(_)));
+    assert!(rt;
+        matches!(&replies[18], Reply::Refused(_))
+            || matches!(&replies[18], Reply::Stopped { in_hand: None, .. })
+    );
+    assert!(rt;
+        matches!(&replies[19], Reply::Done)
+            || matches!(&replies[19], Reply::Refused(ThinVecError::CapacityOverflow))
+    );
+    assert!(rt; list.is_empty());
+    assert_eq!(rt; list.capacity(), 0);
     Ok(())
 }

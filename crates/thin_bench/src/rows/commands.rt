@@ -1,0 +1,59 @@
+//! Rows that are commands: they go through `run`.
+use crate::command::{Command, Reply, Step};
+use crate::rows::Outcome;
+use crate::rows::judges::Evens;
+use crate::runner::run;
+use std::alloc::Allocator;
+use thin_vec::{ThinVec, ThinVecError};
+
+pub fn row_1<A: Allocator + Copy>(alloc: A) -> Outcome {
+    let mut list: ThinVec<i32, A> = ThinVec::new(alloc);
+    let new = list.len() == 0 && list.capacity() == 0 && list.as_slice().is_empty();
+    let mut commands = Vec::new(alloc);
+    if commands.push(Command::Pop).is_err() {
+        return Err(ThinVecError::OutOfMemory);
+    }
+    let replies = replies_of(alloc, &mut list, commands)?;
+    let none = matches!(replies.as_slice(), [Reply::Item(None)]);
+    Ok(new && none && list.capacity() == 0)
+}
+
+pub fn row_41<A: Allocator + Copy>(alloc: A) -> Outcome {
+    let mut list: ThinVec<i32, A> = ThinVec::new(alloc);
+    let mut steps = Vec::new(alloc);
+    let mut commands = Vec::new(alloc);
+    if steps.push(Step::Back).is_err()
+        || steps.push(Step::Front).is_err()
+        || commands.push(Command::Insert(9, 1)).is_err()
+        || commands.push(Command::Push(5)).is_err()
+        || commands.push(Command::Drain(0, 1, steps)).is_err()
+    {
+        return Err(ThinVecError::OutOfMemory);
+    }
+    let replies = replies_of(alloc, &mut list, commands)?;
+    let told = match replies.as_slice() {
+        [
+            Reply::OutOfRange(Command::Insert(9, 1)),
+            Reply::Done,
+            Reply::Answers(answers),
+        ] => answers.as_slice() == [Some(5), None].as_slice(),
+        _ => false,
+    };
+    Ok(told && list.is_empty() && list.capacity() == 4)
+}
+
+// Runs the commands, and answers their replies, or why one of them was refused.
+fn replies_of<A: Allocator + Copy>(
+    alloc: A,
+    list: &mut ThinVec<i32, A>,
+    commands: Vec<Command<i32, A>, A>,
+) -> Result<Vec<Reply<i32, A>, A>, ThinVecError> {
+    let mut replies = Vec::new(alloc);
+    run(alloc, list, commands, &mut replies, &Evens)?;
+    for reply in &replies {
+        if let Some(cause) = reply.refusal() {
+            return Err(cause);
+        }
+    }
+    Ok(replies)
+}

@@ -1,0 +1,15 @@
+//! What each command does: a function each.
+mod edits;
+mod many;
+mod ranges;
+mod room;
+
+use std::marker::PhantomData;
+
+/// What a command may need beside its list: the allocator for what it makes, and the judge as it was handed in.
+#[derive(Drop)]
+pub(crate) struct Means<T, A, G, J> {
+    pub(crate) alloc: A,
+    pub(crate) judge: J,
+    pub(crate) of: PhantomData<(T, G)>,
+}
