@@ -9,7 +9,6 @@ mod FromOthersLemmas
 mod ExtendLemmas
 mod IntoIterLemmas
 mod HoleLemmas
-mod SpliceLemmas
 mod DrainLemmas
 mod SiftingLemmas
 mod PairsLemmas

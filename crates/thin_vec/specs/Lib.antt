@@ -7,7 +7,6 @@ pub mod Sifting
 pub mod Pairs
 pub mod Open
 pub mod Hole
-pub mod Splice
 pub mod Lends
 pub mod Ranges
 pub mod Drain

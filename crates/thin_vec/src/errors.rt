@@ -42,19 +42,6 @@ pub struct CollectRefused<T, I, A: Allocator = Global> {
     pub rest: I,
 }
 
-/// What a refused `finish` of a `Splice` hands back. The items that were placed stay in the list.
-#[derive(Drop)]
-pub struct SpliceRefused<T, I, A: Allocator = Global> {
-    /// Why it was refused.
-    pub cause: ThinVecError,
-    /// The items that were drawn behind those that were placed, and for which the list has no room yet.
-    pub held: Vec<T, A>,
-    /// The item that was drawn behind those, and for which there was no room.
-    pub in_hand: Option<T>,
-    /// The iterator, which gives the items that were not drawn. Where its first `None` was drawn, it counts as empty.
-    pub rest: I,
-}
-
 impl<S: Drop> From<Rejected<S>> for ThinVecError {
     ghost from_gives = { λ refused cause. cause ≡ refused.cause };
 

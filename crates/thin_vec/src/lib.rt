@@ -24,11 +24,9 @@ mod ranges;
 mod sifting;
 mod traits;
 mod two_lists;
-mod ranges;
-mod splice;
 
 pub use drain::Drain;
-pub use errors::{CollectRefused, ExtendRefused, Rejected, SpliceRefused};
+pub use errors::{CollectRefused, ExtendRefused, Rejected};
 pub use extract_if::ExtractIf;
 #[doc(hidden)]
 pub use extract_if::{Extracting, Picks};
