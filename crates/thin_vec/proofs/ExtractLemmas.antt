@@ -1,6 +1,6 @@
 -- What a closure picked, as items are asked about up to the first that goes.
 use Rattle.std.proofs.Common.{◌≡◌, ℕ, suc, ◌+◌, ◌≤◌, Bool, true, false, List, [], ◌∷◌, ◌++◌, Option, None, Some, length, take, drop, refl, sym, ap, subst, ◌∙◌, arith, length-append, add-one}
-use Rattle.std.proofs.lemmas.List.{drop_at, take_at}
+use Rattle.std.proofs.lemmas.List.{drop_at, length-take-le, take_at}
 use Rattle.std.specs.List.Retain.{ExtractsNext}
 use Rattle.std.specs.Option.{option_to_list}
 use Rattle.std.specs.Prelude.{◌==◌, MatchBool, if◌then◌else◌, not}
@@ -143,10 +143,9 @@ module _ {F T : Type 0} (R : F → T → Bool → F → T → Type 0) where
           whole (Some v) zs (stops-at-item h.between t h.behind h.end v zs
           h.stops (sym end-is ∙ some))
 
--- what k moves cost where there was a hole
-pub cost-of : (old_before before : ℕ) (old_cost cost new : Cost) (k n : ℕ) → before ≡ old_before
-    → cost ≡ old_cost → k ≡ n
-    → new ≡ (if before == 0 then cost else moving k cost)
-    → new ≡ (if old_before == 0 then old_cost else moving n old_cost)
-cost-of old_before before old_cost cost new k n b c same e = e
-    ∙ (λ i. if b i == 0 then c i else moving (same i) (c i))
+-- what some first items cost where there is a hole, by how many they are
+pub cost-of : {T : Type 0} (before : ℕ) (cost : Cost) (k : ℕ) (xs : List T) → k ≤ length xs
+    → (if before == 0 then cost else moving k cost)
+    ≡ (if before == 0 then cost else moving (length (take k xs)) cost)
+cost-of before cost k xs room =
+    ap (λ (n : ℕ). if before == 0 then cost else moving n cost) (sym (length-take-le k xs room))

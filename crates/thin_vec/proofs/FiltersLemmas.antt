@@ -1,6 +1,8 @@
 -- What answers about items leave, as one stretch of items follows another.
 use Rattle.std.proofs.Common.{◌≡◌, ℕ, zero, suc, ◌+◌, ◌-◌, ◌<◌, ◌≤◌, Bool, true, false, List, [], ◌∷◌, ◌++◌, length, take, drop, refl, sym, ap, subst, ◌∙◌, arith, length-append, append_assoc}
-use Rattle.std.proofs.lemmas.List.{append-nil, drop_at, length-take-le, map-append, map_push, take-append-drop, take_at}
+use Rattle.std.proofs.lemmas.Bool.{ne_eqb}
+use Rattle.std.proofs.lemmas.List.{append-nil, drop_at, length-drop, length-take-le, map-append, map_push, take-append-drop, take_at}
+use Rattle.std.specs.Prelude.{◌==◌, if◌then◌else◌}
 use Rattle.std.specs.List.{filter, items_where_true}
 use Rattle.std.specs.List.Retain.{IsFiltered, ReturnsInTurn}
 use Rattle.std.proofs.lemmas.Fn.{filter_same}
@@ -8,7 +10,7 @@ use Rattle.thin_block.specs.Cost.{Cost, moving}
 use Rattle.thin_vec.specs.Filters.{Answers, Asked, IsRetained, IsRetainedTo, Looks, flags_of, left_at, moved_up, stay, trues}
 use Rattle.thin_vec.specs.Open.{Open}
 use Rattle.thin_vec.specs.ThinVec.{Thin}
-use Rattle.thin_vec.specs.Sifting.{IsAskedAt, IsSifted, Runs, Sifts, Stops}
+use Rattle.thin_vec.specs.Sifting.{Advances, IsAskedAt, IsSifted, Runs, Sifts, Stops}
 
 -- moves add up
 pub moving-more : (a b : ℕ) (c : Cost) → moving a (moving b c) ≡ moving (b + a) c
@@ -18,6 +20,18 @@ moving-more a b c = let e : c.moves + b + a ≡ c.moves + (b + a) = omega arith 
 pub moving-none : (c : Cost) → moving 0 c ≡ c
 moving-none c = let e : c.moves + 0 ≡ c.moves = omega arith in
     λ i. record { blocks = c.blocks; grown = c.grown; moves = e i }
+
+-- what moves cost behind a hole; where there is none; and for no item
+pub moving-behind : (gap k : ℕ) (c : Cost) → 0 < gap
+    → (if gap == 0 then c else moving k c) ≡ moving k c
+moving-behind gap k c some =
+    ap (λ (b : Bool). if b then c else moving k c)
+    (ne_eqb gap 0 (λ (e : gap ≡ 0). omega (arith, e)))
+
+pub moving-before : (gap k : ℕ) (c : Cost) → (0 < gap → ⊥)
+    → (if gap == 0 then c else moving k c) ≡ c
+moving-before zero k c none = refl
+moving-before (suc gap) k c none = absurd (none (omega arith))
 
 -- a list of one item and more, by its parts
 pub cons-head : {X : Type 0} {x y : X} {xs ys : List X} → x ∷ xs ≡ y ∷ ys → x ≡ y
@@ -33,6 +47,10 @@ cons-not-nil e = let n = ap length e in omega (arith, n)
 pub nothing : {X : Type 0} (xs : List X) → length xs ≡ 0 → xs ≡ []
 nothing [] e = refl
 nothing (x ∷ xs) e = absurd (omega arith)
+
+pub none-left : {X : Type 0} (xs : List X) → (0 < length xs → ⊥) → xs ≡ []
+none-left [] none = refl
+none-left (x ∷ xs) none = absurd (none (omega arith))
 
 module _ {T : Type 0} where
   pub left_at-append : (a b : Answers T) → left_at true (a ++ b) ≡ left_at true a ++ left_at true b
@@ -405,6 +423,62 @@ module _ {S T : Type 0} (R : S → T → Bool → S → T → Type 0) where
           capacity = alike.capacity;
           alloc = alike.alloc;
         }
+
+  -- the middle run up to the first item that goes, behind a hole
+  module _ {A : Type 0} (s t : S) (v w : Open T A) (hole : 0 < v.before)
+      (h : Advances R s v t w) where
+    abbrev kept : List T
+    kept = take h.count h.left
+
+    moved : w.cost ≡ moving h.count v.cost
+    moved = h.cost ∙ moving-behind v.before h.count v.cost hole
+
+    -- that item left w, and nothing else did: z is what is open then
+    pub record Left (value : T) (z : Open T A) : Type 0 where
+      pub rest : w.rest ≡ value ∷ z.rest
+      pub before : z.before ≡ w.before + 1
+      pub front : z.front ≡ w.front
+      pub cost : z.cost ≡ w.cost
+      pub behind : z.behind ≡ w.behind
+      pub tail : z.tail ≡ w.tail
+      pub capacity : z.capacity ≡ w.capacity
+      pub alloc : z.alloc ≡ w.alloc
+
+    pub advanced-goes : (value : T) (z : Open T A) → Left value z → Sifts R s v t z
+    advanced-goes value z l =
+        sifts-of v z h.count s t kept
+        (part-goes h.count s v.rest t h.left h.run value z.rest (sym h.rest ∙ l.rest))
+        (l.front ∙ h.front) (l.cost ∙ moved)
+        (record {
+          hole = omega (arith, l.before);
+          behind = l.behind ∙ h.behind;
+          tail = l.tail ∙ h.tail;
+          capacity = l.capacity ∙ h.capacity;
+          alloc = l.alloc ∙ h.alloc;
+        })
+
+    -- none goes
+    pub advanced-ends : w.rest ≡ [] → Sifts R s v t w
+    advanced-ends none =
+        sifts-of v w h.count s t kept
+        (subst (λ (l : List T). Part h.count s v.rest t kept l) (sym none)
+        (part-ends h.count s v.rest t h.left h.run (sym h.rest ∙ none))) h.front moved
+        (record {
+          hole = omega (arith, h.before, hole);
+          behind = h.behind;
+          tail = h.tail;
+          capacity = h.capacity;
+          alloc = h.alloc;
+        })
+
+    -- no more items are left to ask about
+    pub advanced-count : length w.rest ≤ length v.rest
+    advanced-count = omega (
+      arith,
+      ap length h.rest,
+      length-drop h.count h.left,
+      runs-count 0 h.count s v.rest t h.left h.run,
+    )
 
   -- nothing was asked yet; and one stretch after another
   pub sifts-start : {A : Type 0} (s : S) (v : Open T A) → 0 < v.before → Sifts R s v s v

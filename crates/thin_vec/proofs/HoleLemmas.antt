@@ -4,9 +4,9 @@ use Rattle.std.proofs.lemmas.List.{append-nil, drop_at, get_or-append_right, get
 use Rattle.std.proofs.lemmas.List.Edits.{split_between}
 use Rattle.std.specs.Prelude.{IsSome, slice_range}
 use lib.ListN.{set}
-use Rattle.thin_block.specs.Slots.{empty, front, full, items_in, moved, slot}
+use Rattle.thin_block.specs.Slots.{empty, front, full, items_in, laid, moved, slot}
 use Rattle.thin_block.specs.declared.block.Block.{Block}
-use Rattle.thin_block.proofs.SlotsLemmas.{moved_left}
+use Rattle.thin_block.proofs.SlotsLemmas.{laid-at, moved_left, moved_right}
 use Rattle.thin_vec.specs.Hole.{IsOpen, Shows, open_of}
 use Rattle.thin_vec.specs.Open.{Open, items_of, reach, row_of}
 use Rattle.thin_vec.specs.ThinVec.{IsThin}
@@ -124,7 +124,7 @@ module _ {T A : Type 0} where
       s.behind,
     )
 
-    reached : reach v ≡ h.len
+    pub reached : reach v ≡ h.len
     reached = omega (arith, s.front, s.before, s.rest, s.behind, s.tail)
 
     -- how many slots there are
@@ -562,3 +562,156 @@ module _ {T A : Type 0} where
           room =
               omega (arith, all, thin-room b a t);
         }) refl refl
+
+  -- items go into the empty slots behind the front
+  module _ (h : Inside T A) (o : IsOpen h) (b : Block T A) (xs : List T) (end : ℕ)
+      (ends : end ≡ h.kept + length xs) (fits : end ≤ h.at) where
+    abbrev pub filled : Inside T A
+    filled = record { block = b; kept = end; at = h.at; end = h.end; stop = h.stop; len = h.len }
+
+    abbrev pub filled-seen : Open T A
+    filled-seen =
+        let v : Open T A = open_of h in
+        record {
+          front = v.front ++ xs;
+          before = h.at - end;
+          rest = v.rest;
+          behind = v.behind;
+          tail = v.tail;
+          capacity = v.capacity;
+          alloc = b.alloc;
+          cost = b.cost;
+        }
+
+    pub fill-step : b.slots ≡ laid h.kept (full xs) h.block.slots → Found filled filled-seen
+    fill-step now =
+        let v : Open T A = open_of h in
+        let parts : length xs + (h.at - end) ≡ v.before = omega (arith, ends, fits, o.before) in
+        let more : length (v.front ++ xs) ≡ end =
+        omega (arith, length-append v.front xs, o.front, ends) in
+        let past : v.capacity - reach v ≡ v.capacity - reach filled-seen =
+        omega (arith, length-append v.front xs, parts) in
+        let long : length (full xs) ≡ length (empty {T = T} (length xs)) =
+        omega (arith, length-full xs, length-empty T (length xs)) in
+        let left : List (Option T) = full v.rest ++ past_rest v in
+        let split : empty v.before ++ left ≡ empty (length xs) ++ (empty (h.at - end) ++ left) =
+        ap (λ (k : ℕ). empty k ++ left) (sym parts)
+        ∙ (ap (λ (r : List (Option T)). r ++ left)
+        (sym (replicate-append-replicate (length xs) (h.at - end) None))
+        ∙ append_assoc (empty (length xs)) (empty (h.at - end)) left) in
+        let after : b.slots ≡ row_of filled-seen =
+        now ∙ (ap (laid h.kept (full xs))
+        (o.row ∙ ap (λ (r : List (Option T)). full v.front ++ r) split)
+        ∙ (laid-at h.kept (full v.front) (full xs) (empty (length xs)) (empty (h.at - end) ++ left)
+        (sym (length-full v.front ∙ o.front)) long
+        ∙ (sym (append_assoc (full v.front) (full xs) (empty (h.at - end) ++ left))
+        ∙ (ap (λ (r : List (Option T)). r ++ (empty (h.at - end) ++ left))
+        (sym (full-append v.front xs))
+        ∙ ap (λ (k : ℕ). full (v.front ++ xs)
+        ++ (empty (h.at - end)
+        ++ (full v.rest ++ (empty v.behind ++ (full v.tail ++ empty k))))) past)))) in
+        let shows : Shows filled filled-seen =
+        record {
+          row = after;
+          front = more;
+          before = omega (arith, fits);
+          rest = o.rest;
+          behind = o.behind;
+          tail = o.tail;
+          room = o.room;
+        } in
+        found filled filled-seen shows refl refl
+
+  -- the tail goes up, and leaves empty slots before it
+  module _ (h : Inside T A) (o : IsOpen h) (b : Block T A) (count : ℕ)
+      (room : h.len + count ≤ (open_of h).capacity) where
+    abbrev pub widened : Inside T A
+    widened = record {
+      block = b;
+      kept = h.kept;
+      at = h.at;
+      end = h.end;
+      stop = h.stop + count;
+      len = h.len + count;
+    }
+
+    abbrev pub widened-seen : Open T A
+    widened-seen =
+        let v : Open T A = open_of h in
+        record {
+          front = v.front;
+          before = v.before;
+          rest = v.rest;
+          behind = v.behind + count;
+          tail = v.tail;
+          capacity = v.capacity;
+          alloc = b.alloc;
+          cost = b.cost;
+        }
+
+    -- the slots behind the tail
+    spare : h.block.slots ≡ to_tail (open_of h)
+        ++ (full (open_of h).tail
+        ++ (empty count ++ empty ((open_of h).capacity - reach (open_of h) - count)))
+    spare =
+        let v : Open T A = open_of h in
+        let all : count + (v.capacity - reach v - count) ≡ v.capacity - reach v =
+        omega (arith, room, reached h v o) in
+        by_tail h v o ∙ ap (λ (r : List (Option T)). to_tail v ++ (full v.tail ++ r))
+        (ap (λ (k : ℕ). empty k) (sym all)
+        ∙ sym (replicate-append-replicate count (v.capacity - reach v - count) None))
+
+    pub widen-step : b.slots ≡ moved h.stop (h.stop + count) (h.len - h.stop) h.block.slots
+        → Found widened widened-seen
+    widen-step now =
+        let v : Open T A = open_of h in
+        let end : List (Option T) = empty (v.capacity - reach v - count) in
+        let k : length (full v.tail) ≡ h.len - h.stop = omega (arith, length-full v.tail, o.tail) in
+        let past : v.capacity - reach v - count ≡ v.capacity - reach widened-seen =
+        omega (arith, room, reached h v o) in
+        let turned : to_tail v ++ (empty count ++ (full v.tail ++ end)) ≡ full v.front
+        ++ (empty v.before
+        ++ (full v.rest ++ (empty (v.behind + count) ++ (full v.tail ++ end)))) =
+        let tail : List (Option T) = empty count ++ (full v.tail ++ end) in
+        append_assoc (to_behind v) (empty v.behind) tail
+        ∙ (append_assoc (to_rest v) (full v.rest) (empty v.behind ++ tail)
+        ∙ (append_assoc (full v.front) (empty v.before) (full v.rest ++ (empty v.behind ++ tail))
+        ∙ ap (λ (r : List (Option T)). full v.front ++ (empty v.before ++ (full v.rest ++ r)))
+        (sym (append_assoc (empty v.behind) (empty count) (full v.tail ++ end))
+        ∙ ap (λ (r : List (Option T)). r ++ (full v.tail ++ end))
+        (replicate-append-replicate v.behind count None)))) in
+        let after : b.slots ≡ row_of widened-seen =
+        now ∙ (ap (moved h.stop (h.stop + count) (h.len - h.stop)) spare
+        ∙ (moved_right h.stop (h.stop + count) (h.len - h.stop) count (to_tail v) (full v.tail) end
+        (sym (at_tail h v o)) refl (sym k)
+        ∙ (turned ∙ ap (λ (n : ℕ). full v.front
+        ++ (empty v.before
+        ++ (full v.rest ++ (empty (v.behind + count) ++ (full v.tail ++ empty n))))) past))) in
+        let shows : Shows widened widened-seen =
+        record {
+          row = after;
+          front = o.front;
+          before = o.before;
+          rest = o.rest;
+          behind = omega (arith, o.behind);
+          tail = omega (arith, o.tail);
+          room = room;
+        } in
+        found widened widened-seen shows refl refl
+
+    pub past-empty : (j : ℕ) → h.len ≤ j → j < h.len + count → slot h.block.slots j ≡ None
+    past-empty j low high =
+        let v : Open T A = open_of h in
+        let pre : List (Option T) = to_tail v ++ full v.tail in
+        let end : List (Option T) = empty (v.capacity - reach v - count) in
+        let start : length pre ≡ h.len =
+        omega (
+          arith,
+          length-append (to_tail v) (full v.tail),
+          at_tail h v o,
+          length-full v.tail,
+          o.tail,
+        ) in
+        ap (λ (r : List (Option T)). slot r j)
+        (spare ∙ sym (append_assoc (to_tail v) (full v.tail) (empty count ++ end)))
+        ∙ slot-in-empty pre count end j (omega (arith, start)) (omega (arith, start))

@@ -9,6 +9,7 @@ mod FromOthersLemmas
 mod ExtendLemmas
 mod IntoIterLemmas
 mod HoleLemmas
+mod FillingLemmas
 mod DrainLemmas
 mod SiftingLemmas
 mod PairsLemmas

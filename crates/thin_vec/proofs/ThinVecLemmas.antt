@@ -1,4 +1,4 @@
--- What follows from the words of `specs/ThinVec.antt` and `specs/Costs.antt`, for callers.
+-- What follows from the words of `specs/ThinVec.antt` and `specs/Cheap.antt`, for callers.
 use Rattle.thin_block.proofs.Outcomes.{some-same}
 use Rattle.std.proofs.Common.{if◌then◌else◌, Bool, ◌≡◌, ℕ, zero, suc, ◌+◌, ◌*◌, ◌^◌, ◌<◌, ◌≤◌, true, false, Some, ap, List, [], arith, eqb, inl, inr, length, refl, subst, sym, ◌∙◌}
 use Rattle.std.specs.Borrow.{RattleType}

@@ -7,9 +7,11 @@ pub mod Sifting
 pub mod Pairs
 pub mod Open
 pub mod Hole
+pub mod Filling
 pub mod Lends
 pub mod Ranges
 pub mod Drain
+pub mod Splice
 pub mod Extract
 pub mod ExtractIf
 pub mod IntoIter

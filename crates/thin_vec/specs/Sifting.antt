@@ -1,6 +1,6 @@
 -- What asking about the items of an open block's middle run leaves. (std: `Vec::retain_mut`,
 -- `Vec::dedup_by`)
-use Rattle.std.specs.Prelude.{◌≡◌, ℕ, ◌+◌, ◌<◌, List, [], ◌∷◌, ◌++◌, Bool, true, false, length}
+use Rattle.std.specs.Prelude.{◌≡◌, ℕ, ◌+◌, ◌<◌, ◌==◌, List, [], ◌∷◌, ◌++◌, Bool, true, false, drop, if◌then◌else◌, length, take}
 use Rattle.thin_block.specs.Cost.{moving}
 use Rattle.thin_vec.specs.Filters.{Answers, Asked, flags_of, left_at, moved_up, stay, trues}
 use Rattle.thin_vec.specs.Open.{Open}
@@ -40,6 +40,22 @@ module _ {S T : Type 0} (R : S → T → Bool → S → T → Type 0) where
     pub asked : Asked R s run (stay left) between
     pub stops : Stops between behind t end
     pub now : ys ≡ before ++ (left ++ end)
+
+  -- items of the middle run of v were asked about, from the state s on, up to the first that goes
+  -- or to the end: w is what is open then, and t the state. Those before it joined the front, for a
+  -- move each where there was a hole
+  pub record Advances {A : Type 0} (s : S) (v : Open T A) (t : S) (w : Open T A) : Type 0 where
+    pub count : ℕ
+    pub left : List T
+    pub run : Runs 0 count s v.rest t left
+    pub front : w.front ≡ v.front ++ take count left
+    pub rest : w.rest ≡ drop count left
+    pub cost : w.cost ≡ (if v.before == 0 then v.cost else moving count v.cost)
+    pub before : w.before ≡ v.before
+    pub behind : w.behind ≡ v.behind
+    pub tail : w.tail ≡ v.tail
+    pub capacity : w.capacity ≡ v.capacity
+    pub alloc : w.alloc ≡ v.alloc
 
   -- some first items of the middle run of v were asked about, from the state s on: w is what is
   -- open then, and t the state. Those

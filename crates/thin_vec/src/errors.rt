@@ -42,6 +42,19 @@ pub struct CollectRefused<T, I, A: Allocator = Global> {
     pub rest: I,
 }
 
+/// What a refused `finish` of a `Splice` hands back. The items that were placed stay in the list.
+#[derive(Drop)]
+pub struct SpliceRefused<T, I, A: Allocator = Global> {
+    /// Why it was refused.
+    pub cause: ThinVecError,
+    /// The items that were drawn behind those that were placed, and for which the list has no room yet.
+    pub held: Vec<T, A>,
+    /// The item that was drawn behind those, and for which there was no room.
+    pub in_hand: Option<T>,
+    /// The iterator, which gives the items that were not drawn. Where its first `None` was drawn, it counts as empty.
+    pub rest: I,
+}
+
 impl<S: Drop> From<Rejected<S>> for ThinVecError {
     ghost from_gives = { λ refused cause. cause ≡ refused.cause };
 
@@ -69,6 +82,15 @@ impl<T: Drop, I: Drop, A: Allocator> From<CollectRefused<T, I, A>> for ThinVecEr
     }
 }
 
+impl<T: Drop, I: Drop, A: Allocator> From<SpliceRefused<T, I, A>> for ThinVecError {
+    ghost from_gives = { λ refused cause. cause ≡ refused.cause };
+
+    // What is held, the item in hand and the rest of the iterator are dropped.
+    fn from(refused: SpliceRefused<T, I, A>) -> ThinVecError {
+        refused.cause
+    }
+}
+
 impl<S: Drop> From<Rejected<S>> for AllocError {
     // The value is dropped, and the cause is not told.
     fn from(_refused: Rejected<S>) -> AllocError {
@@ -86,6 +108,13 @@ impl<T: Drop, I: Drop> From<ExtendRefused<T, I>> for AllocError {
 impl<T: Drop, I: Drop, A: Allocator> From<CollectRefused<T, I, A>> for AllocError {
     // What was handed back is dropped, and the cause is not told.
     fn from(_refused: CollectRefused<T, I, A>) -> AllocError {
+        AllocError
+    }
+}
+
+impl<T: Drop, I: Drop, A: Allocator> From<SpliceRefused<T, I, A>> for AllocError {
+    // What was handed back is dropped, and the cause is not told.
+    fn from(_refused: SpliceRefused<T, I, A>) -> AllocError {
         AllocError
     }
 }
@@ -113,6 +142,15 @@ impl<T: Drop, I: Drop, A: Allocator> From<CollectRefused<T, I, A>> for io::Error
 
     // What was handed back is dropped.
     fn from(_refused: CollectRefused<T, I, A>) -> io::Error {
+        io::Error::from(ErrorKind::OutOfMemory)
+    }
+}
+
+impl<T: Drop, I: Drop, A: Allocator> From<SpliceRefused<T, I, A>> for io::Error {
+    ghost from_gives = { λ _ error. error_kind error ≡ Kind.OutOfMemory };
+
+    // What was handed back is dropped.
+    fn from(_refused: SpliceRefused<T, I, A>) -> io::Error {
         io::Error::from(ErrorKind::OutOfMemory)
     }
 }

@@ -1,14 +1,16 @@
 //! Lists that take the items of an iterator.
-ghost use Rattle.std.specs.Prelude.{◌≡◌, ◌+◌, ◌-◌, ◌<◌, ◌≤◌, List, ◌++◌, IfErr, IfOk, IsOk, IsSome, None, OnErr, OnOk, OnSome, length};
+ghost use Rattle.std.specs.Prelude.{◌≡◌, ◌+◌, ◌-◌, ◌<◌, ◌≤◌, List, ◌++◌, IfErr, IfOk, IsOk, IsSome, None, OnErr, OnOk, OnSome, length, true, false, ℕ};
 ghost use Rattle.std.specs.Iterator.Runs.{SomeRun, WholeRun};
 ghost use Rattle.std.specs.Iterator.{Drains, IsFinite, YieldsThen, size};
 ghost use Rattle.std.specs.Option.{option_to_list};
 ghost use Rattle.thin_block.specs.Cost.{moving};
 ghost use Rattle.thin_block.specs.Growth.{doubling};
-ghost use Rattle.thin_block.specs.Slots.{full};
+ghost use Rattle.thin_block.specs.Slots.{full, laid, slot};
 ghost use Rattle.thin_vec.specs.Cheap.{IsCheap};
-ghost use Rattle.thin_vec.specs.Extend.{GaveUp, IsCollected, IsExtended, IsExtendCost, IsLoose, IsNamed, Overflows, OverflowsNew};
+ghost use Rattle.thin_vec.specs.Extend.{GaveUp, IsCollected, IsExtended, IsExtendCost, IsLoose, IsNamed, Overflows, OverflowsNew, Gives};
 ghost use Rattle.thin_vec.specs.ThinVec.{HasRoomFor, IsCause, IsNew, IsWithin, capacity_for};
+ghost use Rattle.std.specs.Prelude.{◌⊎◌};
+ghost use Rattle.std.specs.Iterator.SizeHint.{IsWithinCount};
 
 use crate::errors::{CollectRefused, ExtendRefused, Rejected};
 use crate::list::ThinVec;
@@ -106,7 +108,7 @@ impl<T, A: Allocator, G: Growth> ThinVec<T, A, G> {
         }
     }
 
-    // Fills the spare room, and stores the length once. Hands back the iterator, and the item that found no room.
+    // Fills the spare room, and draws one item more. Hands back the iterator, and the item that found no room.
     fn extend_reserved<I: Iterator<Item = T>>(&mut self, iter: I) -> (I, Option<T>)
         requires can_next { I.can_next iter }
         requires finite { IsFinite (I.remaining iter) }
@@ -121,11 +123,35 @@ impl<T, A: Allocator, G: Growth> ThinVec<T, A, G> {
         ensures full { OnSome result.1 (length self.new.items ≡ self.new.capacity) }
         ensures within { IsWithin T.row self.old × IsWithin T.row self.new }
     {
+        let (mut rest, ended) = self.fill_spare(iter);
+        if ended {
+            return (rest, None);
+        }
+        let over = rest.next();
+        (rest, over)
+    }
+
+    // Fills the spare room, and stores the length once. Hands back the iterator, and whether it ended before the list was
+    // full.
+    pub(crate) fn fill_spare<I: Iterator<Item = T>>(&mut self, iter: I) -> (I, bool)
+        requires can_next { I.can_next iter }
+        requires finite { IsFinite (I.remaining iter) }
+        ensures items { (xs : List T) × (self.new.items ≡ self.old.items ++ xs) × Gives I.next_gives iter xs result.1 result.0 }
+        ensures capacity { self.new.capacity ≡ self.old.capacity }
+        ensures room { length self.new.items ≤ self.new.capacity }
+        ensures alloc { self.new.alloc ≡ self.old.alloc }
+        ensures cost { self.new.cost ≡ moving (length self.new.items - length self.old.items) self.old.cost }
+        ensures cheap { IsCheap self.old → IsCheap self.new }
+        ensures rest { result.1 ≡ false → I.can_next result.0 × IsFinite (I.remaining result.0) }
+        ensures nearer { result.1 ≡ false → length self.new.items + size (I.remaining result.0) ≤ length self.old.items + size (I.remaining iter) }
+        ensures full { result.1 ≡ false → length self.new.items ≡ self.new.capacity }
+        ensures within { IsWithin T.row self.old × IsWithin T.row self.new }
+    {
         let len = self.block.len();
         let cap = self.block.cap();
-        let (rest, end, over) = put_iter(&mut self.block, len, cap, iter);
+        let (rest, end, ended) = put_iter(&mut self.block, len, cap, iter);
         self.block.set_len(end);
-        (rest, over)
+        (rest, ended)
     }
 }
 

@@ -84,12 +84,11 @@ impl<T, F: FnMut(&mut T) -> bool, A: Allocator> Extracting<T, F, A> {
         ensures extracts { Extracts (CalledAtMut F.FnMut) self.old result self.new }
         ensures callable { F.IsAlwaysCallable self.new.picks.pick }
     {
-        let count = self.hole.ask_run(0, &mut self.picks);
-        self.hole.settle(count);
-        if self.hole.rest_len() == 0 {
-            return None;
+        if self.hole.advance(&mut self.picks) {
+            Some(self.hole.take_first())
+        } else {
+            None
         }
-        Some(self.hole.take_first())
     }
 }
 

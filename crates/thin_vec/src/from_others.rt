@@ -133,7 +133,7 @@ impl<T: Copy, A: Allocator> ThinVec<T, A> {
     ///
     /// It is refused where a capacity of as many does not fit, or where memory is refused.
     pub fn from_copies(alloc: A, items: &[T]) -> Result<ThinVec<T, A>, ThinVecError>
-        ensures succeeds_empty { items.now ≡ [] → IsOk result }
+        ensures succeeds_empty { length items.now ≡ 0 → IsOk result }
         ensures overflow { exact_capacity T.row 0 (length items.now) ≡ None → IsErrOf result ThinVecError.CapacityOverflow }
         ensures cause { IfErr result (IsCause (exact_capacity T.row 0 (length items.now))) }
         ensures items { IfOk result (λ list. list.items ≡ items.now) }

@@ -151,6 +151,13 @@ impl<T, A: Allocator> Hole<T, A> {
         self.block.slice(self.at, self.end)
     }
 
+    // Whether there is a tail.
+    pub(crate) fn has_tail(&self) -> bool
+        ensures value { IsTrue result ↔ (0 < length self.now.tail) }
+    {
+        self.stop < self.len
+    }
+
     // Whether there is an empty slot behind the front.
     pub(crate) fn has_hole(&self) -> bool
         ensures value { IsTrue result ↔ (0 < self.now.before) }

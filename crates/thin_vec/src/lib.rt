@@ -9,6 +9,7 @@ mod edits;
 mod errors;
 mod extend;
 mod extract_if;
+mod filling;
 mod filters;
 mod from_others;
 mod holds;
@@ -22,11 +23,12 @@ mod pairs;
 mod placing;
 mod ranges;
 mod sifting;
+mod splice;
 mod traits;
 mod two_lists;
 
 pub use drain::Drain;
-pub use errors::{CollectRefused, ExtendRefused, Rejected};
+pub use errors::{CollectRefused, ExtendRefused, Rejected, SpliceRefused};
 pub use extract_if::ExtractIf;
 #[doc(hidden)]
 pub use extract_if::{Extracting, Picks};
@@ -38,4 +40,5 @@ pub use into_iter::IntoIter;
 pub use list::ThinVec;
 pub use macros::{place, repeated};
 pub use ranges::bounds;
+pub use splice::Splice;
 pub use thin_block::{Doubling, Growth, PowerBytes, ThinVecError, fits};

@@ -1,9 +1,10 @@
 //! Loops over a block: items are put into its empty slots, or taken out to be dropped.
-ghost use Rattle.std.specs.Prelude.{◌≡◌, ℕ, ◌+◌, ◌-◌, ◌<◌, ◌≤◌, List, [], HoldsAt, OnSome, length, replicate};
-ghost use Rattle.std.specs.Iterator.{IsFinite, YieldsThen, size};
+ghost use Rattle.std.specs.Iterator.{IsFinite, size};
+ghost use Rattle.std.specs.Prelude.{true, false, ◌≡◌, ℕ, ◌+◌, ◌-◌, ◌<◌, ◌≤◌, List, [], HoldsAt, length, replicate};
 ghost use Rattle.thin_block.specs.Cost.{moving};
 ghost use Rattle.thin_block.specs.Slots.{AreEmpty, IsPacked, empty, front, full, laid, slot};
 ghost use Rattle.thin_vec.specs.Clones.{LaysClones};
+ghost use Rattle.thin_vec.specs.Extend.{Gives};
 
 use std::alloc::Allocator;
 use std::iter::Iterator;
@@ -33,41 +34,6 @@ pub(crate) fn put_vec<T, A: Allocator, B: Allocator>(block: &mut Block<T, A>, it
     while let Some(item) = items.pop() {
         block.put(items.len(), item);
     }
-}
-
-// Puts what `iter` gives into the empty slots from `start` up to `end`. Hands back the iterator, where it stopped, and the
-// item that found no slot.
-pub(crate) fn put_iter<T, A: Allocator, I: Iterator<Item = T>>(
-    block: &mut Block<T, A>,
-    start: usize,
-    end: usize,
-    iter: I,
-) -> (I, usize, Option<T>)
-    requires start_le_end { start ≤ end }
-    requires in_bounds { end ≤ length block.old.slots }
-    requires empty { (k : ℕ) → start ≤ k → k < end → slot block.old.slots k ≡ None }
-    requires can_next { I.can_next iter }
-    requires finite { IsFinite (I.remaining iter) }
-    ensures slots { (xs : List T) × (block.new.slots ≡ laid start (full xs) block.old.slots) × (result.1 ≡ start + length xs) × YieldsThen I.next_gives iter xs result.2 result.0 }
-    ensures within { result.1 ≤ end }
-    ensures len { block.new.len ≡ block.old.len }
-    ensures alloc { block.new.alloc ≡ block.old.alloc }
-    ensures cost { block.new.cost ≡ moving (result.1 - start) block.old.cost }
-    ensures rest { OnSome result.2 (I.can_next result.0 × IsFinite (I.remaining result.0)) }
-    ensures nearer { OnSome result.2 (result.1 + size (I.remaining result.0) < start + size (I.remaining iter)) }
-    ensures full { OnSome result.2 (result.1 ≡ end) }
-{
-    let mut rest = iter;
-    let mut i = start;
-    while i < end {
-        let Some(item) = rest.next() else {
-            return (rest, i, None);
-        };
-        block.put(i, item);
-        i += 1;
-    }
-    let over = rest.next();
-    (rest, i, over)
 }
 
 // Puts clones of `items` into the empty slots from `start` on, and answers how many: it ends before a clone that is
@@ -123,4 +89,39 @@ pub(crate) fn put_repeated<T: Clone, A: Allocator>(
         }
     }
     count
+}
+
+// Puts what `iter` gives into the empty slots from `start` up to `end`. Hands back the iterator, where it stopped, and
+// whether the iterator ended before the slots were full.
+pub(crate) fn put_iter<T, A: Allocator, I: Iterator<Item = T>>(
+    block: &mut Block<T, A>,
+    start: usize,
+    end: usize,
+    iter: I,
+) -> (I, usize, bool)
+    requires start_le_end { start ≤ end }
+    requires in_bounds { end ≤ length block.old.slots }
+    requires empty { (k : ℕ) → start ≤ k → k < end → slot block.old.slots k ≡ None }
+    requires can_next { I.can_next iter }
+    requires finite { IsFinite (I.remaining iter) }
+    ensures slots { (xs : List T) × (block.new.slots ≡ laid start (full xs) block.old.slots) × (result.1 ≡ start + length xs) × Gives I.next_gives iter xs result.2 result.0 }
+    ensures within { result.1 ≤ end }
+    ensures len { block.new.len ≡ block.old.len }
+    ensures alloc { block.new.alloc ≡ block.old.alloc }
+    ensures cost { block.new.cost ≡ moving (result.1 - start) block.old.cost }
+    ensures rest { result.2 ≡ false → I.can_next result.0 × IsFinite (I.remaining result.0) }
+    ensures nearer { result.2 ≡ false → result.1 + size (I.remaining result.0) ≤ start + size (I.remaining iter) }
+    ensures full { result.2 ≡ false → result.1 ≡ end }
+    ensures short { result.2 ≡ true → result.1 < end }
+{
+    let mut rest = iter;
+    let mut i = start;
+    while i < end {
+        let Some(item) = rest.next() else {
+            return (rest, i, true);
+        };
+        block.put(i, item);
+        i += 1;
+    }
+    (rest, i, false)
 }

@@ -1,9 +1,12 @@
 //! Steps on a block that is open: its items are asked about in place, and those that stay go to the front.
-ghost use Rattle.std.specs.Prelude.{◌≡◌, ◌+◌, ◌<◌, ◌≤◌, ◌==◌, ◌++◌, [], Bool, drop, if◌then◌else◌, length, take};
+ghost use Rattle.std.specs.Prelude.{◌≡◌, ◌↔◌, ◌+◌, ◌<◌, ◌≤◌, ◌==◌, ◌++◌, [], Bool, IsTrue, drop, if◌then◌else◌, length, take};
 ghost use Rattle.thin_block.specs.Cost.{moving};
 
 use crate::hole::Hole;
 use std::alloc::Allocator;
+
+// How many items are worth a call that moves them as one run.
+const FEW: usize = 8;
 
 /// What says of one item after another whether it stays, and may write to it.
 pub(crate) trait Asks<T> {
@@ -75,7 +78,8 @@ impl<T, A: Allocator> Hole<T, A> {
         self.at += 1;
     }
 
-    // The first `k` items of the middle run move to the front: one or two in line, and more as one run.
+    // The first `k` items of the middle run move to the front: two or a few in line, and more as one run.
+    #[inline(always)]
     pub(crate) fn lower(&mut self, k: usize)
         requires in_bounds { k ≤ length self.old.rest }
         requires hole { 0 < self.old.before }
@@ -88,17 +92,22 @@ impl<T, A: Allocator> Hole<T, A> {
         ensures alloc { self.new.alloc ≡ self.old.alloc }
         ensures cost { self.new.cost ≡ moving k self.old.cost }
     {
-        match k {
-            1 => self.lower_one(),
-            2 => {
-                self.lower_one();
-                self.lower_one();
-            }
-            _ => self.lower_run(k),
+        if k == 2 {
+            self.lower_one();
+            self.lower_one();
+            return;
+        }
+        if k >= FEW {
+            self.lower_run(k);
+            return;
+        }
+        for done in 0..k {
+            self.lower_one();
         }
     }
 
     // The first `k` items of the middle run move to the front as one run.
+    #[inline(always)]
     fn lower_run(&mut self, k: usize)
         requires in_bounds { k ≤ length self.old.rest }
         requires hole { 0 < self.old.before }
@@ -116,23 +125,12 @@ impl<T, A: Allocator> Hole<T, A> {
         self.at += k;
     }
 
-    // The first `k` items of the middle run join the front: they move there where there is a hole.
-    pub(crate) fn settle(&mut self, k: usize)
-        requires in_bounds { k ≤ length self.old.rest }
-        ensures front { self.new.front ≡ self.old.front ++ take k self.old.rest }
-        ensures rest { self.new.rest ≡ drop k self.old.rest }
-        ensures before { self.new.before ≡ self.old.before }
-        ensures behind { self.new.behind ≡ self.old.behind }
-        ensures tail { self.new.tail ≡ self.old.tail }
-        ensures capacity { self.new.capacity ≡ self.old.capacity }
-        ensures alloc { self.new.alloc ≡ self.old.alloc }
-        ensures cost { self.new.cost ≡ (if self.old.before == 0 then self.old.cost else moving k self.old.cost) }
+    // Whether the middle run has more than one item, behind a hole. (The last place of the run stays in a register.)
+    fn has_two(&self) -> bool
+        requires hole { 0 < self.now.before }
+        ensures value { IsTrue result ↔ (1 < length self.now.rest) }
     {
-        if self.has_hole() {
-            self.lower(k);
-        } else {
-            self.pass(k);
-        }
+        self.at < self.end - 1
     }
 
     // Asks about the items of the middle run from `k` on, up to the first that goes or to the end, and answers where that is.
@@ -160,6 +158,81 @@ impl<T, A: Allocator> Hole<T, A> {
     }
 }
 
+impl<T, A: Allocator> Hole<T, A> {
+    ghost use Rattle.thin_vec.specs.Sifting.{Advances};
+
+    // Asks about the items of the middle run up to the first that goes, and answers whether there is one. Those before it join
+    // the front: they move there where there is a hole.
+    pub(crate) fn advance<J: Asks<T>>(&mut self, judge: &mut J) -> bool
+        requires ready { J.ready judge.old }
+        ensures advances { Advances J.asks judge.old self.old judge.new self.new }
+        ensures goes { IsTrue result ↔ (0 < length self.new.rest) }
+        ensures ready { J.ready judge.new }
+    {
+        if self.has_hole() {
+            return self.advance_behind(judge);
+        }
+        let count = self.ask_run(0, judge);
+        self.pass(count);
+        self.rest_len() > 0
+    }
+
+    // The same behind a hole.
+    fn advance_behind<J: Asks<T>>(&mut self, judge: &mut J) -> bool
+        requires hole { 0 < self.old.before }
+        requires ready { J.ready judge.old }
+        ensures advances { Advances J.asks judge.old self.old judge.new self.new }
+        ensures goes { IsTrue result ↔ (0 < length self.new.rest) }
+        ensures ready { J.ready judge.new }
+    {
+        if self.has_two() {
+            self.advance_two(judge)
+        } else {
+            self.advance_last(judge)
+        }
+    }
+
+    // The same of two items and more, behind a hole. A run of none or of one is found with nothing counted.
+    fn advance_two<J: Asks<T>>(&mut self, judge: &mut J) -> bool
+        requires two { 1 < length self.old.rest }
+        requires hole { 0 < self.old.before }
+        requires ready { J.ready judge.old }
+        ensures advances { Advances J.asks judge.old self.old judge.new self.new }
+        ensures goes { IsTrue result ↔ (0 < length self.new.rest) }
+        ensures ready { J.ready judge.new }
+    {
+        if !self.ask(0, judge) {
+            return true;
+        }
+        if !self.ask(1, judge) {
+            self.lower_one();
+            return true;
+        }
+        let count = self.ask_run(2, judge);
+        self.lower(count);
+        self.rest_len() > 0
+    }
+
+    // The same of one item or none, behind a hole.
+    fn advance_last<J: Asks<T>>(&mut self, judge: &mut J) -> bool
+        requires short { length self.old.rest ≤ 1 }
+        requires hole { 0 < self.old.before }
+        requires ready { J.ready judge.old }
+        ensures advances { Advances J.asks judge.old self.old judge.new self.new }
+        ensures goes { IsTrue result ↔ (0 < length self.new.rest) }
+        ensures ready { J.ready judge.new }
+    {
+        if self.rest_len() == 0 {
+            return false;
+        }
+        if self.ask(0, judge) {
+            self.lower_one();
+            return false;
+        }
+        true
+    }
+}
+
 impl<T: Drop, A: Allocator> Hole<T, A> {
     ghost use Rattle.thin_vec.specs.Sifting.{IsSifted, Sifts};
 
@@ -184,50 +257,35 @@ impl<T: Drop, A: Allocator> Hole<T, A> {
         ensures sifts { Sifts J.asks judge.old self.old judge.new self.new }
         ensures rest { self.new.rest ≡ [] }
     {
-        while self.rest_len() > 1 {
-            self.sift_round(judge);
+        while self.has_two() {
+            self.sift_two(judge);
         }
-        if self.rest_len() > 0 {
-            self.sift_last(judge);
-        }
+        self.sift_last(judge);
     }
 
-    // Asks about the next two items, and where both stay, up to the first that goes. A run of one is found with nothing counted.
-    fn sift_round<J: Asks<T>>(&mut self, judge: &mut J)
-        requires some { 1 < length self.old.rest }
+    // Asks about two items and more up to the first that goes, which is dropped.
+    fn sift_two<J: Asks<T>>(&mut self, judge: &mut J)
+        requires two { 1 < length self.old.rest }
         requires hole { 0 < self.old.before }
         requires ready { J.ready judge.old }
         ensures sifts { Sifts J.asks judge.old self.old judge.new self.new }
         ensures less { length self.new.rest < length self.old.rest }
         ensures ready { J.ready judge.new }
     {
-        if !self.ask(0, judge) {
-            drop(self.take_first());
-            return;
-        }
-        if !self.ask(1, judge) {
-            self.lower_one();
-            drop(self.take_first());
-            return;
-        }
-        let count = self.ask_run(2, judge);
-        self.lower(count);
-        if self.rest_len() > 0 {
+        if self.advance_two(judge) {
             drop(self.take_first());
         }
     }
 
-    // Asks about the last item.
+    // Asks about the last item, where there is one.
     fn sift_last<J: Asks<T>>(&mut self, judge: &mut J)
-        requires last { length self.old.rest ≡ 1 }
+        requires short { length self.old.rest ≤ 1 }
         requires hole { 0 < self.old.before }
         requires ready { J.ready judge.old }
         ensures sifts { Sifts J.asks judge.old self.old judge.new self.new }
         ensures rest { self.new.rest ≡ [] }
     {
-        if self.ask(0, judge) {
-            self.lower_one();
-        } else {
+        if self.advance_last(judge) {
             drop(self.take_first());
         }
     }

@@ -1,1 +1,3 @@
 mod JudgeLemmas
+mod MovesLemmas
+mod SpliceLemmas

@@ -40,6 +40,7 @@ mod iterating;
 pub mod last_digits;
 #[cfg(test)]
 mod making;
+pub mod moves;
 #[cfg(test)]
 mod names;
 #[cfg(test)]
@@ -55,6 +56,7 @@ mod shrinks;
 mod sizes;
 #[cfg(test)]
 mod slices;
+pub mod splices;
 #[cfg(test)]
 mod standing;
 #[cfg(test)]

@@ -1,7 +1,7 @@
 //! Counts in a sparse table: a count that is 0 has no entry, and a row without counts owns no block.
 ghost use Rattle.std.specs.FinMap as columns;
 ghost use Rattle.std.specs.Option.{unwrap_or};
-ghost use Rattle.std.specs.Prelude.{◌≡◌, ◌↔◌, ◌+◌, ◌-◌, ◌^◌, ◌<◌, IsNone, IsOk, IsSome, IsTrue, None, OnErr, OnOk, length, min};
+ghost use Rattle.std.specs.Prelude.{◌≡◌, ◌↔◌, ◌+◌, ◌-◌, ◌^◌, ◌<◌, ◌/◌, IfSome, IsNone, IsOk, IsSome, IsTrue, None, OnErr, OnOk, length, min};
 ghost use Rattle.thin_rows.specs.Table.{row_of, value_at, with_value, without_value};
 
 use std::alloc::Allocator;
@@ -37,6 +37,7 @@ pub fn take<A: Allocator>(counts: &mut Rows<u32, A>, row: usize, column: usize) 
 pub fn halve<A: Allocator>(counts: &mut Rows<u32, A>, row: usize, column: usize)
     requires in_bounds { row < length counts.old }
     ensures none { IsNone (value_at counts.old row column) → counts.new ≡ counts.old }
+    ensures some { IfSome (value_at counts.old row column) (λ count. counts.new ≡ with_value counts.old row column (count / 2)) }
 {
     if let Some(count) = counts.get_mut(row, column) {
         *count /= 2;

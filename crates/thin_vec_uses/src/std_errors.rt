@@ -27,11 +27,13 @@ pub fn write_line<A: Allocator, G: Growth>(
     Ok(())
 }
 
-/// The numbers of `list`, and then those below `end`. What was placed is dropped with the rest where it is refused.
+/// The numbers of `list`, and then `more`. What was placed is dropped with the rest where it is refused.
 pub fn with_numbers<A: Allocator, G: Growth>(
     mut list: ThinVec<u32, A, G>,
-    end: u32,
-) -> Result<ThinVec<u32, A, G>, AllocError> {
-    list.extend(0..end)?;
+    more: &[u32],
+) -> Result<ThinVec<u32, A, G>, AllocError>
+    ensures items { IfOk result (λ longer. longer.items ≡ list.items ++ more.now) }
+{
+    list.extend(more.iter().copied())?;
     Ok(list)
 }

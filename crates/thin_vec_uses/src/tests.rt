@@ -1,11 +1,14 @@
 //! Each use, once.
+use crate::first_list::first_list;
 use crate::refused_push::push_or_return;
 use crate::reserved_room::push_both;
 use crate::sorting::sort;
 use crate::sparse_counts::{add, halve, is_row_empty, take};
+use crate::std_errors::{doubled, with_numbers, write_line};
 use crate::style_lists::{same_style, style_hash};
 use crate::syntax_tree::Node;
 use refusing::Refusing;
+use std::io::ErrorKind;
 use std::test::Fail;
 use thin_rows::Rows;
 use thin_vec::{ThinVec, thin_vec};
@@ -84,5 +87,31 @@ fn counts_are_kept_by_row_and_column(rt: HostRuntime) -> Result<(), Fail> {
     if counts.rows() == 2 {
         assert!(rt; is_row_empty(&counts, 1));
     }
+    Ok(())
+}
+
+#[test]
+fn a_first_list_has_its_items(rt: HostRuntime) -> Result<(), Fail> {
+    assert_eq!(rt; first_list(rt.alloc())?.as_slice(), [3, 4, 5].as_slice());
+    Ok(())
+}
+
+#[test]
+fn std_traits_fill_a_list(rt: HostRuntime) -> Result<(), Fail> {
+    let list = doubled(rt.alloc(), [1, 2, 3].as_slice())?;
+    assert_eq!(rt; list.as_slice(), [2, 4, 6].as_slice());
+    let more = with_numbers(thin_vec![rt.alloc() => 9]?, [0, 1, 2].as_slice())?;
+    assert_eq!(rt; more.as_slice(), [9, 0, 1, 2].as_slice());
+    Ok(())
+}
+
+#[test]
+fn a_refusal_is_an_error_of_std(rt: HostRuntime) -> Result<(), Fail> {
+    let refusing = Refusing::new(rt.alloc(), 2);
+    let mut bytes = thin_vec![&refusing => 7]?;
+    let refused = write_line(&mut bytes, [8].as_slice());
+    assert!(rt; refused.is_err_and(|error| error.kind() == ErrorKind::OutOfMemory));
+    assert_eq!(rt; bytes.as_slice(), [7].as_slice());
+    assert!(rt; doubled(&Refusing::new(rt.alloc(), 1), [1].as_slice()).is_err());
     Ok(())
 }

@@ -4,4 +4,5 @@ use Rattle.std.proofs.lemmas.Map.Keys.{IsStrictlyIncreasing-dedup}
 use Rattle.thin_vec_tests.proofs.filter_callers.keep_distinct.Goals as goal
 
 pub returns-clause-distinct : goal.returns-clause-distinct
-returns-clause-distinct g c = subst IsStrictlyIncreasing (sym c.dedup.ensures.items) (IsStrictlyIncreasing-dedup c.args.list.now.items c.requires.sorted)
+returns-clause-distinct g c = subst IsStrictlyIncreasing (sym c.dedup.ensures.items)
+    (IsStrictlyIncreasing-dedup c.args.list.now.items c.requires.sorted)

@@ -3,4 +3,5 @@ use Rattle.thin_vec_tests.proofs.JudgeLemmas.{retained-by}
 use Rattle.thin_vec_tests.proofs.filter_callers.keep_judged.Goals as goal
 
 pub returns-clause-items : goal.returns-clause-items
-returns-clause-items g c = retained-by _ (λ f. f.0) g.J.Judge.judges (λ f x b t y k. search rules) _ _ _ c.retain_mut.ensures.retained
+returns-clause-items g c = retained-by _ (λ f. f.0) g.J.Judge.judges
+    (λ f x b t y k. search rules) _ _ _ c.retain_mut.ensures.retained

@@ -1,70 +1,58 @@
-use Rattle.std.proofs.Common.{◌+◌, ◌++◌, ◌∙◌, ap, arith, length, sym, take}
-use Rattle.std.proofs.lemmas.List.{length-take-le}
+use Rattle.std.proofs.Common.{◌≡◌, ◌+◌, ◌∙◌, [], ap, arith, sym, take}
+use Rattle.std.proofs.lemmas.Bool.{false≢true}
 use Rattle.std.specs.Fn.{CalledAtMut}
-use Rattle.thin_vec.proofs.ExtractLemmas.{cost-of, nothing, picked-count, picked-none, picked-room, picked-some}
+use Rattle.thin_vec.proofs.ExtractLemmas.{cost-of, picked-count, picked-none, picked-room, picked-some}
+use Rattle.thin_vec.proofs.FiltersLemmas.{none-left}
 use Rattle.thin_vec.proofs.extract_if.Extracting.next_picked.Goals as goal
 
--- no item goes any more
-pub returns-then-rest_len-eq0-clause-extracts : goal.returns-then-rest_len-eq0-clause-extracts
-returns-then-rest_len-eq0-clause-extracts g c =
-    let R = CalledAtMut g.F.FnMut in
-    let v = c.args.self.now in
-    let m = c.ask_run-count.result in
-    let mid = c.ask_run-count.new.self in
-    let w = c.settle.new.self in
-    let runs = c.ask_run-count.ensures.asked in
-    let room = picked-room R (λ s. s.pick) m v.picks v.hole.rest
-    c.ask_run-count.new.judge mid.rest runs in
-    let empty = sym c.settle.ensures.rest
-    ∙ nothing w.rest (sym c.rest_len.ensures.value ∙ c.if-rest_len-eq0.true) in
-    let asked = picked-none R (λ s. s.pick) m v.picks v.hole.rest
-    c.ask_run-count.new.judge mid.rest runs empty in
-    let as_rest = sym c.settle.ensures.rest in
-    record {
-      kept = take m mid.rest;
-      asked = rw c.settle.ensures.rest asked;
-      count = rw c.settle.ensures.rest
-          (picked-count R v.picks.pick v.hole.rest _ c.ask_run-count.new.judge.pick
-          (take m mid.rest) _ asked);
-      front = c.settle.ensures.front ∙ ap (λ l. l ++ take m mid.rest) c.ask_run-count.ensures.front;
-      before = omega (arith, c.settle.ensures.before, c.ask_run-count.ensures.before);
-      tail = c.settle.ensures.tail ∙ c.ask_run-count.ensures.tail;
-      capacity = c.settle.ensures.capacity ∙ c.ask_run-count.ensures.capacity;
-      alloc = c.settle.ensures.alloc ∙ c.ask_run-count.ensures.alloc;
-      cost = cost-of v.hole.before mid.before v.hole.cost mid.cost w.cost m
-          (length (take m mid.rest)) c.ask_run-count.ensures.before c.ask_run-count.ensures.cost
-          (sym (length-take-le m mid.rest room)) c.settle.ensures.cost;
-    }
-
 -- an item goes
-pub returns-clause-extracts : goal.returns-clause-extracts
-returns-clause-extracts g c =
+pub returns-then-advance-clause-extracts : goal.returns-then-advance-clause-extracts
+returns-then-advance-clause-extracts g c =
     let R = CalledAtMut g.F.FnMut in
     let v = c.args.self.now in
-    let m = c.ask_run-count.result in
-    let mid = c.ask_run-count.new.self in
-    let w = c.settle.new.self in
+    let a = c.advance.ensures.advances in
+    let t = c.advance.new.judge in
     let z = c.take_first.new.self in
     let x = c.take_first.result in
-    let runs = c.ask_run-count.ensures.asked in
-    let room = picked-room R (λ s. s.pick) m v.picks v.hole.rest
-    c.ask_run-count.new.judge mid.rest runs in
-    let asked = picked-some R (λ s. s.pick) m v.picks v.hole.rest c.ask_run-count.new.judge mid.rest
-    runs x z.rest (sym c.settle.ensures.rest ∙ c.take_first.ensures.rest) in
+    let asked = picked-some R (λ s. s.pick) a.count v.picks v.hole.rest t a.left a.run x z.rest
+    (sym a.rest ∙ c.take_first.ensures.rest) in
     record {
-      kept = take m mid.rest;
+      kept = take a.count a.left;
       asked = asked;
-      count = picked-count R v.picks.pick v.hole.rest _ c.ask_run-count.new.judge.pick
-          (take m mid.rest) z.rest asked;
-      front = c.take_first.ensures.front
-          ∙ (c.settle.ensures.front ∙ ap (λ l. l ++ take m mid.rest) c.ask_run-count.ensures.front);
-      before = c.take_first.ensures.before
-          ∙ ap (λ n. n + 1) (c.settle.ensures.before ∙ c.ask_run-count.ensures.before);
-      tail = c.take_first.ensures.tail ∙ (c.settle.ensures.tail ∙ c.ask_run-count.ensures.tail);
-      capacity = c.take_first.ensures.capacity
-          ∙ (c.settle.ensures.capacity ∙ c.ask_run-count.ensures.capacity);
-      alloc = c.take_first.ensures.alloc ∙ (c.settle.ensures.alloc ∙ c.ask_run-count.ensures.alloc);
-      cost = c.take_first.ensures.cost ∙ cost-of v.hole.before mid.before v.hole.cost mid.cost
-          w.cost m (length (take m mid.rest)) c.ask_run-count.ensures.before
-          c.ask_run-count.ensures.cost (sym (length-take-le m mid.rest room)) c.settle.ensures.cost;
+      count = picked-count R v.picks.pick v.hole.rest _ t.pick (take a.count a.left) z.rest asked;
+      front = c.take_first.ensures.front ∙ a.front;
+      before = c.take_first.ensures.before ∙ ap (λ n. n + 1) a.before;
+      tail = c.take_first.ensures.tail ∙ a.tail;
+      capacity = c.take_first.ensures.capacity ∙ a.capacity;
+      alloc = c.take_first.ensures.alloc ∙ a.alloc;
+      cost = c.take_first.ensures.cost
+          ∙ (a.cost ∙ cost-of v.hole.before v.hole.cost a.count a.left
+          (picked-room R (λ s. s.pick) a.count v.picks v.hole.rest t a.left a.run));
+    }
+
+-- no item goes any more
+pub returns-else-advance-clause-extracts : goal.returns-else-advance-clause-extracts
+returns-else-advance-clause-extracts g c =
+    let R = CalledAtMut g.F.FnMut in
+    let v = c.args.self.now in
+    let a = c.advance.ensures.advances in
+    let t = c.advance.new.judge in
+    let w = c.advance.new.self in
+    let none : w.rest ≡ [] =
+    none-left w.rest
+    (λ some. false≢true (sym c.if-advance.false ∙ c.advance.ensures.goes.1 some)) in
+    let asked = picked-none R (λ s. s.pick) a.count v.picks v.hole.rest t a.left a.run
+    (sym a.rest ∙ none) in
+    record {
+      kept = take a.count a.left;
+      asked = rw a.rest asked;
+      count = rw a.rest
+          (picked-count R v.picks.pick v.hole.rest _ t.pick (take a.count a.left) _ asked);
+      front = a.front;
+      before = omega (arith, a.before);
+      tail = a.tail;
+      capacity = a.capacity;
+      alloc = a.alloc;
+      cost = a.cost ∙ cost-of v.hole.before v.hole.cost a.count a.left
+          (picked-room R (λ s. s.pick) a.count v.picks v.hole.rest t a.left a.run);
     }

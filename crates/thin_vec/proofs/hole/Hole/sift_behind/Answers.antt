@@ -1,4 +1,3 @@
-use Rattle.std.proofs.Common.{◌≡◌}
 use Rattle.thin_vec.proofs.FiltersLemmas.{sifts-start, sifts-then}
 use Rattle.thin_vec.proofs.hole.Hole.sift_behind.Goals as goal
 
@@ -13,13 +12,13 @@ pub loop-self-preserved : goal.loop-self-preserved
 loop-self-preserved g c =
     let l = c.loop-self in
     record {
-      sifts = sifts-then g.J.Asks.asks c.args.judge.now l.judge c.sift_round.new.judge
-          c.args.self.now l.self c.sift_round.new.self l.invariant.sifts c.sift_round.ensures.sifts;
-      ready = c.sift_round.ensures.ready;
+      sifts = sifts-then g.J.Asks.asks c.args.judge.now l.judge c.sift_two.new.judge
+          c.args.self.now l.self c.sift_two.new.self l.invariant.sifts c.sift_two.ensures.sifts;
+      ready = c.sift_two.ensures.ready;
     }
 
-pub returns-then-rest_len-gt0-clause-sifts : goal.returns-then-rest_len-gt0-clause-sifts
-returns-then-rest_len-gt0-clause-sifts g c =
+pub returns-clause-sifts : goal.returns-clause-sifts
+returns-clause-sifts g c =
     let l = c.loop-self in
     sifts-then g.J.Asks.asks c.args.judge.now l.judge c.sift_last.new.judge c.args.self.now l.self
     c.sift_last.new.self l.invariant.sifts c.sift_last.ensures.sifts

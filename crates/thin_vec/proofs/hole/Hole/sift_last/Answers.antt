@@ -1,46 +1,37 @@
-use Rattle.std.proofs.Common.{◌≡◌, ◌∷◌, ◌++◌, [], List, true, false, ap, rules, sym, ◌∙◌, drop, take}
-use Rattle.std.proofs.lemmas.List.{append-nil}
-use Rattle.thin_vec.proofs.FiltersLemmas.{asked-first, asked-one, moving-none}
+use Rattle.std.proofs.Common.{◌∙◌, ap, arith, length, sym}
+use Rattle.std.proofs.lemmas.Bool.{false≢true}
+use Rattle.thin_vec.proofs.FiltersLemmas.{advanced-count, advanced-ends, advanced-goes, none-left, nothing}
 use Rattle.thin_vec.proofs.hole.Hole.sift_last.Goals as goal
 
-pub returns-then-ask-clause-sifts : goal.returns-then-ask-clause-sifts
-returns-then-ask-clause-sifts g c =
-    let a = asked-first g.J.Asks.asks c.args.judge.now c.args.self.now.rest true c.ask.new.judge
-    c.ask.new.self.rest (search rules) in
-    record {
-      done = a.item ∷ [];
-      answers = (true, a.left) ∷ [];
-      rest = a.was ∙ ap (λ l. a.item ∷ l) (sym (c.lower_one.ensures.rest ∙ ap (drop 1) a.now));
-      asked = asked-one g.J.Asks.asks _ _ a.item a.left true a.asked;
-      front = c.lower_one.ensures.front
-          ∙ (ap (λ l. l ++ take 1 c.ask.new.self.rest) c.ask.ensures.front
-          ∙ ap (λ l. c.args.self.now.front ++ take 1 l) a.now);
-      cost = search rules;
-      hole = search rules;
-      behind = search rules;
-      tail = search rules;
-      capacity = search rules;
-      alloc = search rules;
-    }
+-- an item goes
+pub returns-then-advance_last-clause-sifts : goal.returns-then-advance_last-clause-sifts
+returns-then-advance_last-clause-sifts g c =
+    advanced-goes g.J.Asks.asks c.args.judge.now c.advance_last.new.judge c.args.self.now
+    c.advance_last.new.self c.requires.hole c.advance_last.ensures.advances c.take_first.result
+    c.take_first.new.self
+    (record {
+      rest = c.take_first.ensures.rest;
+      before = c.take_first.ensures.before;
+      front = c.take_first.ensures.front;
+      cost = c.take_first.ensures.cost;
+      behind = c.take_first.ensures.behind;
+      tail = c.take_first.ensures.tail;
+      capacity = c.take_first.ensures.capacity;
+      alloc = c.take_first.ensures.alloc;
+    })
 
-pub returns-else-ask-clause-sifts : goal.returns-else-ask-clause-sifts
-returns-else-ask-clause-sifts g c =
-    let a = asked-first g.J.Asks.asks c.args.judge.now c.args.self.now.rest false c.ask.new.judge
-    c.ask.new.self.rest (search rules) in
-    let same : a.left ∷ a.behind ≡ c.take_first.result ∷ c.take_first.new.self.rest = sym a.now
-    ∙ c.take_first.ensures.rest in
-    record {
-      done = a.item ∷ [];
-      answers = (false, a.left) ∷ [];
-      rest = a.was ∙ ap (λ l. a.item ∷ drop 1 l) same;
-      asked = asked-one g.J.Asks.asks _ _ a.item a.left false a.asked;
-      front = c.take_first.ensures.front
-          ∙ (c.ask.ensures.front ∙ sym (append-nil c.args.self.now.front));
-      cost = c.take_first.ensures.cost
-          ∙ (c.ask.ensures.cost ∙ sym (moving-none c.args.self.now.cost));
-      hole = search rules;
-      behind = search rules;
-      tail = search rules;
-      capacity = search rules;
-      alloc = search rules;
-    }
+-- none goes
+pub returns-else-advance_last-clause-sifts : goal.returns-else-advance_last-clause-sifts
+returns-else-advance_last-clause-sifts g c =
+    advanced-ends g.J.Asks.asks c.args.judge.now c.advance_last.new.judge c.args.self.now
+    c.advance_last.new.self c.requires.hole c.advance_last.ensures.advances
+    (none-left c.advance_last.new.self.rest
+    (λ some. false≢true (sym c.if-advance_last.false ∙ c.advance_last.ensures.goes.1 some)))
+
+-- it was the last one
+pub returns-then-advance_last-clause-rest : goal.returns-then-advance_last-clause-rest
+returns-then-advance_last-clause-rest g c =
+    let few = advanced-count g.J.Asks.asks c.args.judge.now c.advance_last.new.judge c.args.self.now
+    c.advance_last.new.self c.requires.hole c.advance_last.ensures.advances in
+    nothing c.take_first.new.self.rest
+    (omega (arith, few, c.requires.short, ap length c.take_first.ensures.rest))

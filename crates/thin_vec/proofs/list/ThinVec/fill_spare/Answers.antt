@@ -1,4 +1,3 @@
--- What the iterator gave lies behind the items.
 use Rattle.std.proofs.Common.{◌++◌, ◌-◌, ◌+◌, ◌<◌, ◌≡◌, ◌∙◌, ap, arith, length, length-append}
 use Rattle.std.specs.Iterator.{size}
 use Rattle.thin_block.specs.Cost.{moving}
@@ -7,7 +6,7 @@ use Rattle.thin_vec.proofs.TwoListsLemmas.{settle-more}
 use Rattle.thin_vec.proofs.ListLemmas.{Settled, thin-room}
 use Rattle.thin_vec.proofs.ThinVecLemmas.{within-kept}
 use Rattle.thin_block.proofs.Outcomes.{on-some}
-use Rattle.thin_vec.proofs.list.ThinVec.extend_reserved.Goals as goal
+use Rattle.thin_vec.proofs.list.ThinVec.fill_spare.Goals as goal
 
 facts : (g : _) (c : goal.After-set_len g) → Settled c.set_len.new.self c.self.inside.alloc
     (items_in c.self.inside.block.slots ++ c.put_iter-rest.ensures.slots.0)
@@ -59,15 +58,16 @@ returns-clause-cost g c =
 
 pub returns-clause-nearer : goal.returns-clause-nearer
 returns-clause-nearer g c =
-    on-some c.put_iter-rest.result.2
-    (λ (less : c.put_iter-rest.result.1 + size (g.I.Iterator.remaining c.put_iter-rest.result.0) < c.len-len.result + size (g.I.Iterator.remaining c.args.iter)). omega (arith, less, ends g c, begins g c)) c.put_iter-rest.ensures.nearer
+    λ left. omega (arith, c.put_iter-rest.ensures.nearer left, ends g c, begins g c)
 
 pub returns-clause-full : goal.returns-clause-full
-returns-clause-full g c =
-    on-some c.put_iter-rest.result.2
-    (λ (end : c.put_iter-rest.result.1 ≡ c.cap-cap.result). omega
-    (arith, end, ends g c, (facts g c).cap, c.cap-cap.ensures.value))
-    c.put_iter-rest.ensures.full
+returns-clause-full g c = λ left. omega (
+  arith,
+  c.put_iter-rest.ensures.full left,
+  ends g c,
+  (facts g c).cap,
+  c.cap-cap.ensures.value,
+)
 
 pub returns-clause-within : goal.returns-clause-within
 returns-clause-within g c =

@@ -1,0 +1,333 @@
+-- What a splice moves, and what it costs.
+use Rattle.std.proofs.Common.{if◌then◌else◌, inl, inr, Option, Some, None, append_assoc, drop, take, subst, ◌≡◌, ℕ, ◌+◌, ◌-◌, ◌<◌, ◌≤◌, Bool, true, false, eqb, List, [], ◌∷◌, ◌++◌, ap, arith, length, length-append, refl, sym, ◌∙◌}
+use Rattle.std.proofs.lemmas.List.{append-nil, drop_at, length-take-le, take_at}
+use Rattle.std.specs.Borrow.{RattleType}
+use Rattle.std.specs.Option.{option_len, option_to_list}
+use Rattle.std.specs.Prelude.{IfErr, OnOk}
+use Rattle.std.specs.declared.result.Result.{Result}
+use Rattle.std.specs.declared.result.Result.TheVariants.{Ok, Err}
+use Rattle.std.specs.Iterator.{Count, Drains, IsFinite, Yields, size}
+use Rattle.std.specs.Vec.Iter.{into_iter_items, into_iter_len, into_iter_steps}
+use Rattle.std.specs.declared.vec.IntoIter.{IntoIter}
+use Rattle.thin_vec.specs.Extend.{GaveUp, Gives, IsExtendCost, IsExtended, IsNamed, Overflows}
+use Rattle.std.proofs.lemmas.Bool.Decides.{nat_tests}
+use Rattle.thin_block.specs.Cost.{Cost, moving}
+use Rattle.thin_block.specs.Growth.{KeepsLaw, Rule, ruled_capacity}
+use Rattle.std.proofs.lemmas.Bool.{cases_lt}
+use Rattle.thin_vec.specs.Open.{Open, cost_closed, items_of}
+use Rattle.thin_vec.specs.Filling.{IsSpliced, OverflowsBy, Stopped, left_of, with_between}
+use Rattle.thin_vec.specs.ThinVec.{Thin, capacity_for, cost_at}
+use Rattle.thin_vec.proofs.ExtendLemmas.{filled-reserved, yields-join}
+use Rattle.thin_vec.proofs.ThinVecLemmas.{cap-kept}
+
+-- moves add up
+pub moving-add : (a b : ℕ) (c : Cost) → moving a (moving b c) ≡ moving (b + a) c
+moving-add a b c = ap (λ m. let d : Cost = record c { moves = m } in d)
+    (let e : c.moves + b + a ≡ c.moves + (b + a) = omega arith in e)
+
+pub moving-zero : (c : Cost) → c ≡ moving 0 c
+moving-zero c = ap (λ m. let d : Cost = record c { moves = m } in d)
+    (let e : c.moves ≡ c.moves + 0 = omega arith in e)
+
+-- the moves of a filled hole that is closed, beside those of its items
+pub closed-moves : {T A : Type 0} (v w : Open T A) (n : ℕ) → w.cost ≡ moving (v.before - w.before)
+    v.cost → w.rest ≡ [] → w.tail ≡ v.tail → n ≡ v.before - w.before
+    → (m : ℕ) × (cost_closed w ≡ moving (n + m) v.cost) × (m ≤ length v.tail)
+    × (w.before ≡ 0 → m ≡ 0)
+closed-moves v w n paid none same count = go (eqb w.before 0) refl
+  where
+    filled : w.cost ≡ moving n v.cost
+    filled = paid ∙ ap (λ k. moving k v.cost) (sym count)
+
+    go : (b : Bool) → eqb w.before 0 ≡ b → (m : ℕ)
+        × ((if b then w.cost else moving (length w.rest + length w.tail) w.cost) ≡ moving (n + m)
+        v.cost) × (m ≤ length v.tail) × (w.before ≡ 0 → m ≡ 0)
+    go true e = (
+      0,
+      filled ∙ ap (λ k. moving k v.cost) (let z : n ≡ n + 0 = omega arith in z),
+      omega arith,
+      λ _. refl,
+    )
+    go false e =
+        let all : length w.rest + length w.tail ≡ length v.tail =
+        omega (arith, ap length none, ap length same) in (
+          length v.tail,
+          ap (λ k. moving k w.cost) all
+              ∙ (ap (λ c. moving (length v.tail) c) filled ∙ moving-add (length v.tail) n v.cost),
+          omega arith,
+          λ z. let t : eqb w.before 0 ≡ true = grind (arith, nat_tests, z) in
+              absurd (false-true (sym e ∙ t)),
+        )
+      where
+        false-true : false ≡ true → ⊥
+        false-true h = cc
+
+-- the moves of items that went into a list, when the items behind were moved up before
+pub run-moves : (count n k m : ℕ) (c d : Cost) → d ≡ (if eqb count 0 then c else moving n c)
+    → (x : ℕ) × (moving (k + m) d ≡ moving (k + x) c) × (x ≤ n + m)
+run-moves count n k m c d e = go (eqb count 0) e
+  where
+    go : (b : Bool) → d ≡ (if b then c else moving n c) → (x : ℕ)
+        × (moving (k + m) d ≡ moving (k + x) c) × (x ≤ n + m)
+    go true e = (m, ap (λ q. moving (k + m) q) e, omega arith)
+    go false e = (
+      n + m,
+      ap (λ q. moving (k + m) q) e
+          ∙ (moving-add (k + m) n c
+          ∙ ap (λ j. moving j c) (let f : n + (k + m) ≡ k + (n + m) = omega arith in f)),
+      omega arith,
+    )
+
+module _ {X Z : Type 0} where
+  -- what a vector's own iterator gave, beside what is left
+  vec-gave : (s t : IntoIter X Z) (xs : List X) → Yields into_iter_steps s xs t
+      → (into_iter_items s ≡ xs ++ into_iter_items t)
+      × (into_iter_len t + length xs ≡ into_iter_len s)
+  vec-gave s t [] e = (
+    ap into_iter_items e,
+    let f : into_iter_len s ≡ into_iter_len t = ap into_iter_len e in
+        omega (arith, f),
+  )
+  vec-gave s t (x ∷ xs) e = let more = vec-gave e.0 t xs e.2 in
+      (e.1.0 ∙ ap (λ ys. x ∷ ys) more.0, omega (arith, more.1, e.1.1))
+
+  -- as many items as the vector has are all of them
+  pub vec-whole : (s t : IntoIter X Z) (xs ys : List X) (ended : Bool) → into_iter_items s ≡ ys
+      → into_iter_len s ≡ length ys → Gives into_iter_steps s xs ended t
+      → (ended ≡ false → length xs ≡ length ys) → (ended ≡ true → length xs < length ys)
+      → (xs ≡ ys) × (ended ≡ false)
+  vec-whole s t xs ys true is long gave full short =
+      let all = vec-gave s gave.0 xs gave.1 in
+      absurd (omega (arith, short refl, all.1, gave.2.0, long))
+  vec-whole s t xs ys false is long gave full short =
+      let all = vec-gave s t xs gave in
+      let same = full refl in
+      let whole : ys ≡ xs ++ into_iter_items t = sym is ∙ all.0 in
+      let none = empty-of (into_iter_items t)
+      (omega (arith, ap length whole, length-append xs (into_iter_items t), same)) in
+      (sym (whole ∙ (ap (λ zs. xs ++ zs) none ∙ append-nil xs)), refl)
+    where
+      empty-of : (zs : List X) → length zs ≡ 0 → zs ≡ []
+      empty-of [] e = refl
+      empty-of (z ∷ zs) e = absurd (omega (arith, e))
+
+module _ {T A : Type 0} where
+  -- what a growth alone has cost
+  pub spliced-reserved : (v w : Thin T A) → w.cost ≡ cost_at v w.capacity
+      → w.items ≡ v.items → IsSpliced v w 0
+  spliced-reserved v w e n =
+      let f = filled-reserved v w e n in
+      record { moves = omega (arith, f.moves); kept = f.kept; grown = f.grown }
+
+  -- what items have cost that went into spare room
+  pub spliced-run : (v w : Thin T A) (k m n : ℕ) → w.cost ≡ moving (k + m) v.cost
+      → w.capacity ≡ v.capacity → length w.items ≡ length v.items + k → m ≤ n → IsSpliced v w n
+  spliced-run v w k m n e same long few = record {
+    moves = omega (arith, ap (λ c. c.moves) e, long, few);
+    kept = λ _. (ap (λ c. c.blocks) e, ap (λ c. c.grown) e);
+    grown = λ more. absurd (omega (arith, more, same));
+  }
+
+  -- one step after another
+  pub spliced-join : (v u w : Thin T A) (m n : ℕ) → v.capacity ≤ u.capacity
+      → u.capacity ≤ w.capacity → length v.items ≤ length u.items → IsSpliced v u m
+      → IsSpliced u w n → IsSpliced v w (m + n)
+  spliced-join v u w m n low high long p q = record {
+    moves = omega (arith, p.moves, q.moves);
+    kept = λ same. let a : u.capacity ≡ v.capacity = omega arith in
+        let b : w.capacity ≡ u.capacity = omega arith in let f = p.kept a in let h = q.kept b in
+        (h.0 ∙ f.0, h.1 ∙ f.1);
+    grown = λ more. elim (cases_lt v.capacity u.capacity) [
+      | inl first ↦ elim (cases_lt u.capacity w.capacity) [
+        | inl again ↦ let f = p.grown first in let h = q.grown again in
+            (omega (arith, f.0, h.0), omega (arith, f.1, h.1))
+        | inr still ↦ let f = p.grown first in let h = q.kept (omega arith) in
+            (omega (arith, f.0, h.0), omega (arith, f.1, h.1))
+      ]
+      | inr still ↦ let f = p.kept (omega arith) in let h = q.grown (omega arith) in
+          (omega (arith, f.0, h.0), omega (arith, f.1, h.1, long))
+    ];
+  }
+
+  pub spliced-less : (v w : Thin T A) (m n : ℕ) → m ≤ n → IsSpliced v w m → IsSpliced v w n
+  spliced-less v w m n less p =
+      record { moves = omega (arith, p.moves, less); kept = p.kept; grown = p.grown }
+
+-- a fact of an outcome gives another
+pub on-ok : {X E P Q : Type 0} (r : Result X E) → (P → Q) → OnOk r P → OnOk r Q
+on-ok (Ok _) h p = h p
+on-ok (Err _) h p = p
+
+pub if-err : {X E : Type 0} {P Q : E → Type 0} (r : Result X E) → ((e : E) → r ≡ Err e → P e → Q e)
+    → IfErr r P → IfErr r Q
+if-err (Ok _) h p = p
+if-err (Err e) h p = h e refl p
+
+-- a fact of each error
+pub any-err : {X E : Type 0} {Q : E → Type 0} (r : Result X E) → ((e : E) → Q e) → IfErr r Q
+any-err (Ok _) h = tt
+any-err (Err e) h = h e
+
+module _ {T : Type 0} where
+  -- items go in behind those that went in before
+  pub spliced-more : (vs ws xs ys : List T) (at end : ℕ) → at ≤ length vs
+      → ws ≡ (take at vs ++ xs) ++ drop at vs → end ≡ at + length xs
+      → (take end ws ++ ys) ++ drop end ws ≡ (take at vs ++ (xs ++ ys)) ++ drop at vs
+  spliced-more vs ws xs ys at end in_bounds e ends =
+      let pre : List T = take at vs ++ xs in
+      let here : length pre ≡ end =
+      omega (arith, length-append (take at vs) xs, length-take-le at vs in_bounds, ends) in
+      (λ i. (take end (e i) ++ ys) ++ drop end (e i))
+      ∙ ((λ i. (take_at pre (drop at vs) end here i ++ ys) ++ drop_at pre (drop at vs) end here i)
+      ∙ ap (λ l. l ++ drop at vs) (append_assoc (take at vs) xs ys))
+
+module _ {S X : Type 0} (steps : S → Option X → S → Type 0) (can : S → Type 0)
+    (remaining : S → Count) where
+  -- what was given up to the first `None`, after what was given before
+  pub drains-more : (s t : S) (xs ys : List X) → Yields steps s xs t → Drains steps t ys
+      → Drains steps s (xs ++ ys)
+  drains-more s t xs ys before now =
+      (now.0, (now.1.0, yields-join steps s t now.1.0 xs ys before now.1.1, now.1.2))
+
+  -- what was placed, held and in hand, after what was placed before
+  pub stopped-after : (s t rest : S) (xs ys held : List X) (in_hand : Option X)
+      → Yields steps s xs t → Stopped steps can remaining t ys held in_hand rest
+      → Stopped steps can remaining s (xs ++ ys) held in_hand rest
+  stopped-after s t rest xs ys held in_hand before (inl now) =
+      let last : List X = option_to_list in_hand in
+      let gave = yields-join steps s t rest xs ((ys ++ held) ++ last) before now.0 in
+      inl (
+        subst (λ l. Yields steps s l rest)
+            (sym (append_assoc xs (ys ++ held) last)
+            ∙ ap (λ l. l ++ last) (sym (append_assoc xs ys held))) gave,
+        now.1,
+        now.2,
+      )
+  stopped-after s t rest xs ys held in_hand before (inr now) =
+      inr (
+        now.0,
+        (
+          now.1.0,
+          subst (λ l. Yields steps s l now.1.0) (sym (append_assoc xs ys held))
+              (yields-join steps s t now.1.0 xs (ys ++ held) before now.1.1),
+          now.1.2,
+        ),
+      )
+
+  -- the same, where nothing was placed since
+  pub stopped-more : (s t rest : S) (xs held : List X) (in_hand : Option X) → Yields steps s xs t
+      → Stopped steps can remaining t [] held in_hand rest
+      → Stopped steps can remaining s xs held in_hand rest
+  stopped-more s t rest xs held in_hand before now =
+      subst (λ l. Stopped steps can remaining s l held in_hand rest) (append-nil xs)
+      (stopped-after s t rest xs [] held in_hand before now)
+
+  -- where nothing is held
+  pub stopped-now : (s rest : S) (xs held : List X) (in_hand : Option X) → held ≡ []
+      → GaveUp steps s xs in_hand rest → can rest → IsFinite (remaining rest)
+      → Stopped steps can remaining s xs held in_hand rest
+  stopped-now s rest xs held in_hand none gave asked fin =
+      inl (
+        subst (λ l. Yields steps s (l ++ option_to_list in_hand) rest)
+            (sym (append-nil xs) ∙ ap (λ l. xs ++ l) (sym none)) gave,
+        asked,
+        fin,
+      )
+
+-- no capacity is ruled for the items that are held
+pub overflows-held : {T A : Type 0} (rule : Rule) (R : RattleType) (v : Thin T A) (held : List T)
+    (in_hand : Option T) (left : Count) → in_hand ≡ None → 0 < length held
+    → capacity_for rule R v (length held) ≡ None
+    → OverflowsBy rule R v held in_hand left
+overflows-held rule R v [] in_hand left none some over = absurd (omega (arith, some))
+overflows-held rule R v (x ∷ xs) in_hand left none some over =
+    let same : length (x ∷ xs) + option_len in_hand ≡ length (x ∷ xs) =
+    ap (λ o. length (x ∷ xs) + option_len o) none
+    ∙ (let z : length (x ∷ xs) + 0 ≡ length (x ∷ xs) = omega arith in z) in
+    ap (λ k. capacity_for rule R v k) same ∙ over
+
+module _ (rule : Rule) (R : RattleType) where
+  -- a ruled capacity was named for what it was ruled for
+  pub named-ruled : KeepsLaw rule → {T A : Type 0} (v : Thin T A) (k d n : ℕ)
+      → capacity_for rule R v k ≡ Some d → length v.items + k ≤ n
+      → IsNamed rule R v.capacity d n
+  named-ruled law v k d n e less =
+      elim (cases_lt v.capacity (length v.items + k)) [
+        | inl more ↦ inr (v.capacity, length v.items + k, more, less, e)
+        | inr spare ↦ inl (cap-kept rule R law v k d spare e)
+      ]
+
+  -- where a capacity comes from after k items went into spare room
+  pub extended-after : {T A : Type 0} (v u : Thin T A) (k d n : ℕ) (left more : Count)
+      → u.capacity ≡ v.capacity → length u.items ≡ length v.items + k → IsFinite more
+      → k + size more ≤ size left → IsExtended rule R u d n more → IsExtended rule R v d n left
+  extended-after v u k d n left more same long finite near (inl p) =
+      inl (subst (λ c. IsNamed rule R c d n) same p)
+  extended-after v u k d n left more same long finite near (inr p) =
+      let within : p.0 ≤ size more = p.1 finite in
+      let want : length v.items + (k + p.0) ≡ length u.items + p.0 = omega (arith, long) in
+      inr (
+        k + p.0,
+        (λ _. omega (arith, near, within)),
+        (λ i. ruled_capacity rule R (sym same i) (want i)) ∙ p.2,
+      )
+
+-- no move is none
+unmoved : (b : Bool) (c : Cost) (n : ℕ) → n ≡ 0 → (if b then c else moving n c) ≡ c
+unmoved true c n none = refl
+unmoved false c n none = ap (λ k. moving k c) none ∙ sym (moving-zero c)
+
+module _ {T A : Type 0} where
+  -- an open block with no item behind its front, once it is closed
+  pub closed-left : (v : Open T A) (u : Thin T A) (a : A) → v.rest ≡ [] → v.tail ≡ []
+      → u.items ≡ items_of v → u.capacity ≡ v.capacity → u.alloc ≡ a → u.cost ≡ cost_closed v
+      → u ≡ left_of v a
+  closed-left v u a none no_tail items same from paid =
+      let here : u.items ≡ v.front ++ v.tail = items ∙ ap (λ r. v.front ++ (r ++ v.tail)) none in
+      let free : cost_closed v ≡ v.cost =
+      unmoved (eqb v.before 0) v.cost (length v.rest + length v.tail)
+      (omega (arith, ap length none, ap length no_tail)) in
+      let cost : u.cost ≡ v.cost = paid ∙ free in
+      λ i. record { items = here i; capacity = same i; alloc = from i; cost = cost i }
+
+  -- what is left of two blocks that differ in their empty slots is the same
+  pub left-same : (v w : Open T A) (a b : A) → v.front ≡ w.front → v.tail ≡ w.tail
+      → v.capacity ≡ w.capacity → v.cost ≡ w.cost → a ≡ b → left_of v a ≡ left_of w b
+  left-same v w a b front tail same paid from =
+      λ i. record {
+        items = front i ++ tail i;
+        capacity = same i;
+        alloc = from i;
+        cost = paid i;
+      }
+
+  -- more items go in behind those that went in before
+  pub between-more : (v : Open T A) (us xs ys : List T) (end : ℕ) → us ≡ with_between v xs
+      → end ≡ length v.front + length xs
+      → (take end us ++ ys) ++ drop end us ≡ with_between v (xs ++ ys)
+  between-more v us xs ys end e ends =
+      let pre : List T = v.front ++ xs in
+      let here : length pre ≡ end = omega (arith, length-append v.front xs, ends) in
+      (λ i. (take end (e i) ++ ys) ++ drop end (e i))
+      ∙ ((λ i. (take_at pre v.tail end here i ++ ys) ++ drop_at pre v.tail end here i)
+      ∙ ap (λ l. l ++ v.tail) (append_assoc v.front xs ys))
+
+  -- how many there are then
+  pub between-length : (v : Open T A) (xs : List T)
+      → length (with_between v xs) ≡ length v.front + length xs + length v.tail
+  between-length v xs =
+      omega (arith, length-append (v.front ++ xs) v.tail, length-append v.front xs)
+
+  -- the cost of what went behind all is that of what went between
+  pub spliced-extended : (v w : Thin T A) (n : ℕ) → IsExtendCost v w → IsSpliced v w n
+  spliced-extended v w n p =
+      record { moves = omega (arith, p.moves); kept = p.kept; grown = p.grown }
+
+  -- no capacity is ruled for the one item in hand, or for a hint
+  pub overflows-one : (rule : Rule) (R : RattleType) (v : Thin T A) (held : List T)
+      (in_hand : Option T) (left : Count) → held ≡ [] → Overflows rule R v in_hand left
+      → OverflowsBy rule R v held in_hand left
+  overflows-one rule R v held None left none over =
+      subst (λ l. OverflowsBy rule R v l None left) (sym none) over
+  overflows-one rule R v held (Some x) left none over =
+      subst (λ l. OverflowsBy rule R v l (Some x) left) (sym none) over

@@ -1,0 +1,27 @@
+use Rattle.std.proofs.Common.{◌<◌, ◌++◌, ◌∙◌, ap, rules, sym, take}
+use Rattle.std.proofs.lemmas.Bool.{false≢true}
+use Rattle.thin_vec.proofs.FiltersLemmas.{moving-before}
+use Rattle.thin_vec.proofs.hole.Hole.advance.Goals as goal
+
+-- there is no hole
+pub returns-clause-advances : goal.returns-clause-advances
+returns-clause-advances g c =
+    let v = c.args.self.now in
+    let run = c.ask_run-count in
+    let none : 0 < v.before → ⊥ =
+    λ some. false≢true (sym c.if-has_hole.false ∙ c.has_hole.ensures.value.1 some) in
+    record {
+      count = run.result;
+      left = run.new.self.rest;
+      run = run.ensures.asked;
+      front = c.pass.ensures.front
+          ∙ ap (λ l. l ++ take run.result run.new.self.rest) run.ensures.front;
+      rest = c.pass.ensures.rest;
+      cost = c.pass.ensures.cost
+          ∙ (run.ensures.cost ∙ sym (moving-before v.before run.result v.cost none));
+      before = search rules;
+      behind = search rules;
+      tail = search rules;
+      capacity = search rules;
+      alloc = search rules;
+    }

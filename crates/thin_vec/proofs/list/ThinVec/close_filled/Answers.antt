@@ -1,0 +1,23 @@
+use Rattle.std.proofs.Common.{◌∙◌, ◌-◌, ap, arith, length, length-append}
+use Rattle.thin_vec.proofs.FillingLemmas.{closed-moves}
+use Rattle.thin_vec.proofs.list.ThinVec.close_filled.Goals as goal
+
+pub returns-clause-cost : goal.returns-clause-cost
+returns-clause-cost g c =
+    let gave = c.fill-rest.ensures.front in
+    let hole = c.fill-rest.new.self in
+    let put = closed-moves c.args.hole hole (c.front_end-end.result - length c.args.hole.front)
+    c.fill-rest.ensures.cost (c.fill-rest.ensures.rest ∙ c.requires.none)
+    c.fill-rest.ensures.tail
+    (omega (
+      arith,
+      c.front_end-end.ensures.value,
+      ap length gave.1,
+      length-append c.args.hole.front gave.0,
+      gave.2,
+    )) in (
+      put.0,
+      c.close.ensures.cost ∙ put.1,
+      put.2,
+      λ full. put.3 (c.fill-rest.ensures.full full),
+    )

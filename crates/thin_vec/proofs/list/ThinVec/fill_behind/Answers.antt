@@ -1,0 +1,54 @@
+-- With no item behind the hole, the closed list is what is left, and `extend` says the rest.
+use Rattle.std.proofs.Common.{◌∙◌, length, subst, sym}
+use Rattle.std.specs.Iterator.{size}
+use Rattle.thin_vec.specs.ThinVec.{HasRoomFor}
+use denote.Param.{param}
+use Rattle.thin_vec.specs.Extend.{IsExtended, IsLoose}
+use Rattle.thin_vec.proofs.FillingLemmas.{closed-left}
+use Rattle.thin_vec.proofs.list.ThinVec.fill_behind.Goals as goal
+
+pub returns-in-Ok-clause-capacity : goal.returns-in-Ok-clause-capacity
+returns-in-Ok-clause-capacity g c =
+    subst (λ n. IsLoose g.G.Growth.rule (param 0 g.row.T) n c.extend.new.self.capacity)
+    c.close.ensures.capacity c.extend.ensures.capacity
+
+pub returns-in-Ok-clause-named : goal.returns-in-Ok-clause-named
+returns-in-Ok-clause-named g c =
+    let w = c.extend.new.self in
+    let left = closed-left c.args.hole c.close.new.self c.args.self.now.alloc c.requires.none
+    c.requires.no_tail c.close.ensures.items c.close.ensures.capacity c.close.ensures.alloc
+    c.close.ensures.cost in
+    subst (λ z. IsExtended g.G.Growth.rule (param 0 g.row.T) z w.capacity (length w.items)
+    (g.I.Iterator.remaining c.args.iter)) left c.extend.ensures.named
+
+pub returns-in-Err-clause-capacity : goal.returns-in-Err-clause-capacity
+returns-in-Err-clause-capacity g c =
+    subst (λ n. IsLoose g.G.Growth.rule (param 0 g.row.T) n c.extend.new.self.capacity)
+    c.close.ensures.capacity c.extend.ensures.capacity
+
+pub returns-in-Err-clause-named : goal.returns-in-Err-clause-named
+returns-in-Err-clause-named g c =
+    let w = c.extend.new.self in
+    let left = closed-left c.args.hole c.close.new.self c.args.self.now.alloc c.requires.none
+    c.requires.no_tail c.close.ensures.items c.close.ensures.capacity c.close.ensures.alloc
+    c.close.ensures.cost in
+    subst (λ z. IsExtended g.G.Growth.rule (param 0 g.row.T) z w.capacity (length w.items)
+    (g.I.Iterator.remaining c.args.iter)) left c.extend.ensures.named
+
+pub returns-in-Ok-clause-had_room : goal.returns-in-Ok-clause-had_room
+returns-in-Ok-clause-had_room g c = λ fit.
+    let left = closed-left c.args.hole c.close.new.self c.args.self.now.alloc c.requires.none
+    c.requires.no_tail c.close.ensures.items c.close.ensures.capacity c.close.ensures.alloc
+    c.close.ensures.cost in
+    c.extend.ensures.had_room
+    (subst (λ z. HasRoomFor z (size (g.I.Iterator.remaining c.args.iter))) (sym left) fit)
+    ∙ c.close.ensures.capacity
+
+pub returns-in-Err-clause-had_room : goal.returns-in-Err-clause-had_room
+returns-in-Err-clause-had_room g c = λ fit.
+    let left = closed-left c.args.hole c.close.new.self c.args.self.now.alloc c.requires.none
+    c.requires.no_tail c.close.ensures.items c.close.ensures.capacity c.close.ensures.alloc
+    c.close.ensures.cost in
+    c.extend.ensures.had_room
+    (subst (λ z. HasRoomFor z (size (g.I.Iterator.remaining c.args.iter))) (sym left) fit)
+    ∙ c.close.ensures.capacity

@@ -1,0 +1,82 @@
+-- With items behind the hole and with none, in the same words.
+use Rattle.std.proofs.Common.{ap, arith, length}
+use denote.Param.{param}
+use Rattle.thin_vec.specs.Filling.{left_of}
+use Rattle.thin_vec.proofs.FillingLemmas.{any-err, if-err, overflows-one, spliced-extended, stopped-now}
+use Rattle.thin_vec.proofs.list.ThinVec.fill_hole.Goals as goal
+
+pub returns-then-has_tail-clause-cause : goal.returns-then-has_tail-clause-cause
+returns-then-has_tail-clause-cause g c =
+    if-err c.fill_between.result (λ refused is now over. (now over).1) c.fill_between.ensures.cause
+
+pub returns-then-has_tail-clause-cause_in_hand : goal.returns-then-has_tail-clause-cause_in_hand
+returns-then-has_tail-clause-cause_in_hand g c =
+    if-err c.fill_between.result (λ refused is now _ over. (now over).0)
+    c.fill_between.ensures.cause
+
+pub returns-then-has_tail-clause-overflow_behind : goal.returns-then-has_tail-clause-overflow_behind
+returns-then-has_tail-clause-overflow_behind g c =
+    let some = c.has_tail.ensures.value.0 c.if-has_tail.true in
+    any-err c.fill_between.result (λ refused none _ _. absurd (omega (arith, some, ap length none)))
+
+pub returns-then-has_tail-clause-held : goal.returns-then-has_tail-clause-held
+returns-then-has_tail-clause-held g c =
+    let some = c.has_tail.ensures.value.0 c.if-has_tail.true in
+    any-err c.fill_between.result (λ refused none. absurd (omega (arith, some, ap length none)))
+
+pub returns-then-has_tail-clause-full : goal.returns-then-has_tail-clause-full
+returns-then-has_tail-clause-full g c =
+    let some = c.has_tail.ensures.value.0 c.if-has_tail.true in
+    any-err c.fill_between.result (λ refused none _. absurd (omega (arith, some, ap length none)))
+
+pub returns-then-has_tail-clause-err : goal.returns-then-has_tail-clause-err
+returns-then-has_tail-clause-err g c =
+    let some = c.has_tail.ensures.value.0 c.if-has_tail.true in
+    any-err c.fill_between.result (λ refused none _. absurd (omega (arith, some, ap length none)))
+
+pub returns-clause-cost : goal.returns-clause-cost
+returns-clause-cost g c =
+    spliced-extended (left_of c.args.hole c.args.self.now.alloc) c.fill_behind.new.self _
+    c.fill_behind.ensures.cost
+
+pub returns-clause-placed : goal.returns-clause-placed
+returns-clause-placed g c =
+    if-err c.fill_behind.result
+    (λ refused is now.
+    let asked = rw is at c.fill_behind.ensures.rest in (
+      now.0,
+      now.1,
+      stopped-now g.I.Iterator.next_gives g.I.Iterator.can_next g.I.Iterator.remaining
+          c.args.iter refused.rest now.0 refused.held.items refused.in_hand
+          (rw is at c.fill_behind.ensures.held) now.2 asked.0 asked.1,
+    )) c.fill_behind.ensures.placed
+
+pub returns-clause-overflow : goal.returns-clause-overflow
+returns-clause-overflow g c =
+    if-err c.fill_behind.result
+    (λ refused is now some _ _. absurd (omega (arith, some, ap length now)))
+    c.fill_behind.ensures.held
+
+pub returns-clause-cause : goal.returns-clause-cause
+returns-clause-cause g c =
+    if-err c.fill_behind.result
+    (λ refused is now over. overflows-one g.G.Growth.rule (param 0 g.row.T)
+    c.fill_behind.new.self refused.held.items refused.in_hand
+    (g.I.Iterator.remaining refused.rest) (rw is at c.fill_behind.ensures.held) (now over))
+    c.fill_behind.ensures.cause
+
+pub returns-clause-overflow_behind : goal.returns-clause-overflow_behind
+returns-clause-overflow_behind g c =
+    if-err c.fill_behind.result (λ refused is now _. now) c.fill_behind.ensures.overflow
+
+pub returns-clause-held : goal.returns-clause-held
+returns-clause-held g c =
+    if-err c.fill_behind.result (λ refused is now _. now) c.fill_behind.ensures.held
+
+pub returns-clause-full : goal.returns-clause-full
+returns-clause-full g c =
+    if-err c.fill_behind.result (λ refused is now _. now) c.fill_behind.ensures.full
+
+pub returns-clause-err : goal.returns-clause-err
+returns-clause-err g c =
+    if-err c.fill_behind.result (λ refused is now _. now) c.fill_behind.ensures.err

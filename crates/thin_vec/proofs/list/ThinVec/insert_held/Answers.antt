@@ -1,0 +1,44 @@
+use Rattle.std.proofs.Common.{◌++◌, ◌∙◌, ap, arith, drop, length, length-append, subst, sym, take}
+use Rattle.std.proofs.lemmas.List.{length-drop, length-take-le}
+use denote.Param.{param}
+use Rattle.thin_vec.specs.Extend.{IsLoose, IsNamed}
+use Rattle.thin_vec.specs.ThinVec.{capacity_for}
+use Rattle.thin_vec.proofs.ExtendLemmas.{loose-ruled}
+use Rattle.thin_vec.proofs.FillingLemmas.{named-ruled}
+use Rattle.thin_block.proofs.Outcomes.{err-same}
+use Rattle.thin_vec.proofs.list.ThinVec.insert_held.Goals as goal
+
+pub returns-in-Err-clause-overflow : goal.returns-in-Err-clause-overflow
+returns-in-Err-clause-overflow g c = λ _ none.
+    let count = c.len.ensures ∙ c.hold-held.result.0.ok.0 in
+    err-same (c.in-Err.ensures.overflow
+    ((λ i. capacity_for g.G.Growth.rule (param 0 g.row.T)
+    (sym c.in-Err.ensures.err i) (count i)) ∙ none))
+
+pub returns-clause-capacity : goal.returns-clause-capacity
+returns-clause-capacity g c =
+    let rule = g.G.Growth.rule in let T = param 0 g.row.T in let law = g.met.G.Growth.law in
+    let v = c.args.self.now in let u = c.reserve.new.self in
+    subst (λ n. IsLoose rule T v.capacity n) (sym c.insert_vec.ensures.capacity)
+    (loose-ruled rule T law v c.len.result u.capacity c.in_default-reserve.ensures.capacity)
+
+pub returns-clause-named : goal.returns-clause-named
+returns-clause-named g c =
+    let rule = g.G.Growth.rule in let T = param 0 g.row.T in let law = g.met.G.Growth.law in
+    let v = c.args.self.now in let u = c.reserve.new.self in let w = c.insert_vec.new.self in
+    let count = c.len.ensures ∙ c.hold-held.result.0.ok.0 in
+    subst (λ d. IsNamed rule T v.capacity d (length w.items)) (sym c.insert_vec.ensures.capacity)
+    (named-ruled rule T law v c.len.result u.capacity (length w.items)
+    c.in_default-reserve.ensures.capacity
+    (omega (
+      arith,
+      count,
+      ap length c.insert_vec.ensures.items,
+      length-append (take c.args.at u.items ++ c.hold-held.result.0.items)
+          (drop c.args.at u.items),
+      length-append (take c.args.at u.items) c.hold-held.result.0.items,
+      length-take-le c.args.at u.items (omega (arith, ap length c.reserve.ensures.items, c.requires.in_bounds)),
+      length-drop c.args.at u.items,
+      c.requires.in_bounds,
+      ap length c.reserve.ensures.items,
+    )))

@@ -1,0 +1,380 @@
+//! How the items of an iterator go between those of a list: a hole is filled, and room is made for what is beyond it.
+ghost use Rattle.std.specs.Prelude.{true, false, ◌≡◌, ℕ, ◌+◌, ◌-◌, ◌*◌, ◌==◌, ◌<◌, ◌≤◌, List, [], ◌∷◌, ◌++◌, IfErr, IsOk, IsSome, MatchOption, None, OnErr, OnOk, drop, if◌then◌else◌, length, take};
+ghost use Rattle.std.specs.Iterator.{Drains, IsFinite, Yields, YieldsThen, size};
+ghost use Rattle.thin_block.specs.Cost.{moving};
+ghost use Rattle.thin_vec.specs.Cheap.{IsCheap};
+ghost use Rattle.thin_vec.specs.Extend.{GaveUp, Gives, IsExtendCost, IsExtended, IsLoose, IsNamed, Overflows};
+ghost use Rattle.thin_vec.specs.Open.{IsOf, reach};
+ghost use Rattle.thin_vec.specs.Filling.{IsSpliced, OverflowsBy, Stopped, left_of, with_between};
+ghost use Rattle.thin_vec.specs.ThinVec.{HasRoomFor, capacity_for};
+
+use crate::errors::{ExtendRefused, SpliceRefused};
+use crate::hole::Hole;
+use crate::list::ThinVec;
+use crate::placing::put_iter;
+use std::alloc::{AllocFailed, Allocator};
+use std::iter::Iterator;
+use thin_block::{Growth, ThinVecError};
+
+impl<T, A: Allocator> Hole<T, A> {
+    // Puts what `iter` gives behind the front. Hands back the iterator, and whether it ended before the hole was full.
+    fn fill<I: Iterator<Item = T>>(&mut self, iter: I) -> (I, bool)
+        requires can_next { I.can_next iter }
+        requires finite { IsFinite (I.remaining iter) }
+        ensures front { (xs : List T) × (self.new.front ≡ self.old.front ++ xs) × (self.new.before + length xs ≡ self.old.before) × Gives I.next_gives iter xs result.1 result.0 }
+        ensures rest { self.new.rest ≡ self.old.rest }
+        ensures behind { self.new.behind ≡ self.old.behind }
+        ensures tail { self.new.tail ≡ self.old.tail }
+        ensures capacity { self.new.capacity ≡ self.old.capacity }
+        ensures alloc { self.new.alloc ≡ self.old.alloc }
+        ensures cost { self.new.cost ≡ moving (self.old.before - self.new.before) self.old.cost }
+        ensures full { result.1 ≡ false → self.new.before ≡ 0 }
+        ensures short { result.1 ≡ true → 0 < self.new.before }
+        ensures asked { result.1 ≡ false → I.can_next result.0 × IsFinite (I.remaining result.0) }
+        ensures nearer { result.1 ≡ false → self.old.before + size (I.remaining result.0) ≤ size (I.remaining iter) }
+    {
+        let (rest, end, ended) = put_iter(&mut self.block, self.kept, self.at, iter);
+        self.kept = end;
+        (rest, ended)
+    }
+
+    // Moves the tail up by `count` slots, as one run.
+    fn widen(&mut self, count: usize)
+        requires some { 0 < count }
+        requires room { reach self.old + count ≤ self.old.capacity }
+        ensures before { self.new.before ≡ self.old.before }
+        ensures front { self.new.front ≡ self.old.front }
+        ensures rest { self.new.rest ≡ self.old.rest }
+        ensures behind { self.new.behind ≡ self.old.behind + count }
+        ensures tail { self.new.tail ≡ self.old.tail }
+        ensures capacity { self.new.capacity ≡ self.old.capacity }
+        ensures alloc { self.new.alloc ≡ self.old.alloc }
+        ensures cost { self.new.cost ≡ moving (length self.old.tail) self.old.cost }
+    {
+        self.block
+            .move_run(self.stop, self.stop + count, self.len - self.stop);
+        self.stop += count;
+        self.len += count;
+    }
+}
+
+impl<T, A: Allocator, G: Growth> ThinVec<T, A, G> {
+    // Fills the hole and closes it. Answers where the items end that were placed, and hands back the iterator, and whether it
+    // ended before the hole was full.
+    fn close_filled<I: Iterator<Item = T>>(
+        &mut self,
+        mut hole: Hole<T, A>,
+        iter: I,
+    ) -> (usize, I, bool)
+        requires empty { self.old.items ≡ [] }
+        requires none { hole.rest ≡ [] }
+        requires behind { hole.behind ≡ 0 }
+        requires from { IsOf hole.alloc self.old.alloc }
+        requires can_next { I.can_next iter }
+        requires finite { IsFinite (I.remaining iter) }
+        ensures items { (xs : List T) × (self.new.items ≡ (hole.front ++ xs) ++ hole.tail) × (result.0 ≡ length hole.front + length xs) × Gives I.next_gives iter xs result.2 result.1 }
+        ensures capacity { self.new.capacity ≡ hole.capacity }
+        ensures alloc { self.new.alloc ≡ self.old.alloc }
+        ensures cost { (m : ℕ) × (self.new.cost ≡ moving (result.0 - length hole.front + m) hole.cost) × (m ≤ length hole.tail) × (result.2 ≡ false → m ≡ 0) }
+        ensures full { result.2 ≡ false → result.0 ≡ length hole.front + hole.before }
+        ensures short { result.2 ≡ true → result.0 < length hole.front + hole.before }
+        ensures asked { result.2 ≡ false → I.can_next result.1 × IsFinite (I.remaining result.1) }
+        ensures nearer { result.2 ≡ false → hole.before + size (I.remaining result.1) ≤ size (I.remaining iter) }
+    {
+        let (rest, ended) = hole.fill(iter);
+        let end = hole.front_end();
+        self.close(hole);
+        (end, rest, ended)
+    }
+
+    // The list's block with `count` empty slots before the item at `at`: the items from there on move up, as one run. The list is
+    // left empty and without a block.
+    fn open_wide(&mut self, at: usize, count: usize) -> Hole<T, A>
+        requires in_bounds { at ≤ length self.old.items }
+        requires room { HasRoomFor self.old count }
+        ensures front { result.front ≡ take at self.old.items }
+        ensures before { result.before ≡ count }
+        ensures rest { result.rest ≡ [] }
+        ensures behind { result.behind ≡ 0 }
+        ensures tail { result.tail ≡ drop at self.old.items }
+        ensures other_capacity { result.capacity ≡ self.old.capacity }
+        ensures from { IsOf result.alloc self.old.alloc }
+        ensures other_cost { result.cost ≡ (if count == 0 then self.old.cost else moving (length self.old.items - at) self.old.cost) }
+        ensures items { self.new.items ≡ [] }
+        ensures alloc { self.new.alloc ≡ self.old.alloc }
+    {
+        let mut hole = self.open(at, at);
+        if count == 0 {
+            return hole;
+        }
+        hole.widen(count);
+        hole.join();
+        hole
+    }
+
+    // Up to `count` items of `iter` go before the item at `at`, into spare room: the items from there on move up by as many
+    // places, as one run, and down again where the iterator ends sooner.
+    fn insert_run<I: Iterator<Item = T>>(
+        &mut self,
+        at: usize,
+        count: usize,
+        iter: I,
+    ) -> (usize, I, bool)
+        requires in_bounds { at ≤ length self.old.items }
+        requires room { HasRoomFor self.old count }
+        requires can_next { I.can_next iter }
+        requires finite { IsFinite (I.remaining iter) }
+        ensures items { (xs : List T) × (self.new.items ≡ (take at self.old.items ++ xs) ++ drop at self.old.items) × (result.0 ≡ at + length xs) × Gives I.next_gives iter xs result.2 result.1 }
+        ensures capacity { self.new.capacity ≡ self.old.capacity }
+        ensures alloc { self.new.alloc ≡ self.old.alloc }
+        ensures cost { (m : ℕ) × (self.new.cost ≡ moving (result.0 - at + m) self.old.cost) × (m ≤ 2 * (length self.old.items - at)) × (result.2 ≡ false → m ≤ length self.old.items - at) }
+        ensures full { result.2 ≡ false → result.0 ≡ at + count }
+        ensures short { result.2 ≡ true → result.0 < at + count }
+        ensures asked { result.2 ≡ false → I.can_next result.1 × IsFinite (I.remaining result.1) }
+    {
+        let hole = self.open_wide(at, count);
+        self.close_filled(hole, iter)
+    }
+}
+
+impl<T: Drop, A: Allocator, G: Growth> ThinVec<T, A, G> {
+    // What `iter` still gives goes before the item at `at`. Room is made for what its hint says, and once more for what it gives
+    // beyond that.
+    fn insert_all<I: Iterator<Item = T>>(
+        &mut self,
+        at: usize,
+        iter: I,
+        alloc: A,
+    ) -> Result<(), SpliceRefused<T, I, A>>
+        requires in_bounds { at ≤ length self.old.items }
+        requires can_next { I.can_next iter }
+        requires finite { IsFinite (I.remaining iter) }
+        ensures items { OnOk result ((xs : List T) × Drains I.next_gives iter xs × (self.new.items ≡ (take at self.old.items ++ xs) ++ drop at self.old.items)) }
+        ensures placed { IfErr result (λ refused. (xs : List T) × (self.new.items ≡ (take at self.old.items ++ xs) ++ drop at self.old.items) × Stopped I.next_gives I.can_next I.remaining iter xs refused.held.items refused.in_hand refused.rest) }
+        ensures overflow { IfErr result (λ refused. 0 < length refused.held.items → refused.in_hand ≡ None → capacity_for G.rule T.row self.new (length refused.held.items) ≡ None → refused.cause ≡ ThinVecError.CapacityOverflow) }
+        ensures cause { IfErr result (λ refused. refused.cause ≡ ThinVecError.CapacityOverflow → (refused.in_hand ≡ None) × OverflowsBy G.rule T.row self.new refused.held.items refused.in_hand (I.remaining refused.rest)) }
+        ensures capacity { IsLoose G.rule T.row self.old.capacity self.new.capacity }
+        ensures named { IsExtended G.rule T.row self.old self.new.capacity (length self.new.items) (I.remaining iter) }
+        ensures cost { IsSpliced self.old self.new (2 * (length self.old.items - at)) }
+        ensures alloc { self.new.alloc ≡ self.old.alloc }
+        ensures cheap { IsCheap self.old → IsCheap self.new }
+    {
+        let hint = iter.size_hint().0;
+        if let Err(cause) = self.reserve(hint) {
+            return Err(SpliceRefused {
+                cause,
+                held: Vec::new(alloc),
+                in_hand: None,
+                rest: iter,
+            });
+        }
+        let (end, rest, ended) = self.insert_run(at, hint, iter);
+        if ended {
+            return Ok(());
+        }
+        self.insert_held(end, rest, alloc)
+    }
+
+    // The same with no hint: the items are held in a vector on `alloc`, and then go in as one run.
+    fn insert_held<I: Iterator<Item = T>>(
+        &mut self,
+        at: usize,
+        iter: I,
+        alloc: A,
+    ) -> Result<(), SpliceRefused<T, I, A>>
+        requires in_bounds { at ≤ length self.old.items }
+        requires can_next { I.can_next iter }
+        requires finite { IsFinite (I.remaining iter) }
+        ensures items { OnOk result ((xs : List T) × Drains I.next_gives iter xs × (self.new.items ≡ (take at self.old.items ++ xs) ++ drop at self.old.items)) }
+        ensures placed { IfErr result (λ refused. Stopped I.next_gives I.can_next I.remaining iter [] refused.held.items refused.in_hand refused.rest) }
+        ensures overflow { IfErr result (λ refused. refused.in_hand ≡ None → capacity_for G.rule T.row self.new (length refused.held.items) ≡ None → refused.cause ≡ ThinVecError.CapacityOverflow) }
+        ensures cause { IfErr result (λ refused. refused.cause ≡ ThinVecError.CapacityOverflow → (refused.in_hand ≡ None) × (0 < length refused.held.items) × (capacity_for G.rule T.row self.new (length refused.held.items) ≡ None)) }
+        ensures capacity { IsLoose G.rule T.row self.old.capacity self.new.capacity }
+        ensures named { IsNamed G.rule T.row self.old.capacity self.new.capacity (length self.new.items) }
+        ensures cost { IsSpliced self.old self.new (length self.old.items - at) }
+        ensures alloc { self.new.alloc ≡ self.old.alloc }
+        ensures cheap { IsCheap self.old → IsCheap self.new }
+        ensures err { OnErr result (self.new ≡ self.old) }
+    {
+        let (held, in_hand, rest) = hold(iter, alloc);
+        if let Some(item) = in_hand {
+            return Err(SpliceRefused {
+                cause: ThinVecError::OutOfMemory,
+                held,
+                in_hand: Some(item),
+                rest,
+            });
+        }
+        if let Err(cause) = self.reserve(held.len()) {
+            return Err(SpliceRefused {
+                cause,
+                held,
+                in_hand: None,
+                rest,
+            });
+        }
+        self.insert_vec(at, held);
+        Ok(())
+    }
+
+    // The items of `held` go before the item at `at`, into spare room.
+    fn insert_vec(&mut self, at: usize, held: Vec<T, A>)
+        requires in_bounds { at ≤ length self.old.items }
+        requires room { HasRoomFor self.old (length held.items) }
+        ensures items { self.new.items ≡ (take at self.old.items ++ held.items) ++ drop at self.old.items }
+        ensures capacity { self.new.capacity ≡ self.old.capacity }
+        ensures alloc { self.new.alloc ≡ self.old.alloc }
+        ensures cost { (m : ℕ) × (self.new.cost ≡ moving (length held.items + m) self.old.cost) × (m ≤ length self.old.items - at) }
+    {
+        let count = held.len();
+        let (_end, _spent, _ended) = self.insert_run(at, count, held.into_iter());
+    }
+}
+
+impl<T: Drop, A: Allocator, G: Growth> ThinVec<T, A, G> {
+    // Puts what `iter` gives into the hole, and what it gives beyond that behind those, and makes the block the list's again.
+    pub(crate) fn fill_hole<I: Iterator<Item = T>>(
+        &mut self,
+        hole: Hole<T, A>,
+        iter: I,
+        alloc: A,
+    ) -> Result<(), SpliceRefused<T, I, A>>
+        requires empty { self.old.items ≡ [] }
+        requires none { hole.rest ≡ [] }
+        requires behind { hole.behind ≡ 0 }
+        requires from { IsOf hole.alloc self.old.alloc }
+        requires can_next { I.can_next iter }
+        requires finite { IsFinite (I.remaining iter) }
+        ensures succeeds { 0 < length hole.tail → size (I.remaining iter) < hole.before → IsOk result }
+        ensures succeeds_behind { hole.tail ≡ [] → HasRoomFor (left_of hole self.old.alloc) (size (I.remaining iter)) → IsOk result }
+        ensures succeeds_empty { hole.tail ≡ [] → size (I.remaining iter) ≡ 0 → IsOk result }
+        ensures items { OnOk result ((xs : List T) × Drains I.next_gives iter xs × (self.new.items ≡ with_between hole xs)) }
+        ensures capacity { IsLoose G.rule T.row hole.capacity self.new.capacity }
+        ensures named { IsExtended G.rule T.row (left_of hole self.old.alloc) self.new.capacity (length self.new.items) (I.remaining iter) }
+        ensures had_room { 0 < length hole.tail → size (I.remaining iter) < hole.before → self.new.capacity ≡ hole.capacity }
+        ensures had_room_behind { hole.tail ≡ [] → HasRoomFor (left_of hole self.old.alloc) (size (I.remaining iter)) → self.new.capacity ≡ hole.capacity }
+        ensures cost { IsSpliced (left_of hole self.old.alloc) self.new (2 * length hole.tail) }
+        ensures alloc { self.new.alloc ≡ self.old.alloc }
+        ensures cheap { IsCheap (left_of hole self.old.alloc) → IsCheap self.new }
+        ensures placed { IfErr result (λ refused. (xs : List T) × (self.new.items ≡ with_between hole xs) × Stopped I.next_gives I.can_next I.remaining iter xs refused.held.items refused.in_hand refused.rest) }
+        ensures range { OnErr result (0 < length hole.tail → length hole.front + length hole.tail + hole.before ≤ length self.new.items) }
+        ensures overflow { IfErr result (λ refused. 0 < length refused.held.items → refused.in_hand ≡ None → capacity_for G.rule T.row self.new (length refused.held.items) ≡ None → refused.cause ≡ ThinVecError.CapacityOverflow) }
+        ensures cause { IfErr result (λ refused. refused.cause ≡ ThinVecError.CapacityOverflow → OverflowsBy G.rule T.row self.new refused.held.items refused.in_hand (I.remaining refused.rest)) }
+        ensures cause_in_hand { IfErr result (λ refused. 0 < length hole.tail → refused.cause ≡ ThinVecError.CapacityOverflow → refused.in_hand ≡ None) }
+        ensures overflow_behind { IfErr result (λ refused. hole.tail ≡ [] → IsSome refused.in_hand → capacity_for G.rule T.row self.new 1 ≡ None → refused.cause ≡ ThinVecError.CapacityOverflow) }
+        ensures held { IfErr result (λ refused. hole.tail ≡ [] → refused.held.items ≡ []) }
+        ensures full { IfErr result (λ refused. hole.tail ≡ [] → IsSome refused.in_hand → length self.new.items ≡ self.new.capacity) }
+        ensures err { IfErr result (λ refused. hole.tail ≡ [] → refused.in_hand ≡ None → (self.new ≡ left_of hole self.old.alloc) × (refused.rest ≡ iter)) }
+    {
+        if hole.has_tail() {
+            return self.fill_between(hole, iter, alloc);
+        }
+        self.fill_behind(hole, iter, alloc)
+    }
+
+    // Fills the hole with what `iter` gives, which has items behind it, and then makes room before those for what it gives beyond
+    // that. Room is made for what its hint says, and once more for the rest.
+    fn fill_between<I: Iterator<Item = T>>(
+        &mut self,
+        hole: Hole<T, A>,
+        iter: I,
+        alloc: A,
+    ) -> Result<(), SpliceRefused<T, I, A>>
+        requires empty { self.old.items ≡ [] }
+        requires none { hole.rest ≡ [] }
+        requires behind { hole.behind ≡ 0 }
+        requires from { IsOf hole.alloc self.old.alloc }
+        requires can_next { I.can_next iter }
+        requires finite { IsFinite (I.remaining iter) }
+        ensures succeeds { size (I.remaining iter) < hole.before → IsOk result }
+        ensures items { OnOk result ((xs : List T) × Drains I.next_gives iter xs × (self.new.items ≡ with_between hole xs)) }
+        ensures placed { IfErr result (λ refused. (xs : List T) × (self.new.items ≡ with_between hole xs) × Stopped I.next_gives I.can_next I.remaining iter xs refused.held.items refused.in_hand refused.rest) }
+        ensures range { OnErr result (length hole.front + length hole.tail + hole.before ≤ length self.new.items) }
+        ensures overflow { IfErr result (λ refused. 0 < length refused.held.items → refused.in_hand ≡ None → capacity_for G.rule T.row self.new (length refused.held.items) ≡ None → refused.cause ≡ ThinVecError.CapacityOverflow) }
+        ensures cause { IfErr result (λ refused. refused.cause ≡ ThinVecError.CapacityOverflow → (refused.in_hand ≡ None) × OverflowsBy G.rule T.row self.new refused.held.items refused.in_hand (I.remaining refused.rest)) }
+        ensures capacity { IsLoose G.rule T.row hole.capacity self.new.capacity }
+        ensures named { IsExtended G.rule T.row (left_of hole self.old.alloc) self.new.capacity (length self.new.items) (I.remaining iter) }
+        ensures had_room { size (I.remaining iter) < hole.before → self.new.capacity ≡ hole.capacity }
+        ensures cost { IsSpliced (left_of hole self.old.alloc) self.new (2 * length hole.tail) }
+        ensures alloc { self.new.alloc ≡ self.old.alloc }
+        ensures cheap { IsCheap (left_of hole self.old.alloc) → IsCheap self.new }
+    {
+        let (end, rest, ended) = self.close_filled(hole, iter);
+        if ended {
+            return Ok(());
+        }
+        self.insert_all(end, rest, alloc)
+    }
+
+    // What `iter` gives goes behind the items in front, as by `extend`: there are none behind the hole.
+    fn fill_behind<I: Iterator<Item = T>>(
+        &mut self,
+        hole: Hole<T, A>,
+        iter: I,
+        alloc: A,
+    ) -> Result<(), SpliceRefused<T, I, A>>
+        requires empty { self.old.items ≡ [] }
+        requires none { hole.rest ≡ [] }
+        requires no_tail { hole.tail ≡ [] }
+        requires behind { hole.behind ≡ 0 }
+        requires from { IsOf hole.alloc self.old.alloc }
+        requires can_next { I.can_next iter }
+        requires finite { IsFinite (I.remaining iter) }
+        ensures succeeds { HasRoomFor (left_of hole self.old.alloc) (size (I.remaining iter)) → IsOk result }
+        ensures succeeds_empty { size (I.remaining iter) ≡ 0 → IsOk result }
+        ensures items { OnOk result ((xs : List T) × Drains I.next_gives iter xs × (self.new.items ≡ with_between hole xs)) }
+        ensures placed { IfErr result (λ refused. (xs : List T) × (self.new.items ≡ with_between hole xs) × GaveUp I.next_gives iter xs refused.in_hand refused.rest) }
+        ensures rest { IfErr result (λ refused. I.can_next refused.rest × IsFinite (I.remaining refused.rest)) }
+        ensures held { IfErr result (λ refused. refused.held.items ≡ []) }
+        ensures overflow { IfErr result (λ refused. IsSome refused.in_hand → capacity_for G.rule T.row self.new 1 ≡ None → refused.cause ≡ ThinVecError.CapacityOverflow) }
+        ensures cause { IfErr result (λ refused. refused.cause ≡ ThinVecError.CapacityOverflow → Overflows G.rule T.row self.new refused.in_hand (I.remaining refused.rest)) }
+        ensures capacity { IsLoose G.rule T.row hole.capacity self.new.capacity }
+        ensures named { IsExtended G.rule T.row (left_of hole self.old.alloc) self.new.capacity (length self.new.items) (I.remaining iter) }
+        ensures had_room { HasRoomFor (left_of hole self.old.alloc) (size (I.remaining iter)) → self.new.capacity ≡ hole.capacity }
+        ensures cost { IsExtendCost (left_of hole self.old.alloc) self.new }
+        ensures alloc { self.new.alloc ≡ self.old.alloc }
+        ensures cheap { IsCheap (left_of hole self.old.alloc) → IsCheap self.new }
+        ensures full { IfErr result (λ refused. IsSome refused.in_hand → length self.new.items ≡ self.new.capacity) }
+        ensures err { IfErr result (λ refused. refused.in_hand ≡ None → (self.new ≡ left_of hole self.old.alloc) × (refused.rest ≡ iter)) }
+    {
+        self.close(hole);
+        match self.extend(iter) {
+            Ok(()) => Ok(()),
+            Err(refused) => {
+                let ExtendRefused {
+                    cause,
+                    in_hand,
+                    rest,
+                } = refused;
+                Err(SpliceRefused {
+                    cause,
+                    held: Vec::new(alloc),
+                    in_hand,
+                    rest,
+                })
+            }
+        }
+    }
+}
+
+// Draws the items of `iter` into a vector on `alloc`, until the iterator ends, or memory is refused for an item that was
+// drawn. Hands back the vector, that item, and the iterator.
+fn hold<T, A: Allocator, I: Iterator<Item = T>>(iter: I, alloc: A) -> (Vec<T, A>, Option<T>, I)
+    requires can_next { I.can_next iter }
+    requires finite { IsFinite (I.remaining iter) }
+    ensures gave { MatchOption result.1 (YieldsThen I.next_gives iter result.0.items None result.2) (λ x. Yields I.next_gives iter (result.0.items ++ x ∷ []) result.2) }
+    ensures asked { IsSome result.1 → I.can_next result.2 × IsFinite (I.remaining result.2) }
+{
+    let mut held = Vec::new(alloc);
+    let mut rest = iter;
+    while let Some(item) = rest.next() {
+        match held.push(item) {
+            Ok(()) => (),
+            Err(refused) => {
+                let AllocFailed { value } = refused;
+                return (held, Some(value), rest);
+            }
+        }
+    }
+    (held, None, rest)
+}

@@ -1,0 +1,166 @@
+//! `splice`: the items of a range go out of a list, one by one, from either end, and those of an iterator take their place.
+ghost use Rattle.std.specs.Prelude.{◌≡◌, ◌+◌, ◌-◌, ◌*◌, ◌<◌, ◌≤◌, ◌++◌, ◌↔◌, List, [], IfErr, IsOk, IsSome, IsTrue, None, OnErr, OnOk, Some, drop, length, slice_range, take};
+ghost use Rattle.std.specs.Iterator.{Drains, IsFinite, size};
+ghost use Rattle.std.specs.Iterator.Runs.{SomeRun, WholeRun};
+ghost use Rattle.std.specs.Option.{option_to_list};
+ghost use Rattle.thin_vec.specs.Cheap.{IsCheap};
+ghost use Rattle.thin_vec.specs.Extend.{IsExtended, IsLoose};
+ghost use Rattle.thin_vec.specs.Open.{IsOf};
+ghost use Rattle.thin_vec.specs.Filling.{IsSpliced, OverflowsBy, Stopped};
+ghost use Rattle.thin_vec.specs.ThinVec.{HasRoomFor, capacity_for};
+
+use crate::errors::SpliceRefused;
+use crate::holds::{Holder, Holds};
+use crate::hole::Hole;
+use crate::list::ThinVec;
+use std::alloc::{Allocator, Global};
+use std::iter::Iterator;
+use thin_block::{Doubling, Growth, ThinVecError};
+
+/// The items of a range of a list, handed out from either end, and an iterator whose items are to take their place.
+///
+/// It is ended by `finish` alone: a program that lets one go is refused. While it lives it owns the list's block, and the list is
+/// empty and without one.
+pub struct Splice<
+    'a,
+    I,
+    T,
+    A: Allocator = Global,
+    G: Growth = Doubling,
+    H: Holds<Inner = Hole<T, A>> = Holder<Hole<T, A>>,
+> {
+    list: &'a mut ThinVec<T, A, G>,
+    held: H,
+    iter: I,
+    ghost from: { IsOf (H.inner held).alloc list.now.alloc },
+}
+
+impl<T, A: Allocator, G: Growth> ThinVec<T, A, G> {
+    ghost use Rattle.thin_vec.specs.Splice.{splice_alloc, splice_hole, splice_iter, splice_lender, splice_range};
+
+    /// Takes the items from `start` up to `end` out of the list, and puts those of `iter` in their place: the answer hands the
+    /// former out from either end, and its `finish` draws the latter.
+    ///
+    /// It takes no memory, and draws no item of `iter`. `bounds` is the test for the range.
+    pub fn splice<I: Iterator<Item = T>>(
+        &mut self,
+        start: usize,
+        end: usize,
+        iter: I,
+    ) -> Splice<'_, I, T, A, G>
+        requires start_le_end { start ≤ end }
+        requires in_bounds { end ≤ length self.old.items }
+        ensures front { (splice_hole result).front ≡ take start self.old.items }
+        ensures rest { (splice_hole result).rest ≡ slice_range self.old.items start end }
+        ensures tail { (splice_hole result).tail ≡ drop end self.old.items }
+        ensures range { splice_range result ≡ end - start }
+        ensures iter { splice_iter result ≡ iter }
+        ensures same_reference { splice_lender result ≡ self.entry.ghost_name }
+        ensures capacity { (splice_hole result).capacity ≡ self.old.capacity }
+        ensures alloc { splice_alloc result ≡ self.old.alloc }
+        ensures cost { (splice_hole result).cost ≡ self.old.cost }
+    {
+        let hole = self.open(start, end);
+        Splice {
+            list: self,
+            held: Holder { value: hole },
+            iter,
+        }
+    }
+}
+
+impl<'a, T, I, A: Allocator, G: Growth> Splice<'a, I, T, A, G> {
+    ghost use Rattle.thin_vec.specs.Splice.{SpliceSteps, SpliceStepsBack, splice_hole};
+
+    /// How many items of the range remain.
+    pub fn len(&self) -> usize
+        ensures value { result ≡ length (splice_hole self.now).rest }
+    {
+        self.held.value.rest_len()
+    }
+
+    /// How many items of the range remain, as the least and the greatest number that may come.
+    pub fn size_hint(&self) -> (usize, Option<usize>)
+        ensures value { result ≡ (length (splice_hole self.now).rest, Some (length (splice_hole self.now).rest)) }
+    {
+        let len = self.len();
+        (len, Some(len))
+    }
+
+    /// Hands out the first item of those of the range that remain, or answers `None` where none does.
+    pub fn next(&mut self) -> Option<T>
+        ensures steps { SpliceSteps self.old result self.new }
+    {
+        if self.held.value.rest_len() == 0 {
+            return None;
+        }
+        Some(self.held.value.take_first())
+    }
+
+    /// Hands out the last item of those of the range that remain, or answers `None` where none does.
+    pub fn next_back(&mut self) -> Option<T>
+        ensures steps { SpliceStepsBack self.old result self.new }
+    {
+        if self.held.value.rest_len() == 0 {
+            return None;
+        }
+        Some(self.held.value.take_last())
+    }
+}
+
+impl<
+    'a,
+    T: Drop,
+    I: Iterator<Item = T>,
+    A: Allocator,
+    G: Growth,
+    H: Holds<Inner = Hole<T, A>>,
+> Splice<'a, I, T, A, G, H> {
+    ghost use Rattle.thin_vec.specs.Splice.{splice_alloc, splice_hole, splice_iter, splice_left, splice_range, splice_replaced};
+
+    /// Drops what is left of the range, and puts the items in its place that the iterator gives before its first `None`. After
+    /// that it is not asked again.
+    ///
+    /// With no item behind the range this is an `extend`. With some, the range's places are filled first, and where the iterator
+    /// ends by then, no memory is taken. Then its hint is asked, once, and room is made for its lower bound. What it gives beyond
+    /// that is held in a vector on `alloc`, and goes in as one run. Refused, the list has what was placed, and the rest is handed
+    /// back.
+    pub fn finish(self, alloc: A) -> Result<(), SpliceRefused<T, I, A>>
+        requires can_next { I.can_next (splice_iter self) }
+        requires finite { IsFinite (I.remaining (splice_iter self)) }
+        ensures succeeds { 0 < length (splice_hole self.entry).tail → size (I.remaining (splice_iter self.entry)) < splice_range self.entry → IsOk result }
+        ensures succeeds_behind { (splice_hole self.entry).tail ≡ [] → HasRoomFor (splice_left self.entry) (size (I.remaining (splice_iter self.entry))) → IsOk result }
+        ensures succeeds_empty { (splice_hole self.entry).tail ≡ [] → size (I.remaining (splice_iter self.entry)) ≡ 0 → IsOk result }
+        ensures items { OnOk result ((xs : List T) × Drains I.next_gives (splice_iter self.entry) xs × (self.exit.0.now.items ≡ splice_replaced self.entry xs)) }
+        ensures runs { OnOk result (WholeRun I.next_gives (splice_iter self.entry) (λ p. self.exit.0.now.items ≡ splice_replaced self.entry p.items)) }
+
+        // Accepted or refused, each item that came in has moved once, and each of those behind the range at most twice.
+        ensures capacity { IsLoose G.rule T.row (splice_hole self.entry).capacity self.exit.0.now.capacity }
+        ensures named { IsExtended G.rule T.row (splice_left self.entry) self.exit.0.now.capacity (length self.exit.0.now.items) (I.remaining (splice_iter self.entry)) }
+        ensures had_room { 0 < length (splice_hole self.entry).tail → size (I.remaining (splice_iter self.entry)) < splice_range self.entry → self.exit.0.now.capacity ≡ (splice_hole self.entry).capacity }
+        ensures had_room_behind { (splice_hole self.entry).tail ≡ [] → HasRoomFor (splice_left self.entry) (size (I.remaining (splice_iter self.entry))) → self.exit.0.now.capacity ≡ (splice_hole self.entry).capacity }
+        ensures never_less { (splice_hole self.entry).capacity ≤ self.exit.0.now.capacity }
+        ensures cost { IsSpliced (splice_left self.entry) self.exit.0.now (2 * length (splice_hole self.entry).tail) }
+        ensures alloc { self.exit.0.now.alloc ≡ splice_alloc self.entry }
+        ensures cheap { IsCheap (splice_left self.entry) → IsCheap self.exit.0.now }
+
+        // Refused, no item is lost. With items behind the range, its places are filled by then.
+        ensures placed { IfErr result (λ refused. (xs : List T) × (self.exit.0.now.items ≡ splice_replaced self.entry xs) × Stopped I.next_gives I.can_next I.remaining (splice_iter self.entry) xs refused.held.items refused.in_hand refused.rest) }
+        ensures range { OnErr result (0 < length (splice_hole self.entry).tail → length (splice_left self.entry).items + splice_range self.entry ≤ length self.exit.0.now.items) }
+        ensures overflow { IfErr result (λ refused. 0 < length refused.held.items → refused.in_hand ≡ None → capacity_for G.rule T.row self.exit.0.now (length refused.held.items) ≡ None → refused.cause ≡ ThinVecError.CapacityOverflow) }
+        ensures cause { IfErr result (λ refused. refused.cause ≡ ThinVecError.CapacityOverflow → OverflowsBy G.rule T.row self.exit.0.now refused.held.items refused.in_hand (I.remaining refused.rest)) }
+        ensures cause_in_hand { IfErr result (λ refused. 0 < length (splice_hole self.entry).tail → refused.cause ≡ ThinVecError.CapacityOverflow → refused.in_hand ≡ None) }
+
+        // With none behind it, it is refused as an `extend`.
+        ensures overflow_behind { IfErr result (λ refused. (splice_hole self.entry).tail ≡ [] → IsSome refused.in_hand → capacity_for G.rule T.row self.exit.0.now 1 ≡ None → refused.cause ≡ ThinVecError.CapacityOverflow) }
+        ensures held { IfErr result (λ refused. (splice_hole self.entry).tail ≡ [] → refused.held.items ≡ []) }
+        ensures full { IfErr result (λ refused. (splice_hole self.entry).tail ≡ [] → IsSome refused.in_hand → length self.exit.0.now.items ≡ self.exit.0.now.capacity) }
+        ensures err { IfErr result (λ refused. (splice_hole self.entry).tail ≡ [] → refused.in_hand ≡ None → (self.exit.0.now ≡ splice_left self.entry) × (refused.rest ≡ splice_iter self.entry)) }
+    {
+        let Splice { list, held, iter } = self;
+        let mut hole = held.into_inner();
+        hole.drop_rest();
+        list.clear();
+        list.fill_hole(hole, iter, alloc)
+    }
+}

@@ -1,0 +1,56 @@
+-- A range that was replaced, and put back.
+use Rattle.std.proofs.Common.{Option, subst, ◌≡◌, ℕ, ◌+◌, ◌≤◌, List, ◌++◌, ◌∙◌, ap, append_assoc, arith, drop, length, length-append, sym, take}
+use Rattle.std.proofs.lemmas.List.{drop_at, length-take-le, take_at}
+use Rattle.std.proofs.lemmas.List.Edits.{split_between}
+use Rattle.std.specs.Iterator.Runs.{WholeRun}
+use Rattle.std.specs.Prelude.{OnOk, slice_range}
+use Rattle.std.specs.declared.result.Result.{Result}
+use Rattle.std.specs.declared.result.Result.TheVariants.{Ok, Err}
+
+module _ {T : Type 0} (old numbers : List T) (start stop : ℕ) where
+  -- there are enough of them to take the numbers out again
+  pub range_within : (new : List T) → start ≤ stop → stop ≤ length old
+      → new ≡ (take start old ++ numbers) ++ drop stop old
+      → start + length numbers ≤ length new
+  range_within new order within e =
+      omega (
+        arith,
+        ap length e,
+        length-append (take start old ++ numbers) (drop stop old),
+        length-append (take start old) numbers,
+        length-take-le start old (omega (arith, order, within)),
+      )
+
+  -- the old range in the place of the numbers gives the old items
+  pub put_back : (new : List T) → start ≤ stop → stop ≤ length old
+      → new ≡ (take start old ++ numbers) ++ drop stop old
+      → (take start new ++ slice_range old start stop) ++ drop (start + length numbers) new ≡ old
+  put_back new order within e =
+      let pre : List T = take start old in
+      let post : List T = drop stop old in
+      let gone : List T = slice_range old start stop in
+      let here : length pre ≡ start = length-take-le start old (omega (arith, order, within)) in
+      let there : length (pre ++ numbers) ≡ start + length numbers =
+      omega (arith, length-append pre numbers, here) in
+      let front : take start new ≡ pre =
+      ap (λ l. take start l) (e ∙ append_assoc pre numbers post)
+      ∙ take_at pre (numbers ++ post) start here in
+      let back : drop (start + length numbers) new ≡ post =
+      ap (λ l. drop (start + length numbers) l) e
+      ∙ drop_at (pre ++ numbers) post (start + length numbers) there in
+      (λ i. (front i ++ gone) ++ back i)
+      ∙ (append_assoc pre gone post ∙ sym (split_between old start stop order))
+
+-- a fact of an accepted call gives another
+pub on_ok : {X E P Q : Type 0} (r : Result X E) → (P → Q) → OnOk r P → OnOk r Q
+on_ok (Ok _) h p = h p
+on_ok (Err _) h p = p
+
+-- what a whole run gave stands between the items before and behind a range, under other names
+pub run_between : {S T X E : Type 0} (steps : S → Option T → S → Type 0) (r : Result X E)
+    (items : List T) {s s' : S} {front front' tail tail' : List T} → s ≡ s' → front ≡ front'
+    → tail ≡ tail' → OnOk r (WholeRun steps s (λ p. items ≡ (front ++ p.items) ++ tail))
+    → OnOk r (WholeRun steps s' (λ p. items ≡ (front' ++ p.items) ++ tail'))
+run_between {S} {T} steps r items same first last run =
+    subst (λ (u : S × (List T × List T)). OnOk r (WholeRun steps u.0
+    (λ p. items ≡ (u.1.0 ++ p.items) ++ u.1.1))) (λ i. (same i, (first i, last i))) run

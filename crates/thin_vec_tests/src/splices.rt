@@ -1,0 +1,365 @@
+//! `splice`: what a program may promise of it, and what `finish` leaves, wherever it is refused.
+ghost use Rattle.std.specs.Iterator.{IsFinite};
+ghost use Rattle.std.specs.Iterator.Runs.{WholeRun};
+ghost use Rattle.std.specs.Prelude.{◌≡◌, ◌≤◌, ◌++◌, OnOk, drop, length, take};
+
+#[cfg(test)]
+use crate::answers::Answers;
+#[cfg(test)]
+use crate::counted::Counted;
+#[cfg(test)]
+use crate::standing::{assert_counts, assert_items, assert_list, assert_same};
+#[cfg(test)]
+use refusing::Refusing;
+use std::alloc::Allocator;
+#[cfg(test)]
+use std::cell::Cell;
+#[cfg(test)]
+use std::iter::empty;
+#[cfg(test)]
+use std::process::Abort;
+#[cfg(test)]
+use thin_vec::thin_vec;
+use thin_vec::{Growth, SpliceRefused, ThinVec, ThinVecError};
+
+/// Puts what `iter` gives in the place of the items from `start` up to `end`. Refused, what found no room is handed back.
+///
+/// A splice by an iterator that borrows, as that over a slice, is proved in a function like this one, which is generic in it.
+pub fn splice_by<T: Drop, A: Allocator, G: Growth, I: Iterator<Item = T>>(
+    list: &mut ThinVec<T, A, G>,
+    range: (usize, usize),
+    iter: I,
+    alloc: A,
+) -> Result<(), SpliceRefused<T, I, A>>
+    requires start_le_end { range.0 ≤ range.1 }
+    requires in_bounds { range.1 ≤ length list.old.items }
+    requires can_next { I.can_next iter }
+    requires finite { IsFinite (I.remaining iter) }
+    ensures runs { OnOk result (WholeRun I.next_gives iter (λ p. list.new.items ≡ (take range.0 list.old.items ++ p.items) ++ drop range.1 list.old.items)) }
+{
+    list.splice(range.0, range.1, iter).finish(alloc)
+}
+
+/// Puts the numbers in the place of the items from `start` up to `end`. Refused, those that found no room are dropped.
+pub fn replace<A: Allocator, G: Growth>(
+    list: &mut ThinVec<u32, A, G>,
+    start: usize,
+    end: usize,
+    numbers: &[u32],
+    alloc: A,
+) -> Result<(), ThinVecError>
+    requires start_le_end { start ≤ end }
+    requires in_bounds { end ≤ length list.old.items }
+    ensures items { OnOk result (list.new.items ≡ (take start list.old.items ++ numbers.now) ++ drop end list.old.items) }
+{
+    match splice_by(list, (start, end), numbers.iter().copied(), alloc) {
+        Ok(()) => Ok(()),
+        Err(refused) => Err(refused.cause),
+    }
+}
+
+/// Puts the numbers in the place of the items from `start` up to `end`, and then takes that back: the list is as before.
+pub fn replace_and_undo<A: Allocator + Copy, G: Growth>(
+    list: &mut ThinVec<u32, A, G>,
+    start: usize,
+    end: usize,
+    numbers: &[u32],
+    alloc: A,
+) -> Result<(), ThinVecError>
+    requires start_le_end { start ≤ end }
+    requires in_bounds { end ≤ length list.old.items }
+    ensures items { OnOk result (list.new.items ≡ list.old.items) }
+{
+    let gone = ThinVec::from_copies(alloc, &list.as_slice()[start..end])?;
+    replace(list, start, end, numbers, alloc)?;
+    let _len = list.len();
+    replace(list, start, start + numbers.len(), gone.as_slice(), alloc)
+}
+
+#[test]
+fn a_splice_is_undone(rt: HostRuntime) {
+    for (numbers, capacity) in [(&[][..], 3), (&[7][..], 3), (&[7, 8, 9][..], 6)] {
+        let mut list = thin_vec![rt.alloc() => 1, 2, 3].expect(&rt, "memory");
+        assert_eq!(rt; list.len(), 3);
+        let undone = replace_and_undo(&mut list, 1, 2, numbers, rt.alloc());
+        undone.expect(&rt, "memory");
+        assert_same(
+            &rt,
+            (list.as_slice(), list.capacity()),
+            (&[1, 2, 3][..], capacity),
+        );
+    }
+}
+
+#[cfg(test)]
+const TEN_TO_FOURTEEN: [Option<i32>; 5] = [Some(10), Some(11), Some(12), Some(13), Some(14)];
+
+// Of a list of 1, 2, 3, 4, 5, takes 3 out by `next` and 4 by `next_back`, as `ends` says, and then puts the items of `given` in the
+// place of both.
+#[cfg(test)]
+fn splice_five<A: Allocator, I: Iterator<Item = i32>>(
+    rt: &impl Abort,
+    list: &mut ThinVec<i32, A>,
+    given: I,
+    alloc: A,
+    ends: (bool, bool),
+) -> Result<(), SpliceRefused<i32, I, A>>
+    requires can_next { I.can_next given }
+    requires finite { IsFinite (I.remaining given) }
+{
+    assert_eq!(rt; list.len(), 5);
+    let mut splice = list.splice(2, 4, given);
+    assert_same(rt, (splice.len(), splice.size_hint()), (2, (2, Some(2))));
+    if ends.0 {
+        assert_same(rt, splice.next(), Some(3));
+    }
+    if ends.1 {
+        assert_same(rt, splice.next_back(), Some(4));
+    }
+    splice.finish(alloc)
+}
+
+// How many items are given, the lower bound that is claimed, the items and the capacity then, and how many requests for memory
+// there were behind the first.
+#[cfg(test)]
+const DONE: [(usize, usize, &[i32], usize, u64); 9] = [
+    (0, 0, &[1, 2, 5], 5, 0),
+    (1, 1, &[1, 2, 10, 5], 5, 0),
+    (1, usize::MAX, &[1, 2, 10, 5], 5, 0),
+    (2, 0, &[1, 2, 10, 11, 5], 5, 0),
+    (3, 0, &[1, 2, 10, 11, 12, 5], 10, 2),
+    (3, 1, &[1, 2, 10, 11, 12, 5], 10, 1),
+    (3, 1000, &[1, 2, 10, 11, 12, 5], 1005, 1),
+    (5, 1, &[1, 2, 10, 11, 12, 13, 14, 5], 10, 2),
+    (5, 3, &[1, 2, 10, 11, 12, 13, 14, 5], 10, 1),
+];
+
+#[test]
+fn what_a_splice_leaves(rt: HostRuntime) {
+    for (given, lower, items, capacity, requests) in DONE {
+        for ends in [(false, false), (true, false), (false, true), (true, true)] {
+            let refusing = Refusing::new(rt.alloc(), 0);
+            let asked = Cell::new(0);
+            let mut list = thin_vec![&refusing => 1, 2, 3, 4, 5].expect(&rt, "memory");
+            let iter = Answers::new(
+                TEN_TO_FOURTEEN.get(..given).expect(&rt, "a range"),
+                lower,
+                &asked,
+            );
+            splice_five(&rt, &mut list, iter, &refusing, ends)
+                .ok()
+                .expect(&rt, "memory");
+            assert_list(&rt, &list, items, capacity);
+            assert_counts(&rt, &refusing, requests.saturating_add(1), 1);
+        }
+    }
+}
+
+// The lower bound that is claimed of five items, the request that is refused, the list's items and capacity then, what is held,
+// what is in hand, and what the rest gives.
+#[cfg(test)]
+const REFUSED: [(usize, u64, &[i32], usize, &[i32], Option<i32>, &[i32]); 5] = [
+    (1, 2, &[1, 2, 10, 11, 5], 5, &[], None, &[12, 13, 14]),
+    (1, 3, &[1, 2, 10, 11, 12, 5], 10, &[], Some(13), &[14]),
+    (0, 2, &[1, 2, 10, 11, 5], 5, &[], Some(12), &[13, 14]),
+    (0, 3, &[1, 2, 10, 11, 5], 5, &[12, 13, 14], None, &[]),
+    (
+        usize::MAX,
+        0,
+        &[1, 2, 10, 11, 5],
+        5,
+        &[],
+        None,
+        &[12, 13, 14],
+    ),
+];
+
+// What a refused `finish` hands back: the cause, what is held, what is in hand, and what the rest gives.
+#[cfg(test)]
+fn assert_refused<A: Allocator>(
+    rt: &impl Abort,
+    refused: SpliceRefused<i32, Answers<'_>, A>,
+    wanted: (ThinVecError, &[i32], Option<i32>, &[i32]),
+) {
+    let SpliceRefused {
+        cause,
+        held,
+        in_hand,
+        mut rest,
+    } = refused;
+    assert_same(rt, (cause, in_hand), (wanted.0, wanted.2));
+    assert_items(rt, held.as_slice(), wanted.1);
+    for item in wanted.3 {
+        assert_same(rt, rest.next(), Some(*item));
+    }
+    assert_same(rt, rest.next(), None);
+}
+
+#[test]
+fn what_a_refused_finish_leaves(rt: HostRuntime) {
+    for (lower, request, items, capacity, held, in_hand, rest) in REFUSED {
+        let refusing = Refusing::new(rt.alloc(), request);
+        let asked = Cell::new(0);
+        let mut list = thin_vec![&refusing => 1, 2, 3, 4, 5].expect(&rt, "memory");
+        let iter = Answers::new(&TEN_TO_FOURTEEN, lower, &asked);
+        let refused = splice_five(&rt, &mut list, iter, &refusing, (false, false))
+            .err()
+            .expect(&rt, "accepted");
+        assert_list(&rt, &list, items, capacity);
+        let cause = if request == 0 {
+            ThinVecError::CapacityOverflow
+        } else {
+            ThinVecError::OutOfMemory
+        };
+        assert_refused(&rt, refused, (cause, held, in_hand, rest));
+        assert_same(&rt, refusing.blocks(), 1);
+    }
+}
+
+#[test]
+fn row_12_splice_refused(rt: HostRuntime) {
+    let refusing = Refusing::new(rt.alloc(), 2);
+    let asked = Cell::new(0);
+    let mut list = thin_vec![&refusing => 1, 2, 3, 4, 5].expect(&rt, "memory");
+    let iter = Answers::new(&[Some(10), Some(11), Some(12)], 0, &asked);
+    let refused = splice_five(&rt, &mut list, iter, &refusing, (false, false))
+        .err()
+        .expect(&rt, "accepted");
+    assert_list(&rt, &list, &[1, 2, 10, 11, 5], 5);
+    assert_refused(
+        &rt,
+        refused,
+        (ThinVecError::OutOfMemory, &[], Some(12), &[]),
+    );
+}
+
+#[test]
+fn row_39_splice_refused(rt: HostRuntime) {
+    // The list's first memory, the vector's, and then the list's growth.
+    let refusing = Refusing::new(rt.alloc(), 3);
+    let asked = Cell::new(0);
+    let mut list = thin_vec![&refusing => 1, 2, 3].expect(&rt, "memory");
+    let iter = Answers::new(&[Some(7), Some(8), Some(9)], 0, &asked);
+    assert_eq!(rt; list.len(), 3);
+    let refused = splice_by(&mut list, (1, 2), iter, &refusing)
+        .err()
+        .expect(&rt, "accepted");
+    assert_list(&rt, &list, &[1, 7, 3], 3);
+    assert_refused(
+        &rt,
+        refused,
+        (ThinVecError::OutOfMemory, &[8, 9], None, &[]),
+    );
+}
+
+#[test]
+fn the_hint_is_asked_only_once_the_range_is_full(rt: HostRuntime) {
+    let alloc = rt.alloc();
+    let asked = Cell::new(0);
+    let nine = [Some(9)];
+    let mut list = thin_vec![alloc => 1, 2, 3].expect(&rt, "memory");
+    let iter = Answers::new(&nine, usize::MAX, &asked);
+    assert_eq!(rt; list.len(), 3);
+    let done = splice_by(&mut list, (0, 2), iter, alloc);
+    done.ok().expect(&rt, "refused");
+    assert_list(&rt, &list, &[9, 3], 3);
+    assert_same(&rt, asked.get(), 2);
+
+    let mut list = thin_vec![alloc => 1, 2, 3].expect(&rt, "memory");
+    let iter = Answers::new(&nine, usize::MAX, &asked);
+    assert_eq!(rt; list.len(), 3);
+    let refused = splice_by(&mut list, (0, 1), iter, alloc)
+        .err()
+        .expect(&rt, "accepted");
+    assert_list(&rt, &list, &[9, 2, 3], 3);
+    assert_refused(
+        &rt,
+        refused,
+        (ThinVecError::CapacityOverflow, &[], None, &[]),
+    );
+}
+
+#[test]
+fn with_nothing_behind_the_range_it_is_an_extend(rt: HostRuntime) {
+    let alloc = rt.alloc();
+    let asked = Cell::new(0);
+    let mut list: ThinVec<i32> = ThinVec::new(alloc);
+    let nothing = Answers::new(&[], usize::MAX, &asked);
+    let refused = splice_by(&mut list, (0, 0), nothing, alloc)
+        .err()
+        .expect(&rt, "accepted");
+    assert_list(&rt, &list, &[], 0);
+    assert_refused(
+        &rt,
+        refused,
+        (ThinVecError::CapacityOverflow, &[], None, &[]),
+    );
+
+    // 1 stays, and the two of the range go. The second request is a growth.
+    let refusing = Refusing::new(alloc, 2);
+    let mut list = thin_vec![&refusing => 1, 2, 3].expect(&rt, "memory");
+    let iter = Answers::new(&TEN_TO_FOURTEEN, 0, &asked);
+    assert_eq!(rt; list.len(), 3);
+    let refused = splice_by(&mut list, (1, 3), iter, &refusing)
+        .err()
+        .expect(&rt, "accepted");
+    assert_list(&rt, &list, &[1, 10, 11], 3);
+    assert_refused(
+        &rt,
+        refused,
+        (ThinVecError::OutOfMemory, &[], Some(12), &[13, 14]),
+    );
+}
+
+#[test]
+fn a_long_splice_is_not_refused(rt: HostRuntime) {
+    let alloc = rt.alloc();
+    for count in 0..301 {
+        let mut list = thin_vec![alloc => -1, -2, -3].expect(&rt, "memory");
+        assert_eq!(rt; list.len(), 3);
+        list.splice(1, 2, (0..count).filter(|_| true))
+            .finish(alloc)
+            .ok()
+            .expect(&rt, "memory");
+        let len = usize::try_from(count).unwrap_or(0);
+        assert_same(&rt, list.len(), len.saturating_add(2));
+        assert_same(&rt, (list.first(), list.last()), (Some(&-1), Some(&-3)));
+    }
+}
+
+#[test]
+fn test_splice_items_zero_sized(rt: HostRuntime) {
+    let alloc = rt.alloc();
+    let mut list = thin_vec![alloc => (), (), ()].expect(&rt, "memory");
+    assert_eq!(rt; list.len(), 3);
+    let mut splice = list.splice(1, 2, empty());
+    assert_same(&rt, (splice.next(), splice.next()), (Some(()), None));
+    splice.finish(alloc).ok().expect(&rt, "memory");
+    assert_same(&rt, list.len(), 2);
+}
+
+#[test]
+fn each_item_is_dropped_once(rt: HostRuntime) {
+    for request in 0..5 {
+        let refusing = Refusing::new(rt.alloc(), request);
+        let drops = Cell::new(0);
+        let made = Cell::new(0);
+        {
+            let mut list = ThinVec::new(&refusing);
+            let old = (0..5).map(|_| counted(&drops, &made));
+            let _first = list.extend(old.filter(|_| true));
+            if list.len() == 5 {
+                let given = (0..9).map(|_| counted(&drops, &made));
+                let _done = splice_by(&mut list, (1, 3), given.filter(|_| true), &refusing);
+            }
+        }
+        assert_same(&rt, (drops.get(), refusing.blocks()), (made.get(), 0));
+    }
+}
+
+// An item that is counted as it is made, too.
+#[cfg(test)]
+fn counted<'a>(drops: &'a Cell<u32>, made: &'a Cell<u32>) -> Counted<'a> {
+    made.set(made.get().saturating_add(1));
+    Counted::new(drops)
+}
