@@ -30,7 +30,12 @@ unfolding multiple
 multiple_law k least s a c w n more word e =
     let told = fitting_is s a (max w (k * c)) n e in
     let twice : 2 * c ≤ k * c = mul-le-mul_right c least in
-    record { enough = omega (arith, told.1); doubled = omega (arith, twice, told.1); fits = subst (λ (m : ℕ). IsTrue (fits s a m)) told.1 told.0 }
+    record {
+      enough = omega (arith, told.1);
+      doubled = omega (arith, twice, told.1);
+      fits =
+          subst (λ (m : ℕ). IsTrue (fits s a m)) told.1 told.0;
+    }
 
 pub fourfold_law : KeepsLaw fourfold
 fourfold_law = multiple_law 4 (omega arith)

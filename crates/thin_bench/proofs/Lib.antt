@@ -2,6 +2,9 @@
 pub mod HintedLemmas
 mod CommandLemmas
 mod RunLemmas
+mod SplicesLemmas
+mod FilterLemmas
+mod ExtractLemmas
 mod MoveLemmas
 pub mod ClonesLemmas
 mod PaidLemmas

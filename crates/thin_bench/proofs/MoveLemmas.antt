@@ -1,7 +1,7 @@
 -- What a run has moved.
 use Rattle.std.proofs.Common.{Bool, true, false, ◌≡◌, ℕ, ◌+◌, ◌-◌, ◌==◌, ◌<◌, ◌≤◌, List, [], ◌∷◌, ◌++◌, Some, None, length, arith, ap, ◌∙◌, refl, inl, inr}
 use Rattle.std.proofs.lemmas.List.{length-append, length-replicate}
-use Rattle.std.specs.Prelude.{◌⊎◌, HoldsAt, replicate, Option, if◌then◌else◌}
+use Rattle.std.specs.Prelude.{◌*◌, ◌⊎◌, drop, take, HoldsAt, replicate, Option, if◌then◌else◌}
 use Rattle.std.specs.Borrow.{RattleType}
 use Rattle.std.specs.Option.{option_to_list}
 use Rattle.thin_vec.specs.Cost.{growing, no_cost}
@@ -12,11 +12,12 @@ use Rattle.thin_bench.specs.Setting.{Setting}
 use Rattle.thin_bench.specs.Steps.{Steps}
 use Rattle.thin_bench.specs.commands.Edits.{Grows, edited, grown}
 use Rattle.thin_bench.specs.commands.Many.{Fills, RefusesClone}
+use Rattle.thin_bench.specs.commands.Splices.{Replaces}
 use Rattle.thin_vec.specs.declared.ThinVecError.{ThinVecError}
 use Rattle.thin_bench.specs.Hinted.{hinted_items}
 use Rattle.thin_bench.specs.Run.{Runs, may_move, run_may_move}
 use Rattle.thin_bench.specs.declared.command.Command.{Command}
-use Rattle.thin_bench.specs.declared.command.Command.TheVariants.{Push, Pop, Insert, Remove, SwapRemove, Set, Truncate, Clear, Reserve, ReserveExact, ShrinkToFit, Resize, ExtendFromSlice, Extend, Append, SplitOff, Clone, Drain}
+use Rattle.thin_bench.specs.declared.command.Command.TheVariants.{Push, Pop, Insert, Remove, SwapRemove, Set, Truncate, Clear, Reserve, ReserveExact, ShrinkToFit, Resize, ExtendFromSlice, Extend, Append, SplitOff, Clone, Retain, RetainMut, Dedup, DedupBy, DedupByKey, Drain, ExtractIf, Splice}
 use Rattle.thin_bench.specs.declared.command.Reply.{Reply}
 use Rattle.thin_bench.specs.declared.command.Reply.TheVariants.{Answers, Done, Item, List as Made, Other, Returned, Refused, Stopped, OutOfRange}
 
@@ -45,6 +46,19 @@ module _ {T A : Type 0} where
   filled-moves rule R v w placed k most f few =
       let more : length w.items ≡ length v.items + length placed = ap length f.items ∙ length-append v.items placed in
       omega (arith, f.cost.moves, more, few)
+
+  spliced-moves : (rule : Rule) (R : RattleType) (v w : Thin T A) (a b : ℕ) (placed : List T) (most k : ℕ)
+      → Replaces rule R v a b placed most w → length placed ≤ k → w.cost.moves ≤ v.cost.moves + (2 * (length v.items - b) + k)
+  spliced-moves rule R v w a b placed most k f few =
+      omega (
+        arith,
+        f.cost.moves,
+        ap length f.items,
+        length-append (take a v.items ++ placed) (drop b v.items),
+        length-append (take a v.items) placed,
+        length-append (take a v.items) (drop b v.items),
+        few,
+      )
 
   shrunk-moves : (v : Thin T A) → (cost_shrunk v).moves ≤ v.cost.moves
   shrunk-moves v = go (length v.items == v.capacity) (length v.items == 0)
@@ -87,8 +101,23 @@ module _ {T A G J : Type 0} (here : Setting T A J) where
   step-moves v w (SplitOff at) (Refused cause) s = same-moves v w v 0 s.1.1 refl
   step-moves v w Clone (Made copy) s = same-moves v w v 0 s.2 refl
   step-moves v w Clone (Refused cause) s = same-moves v w v 0 s.1.1 refl
+  step-moves v w Retain Done s = edited-moves v w _ _ s
+  step-moves v w RetainMut Done s = edited-moves v w _ _ s
+  step-moves v w Dedup Done s = edited-moves v w _ _ s
+  step-moves v w DedupBy Done s = edited-moves v w _ _ s
+  step-moves v w DedupByKey Done s = edited-moves v w _ _ s
   step-moves v w (Drain a b steps) (Answers answers) s = edited-moves v w _ _ s.3
   step-moves v w (Drain a b steps) (Refused cause) s = same-moves v w v _ s.1.1 refl
+  step-moves v w (ExtractIf a b k) (Answers answers) s = edited-moves v w _ _ s.3
+  step-moves v w (ExtractIf a b k) (Refused cause) s = same-moves v w v _ s.1.1 refl
+  step-moves v w (Splice a b steps xs lower) (Answers answers) s =
+      spliced-moves here.rule here.R v w a b xs.items _ (length xs.items) s.3 (omega arith)
+  step-moves v w (Splice a b steps xs lower) (Stopped answers cause held in_hand rest) s =
+      let stopped = s.3 in
+      let others = held.items ++ (option_to_list in_hand ++ hinted_items rest) in
+      spliced-moves here.rule here.R v w a b stopped.placed _ (length xs.items) stopped.filled
+      (omega (arith, ap length stopped.all, length-append stopped.placed others))
+  step-moves v w (Splice a b steps xs lower) (Refused cause) s = same-moves v w v _ s.1.1 refl
   step-moves v w command reply s = absurd s
 
   pub runs-moves : (v w : Thin T A) (commands : List (Command T A G)) (replies : List (Reply T A G)) (run : Runs here v commands replies w) → w.cost.moves ≤ v.cost.moves + run_may_move here v w commands replies run

@@ -5,6 +5,9 @@ use Rattle.std.proofs.lemmas.List.{length-append, length-set, length_push, lengt
 use Rattle.std.proofs.lemmas.List.Edits.{length-insert}
 use Rattle.std.specs.List.{AllZip, AppendsClones, remove_range, swap_remove, slice_index_or}
 use Rattle.thin_vec.specs.Clones.{IsResized}
+use Rattle.thin_bench.specs.commands.Filters.{looking, same_key}
+use Rattle.thin_bench.proofs.ExtractLemmas.{few-extracted}
+use Rattle.thin_bench.proofs.FilterLemmas.{few-asked, few-dedup, few-kept}
 use Rattle.thin_bench.proofs.RunLemmas.{runs-keep}
 use Rattle.std.specs.Prelude.{◌⊎◌, All, HoldsAt, drop, remove, slice_get, slice_set, take}
 use Rattle.std.specs.Borrow.{RattleType}
@@ -21,7 +24,7 @@ use Rattle.thin_bench.specs.commands.Many.{RefusesClone}
 use Rattle.thin_vec.specs.declared.ThinVecError.{ThinVecError}
 use Rattle.thin_bench.specs.Run.{KeepsCheap, Runs}
 use Rattle.thin_bench.specs.declared.command.Command.{Command}
-use Rattle.thin_bench.specs.declared.command.Command.TheVariants.{Push, Pop, Insert, Remove, SwapRemove, Set, Truncate, Clear, Reserve, ReserveExact, ShrinkToFit, Resize, ExtendFromSlice, Extend, Append, SplitOff, Clone, Drain}
+use Rattle.thin_bench.specs.declared.command.Command.TheVariants.{Push, Pop, Insert, Remove, SwapRemove, Set, Truncate, Clear, Reserve, ReserveExact, ShrinkToFit, Resize, ExtendFromSlice, Extend, Append, SplitOff, Clone, Retain, RetainMut, Dedup, DedupBy, DedupByKey, Drain, ExtractIf, Splice}
 use Rattle.thin_bench.specs.declared.command.Reply.{Reply}
 use Rattle.thin_bench.specs.declared.command.Reply.TheVariants.{Answers, Done, Item, List as Made, Other, Returned, Refused, Stopped, OutOfRange}
 
@@ -126,8 +129,20 @@ module _ {T A G J : Type 0} (here : Setting T A J) (law : KeepsLaw here.rule) wh
   step-paid v w (SplitOff at) (Refused cause) keeps a s = same-paid here.rule here.R law v w a s.1.1
   step-paid v w Clone (Made copy) keeps a s = same-paid here.rule here.R law v w a s.2
   step-paid v w Clone (Refused cause) keeps a s = same-paid here.rule here.R law v w a s.1.1
+  step-paid v w Retain Done keeps a s = kept-paid here.rule here.R law v w _ a s refl refl refl (few-asked (looking here.judging.look) here.judge v.items)
+  step-paid v w RetainMut Done keeps a s = kept-paid here.rule here.R law v w _ a s refl refl refl (few-asked here.judging.keep here.judge v.items)
+  step-paid v w Dedup Done keeps a s = kept-paid here.rule here.R law v w _ a s refl refl refl (few-dedup here.eq v.items)
+  step-paid v w DedupBy Done keeps a s = kept-paid here.rule here.R law v w _ a s refl refl refl (few-kept here.judging.same here.judge v.items)
+  step-paid v w DedupByKey Done keeps a s = kept-paid here.rule here.R law v w _ a s refl refl refl (few-kept (same_key here.judging.key) here.judge v.items)
   step-paid v w (Drain i j steps) (Answers answers) keeps a s = kept-paid here.rule here.R law v w _ a s.3 refl refl refl (few-drained v.items i j s.0 s.1)
   step-paid v w (Drain i j steps) (Refused cause) keeps a s = same-paid here.rule here.R law v w a s.1.1
+  step-paid v w (ExtractIf i j k) (Answers answers) keeps a s =
+      kept-paid here.rule here.R law v w _ a s.3 refl refl refl (few-extracted here.judging.take here.judge k v.items i j s.0 s.1)
+  step-paid v w (ExtractIf i j k) (Refused cause) keeps a s = same-paid here.rule here.R law v w a s.1.1
+  step-paid v w (Splice i j steps xs lower) (Answers answers) keeps a s = record { cheap = s.3.cheap a.cheap; room = s.3.within.room }
+  step-paid v w (Splice i j steps xs lower) (Stopped answers cause held in_hand rest) keeps a s =
+      record { cheap = s.3.filled.cheap a.cheap; room = s.3.filled.within.room }
+  step-paid v w (Splice i j steps xs lower) (Refused cause) keeps a s = same-paid here.rule here.R law v w a s.1.1
   step-paid v w command reply keeps a s = absurd s
 
   pub runs-paid : (v w : Thin T A) (commands : List (Command T A G)) (replies : List (Reply T A G)) → All KeepsCheap commands → IsPaid v → Runs here v commands replies w → IsPaid w

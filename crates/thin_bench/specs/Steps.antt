@@ -1,16 +1,19 @@
 -- What a command may do to a list, and what it replies: a case for each, in the order of the commands. What no case names is not allowed.
-use Rattle.std.specs.Prelude.{◌≡◌, ◌+◌, ◌-◌, ◌==◌, ◌<◌, ◌≤◌, ◌↔◌, List, [], ◌∷◌, ◌++◌, IsSome, None, Some, drop, if◌then◌else◌, insert, length, remove, replicate, slice_get, slice_range, slice_set, take}
-use Rattle.std.specs.List.{AllZip, AppendsClones, swap_remove}
+use Rattle.std.specs.Prelude.{◌≡◌, ◌+◌, ◌-◌, ◌==◌, ◌<◌, ◌≤◌, ◌↔◌, List, [], ◌∷◌, ◌++◌, IsSome, None, Some, drop, false, if◌then◌else◌, insert, length, remove, replicate, slice_get, slice_range, slice_set, take}
+use Rattle.std.specs.List.{AllZip, AppendsClones, dedup, swap_remove}
 use Rattle.std.specs.Option.{option_to_list}
 use Rattle.thin_vec.specs.Clones.{IsResized}
+use Rattle.thin_vec.specs.Filters.{left_at, moved_up, unlike}
 use Rattle.thin_vec.specs.ThinVec.{Thin, cost_at, cost_shrunk}
 use Rattle.thin_bench.specs.Setting.{Setting, exact, ruled}
 use Rattle.thin_bench.specs.commands.Edits.{Grows, Refuses, edited}
+use Rattle.thin_bench.specs.commands.Filters.{around, asked, deduped, extracting, handed_out, looking, same_key, sifted}
 use Rattle.thin_bench.specs.commands.Many.{Fills, RefusesClone, Stops}
 use Rattle.thin_bench.specs.commands.Ranges.{drained, walked}
 use Rattle.thin_bench.specs.commands.Room.{RefusesMemory, made}
+use Rattle.thin_bench.specs.commands.Splices.{Replaces, StopsBetween}
 use Rattle.thin_bench.specs.declared.command.Command.{Command}
-use Rattle.thin_bench.specs.declared.command.Command.TheVariants.{Push, Pop, Insert, Remove, SwapRemove, Set, Truncate, Clear, Reserve, ReserveExact, ShrinkToFit, Resize, ExtendFromSlice, Extend, Append, SplitOff, Clone, Drain}
+use Rattle.thin_bench.specs.declared.command.Command.TheVariants.{Push, Pop, Insert, Remove, SwapRemove, Set, Truncate, Clear, Reserve, ReserveExact, ShrinkToFit, Resize, ExtendFromSlice, Extend, Append, SplitOff, Clone, Retain, RetainMut, Dedup, DedupBy, DedupByKey, Drain, ExtractIf, Splice}
 use Rattle.thin_bench.specs.declared.command.Reply.{Reply}
 use Rattle.thin_bench.specs.declared.command.Reply.TheVariants.{Answers, Done, Item, List as Made, Other, Returned, Refused, Stopped, OutOfRange}
 
@@ -23,6 +26,8 @@ module _ {T A G : Type 0} where
   IsInRange xs (Set i v) = i < length xs
   IsInRange xs (SplitOff at) = at ≤ length xs
   IsInRange xs (Drain a b steps) = (a ≤ b) × (b ≤ length xs)
+  IsInRange xs (ExtractIf a b k) = (a ≤ b) × (b ≤ length xs)
+  IsInRange xs (Splice a b steps ys lower) = (a ≤ b) × (b ≤ length xs)
   IsInRange xs command = Unit {0}
 
 module _ {T A G J : Type 0} (here : Setting T A J) where
@@ -57,6 +62,21 @@ module _ {T A G J : Type 0} (here : Setting T A J) where
   Steps old (SplitOff at) (Refused cause) new = (at < length old.items) × RefusesMemory old cause new
   Steps old Clone (Made copy) new = AllZip here.clones old.items copy.items × (copy ≡ made here.alloc copy.items) × (new ≡ old)
   Steps old Clone (Refused cause) new = (0 < length old.items) × RefusesMemory old cause new
+  Steps old Retain Done new = new ≡ sifted old (asked (looking here.judging.look) here.judge old.items)
+  Steps old RetainMut Done new = new ≡ sifted old (asked here.judging.keep here.judge old.items)
+  Steps old Dedup Done new = new ≡ edited old (dedup here.eq old.items) (moved_up (unlike here.eq old.items))
+  Steps old DedupBy Done new = new ≡ deduped old here.judging.same here.judge
+  Steps old DedupByKey Done new = new ≡ deduped old (same_key here.judging.key) here.judge
   Steps old (Drain a b steps) (Answers answers) new = (a ≤ b) × (b ≤ length old.items) × (answers.items ≡ walked (slice_range old.items a b) steps.items) × (new ≡ drained old a b)
   Steps old (Drain a b steps) (Refused cause) new = (0 < length steps.items) × RefusesMemory old cause new
+  Steps old (ExtractIf a b k) (Answers answers) new =
+      let asked = extracting here.judging.take here.judge k (slice_range old.items a b) in
+      (a ≤ b) × (b ≤ length old.items) × (answers.items ≡ handed_out k (left_at false asked)) × (new ≡ sifted old (around old.items a b asked))
+  Steps old (ExtractIf a b k) (Refused cause) new = (0 < k) × RefusesMemory old cause new
+  Steps old (Splice a b steps xs lower) (Answers answers) new =
+      (a ≤ b) × (b ≤ length old.items) × (answers.items ≡ walked (slice_range old.items a b) steps.items) × Replaces here.rule here.R old a b xs.items (lower + length xs.items) new
+  Steps old (Splice a b steps xs lower) (Stopped answers cause held in_hand rest) new =
+      (a ≤ b) × (b ≤ length old.items) × (answers.items ≡ walked (slice_range old.items a b) steps.items)
+      × StopsBetween here.rule here.R old a b xs.items lower cause held.items in_hand rest new
+  Steps old (Splice a b steps xs lower) (Refused cause) new = (0 < length steps.items) × RefusesMemory old cause new
   Steps old command reply new = ⊥

@@ -2,4 +2,6 @@
 pub mod Edits
 pub mod Room
 pub mod Many
+pub mod Filters
 pub mod Ranges
+pub mod Splices

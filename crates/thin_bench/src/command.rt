@@ -1,4 +1,6 @@
 //! Commands on a list, and what they reply.
+ghost use Rattle.std.specs.Prelude.{◌≡◌};
+
 use crate::hinted::Hinted;
 use std::alloc::{Allocator, Global};
 use thin_vec::{Doubling, Growth, ThinVec, ThinVecError};
@@ -49,8 +51,24 @@ pub enum Command<T, A: Allocator = Global, G: Growth = Doubling> {
     SplitOff(usize),
     /// `clone`: `List`, or `Refused`.
     Clone,
+    /// `retain`, by the judge's `look`: `Done`.
+    Retain,
+    /// `retain_mut`, by its `keep`: `Done`.
+    RetainMut,
+    /// `dedup`: `Done`.
+    Dedup,
+    /// `dedup_by`, by its `same`: `Done`.
+    DedupBy,
+    /// `dedup_by_key`, by its `key`: `Done`.
+    DedupByKey,
     /// `drain` of the items from the first number up to the second, walked by these steps and dropped: `Answers`, or `Refused`.
     Drain(usize, usize, Vec<Step, A>),
+    /// `extract_if` of the items from the first number up to the second, by the judge's `take`; after as many calls of `next` as
+    /// the third number says it is dropped: `Answers`, or `Refused`.
+    ExtractIf(usize, usize, usize),
+    /// `splice` of the items from the first number up to the second, walked by these steps, and finished by these items, of which
+    /// so many are claimed: `Answers`, `Refused`, or `Stopped`.
+    Splice(usize, usize, Vec<Step, A>, Vec<T, A>, usize),
 }
 
 /// What a command answers. It owns what the call handed out or back.
@@ -88,8 +106,12 @@ pub enum Reply<T, A: Allocator = Global, G: Growth = Doubling> {
 }
 
 impl<T, A: Allocator, G: Growth> Reply<T, A, G> {
+    ghost use Rattle.thin_bench.specs.Replies.{refusal_of};
+
     /// Why the call was refused, if it was. A command that is out of range is none that was refused.
-    pub fn refusal(&self) -> Option<ThinVecError> {
+    pub fn refusal(&self) -> Option<ThinVecError>
+        ensures value { result ≡ refusal_of self.now }
+    {
         match self {
             Reply::Returned(_, cause) | Reply::Refused(cause) => Some(*cause),
             Reply::Other(_, refused) => *refused,

@@ -7,6 +7,7 @@ mod forms;
 pub mod judges;
 mod others;
 mod plain;
+mod splices;
 
 use crate::rows::bulk::{row_15, row_24, row_25, row_27, row_28};
 use crate::rows::commands::{row_1, row_41};
@@ -15,13 +16,14 @@ use crate::rows::filters::{row_13, row_14, row_34};
 use crate::rows::forms::{row_3, row_20, row_29, row_30, row_31, row_36};
 use crate::rows::others::{row_21, row_40};
 use crate::rows::plain::{row_2, row_4, row_5, row_6, row_17, row_19, row_23};
+use crate::rows::splices::{row_10, row_11, row_22, row_32};
 use std::alloc::Allocator;
 use thin_vec::{ThinVec, ThinVecError};
 
 /// The rows that the program runs, by number.
-pub const ROWS: [u32; 31] = [
-    1, 2, 3, 4, 5, 6, 7, 8, 9, 13, 14, 15, 17, 18, 19, 20, 21, 23, 24, 25, 27, 28, 29, 30, 31, 33,
-    34, 35, 36, 40, 41,
+pub const ROWS: [u32; 35] = [
+    1, 2, 3, 4, 5, 6, 7, 8, 9, 10, 11, 13, 14, 15, 17, 18, 19, 20, 21, 22, 23, 24, 25, 27, 28, 29,
+    30, 31, 32, 33, 34, 35, 36, 40, 41,
 ];
 
 /// Whether a row gave what it is to give, or why a call of it was refused that is not to be.
@@ -39,6 +41,8 @@ pub fn row<A: Allocator + Copy>(alloc: A, number: u32) -> Outcome {
         7 => row_7(alloc),
         8 => row_8(alloc),
         9 => row_9(alloc),
+        10 => row_10(alloc),
+        11 => row_11(alloc),
         13 => row_13(alloc),
         14 => row_14(alloc),
         15 => row_15(alloc),
@@ -47,6 +51,7 @@ pub fn row<A: Allocator + Copy>(alloc: A, number: u32) -> Outcome {
         19 => row_19(alloc),
         20 => row_20(alloc),
         21 => row_21(alloc),
+        22 => row_22(alloc),
         23 => row_23(alloc),
         24 => row_24(alloc),
         25 => row_25(alloc),
@@ -55,6 +60,7 @@ pub fn row<A: Allocator + Copy>(alloc: A, number: u32) -> Outcome {
         29 => row_29(alloc),
         30 => row_30(alloc),
         31 => row_31(alloc),
+        32 => row_32(alloc),
         33 => row_33(alloc),
         34 => row_34(alloc),
         35 => row_35(alloc),

@@ -25,6 +25,8 @@ fn is_in_range<T, A: Allocator, G: Growth>(
         }
         Command::SplitOff(at) => *at <= list.len(),
         Command::Drain(start, end, _) => *start <= *end && *end <= list.len(),
+        Command::ExtractIf(start, end, _) => *start <= *end && *end <= list.len(),
+        Command::Splice(start, end, _, _, _) => *start <= *end && *end <= list.len(),
         _ => true,
     }
 }
@@ -66,7 +68,16 @@ pub fn step<T: Clone + Eq, A: Allocator + Copy, G: Growth, J: Judge<T>>(
         Command::Append(other) => means.append(list, other),
         Command::SplitOff(at) => means.split_off(list, at),
         Command::Clone => means.clone(list),
+        Command::Retain => means.retain(list),
+        Command::RetainMut => means.retain_mut(list),
+        Command::Dedup => means.dedup(list),
+        Command::DedupBy => means.dedup_by(list),
+        Command::DedupByKey => means.dedup_by_key(list),
         Command::Drain(start, end, steps) => means.drain(list, start, end, steps),
+        Command::ExtractIf(start, end, count) => means.extract_if(list, start, end, count),
+        Command::Splice(start, end, steps, items, lower) => {
+            means.splice(list, start, end, steps, items, lower)
+        }
     }
 }
 

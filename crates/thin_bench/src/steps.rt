@@ -1,8 +1,10 @@
 //! What each command does: a function each.
 mod edits;
+mod filters;
 mod many;
 mod ranges;
 mod room;
+mod splices;
 
 use std::marker::PhantomData;
 

@@ -30,19 +30,26 @@ module _ {V : Type 0} (es : List (ℕ × V)) (rising : IsRising es) where
       put_rises = subst IsRising is_put (is_sorted-put nat_cmp nat_cmp_total c v es rising)
 
       put_is : from_sorted new ≡ map.insert row c v
-      put_is = same_entries_map _ _ (entries-from_sorted nat_cmp new put_rises ∙ (sym is_put ∙ (ap (put nat_cmp c v) (sym (entries-from_sorted nat_cmp es rising)) ∙ sym (entries-insert nat_cmp_total row c v))))
+      put_is = same_entries_map _ _ (entries-from_sorted nat_cmp new put_rises
+          ∙ (sym is_put ∙ (ap (put nat_cmp c v) (sym (entries-from_sorted nat_cmp es rising))
+          ∙ sym (entries-insert nat_cmp_total row c v))))
 
     -- other entries, which are these but for the one at c
     module _ (new : List (ℕ × V)) (is_left : where_key nat_cmp (stays c) es ≡ new) where
       left_rises : IsRising new
       left_rises = subst IsRising is_left (is_sorted-where_key nat_cmp (stays c) es rising)
 
-      left_finds : (q : ℕ) → map.get {R = nat_cmp} (from_sorted new) q ≡ map.get (map.remove row c) q
-      left_finds q = get-from_sorted nat_cmp new q left_rises ∙ (sym (ap (find nat_cmp q) is_left) ∙ (find-where_key nat_cmp (stays c) q (alike c q) es
-          ∙ (turned c q _ None ∙ (ap (cond (eq_by_cmp nat_cmp q c) None) (sym (get-from_sorted nat_cmp es q rising)) ∙ sym (get-remove nat_cmp_total row c q)))))
+      left_finds : (q : ℕ) → map.get {R = nat_cmp} (from_sorted new) q
+          ≡ map.get (map.remove row c) q
+      left_finds q = get-from_sorted nat_cmp new q left_rises
+          ∙ (sym (ap (find nat_cmp q) is_left) ∙ (find-where_key nat_cmp (stays c) q (alike c q) es
+          ∙ (turned c q _ None
+          ∙ (ap (cond (eq_by_cmp nat_cmp q c) None) (sym (get-from_sorted nat_cmp es q rising))
+          ∙ sym (get-remove nat_cmp_total row c q)))))
 
       left_is : from_sorted new ≡ map.remove row c
-      left_is = same_map nat_cmp_total nat_cmp-IsAntisymmetric (from_sorted new) (map.remove row c) left_finds
+      left_is = same_map nat_cmp_total nat_cmp-IsAntisymmetric (from_sorted new)
+          (map.remove row c) left_finds
 
     -- where there is an entry of the column c, at a place
     module _ (at : ℕ) (place : IsPlaceOf es c at) where

@@ -5,12 +5,14 @@ use Rattle.std.specs.Mem.{type_size}
 use Rattle.std.specs.Align.{type_align}
 use Rattle.thin_vec.specs.Growth.{exact_capacity}
 
-pub exact_of_same : (R S : RattleType) (c w : ℕ) → type_size R ≡ type_size S → type_align R ≡ type_align S → exact_capacity R c w ≡ exact_capacity S c w
+pub exact_of_same : (R S : RattleType) (c w : ℕ) → type_size R ≡ type_size S
+    → type_align R ≡ type_align S → exact_capacity R c w ≡ exact_capacity S c w
 unfolding exact_capacity
 exact_of_same R S c w size align = rw (size, align) refl
 
 -- an error is passed on, whatever the answer would have been
-pub error_passes : {X Y E : Type 0} (cause e : E) → IsErrOf {T = X} (Err cause) e → IsErrOf {T = Y} (Err cause) e
+pub error_passes : {X Y E : Type 0} (cause e : E) → IsErrOf {T = X} (Err cause) e
+    → IsErrOf {T = Y} (Err cause) e
 error_passes cause e same = let equal : cause ≡ e = cc in ap Err equal
 
 pub ok_passes : {X Y E : Type 0} (x : X) (y : Y) (e : E) → IsErrOf (Ok x) e → IsErrOf (Ok y) e

@@ -19,7 +19,8 @@ module _ {V : Type 0} where
   pub record IsGapFor (entries : List (ℕ × V)) (column i : ℕ) : Type 0 where
     pub in_bounds : i ≤ length entries
     pub smaller : (k : ℕ) (d : ℕ × V) → k < i → (slice_index_or entries k d).0 < column
-    pub greater : (k : ℕ) (d : ℕ × V) → i ≤ k → k < length entries → column < (slice_index_or entries k d).0
+    pub greater : (k : ℕ) (d : ℕ × V) → i ≤ k → k < length entries
+        → column < (slice_index_or entries k d).0
 
 module _ {V A : Type 0} where
   -- the columns rise, and there is a block exactly where there is an entry

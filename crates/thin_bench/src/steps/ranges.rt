@@ -3,7 +3,7 @@ ghost use Rattle.std.specs.Prelude.{◌≡◌, ◌+◌, ◌≤◌, ◌++◌, len
 ghost use Rattle.thin_bench.specs.Setting.{setting};
 ghost use Rattle.thin_bench.specs.Steps.{Steps};
 ghost use Rattle.thin_bench.specs.commands.Ranges.{handed, walked, without};
-ghost use Rattle.thin_bench.specs.declared.command.Command.TheVariants.{Drain as Drained};
+ghost use Rattle.thin_bench.specs.declared.command.Command.TheVariants.{Drain as Drained, ExtractIf as Extracted};
 ghost use Rattle.thin_vec.specs.Drain.{DrainKeeps, drain_rest};
 
 use crate::command::{Reply, Step};
@@ -33,6 +33,41 @@ impl<T: Clone + Eq, A: Allocator + Copy, G: Growth, J: Judge<T>> Means<T, A, G, 
         let mut drain = list.drain(start, end);
         walk(&mut drain, steps, &mut answers);
         drop(drain);
+        Reply::Answers(answers)
+    }
+
+    // Room for the answers is taken first, and none where no call of `next` is wanted.
+    pub(crate) fn extract_if(
+        self,
+        list: &mut ThinVec<T, A, G>,
+        start: usize,
+        end: usize,
+        count: usize,
+    ) -> Reply<T, A, G>
+        requires start_le_end { start ≤ end }
+        requires in_bounds { end ≤ length list.old.items }
+        ensures allowed { Steps (setting T.is_clone T.is_infallible T.eq J.judging G.rule T.row self.alloc self.judge) list.old (Extracted start end count) result list.new }
+    {
+        let mut answers = Vec::new(self.alloc);
+        match answers.reserve(count) {
+            Ok(()) => (),
+            Err(_refused) => return Reply::Refused(ThinVecError::OutOfMemory),
+        }
+        let mut judge = self.judge;
+        let mut extract = list.extract_if(
+            start,
+            end,
+            move |item: &mut T|
+                ensures value { (result, item.new, judge.exit) ≡ J.judging.take judge.entry item.old }
+            { judge.take(item) },
+        );
+        for _ in 0..count {
+            match answers.push(extract.next()) {
+                Ok(()) => (),
+                Err(_refused) => unreachable!(),
+            }
+        }
+        drop(extract);
         Reply::Answers(answers)
     }
 }

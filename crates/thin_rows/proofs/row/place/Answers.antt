@@ -7,6 +7,8 @@ use Rattle.thin_rows.proofs.row.place.Goals as goal
 pub returns : goal.returns
 returns g c =
     let told = c.binary_search_by_key.ensures in
-    let by_column = told.position (λ entry. entry.0) (answers_always _ _ _ (λ f a r h called. search rules)) in
-    let place = searched c.args.column c.args.entries.now c.requires.rising c.binary_search_by_key.result told.bound by_column in
+    let by_column = told.position (λ entry. entry.0)
+    (answers_always _ _ _ (λ f a r h called. search rules)) in
+    let place = searched c.args.column c.args.entries.now c.requires.rising
+    c.binary_search_by_key.result told.bound by_column in
     record { found = place.0; gap = place.1 }

@@ -4,4 +4,5 @@ use Rattle.thin_rows.proofs.row.Row.entries.Goals as goal
 
 pub returns-clause-value : goal.returns-clause-value
 returns-clause-value g c =
-    c.as_slice.ensures.value ∙ (sym (entries-from_sorted nat_cmp _ c.self.invariant.rising) ∙ ap entries c.self.view_is)
+    c.as_slice.ensures.value ∙ (sym (entries-from_sorted nat_cmp _ c.self.invariant.rising)
+    ∙ ap entries c.self.view_is)

@@ -8,11 +8,15 @@ returns-in-Ok g c =
     let place = rw c.as_slice-entries.ensures.value at c.in-Ok.ensures.found in
     record {
       value = rw (← c.self.view_is, c.as_slice-entries.ensures.value)
-          (sym (get_at row.items c.self.invariant.rising c.args.column c.in-Ok.at place c.index-entries-at.result));
+          (sym (get_at row.items c.self.invariant.rising c.args.column c.in-Ok.at place
+          c.index-entries-at.result));
     }
 
 pub returns-in-Err : goal.returns-in-Err
 returns-in-Err g c =
     let row = c.self.inside.entries in
     let gap = rw c.as_slice-entries.ensures.value at c.in-Err.ensures.gap in
-    record { value = rw (← c.self.view_is) (sym (get_gap row.items c.self.invariant.rising c.args.column c.in-Err._gap gap)) }
+    record {
+      value = rw (← c.self.view_is) (sym
+          (get_gap row.items c.self.invariant.rising c.args.column c.in-Err._gap gap));
+    }

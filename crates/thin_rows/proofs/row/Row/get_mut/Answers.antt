@@ -5,10 +5,23 @@ use Rattle.thin_rows.proofs.row.Row.get_mut.Goals as goal
 
 pub value_mut-requires : goal.value_mut-requires
 value_mut-requires g c =
-    record { place = rw (← c.self.view_is, entries-from_sorted nat_cmp c.self.inside.entries.items c.self.invariant.rising, ← c.as_slice.ensures.value) c.in-Ok.ensures.found }
+    record {
+      place = rw (
+        ← c.self.view_is,
+        entries-from_sorted nat_cmp c.self.inside.entries.items c.self.invariant.rising,
+        ← c.as_slice.ensures.value,
+      ) c.in-Ok.ensures.found;
+    }
 
 pub returns-in-Err : goal.returns-in-Err
 returns-in-Err g c =
     let row = c.self.inside.entries in
-    let gap = rw c.as_slice.ensures.value at c.in-Err.ensures.gap in
-    (refl, record { writes_back = tt; value = rw (← c.self.view_is) (sym (get_gap row.items c.self.invariant.rising c.args.column c.in-Err._gap gap)) })
+    let gap = rw c.as_slice.ensures.value at c.in-Err.ensures.gap in (
+      refl,
+      record {
+        writes_back = tt;
+        value =
+            rw (← c.self.view_is)
+            (sym (get_gap row.items c.self.invariant.rising c.args.column c.in-Err._gap gap));
+      },
+    )

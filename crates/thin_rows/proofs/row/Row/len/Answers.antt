@@ -6,4 +6,7 @@ use Rattle.thin_rows.proofs.row.Row.len.Goals as goal
 pub returns : goal.returns
 returns g c =
     let row = c.self.inside.entries in
-    record { value = c.len.ensures.value ∙ (sym (len_is row.items c.self.invariant.rising) ∙ ap len c.self.view_is) }
+    record {
+      value = c.len.ensures.value ∙ (sym (len_is row.items c.self.invariant.rising)
+          ∙ ap len c.self.view_is);
+    }

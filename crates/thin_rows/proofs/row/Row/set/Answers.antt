@@ -12,7 +12,8 @@ invariant_of-self g c =
     let place = rw c.as_slice.ensures.value at c.in-Ok.ensures.found in
     let same = length-set row.items c.in-Ok.at c.replace-column.new.dest in
     record {
-      rising = rw c.replace-column.ensures.after (set_rises row.items c.self.invariant.rising c.args.column c.in-Ok.at place c.args.value);
+      rising = rw c.replace-column.ensures.after
+          (set_rises row.items c.self.invariant.rising c.args.column c.in-Ok.at place c.args.value);
       block = rw same c.self.invariant.block;
     }
 
@@ -20,15 +21,19 @@ pub returns-in-Ok-clause-value : goal.returns-in-Ok-clause-value
 returns-in-Ok-clause-value g c =
     let row = c.self.inside.entries in
     let place = rw c.as_slice.ensures.value at c.in-Ok.ensures.found in
-    let read = get_or_from_slice_get row.items c.in-Ok.at _ c.index_mut.result.now c.index_mut.ensures.value in
-    let found = get_at row.items c.self.invariant.rising c.args.column c.in-Ok.at place c.index_mut.result.now in
-    rw (← c.self.view_is, c.replace-column.ensures.value) (sym (found ∙ ap (λ entry. Some entry.1) read))
+    let read = get_or_from_slice_get row.items c.in-Ok.at _ c.index_mut.result.now
+    c.index_mut.ensures.value in
+    let found = get_at row.items c.self.invariant.rising c.args.column c.in-Ok.at place
+    c.index_mut.result.now in
+    rw (← c.self.view_is, c.replace-column.ensures.value)
+    (sym (found ∙ ap (λ entry. Some entry.1) read))
 
 pub returns-in-Ok-clause-columns : goal.returns-in-Ok-clause-columns
 returns-in-Ok-clause-columns g c =
     let row = c.self.inside.entries in
     let place = rw c.as_slice.ensures.value at c.in-Ok.ensures.found in
-    rw (c.replace-column.ensures.after, ← c.self.view_is) (set_is row.items c.self.invariant.rising c.args.column c.in-Ok.at place c.args.value)
+    rw (c.replace-column.ensures.after, ← c.self.view_is)
+    (set_is row.items c.self.invariant.rising c.args.column c.in-Ok.at place c.args.value)
 
 -- there was none, and it goes into the gap
 pub invariant_of-self-in-Err : goal.invariant_of-self-in-Err
@@ -38,24 +43,31 @@ invariant_of-self-in-Err g c =
     let items = c.in_default.ensures.items in
     let longer = length-insert row.items c.in-Err.at (c.args.column, c.args.value) gap.in_bounds in
     record {
-      rising = rw items (insert_rises row.items c.self.invariant.rising c.args.column c.in-Err.at gap c.args.value);
-      block = (λ _. rw (items, longer) (omega arith), λ some. omega (arith, c.in_default.ensures.within.1.room));
+      rising = rw items (insert_rises row.items c.self.invariant.rising c.args.column c.in-Err.at
+          gap c.args.value);
+      block = (
+        λ _. rw (items, longer) (omega arith),
+        λ some. omega (arith, c.in_default.ensures.within.1.room),
+      );
     }
 
 pub returns-in-Err-insert-clause-succeeds : goal.returns-in-Err-insert-clause-succeeds
 returns-in-Err-insert-clause-succeeds g c some =
     let row = c.self.inside.entries in
     let gap = rw c.as_slice.ensures.value at c.in-Err.ensures.gap in
-    rw (← c.self.view_is, get_gap row.items c.self.invariant.rising c.args.column c.in-Err.at gap) at some
+    rw (← c.self.view_is, get_gap row.items c.self.invariant.rising c.args.column c.in-Err.at gap)
+    at some
 
 pub returns-in_default-clause-value : goal.returns-in_default-clause-value
 returns-in_default-clause-value g c =
     let row = c.self.inside.entries in
     let gap = rw c.as_slice.ensures.value at c.in-Err.ensures.gap in
-    rw (← c.self.view_is) (sym (get_gap row.items c.self.invariant.rising c.args.column c.in-Err.at gap))
+    rw (← c.self.view_is)
+    (sym (get_gap row.items c.self.invariant.rising c.args.column c.in-Err.at gap))
 
 pub returns-in_default-clause-columns : goal.returns-in_default-clause-columns
 returns-in_default-clause-columns g c =
     let row = c.self.inside.entries in
     let gap = rw c.as_slice.ensures.value at c.in-Err.ensures.gap in
-    rw (c.in_default.ensures.items, ← c.self.view_is) (insert_is row.items c.self.invariant.rising c.args.column c.in-Err.at gap c.args.value)
+    rw (c.in_default.ensures.items, ← c.self.view_is)
+    (insert_is row.items c.self.invariant.rising c.args.column c.in-Err.at gap c.args.value)

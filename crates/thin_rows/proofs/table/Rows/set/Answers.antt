@@ -4,10 +4,14 @@ use Rattle.std.proofs.lemmas.Option.{get_or_from_slice_get}
 use Rattle.thin_rows.proofs.table.Rows.set.Goals as goal
 
 -- a refused call left its row as it was, and so the table
-left : {X Y E : Type 0} (result : Result Y E) (xs : List X) (i : ℕ) (old new : X) → slice_get xs i ≡ Some old → OnErr result (new ≡ old) → OnErr result (slice_set xs i new ≡ xs)
+left : {X Y E : Type 0} (result : Result Y E) (xs : List X) (i : ℕ) (old new : X)
+    → slice_get xs i ≡ Some old → OnErr result (new ≡ old) → OnErr result (slice_set xs i new ≡ xs)
 left (Ok _) xs i old new there same = tt
-left (Err _) xs i old new there same = ap (slice_set xs i) (same ∙ sym (get_or_from_slice_get xs i old old there)) ∙ set-get_or xs i old
+left (Err _) xs i old new there same = ap (slice_set xs i) (same
+    ∙ sym (get_or_from_slice_get xs i old old there)) ∙ set-get_or xs i old
 
 pub returns-clause-err : goal.returns-clause-err
 returns-clause-err g c =
-    rw (← c.self.view_is) (left c.set.result c.self.inside.rows.items c.args.row c.index_mut.result.now c.set.new.self c.index_mut.ensures.value c.set.ensures.err)
+    rw (← c.self.view_is)
+    (left c.set.result c.self.inside.rows.items c.args.row c.index_mut.result.now
+    c.set.new.self c.index_mut.ensures.value c.set.ensures.err)

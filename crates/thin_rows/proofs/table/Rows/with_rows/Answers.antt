@@ -5,14 +5,18 @@ use Rattle.thin_rows.proofs.table.Rows.with_rows.Goals as goal
 
 pub returns-clause-table : goal.returns-clause-table
 returns-clause-table g c =
-    let all : c.loop.counter ≡ c.args.rows = omega (arith, c.loop-test.false, c.loop.auto.counter-end) in
+    let all : c.loop.counter ≡ c.args.rows = omega
+    (arith, c.loop-test.false, c.loop.auto.counter-end) in
     c.loop.invariant.0 ∙ ap (λ n. replicate n map.empty) all
 
 pub returns-in-Err-clause-overflow : goal.returns-in-Err-clause-overflow
-returns-in-Err-clause-overflow g c none = error_passes _ _ (c.in-Err.ensures.overflow (exact_of_same _ _ 0 c.args.rows refl refl ∙ none))
+returns-in-Err-clause-overflow g c none = error_passes _ _
+    (c.in-Err.ensures.overflow (exact_of_same _ _ 0 c.args.rows refl refl ∙ none))
 
 pub returns-in-Err-clause-cause : goal.returns-in-Err-clause-cause
-returns-in-Err-clause-cause g c is = exact_of_same _ _ 0 c.args.rows refl refl ∙ c.in-Err.ensures.cause is
+returns-in-Err-clause-cause g c is = exact_of_same _ _ 0 c.args.rows refl refl
+    ∙ c.in-Err.ensures.cause is
 
 pub returns-clause-overflow : goal.returns-clause-overflow
-returns-clause-overflow g c none = ok_passes _ _ _ (c.in-Ok.ensures.overflow (exact_of_same _ _ 0 c.args.rows refl refl ∙ none))
+returns-clause-overflow g c none = ok_passes _ _ _
+    (c.in-Ok.ensures.overflow (exact_of_same _ _ 0 c.args.rows refl refl ∙ none))
