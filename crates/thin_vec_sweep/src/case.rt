@@ -34,6 +34,26 @@ pub fn same<T: PartialEq + Debug + Drop, R: Abort>(
     assert_eq!(rt; value, wanted, "{what}, {at:?}");
 }
 
+/// Asserts that an item, if there is one, is that of the number, if there is to be one.
+pub fn same_item<T: Sample, R: Abort>(rt: &R, at: &At, item: Option<T>, number: Option<u64>) {
+    let told = match item {
+        Some(item) => Some(item.told()),
+        None => None,
+    };
+    let telling = match number {
+        Some(number) => Some(T::telling(number)),
+        None => None,
+    };
+    same(rt, at, "item", told, telling);
+}
+
+/// Asserts that those are the items of these numbers.
+pub fn same_items<T: Sample, R: Abort>(rt: &R, at: &At, items: &[T], numbers: &[u64]) {
+    same(rt, at, "length", items.len(), numbers.len());
+    let difference = first_difference(items, numbers);
+    same(rt, at, "first item that differs", difference, None);
+}
+
 /// What a call has to end as.
 #[derive(Debug, Clone, Copy, PartialEq, Eq)]
 pub enum Verdict {
@@ -106,7 +126,7 @@ impl<T: Sample, G: Ruled> Case<T, G> {
         if want <= self.capacity {
             return Some(self.capacity);
         }
-        fitting::<T>(G::named(self.capacity, want))
+        fitting::<T>(G::named(T::SIZE, self.capacity, want))
     }
 
     /// The capacity that has room for exactly `additional` more items, or `None` where it overflows.
@@ -203,15 +223,7 @@ impl<T: Sample, G: Ruled> Case<T, G> {
 
     /// The same of an item, if there was to be one.
     pub fn handed_or_none<R: Abort>(&self, rt: &R, item: Option<T>, number: Option<u64>) {
-        let told = match item {
-            Some(item) => Some(item.told()),
-            None => None,
-        };
-        let telling = match number {
-            Some(number) => Some(T::telling(number)),
-            None => None,
-        };
-        same(rt, &self.at, "item", told, telling);
+        same_item(rt, &self.at, item, number);
     }
 
     /// So many items, numbered from `first` on, have come in behind the others, where the call was not refused.
@@ -224,9 +236,7 @@ impl<T: Sample, G: Ruled> Case<T, G> {
 
     /// Asserts that those are the items of these numbers.
     pub fn holds<R: Abort>(&self, rt: &R, items: &[T], numbers: &[u64]) {
-        same(rt, &self.at, "length", items.len(), numbers.len());
-        let difference = first_difference(items, numbers);
-        same(rt, &self.at, "first item that differs", difference, None);
+        same_items(rt, &self.at, items, numbers);
     }
 
     /// Asserts that a list has the items of these numbers, and this capacity.

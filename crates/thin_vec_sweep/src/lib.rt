@@ -1,4 +1,4 @@
-//! Every call of the list, swept over lists of a small scope, against a reference made of std's `Vec` and a number.
+//! The calls that `calls.rt` lists, swept over lists of a small scope, against a reference made of std's `Vec` and a number.
 //!
 //! A sweep makes the call on each shape of a list (`shapes.rt`), with each argument, with memory in plenty and with its
 //! first request refused, its second, and so on until none is. After each it compares what the call answered and handed
@@ -9,11 +9,15 @@
 //! `arguments` says how many arguments are tried on a list of a shape; `run` makes the call. In `run`, in this order: make
 //! what the call is given; ask the reference how it has to end (`growth` where the list's capacity may change, `fresh`
 //! where another list is made; no question where it takes no memory); `begin`, from where on requests are counted and
-//! refused; the call, behind a test of what it requires; `answered`, and the same edit of `case.items`.
+//! refused; the call, behind a test of what it requires; `answered`, and the same edit of `case.items`. What a closure answers
+//! is in `answers.rt`, and steps from both ends in `walks.rt`: on lists and ranges of up to 6 items all there are.
 //!
-//! A growth rule joins by an impl of `Ruled` (`rules.rt`), and an item type by one of `Sample` (`samples.rt`) and a test.
+//! A growth rule joins by an impl of `Ruled` (`rules.rt`) and a line in `calls.rt`, and an item type by an impl of `Sample`
+//! (`samples.rt`) and a test.
 #![tactic(auto)]
 
+#[cfg(test)]
+mod answers;
 #[cfg(test)]
 mod calls;
 #[cfg(test)]
@@ -32,3 +36,5 @@ mod shapes;
 mod sweep;
 #[cfg(test)]
 mod tests;
+#[cfg(test)]
+mod walks;

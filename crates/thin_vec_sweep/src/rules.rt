@@ -1,15 +1,15 @@
 //! The growth rules, said once more for the reference: numbers only, and no limit.
-use other_rules::Fourfold;
-use thin_vec::{Doubling, Growth};
+use other_rules::{Fourfold, Threefold};
+use thin_vec::{Doubling, Growth, PowerBytes};
 
 /// A growth rule that the reference can follow.
 pub trait Ruled: Growth {
-    /// The capacity after `capacity` that has room for `want` items, which are more.
-    fn named(capacity: usize, want: usize) -> usize;
+    /// The capacity after `capacity` that has room for `want` items of `size` bytes, which are more.
+    fn named(size: usize, capacity: usize, want: usize) -> usize;
 }
 
 impl Ruled for Doubling {
-    fn named(capacity: usize, want: usize) -> usize {
+    fn named(_size: usize, capacity: usize, want: usize) -> usize {
         if capacity == 0 {
             want.max(4)
         } else {
@@ -18,8 +18,32 @@ impl Ruled for Doubling {
     }
 }
 
+impl Ruled for PowerBytes {
+    // A block's first 16 bytes are its capacity and length.
+    fn named(size: usize, capacity: usize, want: usize) -> usize {
+        if size == 0 {
+            return Doubling::named(size, capacity, want);
+        }
+        let items = want.max(capacity.saturating_mul(2));
+        let bytes = items.saturating_mul(size).saturating_add(16);
+        let mut power: usize = 32;
+        for _ in 5..64 {
+            if power < bytes {
+                power = power.saturating_mul(2);
+            }
+        }
+        power.saturating_sub(16) / size
+    }
+}
+
+impl Ruled for Threefold {
+    fn named(_size: usize, capacity: usize, want: usize) -> usize {
+        want.max(capacity.saturating_mul(3))
+    }
+}
+
 impl Ruled for Fourfold {
-    fn named(capacity: usize, want: usize) -> usize {
+    fn named(_size: usize, capacity: usize, want: usize) -> usize {
         want.max(capacity.saturating_mul(4))
     }
 }

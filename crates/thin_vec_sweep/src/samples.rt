@@ -1,4 +1,8 @@
 //! The items of the swept lists: of no size, of 1 to 320 bytes, counted, and lists themselves.
+ghost use Rattle.std.proofs.Common.{rules};
+ghost use Rattle.std.specs.Cmp.Rules.{comparing};
+ghost use Rattle.std.specs.Prelude.{◌==◌};
+
 use crate::ledger::{Ledger, count};
 use refusing::Refusing;
 use std::alloc::{AllocError, Global};
@@ -6,12 +10,15 @@ use std::process::Abort;
 use thin_vec::ThinVec;
 
 /// A type of items that can be told apart by a number, as far as it has different values.
-pub trait Sample: Clone + Drop {
+pub trait Sample: Clone + Drop + PartialEq {
     /// Whether the ledger counts them and their clones.
     const IS_COUNTED: bool;
 
     /// Whether each owns a block of the ledger's allocator. Each clone is a request then.
     const OWNS_BLOCK: bool;
+
+    /// How many bytes an item takes.
+    const SIZE: usize;
 
     /// The greatest capacity that fits, worked out by hand: a block is 16 bytes and the items, rounded up to its
     /// alignment, which is 8 or that of an item, and has to be at most `isize::MAX`.
@@ -32,6 +39,8 @@ impl Sample for () {
 
     const OWNS_BLOCK: bool = false;
 
+    const SIZE: usize = 0;
+
     const LIMIT: usize = isize::MAX as usize;
 
     fn nth<R: Abort>(_rt: &R, _ledger: &'static Ledger, _number: u64) {}
@@ -49,6 +58,8 @@ impl Sample for u8 {
     const IS_COUNTED: bool = false;
 
     const OWNS_BLOCK: bool = false;
+
+    const SIZE: usize = 1;
 
     const LIMIT: usize = 9_223_372_036_854_775_784;
 
@@ -70,6 +81,8 @@ impl Sample for u32 {
 
     const OWNS_BLOCK: bool = false;
 
+    const SIZE: usize = 4;
+
     const LIMIT: usize = 2_305_843_009_213_693_946;
 
     fn nth<R: Abort>(_rt: &R, _ledger: &'static Ledger, number: u64) -> u32 {
@@ -89,6 +102,8 @@ impl Sample for u64 {
     const IS_COUNTED: bool = false;
 
     const OWNS_BLOCK: bool = false;
+
+    const SIZE: usize = 8;
 
     const LIMIT: usize = 1_152_921_504_606_846_973;
 
@@ -110,6 +125,8 @@ impl Sample for u128 {
 
     const OWNS_BLOCK: bool = false;
 
+    const SIZE: usize = 16;
+
     const LIMIT: usize = 576_460_752_303_423_486;
 
     fn nth<R: Abort>(_rt: &R, _ledger: &'static Ledger, number: u64) -> u128 {
@@ -129,6 +146,8 @@ impl Sample for [u64; 40] {
     const IS_COUNTED: bool = false;
 
     const OWNS_BLOCK: bool = false;
+
+    const SIZE: usize = 320;
 
     const LIMIT: usize = 28_823_037_615_171_174;
 
@@ -180,10 +199,22 @@ impl Clone for Counted {
     }
 }
 
+impl PartialEq for Counted {
+    ghost eq = { λ item other. item.number == other.number };
+
+    ghost laws = { Prim.search (comparing, rules) };
+
+    fn eq(&self, other: &Counted) -> bool {
+        self.number == other.number
+    }
+}
+
 impl Sample for Counted {
     const IS_COUNTED: bool = true;
 
     const OWNS_BLOCK: bool = false;
+
+    const SIZE: usize = 16;
 
     const LIMIT: usize = 576_460_752_303_423_486;
 
@@ -207,6 +238,8 @@ impl Sample for Inner {
     const IS_COUNTED: bool = false;
 
     const OWNS_BLOCK: bool = true;
+
+    const SIZE: usize = 16;
 
     const LIMIT: usize = 576_460_752_303_423_486;
 

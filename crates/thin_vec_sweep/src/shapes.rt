@@ -17,6 +17,27 @@ const SOME: [usize; 4] = [0, 1, 9, 50];
 
 const MANY: [usize; 2] = [1, 300];
 
+/// How many cases of a call on k items there are, by k, where each is tried: that is on at most 6 items.
+pub type Cases = [usize; 7];
+
+// How many ranges of a list of more items are tried.
+const RANGES: usize = 4;
+
+/// A range of a list, and the number of a case of a call on its items.
+#[derive(Debug, Clone, Copy)]
+pub struct Ranged {
+    pub start: usize,
+    pub end: usize,
+    pub number: usize,
+}
+
+impl Ranged {
+    /// How many items there are in the range.
+    pub fn width(self) -> usize {
+        self.end.saturating_sub(self.start)
+    }
+}
+
 impl Shape {
     /// The shape of that number: 0 to 4 items with 0 to 4 places beside them, then 0 to 40 items with 0 and 1, and then some
     /// thousands.
@@ -85,6 +106,66 @@ impl Shape {
             2 => self.length.saturating_sub(1),
             _ => self.length,
         }
+    }
+
+    /// How many cases of a call on all items are tried.
+    pub fn cases(self, cases: &Cases) -> usize {
+        cases.get(self.length).copied().unwrap_or(self.some())
+    }
+
+    // How many are tried on more than 6 items.
+    fn some(self) -> usize {
+        if self.is_long() { 2 } else { 20 }
+    }
+
+    /// How many cases of a call on the items of a range are tried: each on each range, where there are at most 6 items.
+    pub fn ranged_cases(self, cases: &Cases) -> usize {
+        if self.length >= cases.len() {
+            return self.some().saturating_mul(RANGES);
+        }
+        let mut count: usize = 0;
+        for (width, each) in cases.iter().enumerate() {
+            count = count.saturating_add(each.saturating_mul(self.ranges(width)));
+        }
+        count
+    }
+
+    // How many ranges of so many items there are.
+    fn ranges(self, width: usize) -> usize {
+        self.length.saturating_add(1).saturating_sub(width)
+    }
+
+    /// One of them.
+    pub fn ranged_case(self, cases: &Cases, number: usize) -> Ranged {
+        if self.length >= cases.len() {
+            return self.some_range(number % RANGES, number / RANGES);
+        }
+        let mut number = number;
+        for (width, each) in cases.iter().enumerate() {
+            let all = each.saturating_mul(self.ranges(width));
+            if number < all && *each > 0 {
+                let start = number / *each;
+                return Ranged {
+                    start,
+                    end: start.saturating_add(width),
+                    number: number % *each,
+                };
+            }
+            number = number.saturating_sub(all);
+        }
+        self.some_range(0, number)
+    }
+
+    // A range of many items.
+    fn some_range(self, range: usize, number: usize) -> Ranged {
+        let length = self.length;
+        let (start, end) = match range {
+            0 => (0, length),
+            1 => (1, length.saturating_sub(1)),
+            2 => (length / 2, length),
+            _ => (length / 3, length / 2),
+        };
+        Ranged { start, end, number }
     }
 
     /// So many arguments, of a call for which the spare room does not matter.

@@ -8,49 +8,37 @@ use crate::sweep::Call;
 use refusing::Refusing;
 use std::alloc::Global;
 use std::process::Abort;
-use thin_vec::{Doubling, ThinVec, ThinVecError, thin_vec};
+use thin_vec::{Doubling, Rejected, ThinVec, ThinVecError, thin_vec};
 
 // The number of an item that comes in.
 const FRESH: u64 = 70_000;
 
-/// `into_vec`, and a push into the `Vec`.
-pub struct IntoVec {}
+/// `into_vec` and `into_boxed_slice`.
+pub struct IntoOthers {}
 
-impl<T: Sample, G: Ruled> Call<T, G> for IntoVec {
-    const NAME: &'static str = "into_vec";
+impl<T: Sample, G: Ruled> Call<T, G> for IntoOthers {
+    const NAME: &'static str = "into_vec, into_boxed_slice";
 
-    fn run<R: Abort>(rt: &R, case: &mut Case<T, G>, _argument: usize) {
+    fn arguments(_shape: Shape) -> usize {
+        2
+    }
+
+    fn run<R: Abort>(rt: &R, case: &mut Case<T, G>, argument: usize) {
         let capacity = case.capacity;
         let (list, items) = case.take();
         let verdict = case.fresh(Some(items.len()), 0);
         case.begin();
-        match list.into_vec(&case.ledger.alloc) {
+        let answer = match argument {
+            0 => list.into_vec(&case.ledger.alloc),
+            _ => match list.into_boxed_slice(&case.ledger.alloc) {
+                Ok(boxed) => Ok(boxed.into_vec()),
+                Err(refused) => Err(refused),
+            },
+        };
+        match answer {
             Ok(vec) => {
                 case.answered(rt, Ok(()), verdict);
                 case.holds(rt, vec.as_slice(), items.as_slice());
-            }
-            Err(refused) => {
-                case.answered(rt, Err(refused.cause), verdict);
-                case.set(refused.value, items, capacity);
-            }
-        }
-    }
-}
-
-pub struct IntoBoxedSlice {}
-
-impl<T: Sample, G: Ruled> Call<T, G> for IntoBoxedSlice {
-    const NAME: &'static str = "into_boxed_slice";
-
-    fn run<R: Abort>(rt: &R, case: &mut Case<T, G>, _argument: usize) {
-        let capacity = case.capacity;
-        let (list, items) = case.take();
-        let verdict = case.fresh(Some(items.len()), 0);
-        case.begin();
-        match list.into_boxed_slice(&case.ledger.alloc) {
-            Ok(boxed) => {
-                case.answered(rt, Ok(()), verdict);
-                case.holds(rt, boxed.as_slice(), items.as_slice());
             }
             Err(refused) => {
                 case.answered(rt, Err(refused.cause), verdict);
@@ -76,47 +64,33 @@ fn vec_of<T: Sample, R: Abort>(
     items
 }
 
-/// Of a `Vec` without spare room, and with as much as the shape has.
-pub struct FromVec {}
+/// `from_vec` of a `Vec` with as much spare room as the shape has, and `from_boxed_slice`.
+pub struct FromOthers {}
 
-impl<T: Sample> Call<T, Doubling> for FromVec {
-    const NAME: &'static str = "from_vec";
+impl<T: Sample> Call<T, Doubling> for FromOthers {
+    const NAME: &'static str = "from_vec, from_boxed_slice";
 
-    fn run<R: Abort>(rt: &R, case: &mut Case<T, Doubling>, _argument: usize) {
+    fn arguments(shape: Shape) -> usize {
+        shape.alone(1).saturating_add(1)
+    }
+
+    fn run<R: Abort>(rt: &R, case: &mut Case<T, Doubling>, argument: usize) {
         let shape = case.at.shape;
         let items = vec_of(rt, case, shape.spare);
         let numbers = numbers(rt, case.ledger, 1, shape.length);
         let verdict = case.fresh(Some(shape.length), 0);
         case.begin();
-        match ThinVec::from_vec(&case.ledger.alloc, items) {
-            Ok(list) => {
-                case.answered(rt, Ok(()), verdict);
-                case.set(list, numbers, shape.length);
-            }
-            Err(refused) => {
-                case.answered(rt, Err(refused.cause), verdict);
-                case.holds(rt, refused.value.as_slice(), numbers.as_slice());
-            }
-        }
-    }
-}
-
-pub struct FromBoxedSlice {}
-
-impl<T: Sample> Call<T, Doubling> for FromBoxedSlice {
-    const NAME: &'static str = "from_boxed_slice";
-
-    fn arguments(shape: Shape) -> usize {
-        shape.alone(1)
-    }
-
-    fn run<R: Abort>(rt: &R, case: &mut Case<T, Doubling>, _argument: usize) {
-        let shape = case.at.shape;
-        let items = vec_of(rt, case, 0).into_boxed_slice();
-        let numbers = numbers(rt, case.ledger, 1, shape.length);
-        let verdict = case.fresh(Some(shape.length), 0);
-        case.begin();
-        match ThinVec::from_boxed_slice(&case.ledger.alloc, items) {
+        let answer = match argument {
+            0 => ThinVec::from_vec(&case.ledger.alloc, items),
+            _ => match ThinVec::from_boxed_slice(&case.ledger.alloc, items.into_boxed_slice()) {
+                Ok(list) => Ok(list),
+                Err(Rejected { value, cause }) => Err(Rejected {
+                    value: value.into_vec(),
+                    cause,
+                }),
+            },
+        };
+        match answer {
             Ok(list) => {
                 case.answered(rt, Ok(()), verdict);
                 case.set(list, numbers, shape.length);
@@ -237,8 +211,8 @@ impl<T: Sample> Call<T, Doubling> for New {
     }
 }
 
-// The list that a call answered comes into the case.
-fn made<T: Sample, R: Abort>(
+/// The list that a call answered comes into the case.
+pub fn made<T: Sample, R: Abort>(
     rt: &R,
     case: &mut Case<T, Doubling>,
     answer: Result<List<T, Doubling>, ThinVecError>,

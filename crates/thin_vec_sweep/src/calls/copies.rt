@@ -5,6 +5,7 @@ use crate::samples::Sample;
 use crate::shapes::Shape;
 use crate::sweep::Call;
 use std::process::Abort;
+use thin_vec::{Doubling, ThinVec};
 
 // The number of the first item that comes in.
 const FRESH: u64 = 80_000;
@@ -27,6 +28,24 @@ impl<T: Sample + Copy, G: Ruled> Call<T, G> for ExtendFromCopies {
         let answer = case.list.extend_from_copies(new.as_slice());
         case.answered(rt, answer, verdict);
         case.add(rt, FRESH, count, verdict);
+    }
+}
+
+pub struct FromCopies {}
+
+impl<T: Sample + Copy> Call<T, Doubling> for FromCopies {
+    const NAME: &'static str = "from_copies";
+
+    fn arguments(shape: Shape) -> usize {
+        shape.alone(1)
+    }
+
+    fn run<R: Abort>(rt: &R, case: &mut Case<T, Doubling>, _argument: usize) {
+        let length = case.items.len();
+        let verdict = case.fresh(Some(length), 0);
+        case.begin();
+        let answer = ThinVec::from_copies(&case.ledger.alloc, case.list.as_slice());
+        case.second(rt, answer, verdict, case.items.as_slice(), length);
     }
 }
 

@@ -4,14 +4,12 @@ use crate::rules::Ruled;
 use crate::samples::Sample;
 use crate::shapes::Shape;
 use crate::sweep::Call;
+use crate::walks::{Remaining, WALKS, Walk};
 use std::mem;
 use std::process::Abort;
 
 // The number of an item that comes in.
 const FRESH: u64 = 70_000;
-
-// From which ends the items are asked for: a bit a step, where 1 is the back.
-const ENDS: [u64; 4] = [0, u64::MAX, 0x5555_5555_5555_5555, 0xcccc_cccc_cccc_cccc];
 
 // How many steps are made: each number up to two past the length of a short list.
 fn steps(shape: Shape) -> usize {
@@ -32,37 +30,27 @@ impl<T: Sample, G: Ruled> Call<T, G> for IntoIter {
     const NAME: &'static str = "into_iter";
 
     fn arguments(shape: Shape) -> usize {
-        steps(shape).saturating_mul(4)
+        shape.cases(&WALKS)
     }
 
     fn run<R: Abort>(rt: &R, case: &mut Case<T, G>, argument: usize) {
-        let steps = step(case.at.shape, argument / 4);
-        let ends = ENDS[argument % 4];
         let (list, numbers) = case.take();
         let mut fresh = case.item(rt, FRESH);
         case.begin();
         let mut rest = list.into_iter();
-        let mut front: usize = 0;
-        let mut back = numbers.len();
-        for step in 0..steps {
-            let is_back = ends >> (step % 64) & 1 == 1;
+        let walk = Walk::nth(numbers.len(), argument);
+        let mut remaining = Remaining::new(numbers.len());
+        for step in 0..walk.steps {
+            let is_back = walk.is_back(step);
             let item = if is_back {
                 rest.next_back()
             } else {
                 rest.next()
             };
-            let number = if front >= back {
-                None
-            } else if is_back {
-                back = back.saturating_sub(1);
-                numbers.get(back).copied()
-            } else {
-                front = front.saturating_add(1);
-                numbers.get(front.saturating_sub(1)).copied()
-            };
+            let number = remaining.take(is_back, numbers.as_slice());
             case.handed_or_none(rt, item, number);
         }
-        let numbers = numbers.as_slice().get(front..back).unwrap_or(&[]);
+        let numbers = remaining.of(numbers.as_slice());
         let count = numbers.len();
         let hint = (rest.len(), rest.size_hint());
         same(rt, &case.at, "hint", hint, (count, (count, Some(count))));

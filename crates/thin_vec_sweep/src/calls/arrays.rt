@@ -1,0 +1,123 @@
+//! Lists that are written out, and arrays that lists are turned into and made from.
+ghost use Rattle.std.specs.Mem.{type_size};
+ghost use Rattle.std.specs.Prelude.{◌*◌, ◌<◌, ◌^◌};
+
+use crate::calls::conversions::made;
+use crate::case::{At, Case, Verdict, numbers, same, same_items};
+use crate::ledger::Ledger;
+use crate::samples::Sample;
+use crate::shapes::{SHAPES, Shape};
+use crate::sweep::Call;
+use std::alloc::Allocator;
+use std::process::Abort;
+use thin_vec::{Doubling, ThinVec, ThinVecError, thin_vec};
+
+/// `thin_vec![alloc => x, y]`, with as many items as the shape has: one to three.
+pub struct Listed {}
+
+impl<T: Sample> Call<T, Doubling> for Listed {
+    const NAME: &'static str = "thin_vec![a => x, y]";
+
+    fn arguments(shape: Shape) -> usize {
+        match shape.length {
+            1..=3 => shape.alone(1),
+            _ => 0,
+        }
+    }
+
+    fn run<R: Abort>(rt: &R, case: &mut Case<T, Doubling>, _argument: usize) {
+        drop(case.take());
+        let count = case.at.shape.length;
+        let (x, y, z) = (case.item(rt, 1), case.item(rt, 2), case.item(rt, 3));
+        let verdict = case.growth(Some(count), 0);
+        case.begin();
+        let list = match count {
+            1 => thin_vec![&case.ledger.alloc => x],
+            2 => thin_vec![&case.ledger.alloc => x, y],
+            _ => thin_vec![&case.ledger.alloc => x, y, z],
+        };
+        made(rt, case, list, verdict);
+        if verdict == Verdict::Done {
+            case.items = numbers(rt, case.ledger, 1, count);
+        }
+    }
+}
+
+/// Sweeps `into_array` and `from_array`, at arrays of several lengths.
+pub fn every_array<T: Sample, R: Abort>(rt: &R, ledger: &'static Ledger)
+    requires small { 6 * type_size T.row < 2 ^ 63 }
+{
+    arrays::<T, 0, R>(rt, ledger);
+    arrays::<T, 1, R>(rt, ledger);
+    arrays::<T, 2, R>(rt, ledger);
+    arrays::<T, 3, R>(rt, ledger);
+    arrays::<T, 6, R>(rt, ledger);
+}
+
+// At arrays of N items, on each list of up to 6 items.
+fn arrays<T: Sample, const N: usize, R: Abort>(rt: &R, ledger: &'static Ledger)
+    requires small { N * type_size T.row < 2 ^ 63 }
+{
+    for number in 0..SHAPES {
+        let shape = Shape::nth(number);
+        if shape.length <= 6 {
+            for refused in 0..2 {
+                let at = At {
+                    call: "into_array, from_array",
+                    shape,
+                    argument: N,
+                    refused,
+                };
+                array::<T, N, R>(rt, ledger, at);
+            }
+        }
+    }
+}
+
+// A list of N items becomes an array, and that a list; one of another length is handed back.
+fn array<T: Sample, const N: usize, R: Abort>(rt: &R, ledger: &'static Ledger, at: At)
+    requires small { N * type_size T.row < 2 ^ 63 }
+{
+    let mut case: Case<T, Doubling> = Case::new(rt, ledger, at);
+    let capacity = case.capacity;
+    let (list, numbers) = case.take();
+    let is_whole = numbers.len() == N;
+    let verdict = case.fresh(Some(if is_whole { N } else { 0 }), 0);
+    case.begin();
+    let (back, became, answer) = there_and_back::<T, _, N, R>(
+        rt,
+        &at,
+        list,
+        &ledger.alloc,
+        numbers.as_slice(),
+    );
+    same(rt, &at, "becomes an array", became, is_whole);
+    case.answered(rt, answer, verdict);
+    if let Some(list) = back {
+        case.set(list, numbers, if is_whole { N } else { capacity });
+    }
+    case.check(rt);
+    case.end(rt);
+}
+
+// The list that an array was made from and turned into, whether there was one, and why the way back was refused.
+fn there_and_back<T: Sample, A: Allocator, const N: usize, R: Abort>(
+    rt: &R,
+    at: &At,
+    list: ThinVec<T, A>,
+    alloc: A,
+    numbers: &[u64],
+) -> (Option<ThinVec<T, A>>, bool, Result<(), ThinVecError>)
+    requires small { N * type_size T.row < 2 ^ 63 }
+{
+    match list.into_array::<N>() {
+        Ok(items) => match ThinVec::from_array(alloc, items) {
+            Ok(list) => (Some(list), true, Ok(())),
+            Err(refused) => {
+                same_items(rt, at, &refused.value, numbers);
+                (None, true, Err(refused.cause))
+            }
+        },
+        Err(list) => (Some(list), false, Ok(())),
+    }
+}

@@ -1,0 +1,202 @@
+//! Calls that keep some items, by what a closure answers of them: each is asked in turn, and may write.
+use crate::answers::{PATTERNS, Questions, number_at, stays};
+use crate::case::Case;
+use crate::rules::Ruled;
+use crate::samples::Sample;
+use crate::shapes::Shape;
+use crate::sweep::Call;
+use std::alloc::Global;
+use std::cell::Cell;
+use std::mem;
+use std::process::Abort;
+
+// The number of an item that comes in.
+const FRESH: u64 = 70_000;
+
+pub struct Retain {}
+
+impl<T: Sample, G: Ruled> Call<T, G> for Retain {
+    const NAME: &'static str = "retain";
+
+    fn arguments(shape: Shape) -> usize {
+        shape.cases(&PATTERNS)
+    }
+
+    fn run<R: Abort>(rt: &R, case: &mut Case<T, G>, argument: usize) {
+        let count = case.at.shape.length;
+        let questions = Questions::new();
+        case.begin();
+        case.list.retain(|item| {
+            let index = questions.next();
+            questions.about(item, number_at(index));
+            stays(count, argument, index)
+        });
+        questions.end(rt, &case.at, count);
+        let mut left = Vec::new(case.ledger.global);
+        for index in 0..count {
+            if stays(count, argument, index) {
+                left.push(number_at(index)).ok().expect(rt, "memory");
+            }
+        }
+        case.items = left;
+    }
+}
+
+/// The closure puts each item into the place of the next one that it is asked about.
+pub struct RetainMut {}
+
+impl<T: Sample, G: Ruled> Call<T, G> for RetainMut {
+    const NAME: &'static str = "retain_mut";
+
+    fn arguments(shape: Shape) -> usize {
+        shape.cases(&PATTERNS)
+    }
+
+    fn run<R: Abort>(rt: &R, case: &mut Case<T, G>, argument: usize) {
+        let count = case.at.shape.length;
+        let questions = Questions::new();
+        let mut hand = case.item(rt, FRESH);
+        case.begin();
+        case.list.retain_mut(|item| {
+            let index = questions.next();
+            questions.about(&*item, number_at(index));
+            mem::swap(item, &mut hand);
+            stays(count, argument, index)
+        });
+        questions.end(rt, &case.at, count);
+        let mut number = FRESH;
+        let mut left = Vec::new(case.ledger.global);
+        for index in 0..count {
+            if stays(count, argument, index) {
+                left.push(number).ok().expect(rt, "memory");
+            }
+            number = number_at(index);
+        }
+        case.items = left;
+        case.handed(rt, &hand, number);
+    }
+}
+
+/// The closure exchanges its two items.
+pub struct DedupBy {}
+
+impl<T: Sample, G: Ruled> Call<T, G> for DedupBy {
+    const NAME: &'static str = "dedup_by";
+
+    fn arguments(shape: Shape) -> usize {
+        shape.cases(&PATTERNS)
+    }
+
+    fn run<R: Abort>(rt: &R, case: &mut Case<T, G>, argument: usize) {
+        let count = case.at.shape.length;
+        let questions = Questions::new();
+        let last = Cell::new(number_at(0));
+        case.begin();
+        case.list.dedup_by(|later, kept| {
+            let index = questions.next().saturating_add(1);
+            questions.about(&*later, number_at(index));
+            questions.about(&*kept, last.get());
+            mem::swap(later, kept);
+            let is_kept = stays(count, argument, index);
+            if !is_kept {
+                last.set(number_at(index));
+            }
+            !is_kept
+        });
+        questions.end(rt, &case.at, count.saturating_sub(1));
+        case.items = exchanged(rt, case.ledger.global, count, argument);
+    }
+}
+
+// What is left where each later item changes places with the last one kept: that one comes last, if the later item stays.
+fn exchanged<R: Abort>(rt: &R, global: Global, count: usize, pattern: usize) -> Vec<u64, Global> {
+    let mut left = Vec::new(global);
+    let mut last = number_at(0);
+    for index in 1..count {
+        if stays(count, pattern, index) {
+            left.push(number_at(index)).ok().expect(rt, "memory");
+        } else {
+            last = number_at(index);
+        }
+    }
+    if count > 0 {
+        left.push(last).ok().expect(rt, "memory");
+    }
+    left
+}
+
+/// The key of a later item is 1, and that of the last one kept, which is asked next, is 1 where the later one goes.
+pub struct DedupByKey {}
+
+impl<T: Sample, G: Ruled> Call<T, G> for DedupByKey {
+    const NAME: &'static str = "dedup_by_key";
+
+    fn arguments(shape: Shape) -> usize {
+        shape.cases(&PATTERNS)
+    }
+
+    fn run<R: Abort>(rt: &R, case: &mut Case<T, G>, argument: usize) {
+        let count = case.at.shape.length;
+        let questions = Questions::new();
+        let last = Cell::new(number_at(0));
+        case.begin();
+        case.list.dedup_by_key(|item| {
+            let question = questions.next();
+            let index = (question / 2).saturating_add(1);
+            if question % 2 == 0 {
+                questions.about(&*item, number_at(index));
+                return 1u8;
+            }
+            questions.about(&*item, last.get());
+            if stays(count, argument, index) {
+                last.set(number_at(index));
+                return 0;
+            }
+            1
+        });
+        let due = count.saturating_sub(1).saturating_mul(2);
+        questions.end(rt, &case.at, due);
+        case.items = first_kept(rt, case.ledger.global, count, argument);
+    }
+}
+
+// What is left where the first item stays in any case.
+fn first_kept<R: Abort>(rt: &R, global: Global, count: usize, pattern: usize) -> Vec<u64, Global> {
+    let mut left = Vec::new(global);
+    for index in 0..count {
+        if index == 0 || stays(count, pattern, index) {
+            left.push(number_at(index)).ok().expect(rt, "memory");
+        }
+    }
+    left
+}
+
+/// Of a list in which an item that is to go is made like the one before it.
+pub struct Dedup {}
+
+impl<T: Sample + PartialEq, G: Ruled> Call<T, G> for Dedup {
+    const NAME: &'static str = "dedup";
+
+    fn arguments(shape: Shape) -> usize {
+        shape.cases(&PATTERNS)
+    }
+
+    fn run<R: Abort>(rt: &R, case: &mut Case<T, G>, argument: usize) {
+        let count = case.at.shape.length;
+        let mut number = number_at(0);
+        let mut numbers = Vec::new(case.ledger.global);
+        for index in 0..count {
+            if stays(count, argument, index) {
+                number = number_at(index);
+            }
+            if index < case.list.len() {
+                case.list[index] = T::nth(rt, case.ledger, number);
+            }
+            numbers.push(T::telling(number)).ok().expect(rt, "memory");
+        }
+        numbers.dedup();
+        case.begin();
+        case.list.dedup();
+        case.items = numbers;
+    }
+}

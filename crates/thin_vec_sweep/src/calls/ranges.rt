@@ -1,0 +1,175 @@
+//! Calls by which the items of a range go out: given up after any steps.
+use crate::answers::{number_at, stays};
+use crate::case::{At, Case, same, same_item, same_items};
+use crate::rules::Ruled;
+use crate::samples::Sample;
+use crate::shapes::{Cases, Ranged, Shape};
+use crate::sweep::Call;
+use crate::walks::{Remaining, WALKS, Walk, some_steps};
+use std::alloc::{Allocator, Global};
+use std::process::Abort;
+use thin_vec::{Growth, ThinVec};
+
+pub struct Drained {}
+
+impl<T: Sample, G: Ruled> Call<T, G> for Drained {
+    const NAME: &'static str = "drain";
+
+    fn arguments(shape: Shape) -> usize {
+        shape.ranged_cases(&WALKS)
+    }
+
+    fn run<R: Abort>(rt: &R, case: &mut Case<T, G>, argument: usize) {
+        let at = case.at;
+        let range = at.shape.ranged_case(&WALKS, argument);
+        case.begin();
+        drain(rt, &at, &mut case.list, range, case.items.as_slice());
+        let mut left = Vec::new(case.ledger.global);
+        for index in 0..case.items.len() {
+            if index < range.start || range.end <= index {
+                left.push(number_at(index)).ok().expect(rt, "memory");
+            }
+        }
+        case.items = left;
+    }
+}
+
+// Drains the range by some steps, and gives up.
+fn drain<T: Sample, A: Allocator, G: Growth, R: Abort>(
+    rt: &R,
+    at: &At,
+    list: &mut ThinVec<T, A, G>,
+    range: Ranged,
+    numbers: &[u64],
+) {
+    if range.start > range.end || range.end > list.len() {
+        return;
+    }
+    let numbers = numbers.get(range.start..range.end).unwrap_or(&[]);
+    let walk = Walk::nth(range.width(), range.number);
+    let mut remaining = Remaining::new(numbers.len());
+    let mut drain = list.drain(range.start, range.end);
+    for step in 0..walk.steps {
+        let is_back = walk.is_back(step);
+        let item = if is_back {
+            drain.next_back()
+        } else {
+            drain.next()
+        };
+        same_item(rt, at, item, remaining.take(is_back, numbers));
+    }
+    let numbers = remaining.of(numbers);
+    let count = numbers.len();
+    let hint = (drain.len(), drain.size_hint());
+    same(rt, at, "hint", hint, (count, (count, Some(count))));
+    same_items(rt, at, drain.as_slice(), numbers);
+}
+
+// Each number of calls up to k + 1, with each pattern of answers about k items.
+const EXTRACTIONS: Cases = [2, 6, 16, 40, 96, 224, 512];
+
+pub struct Extracted {}
+
+impl<T: Sample, G: Ruled> Call<T, G> for Extracted {
+    const NAME: &'static str = "extract_if";
+
+    fn arguments(shape: Shape) -> usize {
+        shape.ranged_cases(&EXTRACTIONS)
+    }
+
+    fn run<R: Abort>(rt: &R, case: &mut Case<T, G>, argument: usize) {
+        let at = case.at;
+        let range = at.shape.ranged_case(&EXTRACTIONS, argument);
+        let wanted = Extraction::new(rt, case.ledger.global, at.shape.length, range);
+        case.begin();
+        extract(rt, &at, &mut case.list, range, &wanted);
+        case.items = wanted.left;
+    }
+}
+
+// What an extraction has to do.
+#[derive(Drop)]
+struct Extraction {
+    // How often `next` is called.
+    calls: usize,
+    // The pattern of answers.
+    pattern: usize,
+    // How many questions are asked.
+    asked: usize,
+    // The number of each item that is handed out.
+    given: Vec<u64, Global>,
+    // The number of each item of the list afterwards.
+    left: Vec<u64, Global>,
+}
+
+impl Extraction {
+    // Of a list of `length` items.
+    fn new<R: Abort>(rt: &R, global: Global, length: usize, range: Ranged) -> Extraction {
+        let width = range.width();
+        let (calls, pattern) = calls_and_pattern(width, range.number);
+        let mut given: Vec<u64, Global> = Vec::new(global);
+        let mut left = Vec::new(global);
+        let mut asked: usize = 0;
+        for index in 0..length {
+            let is_outside = index < range.start || range.end <= index;
+            if is_outside || given.len() >= calls {
+                left.push(number_at(index)).ok().expect(rt, "memory");
+                continue;
+            }
+            if stays(width, pattern, asked) {
+                left.push(number_at(index)).ok().expect(rt, "memory");
+            } else {
+                given.push(number_at(index)).ok().expect(rt, "memory");
+            }
+            asked = asked.saturating_add(1);
+        }
+        Extraction {
+            calls,
+            pattern,
+            asked,
+            given,
+            left,
+        }
+    }
+}
+
+// How many calls of `next` are made on so many items, and with which answers.
+fn calls_and_pattern(width: usize, number: usize) -> (usize, usize) {
+    if width >= EXTRACTIONS.len() {
+        return (some_steps(width, number % 5), number / 5);
+    }
+    let calls = width.saturating_add(2);
+    if calls == 0 {
+        return (0, 0);
+    }
+    (number % calls, number / calls)
+}
+
+// Extracts by some calls of `next`, and gives up. An item whose turn it is not stays, whatever the pattern says.
+fn extract<T: Sample, A: Allocator, G: Growth, R: Abort>(
+    rt: &R,
+    at: &At,
+    list: &mut ThinVec<T, A, G>,
+    range: Ranged,
+    wanted: &Extraction,
+) {
+    if range.start > range.end || range.end > list.len() {
+        return;
+    }
+    let width = range.width();
+    let pattern = wanted.pattern;
+    let start = range.start;
+    let mut asked: usize = 0;
+    let mut extract = list.extract_if(range.start, range.end, move |item: &mut T| {
+        let is_due = item.told() == T::telling(number_at(start.saturating_add(asked)));
+        let goes = is_due && !stays(width, pattern, asked);
+        asked = asked.saturating_add(1);
+        goes
+    });
+    for call in 0..wanted.calls {
+        let number = wanted.given.as_slice().get(call).copied();
+        same_item(rt, at, extract.next(), number);
+    }
+    let left = width.saturating_sub(wanted.asked);
+    same(rt, at, "hint", extract.size_hint(), (0, Some(left)));
+}
