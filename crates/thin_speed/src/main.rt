@@ -1,0 +1,35 @@
+//! Runs workloads on lists, one for each line that it reads, and prints a sum for each.
+#![tactic(auto)]
+
+mod kit;
+mod shared;
+mod thin;
+
+use crate::shared::Outcome;
+use std::alloc::Global;
+use std::io;
+
+fn main(rt: HostRuntime) -> io::Result<()> {
+    for line in rt.lines(rt.alloc()) {
+        match asked(rt.alloc(), line?.as_str()) {
+            Some(Ok(sum)) => println!(rt; "{sum}")?,
+            Some(Err(_refused)) => println!(rt; "refused")?,
+            None => println!(rt; "no workload")?,
+        }
+    }
+    Ok(())
+}
+
+// Does what a line asks for: which list, which workload, of what size and how often.
+fn asked(alloc: Global, line: &str) -> Option<Outcome> {
+    let mut words = line.split_whitespace();
+    let list = words.next()?;
+    let workload = words.next()?;
+    let size = words.next()?.parse::<usize>().ok()?;
+    let times = words.next()?.parse::<usize>().ok()?;
+    match list {
+        "thin" => thin::run(alloc, workload, size, times),
+        "kit" => kit::run(alloc, workload, size, times),
+        _ => None,
+    }
+}

@@ -1,0 +1,106 @@
+//! Workloads in which items move within a list, or leave it by their place.
+use super::growing::filled;
+use crate::shared::{Outcome, Refused, mixed, seen};
+use std::alloc::Global;
+use thin_vec::ThinVec;
+
+// Makes the list the numbers below `size` again, in the block that it has.
+#[inline(never)]
+pub(crate) fn refill(list: &mut ThinVec<u64>, size: usize) -> Result<(), Refused> {
+    list.clear();
+    for number in 0..size {
+        list.push(number as u64)?;
+    }
+    Ok(())
+}
+
+/// Fills the same list anew.
+#[inline(never)]
+pub fn refill_alone(alloc: Global, size: usize, times: usize) -> Outcome {
+    let mut list = filled(alloc, size)?;
+    let mut sum = 0;
+    for _ in 0..times {
+        refill(&mut list, size)?;
+        sum = mixed(sum, seen(list.as_slice()));
+    }
+    Ok(sum)
+}
+
+/// Inserts at the front.
+#[inline(never)]
+pub fn insert_front(alloc: Global, size: usize, times: usize) -> Outcome {
+    let mut list = filled(alloc, size)?;
+    let mut sum = 0;
+    for number in 0..times {
+        list.insert(0, number as u64)?;
+        if let Some(last) = list.pop() {
+            sum = mixed(sum, last);
+        }
+    }
+    Ok(mixed(sum, seen(list.as_slice())))
+}
+
+/// Removes at the front.
+#[inline(never)]
+pub fn remove_front(alloc: Global, size: usize, times: usize) -> Outcome {
+    let mut list = filled(alloc, size)?;
+    let mut sum = 0;
+    for _ in 0..times {
+        if !list.is_empty() {
+            let first = list.remove(0);
+            sum = mixed(sum, first);
+            list.push(first.wrapping_add(1))?;
+        }
+    }
+    Ok(mixed(sum, seen(list.as_slice())))
+}
+
+/// Removes the item in the middle until there is none.
+#[inline(never)]
+pub fn swap_remove(alloc: Global, size: usize, times: usize) -> Outcome {
+    let mut list = filled(alloc, size)?;
+    let mut sum = 0;
+    for _ in 0..times {
+        refill(&mut list, size)?;
+        for _ in 0..size {
+            let len = list.len();
+            if len > 0 {
+                sum = mixed(sum, list.swap_remove(len / 2));
+            }
+        }
+    }
+    Ok(sum)
+}
+
+/// Splits a list in the middle, and appends the second half again.
+#[inline(never)]
+pub fn split_append(alloc: Global, size: usize, times: usize) -> Outcome {
+    let mut list = filled(alloc, size)?;
+    let mut sum = 0;
+    for _ in 0..times {
+        let middle = list.len() / 2;
+        let mut tail = list.split_off(alloc, middle)?;
+        list.append(&mut tail)?;
+        sum = mixed(sum, seen(list.as_slice()));
+    }
+    Ok(sum)
+}
+
+/// Drains the middle half.
+#[inline(never)]
+pub fn drain(alloc: Global, size: usize, times: usize) -> Outcome {
+    let mut list = filled(alloc, size)?;
+    let mut sum = 0;
+    for _ in 0..times {
+        refill(&mut list, size)?;
+        let start = list.len() / 4;
+        let end = list.len() - start;
+        if start <= end {
+            for number in list.drain(start, end) {
+                sum = mixed(sum, number);
+            }
+        }
+        sum = mixed(sum, seen(list.as_slice()));
+    }
+    Ok(sum)
+}
