@@ -7,7 +7,7 @@ ghost use Rattle.thin_vec.specs.Cheap.{IsCheap};
 ghost use Rattle.thin_vec.specs.Extend.{IsExtended, IsLoose};
 ghost use Rattle.thin_vec.specs.Open.{IsOf};
 ghost use Rattle.thin_vec.specs.Filling.{IsSpliced, OverflowsBy, Stopped};
-ghost use Rattle.thin_vec.specs.ThinVec.{HasRoomFor, capacity_for};
+ghost use Rattle.thin_vec.specs.ThinVec.{HasRoomFor, IsWithin, capacity_for};
 
 use crate::errors::SpliceRefused;
 use crate::holds::{Holder, Holds};
@@ -143,6 +143,7 @@ impl<
         ensures cost { IsSpliced (splice_left self.entry) self.exit.0.now (2 * length (splice_hole self.entry).tail) }
         ensures alloc { self.exit.0.now.alloc ≡ splice_alloc self.entry }
         ensures cheap { IsCheap (splice_left self.entry) → IsCheap self.exit.0.now }
+        ensures within { IsWithin T.row self.exit.0.now }
 
         // Refused, no item is lost. With items behind the range, its places are filled by then.
         ensures placed { IfErr result (λ refused. (xs : List T) × (self.exit.0.now.items ≡ splice_replaced self.entry xs) × Stopped I.next_gives I.can_next I.remaining (splice_iter self.entry) xs refused.held.items refused.in_hand refused.rest) }
@@ -161,6 +162,9 @@ impl<
         let mut hole = held.into_inner();
         hole.drop_rest();
         list.clear();
-        list.fill_hole(hole, iter, alloc)
+        let answer = list.fill_hole(hole, iter, alloc);
+        // A list knows of itself that its items are within its capacity, and that this fits.
+        let _len = list.len();
+        answer
     }
 }
