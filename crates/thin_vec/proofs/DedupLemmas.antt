@@ -1,9 +1,9 @@
 -- What answers about items, each beside the last one kept, leave, as one stretch of items follows
 -- another.
-use Rattle.std.proofs.Common.{◌≡◌, ℕ, zero, suc, ◌+◌, ◌-◌, ◌<◌, ◌≤◌, Bool, true, false, List, [], ◌∷◌, ◌++◌, length, take, drop, refl, sym, ap, subst, ◌∙◌, arith, inl, inr, length-append, append_assoc}
+use Rattle.std.proofs.Common.{◌≡◌, ℕ, zero, suc, ◌+◌, ◌<◌, ◌≤◌, Bool, true, false, List, [], ◌∷◌, ◌++◌, length, take, drop, refl, sym, ap, subst, ◌∙◌, arith, inl, inr, length-append, append_assoc}
 use Rattle.std.proofs.lemmas.List.{append-nil, drop_at, length_push, replicate-append-replicate, take_at}
 use Rattle.std.specs.List.{dedup, dedup_from}
-use Rattle.std.specs.Prelude.{◌⊎◌, MatchBool, cond, if◌then◌else◌, not, replicate}
+use Rattle.std.specs.Prelude.{MatchBool, cond, if◌then◌else◌, not, replicate}
 use Rattle.thin_block.specs.Cost.{Cost, moving}
 use Rattle.thin_vec.specs.Filters.{AskedLast, AskedPairs, Compares, IsDedupedBy, IsDedupedTo, moved_up, trues, unlike, unlike_from}
 use Rattle.thin_vec.specs.Open.{Open}

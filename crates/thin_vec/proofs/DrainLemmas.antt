@@ -1,7 +1,6 @@
 -- What calls of `next` of a `Drain` give, and what they keep.
-use Rattle.std.proofs.Common.{◌≡◌, List, [], ◌∷◌, Option, None, Some, ap, refl, subst, ◌∙◌, length}
+use Rattle.std.proofs.Common.{[], ◌∷◌, ap, refl, subst, ◌∙◌, length}
 use Rattle.std.proofs.iter.runs.Sources.{as_is, as_is_back, from_back, from_front}
-use Rattle.std.specs.Iterator.{Yields}
 use Rattle.std.specs.Iterator.Runs.{YieldsInOrder, YieldsInReverse}
 use Rattle.thin_block.specs.declared.growth.Growth.{Ghosts}
 use Rattle.thin_vec.specs.Drain.{DrainKeeps, DrainKeepsAlong, DrainSteps, DrainStepsBack, drain_rest}

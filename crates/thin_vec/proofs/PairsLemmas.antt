@@ -1,5 +1,5 @@
 -- What asking about items, each beside the last one kept, leaves of an open block, step by step.
-use Rattle.std.proofs.Common.{◌≡◌, ◌≢◌, ℕ, zero, suc, ◌+◌, ◌-◌, ◌<◌, ◌≤◌, Bool, true, false, List, [], ◌∷◌, ◌++◌, Option, Some, None, length, take, drop, refl, sym, ap, subst, ◌∙◌, arith, length-append, append_assoc, get_or}
+use Rattle.std.proofs.Common.{◌≡◌, ◌≢◌, ℕ, zero, suc, ◌+◌, ◌-◌, ◌<◌, ◌≤◌, List, [], ◌∷◌, ◌++◌, Option, Some, None, length, take, drop, refl, sym, ap, ◌∙◌, arith, length-append, append_assoc, get_or}
 use Rattle.std.proofs.lemmas.List.{drop_at, get_or_at, get_or-set_other, length-drop, length-take-le, length_push, set_at, take_at}
 use Rattle.std.specs.Prelude.{IsSome, slice_range}
 use lib.ListN.{set}
@@ -12,7 +12,7 @@ use Rattle.thin_vec.specs.declared.hole.Hole.TheInside.{Inside}
 use Rattle.thin_vec.proofs.FiltersLemmas.{cons-head, cons-not-nil, cons-tail}
 use Rattle.thin_vec.proofs.HoleLemmas.{Found, found, last-of, past_rest, slot-in-full, some-same}
 use Rattle.thin_vec.proofs.ListLemmas.{length-full}
-use Rattle.thin_vec.proofs.SiftingLemmas.{Written, row-at, same-past, write-step, written, written-seen}
+use Rattle.thin_vec.proofs.SiftingLemmas.{row-at, same-past, write-step, written}
 
 module _ {T : Type 0} where
   -- ---- two items that lie side by side

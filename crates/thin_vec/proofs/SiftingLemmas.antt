@@ -2,7 +2,6 @@
 -- first items of it went to the front.
 use Rattle.std.proofs.Common.{◌≡◌, ℕ, zero, suc, ◌+◌, ◌-◌, ◌<◌, ◌≤◌, List, [], ◌∷◌, ◌++◌, Option, Some, None, length, take, drop, refl, sym, ap, ◌∙◌, arith, length-append, append_assoc}
 use Rattle.std.proofs.lemmas.List.{get_or_at, length-drop, length-take-le, set_at, take-append-drop}
-use Rattle.std.specs.Prelude.{IsSome}
 use lib.ListN.{set}
 use Rattle.thin_block.specs.Slots.{empty, full, moved, slot}
 use Rattle.thin_block.specs.declared.block.Block.{Block}
@@ -11,7 +10,7 @@ use Rattle.thin_vec.specs.Hole.{IsOpen, Shows, open_of}
 use Rattle.thin_vec.specs.Open.{Open, reach, row_of}
 use Rattle.thin_vec.specs.declared.hole.Hole.TheInside.{Inside}
 use Rattle.thin_vec.proofs.EditsLemmas.{full-append}
-use Rattle.thin_vec.proofs.HoleLemmas.{Found, at_rest, by_rest, empty-more, first-of, found, past_behind, past_rest, some-same, to_rest}
+use Rattle.thin_vec.proofs.HoleLemmas.{Found, at_rest, by_rest, empty-more, first-of, found, past_rest, some-same, to_rest}
 use Rattle.thin_vec.proofs.ListLemmas.{length-full}
 
 -- a list, by the item at k

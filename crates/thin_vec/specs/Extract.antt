@@ -1,5 +1,5 @@
 -- What one call of `next` of an `ExtractIf` does to what it owns. (std: `Vec::extract_if`)
-use Rattle.std.specs.Prelude.{◌≡◌, ℕ, ◌+◌, ◌==◌, Bool, List, ◌++◌, Option, if◌then◌else◌, length}
+use Rattle.std.specs.Prelude.{◌≡◌, ◌+◌, ◌==◌, Bool, List, ◌++◌, Option, if◌then◌else◌, length}
 use Rattle.std.specs.List.Retain.{ExtractsNext}
 use Rattle.std.specs.Option.{option_to_list}
 use Rattle.thin_block.specs.Cost.{moving}

@@ -5,7 +5,7 @@ use Rattle.std.specs.List.Retain.{ExtractsNext}
 use Rattle.std.specs.Option.{option_to_list}
 use Rattle.thin_block.specs.Cost.{Cost, moving}
 use Rattle.thin_block.specs.declared.growth.Growth.{Ghosts}
-use Rattle.thin_vec.specs.Open.{Open, cost_closed, items_of}
+use Rattle.thin_vec.specs.Open.{cost_closed, items_of}
 use Rattle.thin_vec.specs.declared.extract_if.ExtractIf.{ExtractIf}
 use Rattle.thin_vec.specs.declared.extract_if.Extracting.{Extracting}
 use Rattle.thin_vec.specs.declared.holds.Holder.{Holder}

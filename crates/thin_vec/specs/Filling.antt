@@ -1,10 +1,10 @@
 -- What a list may have become, and cost, once the items of an iterator went between its own. (std:
 -- `Vec::splice`)
-use Rattle.std.specs.Prelude.{◌≡◌, ◌⊎◌, ℕ, ◌+◌, ◌<◌, ◌≤◌, List, [], ◌∷◌, ◌++◌, Option, length}
+use Rattle.std.specs.Prelude.{◌≡◌, ◌⊎◌, ℕ, ◌+◌, ◌<◌, ◌≤◌, List, [], ◌++◌, Option, length}
 use Rattle.std.specs.Iterator.{Count, IsFinite, YieldsThen}
 use Rattle.std.specs.Iterator.SizeHint.{IsWithinCount}
 use Rattle.std.specs.Option.{option_len}
-use Rattle.std.specs.declared.option.Option.TheVariants.{None, Some}
+use Rattle.std.specs.declared.option.Option.TheVariants.{None}
 use Rattle.std.specs.Borrow.{RattleType}
 use Rattle.thin_block.specs.Growth.{Rule}
 use Rattle.thin_vec.specs.Extend.{GaveUp}

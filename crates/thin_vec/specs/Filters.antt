@@ -1,6 +1,6 @@
 -- What is left of a list once a closure was asked which items stay. (std: `Vec::retain_mut`,
 -- `Vec::dedup_by`)
-use Rattle.std.specs.Prelude.{◌≡◌, ℕ, zero, suc, List, [], ◌∷◌, ◌++◌, Bool, true, false, MatchBool, if◌then◌else◌, map, not}
+use Rattle.std.specs.Prelude.{◌≡◌, ℕ, zero, suc, List, [], ◌∷◌, Bool, true, false, MatchBool, if◌then◌else◌, map, not}
 use Rattle.thin_block.specs.Cost.{moving}
 use Rattle.thin_vec.specs.ThinVec.{Thin}
 

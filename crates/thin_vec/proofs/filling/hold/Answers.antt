@@ -1,4 +1,4 @@
-use Rattle.std.proofs.Common.{◌++◌, ◌∷◌, [], subst, sym}
+use Rattle.std.proofs.Common.{subst, sym}
 use Rattle.std.specs.Iterator.{Yields}
 use Rattle.thin_vec.proofs.ExtendLemmas.{yields-more}
 use Rattle.thin_vec.proofs.filling.hold.Goals as goal

@@ -1,4 +1,4 @@
-use Rattle.std.proofs.Common.{◌≡◌, ◌∙◌, sym, refl, arith, rules}
+use Rattle.std.proofs.Common.{rules}
 use Rattle.thin_vec.proofs.PairsLemmas.{parts-of}
 use Rattle.thin_vec.proofs.pairs.ask_neighbours.Goals as goal
 

@@ -1,4 +1,4 @@
-use Rattle.std.proofs.Common.{◌≡◌, refl, rules}
+use Rattle.std.proofs.Common.{rules}
 use Rattle.thin_vec.proofs.filters.KeyingAsksPairs.ask.Goals as goal
 
 pub returns-clause-asked : goal.returns-clause-asked

@@ -1,4 +1,4 @@
-use Rattle.std.proofs.Common.{◌≡◌, ◌<◌, ◌+◌, refl, ap, sym, ◌∙◌, arith, length}
+use Rattle.std.proofs.Common.{◌<◌, ◌+◌, refl, ap, sym, ◌∙◌, arith, length}
 use Rattle.thin_block.specs.Lends.{with_item}
 use Rattle.thin_vec.specs.Hole.{open_of}
 use Rattle.thin_vec.proofs.HoleLemmas.{rest-filled}

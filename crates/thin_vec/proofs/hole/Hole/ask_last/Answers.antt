@@ -1,5 +1,4 @@
-use Rattle.std.proofs.Common.{◌≡◌, ◌<◌, ◌+◌, ◌-◌, suc, refl, ap, sym, ◌∙◌, arith, length, rules}
-use Rattle.thin_vec.specs.Hole.{open_of}
+use Rattle.std.proofs.Common.{◌-◌, refl, ap, sym, ◌∙◌, arith, length}
 use Rattle.thin_block.specs.Lends.{with_item}
 use Rattle.thin_vec.proofs.PairsLemmas.{WrittenLast, last-filled, write-last-step}
 use Rattle.thin_vec.proofs.hole.Hole.ask_last.Goals as goal

@@ -1,4 +1,4 @@
-use Rattle.std.proofs.Common.{◌≡◌, ◌<◌, ◌+◌, ◌-◌, suc, refl, ap, sym, ◌∙◌, arith, length, rules}
+use Rattle.std.proofs.Common.{◌≡◌, ◌<◌, ◌+◌, refl, ap, sym, ◌∙◌, arith, length}
 use Rattle.thin_vec.specs.Hole.{open_of}
 use Rattle.std.proofs.Common.{◌++◌, ◌∷◌, Some}
 use lib.ListN.{set}

@@ -1,5 +1,5 @@
-use Rattle.std.proofs.Common.{◌+◌, refl, rules}
-use Rattle.thin_vec.proofs.DedupLemmas.{pair-end, pair-goes, pair-more, pair-start}
+use Rattle.std.proofs.Common.{refl, rules}
+use Rattle.thin_vec.proofs.DedupLemmas.{pair-goes, pair-more, pair-start}
 use Rattle.thin_vec.proofs.hole.Hole.ask_pairs.Goals as goal
 
 pub loop-kept-init : goal.loop-kept-init

@@ -1,4 +1,4 @@
-use Rattle.std.proofs.Common.{◌+◌, refl, rules}
+use Rattle.std.proofs.Common.{refl, rules}
 use Rattle.thin_vec.proofs.FiltersLemmas.{stays-goes, stays-more, stays-start}
 use Rattle.thin_vec.proofs.hole.Hole.ask_run.Goals as goal
 

@@ -1,5 +1,5 @@
 -- Each item so far stays, and nothing else of the block has changed.
-use Rattle.std.proofs.Common.{◌≡◌, ◌-◌, ◌≤◌, length}
+use Rattle.std.proofs.Common.{◌≡◌, ◌-◌, length}
 use Rattle.thin_vec.proofs.FiltersLemmas.{Stays}
 use Rattle.thin_vec.proofs.hole.Hole.ask_run.Given as goal
 

@@ -1,4 +1,4 @@
-use Rattle.std.proofs.Common.{◌+◌, ◌++◌, drop, take, ap, sym, ◌∙◌, append_assoc, rules}
+use Rattle.std.proofs.Common.{◌++◌, drop, take, ap, sym, ◌∙◌, append_assoc, rules}
 use Rattle.std.proofs.Math.Seq.{take-add}
 use Rattle.std.proofs.lemmas.List.{drop-drop}
 use Rattle.thin_block.specs.Cost.{moving}

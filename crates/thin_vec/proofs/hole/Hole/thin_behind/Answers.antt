@@ -1,4 +1,3 @@
-use Rattle.std.proofs.Common.{◌≡◌}
 use Rattle.thin_vec.proofs.DedupLemmas.{thins-start, thins-then}
 use Rattle.thin_vec.proofs.hole.Hole.thin_behind.Goals as goal
 

@@ -1,6 +1,5 @@
-use Rattle.std.proofs.Common.{◌≡◌, ◌++◌, ◌∷◌, [], Bool, false, true, suc, length, take, refl, sym, ap, ◌∙◌, arith, rules}
+use Rattle.std.proofs.Common.{◌≡◌, ◌∷◌, [], false, refl, sym, ◌∙◌, arith, rules}
 use Rattle.std.proofs.lemmas.List.{append-nil}
-use Rattle.thin_vec.specs.Pairs.{PairRuns}
 use Rattle.thin_vec.proofs.DedupLemmas.{run-count, run-ends, run-goes, thins-goes, thins-run, thins-stays, thins-two}
 use Rattle.thin_vec.proofs.FiltersLemmas.{nothing}
 use Rattle.thin_vec.proofs.hole.Hole.thin_round.Goals as goal

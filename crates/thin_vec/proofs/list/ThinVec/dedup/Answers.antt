@@ -1,4 +1,4 @@
-use Rattle.std.proofs.Common.{◌≡◌, ap, ◌∙◌}
+use Rattle.std.proofs.Common.{ap, ◌∙◌}
 use Rattle.thin_block.specs.Cost.{moving}
 use Rattle.thin_vec.specs.Filters.{moved_up}
 use Rattle.thin_vec.proofs.DedupLemmas.{pairs-compare}

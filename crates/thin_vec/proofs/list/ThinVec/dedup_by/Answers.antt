@@ -1,4 +1,3 @@
-use Rattle.std.proofs.Common.{◌≡◌}
 use Rattle.std.specs.Fn.{CalledAtPairMut}
 use Rattle.thin_vec.proofs.DedupLemmas.{deduped-through}
 use Rattle.thin_vec.proofs.list.ThinVec.dedup_by.Goals as goal

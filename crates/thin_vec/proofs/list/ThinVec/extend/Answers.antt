@@ -6,7 +6,7 @@ use Rattle.std.specs.Option.{option_to_list}
 use Rattle.std.specs.Prelude.{IfErr, OnOk}
 use denote.Param.{param}
 use Rattle.thin_vec.specs.ThinVec.{capacity_for}
-use Rattle.std.proofs.Common.{inl, sym, Some, List, None, [], inr, refl}
+use Rattle.std.proofs.Common.{inl, sym, Some, List, None, [], refl}
 use Rattle.thin_vec.proofs.ExtendLemmas.{named-after, run_of_ok, filled-join, filled-reserved, loose-join, loose-le, loose-ruled, run_given, run_given_err}
 use Rattle.thin_vec.proofs.list.ThinVec.extend.Goals as goal
 

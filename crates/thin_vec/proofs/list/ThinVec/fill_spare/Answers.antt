@@ -1,11 +1,9 @@
-use Rattle.std.proofs.Common.{◌++◌, ◌-◌, ◌+◌, ◌<◌, ◌≡◌, ◌∙◌, ap, arith, length, length-append}
-use Rattle.std.specs.Iterator.{size}
+use Rattle.std.proofs.Common.{◌++◌, ◌-◌, ◌≡◌, ◌∙◌, ap, arith, length, length-append}
 use Rattle.thin_block.specs.Cost.{moving}
 use Rattle.thin_block.specs.Slots.{items_in}
 use Rattle.thin_vec.proofs.TwoListsLemmas.{settle-more}
 use Rattle.thin_vec.proofs.ListLemmas.{Settled, thin-room}
 use Rattle.thin_vec.proofs.ThinVecLemmas.{within-kept}
-use Rattle.thin_block.proofs.Outcomes.{on-some}
 use Rattle.thin_vec.proofs.list.ThinVec.fill_spare.Goals as goal
 
 facts : (g : _) (c : goal.After-set_len g) → Settled c.set_len.new.self c.self.inside.alloc

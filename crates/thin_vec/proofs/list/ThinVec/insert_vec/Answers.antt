@@ -1,4 +1,4 @@
-use Rattle.std.proofs.Common.{◌++◌, ◌+◌, ◌-◌, ◌∙◌, ap, arith, drop, length, take}
+use Rattle.std.proofs.Common.{◌++◌, ◌+◌, ◌∙◌, ap, arith, drop, length, take}
 use Rattle.thin_block.specs.Cost.{moving}
 use Rattle.thin_vec.proofs.FillingLemmas.{vec-whole}
 use Rattle.thin_vec.proofs.list.ThinVec.insert_vec.Goals as goal

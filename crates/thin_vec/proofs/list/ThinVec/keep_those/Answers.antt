@@ -1,5 +1,5 @@
 -- The capacity stays, and the items fit it.
-use Rattle.std.proofs.Common.{◌≡◌, ◌∙◌, arith, length, rules}
+use Rattle.std.proofs.Common.{◌≡◌, arith, rules}
 use Rattle.thin_vec.proofs.ThinVecLemmas.{within-like}
 use Rattle.thin_vec.proofs.list.ThinVec.keep_those.Goals as goal
 

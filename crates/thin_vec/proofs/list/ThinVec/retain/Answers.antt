@@ -1,4 +1,3 @@
-use Rattle.std.proofs.Common.{◌≡◌}
 use Rattle.std.specs.Fn.{CalledAt}
 use Rattle.thin_vec.specs.Filters.{Looks}
 use Rattle.thin_vec.proofs.FiltersLemmas.{retained-through}

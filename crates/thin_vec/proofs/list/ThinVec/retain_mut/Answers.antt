@@ -1,4 +1,3 @@
-use Rattle.std.proofs.Common.{◌≡◌}
 use Rattle.std.specs.Fn.{CalledAtMut}
 use Rattle.thin_vec.proofs.FiltersLemmas.{retained-through}
 use Rattle.thin_vec.proofs.list.ThinVec.retain_mut.Goals as goal
