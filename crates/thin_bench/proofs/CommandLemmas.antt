@@ -17,10 +17,12 @@ module _ {T A : Type 0} where
   pub is-grown : (v w : Thin T A) (xs : List T) (m : ℕ) → w.items ≡ xs → w.cost ≡ moving m (cost_at v w.capacity) → w.alloc ≡ v.alloc → w ≡ grown v w.capacity xs m
   is-grown v w xs m items cost alloc = λ i. record { items = items i; capacity = w.capacity; alloc = alloc i; cost = cost i }
 
-  -- nothing changed, or there was room and a clone was refused
-  pub refuses-clone : (rule : Rule) (R : RattleType) (infallible : T → Type 0) (sources : List T) (k : ℕ) (v w : Thin T A) → w.items ≡ v.items → w.alloc ≡ v.alloc
-      → (w ≡ v) ⊎ IsCloneRefused rule R infallible sources k v w
-      → (w ≡ v) ⊎ ((at : ℕ) × (at < length sources) × HoldsAt (λ x. ¬ (infallible x)) sources at × Grows (capacity_for rule R v k) v v.items at w)
-  refuses-clone rule R infallible sources k v w same alloc (inl e) = inl e
-  refuses-clone rule R infallible sources k v w same alloc (inr r) =
-      inr (r.stopped.at, r.stopped.in_bounds, r.stopped.fallible, (r.capacity, is-grown v w v.items r.stopped.at same r.stopped.cost alloc))
+  module _ (rule : Rule) where
+    -- nothing changed, or there was room and a clone was refused
+    pub refuses-clone : (R : RattleType) (infallible : T
+        → Type 0) (sources : List T) (k : ℕ) (v w : Thin T A) → w.items ≡ v.items
+        → w.alloc ≡ v.alloc → (w ≡ v) ⊎ IsCloneRefused rule R infallible sources k v w
+        → (w ≡ v) ⊎ ((at : ℕ) × (at < length sources) × HoldsAt (λ x. ¬ (infallible x)) sources at × Grows (capacity_for rule R v k) v v.items at w)
+    refuses-clone R infallible sources k v w same alloc (inl e) = inl e
+    refuses-clone R infallible sources k v w same alloc (inr r) =
+        inr (r.stopped.at, r.stopped.in_bounds, r.stopped.fallible, (r.capacity, is-grown v w v.items r.stopped.at same r.stopped.cost alloc))

@@ -101,20 +101,22 @@ module _ {S T J : Type 0} (R : S → T → Bool → S → T → Type 0) (judge_o
       answered true by m = let wrong = m.0 in absurd (none-some (sym none ∙ wrong))
       answered false by m = by m.0 m.1
 
-  -- the answer of one call, before those of the calls that are left
-  pub handed-by : (s t : S) (k : ℕ) (xs : List T) (item : Option T) (kept rest : List T) → ExtractsNext R s xs item t kept rest
-      → handed_out (suc k) (left_at false (extracting ask (judge_of s) (suc k) xs)) ≡ item ∷ handed_out k (left_at false (extracting ask (judge_of t) k rest))
-  handed-by s t k xs item kept rest e =
-      ap (λ l. handed_out (suc k) (left_at false l)) (extracts-by s t k xs item kept rest e)
-      ∙ (ap (handed_out (suc k)) (gone-behind kept (goes item ++ extracting ask (judge_of t) k rest)) ∙ first item (rest-none s t xs item kept rest e))
-    where
-      first : (o : Option T) → (o ≡ None → rest ≡ [])
-          → handed_out (suc k) (left_at false (goes o ++ extracting ask (judge_of t) k rest)) ≡ o ∷ handed_out k (left_at false (extracting ask (judge_of t) k rest))
-      first (Some x) none = refl
-      first None none =
-          let empty : left_at false (extracting ask (judge_of t) k rest) ≡ [] =
-          ap (λ l. left_at false (extracting ask (judge_of t) k l)) (none refl) ∙ ap (left_at false) (none-left (judge_of t) k) in
-          subst (λ l. handed_out (suc k) l ≡ None ∷ handed_out k l) (sym empty) refl
+  module _ (s t : S) where
+    -- the answer of one call, before those of the calls that are left
+    pub handed-by : (k : ℕ) (xs : List T) (item : Option T) (kept rest : List T)
+        → ExtractsNext R s xs item t kept rest
+        → handed_out (suc k) (left_at false (extracting ask (judge_of s) (suc k) xs)) ≡ item ∷ handed_out k (left_at false (extracting ask (judge_of t) k rest))
+    handed-by k xs item kept rest e =
+        ap (λ l. handed_out (suc k) (left_at false l)) (extracts-by s t k xs item kept rest e)
+        ∙ (ap (handed_out (suc k)) (gone-behind kept (goes item ++ extracting ask (judge_of t) k rest)) ∙ first item (rest-none s t xs item kept rest e))
+      where
+        first : (o : Option T) → (o ≡ None → rest ≡ [])
+            → handed_out (suc k) (left_at false (goes o ++ extracting ask (judge_of t) k rest)) ≡ o ∷ handed_out k (left_at false (extracting ask (judge_of t) k rest))
+        first (Some x) none = refl
+        first None none =
+            let empty : left_at false (extracting ask (judge_of t) k rest) ≡ [] =
+            ap (λ l. left_at false (extracting ask (judge_of t) k l)) (none refl) ∙ ap (left_at false) (none-left (judge_of t) k) in
+            subst (λ l. handed_out (suc k) l ≡ None ∷ handed_out k l) (sym empty) refl
 
 -- what was paid for a part: k moves where an item went before, and none where not
 charged : (n m a b k : ℕ) (c d : Cost) → d ≡ moving m c → a ≡ 0 → b ≡ k
@@ -146,33 +148,35 @@ module _ {T : Type 0} (asked : Answers T) (start : List T) (before : Cost) where
         cost = free ∙ sym (moving-none before);
       }
 
-  pub extracting-step : (left left' : Answers T) (stands stands' : List T) (gone gone' : ℕ) (paid paid' : Cost)
-      → (kept : List T) (item : Option T) → IsExtracting left stands gone paid
-      → left ≡ stay kept ++ (goes item ++ left') → stands' ≡ stands ++ kept → gone' ≡ gone + length (option_to_list item)
-      → paid' ≡ (if gone == 0 then paid else moving (length kept) paid) → IsExtracting left' stands' gone' paid'
-  extracting-step left left' stands stands' gone gone' paid paid' kept item h next more out charge =
-      let now = stay kept ++ goes item in
-      let stays : left_at true now ≡ kept =
-      left_at-append (stay kept) (goes item) ∙ ((λ i. left_at-stay kept i ++ left-goes item i) ∙ append-nil kept) in
-      let go : left_at false now ≡ option_to_list item =
-      gone-append (stay kept) (goes item) ∙ (λ i. gone-stay kept i ++ gone-goes item i) in
-      let still : moved_up (flags_of now) ≡ 0 = moved_up-stay kept (goes item) ∙ still-goes item in
-      let moved : trues (flags_of now) ≡ length kept =
-      omega (arith, trues-append (stay kept) (goes item), trues-stay kept, few-goes item) in
-      record {
-        done = h.done ++ now;
-        split = h.split
-            ∙ (ap (λ l. h.done ++ l) (next ∙ sym (append_assoc (stay kept) (goes item) left'))
-            ∙ sym (append_assoc h.done now left'));
-        front = more
-            ∙ ((λ i. h.front i ++ sym stays i)
-            ∙ (append_assoc start (left_at true h.done) (left_at true now)
-            ∙ ap (λ l. start ++ l) (sym (left_at-append h.done now))));
-        gone = omega (arith, out, h.gone, ap length (gone-append h.done now), length-append (left_at false h.done) (left_at false now), ap length go);
-        cost = charge ∙ (ap (λ g. if g == 0 then paid else moving (length kept) paid) h.gone
-            ∙ (charged (length (left_at false h.done)) (moved_up (flags_of h.done)) _ _ (length kept) before paid h.cost still moved
-            ∙ ap (λ m. moving m before) (sym (moves-append h.done now))));
-      }
+  module _ (left left' : Answers T) (stands stands' : List T) where
+    pub extracting-step : (gone gone' : ℕ) (paid paid' : Cost) (kept : List T) (item : Option T)
+        → IsExtracting left stands gone paid → left ≡ stay kept ++ (goes item ++ left')
+        → stands' ≡ stands ++ kept → gone' ≡ gone + length (option_to_list item)
+        → paid' ≡ (if gone == 0 then paid else moving (length kept) paid)
+        → IsExtracting left' stands' gone' paid'
+    extracting-step gone gone' paid paid' kept item h next more out charge =
+        let now = stay kept ++ goes item in
+        let stays : left_at true now ≡ kept =
+        left_at-append (stay kept) (goes item) ∙ ((λ i. left_at-stay kept i ++ left-goes item i) ∙ append-nil kept) in
+        let go : left_at false now ≡ option_to_list item =
+        gone-append (stay kept) (goes item) ∙ (λ i. gone-stay kept i ++ gone-goes item i) in
+        let still : moved_up (flags_of now) ≡ 0 = moved_up-stay kept (goes item) ∙ still-goes item in
+        let moved : trues (flags_of now) ≡ length kept =
+        omega (arith, trues-append (stay kept) (goes item), trues-stay kept, few-goes item) in
+        record {
+          done = h.done ++ now;
+          split = h.split
+              ∙ (ap (λ l. h.done ++ l) (next ∙ sym (append_assoc (stay kept) (goes item) left'))
+              ∙ sym (append_assoc h.done now left'));
+          front = more
+              ∙ ((λ i. h.front i ++ sym stays i)
+              ∙ (append_assoc start (left_at true h.done) (left_at true now)
+              ∙ ap (λ l. start ++ l) (sym (left_at-append h.done now))));
+          gone = omega (arith, out, h.gone, ap length (gone-append h.done now), length-append (left_at false h.done) (left_at false now), ap length go);
+          cost = charge ∙ (ap (λ g. if g == 0 then paid else moving (length kept) paid) h.gone
+              ∙ (charged (length (left_at false h.done)) (moved_up (flags_of h.done)) _ _ (length kept) before paid h.cost still moved
+              ∙ ap (λ m. moving m before) (sym (moves-append h.done now))));
+        }
 
 -- the calls have ended, and the list has what stays
 module _ {T A : Type 0} (v w : Thin T A) (a b : ℕ) (asked : Answers T) where

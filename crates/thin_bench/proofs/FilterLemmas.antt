@@ -51,10 +51,12 @@ module _ {S T A J : Type 0} (judge_of : S → J) where
       let cost = r.1.cost ∙ ap (λ flags. moving (moved_up flags) v.cost) by.0 in
       λ i. record { items = by.1 i; capacity = capacity i; alloc = alloc i; cost = cost i }
 
--- two keys, one after the other
-pub keyed : {T J : Type 0} (key : J → T → ℕ × T × J) (j u v : J) (x x' y y' : T) (k l : ℕ) → (k, x', u) ≡ key j x → (l, y', v) ≡ key u y → (k == l, x', y', v) ≡ same_key key j x y
-keyed key j u v x x' y y' k l first second =
-    ap (λ b. (k == b.0, x', b.1, b.2)) second ∙ ap (λ a. let b = key a.2 y in (a.0 == b.0, a.1, b.1, b.2)) first
+module _ {T J : Type 0} (key : J → T → ℕ × T × J) (j u v : J) where
+  -- two keys, one after the other
+  pub keyed : (x x' y y' : T) (k l : ℕ) → (k, x', u) ≡ key j x → (l, y', v) ≡ key u y
+      → (k == l, x', y', v) ≡ same_key key j x y
+  keyed x x' y y' k l first second =
+      ap (λ b. (k == b.0, x', b.1, b.2)) second ∙ ap (λ a. let b = key a.2 y in (a.0 == b.0, a.1, b.1, b.2)) first
 
 -- the list that is left, where a closure of such a judge gave the keys
 module _ {F T A J : Type 0} (g : Mut F (MutBor T × Unit {0}) (ℕ × (MutBor T × Unit {0}))) (judge_of : F → J) (key : J → T → ℕ × T × J)

@@ -35,30 +35,36 @@ module _ {T A : Type 0} where
   grown-moves : (v w : Thin T A) (xs : List T) (m : ℕ) → w ≡ grown v w.capacity xs m → w.cost.moves ≤ v.cost.moves + m
   grown-moves v w xs m e = omega (arith, ap (λ z. z.cost.moves) e, cost_at-moves v w.capacity)
 
-  refused-moves : (infallible : T → Type 0) (next : Option ℕ) (v w : Thin T A) (k : ℕ) (sources : List T) (cause : ThinVecError) → length sources ≤ k → RefusesClone infallible next v k sources cause w → w.cost.moves ≤ v.cost.moves + k
-  refused-moves infallible next v w k sources cause few r = stopped r.2
-    where
-      stopped : (w ≡ v) ⊎ ((at : ℕ) × (at < length sources) × HoldsAt (λ x. ¬ (infallible x)) sources at × Grows next v v.items at w) → w.cost.moves ≤ v.cost.moves + k
-      stopped (inl e) = same-moves v w v k e refl
-      stopped (inr s) = omega (arith, few, s.1, grown-moves v w v.items s.0 s.3.1)
+  module _ (infallible : T → Type 0) where
+    refused-moves : (next : Option ℕ) (v w : Thin T A) (k : ℕ) (sources : List T) (cause : ThinVecError)
+        → length sources ≤ k → RefusesClone infallible next v k sources cause w
+        → w.cost.moves ≤ v.cost.moves + k
+    refused-moves next v w k sources cause few r = stopped r.2
+      where
+        stopped : (w ≡ v) ⊎ ((at : ℕ) × (at < length sources) × HoldsAt (λ x. ¬ (infallible x)) sources at × Grows next v v.items at w) → w.cost.moves ≤ v.cost.moves + k
+        stopped (inl e) = same-moves v w v k e refl
+        stopped (inr s) = omega (arith, few, s.1, grown-moves v w v.items s.0 s.3.1)
 
-  filled-moves : (rule : Rule) (R : RattleType) (v w : Thin T A) (placed : List T) (k most : ℕ) → Fills rule R v placed most w → length placed ≤ k → w.cost.moves ≤ v.cost.moves + k
-  filled-moves rule R v w placed k most f few =
-      let more : length w.items ≡ length v.items + length placed = ap length f.items ∙ length-append v.items placed in
-      omega (arith, f.cost.moves, more, few)
+  module _ (rule : Rule) where
+    filled-moves : (R : RattleType) (v w : Thin T A) (placed : List T) (k most : ℕ)
+        → Fills rule R v placed most w → length placed ≤ k → w.cost.moves ≤ v.cost.moves + k
+    filled-moves R v w placed k most f few =
+        let more : length w.items ≡ length v.items + length placed = ap length f.items ∙ length-append v.items placed in
+        omega (arith, f.cost.moves, more, few)
 
-  spliced-moves : (rule : Rule) (R : RattleType) (v w : Thin T A) (a b : ℕ) (placed : List T) (most k : ℕ)
-      → Replaces rule R v a b placed most w → length placed ≤ k → w.cost.moves ≤ v.cost.moves + (2 * (length v.items - b) + k)
-  spliced-moves rule R v w a b placed most k f few =
-      omega (
-        arith,
-        f.cost.moves,
-        ap length f.items,
-        length-append (take a v.items ++ placed) (drop b v.items),
-        length-append (take a v.items) placed,
-        length-append (take a v.items) (drop b v.items),
-        few,
-      )
+  module _ (rule : Rule) (R : RattleType) (v w : Thin T A) where
+    spliced-moves : (a b : ℕ) (placed : List T) (most k : ℕ) → Replaces rule R v a b placed most w
+        → length placed ≤ k → w.cost.moves ≤ v.cost.moves + (2 * (length v.items - b) + k)
+    spliced-moves a b placed most k f few =
+        omega (
+          arith,
+          f.cost.moves,
+          ap length f.items,
+          length-append (take a v.items ++ placed) (drop b v.items),
+          length-append (take a v.items) placed,
+          length-append (take a v.items) (drop b v.items),
+          few,
+        )
 
   shrunk-moves : (v : Thin T A) → (cost_shrunk v).moves ≤ v.cost.moves
   shrunk-moves v = go (length v.items == v.capacity) (length v.items == 0)

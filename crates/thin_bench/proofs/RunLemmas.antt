@@ -29,16 +29,19 @@ module _ {T A G J : Type 0} (here : Setting T A J) where
   HasRun-none old commands left before after all same =
       record { done = []; replies = []; split = sym all; appended = same ∙ sym (append-nil before); ran = refl }
 
-  pub HasRun-push : (old mid new : Thin T A) (commands left left' : List (Command T A G)) (before after after' : List (Reply T A G)) (command : Command T A G) (reply : Reply T A G)
-      → HasRun old commands left before after mid → left ≡ command ∷ left' → after' ≡ after ++ reply ∷ [] → Steps here mid command reply new → HasRun old commands left' before after' new
-  HasRun-push old mid new commands left left' before after after' command reply h next pushed stepped =
-      record {
-        done = h.done ++ command ∷ [];
-        replies = h.replies ++ reply ∷ [];
-        split = h.split ∙ (ap (λ l. h.done ++ l) next ∙ sym (append_assoc h.done (command ∷ []) left'));
-        appended = pushed ∙ (ap (λ l. l ++ reply ∷ []) h.appended ∙ append_assoc before h.replies (reply ∷ []));
-        ran = runs-push old mid new h.done h.replies command reply h.ran stepped;
-      }
+  module _ (old mid new : Thin T A) (commands left left' : List (Command T A G)) where
+    pub HasRun-push : (before after after' : List (Reply T A G)) (command : Command T A G) (reply : Reply T A G)
+        → HasRun old commands left before after mid → left ≡ command ∷ left'
+        → after' ≡ after ++ reply ∷ [] → Steps here mid command reply new
+        → HasRun old commands left' before after' new
+    HasRun-push before after after' command reply h next pushed stepped =
+        record {
+          done = h.done ++ command ∷ [];
+          replies = h.replies ++ reply ∷ [];
+          split = h.split ∙ (ap (λ l. h.done ++ l) next ∙ sym (append_assoc h.done (command ∷ []) left'));
+          appended = pushed ∙ (ap (λ l. l ++ reply ∷ []) h.appended ∙ append_assoc before h.replies (reply ∷ []));
+          ran = runs-push old mid new h.done h.replies command reply h.ran stepped;
+        }
 
   -- what each step keeps, a run keeps: Holds n is true of the list once n has been counted, and a step counts `count`
   pub runs-keep : (Holds : ℕ → Thin T A → Type 0) (Only : Command T A G → Type 0) (count : Command T A G → Reply T A G → ℕ)

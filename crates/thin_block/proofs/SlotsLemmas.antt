@@ -173,11 +173,12 @@ module _ {T : Type 0} where
   run-at i k pre ys post e n = ap (λ (l : List (Option T)). take k l)
       (drop_at pre (ys ++ post) i (sym e)) ∙ take_at ys post k (sym n)
 
-  -- `moved`, by its three steps
-  moved-by : (from to k : ℕ) (s ys bare result : List (Option T)) → run from k s ≡ ys
-      → emptied from k s ≡ bare → laid to ys bare ≡ result → moved from to k s ≡ result
-  unfolding moved
-  moved-by from to k s ys bare result e f g = (λ n. laid to (e n) (f n)) ∙ g
+  module _ (from to k : ℕ) where
+    -- `moved`, by its three steps
+    moved-by : (s ys bare result : List (Option T)) → run from k s ≡ ys → emptied from k s ≡ bare
+        → laid to ys bare ≡ result → moved from to k s ≡ result
+    unfolding moved
+    moved-by s ys bare result e f g = (λ n. laid to (e n) (f n)) ∙ g
 
   -- a row stays as long when a run moves
   pub length-moved : (from to k : ℕ) (s : List (Option T)) → from + k ≤ length s → to + k ≤ length s
@@ -201,52 +202,54 @@ module _ {T : Type 0} where
       ∙ (ap (λ (m : ℕ). replicate m None) turned ∙ sym (replicate-append-replicate k a None)))
       ∙ append_assoc (empty k) (empty a) post)
 
-  -- a run goes to the front of the gap before it
-  pub moved_left : (from to k d : ℕ) (pre ys post : List (Option T)) → to ≡ length pre
-      → from ≡ to + d → k ≡ length ys
-      → moved from to k (pre ++ (empty d ++ (ys ++ post))) ≡ pre ++ (ys ++ (empty d ++ post))
-  moved_left from to k d pre ys post t f n =
-      let Row : Type 0 = List (Option T) in
-      let s : Row = pre ++ (empty d ++ (ys ++ post)) in
-      let e : s ≡ (pre ++ empty d) ++ (ys ++ post) =
-      sym (append_assoc pre (empty d) (ys ++ post)) in
-      let l : from ≡ length (pre ++ empty {T = T} d) =
-      omega (
-        arith,
-        length-append pre (empty d),
-        length-replicate d (let o : Option T = None in o),
-      ) in
-      let m : length (empty {T = T} k) ≡ length ys =
-      length-replicate k (let o : Option T = None in o) ∙ n in
-      moved-by from to k s ys (pre ++ (empty k ++ (empty d ++ post))) _
-      (ap (λ (r : Row). run from k r) e ∙ run-at from k (pre ++ empty d) ys post l n)
-      (ap (λ (r : Row). emptied from k r) e ∙ (laid-at from (pre ++ empty d) (empty k) ys post l m
-      ∙ (append_assoc pre (empty d) (empty k ++ post) ∙ ap (λ (r : Row). pre ++ r)
-      (empty-turn d k post))))
-      (laid-at to pre ys (empty k) (empty d ++ post) t (sym m))
+  module _ (from to k d : ℕ) where
+    -- a run goes to the front of the gap before it
+    pub moved_left : (pre ys post : List (Option T)) → to ≡ length pre → from ≡ to + d
+        → k ≡ length ys
+        → moved from to k (pre ++ (empty d ++ (ys ++ post))) ≡ pre ++ (ys ++ (empty d ++ post))
+    moved_left pre ys post t f n =
+        let Row : Type 0 = List (Option T) in
+        let s : Row = pre ++ (empty d ++ (ys ++ post)) in
+        let e : s ≡ (pre ++ empty d) ++ (ys ++ post) =
+        sym (append_assoc pre (empty d) (ys ++ post)) in
+        let l : from ≡ length (pre ++ empty {T = T} d) =
+        omega (
+          arith,
+          length-append pre (empty d),
+          length-replicate d (let o : Option T = None in o),
+        ) in
+        let m : length (empty {T = T} k) ≡ length ys =
+        length-replicate k (let o : Option T = None in o) ∙ n in
+        moved-by from to k s ys (pre ++ (empty k ++ (empty d ++ post))) _
+        (ap (λ (r : Row). run from k r) e ∙ run-at from k (pre ++ empty d) ys post l n)
+        (ap (λ (r : Row). emptied from k r) e ∙ (laid-at from (pre ++ empty d) (empty k) ys post l m
+        ∙ (append_assoc pre (empty d) (empty k ++ post) ∙ ap (λ (r : Row). pre ++ r)
+        (empty-turn d k post))))
+        (laid-at to pre ys (empty k) (empty d ++ post) t (sym m))
 
-  -- a run goes to the end of the gap behind it
-  pub moved_right : (from to k d : ℕ) (pre ys post : List (Option T)) → from ≡ length pre
-      → to ≡ from + d → k ≡ length ys
-      → moved from to k (pre ++ (ys ++ (empty d ++ post))) ≡ pre ++ (empty d ++ (ys ++ post))
-  moved_right from to k d pre ys post f t n =
-      let Row : Type 0 = List (Option T) in
-      let s : Row = pre ++ (ys ++ (empty d ++ post)) in
-      let l : to ≡ length (pre ++ empty {T = T} d) =
-      omega (
-        arith,
-        length-append pre (empty d),
-        length-replicate d (let o : Option T = None in o),
-      ) in
-      let m : length (empty {T = T} k) ≡ length ys =
-      length-replicate k (let o : Option T = None in o) ∙ n in
-      moved-by from to k s ys ((pre ++ empty d) ++ (empty k ++ post)) _
-      (run-at from k pre ys (empty d ++ post) f n)
-      (laid-at from pre (empty k) ys (empty d ++ post) f m
-      ∙ (ap (λ (r : Row). pre ++ r) (empty-turn k d post)
-      ∙ sym (append_assoc pre (empty d) (empty k ++ post))))
-      (laid-at to (pre ++ empty d) ys (empty k) post l (sym m)
-      ∙ append_assoc pre (empty d) (ys ++ post))
+  module _ (from to k d : ℕ) where
+    -- a run goes to the end of the gap behind it
+    pub moved_right : (pre ys post : List (Option T)) → from ≡ length pre → to ≡ from + d
+        → k ≡ length ys
+        → moved from to k (pre ++ (ys ++ (empty d ++ post))) ≡ pre ++ (empty d ++ (ys ++ post))
+    moved_right pre ys post f t n =
+        let Row : Type 0 = List (Option T) in
+        let s : Row = pre ++ (ys ++ (empty d ++ post)) in
+        let l : to ≡ length (pre ++ empty {T = T} d) =
+        omega (
+          arith,
+          length-append pre (empty d),
+          length-replicate d (let o : Option T = None in o),
+        ) in
+        let m : length (empty {T = T} k) ≡ length ys =
+        length-replicate k (let o : Option T = None in o) ∙ n in
+        moved-by from to k s ys ((pre ++ empty d) ++ (empty k ++ post)) _
+        (run-at from k pre ys (empty d ++ post) f n)
+        (laid-at from pre (empty k) ys (empty d ++ post) f m
+        ∙ (ap (λ (r : Row). pre ++ r) (empty-turn k d post)
+        ∙ sym (append_assoc pre (empty d) (empty k ++ post))))
+        (laid-at to (pre ++ empty d) ys (empty k) post l (sym m)
+        ∙ append_assoc pre (empty d) (ys ++ post))
 
   -- a run stays where it is
   pub moved_same : (s : List (Option T)) (from k : ℕ) → from + k ≤ length s
@@ -262,47 +265,50 @@ module _ {T : Type 0} where
       ap (λ (r : List (Option T)). moved from from k r) e
       ∙ (moved_right from from k 0 pre ys post l still n ∙ sym e)
 
-  -- a run goes over what lies behind it, to empty slots
-  pub moved_over : (from to k : ℕ) (pre ys mid post : List (Option T)) → from ≡ length pre
-      → to ≡ from + k + length mid → k ≡ length ys
-      → moved from to k (pre ++ (ys ++ (mid ++ (empty k ++ post)))) ≡ pre
-      ++ (empty k ++ (mid ++ (ys ++ post)))
-  moved_over from to k pre ys mid post f t n =
-      let Row : Type 0 = List (Option T) in
-      let front : Row = pre ++ (empty k ++ mid) in
-      let joined : (r : Row) → front ++ r ≡ pre ++ (empty k ++ (mid ++ r)) =
-      λ r. append_assoc pre (empty k ++ mid) r ∙ ap (λ (l : Row). pre ++ l)
-      (append_assoc (empty k) mid r) in
-      let m : length (empty {T = T} k) ≡ length ys =
-      length-replicate k (let o : Option T = None in o) ∙ n in
-      let l : to ≡ length front =
-      omega (arith, m, length-append pre (empty k ++ mid), length-append (empty k) mid) in
-      moved-by from to k _ ys (front ++ (empty k ++ post)) _
-      (run-at from k pre ys (mid ++ (empty k ++ post)) f n)
-      (laid-at from pre (empty k) ys (mid ++ (empty k ++ post)) f m
-      ∙ sym (joined (empty k ++ post)))
-      (laid-at to front ys (empty k) post l (sym m) ∙ joined (ys ++ post))
+  module _ (from to k : ℕ) where
+    -- a run goes over what lies behind it, to empty slots
+    pub moved_over : (pre ys mid post : List (Option T)) → from ≡ length pre
+        → to ≡ from + k + length mid → k ≡ length ys
+        → moved from to k (pre ++ (ys ++ (mid ++ (empty k ++ post))))
+        ≡ pre ++ (empty k ++ (mid ++ (ys ++ post)))
+    moved_over pre ys mid post f t n =
+        let Row : Type 0 = List (Option T) in
+        let front : Row = pre ++ (empty k ++ mid) in
+        let joined : (r : Row) → front ++ r ≡ pre ++ (empty k ++ (mid ++ r)) =
+        λ r. append_assoc pre (empty k ++ mid) r ∙ ap (λ (l : Row). pre ++ l)
+        (append_assoc (empty k) mid r) in
+        let m : length (empty {T = T} k) ≡ length ys =
+        length-replicate k (let o : Option T = None in o) ∙ n in
+        let l : to ≡ length front =
+        omega (arith, m, length-append pre (empty k ++ mid), length-append (empty k) mid) in
+        moved-by from to k _ ys (front ++ (empty k ++ post)) _
+        (run-at from k pre ys (mid ++ (empty k ++ post)) f n)
+        (laid-at from pre (empty k) ys (mid ++ (empty k ++ post)) f m
+        ∙ sym (joined (empty k ++ post)))
+        (laid-at to front ys (empty k) post l (sym m) ∙ joined (ys ++ post))
 
-  -- a run goes back over what lies before it
-  pub moved_back : (from to k : ℕ) (pre ys mid post : List (Option T)) → to ≡ length pre
-      → from ≡ to + k + length mid → k ≡ length ys
-      → moved from to k (pre ++ (empty k ++ (mid ++ (ys ++ post)))) ≡ pre
-      ++ (ys ++ (mid ++ (empty k ++ post)))
-  moved_back from to k pre ys mid post t f n =
-      let Row : Type 0 = List (Option T) in
-      let front : Row = pre ++ (empty k ++ mid) in
-      let joined : (r : Row) → front ++ r ≡ pre ++ (empty k ++ (mid ++ r)) =
-      λ r. append_assoc pre (empty k ++ mid) r ∙ ap (λ (l : Row). pre ++ l)
-      (append_assoc (empty k) mid r) in
-      let m : length (empty {T = T} k) ≡ length ys =
-      length-replicate k (let o : Option T = None in o) ∙ n in
-      let l : from ≡ length front =
-      omega (arith, m, n, length-append pre (empty k ++ mid), length-append (empty k) mid) in
-      moved-by from to k _ ys (pre ++ (empty k ++ (mid ++ (empty k ++ post)))) _
-      (ap (λ (r : Row). run from k r) (sym (joined (ys ++ post))) ∙ run-at from k front ys post l n)
-      (ap (λ (r : Row). emptied from k r) (sym (joined (ys ++ post)))
-      ∙ (laid-at from front (empty k) ys post l m ∙ joined (empty k ++ post)))
-      (laid-at to pre ys (empty k) (mid ++ (empty k ++ post)) t (sym m))
+  module _ (from to k : ℕ) where
+    -- a run goes back over what lies before it
+    pub moved_back : (pre ys mid post : List (Option T)) → to ≡ length pre
+        → from ≡ to + k + length mid → k ≡ length ys
+        → moved from to k (pre ++ (empty k ++ (mid ++ (ys ++ post))))
+        ≡ pre ++ (ys ++ (mid ++ (empty k ++ post)))
+    moved_back pre ys mid post t f n =
+        let Row : Type 0 = List (Option T) in
+        let front : Row = pre ++ (empty k ++ mid) in
+        let joined : (r : Row) → front ++ r ≡ pre ++ (empty k ++ (mid ++ r)) =
+        λ r. append_assoc pre (empty k ++ mid) r ∙ ap (λ (l : Row). pre ++ l)
+        (append_assoc (empty k) mid r) in
+        let m : length (empty {T = T} k) ≡ length ys =
+        length-replicate k (let o : Option T = None in o) ∙ n in
+        let l : from ≡ length front =
+        omega (arith, m, n, length-append pre (empty k ++ mid), length-append (empty k) mid) in
+        moved-by from to k _ ys (pre ++ (empty k ++ (mid ++ (empty k ++ post)))) _
+        (ap (λ (r : Row). run from k r) (sym (joined (ys ++ post)))
+        ∙ run-at from k front ys post l n)
+        (ap (λ (r : Row). emptied from k r) (sym (joined (ys ++ post)))
+        ∙ (laid-at from front (empty k) ys post l m ∙ joined (empty k ++ post)))
+        (laid-at to pre ys (empty k) (mid ++ (empty k ++ post)) t (sym m))
 
   -- a slot of an empty row
   pub slot-empty : (k i : ℕ) → slot (empty {T = T} k) i ≡ None

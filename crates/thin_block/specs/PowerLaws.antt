@@ -1,8 +1,8 @@
 -- That the rule of powers of two keeps the law of rules, and fills its powers. (Here and not in
 -- proofs/, since the impl of
 -- `Growth` names it.)
-use Rattle.std.specs.Prelude.{◌≡◌, ℕ, zero, suc, ◌+◌, ◌-◌, ◌*◌, ◌/◌, ◌%◌, ◌^◌, ◌<◌, ◌≤◌, ◌==◌, nat_le, Bool, true, false, IsTrue, if◌then◌else◌, max, refl}
-use Rattle.std.specs.declared.option.Option.TheVariants.{Some, None}
+use Rattle.std.specs.Prelude.{◌≡◌, ℕ, zero, suc, ◌+◌, ◌-◌, ◌*◌, ◌/◌, ◌^◌, ◌<◌, ◌≤◌, ◌==◌, nat_le, Bool, true, false, IsTrue, if◌then◌else◌, max, refl}
+use Rattle.std.specs.declared.option.Option.TheVariants.{Some}
 use Rattle.std.specs.Int.{IsPowerOfTwo, IsNextPowerOfTwo}
 use Rattle.std.proofs.Common.{subst, arith, sym, ap, ◌∙◌, inl, inr, add-mul, mod-lt, pow-suc, mul_assoc, pow_mono, pow_pos, eq-zero-or-pos}
 use Rattle.std.proofs.lemmas.Bool.{cases_lt}

@@ -13,18 +13,19 @@ use Rattle.thin_block.specs.declared.block.Block.{Block}
 use Rattle.thin_vec.specs.ThinVec.{IsThin}
 use Rattle.thin_vec.proofs.ListLemmas.{Settled, settled, length-full, thin-room, front-grow}
 
--- the law of a rule, at what it answers
-pub grows-rule : (rule : Rule) (R : RattleType) (c c' w w' : ℕ) (o : Option ℕ) → KeepsLaw rule
-    → c < w → w < 2 ^ 64 → o ≡ rule (type_size R) (type_align R) c w → c ≡ c' → w ≡ w'
-    → IfSome o (λ n. Grows R c' w' n)
-grows-rule rule R c c' w w' None law l h e p q = tt
-grows-rule rule R c c' w w' (Some n) law l h e p q =
-    let g = law (type_size R) (type_align R) c w n l h (sym e) in
-    record {
-      enough = omega (arith, g.enough, q);
-      doubled = omega (arith, g.doubled, p);
-      fits = g.fits;
-    }
+module _ (rule : Rule) where
+  -- the law of a rule, at what it answers
+  pub grows-rule : (R : RattleType) (c c' w w' : ℕ) (o : Option ℕ) → KeepsLaw rule → c < w
+      → w < 2 ^ 64 → o ≡ rule (type_size R) (type_align R) c w → c ≡ c' → w ≡ w'
+      → IfSome o (λ n. Grows R c' w' n)
+  grows-rule R c c' w w' None law l h e p q = tt
+  grows-rule R c c' w w' (Some n) law l h e p q =
+      let g = law (type_size R) (type_align R) c w n l h (sym e) in
+      record {
+        enough = omega (arith, g.enough, q);
+        doubled = omega (arith, g.doubled, p);
+        fits = g.fits;
+      }
 
 module _ {T : Type 0} where
   -- c empty slots are those of a list of no items

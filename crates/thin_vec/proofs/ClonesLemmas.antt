@@ -53,23 +53,23 @@ all-repeated {T} clones x n m ys cloned = All-from_recursion (clones x) ys (each
     each (suc n) (suc m) [] e = absurd e
     each (suc n) (suc m) (y ∷ ys) e = (e.0, each n m ys e.1)
 
--- where each clone of x is equal to it, n clones and x itself are x so often and once more
-pub equal-repeated : {T : Type 0} (clones : T → T → Type 0) (x : T) (n m : ℕ) (xs ys zs : List T)
-    → CloneEquals clones x → AppendsRepeats clones x n xs ys → zs ≡ ys ++ x ∷ [] → m ≡ n + 1
-    → zs ≡ xs ++ replicate m x
-equal-repeated {T} clones x n m xs ys zs equal repeats last one =
-    let copies = repeats.copies in
-    let same : copies ≡ replicate n x =
-    each copies (recursion_from_All (clones x) copies repeats.cloned)
-    ∙ ap (λ k. replicate k x) repeats.count in
-    last
-    ∙ (ap (λ (l : List T). l ++ x ∷ []) (repeats.items ∙ ap (λ (l : List T). xs ++ l) same)
-    ∙ (append_assoc xs (replicate n x) (x ∷ []) ∙ ap (λ (l : List T). xs ++ l)
-    (replicate-append-replicate n 1 x ∙ ap (λ k. replicate k x) (sym one))))
-  where
-    each : (ys : List T) → AllByRecursion (clones x) ys → ys ≡ replicate (length ys) x
-    each [] e = refl
-    each (y ∷ ys) e = λ i. equal y e.0 i ∷ each ys e.1 i
+module _ {T : Type 0} (clones : T → T → Type 0) where
+  -- where each clone of x is equal to it, n clones and x itself are x so often and once more
+  pub equal-repeated : (x : T) (n m : ℕ) (xs ys zs : List T) → CloneEquals clones x
+      → AppendsRepeats clones x n xs ys → zs ≡ ys ++ x ∷ [] → m ≡ n + 1 → zs ≡ xs ++ replicate m x
+  equal-repeated x n m xs ys zs equal repeats last one =
+      let copies = repeats.copies in
+      let same : copies ≡ replicate n x =
+      each copies (recursion_from_All (clones x) copies repeats.cloned)
+      ∙ ap (λ k. replicate k x) repeats.count in
+      last
+      ∙ (ap (λ (l : List T). l ++ x ∷ []) (repeats.items ∙ ap (λ (l : List T). xs ++ l) same)
+      ∙ (append_assoc xs (replicate n x) (x ∷ []) ∙ ap (λ (l : List T). xs ++ l)
+      (replicate-append-replicate n 1 x ∙ ap (λ k. replicate k x) (sym one))))
+    where
+      each : (ys : List T) → AllByRecursion (clones x) ys → ys ≡ replicate (length ys) x
+      each [] e = refl
+      each (y ∷ ys) e = λ i. equal y e.0 i ∷ each ys e.1 i
 
 -- the capacity at which a new list gets the length k
 pub capacity-new : {T A : Type 0} (rule : Rule) (R : RattleType) (v : Thin T A) (a : A) (k : ℕ)

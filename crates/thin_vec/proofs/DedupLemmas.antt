@@ -292,29 +292,30 @@ module _ {S T : Type 0} (R : S → T → T → Bool → S → T → T → Type 0
       pub capacity : w.capacity ≡ v.capacity
       pub alloc : w.alloc ≡ v.alloc
 
-    thins-of : (s t : S) (before : List T) (first : T) (done : List T) (stays : List Bool)
-        (kept : List T) → v.front ≡ before ++ first ∷ [] → v.rest ≡ done ++ w.rest
-        → AskedLast R s first done stays kept t → w.front ≡ before ++ kept
-        → w.cost ≡ moving (trues stays) v.cost → Beside → Thins R s v t w
-    thins-of s t before first done stays kept was rest asked front cost like =
-        record {
-          before = before;
-          first = first;
-          done = done;
-          stays = stays;
-          kept = kept;
-          was = was;
-          rest = rest;
-          asked = asked;
-          front = front;
-          cost = cost;
-          hole = like.hole;
-          behind =
-              like.behind;
-          tail = like.tail;
-          capacity = like.capacity;
-          alloc = like.alloc;
-        }
+    module _ (s t : S) where
+      thins-of : (before : List T) (first : T) (done : List T) (stays : List Bool) (kept : List T)
+          → v.front ≡ before ++ first ∷ [] → v.rest ≡ done ++ w.rest
+          → AskedLast R s first done stays kept t → w.front ≡ before ++ kept
+          → w.cost ≡ moving (trues stays) v.cost → Beside → Thins R s v t w
+      thins-of before first done stays kept was rest asked front cost like =
+          record {
+            before = before;
+            first = first;
+            done = done;
+            stays = stays;
+            kept = kept;
+            was = was;
+            rest = rest;
+            asked = asked;
+            front = front;
+            cost = cost;
+            hole = like.hole;
+            behind =
+                like.behind;
+            tail = like.tail;
+            capacity = like.capacity;
+            alloc = like.alloc;
+          }
 
     -- the next item goes
     pub thins-goes : (s t : S) (x y : T) (front : List T) → IsLastAsked R s x v.front true t y front

@@ -112,35 +112,36 @@ module _ {T : Type 0} where
       ∙ get_or_at (full a) None (full b ++ r) None i (sym p))
 
 module _ {T A : Type 0} where
-  -- an item came out
-  pub settle-remove : (b b' : Block T A) (a : A) (i j k : ℕ) (s : List (Option T)) → IsThin b a
-      → i < length (items_in b.slots) → j ≡ i + 1 → k ≡ b.len - j
-      → s ≡ set b.slots i None → b'.slots ≡ moved j i k s → b'.len ≡ b.len - 1 → b'.alloc ≡ b.alloc
-      → Settled b' a (remove (items_in b.slots) i) (length b.slots)
-  settle-remove b b' a i j k s t h e n x y l f =
-      let xs : List T = items_in b.slots in let c : ℕ = length b.slots in
-      settled b' a (remove xs i) c
-      (y ∙ (ap (λ (r : List (Option T)). moved j i k r)
-      (x ∙ ap (λ (r : List (Option T)). set r i None) t.packed.row) ∙ front-remove xs c i j k h
-      (thin-room b a t) e (omega (arith, t.packed.len))))
-      (omega (arith, l, t.packed.len, length-remove xs i h))
-      (omega (arith, thin-room b a t, length-remove xs i h)) (from-same b b' a t.from f)
+  module _ (b b' : Block T A) where
+    -- an item came out
+    pub settle-remove : (a : A) (i j k : ℕ) (s : List (Option T)) → IsThin b a
+        → i < length (items_in b.slots) → j ≡ i + 1 → k ≡ b.len - j → s ≡ set b.slots i None
+        → b'.slots ≡ moved j i k s → b'.len ≡ b.len - 1 → b'.alloc ≡ b.alloc
+        → Settled b' a (remove (items_in b.slots) i) (length b.slots)
+    settle-remove a i j k s t h e n x y l f =
+        let xs : List T = items_in b.slots in let c : ℕ = length b.slots in
+        settled b' a (remove xs i) c
+        (y ∙ (ap (λ (r : List (Option T)). moved j i k r)
+        (x ∙ ap (λ (r : List (Option T)). set r i None) t.packed.row) ∙ front-remove xs c i j k h
+        (thin-room b a t) e (omega (arith, t.packed.len))))
+        (omega (arith, l, t.packed.len, length-remove xs i h))
+        (omega (arith, thin-room b a t, length-remove xs i h)) (from-same b b' a t.from f)
 
-  -- an item went in
-  pub settle-insert : (b b' : Block T A) (a : A) (i j k : ℕ) (v : T) (s : List (Option T))
-      → IsThin b a → i ≤ length (items_in b.slots) → b.len < length b.slots
-      → j ≡ i + 1 → k ≡ b.len - i
-      → s ≡ moved i j k b.slots → b'.slots ≡ set s i (Some v) → b'.len ≡ b.len + 1
-      → b'.alloc ≡ b.alloc → Settled b' a (insert (items_in b.slots) i v) (length b.slots)
-  settle-insert b b' a i j k v s t h o e n x y l f =
-      let xs : List T = items_in b.slots in let c : ℕ = length b.slots in
-      settled b' a (insert xs i v) c
-      (y ∙ (ap (λ (r : List (Option T)). set r i (Some v))
-      (x ∙ ap (λ (r : List (Option T)). moved i j k r) t.packed.row)
-      ∙ front-insert xs c i j k v h (omega (arith, t.packed.len)) e
-      (omega (arith, t.packed.len))))
-      (omega (arith, l, t.packed.len, length-insert xs i v h))
-      (omega (arith, t.packed.len, length-insert xs i v h)) (from-same b b' a t.from f)
+  module _ (b b' : Block T A) where
+    -- an item went in
+    pub settle-insert : (a : A) (i j k : ℕ) (v : T) (s : List (Option T)) → IsThin b a
+        → i ≤ length (items_in b.slots) → b.len < length b.slots → j ≡ i + 1 → k ≡ b.len - i
+        → s ≡ moved i j k b.slots → b'.slots ≡ set s i (Some v) → b'.len ≡ b.len + 1
+        → b'.alloc ≡ b.alloc → Settled b' a (insert (items_in b.slots) i v) (length b.slots)
+    settle-insert a i j k v s t h o e n x y l f =
+        let xs : List T = items_in b.slots in let c : ℕ = length b.slots in
+        settled b' a (insert xs i v) c
+        (y ∙ (ap (λ (r : List (Option T)). set r i (Some v))
+        (x ∙ ap (λ (r : List (Option T)). moved i j k r) t.packed.row)
+        ∙ front-insert xs c i j k v h (omega (arith, t.packed.len)) e
+        (omega (arith, t.packed.len))))
+        (omega (arith, l, t.packed.len, length-insert xs i v h))
+        (omega (arith, t.packed.len, length-insert xs i v h)) (from-same b b' a t.from f)
 
   -- after a run has moved one place back, the slot that it left is empty
   pub thin-gap : (b : Block T A) (a : A) (i j k : ℕ) (s : List (Option T)) → IsThin b a
@@ -310,52 +311,52 @@ module _ {T A : Type 0} where
   settle-emptied b b' a from s l f = settled b' a [] (length b.slots)
       (s ∙ front-none (length b.slots)) l (omega arith) (from-same b b' a from f)
 
-  -- an item came out, and the last one went into its place
-  pub settle-swap_remove : (b b' : Block T A) (a : A) (i last : ℕ) (v m : T)
-      (s₁ s₂ s₃ : List (Option T)) → IsThin b a → i < last → last + 1 ≡ b.len
-      → slot b.slots i ≡ Some v → s₁ ≡ set b.slots i None → slot s₁ last ≡ Some m
-      → s₂ ≡ set s₁ last None → s₃ ≡ set s₂ i (Some m) → b'.slots ≡ s₃
-      → b'.len ≡ last → b'.alloc ≡ b.alloc
-      → Settled b' a (swap_remove (items_in b.slots) i v) (length b.slots)
-  settle-swap_remove b b' a i last v m s₁ s₂ s₃ t lt n gave e₁ gave_last e₂ e₃ e l f =
-      let xs : List T = items_in b.slots in
-      let c : ℕ = length b.slots in
-      let other : last ≢ i = omega arith in
-      let low : last < length xs = omega (arith, n, t.packed.len) in
-      let held : slot b.slots last ≡ Some m =
-      sym (ap (λ (s : List (Option T)). slot s last) e₁
-      ∙ get_or-set_other b.slots i last None None other) ∙ gave_last in
-      let at_end = last-item b a m last t n held in
-      let ys : List T = take last xs in
-      let long : length ys ≡ last = length-take-le last xs (omega arith) in
-      let room : length (ys ++ m ∷ []) ≤ c = omega (arith, thin-room b a t, ap length at_end) in
-      let slots : b'.slots ≡ set (set (set (front (ys ++ m ∷ []) c) i None) (length ys) None) i
-      (Some m) =
-      e ∙ (e₃ ∙ (ap (λ (s : List (Option T)). set s i (Some m))
-      (e₂ ∙ (ap (λ (s : List (Option T)). set s last None)
-      (e₁ ∙ ap (λ (s : List (Option T)). set s i None)
-      (t.packed.row ∙ ap (λ (l : List T). front l c) at_end))
-      ∙ ap (λ (k : ℕ). set (set (front (ys ++ m ∷ []) c) i None) k None) (sym long))))) in
-      let cut : length (swap_remove (ys ++ m ∷ []) i v) ≡ last =
-      length-swap_remove ys i v m long (omega arith) in
-      let done : Settled b' a (swap_remove (ys ++ m ∷ []) i v) c =
-      settled b' a (swap_remove (ys ++ m ∷ []) i v) c
-      (slots ∙ front-swap_remove ys c i v m (omega (arith, long)) room) (l ∙ sym cut)
-      (omega (arith, cut, room, length_push ys m, long)) (from-same b b' a t.from f) in
-      subst (λ (l : List T). Settled b' a (swap_remove l i v) c) (sym at_end) done
-    where
-      length-swap_remove : (ys : List T) (i : ℕ) (v m : T) {k : ℕ} → length ys ≡ k → i < k
-          → length (swap_remove (ys ++ m ∷ []) i v) ≡ k
-      length-swap_remove ys i v m {k} long lt =
-          let xs : List T = ys ++ m ∷ [] in
-          let s : List T = set xs i (get_or xs (length xs - 1) v) in
-          omega (
-            arith,
-            length-take-le (length xs - 1) s
-                (omega (arith, length-set xs i (get_or xs (length xs - 1) v))),
-            length_push ys m,
-            long,
-          )
+  module _ (b b' : Block T A) (a : A) (i last : ℕ) where
+    -- an item came out, and the last one went into its place
+    pub settle-swap_remove : (v m : T) (s₁ s₂ s₃ : List (Option T)) → IsThin b a → i < last
+        → last + 1 ≡ b.len → slot b.slots i ≡ Some v → s₁ ≡ set b.slots i None
+        → slot s₁ last ≡ Some m → s₂ ≡ set s₁ last None → s₃ ≡ set s₂ i (Some m) → b'.slots ≡ s₃
+        → b'.len ≡ last → b'.alloc ≡ b.alloc
+        → Settled b' a (swap_remove (items_in b.slots) i v) (length b.slots)
+    settle-swap_remove v m s₁ s₂ s₃ t lt n gave e₁ gave_last e₂ e₃ e l f =
+        let xs : List T = items_in b.slots in
+        let c : ℕ = length b.slots in
+        let other : last ≢ i = omega arith in
+        let low : last < length xs = omega (arith, n, t.packed.len) in
+        let held : slot b.slots last ≡ Some m =
+        sym (ap (λ (s : List (Option T)). slot s last) e₁
+        ∙ get_or-set_other b.slots i last None None other) ∙ gave_last in
+        let at_end = last-item b a m last t n held in
+        let ys : List T = take last xs in
+        let long : length ys ≡ last = length-take-le last xs (omega arith) in
+        let room : length (ys ++ m ∷ []) ≤ c = omega (arith, thin-room b a t, ap length at_end) in
+        let slots : b'.slots ≡ set (set (set (front (ys ++ m ∷ []) c) i None) (length ys) None) i
+        (Some m) =
+        e ∙ (e₃ ∙ (ap (λ (s : List (Option T)). set s i (Some m))
+        (e₂ ∙ (ap (λ (s : List (Option T)). set s last None)
+        (e₁ ∙ ap (λ (s : List (Option T)). set s i None)
+        (t.packed.row ∙ ap (λ (l : List T). front l c) at_end))
+        ∙ ap (λ (k : ℕ). set (set (front (ys ++ m ∷ []) c) i None) k None) (sym long))))) in
+        let cut : length (swap_remove (ys ++ m ∷ []) i v) ≡ last =
+        length-swap_remove ys i v m long (omega arith) in
+        let done : Settled b' a (swap_remove (ys ++ m ∷ []) i v) c =
+        settled b' a (swap_remove (ys ++ m ∷ []) i v) c
+        (slots ∙ front-swap_remove ys c i v m (omega (arith, long)) room) (l ∙ sym cut)
+        (omega (arith, cut, room, length_push ys m, long)) (from-same b b' a t.from f) in
+        subst (λ (l : List T). Settled b' a (swap_remove l i v) c) (sym at_end) done
+      where
+        length-swap_remove : (ys : List T) (i : ℕ) (v m : T) {k : ℕ} → length ys ≡ k → i < k
+            → length (swap_remove (ys ++ m ∷ []) i v) ≡ k
+        length-swap_remove ys i v m {k} long lt =
+            let xs : List T = ys ++ m ∷ [] in
+            let s : List T = set xs i (get_or xs (length xs - 1) v) in
+            omega (
+              arith,
+              length-take-le (length xs - 1) s
+                  (omega (arith, length-set xs i (get_or xs (length xs - 1) v))),
+              length_push ys m,
+              long,
+            )
 
   -- the last item takes the place of the i-th, which may be the last itself
   pub settle-replaced : (b b' : Block T A) (a : A) (i last : ℕ) (v : T) → IsThin b a → i ≤ last

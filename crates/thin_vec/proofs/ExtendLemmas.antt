@@ -39,9 +39,11 @@ module _ {S X : Type 0} (steps : S → Option X → S → Type 0) where
   yields-join s t u (x ∷ xs) ys e more = (e.0, e.1, yields-join e.0 t u xs ys e.2 more)
 
   -- the first of several calls, alone
-  pub yields-first : (s u : S) (xs ys : List X) → Yields steps s (xs ++ ys) u → (t : S) × Yields steps s xs t
+  pub yields-first : (s u : S) (xs ys : List X) → Yields steps s (xs ++ ys) u
+      → (t : S) × Yields steps s xs t
   yields-first s u [] ys e = (s, refl)
-  yields-first s u (x ∷ xs) ys e = let rest = yields-first e.0 u xs ys e.2 in (rest.0, (e.0, e.1, rest.1))
+  yields-first s u (x ∷ xs) ys e =
+      let rest = yields-first e.0 u xs ys e.2 in (rest.0, (e.0, e.1, rest.1))
 
   -- calls that went on to `None`, as a run
   pub run_of : (s : S) (P : List X → Type 0) → (xs : List X) × Drains steps s xs × P xs
@@ -75,16 +77,16 @@ module _ {S X : Type 0} (steps : S → Option X → S → Type 0) where
       all.2 (all.0, all.1, refl)
 
 module _ {T : Type 0} where
-  -- one item more in a row
-  pub laid-more : (s s' r : List (Option T)) (i k : ℕ) (xs : List T) (x : T)
-      → s ≡ laid i (full xs) r → k ≡ i + length xs → k < length r → s' ≡ set s k (Some x)
-      → s' ≡ laid i (full (xs ++ x ∷ [])) r
-  laid-more s s' r i k xs x e at within e' =
-      let long : k ≡ i + length (full xs) = omega (arith, at, length-full xs) in
-      e' ∙ (ap (λ (l : List (Option T)). set l k (Some x)) e
-      ∙ (laid-one i (full xs) r k (Some x) long within
-      ∙ ap (λ (l : List (Option T)). laid i l r)
-      (sym (map-append (λ (y : T). Some y) xs (x ∷ [])))))
+  module _ (s s' r : List (Option T)) where
+    -- one item more in a row
+    pub laid-more : (i k : ℕ) (xs : List T) (x : T) → s ≡ laid i (full xs) r → k ≡ i + length xs
+        → k < length r → s' ≡ set s k (Some x) → s' ≡ laid i (full (xs ++ x ∷ [])) r
+    laid-more i k xs x e at within e' =
+        let long : k ≡ i + length (full xs) = omega (arith, at, length-full xs) in
+        e' ∙ (ap (λ (l : List (Option T)). set l k (Some x)) e
+        ∙ (laid-one i (full xs) r k (Some x) long within
+        ∙ ap (λ (l : List (Option T)). laid i l r)
+        (sym (map-append (λ (y : T). Some y) xs (x ∷ [])))))
 
 -- one move more
 pub moving-more : (i k : ℕ) (now before : Cost) → k ≤ i → now ≡ moving (i - k) before
@@ -120,19 +122,19 @@ module _ (rule : Rule) (R : RattleType) (law : KeepsLaw rule) where
   named-after c d e n P (inl same) f = inr (f same)
   named-after c d e n P (inr p) f = inl (inr p)
 
-  -- a list that was new, and then took exactly as many places as a hint says
-  pub collected-after : {T A : Type 0} (v : Thin T A) (a : A) (c d n h : ℕ) (left : Count)
-      → IsNew v a → IsWithinCount h left → exact_for R v h ≡ Some c → IsNamed rule R c d n
-      → IsCollected rule R d n left
-  collected-after v a c d n h left new hint e (inl same) =
-      let want : length v.items + h ≡ h = omega (arith, ap length new.items) in
-      inr (
-        h,
-        hint,
-        sym (λ i. exact_capacity R (new.capacity i) (want i))
-            ∙ (e ∙ ap Some (sym same)),
-      )
-  collected-after v a c d n h left new hint e (inr p) = inl p
+  module _ {T A : Type 0} (v : Thin T A) where
+    -- a list that was new, and then took exactly as many places as a hint says
+    pub collected-after : (a : A) (c d n h : ℕ) (left : Count) → IsNew v a → IsWithinCount h left
+        → exact_for R v h ≡ Some c → IsNamed rule R c d n → IsCollected rule R d n left
+    collected-after a c d n h left new hint e (inl same) =
+        let want : length v.items + h ≡ h = omega (arith, ap length new.items) in
+        inr (
+          h,
+          hint,
+          sym (λ i. exact_capacity R (new.capacity i) (want i))
+              ∙ (e ∙ ap Some (sym same)),
+        )
+    collected-after a c d n h left new hint e (inr p) = inl p
 
   -- a ruled capacity
   pub loose-ruled : {T A : Type 0} (v : Thin T A) (k d : ℕ) → capacity_for rule R v k ≡ Some d

@@ -26,21 +26,22 @@ not-not true = refl
 not-not false = refl
 
 module _ {F T : Type 0} (R : F → T → Bool → F → T → Type 0) where
-  by-answer : (s : F) (x : T) (xs : List T) (item : Option T) (t : F) (kept rest : List T) (u : F)
-      (y : T) → ((ks : List T) → ExtractsNext R u xs item t ks rest → length xs ≡ length ks + length
-      (option_to_list item) + length rest)
-      → (b : Bool) → MatchBool b ((item ≡ Some y) × (t ≡ u) × (kept ≡ []) × (rest ≡ xs))
-      ((ks : List T) × ExtractsNext R u xs item t ks rest × (kept ≡ y ∷ ks))
-      → length (x ∷ xs) ≡ length kept + length (option_to_list item) + length rest
-  by-answer s x xs item t kept rest u y more true m =
-      let i = ap (λ (o : Option T). length (option_to_list o)) m.0 in
-      let k = ap length m.2 in
-      let r = ap length m.3 in
-      omega (arith, i, k, r)
-  by-answer s x xs item t kept rest u y more false m =
-      let n = more m.0 m.1 in
-      let k = ap length m.2 in
-      omega (arith, n, k)
+  module _ (s : F) (x : T) (xs : List T) where
+    by-answer : (item : Option T) (t : F) (kept rest : List T) (u : F) (y : T) → ((ks : List T)
+        → ExtractsNext R u xs item t ks rest
+        → length xs ≡ length ks + length (option_to_list item) + length rest) → (b : Bool)
+        → MatchBool b ((item ≡ Some y) × (t ≡ u) × (kept ≡ []) × (rest ≡ xs))
+        ((ks : List T) × ExtractsNext R u xs item t ks rest × (kept ≡ y ∷ ks))
+        → length (x ∷ xs) ≡ length kept + length (option_to_list item) + length rest
+    by-answer item t kept rest u y more true m =
+        let i = ap (λ (o : Option T). length (option_to_list o)) m.0 in
+        let k = ap length m.2 in
+        let r = ap length m.3 in
+        omega (arith, i, k, r)
+    by-answer item t kept rest u y more false m =
+        let n = more m.0 m.1 in
+        let k = ap length m.2 in
+        omega (arith, n, k)
 
   -- each item stays, is handed out, or is still to be asked about
   pub picked-count : (s : F) (xs : List T) (item : Option T) (t : F) (kept rest : List T)

@@ -189,30 +189,31 @@ module _ {S X : Type 0} (steps : S → Option X → S → Type 0) (can : S → T
   drains-more s t xs ys before now =
       (now.0, (now.1.0, yields-join steps s t now.1.0 xs ys before now.1.1, now.1.2))
 
-  -- what was placed, held and in hand, after what was placed before
-  pub stopped-after : (s t rest : S) (xs ys held : List X) (in_hand : Option X)
-      → Yields steps s xs t → Stopped steps can remaining t ys held in_hand rest
-      → Stopped steps can remaining s (xs ++ ys) held in_hand rest
-  stopped-after s t rest xs ys held in_hand before (inl now) =
-      let last : List X = option_to_list in_hand in
-      let gave = yields-join steps s t rest xs ((ys ++ held) ++ last) before now.0 in
-      inl (
-        subst (λ l. Yields steps s l rest)
-            (sym (append_assoc xs (ys ++ held) last)
-            ∙ ap (λ l. l ++ last) (sym (append_assoc xs ys held))) gave,
-        now.1,
-        now.2,
-      )
-  stopped-after s t rest xs ys held in_hand before (inr now) =
-      inr (
-        now.0,
-        (
-          now.1.0,
-          subst (λ l. Yields steps s l now.1.0) (sym (append_assoc xs ys held))
-              (yields-join steps s t now.1.0 xs (ys ++ held) before now.1.1),
-          now.1.2,
-        ),
-      )
+  module _ (s t rest : S) where
+    -- what was placed, held and in hand, after what was placed before
+    pub stopped-after : (xs ys held : List X) (in_hand : Option X) → Yields steps s xs t
+        → Stopped steps can remaining t ys held in_hand rest
+        → Stopped steps can remaining s (xs ++ ys) held in_hand rest
+    stopped-after xs ys held in_hand before (inl now) =
+        let last : List X = option_to_list in_hand in
+        let gave = yields-join steps s t rest xs ((ys ++ held) ++ last) before now.0 in
+        inl (
+          subst (λ l. Yields steps s l rest)
+              (sym (append_assoc xs (ys ++ held) last)
+              ∙ ap (λ l. l ++ last) (sym (append_assoc xs ys held))) gave,
+          now.1,
+          now.2,
+        )
+    stopped-after xs ys held in_hand before (inr now) =
+        inr (
+          now.0,
+          (
+            now.1.0,
+            subst (λ l. Yields steps s l now.1.0) (sym (append_assoc xs ys held))
+                (yields-join steps s t now.1.0 xs (ys ++ held) before now.1.1),
+            now.1.2,
+          ),
+        )
 
   -- the same, where nothing was placed since
   pub stopped-more : (s t rest : S) (xs held : List X) (in_hand : Option X) → Yields steps s xs t
@@ -257,20 +258,21 @@ module _ (rule : Rule) (R : RattleType) where
         | inr spare ↦ inl (cap-kept rule R law v k d spare e)
       ]
 
-  -- where a capacity comes from after k items went into spare room
-  pub extended-after : {T A : Type 0} (v u : Thin T A) (k d n : ℕ) (left more : Count)
-      → u.capacity ≡ v.capacity → length u.items ≡ length v.items + k → IsFinite more
-      → k + size more ≤ size left → IsExtended rule R u d n more → IsExtended rule R v d n left
-  extended-after v u k d n left more same long finite near (inl p) =
-      inl (subst (λ c. IsNamed rule R c d n) same p)
-  extended-after v u k d n left more same long finite near (inr p) =
-      let within : p.0 ≤ size more = p.1 finite in
-      let want : length v.items + (k + p.0) ≡ length u.items + p.0 = omega (arith, long) in
-      inr (
-        k + p.0,
-        (λ _. omega (arith, near, within)),
-        (λ i. ruled_capacity rule R (sym same i) (want i)) ∙ p.2,
-      )
+  module _ {T A : Type 0} (v u : Thin T A) where
+    -- where a capacity comes from after k items went into spare room
+    pub extended-after : (k d n : ℕ) (left more : Count) → u.capacity ≡ v.capacity
+        → length u.items ≡ length v.items + k → IsFinite more → k + size more ≤ size left
+        → IsExtended rule R u d n more → IsExtended rule R v d n left
+    extended-after k d n left more same long finite near (inl p) =
+        inl (subst (λ c. IsNamed rule R c d n) same p)
+    extended-after k d n left more same long finite near (inr p) =
+        let within : p.0 ≤ size more = p.1 finite in
+        let want : length v.items + (k + p.0) ≡ length u.items + p.0 = omega (arith, long) in
+        inr (
+          k + p.0,
+          (λ _. omega (arith, near, within)),
+          (λ i. ruled_capacity rule R (sym same i) (want i)) ∙ p.2,
+        )
 
 -- no move is none
 unmoved : (b : Bool) (c : Cost) (n : ℕ) → n ≡ 0 → (if b then c else moving n c) ≡ c

@@ -281,39 +281,40 @@ module _ {S T : Type 0} (R : S → T → Bool → S → T → Type 0) where
       → IsAskedAt R 0 s xs true t ys → IsAskedAt R 1 t ys true u zs → Stays 0 2 s xs u zs
   two-stay s xs t ys u zs a b = stays-more 0 1 s xs t ys (one-stays s xs t ys a) u zs b
 
-  -- two runs, one behind the other
-  pub runs-join : (m n : ℕ) (s : S) (xs : List T) (t : S) (ys : List T) (u : S) (zs : List T)
-      → Stays 0 m s xs t ys → Runs R m n t ys u zs → Runs R 0 n s xs u zs
-  runs-join m n s xs t ys u zs h r =
-      let none = nothing h.before h.place in
-      let same : h.left ++ h.more ≡ r.before ++ (r.run ++ r.behind) =
-      sym (h.now ∙ ap (λ (l : List T). l ++ (h.left ++ h.more)) none) ∙ r.was in
-      let long : length h.left ≡ m = omega (arith, h.reached) in
-      let first : r.before ≡ h.left =
-      sym (take_at r.before (r.run ++ r.behind) m r.place)
-      ∙ (ap (take m) (sym same) ∙ take_at h.left h.more m long) in
-      let second : h.more ≡ r.run ++ r.behind =
-      sym (drop_at h.left h.more m long)
-      ∙ (ap (drop m) same ∙ drop_at r.before (r.run ++ r.behind) m r.place) in
-      let joined : stay h.left ++ stay r.left ≡ stay (h.left ++ r.left) =
-      sym (map-append (λ (x : T). (true, x)) h.left r.left) in
-      record {
-        before = [];
-        run = h.run ++ r.run;
-        left = h.left ++ r.left;
-        behind = r.behind;
-        end = r.end;
-        between = r.between;
-        place = refl;
-        reached = omega (arith, length-append h.left r.left, long, r.reached);
-        was = h.was ∙ (ap (λ (l : List T). l ++ (h.run ++ h.more)) none
-            ∙ (ap (λ (l : List T). h.run ++ l) second ∙ sym (append_assoc h.run r.run r.behind)));
-        asked = subst (λ (c : Answers T). Asked R s (h.run ++ r.run) c r.between) joined
-            (asked-append h.run s t r.between r.run (stay h.left) (stay r.left) h.asked r.asked);
-        stops = r.stops;
-        now = r.now ∙ (ap (λ (l : List T). l ++ (r.left ++ r.end)) first
-            ∙ sym (append_assoc h.left r.left r.end));
-      }
+  module _ (m n : ℕ) where
+    -- two runs, one behind the other
+    pub runs-join : (s : S) (xs : List T) (t : S) (ys : List T) (u : S) (zs : List T)
+        → Stays 0 m s xs t ys → Runs R m n t ys u zs → Runs R 0 n s xs u zs
+    runs-join s xs t ys u zs h r =
+        let none = nothing h.before h.place in
+        let same : h.left ++ h.more ≡ r.before ++ (r.run ++ r.behind) =
+        sym (h.now ∙ ap (λ (l : List T). l ++ (h.left ++ h.more)) none) ∙ r.was in
+        let long : length h.left ≡ m = omega (arith, h.reached) in
+        let first : r.before ≡ h.left =
+        sym (take_at r.before (r.run ++ r.behind) m r.place)
+        ∙ (ap (take m) (sym same) ∙ take_at h.left h.more m long) in
+        let second : h.more ≡ r.run ++ r.behind =
+        sym (drop_at h.left h.more m long)
+        ∙ (ap (drop m) same ∙ drop_at r.before (r.run ++ r.behind) m r.place) in
+        let joined : stay h.left ++ stay r.left ≡ stay (h.left ++ r.left) =
+        sym (map-append (λ (x : T). (true, x)) h.left r.left) in
+        record {
+          before = [];
+          run = h.run ++ r.run;
+          left = h.left ++ r.left;
+          behind = r.behind;
+          end = r.end;
+          between = r.between;
+          place = refl;
+          reached = omega (arith, length-append h.left r.left, long, r.reached);
+          was = h.was ∙ (ap (λ (l : List T). l ++ (h.run ++ h.more)) none
+              ∙ (ap (λ (l : List T). h.run ++ l) second ∙ sym (append_assoc h.run r.run r.behind)));
+          asked = subst (λ (c : Answers T). Asked R s (h.run ++ r.run) c r.between) joined
+              (asked-append h.run s t r.between r.run (stay h.left) (stay r.left) h.asked r.asked);
+          stops = r.stops;
+          now = r.now ∙ (ap (λ (l : List T). l ++ (r.left ++ r.end)) first
+              ∙ sym (append_assoc h.left r.left r.end));
+        }
 
   -- ---- what a run leaves, once its items are in front
 

@@ -61,25 +61,26 @@ module _ {T : Type 0} where
       ∙ (sym (ap full cut) ∙ lent)) in
       (h, h.now)
 
-  pub parts-of : (s : List (Option T)) (i : ℕ) (all a b : List T) (k x k' x' : T) → i + 2 ≤ length s
-      → full all ≡ slice_range s i (i + 2) → all ≡ a ++ b → length a ≡ 1
-      → k ≡ get_or a 0 k → x ≡ get_or b 0 x → Neighbours s i k x k' x'
-      × (over s i (set a 0 k' ++ set b 0 x') ≡ set (set s i (Some k')) (suc i) (Some x'))
-  parts-of s i all a b k x k' x' within lent cut one is isn =
-      let n : i + 2 - i ≡ 2 = omega arith in
-      let lent' : full all ≡ take 2 (drop i s) = lent ∙ ap (λ (m : ℕ). take m (drop i s)) n in
-      let few : length (take 2 (drop i s)) ≡ 2 = length-take-le 2 (drop i s)
-      (omega (arith, length-drop i s)) in
-      let two : length b ≡ 1 = omega (
-        arith,
-        length-full all,
-        ap length lent',
-        few,
-        ap length cut,
-        length-append a b,
-        one,
-      ) in
-      parts-alone s i all a b k x k' x' lent' cut one two is isn
+  module _ (s : List (Option T)) (i : ℕ) (all a b : List T) where
+    pub parts-of : (k x k' x' : T) → i + 2 ≤ length s → full all ≡ slice_range s i (i + 2)
+        → all ≡ a ++ b → length a ≡ 1 → k ≡ get_or a 0 k → x ≡ get_or b 0 x
+        → Neighbours s i k x k' x'
+        × (over s i (set a 0 k' ++ set b 0 x') ≡ set (set s i (Some k')) (suc i) (Some x'))
+    parts-of k x k' x' within lent cut one is isn =
+        let n : i + 2 - i ≡ 2 = omega arith in
+        let lent' : full all ≡ take 2 (drop i s) = lent ∙ ap (λ (m : ℕ). take m (drop i s)) n in
+        let few : length (take 2 (drop i s)) ≡ 2 = length-take-le 2 (drop i s)
+        (omega (arith, length-drop i s)) in
+        let two : length b ≡ 1 = omega (
+          arith,
+          length-full all,
+          ap length lent',
+          few,
+          ap length cut,
+          length-append a b,
+          one,
+        ) in
+        parts-alone s i all a b k x k' x' lent' cut one two is isn
 
 module _ {T A : Type 0} where
   -- ---- on a block that is open
@@ -100,57 +101,59 @@ module _ {T A : Type 0} where
       len = h.len;
     }) (record (open_of h) { rest = pre ++ x' ∷ y' ∷ post })
 
-  pub write-two-step : (h : Inside T A) (o : IsOpen h) (k : ℕ) (b : Block T A) (x y x' y' : T)
-      → b.alloc ≡ h.block.alloc → b.cost ≡ h.block.cost → suc k < length (open_of h).rest
-      → slot h.block.slots (h.at + k) ≡ Some x → slot h.block.slots (suc (h.at + k)) ≡ Some y
-      → b.slots ≡ set (set h.block.slots (h.at + k) (Some x')) (suc (h.at + k)) (Some y')
-      → WrittenTwo h o k b x y x' y'
-  write-two-step h o k b x y x' y' alloc cost low first second now =
-      let c : Block T A = with_item h.block (h.at + k) x' in
-      let one = write-step h o c refl refl k (omega arith) x x' first refl in
-      let m : Inside T A = written h o c refl refl k (omega arith) in
-      let next : suc (h.at + k) ≡ h.at + suc k = omega arith in
-      let apart : suc (h.at + k) ≢ h.at + k = λ e. let n : suc (h.at + k) ≡ h.at + k =
-      e in omega (arith, n) in
-      let seen : (open_of m).rest ≡ one.pre ++ x' ∷ one.post = ap (λ v. v.rest) one.shown.view in
-      let count : length (one.pre ++ x' ∷ one.post) ≡ length (open_of h).rest =
-      omega (
-        arith,
-        ap length one.was,
-        length-append one.pre (x ∷ one.post),
-        length-append one.pre (x' ∷ one.post),
-      ) in
-      let there : slot c.slots (h.at + suc k) ≡ Some y =
-      ap (slot c.slots) (sym next)
-      ∙ (get_or-set_other h.block.slots (h.at + k) (suc (h.at + k)) (Some x')
-      None apart ∙ second) in
-      let two = write-step m one.shown.lies b alloc cost (suc k)
-      (omega (arith, low, ap length seen, count)) y y' there
-      (now ∙ ap (λ (n : ℕ). set c.slots n (Some y')) next) in
-      let same : one.pre ++ x' ∷ one.post ≡ two.pre ++ y ∷ two.post = sym seen ∙ two.was in
-      let long : length (one.pre ++ x' ∷ []) ≡ suc k =
-      omega (arith, length_push one.pre x', one.place) in
-      let same' : (one.pre ++ x' ∷ []) ++ one.post ≡ two.pre ++ y ∷ two.post =
-      append_assoc one.pre (x' ∷ []) one.post ∙ same in
-      let left : one.pre ++ x' ∷ [] ≡ two.pre =
-      sym (take_at (one.pre ++ x' ∷ []) one.post (suc k) long)
-      ∙ (ap (take (suc k)) same' ∙ take_at two.pre (y ∷ two.post) (suc k) two.place) in
-      let right : one.post ≡ y ∷ two.post = sym (drop_at (one.pre ++ x' ∷ []) one.post (suc k) long)
-      ∙ (ap (drop (suc k)) same' ∙ drop_at two.pre (y ∷ two.post) (suc k) two.place) in
-      let final : two.pre ++ y' ∷ two.post ≡ one.pre ++ x' ∷ y' ∷ two.post =
-      ap (λ (l : List T). l ++ y' ∷ two.post) (sym left)
-      ∙ append_assoc one.pre (x' ∷ []) (y' ∷ two.post) in
-      record {
-        pre = one.pre;
-        post = two.post;
-        place = one.place;
-        was = one.was ∙ ap (λ (l : List T). one.pre ++ x ∷ l) right;
-        shown = record {
-          lies = two.shown.lies;
-          view = two.shown.view
-              ∙ (λ i. record (one.shown.view i) { rest = final i });
-        };
-      }
+  module _ (h : Inside T A) (o : IsOpen h) where
+    pub write-two-step : (k : ℕ) (b : Block T A) (x y x' y' : T) → b.alloc ≡ h.block.alloc
+        → b.cost ≡ h.block.cost → suc k < length (open_of h).rest
+        → slot h.block.slots (h.at + k) ≡ Some x → slot h.block.slots (suc (h.at + k)) ≡ Some y
+        → b.slots ≡ set (set h.block.slots (h.at + k) (Some x')) (suc (h.at + k)) (Some y')
+        → WrittenTwo h o k b x y x' y'
+    write-two-step k b x y x' y' alloc cost low first second now =
+        let c : Block T A = with_item h.block (h.at + k) x' in
+        let one = write-step h o c refl refl k (omega arith) x x' first refl in
+        let m : Inside T A = written h o c refl refl k (omega arith) in
+        let next : suc (h.at + k) ≡ h.at + suc k = omega arith in
+        let apart : suc (h.at + k) ≢ h.at + k = λ e. let n : suc (h.at + k) ≡ h.at + k =
+        e in omega (arith, n) in
+        let seen : (open_of m).rest ≡ one.pre ++ x' ∷ one.post = ap (λ v. v.rest) one.shown.view in
+        let count : length (one.pre ++ x' ∷ one.post) ≡ length (open_of h).rest =
+        omega (
+          arith,
+          ap length one.was,
+          length-append one.pre (x ∷ one.post),
+          length-append one.pre (x' ∷ one.post),
+        ) in
+        let there : slot c.slots (h.at + suc k) ≡ Some y =
+        ap (slot c.slots) (sym next)
+        ∙ (get_or-set_other h.block.slots (h.at + k) (suc (h.at + k)) (Some x')
+        None apart ∙ second) in
+        let two = write-step m one.shown.lies b alloc cost (suc k)
+        (omega (arith, low, ap length seen, count)) y y' there
+        (now ∙ ap (λ (n : ℕ). set c.slots n (Some y')) next) in
+        let same : one.pre ++ x' ∷ one.post ≡ two.pre ++ y ∷ two.post = sym seen ∙ two.was in
+        let long : length (one.pre ++ x' ∷ []) ≡ suc k =
+        omega (arith, length_push one.pre x', one.place) in
+        let same' : (one.pre ++ x' ∷ []) ++ one.post ≡ two.pre ++ y ∷ two.post =
+        append_assoc one.pre (x' ∷ []) one.post ∙ same in
+        let left : one.pre ++ x' ∷ [] ≡ two.pre =
+        sym (take_at (one.pre ++ x' ∷ []) one.post (suc k) long)
+        ∙ (ap (take (suc k)) same' ∙ take_at two.pre (y ∷ two.post) (suc k) two.place) in
+        let right : one.post ≡ y ∷ two.post =
+        sym (drop_at (one.pre ++ x' ∷ []) one.post (suc k) long)
+        ∙ (ap (drop (suc k)) same' ∙ drop_at two.pre (y ∷ two.post) (suc k) two.place) in
+        let final : two.pre ++ y' ∷ two.post ≡ one.pre ++ x' ∷ y' ∷ two.post =
+        ap (λ (l : List T). l ++ y' ∷ two.post) (sym left)
+        ∙ append_assoc one.pre (x' ∷ []) (y' ∷ two.post) in
+        record {
+          pre = one.pre;
+          post = two.post;
+          place = one.place;
+          was = one.was ∙ ap (λ (l : List T). one.pre ++ x ∷ l) right;
+          shown = record {
+            lies = two.shown.lies;
+            view = two.shown.view
+                ∙ (λ i. record (one.shown.view i) { rest = final i });
+          };
+        }
 
   -- the last item in front was written
   pub record WrittenLast (h : Inside T A) (b : Block T A) (x y : T) : Type 0 where

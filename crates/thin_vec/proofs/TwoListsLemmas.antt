@@ -74,19 +74,20 @@ module _ {T A : Type 0} where
       (omega (arith, l, end, length-append ys xs)) (omega (arith, room, end, length-append ys xs))
       (from-same b b' a t.from f)
 
-  -- the list that the items from i on of another go to
-  pub settle-joined : (b b' o : Block T A) (a p : A) (i k n : ℕ) → IsThin b a → IsThin o p
-      → i ≤ length (items_in o.slots) → k ≡ o.len - i → n ≡ b.len → n + k ≤ length b.slots
-      → b'.slots ≡ laid n (run i k o.slots) b.slots → b'.len ≡ n + k → b'.alloc ≡ b.alloc
-      → Settled b' a (items_in b.slots ++ drop i (items_in o.slots)) (length b.slots)
-  settle-joined b b' o a p i k n t u order count len room s l f =
-      let ys : List T = items_in o.slots in
-      let all : k ≡ length ys - i = omega (arith, count, u.packed.len) in
-      let more : length (drop i ys) ≡ k = omega (arith, all, length-drop i ys) in
-      let same : run i k o.slots ≡ full (drop i ys) = ap (λ (r : List (Option T)). run i k r)
-      u.packed.row ∙ front-run ys (length o.slots) i k order (thin-room o p u) all in
-      settle-more b b' a (drop i ys) n t len (omega (arith, room, more))
-      (s ∙ ap (λ (r : List (Option T)). laid n r b.slots) same) (omega (arith, l, more)) f
+  module _ (b b' o : Block T A) where
+    -- the list that the items from i on of another go to
+    pub settle-joined : (a p : A) (i k n : ℕ) → IsThin b a → IsThin o p
+        → i ≤ length (items_in o.slots) → k ≡ o.len - i → n ≡ b.len → n + k ≤ length b.slots
+        → b'.slots ≡ laid n (run i k o.slots) b.slots → b'.len ≡ n + k → b'.alloc ≡ b.alloc
+        → Settled b' a (items_in b.slots ++ drop i (items_in o.slots)) (length b.slots)
+    settle-joined a p i k n t u order count len room s l f =
+        let ys : List T = items_in o.slots in
+        let all : k ≡ length ys - i = omega (arith, count, u.packed.len) in
+        let more : length (drop i ys) ≡ k = omega (arith, all, length-drop i ys) in
+        let same : run i k o.slots ≡ full (drop i ys) = ap (λ (r : List (Option T)). run i k r)
+        u.packed.row ∙ front-run ys (length o.slots) i k order (thin-room o p u) all in
+        settle-more b b' a (drop i ys) n t len (omega (arith, room, more))
+        (s ∙ ap (λ (r : List (Option T)). laid n r b.slots) same) (omega (arith, l, more)) f
 
   -- and the one that they left
   pub settle-cut : (o o' : Block T A) (p : A) (i k : ℕ) → IsThin o p → i ≤ length (items_in o.slots)
