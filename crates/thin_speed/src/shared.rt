@@ -3,7 +3,7 @@ ghost use Rattle.std.specs.Prelude.{◌-◌};
 ghost use Rattle.std.specs.Iterator.{at_most};
 
 use std::alloc::{AllocError, AllocFailed};
-use thin_vec::{ExtendRefused, Rejected, ThinVecError};
+use thin_vec::{ExtendRefused, Rejected, SpliceRefused, ThinVecError};
 
 /// The sum of a run, or that a call was refused.
 pub type Outcome = Result<u64, Refused>;
@@ -38,6 +38,12 @@ impl<T: Drop> From<Rejected<T>> for Refused {
 
 impl<T: Drop, I: Drop> From<ExtendRefused<T, I>> for Refused {
     fn from(_refused: ExtendRefused<T, I>) -> Refused {
+        Refused {}
+    }
+}
+
+impl<T: Drop, I: Drop> From<SpliceRefused<T, I>> for Refused {
+    fn from(_refused: SpliceRefused<T, I>) -> Refused {
         Refused {}
     }
 }

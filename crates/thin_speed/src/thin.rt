@@ -28,6 +28,8 @@ pub fn run(alloc: Global, workload: &str, size: usize, times: usize) -> Option<O
         "swap_remove" => editing::swap_remove(alloc, size, times),
         "split_append" => editing::split_append(alloc, size, times),
         "drain" => editing::drain(alloc, size, times),
+        "splice_hinted" => editing::splice_hinted(alloc, size, times),
+        "splice_unhinted" => editing::splice_unhinted(alloc, size, times),
         "retain_half" => filtering::retain_half(alloc, size, times),
         "retain_random" => filtering::retain_random(alloc, size, times),
         "retain_but_one" => filtering::retain_but_one(alloc, size, times),

@@ -1,6 +1,6 @@
 //! Workloads in which items move within a list, or leave it by their place.
 use super::growing::filled;
-use crate::shared::{Outcome, Refused, mixed, seen};
+use crate::shared::{Outcome, Refused, Unhinted, mixed, seen};
 use std::alloc::Global;
 use thin_vec::ThinVec;
 
@@ -99,6 +99,42 @@ pub fn drain(alloc: Global, size: usize, times: usize) -> Outcome {
             for number in list.drain(start, end) {
                 sum = mixed(sum, number);
             }
+        }
+        sum = mixed(sum, seen(list.as_slice()));
+    }
+    Ok(sum)
+}
+
+/// Puts all numbers in the place of the middle half, and knows how many there are.
+#[inline(never)]
+pub fn splice_hinted(alloc: Global, size: usize, times: usize) -> Outcome {
+    let mut list = filled(alloc, size)?;
+    let mut sum = 0;
+    for _ in 0..times {
+        refill(&mut list, size)?;
+        let start = list.len() / 4;
+        let end = list.len() - start;
+        if start <= end {
+            list.splice(start, end, (0..size).map(|number| number as u64))
+                .finish(alloc)?;
+        }
+        sum = mixed(sum, seen(list.as_slice()));
+    }
+    Ok(sum)
+}
+
+/// The same where that isn't known.
+#[inline(never)]
+pub fn splice_unhinted(alloc: Global, size: usize, times: usize) -> Outcome {
+    let mut list = filled(alloc, size)?;
+    let mut sum = 0;
+    for _ in 0..times {
+        refill(&mut list, size)?;
+        let start = list.len() / 4;
+        let end = list.len() - start;
+        if start <= end {
+            list.splice(start, end, Unhinted::below(size))
+                .finish(alloc)?;
         }
         sum = mixed(sum, seen(list.as_slice()));
     }
