@@ -1,7 +1,11 @@
 //! What no clause says of the runner and of the report.
 ghost use Rattle.std.specs.Prelude.{true};
 
+mod commands;
+mod model;
+mod orders;
 mod random;
+mod samples;
 
 use crate::command::{Command, Reply};
 use crate::judge::Judge;
@@ -407,55 +411,5 @@ fn texts_and_boxes<A: Allocator + Copy>(alloc: A) -> Result<bool, ThinVecError> 
 #[test]
 fn runs_on_texts_and_boxes(rt: HostRuntime) -> Result<(), Fail> {
     assert!(rt; texts_and_boxes(rt.alloc()).ok().ok_or("memory")?);
-    Ok(())
-}
-
-#[test]
-fn does_each_command(rt: HostRuntime) -> Result<(), Fail> {
-    let alloc = rt.alloc();
-    let mut list = ThinVec::new(alloc);
-    let mut replies = Vec::new(alloc);
-    let mut other = ThinVec::new(alloc);
-    other.push(8).ok().ok_or("memory")?;
-    let commands = vec![in alloc;
-        Command::Push(1),
-        Command::Insert(0, 2),
-        Command::Insert(9, 2),
-        Command::Set(1, 3),
-        Command::Resize(4, 7),
-        Command::Append(other),
-        Command::Extend(vec![in alloc; 5, 6]?, 0),
-        Command::ExtendFromSlice(vec![in alloc; 9]?),
-        Command::SwapRemove(0),
-        Command::Remove(0),
-        Command::SplitOff(3),
-        Command::Clone,
-        Command::Reserve(1),
-        Command::ReserveExact(20),
-        Command::Truncate(1),
-        Command::ShrinkToFit,
-        Command::Clear,
-        Command::ShrinkToFit,
-        Command::Extend(vec![in alloc; 5, 6]?, usize::MAX),
-        Command::Reserve(usize::MAX),
-    ]?;
-    run(alloc, &mut list, commands, &mut replies, &Agrees)
-        .ok()
-        .ok_or("memory")?;
-    assert_eq!(rt; replies.len(), 20);
-    assert!(rt; matches!(&replies[2], Reply::OutOfRange(Command::Insert(9, 2))));
-    assert!(rt; matches!(&replies[5], Reply::Other(_, None)));
-    assert!(rt; matches!(&replies[8], Reply::Item(Some(2))));
-    assert!(rt; matches!(&replies[10], Reply::List(_)));
-    assert!(rt;
-        matches!(&replies[18], Reply::Refused(_))
-            || matches!(&replies[18], Reply::Stopped { in_hand: None, .. })
-    );
-    assert!(rt;
-        matches!(&replies[19], Reply::Done)
-            || matches!(&replies[19], Reply::Refused(ThinVecError::CapacityOverflow))
-    );
-    assert!(rt; list.is_empty());
-    assert_eq!(rt; list.capacity(), 0);
     Ok(())
 }

@@ -1,0 +1,632 @@
+//! The definition written as a program, short and slow, over a `Vec` and a number.
+use crate::command::{Reply, Step};
+use crate::judge::Judge;
+use crate::runner::step;
+use crate::tests::orders::{Form, Kind, Order, Shown, command_of, show, steps_of};
+use crate::tests::samples::{Lender, Sample, one, put, samples};
+use other_rules::{Fourfold, Threefold};
+use std::alloc::{AllocError, Allocator};
+use std::marker::PhantomData;
+use std::mem;
+use thin_vec::{Doubling, Growth, PowerBytes, ThinVec, ThinVecError};
+
+/// A growth rule, said once more: numbers only, and no limit.
+pub trait Ruled: Growth {
+    /// The capacity after `capacity` that has room for `want` items of `size` bytes, which are more.
+    fn named(size: usize, capacity: usize, want: usize) -> usize;
+}
+
+impl Ruled for Doubling {
+    fn named(_size: usize, capacity: usize, want: usize) -> usize {
+        if capacity == 0 {
+            want.max(4)
+        } else {
+            want.max(capacity.saturating_mul(2))
+        }
+    }
+}
+
+impl Ruled for PowerBytes {
+    // A block's first 16 bytes are its capacity and length.
+    fn named(size: usize, capacity: usize, want: usize) -> usize {
+        if size == 0 {
+            return Doubling::named(size, capacity, want);
+        }
+        let items = want.max(capacity.saturating_mul(2));
+        let bytes = items.saturating_mul(size).saturating_add(16);
+        let mut power: usize = 16;
+        for _ in 4..64 {
+            if power < bytes {
+                power = power.saturating_mul(2);
+            }
+        }
+        power.saturating_sub(16) / size
+    }
+}
+
+impl Ruled for Threefold {
+    fn named(_size: usize, capacity: usize, want: usize) -> usize {
+        want.max(capacity.saturating_mul(3))
+    }
+}
+
+impl Ruled for Fourfold {
+    fn named(_size: usize, capacity: usize, want: usize) -> usize {
+        want.max(capacity.saturating_mul(4))
+    }
+}
+
+// Past so many items a capacity overflows: no test asks for a number between this one and what a block may hold.
+const LIMIT: usize = 1_000_000_000_000;
+
+/// A list as the definition has it.
+#[derive(Drop)]
+pub struct Model<T, A: Allocator, G> {
+    pub items: Vec<T, A>,
+    pub capacity: usize,
+    rule: PhantomData<G>,
+}
+
+// The items from `start` up to `end` go out, and `new` comes in for them.
+fn replaced<T: Drop, A: Allocator + Copy>(
+    alloc: A,
+    items: Vec<T, A>,
+    start: usize,
+    end: usize,
+    new: Vec<T, A>,
+) -> Result<(Vec<T, A>, Vec<T, A>), AllocError> {
+    let mut left = Vec::new(alloc);
+    let mut out = Vec::new(alloc);
+    let mut tail = Vec::new(alloc);
+    let mut index: usize = 0;
+    for item in items {
+        if index < start {
+            put(&mut left, item)?;
+        } else if index < end {
+            put(&mut out, item)?;
+        } else {
+            put(&mut tail, item)?;
+        }
+        index = index.saturating_add(1);
+    }
+    for item in new {
+        put(&mut left, item)?;
+    }
+    for item in tail {
+        put(&mut left, item)?;
+    }
+    Ok((left, out))
+}
+
+// What the steps of a walk over the items answer.
+fn walked<T: Drop, A: Allocator + Copy>(
+    alloc: A,
+    items: Vec<T, A>,
+    steps: Vec<Step, A>,
+) -> Result<Vec<Option<T>, A>, AllocError> {
+    let mut walk = items.into_iter();
+    let mut answers = Vec::new(alloc);
+    for step in steps {
+        let item = match step {
+            Step::Front => walk.next(),
+            Step::Back => walk.next_back(),
+        };
+        put(&mut answers, item)?;
+    }
+    Ok(answers)
+}
+
+// Whether an item stays, by the question that the command asks.
+fn stays<T, J: Judge<T>>(judge: &mut J, kind: Kind, item: &mut T) -> bool {
+    if kind == Kind::Retain {
+        judge.look(item)
+    } else {
+        judge.keep(item)
+    }
+}
+
+// Whether a later item is the same as the last one kept, by the question that the command asks.
+fn is_same<T: Eq, J: Judge<T>>(judge: &mut J, kind: Kind, later: &mut T, kept: &mut T) -> bool {
+    match kind {
+        Kind::Dedup => *later == *kept,
+        Kind::DedupBy => judge.same(later, kept),
+        _ => {
+            let key = judge.key(later);
+            key == judge.key(kept)
+        }
+    }
+}
+
+impl<T: Sample<A>, A: Allocator + Copy, G: Ruled> Model<T, A, G> {
+    /// A new list.
+    pub fn new(alloc: A) -> Model<T, A, G> {
+        Model {
+            items: Vec::new(alloc),
+            capacity: 0,
+            rule: PhantomData,
+        }
+    }
+
+    fn len(&self) -> usize {
+        self.items.len()
+    }
+
+    fn replace(
+        &mut self,
+        alloc: A,
+        start: usize,
+        end: usize,
+        new: Vec<T, A>,
+    ) -> Result<Vec<T, A>, AllocError> {
+        let items = mem::replace(&mut self.items, Vec::new(alloc));
+        let (left, out) = replaced(alloc, items, start, end, new)?;
+        self.items = left;
+        Ok(out)
+    }
+
+    // Whether there is, or could be made, room for so many items.
+    fn make_room(&mut self, want: usize) -> bool {
+        if want > self.capacity {
+            let capacity = G::named(T::SIZE, self.capacity, want);
+            if capacity > LIMIT {
+                return false;
+            }
+            self.capacity = capacity;
+        }
+        true
+    }
+
+    // What a command replies that only makes room.
+    fn reserve(&mut self, alloc: A, want: usize) -> Shown<T, A> {
+        if self.make_room(want) {
+            Shown::plain(alloc, Form::Done, None)
+        } else {
+            Shown::plain(alloc, Form::Refused, Some(ThinVecError::CapacityOverflow))
+        }
+    }
+
+    fn reserve_exact(&mut self, alloc: A, want: usize) -> Shown<T, A> {
+        if want > LIMIT {
+            return Shown::plain(alloc, Form::Refused, Some(ThinVecError::CapacityOverflow));
+        }
+        self.capacity = self.capacity.max(want);
+        Shown::plain(alloc, Form::Done, None)
+    }
+
+    // These items come in at `at`.
+    fn bring(&mut self, alloc: A, at: usize, new: Vec<T, A>) -> Result<Shown<T, A>, AllocError> {
+        let shown = self.reserve(alloc, self.len().saturating_add(new.len()));
+        let _none = self.replace(alloc, at, at, new)?;
+        Ok(shown)
+    }
+
+    // The items from `start` up to `end` go out, the last of them as the reply, and `new` comes in for them.
+    fn change(
+        &mut self,
+        alloc: A,
+        start: usize,
+        end: usize,
+        new: Vec<T, A>,
+    ) -> Result<Shown<T, A>, AllocError> {
+        let mut out = self.replace(alloc, start, end, new)?;
+        let answers = one(alloc, out.pop())?;
+        Ok(Shown::with_answers(Form::Item, alloc, answers))
+    }
+
+    // The items from `at` on go out.
+    fn cut(&mut self, alloc: A, at: usize) -> Result<Vec<T, A>, AllocError> {
+        let len = self.len();
+        self.replace(alloc, at, len, Vec::new(alloc))
+    }
+
+    fn truncate(&mut self, alloc: A, len: usize) -> Result<Shown<T, A>, AllocError> {
+        let _out = self.cut(alloc, len)?;
+        Ok(Shown::plain(alloc, Form::Done, None))
+    }
+
+    fn swap_remove(&mut self, alloc: A, at: usize) -> Result<Shown<T, A>, AllocError> {
+        let last = self.len().saturating_sub(1);
+        if at == last {
+            return self.change(alloc, at, last.saturating_add(1), Vec::new(alloc));
+        }
+        let end = self.cut(alloc, last)?;
+        self.change(alloc, at, at.saturating_add(1), end)
+    }
+
+    fn resize(&mut self, alloc: A, order: Order) -> Result<Shown<T, A>, AllocError> {
+        let len = self.len();
+        if order.lower <= len {
+            return self.truncate(alloc, order.lower);
+        }
+        let shown = self.reserve(alloc, order.lower);
+        if shown.cause.is_none() {
+            for _ in len..order.lower {
+                put(&mut self.items, T::sample(alloc, order.number)?)?;
+            }
+        }
+        Ok(shown)
+    }
+
+    fn append(&mut self, alloc: A, order: Order) -> Result<Shown<T, A>, AllocError> {
+        let len = self.len();
+        let _done = self.bring(alloc, len, samples(alloc, order.count, order.number)?)?;
+        Ok(Shown::with_items(Form::Other, None, alloc, Vec::new(alloc), order.count))
+    }
+
+    fn copy(&self, alloc: A) -> Result<Shown<T, A>, AllocError> {
+        let mut copy = Vec::new(alloc);
+        for item in &self.items {
+            put(&mut copy, item.clone()?)?;
+        }
+        let capacity = copy.len();
+        Ok(Shown::with_items(Form::List, None, alloc, copy, capacity))
+    }
+
+    fn split_off(&mut self, alloc: A, at: usize) -> Result<Shown<T, A>, AllocError> {
+        let tail = self.cut(alloc, at)?;
+        let capacity = tail.len();
+        Ok(Shown::with_items(Form::List, None, alloc, tail, capacity))
+    }
+
+    fn retain<J: Judge<T>>(
+        &mut self,
+        alloc: A,
+        kind: Kind,
+        mut judge: J,
+    ) -> Result<Shown<T, A>, AllocError> {
+        for item in mem::replace(&mut self.items, Vec::new(alloc)) {
+            let mut item = item;
+            if stays(&mut judge, kind, &mut item) {
+                put(&mut self.items, item)?;
+            }
+        }
+        Ok(Shown::plain(alloc, Form::Done, None))
+    }
+
+    fn dedup<J: Judge<T>>(
+        &mut self,
+        alloc: A,
+        kind: Kind,
+        mut judge: J,
+    ) -> Result<Shown<T, A>, AllocError> {
+        for item in mem::replace(&mut self.items, Vec::new(alloc)) {
+            let mut later = item;
+            match self.items.pop() {
+                None => put(&mut self.items, later)?,
+                Some(last) => {
+                    let mut kept = last;
+                    let same = is_same(&mut judge, kind, &mut later, &mut kept);
+                    put(&mut self.items, kept)?;
+                    if !same {
+                        put(&mut self.items, later)?;
+                    }
+                }
+            }
+        }
+        Ok(Shown::plain(alloc, Form::Done, None))
+    }
+
+    fn drain(&mut self, alloc: A, order: Order) -> Result<Shown<T, A>, AllocError> {
+        let out = self.replace(alloc, order.at, order.to, Vec::new(alloc))?;
+        let answers = walked(alloc, out, steps_of(alloc, order)?)?;
+        Ok(Shown::with_answers(Form::Answers, alloc, answers))
+    }
+
+    fn extract_if<J: Judge<T>>(
+        &mut self,
+        alloc: A,
+        order: Order,
+        mut judge: J,
+    ) -> Result<Shown<T, A>, AllocError> {
+        let mut answers = Vec::new(alloc);
+        let mut index: usize = 0;
+        for item in mem::replace(&mut self.items, Vec::new(alloc)) {
+            let mut item = item;
+            let asked = order.at <= index && index < order.to && answers.len() < order.count;
+            if asked && judge.take(&mut item) {
+                put(&mut answers, Some(item))?;
+            } else {
+                put(&mut self.items, item)?;
+            }
+            index = index.saturating_add(1);
+        }
+        for _ in answers.len()..order.count {
+            put(&mut answers, None)?;
+        }
+        Ok(Shown::with_answers(Form::Answers, alloc, answers))
+    }
+
+    // Whether there is, or could be made, room for the items of an order in the place of a range: with items behind it, once for
+    // what is claimed and once for the rest, and else for each item that comes.
+    fn make_rooms(&mut self, start: usize, end: usize, order: Order) -> bool {
+        let len = self.len();
+        let hole = end.saturating_sub(start);
+        if end == len {
+            let mut made = self.make_room(start.saturating_add(order.lower));
+            for placed in 0..order.count {
+                made = made && self.make_room(start.saturating_add(placed).saturating_add(1));
+            }
+            return made;
+        }
+        order.count < hole
+            || self.make_room(len.saturating_add(order.lower))
+                && self.make_room(len.saturating_sub(hole).saturating_add(order.count))
+    }
+
+    // So many items of the order come in for a range, and the others are handed back.
+    fn fill(
+        &mut self,
+        alloc: A,
+        start: usize,
+        end: usize,
+        order: Order,
+        placed: usize,
+    ) -> Result<Shown<T, A>, AllocError> {
+        let mut come = Vec::new(alloc);
+        let mut back = Vec::new(alloc);
+        for item in samples(alloc, order.count, order.number)? {
+            if come.len() < placed {
+                put(&mut come, item)?;
+            } else {
+                put(&mut back, item)?;
+            }
+        }
+        let out = self.replace(alloc, start, end, come)?;
+        Ok(Shown {
+            form: Form::Stopped,
+            cause: None,
+            answers: walked(alloc, out, steps_of(alloc, order)?)?,
+            items: back,
+            number: 0,
+        })
+    }
+
+    // `Splice`, or `Extend`, which is one at the end that is not walked.
+    fn splice(
+        &mut self,
+        alloc: A,
+        start: usize,
+        end: usize,
+        order: Order,
+    ) -> Result<Shown<T, A>, AllocError> {
+        let is_behind = end == self.len();
+        if self.make_rooms(start, end, order) {
+            let mut shown = self.fill(alloc, start, end, order, order.count)?;
+            shown.form = Form::Answers;
+            return Ok(shown);
+        }
+        let hole = if is_behind {
+            0
+        } else {
+            end.saturating_sub(start)
+        };
+        let mut shown = self.fill(alloc, start, end, order, hole)?;
+        shown.cause = Some(ThinVecError::CapacityOverflow);
+        Ok(shown)
+    }
+
+    fn extend(&mut self, alloc: A, order: Order) -> Result<Shown<T, A>, AllocError> {
+        let len = self.len();
+        let mut shown = self.splice(alloc, len, len, Order { steps: 0, ..order })?;
+        if shown.cause.is_none() {
+            shown.form = Form::Done;
+        }
+        Ok(shown)
+    }
+
+    fn is_in_range(&self, order: Order) -> bool {
+        let len = self.len();
+        match order.kind {
+            Kind::Insert | Kind::SplitOff => order.at <= len,
+            Kind::Remove | Kind::SwapRemove | Kind::Set => order.at < len,
+            Kind::Drain | Kind::ExtractIf | Kind::Splice => order.at <= order.to && order.to <= len,
+            _ => true,
+        }
+    }
+
+    fn out_of_range(&self, alloc: A, order: Order) -> Result<Shown<T, A>, AllocError> {
+        let count = match order.kind {
+            Kind::Insert | Kind::Set => 1,
+            Kind::Splice => order.count,
+            _ => 0,
+        };
+        let items = samples(alloc, count, order.number)?;
+        Ok(Shown::with_items(Form::OutOfRange, None, alloc, items, order.at))
+    }
+
+    // What a command does, and replies, where no request is refused.
+    fn step<J: Judge<T>>(
+        &mut self,
+        alloc: A,
+        order: Order,
+        judge: &J,
+    ) -> Result<Shown<T, A>, AllocError> {
+        if !self.is_in_range(order) {
+            return self.out_of_range(alloc, order);
+        }
+        let len = self.len();
+        let at = order.at;
+        let next = at.saturating_add(1);
+        match order.kind {
+            Kind::Push => self.bring(alloc, len, samples(alloc, 1, order.number)?),
+            Kind::Pop => self.change(alloc, len.saturating_sub(1), len, Vec::new(alloc)),
+            Kind::Insert => self.bring(alloc, at, samples(alloc, 1, order.number)?),
+            Kind::Remove => self.change(alloc, at, next, Vec::new(alloc)),
+            Kind::SwapRemove => self.swap_remove(alloc, at),
+            Kind::Set => self.change(alloc, at, next, samples(alloc, 1, order.number)?),
+            Kind::Truncate => self.truncate(alloc, at),
+            Kind::Clear => self.truncate(alloc, 0),
+            Kind::Reserve => Ok(self.reserve(alloc, len.saturating_add(order.lower))),
+            Kind::ReserveExact => Ok(self.reserve_exact(alloc, len.saturating_add(order.lower))),
+            Kind::ShrinkToFit => {
+                self.capacity = len;
+                self.truncate(alloc, len)
+            }
+            Kind::Resize => self.resize(alloc, order),
+            Kind::ExtendFromSlice => {
+                self.bring(alloc, len, samples(alloc, order.count, order.number)?)
+            }
+            Kind::Extend => self.extend(alloc, order),
+            Kind::Append => self.append(alloc, order),
+            Kind::SplitOff => self.split_off(alloc, at),
+            Kind::Clone => self.copy(alloc),
+            Kind::Retain | Kind::RetainMut => self.retain(alloc, order.kind, *judge),
+            Kind::Dedup | Kind::DedupBy | Kind::DedupByKey => {
+                self.dedup(alloc, order.kind, *judge)
+            }
+            Kind::Drain => self.drain(alloc, order),
+            Kind::ExtractIf => self.extract_if(alloc, order, *judge),
+            Kind::Splice => self.splice(alloc, at, order.to, order),
+        }
+    }
+
+    // A `Splice`, or an `Extend`, that was refused memory: what was placed before follows from how many items come back. Room for
+    // what is claimed was made if one of them was drawn.
+    fn stop(
+        &mut self,
+        alloc: A,
+        start: usize,
+        end: usize,
+        order: Order,
+        given: &Shown<T, A>,
+    ) -> Result<Shown<T, A>, AllocError> {
+        let placed = order.count.saturating_sub(given.items.len());
+        let is_behind = end == self.len();
+        let hole = end.saturating_sub(start);
+        if given.number > 0 {
+            let first = Order {
+                count: placed,
+                ..order
+            };
+            let _made = self.make_rooms(start, end, first);
+        }
+        let is_full = given.number == 1 && start.saturating_add(placed) == self.capacity;
+        let allowed = if is_behind {
+            is_full || (given.number == 0 && placed == 0)
+        } else {
+            placed >= hole
+        };
+        if !allowed {
+            return Ok(Shown::plain(alloc, Form::Never, None));
+        }
+        let mut shown = self.fill(alloc, start, end, order, placed)?;
+        shown.cause = Some(ThinVecError::OutOfMemory);
+        shown.number = given.number;
+        Ok(shown)
+    }
+
+    // What a command leaves, and replies, whose request of that number was refused.
+    fn refuse(
+        &mut self,
+        alloc: A,
+        order: Order,
+        given: &Shown<T, A>,
+        nth: u64,
+    ) -> Result<Shown<T, A>, AllocError> {
+        let cause = Some(ThinVecError::OutOfMemory);
+        let len = self.len();
+        match order.kind {
+            Kind::Push | Kind::Insert => {
+                let items = samples(alloc, 1, order.number)?;
+                Ok(Shown::with_items(Form::Returned, cause, alloc, items, 0))
+            }
+            Kind::Append => {
+                let items = samples(alloc, order.count, order.number)?;
+                Ok(Shown::with_items(Form::Other, cause, alloc, items, order.count))
+            }
+            // The clones come after the room.
+            Kind::Resize | Kind::ExtendFromSlice => {
+                let want = if order.kind == Kind::Resize {
+                    order.lower
+                } else {
+                    len.saturating_add(order.count)
+                };
+                if nth > 1 {
+                    let _made = self.make_room(want);
+                }
+                Ok(Shown::plain(alloc, Form::Refused, cause))
+            }
+            Kind::Extend => self.stop(alloc, len, len, Order { steps: 0, ..order }, given),
+            Kind::Splice if given.form == Form::Stopped => {
+                self.stop(alloc, order.at, order.to, order, given)
+            }
+            Kind::Drain | Kind::Splice if order.steps > 0 => {
+                Ok(Shown::plain(alloc, Form::Refused, cause))
+            }
+            Kind::ExtractIf if order.count > 0 => Ok(Shown::plain(alloc, Form::Refused, cause)),
+            Kind::Reserve | Kind::ReserveExact | Kind::ShrinkToFit | Kind::SplitOff | Kind::Clone =>
+                Ok(Shown::plain(alloc, Form::Refused, cause)),
+            _ => Ok(Shown::plain(alloc, Form::Never, None)),
+        }
+    }
+
+    /// Does a command, of which the reply tells whether a request was refused to it, and which one that was if items are cloned.
+    /// Answers what the reply is, or `Never`.
+    pub fn follow<J: Judge<T>>(
+        &mut self,
+        alloc: A,
+        order: Order,
+        judge: &J,
+        reply: Reply<T, A, G>,
+        nth: u64,
+    ) -> Result<(Form, Option<ThinVecError>), AllocError> {
+        let given = show(alloc, reply)?;
+        let wanted = if given.cause == Some(ThinVecError::OutOfMemory) {
+            self.refuse(alloc, order, &given, nth)?
+        } else {
+            self.step(alloc, order, judge)?
+        };
+        if given.is(&wanted) {
+            Ok((given.form, given.cause))
+        } else {
+            Ok((Form::Never, given.cause))
+        }
+    }
+
+    /// Whether the list is this one.
+    pub fn is(&self, list: &ThinVec<T, A, G>) -> bool {
+        list.as_slice() == self.items.as_slice() && list.capacity() == self.capacity
+    }
+}
+
+// Whether as many blocks are out as the list, what it is compared with, and their items have.
+fn has_its_blocks<'a, T: Sample<Lender<'a>>, G: Ruled>(
+    alloc: Lender<'a>,
+    list: &ThinVec<T, Lender<'a>, G>,
+    model: &Model<T, Lender<'a>, G>,
+) -> bool {
+    let mut blocks = u64::from(list.has_capacity());
+    if T::OWNS_BLOCK {
+        for _item in list.as_slice() {
+            blocks = blocks.saturating_add(2);
+        }
+    }
+    if model.items.capacity() > 0 {
+        blocks = blocks.saturating_add(1);
+    }
+    blocks == alloc.blocks()
+}
+
+/// A command by both, of which the request of that number is refused, or none at 0. Answers the reply, `Never` where they differ,
+/// and whether the request was reached.
+pub fn both<'a, T: Sample<Lender<'a>>, G: Ruled, J: Judge<T>>(
+    alloc: Lender<'a>,
+    list: &mut ThinVec<T, Lender<'a>, G>,
+    model: &mut Model<T, Lender<'a>, G>,
+    order: Order,
+    judge: &J,
+    nth: u64,
+) -> Result<(Form, Option<ThinVecError>), AllocError> {
+    let command = command_of(alloc, order)?;
+    alloc.refuse(nth);
+    let reply = step(alloc, list, command, judge);
+    let refused = nth > 0 && alloc.requests() >= nth;
+    alloc.refuse(0);
+    let (form, cause) = model.follow(alloc, order, judge, reply, nth)?;
+    let told = cause == Some(ThinVecError::OutOfMemory);
+    if told == refused && model.is(list) && has_its_blocks(alloc, list, model) {
+        Ok((form, cause))
+    } else {
+        Ok((Form::Never, cause))
+    }
+}

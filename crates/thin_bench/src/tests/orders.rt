@@ -1,0 +1,360 @@
+//! Commands as data, and what a reply shows.
+use crate::command::{Command, Reply, Step};
+use crate::tests::samples::{Sample, one, put, samples};
+use std::alloc::{AllocError, Allocator};
+use thin_vec::{Growth, ThinVec, ThinVecError};
+
+/// Which command.
+#[derive(Clone, Copy, Debug, PartialEq, Eq)]
+pub enum Kind {
+    Push,
+    Pop,
+    Insert,
+    Remove,
+    SwapRemove,
+    Set,
+    Truncate,
+    Clear,
+    Reserve,
+    ReserveExact,
+    ShrinkToFit,
+    Resize,
+    ExtendFromSlice,
+    Extend,
+    Append,
+    SplitOff,
+    Clone,
+    Retain,
+    RetainMut,
+    Dedup,
+    DedupBy,
+    DedupByKey,
+    Drain,
+    ExtractIf,
+    Splice,
+}
+
+/// Every command.
+pub const KINDS: [Kind; 25] = [
+    Kind::Push,
+    Kind::Pop,
+    Kind::Insert,
+    Kind::Remove,
+    Kind::SwapRemove,
+    Kind::Set,
+    Kind::Truncate,
+    Kind::Clear,
+    Kind::Reserve,
+    Kind::ReserveExact,
+    Kind::ShrinkToFit,
+    Kind::Resize,
+    Kind::ExtendFromSlice,
+    Kind::Extend,
+    Kind::Append,
+    Kind::SplitOff,
+    Kind::Clone,
+    Kind::Retain,
+    Kind::RetainMut,
+    Kind::Dedup,
+    Kind::DedupBy,
+    Kind::DedupByKey,
+    Kind::Drain,
+    Kind::ExtractIf,
+    Kind::Splice,
+];
+
+/// A command by numbers: both what is tested and what it is compared with are made from them.
+#[derive(Clone, Copy, Debug)]
+pub struct Order {
+    pub kind: Kind,
+    /// The index, or where the range starts.
+    pub at: usize,
+    /// Where the range ends.
+    pub to: usize,
+    /// How many items come in, or how many calls of `next` are made.
+    pub count: usize,
+    /// How many items are claimed or reserved, or how many there are to be.
+    pub lower: usize,
+    /// How many steps a walk has.
+    pub steps: usize,
+    /// The first item. Where its last binary digits are 1, a step takes the first item, in turn.
+    pub number: u64,
+}
+
+// The steps of a walk.
+pub fn steps_of<A: Allocator>(alloc: A, order: Order) -> Result<Vec<Step, A>, AllocError> {
+    let mut steps = Vec::new(alloc);
+    let mut digits = order.number;
+    for _ in 0..order.steps {
+        let step = if digits % 2 == 1 {
+            Step::Front
+        } else {
+            Step::Back
+        };
+        put(&mut steps, step)?;
+        digits /= 2;
+    }
+    Ok(steps)
+}
+
+// A list of the items of an order that has no room to spare.
+fn listed<T: Sample<A>, A: Allocator + Copy, G: Growth>(
+    alloc: A,
+    order: Order,
+) -> Result<ThinVec<T, A, G>, AllocError> {
+    let mut list = ThinVec::ruled(alloc);
+    if list.reserve_exact(order.count).is_err() {
+        return Err(AllocError);
+    }
+    for item in samples(alloc, order.count, order.number)? {
+        match list.push(item) {
+            Ok(()) => (),
+            Err(_refused) => return Err(AllocError),
+        }
+    }
+    Ok(list)
+}
+
+/// The command of an order.
+pub fn command_of<T: Sample<A>, A: Allocator + Copy, G: Growth>(
+    alloc: A,
+    order: Order,
+) -> Result<Command<T, A, G>, AllocError> {
+    let Order {
+        kind,
+        at,
+        to,
+        count,
+        lower,
+        steps: _,
+        number,
+    } = order;
+    Ok(match kind {
+        Kind::Push => Command::Push(T::sample(alloc, number)?),
+        Kind::Pop => Command::Pop,
+        Kind::Insert => Command::Insert(at, T::sample(alloc, number)?),
+        Kind::Remove => Command::Remove(at),
+        Kind::SwapRemove => Command::SwapRemove(at),
+        Kind::Set => Command::Set(at, T::sample(alloc, number)?),
+        Kind::Truncate => Command::Truncate(at),
+        Kind::Clear => Command::Clear,
+        Kind::Reserve => Command::Reserve(lower),
+        Kind::ReserveExact => Command::ReserveExact(lower),
+        Kind::ShrinkToFit => Command::ShrinkToFit,
+        Kind::Resize => Command::Resize(lower, T::sample(alloc, number)?),
+        Kind::ExtendFromSlice => Command::ExtendFromSlice(samples(alloc, count, number)?),
+        Kind::Extend => Command::Extend(samples(alloc, count, number)?, lower),
+        Kind::Append => Command::Append(listed(alloc, order)?),
+        Kind::SplitOff => Command::SplitOff(at),
+        Kind::Clone => Command::Clone,
+        Kind::Retain => Command::Retain,
+        Kind::RetainMut => Command::RetainMut,
+        Kind::Dedup => Command::Dedup,
+        Kind::DedupBy => Command::DedupBy,
+        Kind::DedupByKey => Command::DedupByKey,
+        Kind::Drain => Command::Drain(at, to, steps_of(alloc, order)?),
+        Kind::ExtractIf => Command::ExtractIf(at, to, count),
+        Kind::Splice => Command::Splice(
+            at,
+            to,
+            steps_of(alloc, order)?,
+            samples(alloc, count, number)?,
+            lower,
+        ),
+    })
+}
+
+/// Which reply.
+#[derive(Clone, Copy, Debug, PartialEq, Eq)]
+pub enum Form {
+    Done,
+    Item,
+    Answers,
+    List,
+    Other,
+    Returned,
+    Refused,
+    Stopped,
+    OutOfRange,
+    /// None that the definition allows.
+    Never,
+}
+
+/// What a reply shows.
+#[derive(Drop)]
+pub struct Shown<T, A: Allocator> {
+    pub form: Form,
+    /// Why the command was refused.
+    pub cause: Option<ThinVecError>,
+    /// What was handed out.
+    pub answers: Vec<Option<T>, A>,
+    /// The items of a list, or those that were handed back.
+    pub items: Vec<T, A>,
+    /// The capacity of a list, the index of a command, or how many items were held or in hand.
+    pub number: usize,
+}
+
+impl<T: Drop, A: Allocator + Copy> Shown<T, A> {
+    /// A reply that has no items.
+    pub fn plain(alloc: A, form: Form, cause: Option<ThinVecError>) -> Shown<T, A> {
+        Shown {
+            form,
+            cause,
+            answers: Vec::new(alloc),
+            items: Vec::new(alloc),
+            number: 0,
+        }
+    }
+
+    /// A reply that has items and a number.
+    pub fn with_items(
+        form: Form,
+        cause: Option<ThinVecError>,
+        alloc: A,
+        items: Vec<T, A>,
+        number: usize,
+    ) -> Shown<T, A> {
+        Shown {
+            form,
+            cause,
+            answers: Vec::new(alloc),
+            items,
+            number,
+        }
+    }
+
+    /// A reply that has answers.
+    pub fn with_answers(form: Form, alloc: A, answers: Vec<Option<T>, A>) -> Shown<T, A> {
+        Shown {
+            form,
+            cause: None,
+            answers,
+            items: Vec::new(alloc),
+            number: 0,
+        }
+    }
+}
+
+impl<T: Eq, A: Allocator> Shown<T, A> {
+    /// Whether the two show the same.
+    pub fn is(&self, other: &Shown<T, A>) -> bool {
+        self.form == other.form
+            && self.cause == other.cause
+            && self.number == other.number
+            && self.answers.as_slice() == other.answers.as_slice()
+            && self.items.as_slice() == other.items.as_slice()
+    }
+}
+
+// The items of a list.
+fn items_of<T: Drop, A: Allocator + Copy, G: Growth>(
+    alloc: A,
+    list: ThinVec<T, A, G>,
+) -> Result<Vec<T, A>, AllocError> {
+    let mut items = Vec::new(alloc);
+    for item in list {
+        put(&mut items, item)?;
+    }
+    Ok(items)
+}
+
+// The index of a command that has one, or where its range starts.
+fn index_of<T, A: Allocator, G: Growth>(command: &Command<T, A, G>) -> usize {
+    match command {
+        Command::Insert(at, _)
+        | Command::Set(at, _)
+        | Command::Remove(at)
+        | Command::SwapRemove(at)
+        | Command::SplitOff(at)
+        | Command::Drain(at, _, _)
+        | Command::ExtractIf(at, _, _)
+        | Command::Splice(at, _, _, _, _) => *at,
+        _ => usize::MAX,
+    }
+}
+
+// The items of a command that has an index.
+fn items_with<T: Drop, A: Allocator + Copy, G: Growth>(
+    alloc: A,
+    command: Command<T, A, G>,
+) -> Result<Vec<T, A>, AllocError> {
+    match command {
+        Command::Insert(_index, value) | Command::Set(_index, value) => one(alloc, value),
+        Command::Splice(_start, _end, _steps, items, _lower) => Ok(items),
+        Command::Push(_value) | Command::Resize(_, _value) => Ok(Vec::new(alloc)),
+        Command::ExtendFromSlice(_items) | Command::Extend(_items, _) => Ok(Vec::new(alloc)),
+        Command::Append(_other) => Ok(Vec::new(alloc)),
+        Command::Drain(_start, _end, _steps) => Ok(Vec::new(alloc)),
+        Command::Pop
+        | Command::Remove(_)
+        | Command::SwapRemove(_)
+        | Command::Truncate(_)
+        | Command::Clear
+        | Command::Reserve(_)
+        | Command::ReserveExact(_)
+        | Command::ShrinkToFit
+        | Command::SplitOff(_)
+        | Command::Clone
+        | Command::Retain
+        | Command::RetainMut
+        | Command::Dedup
+        | Command::DedupBy
+        | Command::DedupByKey
+        | Command::ExtractIf(_, _, _) => Ok(Vec::new(alloc)),
+    }
+}
+
+/// What a reply shows, which is taken apart.
+pub fn show<T: Drop, A: Allocator + Copy, G: Growth>(
+    alloc: A,
+    reply: Reply<T, A, G>,
+) -> Result<Shown<T, A>, AllocError> {
+    match reply {
+        Reply::Done => Ok(Shown::plain(alloc, Form::Done, None)),
+        Reply::Item(item) => Ok(Shown::with_answers(Form::Item, alloc, one(alloc, item)?)),
+        Reply::Answers(answers) => Ok(Shown::with_answers(Form::Answers, alloc, answers)),
+        Reply::List(list) => {
+            let capacity = list.capacity();
+            let items = items_of(alloc, list)?;
+            Ok(Shown::with_items(Form::List, None, alloc, items, capacity))
+        }
+        Reply::Other(list, cause) => {
+            let capacity = list.capacity();
+            let items = items_of(alloc, list)?;
+            Ok(Shown::with_items(Form::Other, cause, alloc, items, capacity))
+        }
+        Reply::Returned(value, cause) => {
+            let items = one(alloc, value)?;
+            Ok(Shown::with_items(Form::Returned, Some(cause), alloc, items, 0))
+        }
+        Reply::Refused(cause) => Ok(Shown::plain(alloc, Form::Refused, Some(cause))),
+        Reply::Stopped {
+            answers,
+            cause,
+            held,
+            in_hand,
+            rest,
+        } => {
+            let mut items = held;
+            if let Some(item) = in_hand {
+                put(&mut items, item)?;
+            }
+            let number = items.len();
+            for item in rest {
+                put(&mut items, item)?;
+            }
+            Ok(Shown {
+                form: Form::Stopped,
+                cause: Some(cause),
+                answers,
+                items,
+                number,
+            })
+        }
+        Reply::OutOfRange(command) => {
+            let index = index_of(&command);
+            let items = items_with(alloc, command)?;
+            Ok(Shown::with_items(Form::OutOfRange, None, alloc, items, index))
+        }
+    }
+}
