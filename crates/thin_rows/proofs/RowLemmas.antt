@@ -1,5 +1,5 @@
 -- What an edit of a row's entries makes of the finite map that they are.
-use Rattle.std.proofs.Common.{◌≡◌, ℕ, List, [], ◌∷◌, None, Some, cond, get_or, insert, length, remove, set, sym, ap, subst, ◌∙◌, nat_cmp, Equal, arith}
+use Rattle.std.proofs.Common.{◌≡◌, ℕ, List, [], None, Some, cond, get_or, insert, length, remove, set, sym, ap, subst, ◌∙◌, nat_cmp, Equal, arith}
 use Rattle.std.proofs.lemmas.Bool.Decides.{nat_tests}
 use Rattle.std.specs.Cmp.{nat_cmp_total, ranked}
 use Rattle.std.specs.FinMap as map

@@ -1,5 +1,5 @@
 -- Of a type, a capacity sees its size and its alignment alone.
-use Rattle.std.proofs.Common.{◌≡◌, ℕ, IsErrOf, Result, Ok, Err, ap, refl}
+use Rattle.std.proofs.Common.{◌≡◌, ℕ, IsErrOf, Ok, Err, ap, refl}
 use Rattle.std.specs.Borrow.{RattleType}
 use Rattle.std.specs.Mem.{type_size}
 use Rattle.std.specs.Align.{type_align}

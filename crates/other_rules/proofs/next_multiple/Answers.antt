@@ -1,5 +1,5 @@
 -- A product past `usize::MAX` no more fits than the number that the code goes by.
-use Rattle.std.proofs.Common.{◌≡◌, ℕ, ◌-◌, ◌*◌, ◌<◌, ◌≤◌, ◌^◌, Bool, Some, inl, inr, max, min, mul_comm, refl, sym, ap, ◌∙◌, arith}
+use Rattle.std.proofs.Common.{◌≡◌, ℕ, ◌-◌, ◌*◌, ◌≤◌, ◌^◌, Some, inl, inr, max, min, mul_comm, refl, sym, ap, ◌∙◌, arith}
 use Rattle.std.proofs.lemmas.Bool.{cases_lt, false≢true}
 use Rattle.std.specs.Mem.{type_size}
 use Rattle.std.specs.Align.{type_align}

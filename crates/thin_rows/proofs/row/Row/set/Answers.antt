@@ -1,5 +1,4 @@
-use Rattle.std.proofs.Common.{◌≡◌, ℕ, ◌<◌, length, slice_set, sym, ap, ◌∙◌, length-set, arith, Some}
-use Rattle.std.proofs.lemmas.Bool.{false≢true}
+use Rattle.std.proofs.Common.{sym, ap, ◌∙◌, length-set, arith, Some}
 use Rattle.std.proofs.lemmas.Option.{get_or_from_slice_get}
 use Rattle.std.proofs.lemmas.List.Edits.{length-insert}
 use Rattle.thin_rows.proofs.RowLemmas.{get_at, get_gap, insert_is, insert_rises, set_is, set_rises}

@@ -1,7 +1,6 @@
 use Rattle.std.proofs.Common.{◌≡◌, Some, nat_cmp, length-set, refl, sym, ap, ◌∙◌}
 use Rattle.std.proofs.lemmas.Option.{get_or_from_slice_get}
-use Rattle.std.specs.FinMap.{entries, entries-from_sorted}
-use Rattle.thin_rows.specs.Entries.{IsPlaceOf}
+use Rattle.std.specs.FinMap.{entries-from_sorted}
 use Rattle.thin_rows.proofs.RowLemmas.{get_at, set_is, set_rises}
 use Rattle.thin_rows.proofs.row.Row.value_mut.Goals as goal
 

@@ -1,4 +1,4 @@
-use Rattle.std.proofs.Common.{◌≡◌, ℕ, List, OnErr, Result, Ok, Err, Some, get_or, slice_get, slice_set, sym, ap, ◌∙◌}
+use Rattle.std.proofs.Common.{◌≡◌, ℕ, List, OnErr, Result, Ok, Err, Some, slice_get, slice_set, sym, ap, ◌∙◌}
 use Rattle.std.proofs.lemmas.List.{set-get_or}
 use Rattle.std.proofs.lemmas.Option.{get_or_from_slice_get}
 use Rattle.thin_rows.proofs.table.Rows.set.Goals as goal
