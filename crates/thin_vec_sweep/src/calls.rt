@@ -13,6 +13,7 @@ pub mod joins;
 pub mod ranges;
 pub mod reads;
 pub mod rooms;
+pub mod splices;
 
 use crate::calls::arrays::Listed;
 use crate::calls::bytes::{FromStr, WriteAll, WriteSome};
@@ -20,14 +21,17 @@ use crate::calls::clones::{CloneAsTrait, CloneOn, ExtendFromSlice, Resize};
 use crate::calls::compared::{Compare, Print};
 use crate::calls::conversions::{FromOthers, FromSlice, IntoOthers, New, Repeated, WithCapacity};
 use crate::calls::copies::{CloneCopies, ExtendFromCopies, FromCopies};
-use crate::calls::ends::{Clear, Insert, Pop, Push, Remove, SwapRemove, Truncate};
+use crate::calls::ends::{
+    Clear, Insert, InsertReserved, Pop, Push, PushReserved, Remove, SwapRemove, Truncate,
+};
 use crate::calls::filling::{Extend, FromIter};
 use crate::calls::filters::{Dedup, DedupBy, DedupByKey, Retain, RetainMut};
 use crate::calls::into_iter::{IntoIter, IntoIterClone};
 use crate::calls::joins::{Append, SplitOff};
-use crate::calls::ranges::{Drained, Extracted};
+use crate::calls::ranges::{Bounds, Drained, Extracted};
 use crate::calls::reads::{AsMutSlice, Index, IndexMut, Iterate, IterateMut, Read};
 use crate::calls::rooms::{Reserve, ReserveExact, ShrinkToFit};
+use crate::calls::splices::Spliced;
 use crate::ledger::Ledger;
 use crate::rules::Ruled;
 use crate::samples::Sample;
@@ -61,10 +65,13 @@ fn every_growth<T: Sample, G: Ruled, R: Abort>(rt: &R, ledger: &'static Ledger) 
     sweep::<ExtendFromSlice, T, G, R>(rt, ledger);
     sweep::<Append, T, G, R>(rt, ledger);
     sweep::<Extend, T, G, R>(rt, ledger);
+    sweep::<Spliced, T, G, R>(rt, ledger);
 }
 
-// The calls by which items go out of a list, and the list out of its block.
+// The calls by which items come into spare room or go out of a list, and the list out of its block.
 fn every_edit<T: Sample, G: Ruled, R: Abort>(rt: &R, ledger: &'static Ledger) {
+    sweep::<PushReserved, T, G, R>(rt, ledger);
+    sweep::<InsertReserved, T, G, R>(rt, ledger);
     sweep::<Pop, T, G, R>(rt, ledger);
     sweep::<Remove, T, G, R>(rt, ledger);
     sweep::<SwapRemove, T, G, R>(rt, ledger);
@@ -131,6 +138,11 @@ pub fn every_call_of_bytes<R: Abort>(rt: &R, ledger: &'static Ledger) {
     every_writing::<Threefold, R>(rt, ledger);
     every_writing::<Fourfold, R>(rt, ledger);
     sweep::<FromStr, u8, Doubling, R>(rt, ledger);
+}
+
+/// Sweeps the test for ranges.
+pub fn every_bound<R: Abort>(rt: &R, ledger: &'static Ledger) {
+    sweep::<Bounds, u8, Doubling, R>(rt, ledger);
 }
 
 fn every_writing<G: Ruled, R: Abort>(rt: &R, ledger: &'static Ledger) {

@@ -47,6 +47,15 @@ pub fn same_item<T: Sample, R: Abort>(rt: &R, at: &At, item: Option<T>, number: 
     same(rt, at, "item", told, telling);
 }
 
+/// Whether an item, if there is one, is that of the number, if there is to be one.
+pub fn is_item<T: Sample>(item: Option<T>, number: Option<u64>) -> bool {
+    match (item, number) {
+        (Some(item), Some(number)) => item.told() == T::telling(number),
+        (None, None) => true,
+        (Some(_), None) | (None, Some(_)) => false,
+    }
+}
+
 /// Asserts that those are the items of these numbers.
 pub fn same_items<T: Sample, R: Abort>(rt: &R, at: &At, items: &[T], numbers: &[u64]) {
     same(rt, at, "length", items.len(), numbers.len());
@@ -153,12 +162,29 @@ impl<T: Sample, G: Ruled> Case<T, G> {
         let Some(capacity) = capacity else {
             return false;
         };
-        self.requests = self.requests.saturating_add(1);
-        if self.requests == self.at.refused {
+        if !self.granted() {
             return false;
         }
         self.capacity = capacity;
         true
+    }
+
+    /// One request among several of a call: whether it is granted.
+    pub fn granted(&mut self) -> bool {
+        self.requests = self.requests.saturating_add(1);
+        self.requests != self.at.refused
+    }
+
+    /// What a growth among several of a call ends as, that gives the list this capacity. There is none where it has it.
+    pub fn further_growth(&mut self, capacity: Option<usize>) -> Verdict {
+        let Some(wanted) = capacity else {
+            return Verdict::Overflow;
+        };
+        if wanted == self.capacity || self.grows(capacity) {
+            Verdict::Done
+        } else {
+            Verdict::NoRoom
+        }
     }
 
     /// What a call ends as that makes another list, or a `Vec`, of this capacity and with so many clones.

@@ -1,6 +1,6 @@
 //! The sweep at each type of items.
 use crate::calls::arrays::every_array;
-use crate::calls::{every_call, every_call_of_bytes, every_plain_call};
+use crate::calls::{every_bound, every_call, every_call_of_bytes, every_plain_call};
 use crate::ledger::Ledger;
 use crate::samples::{Counted, Inner};
 
@@ -19,6 +19,7 @@ fn sweeps_u8(rt: HostRuntime) {
     every_array::<u8, _>(&rt, ledger);
     every_plain_call::<u8, _>(&rt, ledger);
     every_call_of_bytes(&rt, ledger);
+    every_bound(&rt, ledger);
 }
 
 #[test]

@@ -1,5 +1,5 @@
-//! An item, or the rest of a list, comes in or goes out: `push`, `pop`, `insert`, `remove`, `swap_remove`, `truncate`,
-//! `clear`.
+//! An item, or the rest of a list, comes in or goes out: `push`, `push_reserved`, `pop`, `insert`, `insert_reserved`,
+//! `remove`, `swap_remove`, `truncate`, `clear`.
 use crate::case::{Case, same};
 use crate::rules::Ruled;
 use crate::samples::Sample;
@@ -26,6 +26,26 @@ impl<T: Sample, G: Ruled> Call<T, G> for Push {
     }
 }
 
+/// Where there is spare room.
+pub struct PushReserved {}
+
+impl<T: Sample, G: Ruled> Call<T, G> for PushReserved {
+    const NAME: &'static str = "push_reserved";
+
+    fn arguments(shape: Shape) -> usize {
+        shape.spare.min(1)
+    }
+
+    fn run<R: Abort>(rt: &R, case: &mut Case<T, G>, _argument: usize) {
+        let item = case.item(rt, FRESH);
+        case.items.push(FRESH).ok().expect(rt, "memory");
+        case.begin();
+        if case.list.len() < case.list.capacity() {
+            case.list.push_reserved(item);
+        }
+    }
+}
+
 pub struct Insert {}
 
 impl<T: Sample, G: Ruled> Call<T, G> for Insert {
@@ -46,6 +66,29 @@ impl<T: Sample, G: Ruled> Call<T, G> for Insert {
         }
         let answer = case.list.insert(index, item);
         case.put(rt, index, FRESH, verdict, answer);
+    }
+}
+
+/// Where there is spare room.
+pub struct InsertReserved {}
+
+impl<T: Sample, G: Ruled> Call<T, G> for InsertReserved {
+    const NAME: &'static str = "insert_reserved";
+
+    fn arguments(shape: Shape) -> usize {
+        shape.spare.min(1).saturating_mul(shape.indices())
+    }
+
+    fn run<R: Abort>(rt: &R, case: &mut Case<T, G>, argument: usize) {
+        let index = case.at.shape.index(argument);
+        let item = case.item(rt, FRESH);
+        if index <= case.items.len() {
+            case.items.insert(index, FRESH).ok().expect(rt, "memory");
+        }
+        case.begin();
+        if index <= case.list.len() && case.list.len() < case.list.capacity() {
+            case.list.insert_reserved(index, item);
+        }
     }
 }
 

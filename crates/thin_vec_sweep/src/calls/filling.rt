@@ -2,10 +2,12 @@
 use crate::calls::rooms::is_too_much;
 use crate::case::{Case, Verdict, numbers, same, source};
 use crate::claims::Claims;
+use crate::ledger::Ledger;
 use crate::rules::Ruled;
 use crate::samples::Sample;
 use crate::shapes::Shape;
 use crate::sweep::Call;
+use std::alloc::Global;
 use std::process::Abort;
 use thin_vec::{Doubling, ThinVec};
 
@@ -31,16 +33,58 @@ fn hint<T: Sample>(number: usize, count: usize, length: usize) -> usize {
     }
 }
 
-// How the filling of a list has to end.
+/// How the filling of a list has to end.
 #[derive(Drop)]
-struct Ending {
-    verdict: Verdict,
-    placed: usize,
-    in_hand: usize,
+pub struct Ending {
+    pub verdict: Verdict,
+    /// How many items are placed.
+    pub placed: usize,
+    /// How many are held behind those.
+    pub held: usize,
+    /// How many are in hand behind those: at most one.
+    pub in_hand: usize,
+    /// How often the iterator answers `None`: at most once.
+    pub ends: usize,
+    /// How often its hint is asked.
+    pub hints: u64,
 }
 
-// Room is made once for the hint, and then one at a time where there is none left.
-fn fill<T: Sample, G: Ruled, R: Abort>(
+impl Ending {
+    /// Of a filling that is refused. Behind those that were placed so many items were drawn.
+    pub fn refused(verdict: Verdict, placed: usize, in_hand: usize) -> Ending {
+        Ending {
+            verdict,
+            placed,
+            held: 0,
+            in_hand,
+            ends: 0,
+            hints: 1,
+        }
+    }
+
+    /// Of one that places them all.
+    pub fn done(placed: usize) -> Ending {
+        Ending {
+            verdict: Verdict::Done,
+            placed,
+            held: 0,
+            in_hand: 0,
+            ends: 1,
+            hints: 1,
+        }
+    }
+
+    // How many items are drawn.
+    fn drawn(&self) -> usize {
+        self.placed
+            .saturating_add(self.held)
+            .saturating_add(self.in_hand)
+    }
+}
+
+/// What a list has to come to that is filled behind its items with `count` more: room is made once for the hint, and then
+/// one at a time where there is none left.
+pub fn fill<T: Sample, G: Ruled, R: Abort>(
     rt: &R,
     case: &mut Case<T, G>,
     hinted: Option<usize>,
@@ -48,53 +92,51 @@ fn fill<T: Sample, G: Ruled, R: Abort>(
 ) -> Ending {
     let verdict = case.growth(hinted, 0);
     if verdict != Verdict::Done {
-        return Ending {
-            verdict,
-            placed: 0,
-            in_hand: 0,
-        };
+        return Ending::refused(verdict, 0, 0);
     }
     for placed in 0..count {
         if case.items.len() == case.capacity {
             let capacity = case.ruled(1);
             if !case.grows(capacity) {
-                return Ending {
-                    verdict: Verdict::NoRoom,
-                    placed,
-                    in_hand: 1,
-                };
+                return Ending::refused(Verdict::NoRoom, placed, 1);
             }
         }
         let number = FRESH.saturating_sub(placed as u64);
         case.items.push(number).ok().expect(rt, "memory");
     }
-    Ending {
-        verdict: Verdict::Done,
-        placed: count,
-        in_hand: 0,
-    }
+    Ending::done(count)
 }
 
-// How often the iterator was asked, what is in hand, and what the rest gives: no item of `count` is lost.
-fn asked<T: Sample, G: Ruled, R: Abort>(rt: &R, case: &Case<T, G>, ending: &Ending, count: usize) {
-    let ended = match ending.verdict {
-        Verdict::Done => 1,
-        _ => ending.in_hand,
-    };
-    let asked = (ending.placed.saturating_add(ended)) as u64;
+/// The numbers of so many items, in the order in which they come, where some came before.
+pub fn coming<R: Abort>(
+    rt: &R,
+    ledger: &'static Ledger,
+    before: usize,
+    count: usize,
+) -> Vec<u64, Global> {
+    let mut numbers = Vec::new(ledger.global);
+    for place in before..before.saturating_add(count) {
+        let number = FRESH.saturating_sub(place as u64);
+        numbers.push(number).ok().expect(rt, "memory");
+    }
+    numbers
+}
+
+/// Asserts that the iterator was asked as often as it had to be.
+pub fn asked<T: Sample, G: Ruled, R: Abort>(rt: &R, case: &Case<T, G>, ending: &Ending) {
+    let asked = (ending.drawn().saturating_add(ending.ends)) as u64;
     let counts = (case.ledger.asked.get(), case.ledger.hinted.get());
     same(
         rt,
         &case.at,
         "calls of next and size_hint",
         counts,
-        (asked, 1),
+        (asked, ending.hints),
     );
-    same(rt, &case.at, "items", ending.placed <= count, true);
 }
 
-// What a refusal hands back: the item in hand, and the items that were not drawn.
-fn back<T: Sample, G: Ruled, R: Abort>(
+/// What a refusal hands back: the item in hand, and the items that were not drawn. No item of `count` is lost.
+pub fn back<T: Sample, G: Ruled, R: Abort>(
     rt: &R,
     case: &Case<T, G>,
     ending: &Ending,
@@ -102,24 +144,19 @@ fn back<T: Sample, G: Ruled, R: Abort>(
     in_hand: Option<T>,
     rest: Claims<T>,
 ) {
-    let first = FRESH.saturating_sub(ending.placed as u64);
-    let number = if ending.in_hand == 0 {
-        None
-    } else {
-        Some(first)
-    };
+    let before = ending.placed.saturating_add(ending.held);
+    let numbers_in_hand = coming(rt, case.ledger, before, ending.in_hand);
+    let number = numbers_in_hand.as_slice().first().copied();
     case.handed_or_none(rt, in_hand, number);
-    let left = count
-        .saturating_sub(ending.placed)
-        .saturating_sub(ending.in_hand);
+    let left = count.saturating_sub(ending.drawn());
     let last = FRESH.saturating_sub(count as u64).saturating_add(1);
     let numbers = numbers(rt, case.ledger, last, left);
     let items = rest.into_items();
     case.holds(rt, items.as_slice(), numbers.as_slice());
 }
 
-// An iterator of `count` items, whose numbers go down from `FRESH`.
-fn claims<T: Sample, G: Ruled, R: Abort>(
+/// An iterator of `count` items, whose numbers go down from `FRESH`.
+pub fn claims<T: Sample, G: Ruled, R: Abort>(
     rt: &R,
     case: &Case<T, G>,
     count: usize,
@@ -150,7 +187,7 @@ impl<T: Sample, G: Ruled> Call<T, G> for Extend {
         let ending = fill(rt, case, hinted, count);
         case.begin();
         let answer = case.list.extend(claims);
-        asked(rt, case, &ending, count);
+        asked(rt, case, &ending);
         match answer {
             Ok(()) => case.answered(rt, Ok(()), ending.verdict),
             Err(refused) => {
@@ -184,12 +221,12 @@ impl<T: Sample> Call<T, Doubling> for FromIter {
         case.begin();
         match ThinVec::from_iter(&case.ledger.alloc, claims) {
             Ok(list) => {
-                asked(rt, case, &ending, count);
+                asked(rt, case, &ending);
                 case.answered(rt, Ok(()), ending.verdict);
                 case.list = list;
             }
             Err(refused) => {
-                asked(rt, case, &ending, count);
+                asked(rt, case, &ending);
                 case.answered(rt, Err(refused.cause), ending.verdict);
                 back(rt, case, &ending, count, refused.in_hand, refused.rest);
                 case.list = refused.list;

@@ -1,4 +1,4 @@
-//! Calls by which the items of a range go out: given up after any steps.
+//! Calls by which the items of a range go out, given up after any steps, and the test for ranges.
 use crate::answers::{number_at, stays};
 use crate::case::{At, Case, same, same_item, same_items};
 use crate::rules::Ruled;
@@ -7,8 +7,9 @@ use crate::shapes::{Cases, Ranged, Shape};
 use crate::sweep::Call;
 use crate::walks::{Remaining, WALKS, Walk, some_steps};
 use std::alloc::{Allocator, Global};
+use std::ops::Bound;
 use std::process::Abort;
-use thin_vec::{Growth, ThinVec};
+use thin_vec::{Growth, ThinVec, bounds};
 
 pub struct Drained {}
 
@@ -172,4 +173,62 @@ fn extract<T: Sample, A: Allocator, G: Growth, R: Abort>(
     }
     let left = width.saturating_sub(wanted.asked);
     same(rt, at, "hint", extract.size_hint(), (0, Some(left)));
+}
+
+// How many bounds are tried: none, and each place as one that is included and one that is excluded.
+const BOUNDS: usize = 19;
+
+/// With bounds at each place of a short list, past its end, and at the greatest numbers.
+pub struct Bounds {}
+
+impl<T: Sample, G: Ruled> Call<T, G> for Bounds {
+    const NAME: &'static str = "bounds";
+
+    fn arguments(shape: Shape) -> usize {
+        shape.alone(BOUNDS.saturating_mul(BOUNDS))
+    }
+
+    fn run<R: Abort>(rt: &R, case: &mut Case<T, G>, argument: usize) {
+        let length = case.items.len();
+        let start = bound(argument % BOUNDS, length);
+        let end = bound(argument / BOUNDS, length);
+        case.begin();
+        let range = bounds(start, end, case.list.len());
+        same(rt, &case.at, "range", range, between(start, end, length));
+    }
+}
+
+// The bound of that number, on a list of so many items.
+fn bound(number: usize, length: usize) -> Bound<usize> {
+    let place = match number / 2 {
+        5 => length,
+        6 => length.saturating_add(1),
+        7 => usize::MAX - 1,
+        8 => usize::MAX,
+        few => few,
+    };
+    match number {
+        18 => Bound::Unbounded,
+        _ if number % 2 == 0 => Bound::Included(place),
+        _ => Bound::Excluded(place),
+    }
+}
+
+// The range that has to come. No list has `usize::MAX` items, so that a sum may stop there.
+fn between(start: Bound<usize>, end: Bound<usize>, length: usize) -> Option<(usize, usize)> {
+    let first = match start {
+        Bound::Included(place) => place,
+        Bound::Excluded(place) => place.saturating_add(1),
+        Bound::Unbounded => 0,
+    };
+    let past = match end {
+        Bound::Included(place) => place.saturating_add(1),
+        Bound::Excluded(place) => place,
+        Bound::Unbounded => length,
+    };
+    if first <= past && past <= length {
+        Some((first, past))
+    } else {
+        None
+    }
 }

@@ -1,0 +1,8 @@
+-- Whatever the steps, the splice has the iterator that it was made with.
+use Rattle.thin_vec.specs.Splice.{SpliceKeeps}
+use Rattle.thin_vec_sweep.proofs.calls.splices.walk.Given as goal
+
+abbrev pub invariant-loop-step : goal.invariant-loop-step
+invariant-loop-step g l = record {
+  keeps : SpliceKeeps l.fn.splice l.splice;
+}
