@@ -8,9 +8,11 @@
 //! How a call joins: a struct in a file of `calls/`, with an impl of `Call` (`sweep.rt`), and a line in `calls.rt`. Its
 //! `arguments` says how many arguments are tried on a list of a shape; `run` makes the call. In `run`, in this order: make
 //! what the call is given; ask the reference how it has to end (`growth` where the list's capacity may change, `fresh`
-//! where another list is made; no question where it takes no memory); `begin`, from where on requests are counted and
-//! refused; the call, behind a test of what it requires; `answered`, and the same edit of `case.items`. What a closure answers
-//! is in `answers.rt`, and steps from both ends in `walks.rt`: on lists and ranges of up to 6 items all there are.
+//! where another list is made, `further_growth` and `granted` one by one where it makes several requests; no question where
+//! it takes no memory); `begin`, from where on requests are counted and refused; the call, behind a test of what it
+//! requires; `answered`, and the same edit of `case.items`. What a closure answers is in `answers.rt`, steps from both ends
+//! are in `walks.rt`: on lists and ranges of up to 6 items all there are. An iterator that a call is given is one of
+//! `claims.rt`, which counts how often it is asked.
 //!
 //! A growth rule joins by an impl of `Ruled` (`rules.rt`) and a line in `calls.rt`, and an item type by an impl of `Sample`
 //! (`samples.rt`) and a test.

@@ -22,12 +22,23 @@ const HINTS: usize = 5;
 // How many fills there are of a list of at most 6 items: 0 to 5 items are given, with each hint.
 const FILLS: usize = 30;
 
-// How many of the walks over a range are tried with each fill: no step, and one from either end.
+// How many walks over a range are tried with each fill: no step, and one from either end.
 const SHORT_WALKS: usize = 3;
 
-// Each fill after each short walk, and then each further walk with one fill. On no items there is one walk, and it is tried
-// whether more steps change anything.
-const SPLICES: Cases = [33, 94, 102, 118, 150, 214, 342];
+// Each fill after each short walk, and then each further walk with one fill. On a range of no items a step is tried with few.
+const AFTER_STEPS: Cases = [33, 94, 102, 118, 150, 214, 342];
+
+// Each fill, with no step before.
+const AT_ONCE: Cases = [FILLS; 7];
+
+// Which cases of each range are tried: whether there is spare room matters to the fills alone.
+fn cases(shape: Shape) -> Cases {
+    if shape.spare == 0 {
+        AFTER_STEPS
+    } else {
+        AT_ONCE
+    }
+}
 
 // What a splice is to do.
 #[derive(Drop)]
@@ -44,12 +55,12 @@ struct Plan {
 }
 
 impl Plan {
-    // That of the argument, on the list of a case.
+    // That of the argument, on the list of a case. The hint is due once the places of the range are filled.
     fn new<T: Sample, G: Ruled, R: Abort>(rt: &R, case: &Case<T, G>, argument: usize) -> Plan {
         let shape = case.at.shape;
-        let range = shape.ranged_case(&SPLICES, argument);
+        let range = shape.ranged_case(&cases(shape), argument);
         let width = range.width();
-        let (walk, count) = if shape.length < SPLICES.len() {
+        let (walk, count) = if shape.length < AT_ONCE.len() {
             (few_steps(range.number), range.number % FILLS / HINTS)
         } else {
             (range.number, many(width, range.number / HINTS))
@@ -172,7 +183,11 @@ impl<T: Sample, G: Ruled> Call<T, G> for Spliced {
     const NAME: &'static str = "splice";
 
     fn arguments(shape: Shape) -> usize {
-        shape.ranged_cases(&SPLICES)
+        if shape.length < AT_ONCE.len() {
+            shape.ranged_cases(&cases(shape))
+        } else {
+            shape.alone(shape.ranged_cases(&AT_ONCE))
+        }
     }
 
     fn run<R: Abort>(rt: &R, case: &mut Case<T, G>, argument: usize) {
