@@ -1,4 +1,4 @@
-//! The items of the lists that commands are done on, and the judge who is asked about them.
+//! The items of the lists that commands are done on, and the judges who are asked about them.
 ghost use Rattle.std.specs.Prelude.{ℕ, ◌≡◌, ◌==◌, ◌+◌, ◌*◌, ◌/◌, ◌%◌};
 
 use crate::judge::Judge;
@@ -13,6 +13,7 @@ pub type Lender<'a> = &'a Refusing<Global>;
 pub trait Seen {
     ghost visible: { Self → ℕ };
 
+    /// That number.
     fn number(&self) -> u64
         ensures value { result ≡ visible self.now };
 }
@@ -25,6 +26,7 @@ pub trait Sample<A: Allocator>: Clone + Eq + Seen {
     /// Whether each owns a block, so that its clone is a request.
     const OWNS_BLOCK: bool;
 
+    /// The item of that number, which others may share.
     fn sample(alloc: A, number: u64) -> Result<Self, AllocError>;
 }
 
@@ -245,10 +247,12 @@ pub fn samples<T: Sample<A>, A: Allocator + Copy>(
 /// about together.
 #[derive(Clone, Copy)]
 pub struct Wavers {
+    /// It decides the next answer.
     pub state: u64,
 }
 
 impl Wavers {
+    // The answer to a question about an item of that number.
     fn answer(&mut self, number: u64) -> bool
         ensures value { result ≡ (self.old.state / 8 % 2 == number % 2) }
         ensures state { self.new.state ≡ self.old.state % 65537 * 75 + 74 }
@@ -293,7 +297,8 @@ impl<T: Seen> Judge<T> for Wavers {
     }
 }
 
-/// Picks the even numbers, and writes: what it keeps it halves, and of two equal ones the later becomes 0.
+/// Picks the even numbers, and writes: it halves what it is asked to keep or to give the key of, and of two that it compares the
+/// one that was kept becomes 0.
 #[derive(Clone, Copy)]
 pub struct Evens;
 
