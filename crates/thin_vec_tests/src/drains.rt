@@ -6,9 +6,7 @@ ghost use Rattle.thin_vec.specs.Drain.{drain_lender};
 #[cfg(test)]
 use crate::counted::Counted;
 #[cfg(test)]
-use crate::standing::{assert_counts, assert_items, assert_list, assert_same};
-#[cfg(test)]
-use refusing::Refusing;
+use crate::standing::{assert_items, assert_list, assert_same};
 use std::alloc::{AllocError, Allocator, Global};
 #[cfg(test)]
 use std::cell::Cell;
@@ -374,34 +372,6 @@ fn drains_nothing(rt: HostRuntime) {
     assert_list(&rt, &list, &[1, 2, 3, 4, 5, 6], 6);
     drop(list.drain(0, 6));
     assert_list(&rt, &list, &[], 6);
-}
-
-// Drains a list by a loop, and hands out how many items it had: at a concrete `&` to an allocator no loop is proved.
-#[cfg(test)]
-fn drain_all<T: Drop, A: Allocator>(list: &mut ThinVec<T, A>) -> u32 {
-    let mut count = 0u32;
-    let end = list.len();
-    for _item in list.drain(0, end) {
-        count = count.saturating_add(1);
-    }
-    count
-}
-
-#[test]
-fn a_drain_makes_no_request(rt: HostRuntime) {
-    let refusing = Refusing::new(rt.alloc(), 2);
-    {
-        let mut list = ThinVec::new(&refusing);
-        assert_same(&rt, drain_all(&mut list), 0);
-        assert_same(&rt, list.has_capacity(), false);
-        for item in 0..4 {
-            list.push(item).ok().expect(&rt, "memory");
-        }
-        assert_same(&rt, drain_all(&mut list), 4);
-        assert_list(&rt, &list, &[], 4);
-        assert_counts(&rt, &refusing, 1, 1);
-    }
-    assert_counts(&rt, &refusing, 1, 0);
 }
 
 #[test]

@@ -59,19 +59,3 @@ fn a_tree_drops_each_node_once(rt: HostRuntime) {
     }
     assert_same(&rt, drops.get(), 7);
 }
-
-#[test]
-fn a_leaf_owns_no_block(rt: HostRuntime) {
-    let alloc = rt.alloc();
-    let drops = Cell::new(0);
-    let mut root = leaf(alloc, 1, &drops);
-    assert!(rt; !root.children.has_capacity());
-    root.children
-        .push(leaf(alloc, 2, &drops))
-        .ok()
-        .expect(&rt, "memory");
-    assert!(rt; root.children.has_capacity());
-    for child in root.children.as_slice() {
-        assert!(rt; !child.children.has_capacity());
-    }
-}
