@@ -4,21 +4,22 @@ use crate::scarce::Scarce;
 use crate::standing::{assert_list, assert_same};
 use std::alloc::{AllocError, Global};
 use std::cell::Cell;
+use std::process::Abort;
 use thin_vec::{ThinVec, ThinVecError, thin_vec};
+
+// A list of these items, and its clone.
+fn assert_cloned(rt: &impl Abort, alloc: Global, items: &[i32]) {
+    let list = ThinVec::from_slice(alloc, items).expect(rt, "memory");
+    assert_list(rt, &list, items, items.len());
+    let clone = list.clone(alloc).expect(rt, "memory");
+    assert_list(rt, &clone, items, items.len());
+}
 
 #[test]
 fn test_clone(rt: HostRuntime) {
     let alloc = rt.alloc();
-    for items in [[].as_slice(), [1, 2, 3].as_slice()] {
-        let list = ThinVec::from_slice(alloc, items).expect(&rt, "memory");
-        assert_list(&rt, &list, items, items.len());
-        assert_list(
-            &rt,
-            &list.clone(alloc).expect(&rt, "memory"),
-            items,
-            items.len(),
-        );
-    }
+    assert_cloned(&rt, alloc, &[]);
+    assert_cloned(&rt, alloc, &[1, 2, 3]);
 
     let mut list = ThinVec::new(alloc);
     push_all(&rt, &mut list, 0..1);
@@ -64,6 +65,18 @@ fn test_clone_from(rt: HostRuntime) {
     }
 }
 
+// Appends clones, and asserts the answer, and how many items there are then in 4 places.
+fn extend_scarcely<'a>(
+    rt: &impl Abort,
+    list: &mut ThinVec<Scarce<'a>, Global>,
+    items: &[Scarce<'a>],
+    answer: Result<(), ThinVecError>,
+    len: usize,
+) {
+    assert_same(rt, list.extend_from_slice(items), answer);
+    assert_same(rt, (list.len(), list.capacity()), (len, 4));
+}
+
 #[test]
 fn row_37_clone_refused(rt: HostRuntime) {
     let drops = Cell::new(0);
@@ -72,16 +85,11 @@ fn row_37_clone_refused(rt: HostRuntime) {
     let three = [item(), item(), item()];
     {
         let mut list = thin_vec![rt.alloc() => item()].expect(&rt, "memory");
-        assert_same(
-            &rt,
-            list.extend_from_slice(&three),
-            Err(ThinVecError::OutOfMemory),
-        );
-        assert_same(&rt, (list.len(), list.capacity(), drops.get()), (1, 4, 1));
-
+        extend_scarcely(&rt, &mut list, &three, Err(ThinVecError::OutOfMemory), 1);
+        assert_same(&rt, drops.get(), 1);
         granted.set(3);
-        list.extend_from_slice(&three).expect(&rt, "memory");
-        assert_same(&rt, (list.len(), list.capacity(), drops.get()), (4, 4, 1));
+        extend_scarcely(&rt, &mut list, &three, Ok(()), 4);
+        assert_same(&rt, drops.get(), 1);
     }
     assert_same(&rt, drops.get(), 5);
 }

@@ -65,15 +65,13 @@ pub fn move_range<T: Drop, A: Allocator, G: Growth>(
 {
     other.reserve(end - start)?;
     for item in list.drain(start, end) {
-        match other.push(item) {
-            Ok(()) => (),
-            Err(_refused) => unreachable!(),
-        }
+        other.push_reserved(item);
     }
     Ok(())
 }
 
-/// Appends the items from `start` up to `end` of `list` to `other`, by one call.
+/// Appends the items from `start` up to `end` of `list` to `other`, by one call. It uses the `Drain` up: what `list` has then is
+/// seen by a test alone.
 pub fn extend_by_range(
     list: &mut ThinVec<u32, Global>,
     start: usize,
@@ -200,13 +198,27 @@ fn test_drain_range(rt: HostRuntime) {
     let from_four = (Bound::Included(4), Bound::Unbounded);
     let numbers = thin_vec![rt.alloc() => 1, 2, 3, 4, 5].expect(&rt, "memory");
     assert_drained(&rt, numbers, from_four, &[5], &[1, 2, 3, 4]);
-    let inner = (Bound::Included(1), Bound::Excluded(4));
+}
+
+#[cfg(test)]
+const INNER: (Bound<usize>, Bound<usize>) = (Bound::Included(1), Bound::Excluded(4));
+
+#[test]
+fn test_drain_range_of_texts(rt: HostRuntime) {
     let texts = thin_vec![rt.alloc() => "1", "2", "3", "4", "5"].expect(&rt, "memory");
-    assert_drained(&rt, texts, inner, &["2", "3", "4"], &["1", "5"]);
+    assert_drained(&rt, texts, INNER, &["2", "3", "4"], &["1", "5"]);
+}
+
+#[test]
+fn test_drain_range_of_texts_reverse(rt: HostRuntime) {
     let texts = thin_vec![rt.alloc() => "1", "2", "3", "4", "5"].expect(&rt, "memory");
-    assert_drained_back(&rt, texts, inner, &["2", "3", "4"], &["1", "5"]);
+    assert_drained_back(&rt, texts, INNER, &["2", "3", "4"], &["1", "5"]);
+}
+
+#[test]
+fn test_drain_range_zero_sized(rt: HostRuntime) {
     let units = thin_vec![rt.alloc() => (), (), (), (), ()].expect(&rt, "memory");
-    assert_drained(&rt, units, inner, &[(), (), ()], &[(), ()]);
+    assert_drained(&rt, units, INNER, &[(), (), ()], &[(), ()]);
 }
 
 #[test]
@@ -214,6 +226,10 @@ fn test_drain_inclusive_range(rt: HostRuntime) {
     let letters = thin_vec![rt.alloc() => 'a', 'b', 'c', 'd', 'e'].expect(&rt, "memory");
     let inner = (Bound::Included(1), Bound::Included(3));
     assert_drained(&rt, letters, inner, &['b', 'c', 'd'], &['a', 'e']);
+}
+
+#[test]
+fn test_drain_inclusive_range_to_the_first(rt: HostRuntime) {
     let texts = thin_vec![rt.alloc() => "0", "1"].expect(&rt, "memory");
     let first = (Bound::Unbounded, Bound::Included(0));
     assert_drained(&rt, texts, first, &["0"], &["1"]);
@@ -370,6 +386,12 @@ fn drains_nothing(rt: HostRuntime) {
     assert_eq!(rt; list.len(), 6);
     assert_same(&rt, list.drain(6, 6).next(), None);
     assert_list(&rt, &list, &[1, 2, 3, 4, 5, 6], 6);
+}
+
+#[test]
+fn drains_all_at_once(rt: HostRuntime) {
+    let mut list = thin_vec![rt.alloc() => 1, 2, 3, 4, 5, 6].expect(&rt, "memory");
+    assert_eq!(rt; list.len(), 6);
     drop(list.drain(0, 6));
     assert_list(&rt, &list, &[], 6);
 }

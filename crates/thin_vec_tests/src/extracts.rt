@@ -43,22 +43,6 @@ fn an_extraction_asks_in_order_and_only_as_far_as_it_is_walked(rt: HostRuntime) 
 }
 
 #[test]
-fn what_the_closure_writes_stays(rt: HostRuntime) {
-    let mut list = thin_vec![rt.alloc() => 1, 2, 3, 4].expect(&rt, "memory");
-    assert_eq!(rt; list.len(), 4);
-    {
-        let mut extract = list.extract_if(0, 4, |item: &mut i32| {
-            *item = item.wrapping_add(10);
-            *item == 12
-        });
-        assert_same(&rt, extract.next(), Some(12));
-        assert_same(&rt, extract.next(), None);
-        assert_same(&rt, extract.next(), None);
-    }
-    assert_list(&rt, &list, &[11, 13, 14], 4);
-}
-
-#[test]
 fn an_extraction_that_is_not_walked_changes_nothing(rt: HostRuntime) {
     let mut list = thin_vec![rt.alloc() => 1, 2, 3].expect(&rt, "memory");
     assert_eq!(rt; list.len(), 3);
