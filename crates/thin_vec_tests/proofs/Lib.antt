@@ -1,3 +1,2 @@
 mod JudgeLemmas
-mod MovesLemmas
 mod SpliceLemmas

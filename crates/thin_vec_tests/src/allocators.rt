@@ -20,16 +20,27 @@ fn list_on<'a>(
     list
 }
 
+// Pushes to a `Vec` of so many items, and asserts that it is on `other`, and that `one` has no block.
+fn assert_moved<'a>(
+    rt: &impl Abort,
+    mut vec: Vec<i32, &'a Refusing<Global>>,
+    one: &Refusing<Global>,
+    other: &'a Refusing<Global>,
+    items: i32,
+) {
+    vec.push(9).ok().expect(rt, "memory");
+    assert_counts(rt, one, 0, 0);
+    assert_counts(rt, other, if items == 0 { 1 } else { 2 }, 1);
+}
+
 #[test]
 fn a_vec_is_on_the_allocator_passed(rt: HostRuntime) {
     for items in [0, 3] {
         let one = Refusing::new(rt.alloc(), 0);
         let other = Refusing::new(rt.alloc(), 0);
         let list = list_on(&rt, &one, &other, items);
-        let mut vec = list.into_vec(&other).ok().expect(&rt, "memory");
-        vec.push(9).ok().expect(&rt, "memory");
-        assert_counts(&rt, &one, 0, 0);
-        assert_counts(&rt, &other, if items == 0 { 1 } else { 2 }, 1);
+        let vec = list.into_vec(&other).ok().expect(&rt, "memory");
+        assert_moved(&rt, vec, &one, &other, items);
     }
 }
 
@@ -40,10 +51,7 @@ fn a_boxed_slice_is_on_the_allocator_passed(rt: HostRuntime) {
         let other = Refusing::new(rt.alloc(), 0);
         let list = list_on(&rt, &one, &other, items);
         let boxed = list.into_boxed_slice(&other).ok().expect(&rt, "memory");
-        let mut vec = boxed.into_vec();
-        vec.push(9).ok().expect(&rt, "memory");
-        assert_counts(&rt, &one, 0, 0);
-        assert_counts(&rt, &other, if items == 0 { 1 } else { 2 }, 1);
+        assert_moved(&rt, boxed.into_vec(), &one, &other, items);
     }
 }
 

@@ -68,8 +68,10 @@ pub fn extend_by_number<A: Allocator, G: Growth>(
     ensures all { length list.old.items + length numbers.now ≤ list.old.capacity → result ≡ length numbers.now }
 {
     let before = list.len();
-    let _answer = list.extend(numbers.iter().copied()).is_ok();
-    list.len() - before
+    match list.extend(numbers.iter().copied()) {
+        Ok(()) => numbers.len(),
+        Err(_refused) => list.len() - before,
+    }
 }
 
 /// Makes the text `len` bytes long, by spaces behind it. Refused, it is as it was, and so is its capacity.

@@ -6,22 +6,21 @@ use std::alloc::Allocator;
 use thin_vec::{Rejected, ThinVec, ThinVecError};
 
 /// Five pushes into a new list, and the capacity after each. The one block of 4 places was copied into one of 8.
-#[tactic(auto, using(thin_block::proofs::CapacityLemmas::doubling_first, thin_block::proofs::CapacityLemmas::doubling_next, thin_vec::proofs::ThinVecLemmas::costs))]
 pub fn five_pushes<A: Allocator>(alloc: A) -> Result<(ThinVec<u32, A>, [usize; 5]), ThinVecError>
     ensures capacities { IfOk result (λ made. made.1 ≡ 4 ∷ 4 ∷ 4 ∷ 4 ∷ 8 ∷ []) }
     ensures grown { IfOk result (λ made. made.0.cost.grown ≡ 4) }
     ensures blocks { IfOk result (λ made. made.0.cost.blocks ≡ 2) }
 {
     let mut list = ThinVec::new(alloc);
-    list.push(1)?;
+    push_full(&mut list)?;
     let first = list.capacity();
-    list.push(2)?;
+    push_spare(&mut list);
     let second = list.capacity();
-    list.push(3)?;
+    push_spare(&mut list);
     let third = list.capacity();
-    list.push(4)?;
+    push_spare(&mut list);
     let fourth = list.capacity();
-    list.push(5)?;
+    push_full(&mut list)?;
     let fifth = list.capacity();
     Ok((list, [first, second, third, fourth, fifth]))
 }
@@ -33,16 +32,27 @@ pub fn seventeen_pushes<A: Allocator>(alloc: A) -> Result<ThinVec<u32, A>, ThinV
     ensures grown { IfOk result (λ list. list.cost.grown ≡ 28) }
     ensures blocks { IfOk result (λ list. list.cost.blocks ≡ 4) }
 {
+    let mut list = eight_pushes(alloc)?;
+    push_full(&mut list)?;
+    push_three(&mut list);
+    push_three(&mut list);
+    push_spare(&mut list);
+    push_full(&mut list)?;
+    Ok(list)
+}
+
+// The first eight of them.
+fn eight_pushes<A: Allocator>(alloc: A) -> Result<ThinVec<u32, A>, ThinVecError>
+    ensures len { IfOk result (λ list. length list.items ≡ 8) }
+    ensures capacity { IfOk result (λ list. list.capacity ≡ 8) }
+    ensures grown { IfOk result (λ list. list.cost.grown ≡ 4) }
+    ensures blocks { IfOk result (λ list. list.cost.blocks ≡ 2) }
+{
     let mut list = ThinVec::new(alloc);
     push_full(&mut list)?;
     push_three(&mut list);
     push_full(&mut list)?;
     push_three(&mut list);
-    push_full(&mut list)?;
-    push_three(&mut list);
-    push_three(&mut list);
-    let _in_room = list.push(5).is_ok();
-    push_full(&mut list)?;
     Ok(list)
 }
 
@@ -62,7 +72,6 @@ fn push_full<A: Allocator>(list: &mut ThinVec<u32, A>) -> Result<(), ThinVecErro
 }
 
 // Three pushes into spare room.
-#[tactic(auto, using(thin_vec::proofs::ThinVecLemmas::costs))]
 fn push_three<A: Allocator>(list: &mut ThinVec<u32, A>)
     requires room { HasRoomFor list.old 3 }
     ensures len { length list.new.items ≡ length list.old.items + 3 }
@@ -70,7 +79,19 @@ fn push_three<A: Allocator>(list: &mut ThinVec<u32, A>)
     ensures grown { list.new.cost.grown ≡ list.old.cost.grown }
     ensures blocks { list.new.cost.blocks ≡ list.old.cost.blocks }
 {
+    push_spare(list);
+    push_spare(list);
+    push_spare(list);
+}
+
+// A push into spare room.
+#[tactic(auto, using(thin_vec::proofs::ThinVecLemmas::costs))]
+fn push_spare<A: Allocator>(list: &mut ThinVec<u32, A>)
+    requires room { HasRoomFor list.old 1 }
+    ensures len { length list.new.items ≡ length list.old.items + 1 }
+    ensures capacity { list.new.capacity ≡ list.old.capacity }
+    ensures grown { list.new.cost.grown ≡ list.old.cost.grown }
+    ensures blocks { list.new.cost.blocks ≡ list.old.cost.blocks }
+{
     let _in_room = list.push(2).is_ok();
-    let _in_room = list.push(3).is_ok();
-    let _in_room = list.push(4).is_ok();
 }

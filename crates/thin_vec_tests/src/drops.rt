@@ -80,23 +80,6 @@ fn test_double_drop(rt: HostRuntime) {
 }
 
 #[test]
-fn drops_a_refused_item_with_the_refusal(rt: HostRuntime) {
-    let refusing = Refusing::new(rt.alloc(), 1);
-    let drops = Cell::new(0);
-    {
-        let mut list = ThinVec::new(&refusing);
-        let refused = list
-            .push(Counted::new(&drops))
-            .err()
-            .expect(&rt, "accepted");
-        assert_same(&rt, drops.get(), 0);
-        list.push(refused.value).ok().expect(&rt, "memory");
-        assert_same(&rt, drops.get(), 0);
-    }
-    assert_same(&rt, drops.get(), 1);
-}
-
-#[test]
 fn gives_each_block_back(rt: HostRuntime) {
     let refusing = Refusing::new(rt.alloc(), 0);
     for (items, left, blocks) in [(0, 0, 0), (1, 1, 1), (50, 50, 1), (50, 3, 1), (50, 0, 1)] {

@@ -1,10 +1,7 @@
 //! `retain` and `dedup`, in their forms: what no clause says, and the cases of the Rust crate's own tests.
-use crate::counted::Counted;
 use crate::items::push_all;
 use crate::last_digits::LastDigit;
-use crate::standing::{assert_counts, assert_items, assert_list, assert_same};
-use other_rules::Fourfold;
-use refusing::Refusing;
+use crate::standing::{assert_items, assert_list, assert_same};
 use std::alloc::Global;
 use std::boxed::Box;
 use std::cell::Cell;
@@ -185,38 +182,4 @@ fn goes_by_the_equality_of_the_items(rt: HostRuntime) {
     assert!(rt; list == other);
     assert_same(&rt, list.cmp(&other), Ordering::Equal);
     assert_same(&rt, hash_of(&list), hash_of(&other));
-}
-
-// No request for memory, and each item that goes is dropped once and at once.
-#[test]
-fn filters_without_a_request(rt: HostRuntime) {
-    let refusing = Refusing::new(rt.alloc(), 0);
-    let drops = Cell::new(0);
-    {
-        let mut list = ThinVec::with_capacity(&refusing, 8).expect(&rt, "memory");
-        for _ in 0..6 {
-            list.push(Counted::new(&drops)).ok().expect(&rt, "memory");
-        }
-        refusing.refuse(1);
-        let mut stays = false;
-        list.retain(|_item| {
-            stays = !stays;
-            stays
-        });
-        assert_same(&rt, (list.len(), list.capacity(), drops.get()), (3, 8, 3));
-        list.dedup_by(|_later, _kept| true);
-        assert_same(&rt, (list.len(), list.capacity(), drops.get()), (1, 8, 5));
-        assert_counts(&rt, &refusing, 0, 1);
-    }
-    assert_same(&rt, drops.get(), 6);
-}
-
-#[test]
-fn filters_at_a_second_growth_rule(rt: HostRuntime) {
-    let mut list = ThinVec::<i32, Global, Fourfold>::ruled(rt.alloc());
-    push_all(&rt, &mut list, 0..10);
-    list.retain(|item| *item > 4);
-    assert_list(&rt, &list, &[5, 6, 7, 8, 9], 16);
-    list.dedup_by_key(|item| *item / 3);
-    assert_list(&rt, &list, &[5, 6, 9], 16);
 }

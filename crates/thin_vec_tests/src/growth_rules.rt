@@ -1,6 +1,5 @@
 //! Lists under each growth rule: the two that the list gives, and two of the tests.
-use crate::items::push_all;
-use crate::standing::{assert_items, assert_list, assert_same};
+use crate::standing::{assert_items, assert_same};
 use other_rules::{Fourfold, Threefold};
 use std::alloc::Global;
 use std::process::Abort;
@@ -46,40 +45,4 @@ fn a_resized_list_fills_a_power_of_two(rt: HostRuntime) {
     list.resize(5, 0).expect(&rt, "memory");
     assert_items(&rt, list.as_slice(), &[0; 5]);
     assert_same(&rt, list.capacity(), 12);
-}
-
-// Calls of a list whose capacity is the one, after five pushes, and the other, once there is room for twelve more.
-fn assert_calls<G: Growth>(rt: &impl Abort, alloc: Global, pushed: usize, reserved: usize) {
-    let mut list = ThinVec::<i32, Global, G>::ruled(alloc);
-    assert_list(rt, &list, &[], 0);
-    push_all(rt, &mut list, 0..5);
-    assert_list(rt, &list, &[0, 1, 2, 3, 4], pushed);
-    list.reserve(12).expect(rt, "memory");
-    assert_list(rt, &list, &[0, 1, 2, 3, 4], reserved);
-    list.reserve_exact(60).expect(rt, "memory");
-    assert_list(rt, &list, &[0, 1, 2, 3, 4], 65);
-    assert_edits(rt, list);
-}
-
-// Calls that leave the capacity of 65.
-fn assert_edits<G: Growth>(rt: &impl Abort, mut list: ThinVec<i32, Global, G>) {
-    assert_list(rt, &list, &[0, 1, 2, 3, 4], 65);
-    assert_same(rt, list.swap_remove(0), 0);
-    assert_same(rt, list.pop(), Some(3));
-    assert_list(rt, &list, &[4, 1, 2], 65);
-    list.truncate(1);
-    assert_list(rt, &list, &[4], 65);
-    list.clear();
-    assert_list(rt, &list, &[], 65);
-    list.shrink_to_fit().expect(rt, "memory");
-    assert_list(rt, &list, &[], 0);
-}
-
-#[test]
-fn each_rule_names_the_capacity(rt: HostRuntime) {
-    let alloc = rt.alloc();
-    assert_calls::<Doubling>(&rt, alloc, 8, 17);
-    assert_calls::<PowerBytes>(&rt, alloc, 12, 28);
-    assert_calls::<Threefold>(&rt, alloc, 9, 27);
-    assert_calls::<Fourfold>(&rt, alloc, 16, 64);
 }

@@ -3,14 +3,10 @@ ghost use Rattle.std.specs.Prelude.{◌≡◌, IfOk, length, min, reverse};
 ghost use Rattle.std.specs.List.{fold};
 
 #[cfg(test)]
-use crate::counted::Counted;
-#[cfg(test)]
 use crate::standing::{assert_items, assert_list, assert_same};
 #[cfg(test)]
 use refusing::Refusing;
 use std::alloc::{AllocError, Allocator, Global};
-#[cfg(test)]
-use std::cell::Cell;
 #[cfg(test)]
 use std::process::Abort;
 #[cfg(test)]
@@ -192,34 +188,6 @@ fn test_into_iter_debug(rt: HostRuntime) {
             .as_str(),
         "IntoIter([2, 3])",
     );
-}
-
-#[test]
-fn a_walk_that_ends_early_drops_what_remains(rt: HostRuntime) {
-    let refusing = Refusing::new(rt.alloc(), 0);
-    let drops = Cell::new(0);
-    {
-        let mut list = ThinVec::new(&refusing);
-        for _ in 0..6 {
-            list.push(Counted::new(&drops)).ok().expect(&rt, "memory");
-        }
-        let mut items = list.into_iter();
-        drop(items.next());
-        drop(items.next_back());
-        assert_same(&rt, drops.get(), 2);
-        assert_same(&rt, items.size_hint(), (4, Some(4)));
-        assert_same(&rt, refusing.blocks(), 1);
-    }
-    assert_same(&rt, drops.get(), 6);
-    assert_same(&rt, refusing.blocks(), 0);
-}
-
-#[test]
-fn a_walk_over_nothing_makes_no_request(rt: HostRuntime) {
-    let refusing = Refusing::new(rt.alloc(), 1);
-    let list = ThinVec::<u64, _>::new(&refusing);
-    assert_same(&rt, count(list), 0);
-    assert_same(&rt, refusing.requests(), 0);
 }
 
 #[cfg(test)]

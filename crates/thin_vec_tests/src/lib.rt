@@ -23,8 +23,6 @@ pub mod drains;
 #[cfg(test)]
 mod drops;
 #[cfg(test)]
-mod edits;
-#[cfg(test)]
 mod extend;
 pub mod extracts;
 pub mod filter_callers;
@@ -40,7 +38,6 @@ mod iterating;
 pub mod last_digits;
 #[cfg(test)]
 mod making;
-pub mod moves;
 #[cfg(test)]
 mod names;
 #[cfg(test)]

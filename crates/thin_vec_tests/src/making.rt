@@ -20,51 +20,11 @@ fn a_list_written_out_has_no_spare_room(rt: HostRuntime) {
 }
 
 #[test]
-fn a_list_of_nothing_makes_no_request(rt: HostRuntime) {
-    let refusing = Refusing::new(rt.alloc(), 1);
-    for list in [
-        thin_vec![&refusing =>].expect(&rt, "memory"),
-        ThinVec::from_array(&refusing, [0u64; 0])
-            .ok()
-            .expect(&rt, "memory"),
-    ] {
-        assert!(rt; list.is_empty());
-        assert_same(&rt, list.capacity(), 0);
-    }
-    assert_counts(&rt, &refusing, 0, 0);
-}
-
-#[test]
-fn a_refused_from_array_hands_the_array_back(rt: HostRuntime) {
-    let refusing = Refusing::new(rt.alloc(), 1);
-    let refused = ThinVec::from_array(&refusing, [1, 2, 3])
-        .err()
-        .expect(&rt, "accepted");
-    assert_same(&rt, refused.value, [1, 2, 3]);
-    assert_same(&rt, refused.cause, ThinVecError::OutOfMemory);
-    assert_counts(&rt, &refusing, 1, 0);
-
-    let list = ThinVec::from_array(&refusing, refused.value)
-        .ok()
-        .expect(&rt, "memory");
-    assert_list(&rt, &list, &[1, 2, 3], 3);
-    assert_counts(&rt, &refusing, 2, 1);
-}
-
-#[test]
 fn a_refused_list_written_out_makes_no_item(rt: HostRuntime) {
     let refusing = Refusing::new(rt.alloc(), 1);
     let drops = Cell::new(0);
     let refused = thin_vec![&refusing => Counted::new(&drops), Counted::new(&drops)].err();
-    assert_same(&rt, refused, Some(ThinVecError::OutOfMemory));
-    assert_same(&rt, drops.get(), 0);
+    let wanted = Some(ThinVecError::OutOfMemory);
+    assert_same(&rt, (refused, drops.get()), (wanted, 0));
     assert_counts(&rt, &refusing, 1, 0);
-    {
-        let list = thin_vec![&refusing => Counted::new(&drops), Counted::new(&drops)].expect(
-            &rt, "memory",
-        );
-        assert_same(&rt, (list.len(), drops.get()), (2, 0));
-        assert_counts(&rt, &refusing, 2, 1);
-    }
-    assert_same(&rt, (drops.get(), refusing.blocks()), (2, 0));
 }

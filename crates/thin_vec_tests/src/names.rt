@@ -49,6 +49,10 @@ fn names_and_traits_are_there(rt: HostRuntime) {
     is_an_iterator(&items);
     is_a_cause(&ThinVecError::OutOfMemory);
     assert!(rt; fits::<u8>(3));
+}
+
+#[test]
+fn refusals_may_be_let_go(rt: HostRuntime) {
     is_let_go(&Rejected {
         value: 1,
         cause: ThinVecError::CapacityOverflow,
@@ -59,7 +63,7 @@ fn names_and_traits_are_there(rt: HostRuntime) {
         rest: 0..2,
     });
     is_let_go(&CollectRefused {
-        list: ThinVec::<u8, Global>::new(alloc),
+        list: ThinVec::<u8, Global>::new(rt.alloc()),
         cause: ThinVecError::CapacityOverflow,
         in_hand: Some(1),
         rest: 0..2,

@@ -1,8 +1,6 @@
 //! What is written through a lent slice or a lent item is in the list afterwards.
 use crate::items::push_all;
 use crate::standing::{assert_items, assert_same};
-use other_rules::Fourfold;
-use std::alloc::Global;
 use thin_vec::{ThinVec, thin_vec};
 
 fn add(amount: i32, items: &mut [i32]) {
@@ -51,15 +49,4 @@ fn test_index_mut(rt: HostRuntime) {
     let mut list = thin_vec![rt.alloc() => 1, 2, 3].expect(&rt, "memory");
     list[1] = 22;
     assert_items(&rt, list.as_slice(), &[1, 22, 3]);
-}
-
-#[test]
-fn lends_at_a_second_growth_rule(rt: HostRuntime) {
-    let mut list = ThinVec::<i32, Global, Fourfold>::ruled(rt.alloc());
-    push_all(&rt, &mut list, 1..4);
-    add(1, list.as_mut_slice());
-    assert_eq!(rt; list.len(), 3);
-    list[0] = 7;
-    assert_same(&rt, list[1], 3);
-    assert_items(&rt, list.as_slice(), &[7, 3, 4]);
 }

@@ -13,6 +13,8 @@ use crate::standing::{assert_counts, assert_items, assert_list, assert_same};
 use refusing::Refusing;
 use std::alloc::Allocator;
 #[cfg(test)]
+use std::alloc::Global;
+#[cfg(test)]
 use std::cell::Cell;
 #[cfg(test)]
 use std::iter::empty;
@@ -195,24 +197,37 @@ fn assert_refused<A: Allocator>(
     assert_same(rt, rest.next(), None);
 }
 
+// Puts what `iter` gives in the place of 3 and 4 of five, and asserts what the list has by the refusal, and what that hands back.
+#[cfg(test)]
+fn assert_splice_refused(
+    rt: &impl Abort,
+    refusing: &Refusing<Global>,
+    iter: Answers<'_>,
+    left: (&[i32], usize),
+    wanted: (ThinVecError, &[i32], Option<i32>, &[i32]),
+) {
+    let mut list = thin_vec![refusing => 1, 2, 3, 4, 5].expect(rt, "memory");
+    let refused = splice_five(rt, &mut list, iter, refusing, (false, false))
+        .err()
+        .expect(rt, "accepted");
+    assert_list(rt, &list, left.0, left.1);
+    assert_refused(rt, refused, wanted);
+    assert_same(rt, refusing.blocks(), 1);
+}
+
 #[test]
 fn what_a_refused_finish_leaves(rt: HostRuntime) {
     for (lower, request, items, capacity, held, in_hand, rest) in REFUSED {
         let refusing = Refusing::new(rt.alloc(), request);
         let asked = Cell::new(0);
-        let mut list = thin_vec![&refusing => 1, 2, 3, 4, 5].expect(&rt, "memory");
         let iter = Answers::new(&TEN_TO_FOURTEEN, lower, &asked);
-        let refused = splice_five(&rt, &mut list, iter, &refusing, (false, false))
-            .err()
-            .expect(&rt, "accepted");
-        assert_list(&rt, &list, items, capacity);
         let cause = if request == 0 {
             ThinVecError::CapacityOverflow
         } else {
             ThinVecError::OutOfMemory
         };
-        assert_refused(&rt, refused, (cause, held, in_hand, rest));
-        assert_same(&rt, refusing.blocks(), 1);
+        let wanted = (cause, held, in_hand, rest);
+        assert_splice_refused(&rt, &refusing, iter, (items, capacity), wanted);
     }
 }
 
@@ -220,17 +235,9 @@ fn what_a_refused_finish_leaves(rt: HostRuntime) {
 fn row_12_splice_refused(rt: HostRuntime) {
     let refusing = Refusing::new(rt.alloc(), 2);
     let asked = Cell::new(0);
-    let mut list = thin_vec![&refusing => 1, 2, 3, 4, 5].expect(&rt, "memory");
     let iter = Answers::new(&[Some(10), Some(11), Some(12)], 0, &asked);
-    let refused = splice_five(&rt, &mut list, iter, &refusing, (false, false))
-        .err()
-        .expect(&rt, "accepted");
-    assert_list(&rt, &list, &[1, 2, 10, 11, 5], 5);
-    assert_refused(
-        &rt,
-        refused,
-        (ThinVecError::OutOfMemory, &[], Some(12), &[]),
-    );
+    let wanted = (ThinVecError::OutOfMemory, &[][..], Some(12), &[][..]);
+    assert_splice_refused(&rt, &refusing, iter, (&[1, 2, 10, 11, 5], 5), wanted);
 }
 
 #[test]
@@ -338,21 +345,25 @@ fn test_splice_items_zero_sized(rt: HostRuntime) {
     assert_same(&rt, list.len(), 2);
 }
 
+// Puts nine items in the place of two of five, as far as there is memory.
+#[cfg(test)]
+fn splice_counted(refusing: &Refusing<Global>, drops: &Cell<u32>, made: &Cell<u32>) {
+    let mut list = ThinVec::new(refusing);
+    let old = (0..5).map(|_| counted(drops, made));
+    let _first = list.extend(old.filter(|_| true));
+    if list.len() == 5 {
+        let given = (0..9).map(|_| counted(drops, made));
+        let _done = splice_by(&mut list, (1, 3), given.filter(|_| true), refusing);
+    }
+}
+
 #[test]
 fn each_item_is_dropped_once(rt: HostRuntime) {
     for request in 0..5 {
         let refusing = Refusing::new(rt.alloc(), request);
         let drops = Cell::new(0);
         let made = Cell::new(0);
-        {
-            let mut list = ThinVec::new(&refusing);
-            let old = (0..5).map(|_| counted(&drops, &made));
-            let _first = list.extend(old.filter(|_| true));
-            if list.len() == 5 {
-                let given = (0..9).map(|_| counted(&drops, &made));
-                let _done = splice_by(&mut list, (1, 3), given.filter(|_| true), &refusing);
-            }
-        }
+        splice_counted(&refusing, &drops, &made);
         assert_same(&rt, (drops.get(), refusing.blocks()), (made.get(), 0));
     }
 }

@@ -3,6 +3,7 @@ use crate::counted::Counted;
 use crate::standing::assert_same;
 use std::alloc::Global;
 use std::cell::Cell;
+use std::process::Abort;
 use thin_vec::ThinVec;
 
 #[derive(Drop)]
@@ -36,6 +37,16 @@ fn sum_of_tags(node: &Node<'_>) -> u32 {
     sum
 }
 
+// A node with a leaf for each number from 2 up to its own.
+fn parent<'a>(rt: &impl Abort, alloc: Global, tag: u32, drops: &'a Cell<u32>) -> Node<'a> {
+    let mut node = leaf(alloc, tag, drops);
+    for inner in 2..tag {
+        let child = leaf(alloc, inner.saturating_mul(10), drops);
+        node.children.push(child).ok().expect(rt, "memory");
+    }
+    node
+}
+
 #[test]
 fn a_tree_drops_each_node_once(rt: HostRuntime) {
     let alloc = rt.alloc();
@@ -43,14 +54,7 @@ fn a_tree_drops_each_node_once(rt: HostRuntime) {
     {
         let mut root = leaf(alloc, 1, &drops);
         for tag in 2..5 {
-            let mut child = leaf(alloc, tag, &drops);
-            for inner in 2..tag {
-                child
-                    .children
-                    .push(leaf(alloc, 10 * inner, &drops))
-                    .ok()
-                    .expect(&rt, "memory");
-            }
+            let child = parent(&rt, alloc, tag, &drops);
             root.children.push(child).ok().expect(&rt, "memory");
         }
         assert_same(&rt, count(&root), 7);
@@ -58,20 +62,4 @@ fn a_tree_drops_each_node_once(rt: HostRuntime) {
         assert_same(&rt, drops.get(), 0);
     }
     assert_same(&rt, drops.get(), 7);
-}
-
-#[test]
-fn a_leaf_owns_no_block(rt: HostRuntime) {
-    let alloc = rt.alloc();
-    let drops = Cell::new(0);
-    let mut root = leaf(alloc, 1, &drops);
-    assert!(rt; !root.children.has_capacity());
-    root.children
-        .push(leaf(alloc, 2, &drops))
-        .ok()
-        .expect(&rt, "memory");
-    assert!(rt; root.children.has_capacity());
-    for child in root.children.as_slice() {
-        assert!(rt; !child.children.has_capacity());
-    }
 }

@@ -1,1 +1,2 @@
+mod MovesLemmas
 mod TreeLemmas

@@ -2,6 +2,8 @@
 #![tactic(auto)]
 
 pub mod first_list;
+pub mod moved_range;
+pub mod moves;
 pub mod refused_push;
 pub mod reserved_room;
 pub mod sorting;

@@ -1,5 +1,7 @@
 //! Each use, once.
 use crate::first_list::first_list;
+use crate::moved_range::move_range;
+use crate::moves::{edited, extracted_first, spliced_middle};
 use crate::refused_push::push_or_return;
 use crate::reserved_room::push_both;
 use crate::sorting::sort;
@@ -113,5 +115,28 @@ fn a_refusal_is_an_error_of_std(rt: HostRuntime) -> Result<(), Fail> {
     assert!(rt; refused.is_err_and(|error| error.kind() == ErrorKind::OutOfMemory));
     assert_eq!(rt; bytes.as_slice(), [7].as_slice());
     assert!(rt; doubled(&Refusing::new(rt.alloc(), 1), [1].as_slice()).is_err());
+    Ok(())
+}
+
+#[test]
+fn a_range_moves_to_another_list(rt: HostRuntime) -> Result<(), Fail> {
+    let mut list = thin_vec![rt.alloc() => 1, 2, 3, 4, 5]?;
+    let mut other = thin_vec![rt.alloc() => 9]?;
+    assert_eq!(rt; list.len(), 5);
+    move_range(&mut list, 1, 3, &mut other)?;
+    assert_eq!(rt; list.as_slice(), [1, 4, 5].as_slice());
+    assert_eq!(rt; other.as_slice(), [9, 2, 3].as_slice());
+    Ok(())
+}
+
+#[test]
+fn edits_leave_what_they_promise(rt: HostRuntime) -> Result<(), Fail> {
+    assert_eq!(rt; edited(rt.alloc())?.as_slice(), [1, 9].as_slice());
+    let mut six = thin_vec![rt.alloc() => 1, 2, 3, 4, 5, 6]?;
+    assert_eq!(rt; extracted_first(&mut six), Some(2));
+    assert_eq!(rt; six.as_slice(), [1, 3, 4, 5, 6].as_slice());
+    let mut five = thin_vec![rt.alloc() => 1, 2, 3, 4, 5]?;
+    spliced_middle(&mut five, rt.alloc())?;
+    assert_eq!(rt; five.as_slice(), [1, 2, 10, 11, 12, 5].as_slice());
     Ok(())
 }

@@ -1,7 +1,7 @@
 -- The closure always answers true.
 use Rattle.std.proofs.Common.{rules}
-use Rattle.thin_vec_tests.proofs.MovesLemmas.{keeps-cost, keeps-items}
-use Rattle.thin_vec_tests.proofs.moves.kept_all.Goals as goal
+use Rattle.thin_vec_uses.proofs.MovesLemmas.{keeps-cost, keeps-items}
+use Rattle.thin_vec_uses.proofs.moves.kept_all.Goals as goal
 
 pub returns : goal.returns
 returns g c =

@@ -1,0 +1,29 @@
+//! A range that moves from one list into another, and both lists afterwards.
+ghost use Rattle.std.specs.Prelude.{◌≡◌, ◌-◌, ◌≤◌, ◌++◌, IsOk, OnErr, OnOk, drop, length, slice_range, take};
+ghost use Rattle.thin_vec.specs.ThinVec.{HasRoomFor};
+
+use std::alloc::Allocator;
+use thin_vec::{Growth, ThinVec, ThinVecError};
+
+/// Moves the numbers from `start` up to `end` behind those of `other`, or moves none.
+///
+/// The `Drain` stays here, and only its numbers go into the call: of one that another call uses up no contract says what it leaves.
+pub fn move_range<A: Allocator, G: Growth>(
+    list: &mut ThinVec<u32, A, G>,
+    start: usize,
+    end: usize,
+    other: &mut ThinVec<u32, A, G>,
+) -> Result<(), ThinVecError>
+    requires start_le_end { start ≤ end }
+    requires in_bounds { end ≤ length list.old.items }
+    ensures succeeds { HasRoomFor other.old (end - start) → IsOk result }
+    ensures items { OnOk result (list.new.items ≡ take start list.old.items ++ drop end list.old.items) }
+    ensures other_items { OnOk result (other.new.items ≡ other.old.items ++ slice_range list.old.items start end) }
+    ensures err { OnErr result (list.new ≡ list.old) }
+    ensures other_err { OnErr result (other.new ≡ other.old) }
+{
+    other.reserve(end - start)?;
+    let drain = list.drain(start, end);
+    other.extend(drain.as_slice().iter().copied())?;
+    Ok(())
+}
