@@ -1,5 +1,5 @@
 -- Calls of a closure whose answers are those of a judge, asked about the items of a list.
-use Rattle.std.proofs.Common.{◌≡◌, ℕ, suc, ◌≤◌, ◌==◌, length, refl, arith, List, [], ◌∷◌, Bool, true, false, ap, subst, sym, ◌∙◌}
+use Rattle.std.proofs.Common.{◌≡◌, ℕ, suc, ◌≤◌, ◌==◌, length, refl, arith, List, [], ◌∷◌, Bool, true, false, ap, subst, ◌∙◌}
 use denote.MutBor.{MutBor}
 use denote.Param.Members.{Mut}
 use Rattle.std.specs.Fn.{CalledAtMut, ComparesKeys}
@@ -8,7 +8,6 @@ use Rattle.std.specs.Prelude.{MatchBool, if◌then◌else◌, not}
 use Rattle.thin_vec.specs.Cost.{moving}
 use Rattle.thin_vec.specs.Filters.{Answers, Asked, AskedLast, AskedPairs, IsDedupedBy, IsRetained, flags_of, left_at, moved_up}
 use Rattle.thin_vec.specs.ThinVec.{Thin}
-use Rattle.thin_bench.specs.commands.Edits.{edited}
 use Rattle.thin_bench.specs.commands.Filters.{asked, deduped, kept, kept_from, looking, same_key, sifted, stays, stays_from}
 
 -- the state of the closure has a judge, and each call answers as that judge does

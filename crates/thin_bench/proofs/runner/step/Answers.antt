@@ -1,5 +1,4 @@
 -- Two of the commands, whose clauses are large: the call's own fact, at the command that was matched.
-use Rattle.std.proofs.Common.{◌≡◌}
 use Rattle.thin_bench.proofs.runner.step.Goals as goal
 
 pub returns-in-Resize : goal.returns-in-Resize

@@ -1,5 +1,5 @@
 -- Each call of the closure is a look of the judge that it holds.
-use Rattle.std.proofs.Common.{rules, ◌≡◌}
+use Rattle.std.proofs.Common.{rules}
 use Rattle.thin_bench.proofs.FilterLemmas.{looked, retained-by}
 use Rattle.thin_bench.proofs.steps.Means.retain.Goals as goal
 

@@ -1,5 +1,5 @@
 -- What took the range's place, what is held, in hand and left are what there was.
-use Rattle.std.proofs.Common.{rules, ◌≡◌, ◌+◌, ◌++◌, ◌∙◌, ap, arith, drop, length, length-append, subst, sym, take}
+use Rattle.std.proofs.Common.{rules, ◌≡◌, ◌+◌, ◌++◌, ◌∙◌, ap, arith, length, length-append, subst, sym}
 use Rattle.std.proofs.lemmas.Bool.{false≢true}
 use Rattle.std.specs.Iterator.{size}
 use Rattle.thin_bench.specs.Hinted.{hinted_claim, hinted_count, hinted_items}
