@@ -134,8 +134,6 @@ impl<T, A: Allocator> Block<T, A> {
     }
 
     /// Moves the `k` items in the slots from `from` on to those from `to` on. The two runs may overlap.
-    // Only pointers and numbers reach what it calls, so that a caller's block can stay in a register.
-    #[inline(always)]
     pub fn move_run(&mut self, from: usize, to: usize, k: usize)
         requires source { from + k ≤ length self.old.slots }
         requires target { to + k ≤ length self.old.slots }
@@ -155,7 +153,6 @@ impl<T, A: Allocator> Block<T, A> {
     }
 
     // `move_run` where the runs overlap.
-    #[inline(always)]
     fn move_overlapping(&mut self, from: usize, to: usize, k: usize)
         requires source { from + k ≤ length self.old.slots }
         requires target { to + k ≤ length self.old.slots }
@@ -176,7 +173,6 @@ impl<T, A: Allocator> Block<T, A> {
     }
 
     // `move_run` where the runs lie apart.
-    #[inline(always)]
     fn move_apart(&mut self, from: usize, to: usize, k: usize)
         requires source { from + k ≤ length self.old.slots }
         requires target { to + k ≤ length self.old.slots }
