@@ -1,5 +1,5 @@
 -- A closure that calls a judge answers as the judge does.
-use Rattle.std.proofs.Common.{◌≡◌, Bool, true, List, [], ◌∷◌, refl, sym, ap, ◌∙◌}
+use Rattle.std.proofs.Common.{◌≡◌, Bool, true, List, [], ◌∷◌, sym, ap, ◌∙◌}
 use Rattle.thin_vec.specs.Filters.{Asked, IsRetained, left_at}
 use Rattle.thin_vec.specs.ThinVec.{Thin}
 use Rattle.thin_vec_tests.specs.Judges.{asked_by}
