@@ -335,6 +335,23 @@ fn a_long_splice_is_not_refused(rt: HostRuntime) {
 }
 
 #[test]
+fn a_splice_into_a_long_list_is_not_refused(rt: HostRuntime) {
+    let alloc = rt.alloc();
+    let mut list = thin_vec![alloc => -7; 3000].expect(&rt, "memory");
+    assert_eq!(rt; list.len(), 3000);
+    list.splice(1, 2, (0..2000).filter(|_| true))
+        .finish(alloc)
+        .ok()
+        .expect(&rt, "memory");
+    assert_same(&rt, list.len(), 4999);
+    assert_same(
+        &rt,
+        (list.get(2000), list.get(2001)),
+        (Some(&1999), Some(&-7)),
+    );
+}
+
+#[test]
 fn test_splice_items_zero_sized(rt: HostRuntime) {
     let alloc = rt.alloc();
     let mut list = thin_vec![alloc => (), (), ()].expect(&rt, "memory");
