@@ -7,11 +7,8 @@ mod orders;
 mod random;
 mod samples;
 
-use crate::command::{Command, Reply};
-use crate::judge::Judge;
 use crate::reporting::{Status, report, report_rows, write_row};
 use crate::rows::row;
-use crate::runner::{run, step};
 use other_rules::{Fourfold, Threefold};
 use refusing::Refusing;
 use std::alloc::{Allocator, Global};
@@ -19,6 +16,9 @@ use std::io;
 use std::io::{ErrorKind, Write};
 use std::process::{Abort, ExitCode};
 use std::test::Fail;
+use thin_runner::command::{Command, Reply};
+use thin_runner::judge::Judge;
+use thin_runner::runner::{run, step};
 use thin_vec::{Doubling, Growth, PowerBytes, ThinVec, ThinVecError, thin_vec};
 
 #[test]

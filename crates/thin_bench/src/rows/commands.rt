@@ -1,9 +1,9 @@
 //! Rows that are commands: they go through `run`.
-use crate::command::{Command, Reply, Step};
 use crate::rows::Outcome;
 use crate::rows::judges::Evens;
-use crate::runner::run;
 use std::alloc::Allocator;
+use thin_runner::command::{Command, Reply, Step};
+use thin_runner::runner::run;
 use thin_vec::{ThinVec, ThinVecError};
 
 pub fn row_1<A: Allocator + Copy>(alloc: A) -> Outcome {

@@ -2,7 +2,7 @@
 ghost use Rattle.std.specs.Ordering.{int_eq};
 ghost use Rattle.std.specs.Prelude.{int_rem, pos};
 
-use crate::judge::Judge;
+use thin_runner::judge::Judge;
 
 /// Picks the even numbers, and finds equal ones the same. It writes none.
 #[derive(Clone, Copy)]

@@ -1,9 +1,9 @@
 //! Rows of the plain calls.
-use crate::command::{Command, Reply};
 use crate::rows::Outcome;
 use crate::rows::judges::Evens;
-use crate::runner::step;
 use std::alloc::Allocator;
+use thin_runner::command::{Command, Reply};
+use thin_runner::runner::step;
 use thin_vec::{ThinVec, ThinVecError, thin_vec};
 
 pub fn row_2<A: Allocator + Copy>(alloc: A) -> Outcome {

@@ -1,6 +1,4 @@
 //! Each command with each of its replies, and worked runs, with each of their requests refused in turn.
-use crate::judge::Judge;
-use crate::runner::run;
 use crate::tests::model::{Model, Ruled, both};
 use crate::tests::orders::{Form, KINDS, Kind, Order, Shown, command_of, show};
 use crate::tests::samples::{Evens, Lender, Sample, Wavers, put};
@@ -9,6 +7,8 @@ use std::alloc::{AllocError, Allocator, Global};
 use std::fmt::Debug;
 use std::process::Abort;
 use std::test::Fail;
+use thin_runner::judge::Judge;
+use thin_runner::runner::run;
 use thin_vec::{Doubling, Growth, PowerBytes, ThinVec, ThinVecError};
 
 // Every reply of every command that a list of six items can have.

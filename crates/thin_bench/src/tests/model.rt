@@ -1,13 +1,13 @@
 //! The definition written as a program, short and slow, over a `Vec` and a number.
-use crate::command::{Reply, Step};
-use crate::judge::Judge;
-use crate::runner::step;
 use crate::tests::orders::{Form, Kind, Order, Shown, command_of, show, steps_of};
 use crate::tests::samples::{Lender, Sample, one, put, samples};
 use other_rules::{Fourfold, Threefold};
 use std::alloc::{AllocError, Allocator};
 use std::marker::PhantomData;
 use std::mem;
+use thin_runner::command::{Reply, Step};
+use thin_runner::judge::Judge;
+use thin_runner::runner::step;
 use thin_vec::{Doubling, Growth, PowerBytes, ThinVec, ThinVecError};
 
 /// A growth rule, said once more: numbers only, and no limit.

@@ -1,7 +1,7 @@
 //! Commands as data, and what a reply shows.
-use crate::command::{Command, Reply, Step};
 use crate::tests::samples::{Sample, one, put, samples};
 use std::alloc::{AllocError, Allocator};
+use thin_runner::command::{Command, Reply, Step};
 use thin_vec::{Growth, ThinVec, ThinVecError};
 
 /// Which command.

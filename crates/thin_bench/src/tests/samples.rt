@@ -1,10 +1,10 @@
 //! The items of the lists that commands are done on, and the judges who are asked about them.
 ghost use Rattle.std.specs.Prelude.{ℕ, ◌≡◌, ◌==◌, ◌+◌, ◌*◌, ◌/◌, ◌%◌};
 
-use crate::judge::Judge;
 use refusing::Refusing;
 use std::alloc::{AllocError, Allocator, Global};
 use std::mem;
+use thin_runner::judge::Judge;
 
 /// The allocator of a test, which can refuse a request.
 pub type Lender<'a> = &'a Refusing<Global>;

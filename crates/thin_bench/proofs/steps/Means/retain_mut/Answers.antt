@@ -1,9 +1,0 @@
--- Each call of the closure is a question to the judge that it holds.
-use Rattle.std.proofs.Common.{rules}
-use Rattle.thin_bench.proofs.FilterLemmas.{retained-by}
-use Rattle.thin_bench.proofs.steps.Means.retain_mut.Goals as goal
-
-pub returns : goal.returns
-returns g c =
-    let e = c.retain_mut.ensures in
-    record { allowed = retained-by (λ f. f.0) _ _ (λ f x b f' y called. search rules) _ c.args.list.now c.retain_mut.new.self e.retained e.capacity e.alloc }

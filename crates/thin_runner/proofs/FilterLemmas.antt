@@ -1,0 +1,111 @@
+-- Calls of a closure whose answers are those of a judge, asked about the items of a list.
+use Rattle.std.proofs.Common.{◌≡◌, ℕ, suc, ◌≤◌, ◌==◌, length, refl, arith, List, [], ◌∷◌, Bool, true, false, ap, subst, ◌∙◌}
+use denote.MutBor.{MutBor}
+use denote.Param.Members.{Mut}
+use Rattle.std.specs.Fn.{CalledAtMut, ComparesKeys}
+use Rattle.std.specs.List.{dedup, dedup_from}
+use Rattle.std.specs.Prelude.{MatchBool, if◌then◌else◌, not}
+use Rattle.thin_vec.specs.Cost.{moving}
+use Rattle.thin_vec.specs.Filters.{Answers, Asked, AskedLast, AskedPairs, IsDedupedBy, IsRetained, flags_of, left_at, moved_up}
+use Rattle.thin_vec.specs.ThinVec.{Thin}
+use Rattle.thin_runner.specs.commands.Filters.{asked, deduped, kept, kept_from, looking, same_key, sifted, stays, stays_from}
+
+-- the state of the closure has a judge, and each call answers as that judge does
+module _ {S T J : Type 0} (R : S → T → Bool → S → T → Type 0) (judge_of : S → J) (ask : J → T → Bool × T × J) (told : (s : S) (x : T) (b : Bool) (u : S) (y : T) → R s x b u y → (b, y, judge_of u) ≡ ask (judge_of s) x) where
+  pub asked-by : (s t : S) (xs : List T) (answers : Answers T) → Asked R s xs answers t → answers ≡ asked ask (judge_of s) xs
+  asked-by s t [] answers a = a.0
+  asked-by s t (x ∷ xs) answers a =
+      a.6 ∙ (ap (λ l. (a.0, a.1) ∷ l) (asked-by a.2 t xs a.3 a.5) ∙ ap (λ l. (l.0, l.1) ∷ asked ask l.2 xs) (told s x a.0 a.2 a.1 a.4))
+
+module _ {S T J : Type 0} (R : S → T → T → Bool → S → T → T → Type 0) (judge_of : S → J) (same : J → T → T → Bool × T × T × J) (told : (s : S) (x k : T) (b : Bool) (u : S) (x' k' : T) → R s x k b u x' k' → (b, x', k', judge_of u) ≡ same (judge_of s) x k) where
+  pub asked-last-by : (s t : S) (k : T) (xs : List T) (flags : List Bool) (ys : List T) → AskedLast R s k xs flags ys t → (flags ≡ stays_from same (judge_of s) k xs) × (ys ≡ kept_from same (judge_of s) k xs)
+  asked-last-by s t k [] flags ys a = (a.0, a.1)
+  asked-last-by s t k (x ∷ xs) flags ys a =
+      subst (λ p. (flags ≡ not p.0 ∷ (if p.0 then stays_from same p.3 p.2 xs else stays_from same p.3 p.1 xs)) × (ys ≡ (if p.0 then kept_from same p.3 p.2 xs else p.2 ∷ kept_from same p.3 p.1 xs)))
+      (told s x k a.0 a.3 a.1 a.2 a.5) (answered (λ l zs m. asked-last-by a.3 t l xs a.4 zs m) a.0 a.7 a.6)
+    where
+      answered : ((l : T) (zs : List T) → AskedLast R a.3 l xs a.4 zs t → (a.4 ≡ stays_from same (judge_of a.3) l xs) × (zs ≡ kept_from same (judge_of a.3) l xs)) → (b : Bool) → MatchBool b (AskedLast R a.3 a.2 xs a.4 ys t) ((zs : List T) × AskedLast R a.3 a.1 xs a.4 zs t × (ys ≡ a.2 ∷ zs)) → flags ≡ not b ∷ a.4
+          → (flags ≡ not b ∷ (if b then stays_from same (judge_of a.3) a.2 xs else stays_from same (judge_of a.3) a.1 xs)) × (ys ≡ (if b then kept_from same (judge_of a.3) a.2 xs else a.2 ∷ kept_from same (judge_of a.3) a.1 xs))
+      answered by true m e = let h = by a.2 ys m in (e ∙ ap (λ l. false ∷ l) h.0, h.1)
+      answered by false m e = let h = by a.1 m.0 m.1 in (e ∙ ap (λ l. true ∷ l) h.0, m.2 ∙ ap (λ l. a.2 ∷ l) h.1)
+
+  pub asked-pairs-by : (s t : S) (xs : List T) (flags : List Bool) (ys : List T) → AskedPairs R s xs flags ys t → (flags ≡ stays same (judge_of s) xs) × (ys ≡ kept same (judge_of s) xs)
+  asked-pairs-by s t [] flags ys a = (a.0, a.1)
+  asked-pairs-by s t (x ∷ xs) flags ys a = asked-last-by s t x xs flags ys a
+
+module _ {S T A J : Type 0} (judge_of : S → J) where
+  -- the list that is left, where a closure of such a judge was asked about each item
+  pub retained-by : (R : S → T → Bool → S → T → Type 0) (ask : J → T → Bool × T × J) → ((s : S) (x : T) (b : Bool) (u : S) (y : T) → R s x b u y → (b, y, judge_of u) ≡ ask (judge_of s) x)
+      → (s : S) (v w : Thin T A) → IsRetained R s v w → w.capacity ≡ v.capacity → w.alloc ≡ v.alloc → w ≡ sifted v (asked ask (judge_of s) v.items)
+  retained-by R ask told s v w r capacity alloc =
+      let same = asked-by R judge_of ask told s r.0 v.items r.1.answers r.1.asked in
+      let items = r.1.items ∙ ap (λ a. left_at true a) same in
+      let cost = r.1.cost ∙ ap (λ a. moving (moved_up (flags_of a)) v.cost) same in
+      λ i. record { items = items i; capacity = capacity i; alloc = alloc i; cost = cost i }
+
+  pub deduped-by : (R : S → T → T → Bool → S → T → T → Type 0) (same : J → T → T → Bool × T × T × J) → ((s : S) (x k : T) (b : Bool) (u : S) (x' k' : T) → R s x k b u x' k' → (b, x', k', judge_of u) ≡ same (judge_of s) x k)
+      → (s : S) (v w : Thin T A) → IsDedupedBy R s v w → w.capacity ≡ v.capacity → w.alloc ≡ v.alloc → w ≡ deduped v same (judge_of s)
+  deduped-by R same told s v w r capacity alloc =
+      let by = asked-pairs-by R judge_of same told s r.0 v.items r.1.stays w.items r.1.asked in
+      let cost = r.1.cost ∙ ap (λ flags. moving (moved_up flags) v.cost) by.0 in
+      λ i. record { items = by.1 i; capacity = capacity i; alloc = alloc i; cost = cost i }
+
+module _ {T J : Type 0} (key : J → T → ℕ × T × J) (j u v : J) where
+  -- two keys, one after the other
+  pub keyed : (x x' y y' : T) (k l : ℕ) → (k, x', u) ≡ key j x → (l, y', v) ≡ key u y
+      → (k == l, x', y', v) ≡ same_key key j x y
+  keyed x x' y y' k l first second =
+      ap (λ b. (k == b.0, x', b.1, b.2)) second ∙ ap (λ a. let b = key a.2 y in (a.0 == b.0, a.1, b.1, b.2)) first
+
+-- the list that is left, where a closure of such a judge gave the keys
+module _ {F T A J : Type 0} (g : Mut F (MutBor T × Unit {0}) (ℕ × (MutBor T × Unit {0}))) (judge_of : F → J) (key : J → T → ℕ × T × J)
+    (told : (f : F) (x : T) (k : ℕ) (f' : F) (x' : T) → CalledAtMut g f x k f' x' → (k, x', judge_of f') ≡ key (judge_of f) x) where
+  pub deduped-by-keys : (f : F) (v w : Thin T A) → IsDedupedBy (ComparesKeys g (λ a b. a == b)) f v w → w.capacity ≡ v.capacity → w.alloc ≡ v.alloc → w ≡ deduped v (same_key key) (judge_of f)
+  deduped-by-keys f v w d capacity alloc =
+      deduped-by judge_of (ComparesKeys g (λ a b. a == b)) (same_key key)
+      (λ f x k b f' x' k' called.
+      let first = told f x called.key called.between x' called.first in
+      let second = told called.between k called.other f' k' called.second in
+      ap (λ z. (z, x', k', judge_of f')) called.compared
+      ∙ keyed key (judge_of f) (judge_of called.between) (judge_of f') x x' k k' called.key called.other first second)
+      f v w d capacity alloc
+
+-- a question that only looks leaves the item
+pub looked : {T J : Type 0} (look : J → T → Bool × J) (j u : J) (x y : T) (b : Bool) → (b, u) ≡ look j x → y ≡ x → (b, y, u) ≡ looking look j x
+looked look j u x y b told same = ap (λ z. (b, z, u)) same ∙ ap (λ a. (a.0, x, a.1)) told
+
+-- no more items stay than there were
+module _ {T : Type 0} where
+  pub few-left : (answers : Answers T) → length (left_at true answers) ≤ length answers
+  few-left [] = omega arith
+  few-left ((true, x) ∷ answers) = omega (arith, few-left answers)
+  few-left ((false, x) ∷ answers) = omega (arith, few-left answers)
+
+  few-one : (b : Bool) (n : ℕ) (y : T) (xs ys : List T) → length xs ≤ n → length ys ≤ n → length (if b then xs else y ∷ ys) ≤ suc n
+  few-one true n y xs ys few less = omega (arith, few)
+  few-one false n y xs ys few less = omega (arith, less)
+
+  few-dedup-from : (same : T → T → Bool) (k : T) (xs : List T) → length (dedup_from same k xs) ≤ suc (length xs)
+  few-dedup-from same k [] = omega arith
+  few-dedup-from same k (x ∷ xs) = few-one (same x k) (suc (length xs)) k _ _ (few-dedup-from same k xs) (few-dedup-from same x xs)
+
+  pub few-dedup : (same : T → T → Bool) (xs : List T) → length (dedup same xs) ≤ length xs
+  few-dedup same [] = omega arith
+  few-dedup same (x ∷ xs) = few-dedup-from same x xs
+
+module _ {T J : Type 0} where
+  pub asked-length : (ask : J → T → Bool × T × J) (j : J) (xs : List T) → length (asked ask j xs) ≡ length xs
+  asked-length ask j [] = refl
+  asked-length ask j (x ∷ xs) = ap suc (asked-length ask (ask j x).2 xs)
+
+  pub few-asked : (ask : J → T → Bool × T × J) (j : J) (xs : List T) → length (left_at true (asked ask j xs)) ≤ length xs
+  few-asked ask j xs = omega (arith, few-left (asked ask j xs), asked-length ask j xs)
+
+  few-kept-from : (same : J → T → T → Bool × T × T × J) (j : J) (k : T) (xs : List T) → length (kept_from same j k xs) ≤ suc (length xs)
+  few-kept-from same j k [] = omega arith
+  few-kept-from same j k (x ∷ xs) =
+      let a = same j x k in few-one a.0 (suc (length xs)) a.2 _ _ (few-kept-from same a.3 a.2 xs) (few-kept-from same a.3 a.1 xs)
+
+  pub few-kept : (same : J → T → T → Bool × T × T × J) (j : J) (xs : List T) → length (kept same j xs) ≤ length xs
+  few-kept same j [] = omega arith
+  few-kept same j (x ∷ xs) = few-kept-from same j x xs

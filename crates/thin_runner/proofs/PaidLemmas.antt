@@ -1,0 +1,151 @@
+-- A cheap list stays cheap in a run without `ReserveExact` and `ShrinkToFit`.
+use Rattle.std.proofs.Common.{◌≡◌, ℕ, suc, ◌+◌, ◌-◌, ◌^◌, ◌<◌, ◌≤◌, List, [], ◌∷◌, ◌++◌, Some, None, length, arith, ap, sym, subst, ◌∙◌, refl, inl, inr}
+use Rattle.std.proofs.lemmas.Bool.{cases_lt}
+use Rattle.std.proofs.lemmas.List.{length-append, length-set, length_push, length-drop, length-take}
+use Rattle.std.proofs.lemmas.List.Edits.{length-insert}
+use Rattle.std.specs.List.{AllZip, AppendsClones, remove_range, swap_remove, slice_index_or}
+use Rattle.thin_vec.specs.Clones.{IsResized}
+use Rattle.thin_runner.specs.commands.Filters.{looking, same_key}
+use Rattle.thin_runner.proofs.ExtractLemmas.{few-extracted}
+use Rattle.thin_runner.proofs.FilterLemmas.{few-asked, few-dedup, few-kept}
+use Rattle.thin_runner.proofs.RunLemmas.{runs-keep}
+use Rattle.std.specs.Prelude.{◌⊎◌, All, HoldsAt, drop, remove, slice_get, slice_set, take}
+use Rattle.std.specs.Borrow.{RattleType}
+use Rattle.std.specs.Option.{option_to_list}
+use Rattle.thin_vec.specs.Cost.{Cost}
+use Rattle.thin_vec.specs.Cheap.{IsCheap, IsCheapAt}
+use Rattle.thin_vec.specs.Growth.{Rule, KeepsLaw}
+use Rattle.thin_vec.specs.ThinVec.{Thin, capacity_for, cost_at}
+use Rattle.thin_vec.proofs.ThinVecLemmas.{cap-kept, cap-grown, cheap-regrown}
+use Rattle.thin_runner.specs.Setting.{Setting}
+use Rattle.thin_runner.specs.Steps.{Steps}
+use Rattle.thin_runner.specs.commands.Edits.{Grows, grown}
+use Rattle.thin_runner.specs.commands.Many.{RefusesClone}
+use Rattle.thin_vec.specs.declared.ThinVecError.{ThinVecError}
+use Rattle.thin_runner.specs.Run.{KeepsCheap, Runs}
+use Rattle.thin_runner.specs.declared.command.Command.{Command}
+use Rattle.thin_runner.specs.declared.command.Command.TheVariants.{Push, Pop, Insert, Remove, SwapRemove, Set, Truncate, Clear, Reserve, ReserveExact, ShrinkToFit, Resize, ExtendFromSlice, Extend, Append, SplitOff, Clone, Retain, RetainMut, Dedup, DedupBy, DedupByKey, Drain, ExtractIf, Splice}
+use Rattle.thin_runner.specs.declared.command.Reply.{Reply}
+use Rattle.thin_runner.specs.declared.command.Reply.TheVariants.{Answers, Done, Item, List as Made, Other, Returned, Refused, Stopped, OutOfRange}
+
+-- copied items and blocks decide whether a cost is cheap
+cheap-same : (c : ℕ) (k k' : Cost) → k'.blocks ≡ k.blocks → k'.grown ≡ k.grown → IsCheapAt c k → IsCheapAt c k'
+cheap-same c k k' blocks grown h = record {
+  none = λ e. let z = h.none e in (omega (arith, blocks, z.0), omega (arith, grown, z.1));
+  grown = λ e. omega (arith, grown, h.grown e);
+  blocks = λ e. let b = h.blocks e in let same : 2 ^ k'.blocks ≡ 2 ^ k.blocks = ap (λ n. 2 ^ n) blocks in omega (arith, same, b);
+}
+
+-- a cheap list that has room for its items
+pub record IsPaid {T A : Type 0} (v : Thin T A) : Type 0 where
+  pub cheap : IsCheap v
+  pub room : length v.items ≤ v.capacity
+
+module _ {T A : Type 0} (rule : Rule) (R : RattleType) (law : KeepsLaw rule) where
+  -- the capacity, the blocks and the copied items stay, and no item comes in
+  kept-paid : (v w u : Thin T A) → IsPaid v → w ≡ u → u.capacity ≡ v.capacity → u.cost.blocks ≡ v.cost.blocks → u.cost.grown ≡ v.cost.grown → length u.items ≤ length v.items → IsPaid w
+  kept-paid v w u a e cap blocks copied few =
+      let room : length v.items ≤ v.capacity = a.room in
+      let cheap : IsCheapAt v.capacity u.cost = cheap-same v.capacity v.cost u.cost blocks copied a.cheap in
+      subst IsPaid (sym e) (record { cheap = subst (λ c. IsCheapAt c u.cost) (sym cap) cheap; room = omega (arith, room, few, cap) })
+
+  same-paid : (v w : Thin T A) → IsPaid v → w ≡ v → IsPaid w
+  same-paid v w a e = subst IsPaid (sym e) a
+
+  -- the capacity is the ruled one for n items more, and at most n come in
+  ruled-paid : (v w u : Thin T A) (n : ℕ) → IsPaid v → capacity_for rule R v n ≡ Some w.capacity → w ≡ u → u.cost.blocks ≡ (cost_at v w.capacity).blocks → u.cost.grown ≡ (cost_at v w.capacity).grown → length u.items ≤ length v.items + n → IsPaid w
+  ruled-paid v w u n a next e blocks copied few =
+      record {
+        cheap = cheap-same w.capacity (cost_at v w.capacity) w.cost (ap (λ z. z.cost.blocks) e ∙ blocks) (ap (λ z. z.cost.grown) e ∙ copied) (cheap-regrown rule R law v n w.capacity a.cheap a.room next);
+        room = elim (cases_lt v.capacity (length v.items + n)) [
+          | inl full ↦ let g = cap-grown rule R law v n w.capacity full next in omega (arith, ap (λ z. length z.items) e, few, g.0)
+          | inr spare ↦ let same = cap-kept rule R law v n w.capacity spare next in omega (arith, ap (λ z. length z.items) e, few, same, spare)
+        ];
+      }
+
+  refused-paid : (infallible : T → Type 0) (v w : Thin T A) (n : ℕ) (sources : List T) (cause : ThinVecError) → IsPaid v → RefusesClone infallible (capacity_for rule R v n) v n sources cause w → IsPaid w
+  refused-paid infallible v w n sources cause a r = stopped r.2
+    where
+      stopped : (w ≡ v) ⊎ ((at : ℕ) × (at < length sources) × HoldsAt (λ x. ¬ (infallible x)) sources at × Grows (capacity_for rule R v n) v v.items at w) → IsPaid w
+      stopped (inl e) = same-paid v w a e
+      stopped (inr s) = ruled-paid v w _ n a s.3.0 s.3.1 refl refl (omega arith)
+
+module _ {T : Type 0} where
+  few-swap_remove : (xs : List T) (i : ℕ) (x : T) → length (swap_remove xs i x) ≤ length xs
+  few-swap_remove xs i x = omega (arith, length-take (length xs - 1) (slice_set xs i (slice_index_or xs (length xs - 1) x)))
+
+  few-drained : (xs : List T) (a b : ℕ) → a ≤ b → b ≤ length xs → length (remove_range xs a b) ≤ length xs
+  few-drained xs a b order within = omega (arith, order, within, length-append (take a xs) (drop b xs), length-take a xs, length-drop b xs)
+
+  few-take : (xs : List T) (k : ℕ) → length (take k xs) ≤ length xs
+  few-take xs k = omega (arith, length-take k xs)
+
+  few-remove : (xs : List T) (i : ℕ) (x : T) → slice_get xs i ≡ Some x → length (remove xs i) ≤ length xs
+  few-remove xs i x at = omega (arith, length-append (take i xs) (drop (suc i) xs), length-take i xs, length-drop (suc i) xs)
+
+  one-more : (xs : List T) (x : T) → length (xs ++ x ∷ []) ≤ length xs + 1
+  one-more xs x = omega (arith, length_push xs x)
+
+  all-more : (xs ys : List T) → length (xs ++ ys) ≤ length xs + length ys
+  all-more xs ys = omega (arith, length-append xs ys)
+
+  resized-more : (clones : T → T → Type 0) (xs ys : List T) (k : ℕ) (x : T) → IsResized clones xs k x ys → length ys ≤ length xs + (k - length xs)
+  resized-more clones xs ys k x r = omega (arith, r.len)
+
+  zipped-more : (clones : T → T → Type 0) (xs ys : List T) → AllZip clones xs ys → length ys ≡ length xs
+  zipped-more clones [] [] z = refl
+  zipped-more clones (x ∷ xs) (y ∷ ys) z = ap suc (zipped-more clones xs ys z.1)
+  zipped-more clones xs ys z = absurd z
+
+  clones-more : (clones : T → T → Type 0) (xs ys more : List T) → AppendsClones clones xs ys more → length ys ≤ length xs + length more
+  clones-more clones xs ys more a = omega (arith, ap length a.1, length-append xs a.0, zipped-more clones more a.0 a.2)
+
+module _ {T A G J : Type 0} (here : Setting T A J) (law : KeepsLaw here.rule) where
+  pub step-paid : (v w : Thin T A) (command : Command T A G) (reply : Reply T A G) → KeepsCheap command → IsPaid v → Steps here v command reply w → IsPaid w
+  step-paid v w command (OutOfRange back) keeps a s = same-paid here.rule here.R law v w a s.2
+  step-paid v w (ReserveExact k) reply keeps a s = absurd keeps
+  step-paid v w ShrinkToFit reply keeps a s = absurd keeps
+  step-paid v w (Push x) Done keeps a s = ruled-paid here.rule here.R law v w _ 1 a s.0 s.1 refl refl (one-more v.items x)
+  step-paid v w (Push x) (Returned y cause) keeps a s = same-paid here.rule here.R law v w a s.1.2
+  step-paid v w Pop (Item o) keeps a s = kept-paid here.rule here.R law v w _ a s.2 refl refl refl (omega (arith, ap length s.1, length-append w.items (option_to_list o)))
+  step-paid v w (Insert i x) Done keeps a s = ruled-paid here.rule here.R law v w _ 1 a s.1.0 s.1.1 refl refl (omega (arith, length-insert v.items i x s.0))
+  step-paid v w (Insert i x) (Returned y cause) keeps a s = same-paid here.rule here.R law v w a s.1.2
+  step-paid v w (Remove i) (Item (Some x)) keeps a s = kept-paid here.rule here.R law v w _ a s.1 refl refl refl (few-remove v.items i x s.0)
+  step-paid v w (SwapRemove i) (Item (Some x)) keeps a s = kept-paid here.rule here.R law v w _ a s.1 refl refl refl (few-swap_remove v.items i x)
+  step-paid v w (Set i x) (Item (Some y)) keeps a s = kept-paid here.rule here.R law v w _ a s.1 refl refl refl (omega (arith, length-set v.items i x))
+  step-paid v w (Truncate k) Done keeps a s = kept-paid here.rule here.R law v w _ a s refl refl refl (few-take v.items k)
+  step-paid v w Clear Done keeps a s = kept-paid here.rule here.R law v w _ a s refl refl refl (omega arith)
+  step-paid v w (Reserve k) Done keeps a s = ruled-paid here.rule here.R law v w _ k a s.0 s.1 refl refl (omega arith)
+  step-paid v w (Reserve k) (Refused cause) keeps a s = same-paid here.rule here.R law v w a s.2
+  step-paid v w (Resize k x) Done keeps a s = ruled-paid here.rule here.R law v w _ (k - length v.items) a s.1.0 s.1.1 refl refl (resized-more here.clones v.items w.items k x s.0)
+  step-paid v w (Resize k x) (Refused cause) keeps a s = refused-paid here.rule here.R law here.infallible v w (k - length v.items) _ cause a s.1
+  step-paid v w (ExtendFromSlice xs) Done keeps a s = ruled-paid here.rule here.R law v w _ (length xs.items) a s.1.0 s.1.1 refl refl (clones-more here.clones v.items w.items xs.items s.0)
+  step-paid v w (ExtendFromSlice xs) (Refused cause) keeps a s = refused-paid here.rule here.R law here.infallible v w (length xs.items) xs.items cause a s.1
+  step-paid v w (Extend xs lower) Done keeps a s = record { cheap = s.cheap a.cheap; room = s.within.room }
+  step-paid v w (Extend xs lower) (Stopped answers cause held in_hand rest) keeps a s = record { cheap = s.2.filled.cheap a.cheap; room = s.2.filled.within.room }
+  step-paid v w (Append given) (Other back None) keeps a s = ruled-paid here.rule here.R law v w _ (length given.items) a s.1.0 s.1.1 refl refl (all-more v.items given.items)
+  step-paid v w (Append given) (Other back (Some cause)) keeps a s = same-paid here.rule here.R law v w a s.1.2
+  step-paid v w (SplitOff at) (Made tail) keeps a s = kept-paid here.rule here.R law v w _ a s.2 refl refl refl (few-take v.items at)
+  step-paid v w (SplitOff at) (Refused cause) keeps a s = same-paid here.rule here.R law v w a s.1.1
+  step-paid v w Clone (Made copy) keeps a s = same-paid here.rule here.R law v w a s.2
+  step-paid v w Clone (Refused cause) keeps a s = same-paid here.rule here.R law v w a s.1.1
+  step-paid v w Retain Done keeps a s = kept-paid here.rule here.R law v w _ a s refl refl refl (few-asked (looking here.judging.look) here.judge v.items)
+  step-paid v w RetainMut Done keeps a s = kept-paid here.rule here.R law v w _ a s refl refl refl (few-asked here.judging.keep here.judge v.items)
+  step-paid v w Dedup Done keeps a s = kept-paid here.rule here.R law v w _ a s refl refl refl (few-dedup here.eq v.items)
+  step-paid v w DedupBy Done keeps a s = kept-paid here.rule here.R law v w _ a s refl refl refl (few-kept here.judging.same here.judge v.items)
+  step-paid v w DedupByKey Done keeps a s = kept-paid here.rule here.R law v w _ a s refl refl refl (few-kept (same_key here.judging.key) here.judge v.items)
+  step-paid v w (Drain i j steps) (Answers answers) keeps a s = kept-paid here.rule here.R law v w _ a s.3 refl refl refl (few-drained v.items i j s.0 s.1)
+  step-paid v w (Drain i j steps) (Refused cause) keeps a s = same-paid here.rule here.R law v w a s.1.1
+  step-paid v w (ExtractIf i j k) (Answers answers) keeps a s =
+      kept-paid here.rule here.R law v w _ a s.3 refl refl refl (few-extracted here.judging.take here.judge k v.items i j s.0 s.1)
+  step-paid v w (ExtractIf i j k) (Refused cause) keeps a s = same-paid here.rule here.R law v w a s.1.1
+  step-paid v w (Splice i j steps xs lower) (Answers answers) keeps a s = record { cheap = s.3.cheap a.cheap; room = s.3.within.room }
+  step-paid v w (Splice i j steps xs lower) (Stopped answers cause held in_hand rest) keeps a s =
+      record { cheap = s.3.filled.cheap a.cheap; room = s.3.filled.within.room }
+  step-paid v w (Splice i j steps xs lower) (Refused cause) keeps a s = same-paid here.rule here.R law v w a s.1.1
+  step-paid v w command reply keeps a s = absurd s
+
+  pub runs-paid : (v w : Thin T A) (commands : List (Command T A G)) (replies : List (Reply T A G)) → All KeepsCheap commands → IsPaid v → Runs here v commands replies w → IsPaid w
+  runs-paid v w commands replies only a run =
+      runs-keep here (λ n z. IsPaid z) KeepsCheap (λ c r. 0) (λ n x y c r keeps h s. step-paid x y c r keeps h s)
+      (λ cs rs. 0) (λ c r cs rs. omega arith) (omega arith) 0 v w commands replies only a run

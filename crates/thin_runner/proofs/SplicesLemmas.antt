@@ -1,0 +1,105 @@
+-- What `finish` gives of the words of a splice that a command makes.
+use Rattle.std.proofs.Common.{◌≡◌, ℕ, ◌-◌, ◌*◌, ◌<◌, List, [], ◌∷◌, ◌++◌, Option, ap, append_assoc, arith, drop, inl, inr, length, refl, subst, sym, take, ◌∙◌}
+use Rattle.std.proofs.lemmas.List.{length-drop}
+use Rattle.std.specs.Borrow.{RattleType}
+use Rattle.std.specs.declared.iter.Iterator.{can_next-default}
+use Rattle.std.specs.Option.{option_to_list}
+use Rattle.thin_vec.specs.Filling.{IsSpliced, Stopped, left_of}
+use Rattle.thin_vec.specs.Growth.{Rule}
+use Rattle.thin_vec.specs.Open.{Open}
+use Rattle.thin_vec.specs.ThinVec.{HasRoomFor, Thin}
+use Rattle.thin_vec.specs.declared.ThinVecError.{ThinVecError}
+use Rattle.thin_runner.specs.Hinted.{HintedSteps, hinted_claim, hinted_count, hinted_items}
+use Rattle.thin_runner.specs.commands.Splices.{HasPlacesFor, Replaces, StopsBetween, cut}
+use Rattle.thin_runner.specs.declared.hinted.Hinted.{Hinted}
+use Rattle.thin_runner.proofs.HintedLemmas.{yields-claim, yields-items}
+
+-- a list of no items
+no-items : {T : Type 0} (xs : List T) → length xs ≡ 0 → xs ≡ []
+no-items [] none = refl
+no-items (x ∷ xs) none = absurd (omega (arith, none))
+
+module _ {T A : Type 0} (s rest : Hinted T A) (placed held : List T)
+    (in_hand : Option T) where
+  -- what a `Hinted` gave that a refused `finish` drew from
+  abbrev pub Broke : Type 0
+  Broke = Stopped (HintedSteps {T = T} {A = A}) (can_next-default (Hinted T A) T) hinted_count s
+      placed held in_hand rest
+
+  -- what a refused `finish` placed, what it holds, the item in hand and the rest are what there was
+  pub stopped-items : Broke → hinted_items s ≡ placed ++ (held ++ (option_to_list in_hand ++ hinted_items rest))
+  stopped-items (inl gave) =
+      yields-items s rest ((placed ++ held) ++ option_to_list in_hand) gave.0
+      ∙ (append_assoc (placed ++ held) (option_to_list in_hand) (hinted_items rest)
+      ∙ append_assoc placed held (option_to_list in_hand ++ hinted_items rest))
+  stopped-items (inr ended) =
+      let left : option_to_list in_hand ++ hinted_items rest ≡ [] =
+      ap (λ (o : Option T). option_to_list o ++ hinted_items rest) ended.0 ∙ ended.1.2.0.1 in
+      yields-items s ended.1.0 (placed ++ held) ended.1.1
+      ∙ (ap (λ (l : List T). (placed ++ held) ++ l) (ended.1.2.0.0 ∙ sym left)
+      ∙ append_assoc placed held (option_to_list in_hand ++ hinted_items rest))
+
+  -- and the rest claims what there was
+  pub stopped-claim : Broke → hinted_claim rest ≡ hinted_claim s
+  stopped-claim (inl gave) = yields-claim s rest ((placed ++ held) ++ option_to_list in_hand) gave.0
+  stopped-claim (inr ended) =
+      ended.1.2.1 ∙ yields-claim s ended.1.0 (placed ++ held) ended.1.1
+
+module _ {T A : Type 0} (old : Thin T A) (a b : ℕ) where
+  -- the open block of a splice of the items from a up to b, and the list's allocator
+  pub record IsOpened (hole : Open T A) (alloc : A) : Type 0 where
+    pub front : hole.front ≡ take a old.items
+    pub tail : hole.tail ≡ drop b old.items
+    pub capacity : hole.capacity ≡ old.capacity
+    pub same : alloc ≡ old.alloc
+    pub cost : hole.cost ≡ old.cost
+
+  module _ (hole : Open T A) (alloc : A) (is : IsOpened hole alloc) where
+    -- what is left of the list
+    pub left-is : left_of hole alloc ≡ cut old a b
+    left-is = λ i. record {
+      items = is.front i ++ is.tail i;
+      capacity = is.capacity i;
+      alloc = is.same i;
+      cost = is.cost i;
+    }
+
+    pub tail-count : length hole.tail ≡ length old.items - b
+    tail-count = ap length is.tail ∙ length-drop b old.items
+
+    pub some-tail : b < length old.items → 0 < length hole.tail
+    some-tail more = omega (arith, tail-count, more)
+
+    pub no-tail : b ≡ length old.items → hole.tail ≡ []
+    no-tail all = no-items hole.tail (omega (arith, tail-count, all))
+
+    pub spliced : (new : Thin T A) → IsSpliced (left_of hole alloc) new (2 * length hole.tail)
+        → IsSpliced (cut old a b) new (2 * (length old.items - b))
+    spliced new cost =
+        subst (λ (v : Thin T A). IsSpliced v new (2 * (length old.items - b))) left-is
+        (subst (λ (n : ℕ). IsSpliced (left_of hole alloc) new (2 * n)) tail-count cost)
+
+    -- where there are places enough, what follows of each of the two cases
+    pub with-places : (P : Type 0) (most size range : ℕ) → size ≡ most → range ≡ b - a
+        → (0 < length hole.tail → size < range → P)
+        → (hole.tail ≡ [] → HasRoomFor (left_of hole alloc) size → P)
+        → HasPlacesFor old a b most → P
+    with-places P most size range count width between behind (inl few) =
+        between (some-tail few.0) (omega (arith, few.1, count, width))
+    with-places P most size range count width between behind (inr room) =
+        behind (no-tail room.0) (subst (λ (n : ℕ). HasRoomFor (left_of hole alloc) n) (sym count)
+        (subst (λ (v : Thin T A). HasRoomFor v most) (sym left-is) room.1))
+
+-- what is said of a list is said of it under another name
+module _ {T A : Type 0} {rule : Rule} {R : RattleType} {old v w : Thin T A} {a b : ℕ} where
+  pub replaces-of : {placed : List T} {most : ℕ} → v ≡ w → Replaces rule R old a b placed most v
+      → Replaces rule R old a b placed most w
+  replaces-of {placed} {most} same =
+      subst (λ (u : Thin T A). Replaces rule R old a b placed most u) same
+
+  pub stops-of : {xs held : List T} {lower : ℕ} {cause : ThinVecError} {in_hand : Option T}
+      {rest : Hinted T A} → v ≡ w
+      → StopsBetween rule R old a b xs lower cause held in_hand rest v
+      → StopsBetween rule R old a b xs lower cause held in_hand rest w
+  stops-of {xs} {held} {lower} {cause} {in_hand} {rest} same =
+      subst (λ (u : Thin T A). StopsBetween rule R old a b xs lower cause held in_hand rest u) same

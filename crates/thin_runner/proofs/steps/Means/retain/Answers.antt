@@ -1,0 +1,14 @@
+-- Each call of the closure is a look of the judge that it holds.
+use Rattle.std.proofs.Common.{rules}
+use Rattle.thin_runner.proofs.FilterLemmas.{looked, retained-by}
+use Rattle.thin_runner.proofs.steps.Means.retain.Goals as goal
+
+pub returns : goal.returns
+returns g c =
+    let e = c.retain.ensures in
+    let look = g.J.Judge.judging.look in
+    record {
+      allowed = retained-by (λ f. f.0) _ _
+          (λ f x b f' y called. looked look f.0 f'.0 x y b (search rules) called.1)
+          _ c.args.list.now c.retain.new.self e.retained e.capacity e.alloc;
+    }

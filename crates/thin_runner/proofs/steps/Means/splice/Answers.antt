@@ -1,0 +1,129 @@
+-- What took the range's place, what is held, in hand and left are what there was.
+use Rattle.std.proofs.Common.{rules, ◌≡◌, ◌+◌, ◌++◌, ◌∙◌, ap, arith, length, length-append, subst, sym}
+use Rattle.std.proofs.lemmas.Bool.{false≢true}
+use Rattle.std.specs.Iterator.{size}
+use Rattle.thin_runner.specs.Hinted.{hinted_claim, hinted_count, hinted_items}
+use Rattle.thin_runner.proofs.HintedLemmas.{drains-items}
+use Rattle.thin_runner.proofs.SplicesLemmas.{IsOpened, left-is, no-tail, replaces-of, some-tail, spliced, stops-of, stopped-claim, stopped-items, with-places}
+use Rattle.thin_vec.specs.Cheap.{IsCheap}
+use Rattle.thin_vec.specs.Extend.{IsLoose}
+use Rattle.thin_vec.specs.Splice.{splice_alloc, splice_hole, splice_iter}
+use Rattle.thin_vec.specs.ThinVec.{IsWithin}
+use Rattle.thin_runner.proofs.steps.Means.splice.Goals as goal
+
+pub returns-in-Ok-finish : goal.returns-in-Ok-finish
+returns-in-Ok-finish g c =
+    let k = c.walk.ensures.keeps in
+    let s = c.splice-splice.ensures in
+    let old = c.args.list.now in
+    let start = c.args.start in
+    let end = c.args.end in
+    let iter = k.iter ∙ s.iter in
+    let items = ap hinted_items iter ∙ c.new.ensures.items in
+    let claim = ap hinted_claim iter ∙ c.new.ensures.claim in
+    let is : IsOpened old start end (splice_hole c.walk.new.splice) (splice_alloc c.walk.new.splice) =
+    record {
+      front = k.front ∙ s.front;
+      tail = k.tail ∙ s.tail;
+      capacity = k.capacity ∙ s.capacity;
+      same = k.alloc ∙ s.alloc;
+      cost = k.cost ∙ s.cost;
+    } in
+    let hole = splice_hole c.walk.new.splice in
+    let alloc = splice_alloc c.walk.new.splice in
+    let width = k.range ∙ s.range in
+    let most : size (hinted_count (splice_iter c.walk.new.splice)) ≡ c.args.lower + length c.args.items.items =
+    omega (arith, claim, ap length items) in
+    let left : c.finish.new.self.0 ≡ c.list-1.given.0 = search rules in
+    let e = c.in-Ok-finish.ensures in
+    let all = drains-items (splice_iter c.walk.new.splice) e.items.0 e.items.1 ∙ items in
+    record {
+      allowed = (
+        c.requires.start_le_end,
+        c.requires.in_bounds,
+        search rules,
+        replaces-of left (record {
+          items = e.items.2 ∙ (λ i. (is.front i ++ all i) ++ is.tail i);
+          capacity = subst (λ n. IsLoose g.G.Growth.rule _ n c.finish.new.self.0.capacity) is.capacity e.capacity;
+          within = subst (λ list. IsWithin _ list) (sym left) c.capacity-capacity.ensures.within;
+          had_room = with-places old start end hole alloc is _ _ _ _ most width
+              (λ some few. e.had_room some few ∙ is.capacity)
+              (λ none room. e.had_room_behind none room ∙ is.capacity);
+          cost = spliced old start end hole alloc is _ e.cost;
+          cheap = λ cheap. e.cheap (subst IsCheap (sym (left-is old start end hole alloc is)) cheap);
+          alloc = e.alloc ∙ is.same;
+        }),
+      );
+    }
+
+pub returns-in-Err-finish : goal.returns-in-Err-finish
+returns-in-Err-finish g c =
+    let k = c.walk.ensures.keeps in
+    let s = c.splice-splice.ensures in
+    let old = c.args.list.now in
+    let start = c.args.start in
+    let end = c.args.end in
+    let iter = k.iter ∙ s.iter in
+    let items = ap hinted_items iter ∙ c.new.ensures.items in
+    let claim = ap hinted_claim iter ∙ c.new.ensures.claim in
+    let is : IsOpened old start end (splice_hole c.walk.new.splice) (splice_alloc c.walk.new.splice) =
+    record {
+      front = k.front ∙ s.front;
+      tail = k.tail ∙ s.tail;
+      capacity = k.capacity ∙ s.capacity;
+      same = k.alloc ∙ s.alloc;
+      cost = k.cost ∙ s.cost;
+    } in
+    let hole = splice_hole c.walk.new.splice in
+    let alloc = splice_alloc c.walk.new.splice in
+    let width = k.range ∙ s.range in
+    let most : size (hinted_count (splice_iter c.walk.new.splice)) ≡ c.args.lower + length c.args.items.items =
+    omega (arith, claim, ap length items) in
+    let left : c.finish.new.self.0 ≡ c.list-1.given.0 = search rules in
+    let e = c.in-Err-finish.ensures in
+    let refused = c.in-Err-finish.refused in
+    let placed = e.placed.0 in
+    record {
+      allowed = (
+        c.requires.start_le_end,
+        c.requires.in_bounds,
+        search rules,
+        stops-of left (record {
+          placed = placed;
+          all = sym items ∙ stopped-items (splice_iter c.walk.new.splice) refused.rest placed refused.held.items refused.in_hand e.placed.2;
+          claim = stopped-claim (splice_iter c.walk.new.splice) refused.rest placed refused.held.items refused.in_hand e.placed.2 ∙ claim;
+          filled = record {
+            items = e.placed.1 ∙ (λ i. (is.front i ++ placed) ++ is.tail i);
+            capacity = subst (λ n. IsLoose g.G.Growth.rule _ n c.finish.new.self.0.capacity) is.capacity e.capacity;
+            within = subst (λ list. IsWithin _ list) (sym left) c.capacity-capacity-in-Err-finish.ensures.within;
+            had_room = with-places old start end hole alloc is _ _ _ _ most width
+                (λ some few. e.had_room some few ∙ is.capacity)
+                (λ none room. e.had_room_behind none room ∙ is.capacity);
+            cost = spliced old start end hole alloc is _ e.cost;
+            cheap = λ cheap. e.cheap (subst IsCheap (sym (left-is old start end hole alloc is)) cheap);
+            alloc = e.alloc ∙ is.same;
+          };
+          no_room = λ places. false≢true (with-places old start end hole alloc is _ _ _ _ most width
+              (λ some few. e.succeeds some few) (λ none room. e.succeeds_behind none room) places);
+          told = e.cause;
+          overflow = e.overflow;
+          range = λ more. omega (
+            arith,
+            width,
+            e.range (some-tail old start end hole alloc is more),
+            ap length e.placed.1,
+            length-append (hole.front ++ placed) hole.tail,
+            length-append hole.front placed,
+            length-append hole.front hole.tail,
+          );
+          in_vain = λ more cause. e.cause_in_hand (some-tail old start end hole alloc is more) cause;
+          overflow_behind = λ full. e.overflow_behind (no-tail old start end hole alloc is full);
+          behind = λ full. (
+            e.held (no-tail old start end hole alloc is full),
+            e.full (no-tail old start end hole alloc is full),
+          );
+          unchanged = λ full none. (e.err (no-tail old start end hole alloc is full) none).0
+              ∙ left-is old start end hole alloc is;
+        }),
+      );
+    }

@@ -1,0 +1,62 @@
+-- What a list of commands may do to a list, and what they reply: one step after another.
+use Rattle.std.specs.Prelude.{◌≡◌, ℕ, ◌+◌, ◌-◌, ◌*◌, ◌==◌, List, [], ◌∷◌, None, if◌then◌else◌, length, slice_range}
+use Rattle.thin_vec.specs.ThinVec.{Thin}
+use Rattle.thin_runner.specs.Setting.{Setting}
+use Rattle.thin_vec.specs.Filters.{flags_of, moved_up, unlike}
+use Rattle.thin_runner.specs.Steps.{Steps}
+use Rattle.thin_runner.specs.commands.Filters.{around, asked, extracting, looking, same_key, stays}
+use Rattle.thin_runner.specs.declared.command.Command.{Command}
+use Rattle.thin_runner.specs.declared.command.Command.TheVariants.{Push, Pop, Insert, Remove, SwapRemove, ReserveExact, ShrinkToFit, Resize, ExtendFromSlice, Extend, Append, Retain, RetainMut, Dedup, DedupBy, DedupByKey, Drain, ExtractIf, Splice}
+use Rattle.thin_runner.specs.declared.command.Reply.{Reply}
+use Rattle.thin_runner.specs.declared.command.Reply.TheVariants.{Done, Other}
+
+module _ {T A G : Type 0} where
+  -- how many of the commands are pushes that were accepted
+  abbrev pub accepted : List (Command T A G) → List (Reply T A G) → ℕ
+  accepted (Push v ∷ commands) (Done ∷ replies) = 1 + accepted commands replies
+  accepted (command ∷ commands) (reply ∷ replies) = accepted commands replies
+  accepted commands replies = 0
+
+  -- a push or a pop
+  abbrev pub IsPushOrPop : Command T A G → Type 0
+  IsPushOrPop (Push v) = Unit {0}
+  IsPushOrPop Pop = Unit {0}
+  IsPushOrPop command = ⊥
+
+  -- a command after which a cheap list is cheap
+  abbrev pub KeepsCheap : Command T A G → Type 0
+  KeepsCheap (ReserveExact k) = ⊥
+  KeepsCheap ShrinkToFit = ⊥
+  KeepsCheap command = Unit {0}
+
+module _ {T A G J : Type 0} (here : Setting T A J) where
+  -- as many replies as commands, and between a command and its reply the list passes through `mid`
+  abbrev pub Runs : Thin T A → List (Command T A G) → List (Reply T A G) → Thin T A → Type 0
+  Runs old [] [] new = new ≡ old
+  Runs old (command ∷ commands) (reply ∷ replies) new = (mid : Thin T A) × (Steps here old command reply mid × Runs mid commands replies new)
+  Runs old commands replies new = ⊥
+
+  -- the moves that a command may make in a list of the items xs, growth aside; a refused one may make fewer
+  abbrev pub may_move : List T → Command T A G → Reply T A G → ℕ
+  may_move xs (Push v) Done = 1
+  may_move xs (Insert i v) Done = length xs - i + 1
+  may_move xs (Remove i) reply = length xs - (i + 1)
+  may_move xs (SwapRemove i) reply = if i + 1 == length xs then 0 else 1
+  may_move xs (Resize k v) reply = k - length xs
+  may_move xs (ExtendFromSlice ys) reply = length ys.items
+  may_move xs (Extend ys lower) reply = length ys.items
+  may_move xs (Append given) (Other back None) = length given.items
+  may_move xs Retain reply = moved_up (flags_of (asked (looking here.judging.look) here.judge xs))
+  may_move xs RetainMut reply = moved_up (flags_of (asked here.judging.keep here.judge xs))
+  may_move xs Dedup reply = moved_up (unlike here.eq xs)
+  may_move xs DedupBy reply = moved_up (stays here.judging.same here.judge xs)
+  may_move xs DedupByKey reply = moved_up (stays (same_key here.judging.key) here.judge xs)
+  may_move xs (Drain a b steps) reply = if a == b then 0 else length xs - b
+  may_move xs (ExtractIf a b k) reply = moved_up (flags_of (around xs a b (extracting here.judging.take here.judge k (slice_range xs a b))))
+  may_move xs (Splice a b steps ys lower) reply = 2 * (length xs - b) + length ys.items
+  may_move xs command reply = 0
+
+  -- the moves that the commands of a run may make, each in the list that it finds
+  abbrev pub run_may_move : (old new : Thin T A) (commands : List (Command T A G)) (replies : List (Reply T A G)) → Runs old commands replies new → ℕ
+  run_may_move old new (command ∷ commands) (reply ∷ replies) run = may_move old.items command reply + run_may_move run.0 new commands replies run.1.1
+  run_may_move old new commands replies run = 0

@@ -1,0 +1,56 @@
+//! An iterator that claims more items, or fewer, than it has.
+ghost use Rattle.std.specs.Prelude.{◌≡◌, IfSome, None};
+ghost use Rattle.std.specs.Iterator.{UpTo};
+ghost use Rattle.std.specs.Iterator.Runs.{YieldsInOrder};
+ghost use Rattle.std.specs.Iterator.SizeHint.{IsWithinCount};
+
+use std::alloc::{Allocator, Global};
+use std::vec::IntoIter;
+
+/// Gives its items in order and then `None` for good, and claims the same lower bound at each turn.
+///
+/// The claim may be past the truth. So that it keeps the rule of `size_hint`, it says that as many items may come as are left
+/// and as it claims.
+#[derive(Drop)]
+pub struct Hinted<T, A: Allocator = Global> {
+    items: IntoIter<T, A>,
+    lower: usize,
+}
+
+impl<T, A: Allocator> Hinted<T, A> {
+    ghost use Rattle.thin_runner.specs.Hinted.{HintedSteps, hinted_claim, hinted_items};
+
+    /// Gives the items of `items`, which it owns, and claims at least `lower` at each turn.
+    pub fn new(items: Vec<T, A>, lower: usize) -> Hinted<T, A>
+        ensures items { hinted_items result ≡ items.items }
+        ensures claim { hinted_claim result ≡ lower }
+        ensures runs { YieldsInOrder (HintedSteps {T = T} {A = A}) hinted_items }
+    {
+        Hinted {
+            items: items.into_iter(),
+            lower,
+        }
+    }
+}
+
+impl<T: Drop, A: Allocator> Iterator for Hinted<T, A> {
+    ghost use Rattle.thin_runner.specs.Hinted.{HintedSteps, hinted_claim, hinted_count};
+
+    type Item = T;
+
+    ghost next_gives = { HintedSteps };
+
+    ghost remaining = { hinted_count };
+
+    fn next(&mut self) -> Option<T> {
+        self.items.next()
+    }
+
+    fn size_hint(&self) -> (usize, Option<usize>)
+        ensures value { result ≡ (hinted_claim self.now, None) }
+        ensures lower { IsWithinCount result.0 (hinted_count self.now) }
+        ensures upper { IfSome result.1 (UpTo (hinted_count self.now)) }
+    {
+        (self.lower, None)
+    }
+}

@@ -1,0 +1,114 @@
+//! Does commands on a list: the only functions that do.
+ghost use Rattle.std.specs.Prelude.{◌≡◌, ◌<◌, ◌+◌, ◌≤◌, ◌↔◌, IsTrue, IfErr, IsOk, OnErr, OnOk, length, vec_capacity, vec_len};
+ghost use Rattle.thin_runner.specs.Headline.{Headline};
+ghost use Rattle.thin_runner.specs.Setting.{setting};
+ghost use Rattle.thin_runner.specs.Steps.{IsInRange, Steps};
+
+use crate::command::{Command, Reply};
+use crate::judge::Judge;
+use crate::steps::Means;
+use std::alloc::Allocator;
+use std::marker::PhantomData;
+use thin_vec::{Growth, ThinVec, ThinVecError};
+
+// Whether the index or the range of a command is one of the list.
+fn is_in_range<T, A: Allocator, G: Growth>(
+    list: &ThinVec<T, A, G>,
+    command: &Command<T, A, G>,
+) -> bool
+    ensures value { IsTrue result ↔ IsInRange list.now.items command.now }
+{
+    match command {
+        Command::Insert(index, _) => *index <= list.len(),
+        Command::Remove(index) | Command::SwapRemove(index) | Command::Set(index, _) => {
+            *index < list.len()
+        }
+        Command::SplitOff(at) => *at <= list.len(),
+        Command::Drain(start, end, _) => *start <= *end && *end <= list.len(),
+        Command::ExtractIf(start, end, _) => *start <= *end && *end <= list.len(),
+        Command::Splice(start, end, _, _, _) => *start <= *end && *end <= list.len(),
+        _ => true,
+    }
+}
+
+/// Does one command. The reply owns what the call handed out or back.
+///
+/// What the command makes is made on `alloc`. A command that asks about items begins with a copy of `judge`.
+pub fn step<T: Clone + Eq, A: Allocator + Copy, G: Growth, J: Judge<T>>(
+    alloc: A,
+    list: &mut ThinVec<T, A, G>,
+    command: Command<T, A, G>,
+    judge: &J,
+) -> Reply<T, A, G>
+    ensures allowed { Steps (setting T.is_clone T.is_infallible T.eq J.judging G.rule T.row alloc judge.now) list.old command result list.new }
+{
+    if !is_in_range(list, &command) {
+        return Reply::OutOfRange(command);
+    }
+    let means = Means {
+        alloc,
+        judge: *judge,
+        of: PhantomData,
+    };
+    match command {
+        Command::Push(value) => means.push(list, value),
+        Command::Pop => means.pop(list),
+        Command::Insert(index, value) => means.insert(list, index, value),
+        Command::Remove(index) => means.remove(list, index),
+        Command::SwapRemove(index) => means.swap_remove(list, index),
+        Command::Set(index, value) => means.set(list, index, value),
+        Command::Truncate(len) => means.truncate(list, len),
+        Command::Clear => means.clear(list),
+        Command::Reserve(additional) => means.reserve(list, additional),
+        Command::ReserveExact(additional) => means.reserve_exact(list, additional),
+        Command::ShrinkToFit => means.shrink_to_fit(list),
+        Command::Resize(len, value) => means.resize(list, len, value),
+        Command::ExtendFromSlice(items) => means.extend_from_slice(list, items),
+        Command::Extend(items, lower) => means.extend(list, items, lower),
+        Command::Append(other) => means.append(list, other),
+        Command::SplitOff(at) => means.split_off(list, at),
+        Command::Clone => means.clone(list),
+        Command::Retain => means.retain(list),
+        Command::RetainMut => means.retain_mut(list),
+        Command::Dedup => means.dedup(list),
+        Command::DedupBy => means.dedup_by(list),
+        Command::DedupByKey => means.dedup_by_key(list),
+        Command::Drain(start, end, steps) => means.drain(list, start, end, steps),
+        Command::ExtractIf(start, end, count) => means.extract_if(list, start, end, count),
+        Command::Splice(start, end, steps, items, lower) => {
+            means.splice(list, start, end, steps, items, lower)
+        }
+    }
+}
+
+/// Does the commands in order, and appends a reply for each.
+///
+/// Room for all replies is taken first. Where that is refused, which is the one refusal, no command is done and the
+/// commands are dropped.
+pub fn run<T: Clone + Eq, A: Allocator + Copy, G: Growth, J: Judge<T>>(
+    alloc: A,
+    list: &mut ThinVec<T, A, G>,
+    commands: Vec<Command<T, A, G>, A>,
+    replies: &mut Vec<Reply<T, A, G>, A>,
+    judge: &J,
+) -> Result<(), ThinVecError>
+    ensures succeeds { vec_len replies.old + vec_len commands ≤ vec_capacity replies.old → IsOk result }
+    ensures ok { OnOk result (Headline (setting T.is_clone T.is_infallible T.eq J.judging G.rule T.row alloc judge.now) list.old commands.items replies.old.items replies.new.items list.new) }
+    ensures err { OnErr result ((list.new ≡ list.old) × (replies.new.items ≡ replies.old.items) × (vec_capacity replies.new ≡ vec_capacity replies.old)) }
+    ensures cause { IfErr result (λ cause. cause ≡ ThinVecError.OutOfMemory) }
+{
+    let _capacity = list.capacity();
+    match replies.reserve(commands.len()) {
+        Ok(()) => (),
+        Err(_refused) => return Err(ThinVecError::OutOfMemory),
+    }
+    for command in commands {
+        let reply = step(alloc, list, command, judge);
+        match replies.push(reply) {
+            Ok(()) => (),
+            Err(_refused) => unreachable!(),
+        }
+    }
+    let _end = list.capacity();
+    Ok(())
+}

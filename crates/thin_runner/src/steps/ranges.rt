@@ -1,0 +1,103 @@
+//! Edits of a range, walked by the steps of a command.
+ghost use Rattle.std.specs.Prelude.{◌≡◌, ◌+◌, ◌≤◌, ◌++◌, length, vec_capacity, vec_len};
+ghost use Rattle.thin_runner.specs.Setting.{setting};
+ghost use Rattle.thin_runner.specs.Steps.{Steps};
+ghost use Rattle.thin_runner.specs.commands.Ranges.{handed, walked, without};
+ghost use Rattle.thin_runner.specs.declared.command.Command.TheVariants.{Drain as Drained, ExtractIf as Extracted};
+ghost use Rattle.thin_vec.specs.Drain.{DrainKeeps, drain_rest};
+
+use crate::command::{Reply, Step};
+use crate::judge::Judge;
+use crate::steps::Means;
+use std::alloc::Allocator;
+use thin_vec::{Drain, Growth, ThinVec, ThinVecError};
+
+impl<T: Clone + Eq, A: Allocator + Copy, G: Growth, J: Judge<T>> Means<T, A, G, J> {
+    // Room for the answers is taken first, and none where there is no step.
+    pub(crate) fn drain(
+        self,
+        list: &mut ThinVec<T, A, G>,
+        start: usize,
+        end: usize,
+        steps: Vec<Step, A>,
+    ) -> Reply<T, A, G>
+        requires start_le_end { start ≤ end }
+        requires in_bounds { end ≤ length list.old.items }
+        ensures allowed { Steps (setting T.is_clone T.is_infallible T.eq J.judging G.rule T.row self.alloc self.judge) list.old (Drained start end steps) result list.new }
+    {
+        let mut answers = Vec::new(self.alloc);
+        match answers.reserve(steps.len()) {
+            Ok(()) => (),
+            Err(_refused) => return Reply::Refused(ThinVecError::OutOfMemory),
+        }
+        let mut drain = list.drain(start, end);
+        walk(&mut drain, steps, &mut answers);
+        drop(drain);
+        Reply::Answers(answers)
+    }
+
+    // Room for the answers is taken first, and none where no call of `next` is wanted.
+    pub(crate) fn extract_if(
+        self,
+        list: &mut ThinVec<T, A, G>,
+        start: usize,
+        end: usize,
+        count: usize,
+    ) -> Reply<T, A, G>
+        requires start_le_end { start ≤ end }
+        requires in_bounds { end ≤ length list.old.items }
+        ensures allowed { Steps (setting T.is_clone T.is_infallible T.eq J.judging G.rule T.row self.alloc self.judge) list.old (Extracted start end count) result list.new }
+    {
+        let mut answers = Vec::new(self.alloc);
+        match answers.reserve(count) {
+            Ok(()) => (),
+            Err(_refused) => return Reply::Refused(ThinVecError::OutOfMemory),
+        }
+        let mut judge = self.judge;
+        let mut extract = list.extract_if(
+            start,
+            end,
+            move |item: &mut T|
+                ensures value { (result, item.new, judge.exit) ≡ J.judging.take judge.entry item.old }
+            { judge.take(item) },
+        );
+        for _ in 0..count {
+            match answers.push(extract.next()) {
+                Ok(()) => (),
+                Err(_refused) => unreachable!(),
+            }
+        }
+        drop(extract);
+        Reply::Answers(answers)
+    }
+}
+
+// The answers of a walk over what a `Drain` has left go behind those that are there.
+fn walk<T: Drop, A: Allocator, G: Growth>(
+    drain: &mut Drain<'_, T, A, G>,
+    steps: Vec<Step, A>,
+    answers: &mut Vec<Option<T>, A>,
+)
+    requires room { vec_len answers.old + vec_len steps ≤ vec_capacity answers.old }
+    ensures answers { answers.new.items ≡ answers.old.items ++ walked (drain_rest drain.old) steps.items }
+    ensures keeps { DrainKeeps drain.old drain.new }
+{
+    for step in steps {
+        match answers.push(take(drain, step)) {
+            Ok(()) => (),
+            Err(_refused) => unreachable!(),
+        }
+    }
+}
+
+// One step of a walk.
+fn take<T, A: Allocator, G: Growth>(drain: &mut Drain<'_, T, A, G>, step: Step) -> Option<T>
+    ensures value { result ≡ handed (drain_rest drain.old) step }
+    ensures rest { drain_rest drain.new ≡ without (drain_rest drain.old) step }
+    ensures keeps { DrainKeeps drain.old drain.new }
+{
+    match step {
+        Step::Front => drain.next(),
+        Step::Back => drain.next_back(),
+    }
+}

@@ -1,0 +1,94 @@
+//! A range that goes out, walked by the steps of a command, while items come in for it.
+ghost use Rattle.std.specs.Prelude.{◌≡◌, ◌+◌, ◌≤◌, ◌++◌, length, vec_capacity, vec_len};
+ghost use Rattle.thin_runner.specs.Setting.{setting};
+ghost use Rattle.thin_runner.specs.Steps.{Steps};
+ghost use Rattle.thin_runner.specs.commands.Ranges.{handed, walked, without};
+ghost use Rattle.thin_runner.specs.declared.command.Command.TheVariants.{Splice as Spliced};
+ghost use Rattle.thin_vec.specs.Splice.{SpliceKeeps, splice_hole};
+
+use crate::command::{Reply, Step};
+use crate::hinted::Hinted;
+use crate::judge::Judge;
+use crate::steps::Means;
+use std::alloc::Allocator;
+use thin_vec::{Growth, Splice, SpliceRefused, ThinVec, ThinVecError};
+
+impl<T: Clone + Eq, A: Allocator + Copy, G: Growth, J: Judge<T>> Means<T, A, G, J> {
+    // Room for the answers is taken first, and none where there is no step.
+    pub(crate) fn splice(
+        self,
+        list: &mut ThinVec<T, A, G>,
+        start: usize,
+        end: usize,
+        steps: Vec<Step, A>,
+        items: Vec<T, A>,
+        lower: usize,
+    ) -> Reply<T, A, G>
+        requires start_le_end { start ≤ end }
+        requires in_bounds { end ≤ length list.old.items }
+        ensures allowed { Steps (setting T.is_clone T.is_infallible T.eq J.judging G.rule T.row self.alloc self.judge) list.old (Spliced start end steps items lower) result list.new }
+    {
+        let mut answers = Vec::new(self.alloc);
+        match answers.reserve(steps.len()) {
+            Ok(()) => (),
+            Err(_refused) => return Reply::Refused(ThinVecError::OutOfMemory),
+        }
+        let mut splice = list.splice(start, end, Hinted::new(items, lower));
+        walk(&mut splice, steps, &mut answers);
+        match splice.finish(self.alloc) {
+            Ok(()) => {
+                let _capacity = list.capacity();
+                Reply::Answers(answers)
+            }
+            Err(refused) => {
+                let _capacity = list.capacity();
+                let SpliceRefused {
+                    cause,
+                    held,
+                    in_hand,
+                    rest,
+                } = refused;
+                Reply::Stopped {
+                    answers,
+                    cause,
+                    held,
+                    in_hand,
+                    rest,
+                }
+            }
+        }
+    }
+}
+
+// The answers of a walk over what a `Splice` has left of its range go behind those that are there.
+fn walk<T: Drop, A: Allocator, G: Growth>(
+    splice: &mut Splice<'_, Hinted<T, A>, T, A, G>,
+    steps: Vec<Step, A>,
+    answers: &mut Vec<Option<T>, A>,
+)
+    requires room { vec_len answers.old + vec_len steps ≤ vec_capacity answers.old }
+    ensures answers { answers.new.items ≡ answers.old.items ++ walked (splice_hole splice.old).rest steps.items }
+    ensures keeps { SpliceKeeps splice.old splice.new }
+{
+    for step in steps {
+        match answers.push(take(splice, step)) {
+            Ok(()) => (),
+            Err(_refused) => unreachable!(),
+        }
+    }
+}
+
+// One step of a walk.
+fn take<T, A: Allocator, G: Growth>(
+    splice: &mut Splice<'_, Hinted<T, A>, T, A, G>,
+    step: Step,
+) -> Option<T>
+    ensures value { result ≡ handed (splice_hole splice.old).rest step }
+    ensures rest { (splice_hole splice.new).rest ≡ without (splice_hole splice.old).rest step }
+    ensures keeps { SpliceKeeps splice.old splice.new }
+{
+    match step {
+        Step::Front => splice.next(),
+        Step::Back => splice.next_back(),
+    }
+}
