@@ -1,6 +1,7 @@
 //! Rows of edits: calls that stay beside the list while they work, and the test for their ranges.
 use crate::rows::{Outcome, holds};
 use std::alloc::Allocator;
+use std::fmt::Debug;
 use std::ops::Bound;
 use thin_vec::{ThinVec, bounds, thin_vec};
 
@@ -71,14 +72,19 @@ pub fn row_33<A: Allocator + Copy>(alloc: A) -> Outcome {
     Ok(given && holds(&list, &[1, 3, 5, 9, 11, 13, 15], 12))
 }
 
+// Whether `{:?}` writes that text.
+fn shows<T: Debug, A: Allocator>(alloc: A, value: &T, text: &str) -> Outcome {
+    Ok(format!(in alloc; "{value:?}")?.as_str() == text)
+}
+
 pub fn row_35<A: Allocator + Copy>(alloc: A) -> Outcome {
     let list = thin_vec![alloc => 1, 2, 3]?;
-    let whole = format!(in alloc; "{list:?}")?.as_str() == "[1, 2, 3]";
+    let whole = shows(alloc, &list, "[1, 2, 3]")?;
     let mut items = list.into_iter();
     let first = items.next() == Some(1);
-    let rest = format!(in alloc; "{items:?}")?.as_str() == "IntoIter([2, 3])";
+    let rest = shows(alloc, &items, "IntoIter([2, 3])")?;
     let mut anew = thin_vec![alloc => 1, 2, 3]?;
     let drain = anew.drain(1, 2);
-    let range = format!(in alloc; "{drain:?}")?.as_str() == "Drain([2])";
+    let range = shows(alloc, &drain, "Drain([2])")?;
     Ok(first && whole && rest && range)
 }
