@@ -18,12 +18,15 @@ mod comparisons;
 mod conversions;
 #[cfg(test)]
 mod counted;
+#[cfg(test)]
 pub mod doublings;
+#[cfg(test)]
 pub mod drains;
 #[cfg(test)]
 mod drops;
 #[cfg(test)]
 mod extend;
+#[cfg(test)]
 pub mod extracts;
 pub mod filter_callers;
 #[cfg(test)]
@@ -44,6 +47,7 @@ mod names;
 mod questions;
 #[cfg(test)]
 mod refusals;
+#[cfg(test)]
 pub mod rooms;
 #[cfg(test)]
 mod scarce;
@@ -53,6 +57,7 @@ mod shrinks;
 mod sizes;
 #[cfg(test)]
 mod slices;
+#[cfg(test)]
 pub mod splices;
 #[cfg(test)]
 mod standing;
@@ -62,5 +67,7 @@ mod texts;
 mod trees;
 #[cfg(test)]
 mod two_lists;
+#[cfg(test)]
 pub mod widths;
+#[cfg(test)]
 pub mod written;
