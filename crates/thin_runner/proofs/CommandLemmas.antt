@@ -1,18 +1,21 @@
 -- What the calls' own words give of the definition's.
-use Rattle.std.proofs.Common.{◌≡◌, ℕ, ◌<◌, ◌⊎◌, List, [], ◌∷◌, refl, length, inl, inr, arith}
+use Rattle.std.proofs.Common.{◌≡◌, ℕ, ◌<◌, ◌⊎◌, List, [], ◌∷◌, Some, refl, length, inl, inr, arith}
 use Rattle.std.specs.Borrow.{RattleType}
 use Rattle.std.specs.Prelude.{HoldsAt}
 use Rattle.thin_vec.specs.Clones.{IsCloneRefused}
 use Rattle.thin_vec.specs.Cost.{moving}
 use Rattle.thin_vec.specs.Growth.{Rule}
 use Rattle.thin_vec.specs.ThinVec.{Thin, capacity_for, cost_at}
-use Rattle.thin_runner.specs.commands.Edits.{Grows, grown}
 
 pub some-items : {X : Type 0} (xs : List X) → (xs ≡ [] → ⊥) → 0 < length xs
 some-items [] none = absurd (none refl)
 some-items (x ∷ xs) none = omega arith
 
 module _ {T A : Type 0} where
+  -- v at the capacity c, with the items xs, after m moves
+  abbrev pub grown : Thin T A → ℕ → List T → ℕ → Thin T A
+  grown v c xs m = record v { items = xs; capacity = c; cost = moving m (cost_at v c) }
+
   -- a list by its parts
   pub is-grown : (v w : Thin T A) (xs : List T) (m : ℕ) → w.items ≡ xs → w.cost ≡ moving m (cost_at v w.capacity) → w.alloc ≡ v.alloc → w ≡ grown v w.capacity xs m
   is-grown v w xs m items cost alloc = λ i. record { items = items i; capacity = w.capacity; alloc = alloc i; cost = cost i }
@@ -22,7 +25,7 @@ module _ {T A : Type 0} where
     pub refuses-clone : (R : RattleType) (infallible : T
         → Type 0) (sources : List T) (k : ℕ) (v w : Thin T A) → w.items ≡ v.items
         → w.alloc ≡ v.alloc → (w ≡ v) ⊎ IsCloneRefused rule R infallible sources k v w
-        → (w ≡ v) ⊎ ((at : ℕ) × (at < length sources) × HoldsAt (λ x. ¬ (infallible x)) sources at × Grows (capacity_for rule R v k) v v.items at w)
+        → (w ≡ v) ⊎ ((at : ℕ) × (at < length sources) × HoldsAt (λ x. ¬ (infallible x)) sources at × ((capacity_for rule R v k ≡ Some w.capacity) × (w ≡ grown v w.capacity v.items at)))
     refuses-clone R infallible sources k v w same alloc (inl e) = inl e
     refuses-clone R infallible sources k v w same alloc (inr r) =
         inr (r.stopped.at, r.stopped.in_bounds, r.stopped.fallible, (r.capacity, is-grown v w v.items r.stopped.at same r.stopped.cost alloc))

@@ -4,19 +4,25 @@ use Rattle.std.proofs.Math.Dec.{eqb-suc-zero}
 use Rattle.std.proofs.lemmas.List.{append-nil, length-append, length-drop, length-map, length-take}
 use Rattle.std.specs.List.Retain.{ExtractsNext}
 use Rattle.std.specs.Option.{option_to_list}
-use Rattle.std.specs.Prelude.{MatchBool, if◌then◌else◌, not, slice_range}
+use Rattle.std.specs.Prelude.{MatchBool, if◌then◌else◌, not, replicate, slice_range}
 use Rattle.thin_vec.proofs.FiltersLemmas.{left_at-append, left_at-stay, moved_up-stay, moving-more, moving-none, trues-append, trues-stay}
 use Rattle.thin_vec.specs.Cost.{Cost, moving}
 use Rattle.thin_vec.specs.Filters.{Answers, flags_of, left_at, moved_up, stay, trues}
 use Rattle.thin_vec.specs.ThinVec.{Thin}
 use Rattle.thin_runner.proofs.FilterLemmas.{few-left}
-use Rattle.thin_runner.specs.commands.Filters.{around, extracting, handed_out, sifted}
+use Rattle.thin_runner.specs.commands.Filters.{around, extracting, sifted}
+use Rattle.thin_runner.specs.commands.Ranges.{walked}
+use Rattle.thin_runner.specs.declared.command.Step.TheVariants.{Front}
 
 module _ {T : Type 0} where
   -- an item that goes, if there is one
   abbrev pub goes : Option T → Answers T
   goes None = []
   goes (Some x) = (false, x) ∷ []
+
+  -- so many answers: the items, and then `None`
+  abbrev pub handed_out : ℕ → List T → List (Option T)
+  handed_out k xs = walked xs (replicate k Front)
 
   gone-append : (a b : Answers T) → left_at false (a ++ b) ≡ left_at false a ++ left_at false b
   gone-append [] b = refl

@@ -4,6 +4,7 @@ mod CommandLemmas
 mod RunLemmas
 mod SplicesLemmas
 mod FilterLemmas
+mod WalkLemmas
 mod ExtractLemmas
 mod MoveLemmas
 pub mod ClonesLemmas

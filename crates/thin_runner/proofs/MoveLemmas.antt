@@ -1,7 +1,7 @@
 -- What a run has moved.
-use Rattle.std.proofs.Common.{Bool, true, false, ◌≡◌, ℕ, ◌+◌, ◌-◌, ◌==◌, ◌<◌, ◌≤◌, List, [], ◌∷◌, ◌++◌, Some, None, length, arith, ap, ◌∙◌, refl, inl, inr}
+use Rattle.std.proofs.Common.{Bool, true, false, ◌≡◌, ℕ, ◌+◌, ◌-◌, ◌==◌, ◌<◌, ◌≤◌, List, [], ◌∷◌, ◌++◌, Some, None, length, arith, ap, refl, inl, inr}
 use Rattle.std.proofs.lemmas.List.{length-append, length-replicate}
-use Rattle.std.specs.Prelude.{◌*◌, ◌⊎◌, drop, take, HoldsAt, replicate, Option, if◌then◌else◌}
+use Rattle.std.specs.Prelude.{◌*◌, ◌⊎◌, drop, take, HoldsAt, replicate, if◌then◌else◌}
 use Rattle.std.specs.Borrow.{RattleType}
 use Rattle.std.specs.Option.{option_to_list}
 use Rattle.thin_vec.specs.Cost.{growing, no_cost}
@@ -10,10 +10,11 @@ use Rattle.thin_vec.specs.ThinVec.{Thin, cost_shrunk}
 use Rattle.thin_vec.proofs.ThinVecLemmas.{cost_at-moves}
 use Rattle.thin_runner.specs.Setting.{Setting}
 use Rattle.thin_runner.specs.Steps.{Steps}
-use Rattle.thin_runner.specs.commands.Edits.{Grows, edited, grown}
-use Rattle.thin_runner.specs.commands.Many.{Fills, RefusesClone}
+use Rattle.thin_runner.specs.commands.Edits.{Grows, edited}
+use Rattle.thin_runner.specs.commands.Many.{RefusesClone}
 use Rattle.thin_runner.specs.commands.Splices.{Replaces}
 use Rattle.thin_vec.specs.declared.ThinVecError.{ThinVecError}
+use Rattle.thin_runner.proofs.CommandLemmas.{grown}
 use Rattle.thin_runner.specs.Hinted.{hinted_items}
 use Rattle.thin_runner.specs.Run.{Runs, may_move, run_may_move}
 use Rattle.thin_runner.specs.declared.command.Command.{Command}
@@ -34,23 +35,6 @@ module _ {T A : Type 0} where
 
   grown-moves : (v w : Thin T A) (xs : List T) (m : ℕ) → w ≡ grown v w.capacity xs m → w.cost.moves ≤ v.cost.moves + m
   grown-moves v w xs m e = omega (arith, ap (λ z. z.cost.moves) e, cost_at-moves v w.capacity)
-
-  module _ (infallible : T → Type 0) where
-    refused-moves : (next : Option ℕ) (v w : Thin T A) (k : ℕ) (sources : List T) (cause : ThinVecError)
-        → length sources ≤ k → RefusesClone infallible next v k sources cause w
-        → w.cost.moves ≤ v.cost.moves + k
-    refused-moves next v w k sources cause few r = stopped r.2
-      where
-        stopped : (w ≡ v) ⊎ ((at : ℕ) × (at < length sources) × HoldsAt (λ x. ¬ (infallible x)) sources at × Grows next v v.items at w) → w.cost.moves ≤ v.cost.moves + k
-        stopped (inl e) = same-moves v w v k e refl
-        stopped (inr s) = omega (arith, few, s.1, grown-moves v w v.items s.0 s.3.1)
-
-  module _ (rule : Rule) where
-    filled-moves : (R : RattleType) (v w : Thin T A) (placed : List T) (k most : ℕ)
-        → Fills rule R v placed most w → length placed ≤ k → w.cost.moves ≤ v.cost.moves + k
-    filled-moves R v w placed k most f few =
-        let more : length w.items ≡ length v.items + length placed = ap length f.items ∙ length-append v.items placed in
-        omega (arith, f.cost.moves, more, few)
 
   module _ (rule : Rule) (R : RattleType) (v w : Thin T A) where
     spliced-moves : (a b : ℕ) (placed : List T) (most k : ℕ) → Replaces rule R v a b placed most w
@@ -74,6 +58,15 @@ module _ {T A : Type 0} where
       go false true = omega arith
       go false false = omega arith
 
+module _ {T A J : Type 0} (here : Setting T A J) where
+  refused-moves : (v w : Thin T A) (k : ℕ) (sources : List T) (cause : ThinVecError)
+      → length sources ≤ k → RefusesClone here v k sources cause w → w.cost.moves ≤ v.cost.moves + k
+  refused-moves v w k sources cause few r = stopped r.2
+    where
+      stopped : (w ≡ v) ⊎ ((at : ℕ) × (at < length sources) × HoldsAt (λ x. ¬ (here.infallible x)) sources at × Grows here v k v.items at w) → w.cost.moves ≤ v.cost.moves + k
+      stopped (inl e) = same-moves v w v k e refl
+      stopped (inr s) = omega (arith, few, s.1, grown-moves v w v.items s.0 s.3.1)
+
 module _ {T A G J : Type 0} (here : Setting T A J) where
   pub step-moves : (v w : Thin T A) (command : Command T A G) (reply : Reply T A G) → Steps here v command reply w → w.cost.moves ≤ v.cost.moves + may_move here v.items command reply
   step-moves v w command (OutOfRange back) s = same-moves v w v _ s.2 refl
@@ -94,17 +87,19 @@ module _ {T A G J : Type 0} (here : Setting T A J) where
   step-moves v w ShrinkToFit Done s = omega (arith, ap (λ z. z.cost.moves) s, shrunk-moves v)
   step-moves v w ShrinkToFit (Refused cause) s = same-moves v w v 0 s.2.1 refl
   step-moves v w (Resize k x) Done s = grown-moves v w _ _ s.1.1
-  step-moves v w (Resize k x) (Refused cause) s = refused-moves here.infallible _ v w _ _ cause (few-repeats (k - length v.items) x) s.1
+  step-moves v w (Resize k x) (Refused cause) s = refused-moves here v w (k - length v.items) _ cause (few-repeats (k - length v.items) x) s.1
   step-moves v w (ExtendFromSlice xs) Done s = grown-moves v w _ _ s.1.1
-  step-moves v w (ExtendFromSlice xs) (Refused cause) s = refused-moves here.infallible _ v w _ xs.items cause (omega arith) s.1
-  step-moves v w (Extend xs lower) Done s = filled-moves here.rule here.R v w xs.items (length xs.items) _ s (omega arith)
+  step-moves v w (ExtendFromSlice xs) (Refused cause) s = refused-moves here v w (length xs.items) xs.items cause (omega arith) s.1
+  step-moves v w (Extend xs lower) Done s = let end = length v.items in
+      omega (arith, spliced-moves here.rule here.R v w end end xs.items _ (length xs.items) s.0 (omega arith))
   step-moves v w (Extend xs lower) (Stopped answers cause held in_hand rest) s =
-      let others = option_to_list in_hand ++ hinted_items rest in
-      filled-moves here.rule here.R v w s.2.placed (length xs.items) _ s.2.filled (omega (arith, ap length s.2.all, length-append s.2.placed others))
+      let end = length v.items in
+      let others = held.items ++ (option_to_list in_hand ++ hinted_items rest) in
+      omega (arith, spliced-moves here.rule here.R v w end end s.1.placed _ (length xs.items) s.1.filled (omega (arith, ap length s.1.all, length-append s.1.placed others)))
   step-moves v w (Append given) (Other back None) s = grown-moves v w _ _ s.1.1
   step-moves v w (Append given) (Other back (Some cause)) s = same-moves v w v 0 s.1.2 refl
-  step-moves v w (SplitOff at) (Made tail) s = same-moves v w _ 0 s.2 refl
-  step-moves v w (SplitOff at) (Refused cause) s = same-moves v w v 0 s.1.1 refl
+  step-moves v w (SplitOff i) (Made out) s = same-moves v w _ 0 s.2 refl
+  step-moves v w (SplitOff i) (Refused cause) s = same-moves v w v 0 s.1.1 refl
   step-moves v w Clone (Made copy) s = same-moves v w v 0 s.2 refl
   step-moves v w Clone (Refused cause) s = same-moves v w v 0 s.1.1 refl
   step-moves v w Retain Done s = edited-moves v w _ _ s
@@ -112,14 +107,14 @@ module _ {T A G J : Type 0} (here : Setting T A J) where
   step-moves v w Dedup Done s = edited-moves v w _ _ s
   step-moves v w DedupBy Done s = edited-moves v w _ _ s
   step-moves v w DedupByKey Done s = edited-moves v w _ _ s
-  step-moves v w (Drain a b steps) (Answers answers) s = edited-moves v w _ _ s.3
+  step-moves v w (Drain a b steps) (Answers answers) s = edited-moves v w _ _ s.1
   step-moves v w (Drain a b steps) (Refused cause) s = same-moves v w v _ s.1.1 refl
   step-moves v w (ExtractIf a b k) (Answers answers) s = edited-moves v w _ _ s.3
   step-moves v w (ExtractIf a b k) (Refused cause) s = same-moves v w v _ s.1.1 refl
   step-moves v w (Splice a b steps xs lower) (Answers answers) s =
-      spliced-moves here.rule here.R v w a b xs.items _ (length xs.items) s.3 (omega arith)
+      spliced-moves here.rule here.R v w a b xs.items _ (length xs.items) s.1 (omega arith)
   step-moves v w (Splice a b steps xs lower) (Stopped answers cause held in_hand rest) s =
-      let stopped = s.3 in
+      let stopped = s.1 in
       let others = held.items ++ (option_to_list in_hand ++ hinted_items rest) in
       spliced-moves here.rule here.R v w a b stopped.placed _ (length xs.items) stopped.filled
       (omega (arith, ap length stopped.all, length-append stopped.placed others))

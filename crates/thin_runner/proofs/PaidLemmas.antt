@@ -5,9 +5,9 @@ use Rattle.std.proofs.lemmas.List.{length-append, length-set, length_push, lengt
 use Rattle.std.proofs.lemmas.List.Edits.{length-insert}
 use Rattle.std.specs.List.{AllZip, AppendsClones, remove_range, swap_remove, slice_index_or}
 use Rattle.thin_vec.specs.Clones.{IsResized}
-use Rattle.thin_runner.specs.commands.Filters.{looking, same_key}
+use Rattle.thin_runner.specs.commands.Filters.{same_key}
 use Rattle.thin_runner.proofs.ExtractLemmas.{few-extracted}
-use Rattle.thin_runner.proofs.FilterLemmas.{few-asked, few-dedup, few-kept}
+use Rattle.thin_runner.proofs.FilterLemmas.{few-asked, few-pairs}
 use Rattle.thin_runner.proofs.RunLemmas.{runs-keep}
 use Rattle.std.specs.Prelude.{◌⊎◌, All, HoldsAt, drop, remove, slice_get, slice_set, take}
 use Rattle.std.specs.Borrow.{RattleType}
@@ -19,7 +19,7 @@ use Rattle.thin_vec.specs.ThinVec.{Thin, capacity_for, cost_at}
 use Rattle.thin_vec.proofs.ThinVecLemmas.{cap-kept, cap-grown, cheap-regrown}
 use Rattle.thin_runner.specs.Setting.{Setting}
 use Rattle.thin_runner.specs.Steps.{Steps}
-use Rattle.thin_runner.specs.commands.Edits.{Grows, grown}
+use Rattle.thin_runner.specs.commands.Edits.{Grows}
 use Rattle.thin_runner.specs.commands.Many.{RefusesClone}
 use Rattle.thin_vec.specs.declared.ThinVecError.{ThinVecError}
 use Rattle.thin_runner.specs.Run.{KeepsCheap, Runs}
@@ -63,12 +63,13 @@ module _ {T A : Type 0} (rule : Rule) (R : RattleType) (law : KeepsLaw rule) whe
         ];
       }
 
-  refused-paid : (infallible : T → Type 0) (v w : Thin T A) (n : ℕ) (sources : List T) (cause : ThinVecError) → IsPaid v → RefusesClone infallible (capacity_for rule R v n) v n sources cause w → IsPaid w
-  refused-paid infallible v w n sources cause a r = stopped r.2
+module _ {T A J : Type 0} (here : Setting T A J) (law : KeepsLaw here.rule) where
+  refused-paid : (v w : Thin T A) (n : ℕ) (sources : List T) (cause : ThinVecError) → IsPaid v → RefusesClone here v n sources cause w → IsPaid w
+  refused-paid v w n sources cause a r = stopped r.2
     where
-      stopped : (w ≡ v) ⊎ ((at : ℕ) × (at < length sources) × HoldsAt (λ x. ¬ (infallible x)) sources at × Grows (capacity_for rule R v n) v v.items at w) → IsPaid w
-      stopped (inl e) = same-paid v w a e
-      stopped (inr s) = ruled-paid v w _ n a s.3.0 s.3.1 refl refl (omega arith)
+      stopped : (w ≡ v) ⊎ ((at : ℕ) × (at < length sources) × HoldsAt (λ x. ¬ (here.infallible x)) sources at × Grows here v n v.items at w) → IsPaid w
+      stopped (inl e) = same-paid here.rule here.R law v w a e
+      stopped (inr s) = ruled-paid here.rule here.R law v w _ n a s.3.0 s.3.1 refl refl (omega arith)
 
 module _ {T : Type 0} where
   few-swap_remove : (xs : List T) (i : ℕ) (x : T) → length (swap_remove xs i x) ≤ length xs
@@ -118,30 +119,30 @@ module _ {T A G J : Type 0} (here : Setting T A J) (law : KeepsLaw here.rule) wh
   step-paid v w (Reserve k) Done keeps a s = ruled-paid here.rule here.R law v w _ k a s.0 s.1 refl refl (omega arith)
   step-paid v w (Reserve k) (Refused cause) keeps a s = same-paid here.rule here.R law v w a s.2
   step-paid v w (Resize k x) Done keeps a s = ruled-paid here.rule here.R law v w _ (k - length v.items) a s.1.0 s.1.1 refl refl (resized-more here.clones v.items w.items k x s.0)
-  step-paid v w (Resize k x) (Refused cause) keeps a s = refused-paid here.rule here.R law here.infallible v w (k - length v.items) _ cause a s.1
+  step-paid v w (Resize k x) (Refused cause) keeps a s = refused-paid here law v w (k - length v.items) _ cause a s.1
   step-paid v w (ExtendFromSlice xs) Done keeps a s = ruled-paid here.rule here.R law v w _ (length xs.items) a s.1.0 s.1.1 refl refl (clones-more here.clones v.items w.items xs.items s.0)
-  step-paid v w (ExtendFromSlice xs) (Refused cause) keeps a s = refused-paid here.rule here.R law here.infallible v w (length xs.items) xs.items cause a s.1
-  step-paid v w (Extend xs lower) Done keeps a s = record { cheap = s.cheap a.cheap; room = s.within.room }
-  step-paid v w (Extend xs lower) (Stopped answers cause held in_hand rest) keeps a s = record { cheap = s.2.filled.cheap a.cheap; room = s.2.filled.within.room }
+  step-paid v w (ExtendFromSlice xs) (Refused cause) keeps a s = refused-paid here law v w (length xs.items) xs.items cause a s.1
+  step-paid v w (Extend xs lower) Done keeps a s = record { cheap = s.0.cheap a.cheap; room = s.0.within.room }
+  step-paid v w (Extend xs lower) (Stopped answers cause held in_hand rest) keeps a s = record { cheap = s.1.filled.cheap a.cheap; room = s.1.filled.within.room }
   step-paid v w (Append given) (Other back None) keeps a s = ruled-paid here.rule here.R law v w _ (length given.items) a s.1.0 s.1.1 refl refl (all-more v.items given.items)
   step-paid v w (Append given) (Other back (Some cause)) keeps a s = same-paid here.rule here.R law v w a s.1.2
-  step-paid v w (SplitOff at) (Made tail) keeps a s = kept-paid here.rule here.R law v w _ a s.2 refl refl refl (few-take v.items at)
-  step-paid v w (SplitOff at) (Refused cause) keeps a s = same-paid here.rule here.R law v w a s.1.1
+  step-paid v w (SplitOff i) (Made out) keeps a s = kept-paid here.rule here.R law v w _ a s.2 refl refl refl (few-take v.items i)
+  step-paid v w (SplitOff i) (Refused cause) keeps a s = same-paid here.rule here.R law v w a s.1.1
   step-paid v w Clone (Made copy) keeps a s = same-paid here.rule here.R law v w a s.2
   step-paid v w Clone (Refused cause) keeps a s = same-paid here.rule here.R law v w a s.1.1
-  step-paid v w Retain Done keeps a s = kept-paid here.rule here.R law v w _ a s refl refl refl (few-asked (looking here.judging.look) here.judge v.items)
+  step-paid v w Retain Done keeps a s = kept-paid here.rule here.R law v w _ a s refl refl refl (few-asked (λ j x. let a = here.judging.look j x in (a.0, x, a.1)) here.judge v.items)
   step-paid v w RetainMut Done keeps a s = kept-paid here.rule here.R law v w _ a s refl refl refl (few-asked here.judging.keep here.judge v.items)
-  step-paid v w Dedup Done keeps a s = kept-paid here.rule here.R law v w _ a s refl refl refl (few-dedup here.eq v.items)
-  step-paid v w DedupBy Done keeps a s = kept-paid here.rule here.R law v w _ a s refl refl refl (few-kept here.judging.same here.judge v.items)
-  step-paid v w DedupByKey Done keeps a s = kept-paid here.rule here.R law v w _ a s refl refl refl (few-kept (same_key here.judging.key) here.judge v.items)
-  step-paid v w (Drain i j steps) (Answers answers) keeps a s = kept-paid here.rule here.R law v w _ a s.3 refl refl refl (few-drained v.items i j s.0 s.1)
+  step-paid v w Dedup Done keeps a s = kept-paid here.rule here.R law v w _ a s refl refl refl (few-pairs (λ j later kept. (here.eq later kept, later, kept, j)) here.judge v.items)
+  step-paid v w DedupBy Done keeps a s = kept-paid here.rule here.R law v w _ a s refl refl refl (few-pairs here.judging.same here.judge v.items)
+  step-paid v w DedupByKey Done keeps a s = kept-paid here.rule here.R law v w _ a s refl refl refl (few-pairs (same_key here.judging.key) here.judge v.items)
+  step-paid v w (Drain i j steps) (Answers answers) keeps a s = kept-paid here.rule here.R law v w _ a s.1 refl refl refl (few-drained v.items i j s.0.0 s.0.1)
   step-paid v w (Drain i j steps) (Refused cause) keeps a s = same-paid here.rule here.R law v w a s.1.1
   step-paid v w (ExtractIf i j k) (Answers answers) keeps a s =
       kept-paid here.rule here.R law v w _ a s.3 refl refl refl (few-extracted here.judging.take here.judge k v.items i j s.0 s.1)
   step-paid v w (ExtractIf i j k) (Refused cause) keeps a s = same-paid here.rule here.R law v w a s.1.1
-  step-paid v w (Splice i j steps xs lower) (Answers answers) keeps a s = record { cheap = s.3.cheap a.cheap; room = s.3.within.room }
+  step-paid v w (Splice i j steps xs lower) (Answers answers) keeps a s = record { cheap = s.1.cheap a.cheap; room = s.1.within.room }
   step-paid v w (Splice i j steps xs lower) (Stopped answers cause held in_hand rest) keeps a s =
-      record { cheap = s.3.filled.cheap a.cheap; room = s.3.filled.within.room }
+      record { cheap = s.1.filled.cheap a.cheap; room = s.1.filled.within.room }
   step-paid v w (Splice i j steps xs lower) (Refused cause) keeps a s = same-paid here.rule here.R law v w a s.1.1
   step-paid v w command reply keeps a s = absurd s
 

@@ -1,13 +1,17 @@
 -- What `finish` gives of the words of a splice that a command makes.
-use Rattle.std.proofs.Common.{◌≡◌, ℕ, ◌-◌, ◌*◌, ◌<◌, List, [], ◌∷◌, ◌++◌, Option, ap, append_assoc, arith, drop, inl, inr, length, refl, subst, sym, take, ◌∙◌}
-use Rattle.std.proofs.lemmas.List.{length-drop}
+use Rattle.std.proofs.Common.{◌≡◌, ℕ, ◌-◌, ◌*◌, ◌<◌, List, [], ◌∷◌, ◌++◌, None, Option, Some, ap, append_assoc, arith, drop, inl, inr, length, refl, subst, sym, take, ◌∙◌}
+use Rattle.std.proofs.Math.Seq.{drop-length, take-length}
+use Rattle.std.proofs.lemmas.List.{append-nil, length-drop, take-append-drop}
+use Rattle.std.specs.Iterator.{Count}
 use Rattle.std.specs.Borrow.{RattleType}
 use Rattle.std.specs.declared.iter.Iterator.{can_next-default}
 use Rattle.std.specs.Option.{option_to_list}
-use Rattle.thin_vec.specs.Filling.{IsSpliced, Stopped, left_of}
+use Rattle.thin_vec.specs.Cheap.{IsCheap}
+use Rattle.thin_vec.specs.Extend.{IsExtendCost, IsLoose, Overflows}
+use Rattle.thin_vec.specs.Filling.{IsSpliced, OverflowsBy, Stopped, left_of}
 use Rattle.thin_vec.specs.Growth.{Rule}
 use Rattle.thin_vec.specs.Open.{Open}
-use Rattle.thin_vec.specs.ThinVec.{HasRoomFor, Thin}
+use Rattle.thin_vec.specs.ThinVec.{HasRoomFor, IsWithin, Thin}
 use Rattle.thin_vec.specs.declared.ThinVecError.{ThinVecError}
 use Rattle.thin_runner.specs.Hinted.{HintedSteps, hinted_claim, hinted_count, hinted_items}
 use Rattle.thin_runner.specs.commands.Splices.{HasPlacesFor, Replaces, StopsBetween, cut}
@@ -99,7 +103,46 @@ module _ {T A : Type 0} {rule : Rule} {R : RattleType} {old v w : Thin T A} {a b
 
   pub stops-of : {xs held : List T} {lower : ℕ} {cause : ThinVecError} {in_hand : Option T}
       {rest : Hinted T A} → v ≡ w
-      → StopsBetween rule R old a b xs lower cause held in_hand rest v
-      → StopsBetween rule R old a b xs lower cause held in_hand rest w
+      → StopsBetween rule R old a b xs held lower cause in_hand rest v
+      → StopsBetween rule R old a b xs held lower cause in_hand rest w
   stops-of {xs} {held} {lower} {cause} {in_hand} {rest} same =
-      subst (λ (u : Thin T A). StopsBetween rule R old a b xs lower cause held in_hand rest u) same
+      subst (λ (u : Thin T A). StopsBetween rule R old a b xs held lower cause in_hand rest u) same
+
+-- no item stands at the end
+module _ {T A : Type 0} (old : Thin T A) where
+  pub cut-end : cut old (length old.items) (length old.items) ≡ old
+  cut-end = λ i. record old { items = take-append-drop (length old.items) old.items i }
+
+  pub places-end : (most : ℕ) → HasPlacesFor old (length old.items) (length old.items) most → HasRoomFor old most
+  places-end most (inl few) = absurd (omega (arith, few.0))
+  places-end most (inr room) = subst (λ (v : Thin T A). HasRoomFor v most) cut-end room.1
+
+-- what went in behind the items of a list took the place of none
+module _ {T A : Type 0} (rule : Rule) (R : RattleType) (old new : Thin T A) where
+  pub replaces-end : (placed : List T) (most : ℕ) → new.items ≡ old.items ++ placed
+      → IsLoose rule R old.capacity new.capacity → IsWithin R new → (HasRoomFor old most → new.capacity ≡ old.capacity)
+      → IsExtendCost old new → (IsCheap old → IsCheap new) → new.alloc ≡ old.alloc
+      → Replaces rule R old (length old.items) (length old.items) placed most new
+  replaces-end placed most items capacity within room cost cheap alloc =
+      let same : IsSpliced old new (2 * (length old.items - length old.items)) =
+      record { moves = omega (arith, cost.moves); kept = cost.kept; grown = cost.grown } in
+      record {
+        items = items
+            ∙ sym ((λ i. (take-length old.items i ++ placed) ++ drop-length old.items i) ∙ append-nil (old.items ++ placed));
+        capacity = capacity;
+        within = within;
+        had_room = λ places. room (places-end old most places);
+        cost = subst (λ (v : Thin T A). IsSpliced v new (2 * (length old.items - length old.items))) (sym (cut-end old)) same;
+        cheap = cheap;
+        alloc = alloc;
+      }
+
+  -- an overflow with no item held is one of `extend`
+  pub overflows-by : (held : List T) (in_hand : Option T) (left : Count) → held ≡ []
+      → Overflows rule R new in_hand left → OverflowsBy rule R new held in_hand left
+  overflows-by held in_hand left none over =
+      subst (λ (xs : List T). OverflowsBy rule R new xs in_hand left) (sym none) (with_none in_hand over)
+    where
+      with_none : (o : Option T) → Overflows rule R new o left → OverflowsBy rule R new [] o left
+      with_none (Some x) over = over
+      with_none None over = over

@@ -1,12 +1,13 @@
 -- What a list of commands may do to a list, and what they reply: one step after another.
 use Rattle.std.specs.Prelude.{◌≡◌, ℕ, ◌+◌, ◌-◌, ◌*◌, ◌==◌, List, [], ◌∷◌, None, if◌then◌else◌, length, slice_range}
+use Rattle.std.specs.Option.{unwrap_or}
 use Rattle.thin_vec.specs.ThinVec.{Thin}
 use Rattle.thin_runner.specs.Setting.{Setting}
-use Rattle.thin_vec.specs.Filters.{flags_of, moved_up, unlike}
+use Rattle.thin_vec.specs.Filters.{flags_of, moved_up}
 use Rattle.thin_runner.specs.Steps.{Steps}
-use Rattle.thin_runner.specs.commands.Filters.{around, asked, extracting, looking, same_key, stays}
+use Rattle.thin_runner.specs.commands.Filters.{answered, around, extracting}
 use Rattle.thin_runner.specs.declared.command.Command.{Command}
-use Rattle.thin_runner.specs.declared.command.Command.TheVariants.{Push, Pop, Insert, Remove, SwapRemove, ReserveExact, ShrinkToFit, Resize, ExtendFromSlice, Extend, Append, Retain, RetainMut, Dedup, DedupBy, DedupByKey, Drain, ExtractIf, Splice}
+use Rattle.thin_runner.specs.declared.command.Command.TheVariants.{Push, Pop, Insert, Remove, SwapRemove, ReserveExact, ShrinkToFit, Resize, ExtendFromSlice, Extend, Append, Drain, ExtractIf, Splice}
 use Rattle.thin_runner.specs.declared.command.Reply.{Reply}
 use Rattle.thin_runner.specs.declared.command.Reply.TheVariants.{Done, Other}
 
@@ -46,15 +47,10 @@ module _ {T A G J : Type 0} (here : Setting T A J) where
   may_move xs (ExtendFromSlice ys) reply = length ys.items
   may_move xs (Extend ys lower) reply = length ys.items
   may_move xs (Append given) (Other back None) = length given.items
-  may_move xs Retain reply = moved_up (flags_of (asked (looking here.judging.look) here.judge xs))
-  may_move xs RetainMut reply = moved_up (flags_of (asked here.judging.keep here.judge xs))
-  may_move xs Dedup reply = moved_up (unlike here.eq xs)
-  may_move xs DedupBy reply = moved_up (stays here.judging.same here.judge xs)
-  may_move xs DedupByKey reply = moved_up (stays (same_key here.judging.key) here.judge xs)
   may_move xs (Drain a b steps) reply = if a == b then 0 else length xs - b
   may_move xs (ExtractIf a b k) reply = moved_up (flags_of (around xs a b (extracting here.judging.take here.judge k (slice_range xs a b))))
   may_move xs (Splice a b steps ys lower) reply = 2 * (length xs - b) + length ys.items
-  may_move xs command reply = 0
+  may_move xs command reply = moved_up (flags_of (unwrap_or (answered here xs command) []))
 
   -- the moves that the commands of a run may make, each in the list that it finds
   abbrev pub run_may_move : (old new : Thin T A) (commands : List (Command T A G)) (replies : List (Reply T A G)) → Runs old commands replies new → ℕ

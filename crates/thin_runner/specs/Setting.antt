@@ -1,8 +1,7 @@
 -- What a run stands in: what is known of its item type, its growth rule and its judge, and the allocator and the judge handed in.
-use Rattle.std.specs.Prelude.{ℕ, Bool, Option}
+use Rattle.std.specs.Prelude.{Bool}
 use Rattle.std.specs.Borrow.{RattleType}
 use Rattle.thin_vec.specs.Growth.{Rule}
-use Rattle.thin_vec.specs.ThinVec.{Thin, capacity_for, exact_for}
 use Rattle.thin_runner.specs.Judge.{Judging}
 
 pub record Setting (T A J : Type 0) : Type 1 where
@@ -20,21 +19,5 @@ pub record Setting (T A J : Type 0) : Type 1 where
 
 -- the same, by its parts
 abbrev pub setting : {T A J : Type 0} → (T → T → Type 0) → (T → Type 0) → (T → T → Bool) → Judging T J → Rule → RattleType → A → J → Setting T A J
-setting clones infallible eq judging rule R alloc judge = record {
-  clones = clones;
-  infallible = infallible;
-  eq = eq;
-  judging = judging;
-  rule = rule;
-  R = R;
-  alloc = alloc;
-  judge = judge;
-}
-
-module _ {T A J : Type 0} (here : Setting T A J) where
-  -- the capacity that the growth rule names for k items more than those of a list, and the one for exactly so many
-  abbrev pub ruled : Thin T A → ℕ → Option ℕ
-  ruled old k = capacity_for here.rule here.R old k
-
-  abbrev pub exact : Thin T A → ℕ → Option ℕ
-  exact old k = exact_for here.R old k
+setting clones infallible eq judging rule R alloc judge =
+    record { clones = clones; infallible = infallible; eq = eq; judging = judging; rule = rule; R = R; alloc = alloc; judge = judge }

@@ -1,8 +1,8 @@
 //! Edits of a range, walked by the steps of a command.
-ghost use Rattle.std.specs.Prelude.{◌≡◌, ◌+◌, ◌≤◌, ◌++◌, length, vec_capacity, vec_len};
+ghost use Rattle.std.specs.Prelude.{◌≡◌, ◌+◌, ◌≤◌, List, ◌∷◌, ◌++◌, length, vec_capacity, vec_len};
 ghost use Rattle.thin_runner.specs.Setting.{setting};
 ghost use Rattle.thin_runner.specs.Steps.{Steps};
-ghost use Rattle.thin_runner.specs.commands.Ranges.{handed, walked, without};
+ghost use Rattle.thin_runner.specs.commands.Ranges.{walked};
 ghost use Rattle.thin_runner.specs.declared.command.Command.TheVariants.{Drain as Drained, ExtractIf as Extracted};
 ghost use Rattle.thin_vec.specs.Drain.{DrainKeeps, drain_rest};
 
@@ -92,8 +92,7 @@ fn walk<T: Drop, A: Allocator, G: Growth>(
 
 // One step of a walk.
 fn take<T, A: Allocator, G: Growth>(drain: &mut Drain<'_, T, A, G>, step: Step) -> Option<T>
-    ensures value { result ≡ handed (drain_rest drain.old) step }
-    ensures rest { drain_rest drain.new ≡ without (drain_rest drain.old) step }
+    ensures value { (steps : List Step) → walked (drain_rest drain.old) (step ∷ steps) ≡ result ∷ walked (drain_rest drain.new) steps }
     ensures keeps { DrainKeeps drain.old drain.new }
 {
     match step {

@@ -1,8 +1,8 @@
 //! A range that goes out, walked by the steps of a command, while items come in for it.
-ghost use Rattle.std.specs.Prelude.{◌≡◌, ◌+◌, ◌≤◌, ◌++◌, length, vec_capacity, vec_len};
+ghost use Rattle.std.specs.Prelude.{◌≡◌, ◌+◌, ◌≤◌, List, ◌∷◌, ◌++◌, length, vec_capacity, vec_len};
 ghost use Rattle.thin_runner.specs.Setting.{setting};
 ghost use Rattle.thin_runner.specs.Steps.{Steps};
-ghost use Rattle.thin_runner.specs.commands.Ranges.{handed, walked, without};
+ghost use Rattle.thin_runner.specs.commands.Ranges.{walked};
 ghost use Rattle.thin_runner.specs.declared.command.Command.TheVariants.{Splice as Spliced};
 ghost use Rattle.thin_vec.specs.Splice.{SpliceKeeps, splice_hole};
 
@@ -83,8 +83,7 @@ fn take<T, A: Allocator, G: Growth>(
     splice: &mut Splice<'_, Hinted<T, A>, T, A, G>,
     step: Step,
 ) -> Option<T>
-    ensures value { result ≡ handed (splice_hole splice.old).rest step }
-    ensures rest { (splice_hole splice.new).rest ≡ without (splice_hole splice.old).rest step }
+    ensures value { (steps : List Step) → walked (splice_hole splice.old).rest (step ∷ steps) ≡ result ∷ walked (splice_hole splice.new).rest steps }
     ensures keeps { SpliceKeeps splice.old splice.new }
 {
     match step {

@@ -1,39 +1,53 @@
 -- What was placed, what is in hand and what is left are what there was.
-use Rattle.std.proofs.Common.{rules, ◌++◌, sym, ◌∙◌, append_assoc}
+use Rattle.std.proofs.Common.{rules, ◌++◌, ◌+◌, ap, arith, length, sym, ◌∙◌, append_assoc}
 use Rattle.std.specs.Option.{option_to_list}
-use Rattle.thin_runner.specs.Hinted.{hinted_items}
-use Rattle.thin_runner.proofs.HintedLemmas.{yields-claim, yields-items}
+use Rattle.thin_runner.specs.Hinted.{hinted_count, hinted_items}
+use Rattle.thin_runner.proofs.HintedLemmas.{drains-items, yields-claim, yields-items}
+use Rattle.thin_runner.proofs.SplicesLemmas.{cut-end, overflows-by, places-end, replaces-end}
+use Rattle.thin_vec.specs.ThinVec.{HasRoomFor}
 use Rattle.thin_runner.proofs.steps.Means.extend.Goals as goal
+
+pub returns-in-Ok : goal.returns-in-Ok
+returns-in-Ok g c =
+    let e = c.in-Ok.ensures in
+    let items = drains-items c.new.result e.items.0 e.items.1 ∙ c.new.ensures.items in
+    record {
+      allowed = (
+        replaces-end _ _ c.args.list.now c.extend-filled.new.self c.args.items.items _ (e.items.2 ∙ ap (λ l. c.args.list.now.items ++ l) items)
+            e.capacity e.within.1 (search rules) e.cost e.cheap e.alloc,
+        e.cost.moves,
+      );
+    }
 
 pub returns-in-Err : goal.returns-in-Err
 returns-in-Err g c =
     let e = c.in-Err.ensures in
+    let old = c.args.list.now in
+    let new = c.extend-filled.new.self in
     let rest = c.in-Err.refused.rest in
     let one = option_to_list c.in-Err.refused.in_hand in
     let all = yields-items c.new.result rest (e.placed.0 ++ one) e.placed.2 in
     let claim = yields-claim c.new.result rest (e.placed.0 ++ one) e.placed.2 in
+    let none = c.new-in-Err-2.ensures.items in
+    let full : ¬ (HasRoomFor old (c.args.lower + length c.args.items.items)) = search rules in
     record {
       allowed = (
         c.new-in-Err.ensures.items,
-        c.new-in-Err-2.ensures.items,
         record {
           placed = e.placed.0;
-          all = sym c.new.ensures.items ∙ (all ∙ append_assoc e.placed.0 one (hinted_items rest));
+          all = sym c.new.ensures.items
+              ∙ (all ∙ (append_assoc e.placed.0 one (hinted_items rest) ∙ sym (ap (λ h. e.placed.0 ++ (h ++ (one ++ hinted_items rest))) none)));
           claim = claim ∙ c.new.ensures.claim;
-          filled = record {
-            items = e.placed.1;
-            capacity = e.capacity;
-            within = e.within.1;
-            had_room = search rules;
-            cost = e.cost;
-            cheap = e.cheap;
-            alloc = e.alloc;
-          };
-          overflow = e.overflow;
-          told = e.cause;
-          full = e.full;
-          unchanged = λ none. (e.err none).0;
-          no_room = search rules;
+          filled = replaces-end _ _ old new e.placed.0 _ e.placed.1 e.capacity e.within.1 (search rules) e.cost e.cheap e.alloc;
+          no_room = λ places. full (places-end old _ places);
+          told = λ over. overflows-by _ _ old new _ c.in-Err.refused.in_hand (hinted_count rest) none (e.cause over);
+          overflow = λ some. absurd (omega (arith, ap length none, some));
+          range = λ more. absurd (omega (arith, more));
+          in_vain = λ more. absurd (omega (arith, more));
+          overflow_behind = λ end. e.overflow;
+          behind = λ end. (none, e.full);
+          unchanged = λ end empty. (e.err empty).0 ∙ sym (cut-end old);
         },
+        e.cost.moves,
       );
     }

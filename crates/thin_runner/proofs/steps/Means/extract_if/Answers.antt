@@ -3,8 +3,8 @@ use Rattle.std.proofs.Common.{ℕ, ◌≡◌, ◌+◌, ◌-◌, ◌++◌, ◌∷
 use Rattle.std.proofs.lemmas.List.{append-nil}
 use Rattle.thin_vec.specs.ExtractIf.{extract_callee, extract_cost, extract_front, extract_gone, extract_rest, extract_tail}
 use Rattle.thin_vec.specs.Filters.{left_at, stay}
-use Rattle.thin_runner.specs.commands.Filters.{extracting, handed_out}
-use Rattle.thin_runner.proofs.ExtractLemmas.{IsExtracting, extracting-ends, extracting-none, extracting-step, extracts-by, goes, handed-by}
+use Rattle.thin_runner.specs.commands.Filters.{extracting}
+use Rattle.thin_runner.proofs.ExtractLemmas.{IsExtracting, extracting-ends, extracting-none, extracting-step, extracts-by, goes, handed-by, handed_out}
 use Rattle.thin_runner.proofs.steps.Means.extract_if.Goals as goal
 
 pub loop-init : goal.loop-init

@@ -39,9 +39,7 @@ returns-in-Ok-finish g c =
     let all = drains-items (splice_iter c.walk.new.splice) e.items.0 e.items.1 ∙ items in
     record {
       allowed = (
-        c.requires.start_le_end,
-        c.requires.in_bounds,
-        search rules,
+        (c.requires.start_le_end, c.requires.in_bounds, search rules),
         replaces-of left (record {
           items = e.items.2 ∙ (λ i. (is.front i ++ all i) ++ is.tail i);
           capacity = subst (λ n. IsLoose g.G.Growth.rule _ n c.finish.new.self.0.capacity) is.capacity e.capacity;
@@ -85,9 +83,7 @@ returns-in-Err-finish g c =
     let placed = e.placed.0 in
     record {
       allowed = (
-        c.requires.start_le_end,
-        c.requires.in_bounds,
-        search rules,
+        (c.requires.start_le_end, c.requires.in_bounds, search rules),
         stops-of left (record {
           placed = placed;
           all = sym items ∙ stopped-items (splice_iter c.walk.new.splice) refused.rest placed refused.held.items refused.in_hand e.placed.2;
