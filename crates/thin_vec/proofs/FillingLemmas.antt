@@ -6,10 +6,8 @@ use Rattle.std.specs.Option.{option_len, option_to_list}
 use Rattle.std.specs.Prelude.{IfErr, OnOk}
 use Rattle.std.specs.declared.result.Result.{Result}
 use Rattle.std.specs.declared.result.Result.TheVariants.{Ok, Err}
-use Rattle.std.specs.Iterator.{Count, Drains, IsFinite, Yields, size}
-use Rattle.std.specs.Vec.Iter.{into_iter_items, into_iter_len, into_iter_steps}
-use Rattle.std.specs.declared.vec.IntoIter.{IntoIter}
-use Rattle.thin_vec.specs.Extend.{GaveUp, Gives, IsExtendCost, IsExtended, IsNamed, Overflows}
+use Rattle.std.specs.Iterator.{Count, Drains, IsFinite, Yields, YieldsThen, size}
+use Rattle.thin_vec.specs.Extend.{GaveUp, IsExtendCost, IsExtended, IsNamed, Overflows}
 use Rattle.std.proofs.lemmas.Bool.Decides.{nat_tests}
 use Rattle.thin_block.specs.Cost.{Cost, moving}
 use Rattle.thin_block.specs.Growth.{KeepsLaw, Rule, ruled_capacity}
@@ -17,7 +15,7 @@ use Rattle.std.proofs.lemmas.Bool.{cases_lt}
 use Rattle.thin_vec.specs.Open.{Open, cost_closed, items_of}
 use Rattle.thin_vec.specs.Filling.{IsSpliced, OverflowsBy, Stopped, left_of, with_between}
 use Rattle.thin_vec.specs.ThinVec.{Thin, capacity_for, cost_at}
-use Rattle.thin_vec.proofs.ExtendLemmas.{filled-reserved, yields-join}
+use Rattle.thin_vec.proofs.ExtendLemmas.{filled-reserved, yields-join, yields-more}
 use Rattle.thin_vec.proofs.ThinVecLemmas.{cap-kept}
 
 -- moves add up
@@ -78,38 +76,22 @@ run-moves count n k m c d e = go (eqb count 0) e
       omega arith,
     )
 
-module _ {X Z : Type 0} where
-  -- what a vector's own iterator gave, beside what is left
-  vec-gave : (s t : IntoIter X Z) (xs : List X) → Yields into_iter_steps s xs t
-      → (into_iter_items s ≡ xs ++ into_iter_items t)
-      × (into_iter_len t + length xs ≡ into_iter_len s)
-  vec-gave s t [] e = (
-    ap into_iter_items e,
-    let f : into_iter_len s ≡ into_iter_len t = ap into_iter_len e in
-        omega (arith, f),
+module _ {S X : Type 0} (steps : S → Option X → S → Type 0) where
+  -- what was held, what went behind it, and one call more
+  pub yields-held : (s t u : S) (xs ys zs : List X) (o : Option X) → Yields steps s xs t
+      → zs ≡ xs ++ ys → YieldsThen steps t ys o u → YieldsThen steps s zs o u
+  yields-held s t u xs ys zs o before e now = (
+    now.0,
+    subst (λ l. Yields steps s l now.0) (sym e)
+        (yields-join steps s t now.0 xs ys before now.1),
+    now.2,
   )
-  vec-gave s t (x ∷ xs) e = let more = vec-gave e.0 t xs e.2 in
-      (e.1.0 ∙ ap (λ ys. x ∷ ys) more.0, omega (arith, more.1, e.1.1))
 
-  -- as many items as the vector has are all of them
-  pub vec-whole : (s t : IntoIter X Z) (xs ys : List X) (ended : Bool) → into_iter_items s ≡ ys
-      → into_iter_len s ≡ length ys → Gives into_iter_steps s xs ended t
-      → (ended ≡ false → length xs ≡ length ys) → (ended ≡ true → length xs < length ys)
-      → (xs ≡ ys) × (ended ≡ false)
-  vec-whole s t xs ys true is long gave full short =
-      let all = vec-gave s gave.0 xs gave.1 in
-      absurd (omega (arith, short refl, all.1, gave.2.0, long))
-  vec-whole s t xs ys false is long gave full short =
-      let all = vec-gave s t xs gave in
-      let same = full refl in
-      let whole : ys ≡ xs ++ into_iter_items t = sym is ∙ all.0 in
-      let none = empty-of (into_iter_items t)
-      (omega (arith, ap length whole, length-append xs (into_iter_items t), same)) in
-      (sym (whole ∙ (ap (λ zs. xs ++ zs) none ∙ append-nil xs)), refl)
-    where
-      empty-of : (zs : List X) → length zs ≡ 0 → zs ≡ []
-      empty-of [] e = refl
-      empty-of (z ∷ zs) e = absurd (omega (arith, e))
+  -- where that call gave an item
+  pub yields-drawn : (s u : S) (xs : List X) (o : Option X) (x : X) → o ≡ Some x
+      → YieldsThen steps s xs o u → Yields steps s (xs ++ x ∷ []) u
+  yields-drawn s u xs o x is all =
+      yields-more steps s all.0 u xs x all.1 (subst (λ r. steps all.0 r u) is all.2)
 
 module _ {T A : Type 0} where
   -- what a growth alone has cost

@@ -1,86 +1,60 @@
 -- What a block holds while the items of a `Vec` come in, from the last to the first.
-use Rattle.std.proofs.Common.{◌≡◌, ℕ, ◌+◌, ◌-◌, ◌<◌, ◌≤◌, List, [], ◌∷◌, ◌++◌, length, Option, Some, None, refl, sym, ap, ◌∙◌, append_assoc, arith, length-append}
-use Rattle.std.proofs.lemmas.List.{append-nil, get_or-replicate, get_or_append_left, length-replicate, length_push, replicate-append-replicate, set_at}
-use lib.ListN.{set, length-set}
+use Rattle.std.proofs.Common.{◌≡◌, ℕ, ◌+◌, ◌-◌, ◌<◌, ◌≤◌, List, [], ◌∷◌, ◌++◌, length, take, drop, Option, Some, None, sym, ap, ◌∙◌, append_assoc, arith, get_or, length-append}
+use Rattle.std.proofs.lemmas.List.{append-nil, length-take-le, length_push, set_at, take_more}
+use lib.ListN.{set}
 use Rattle.thin_block.specs.Cost.{Cost, moving}
-use Rattle.thin_block.specs.Slots.{empty, front, full, slot}
+use Rattle.thin_block.specs.Slots.{full, laid}
+use Rattle.thin_block.proofs.SlotsLemmas.{laid-none}
 use Rattle.thin_vec.proofs.ClonesLemmas.{moving-one}
 
 module _ {T : Type 0} where
-  -- c slots that are to hold xs, of which those of `left` have not come in yet
-  pub record IsMoving (xs left : List T) (c : ℕ) (s : List (Option T)) : Type 0 where
+  -- one slot more is laid, before the others
+  laid-before : (i k : ℕ) (y : Option T) (ys s : List (Option T)) → k ≡ i + 1 → i < length s
+      → set (laid k ys s) i y ≡ laid i (y ∷ ys) s
+  laid-before i k y ys s next low =
+      let rest : List (Option T) = drop (k + length ys) s in
+      let more : take k s ≡ take i s ++ get_or s i None ∷ [] =
+      ap (λ (n : ℕ). take n s) next ∙ take_more s i None low in
+      let past : k + length ys ≡ i + length (y ∷ ys) = omega (arith, next) in
+      ap (λ (l : List (Option T)). set (l ++ (ys ++ rest)) i y) more
+      ∙ (ap (λ (l : List (Option T)). set l i y)
+      (append_assoc (take i s) (get_or s i None ∷ []) (ys ++ rest))
+      ∙ (set_at (take i s) (get_or s i None) (ys ++ rest) y i (length-take-le i s (omega arith))
+      ∙ ap (λ (n : ℕ). take i s ++ (y ∷ (ys ++ drop n s))) past))
+
+  -- the row s, which was r: xs go to its slots from `start` on, and those of `left` have not come
+  -- in yet
+  pub record IsMoving (xs left : List T) (start : ℕ) (r s : List (Option T)) : Type 0 where
     pub rest : List T
     pub parts : xs ≡ left ++ rest
-    pub row : s ≡ empty (length left) ++ (full rest ++ empty (c - length xs))
-    pub cap : length s ≡ c
+    pub row : s ≡ laid (start + length left) (full rest) r
 
   -- none has
-  pub moving-first : (xs : List T) (s : List (Option T)) → s ≡ empty (length s)
-      → length xs ≤ length s → IsMoving xs xs (length s) s
-  moving-first xs s none room =
-      let all : length s ≡ length xs + (length s - length xs) = omega arith in
+  pub moving-first : (xs : List T) (start : ℕ) (s : List (Option T)) → IsMoving xs xs start s s
+  moving-first xs start s =
       record {
         rest = [];
         parts = sym (append-nil xs);
-        row = none ∙ (ap (λ k. empty k) all
-            ∙ sym (replicate-append-replicate (length xs) (length s - length xs) None));
-        cap = refl;
+        row = sym (laid-none (start + length xs) s);
       }
 
-  module _ (xs left : List T) (c i : ℕ) (v : T) (s : List (Option T))
-      (m : IsMoving xs (left ++ v ∷ []) c s) (next : i ≡ length left) where
-    -- the last of them has an empty slot
-    pub moving-room : i < length s
-    moving-room =
-        let more : length (left ++ v ∷ []) ≡ length left + 1 = length_push left v in
-        let whole : length s ≡ length
-        (empty {T = T} (length (left ++ v ∷ [])) ++ (full m.rest ++ empty (c - length xs))) =
-        ap length m.row in
-        omega (
-          arith,
-          length-append (empty {T = T} (length (left ++ v ∷ [])))
-              (full m.rest ++ empty (c - length xs)),
-          length-replicate {A = Option T}
-              (length (left ++ v ∷ [])) None,
-        )
-
-    pub moving-empty : slot s i ≡ None
-    moving-empty =
-        let more : i < length (left ++ v ∷ []) = omega (arith, length_push left v) in
-        let low : i < length (empty {T = T} (length (left ++ v ∷ []))) =
-        omega (arith, length-replicate {A = Option T} (length (left ++ v ∷ [])) None) in
-        ap (λ (r : List (Option T)). slot r i) m.row
-        ∙ (get_or_append_left (empty (length (left ++ v ∷ [])))
-        (full m.rest ++ empty (c - length xs)) None i low
-        ∙ get_or-replicate (length (left ++ v ∷ [])) i None None more)
-
-    -- into which it goes
-    pub moving-next : IsMoving xs left c (set s i (Some v))
-    moving-next =
-        let tail : List (Option T) = full m.rest ++ empty (c - length xs) in
-        let one : length (left ++ v ∷ []) ≡ length left + 1 = length_push left v in
-        let at : i ≡ length (empty {T = T} (length left)) =
-        omega (arith, next, length-replicate {A = Option T} (length left) None) in
-        let vacant : s ≡ empty (length left) ++ (None ∷ tail) =
-        m.row ∙ (ap (λ k. empty k ++ tail) one
-        ∙ (ap (λ (r : List (Option T)). r ++ tail)
-        (sym (replicate-append-replicate (length left) 1 None))
-        ∙ append_assoc (empty (length left)) (None ∷ []) tail)) in
-        record {
-          rest = v ∷ m.rest;
-          parts = m.parts ∙ append_assoc left (v ∷ []) m.rest;
-          row = ap (λ (r : List (Option T)). set r i (Some v)) vacant ∙ set_at (empty (length left))
-              None tail (Some v) i (sym at);
-          cap = length-set s i (Some v) ∙ m.cap;
-        }
-
-  -- all have
-  pub moving-last : (xs left : List T) (c : ℕ) (s : List (Option T)) → left ≡ []
-      → IsMoving xs left c s → s ≡ front xs c
-  moving-last xs left c s none m =
-      m.row ∙ (ap (λ (l : List T). empty (length l) ++ (full m.rest ++ empty (c - length xs))) none
-      ∙ ap (λ (l : List T). full l ++ empty (c - length xs))
-      (sym (m.parts ∙ ap (λ (l : List T). l ++ m.rest) none)))
+  -- the last of them goes into its slot
+  pub moving-next : (xs left : List T) (start i : ℕ) (v : T) (r s : List (Option T))
+      → IsMoving xs (left ++ v ∷ []) start r s → i ≡ start + length left
+      → start + length xs ≤ length r → IsMoving xs left start r (set s i (Some v))
+  moving-next xs left start i v r s m next room =
+      let one : length (left ++ v ∷ []) ≡ length left + 1 = length_push left v in
+      let all : length xs ≡ length (left ++ v ∷ []) + length m.rest =
+      ap length m.parts ∙ length-append (left ++ v ∷ []) m.rest in
+      record {
+        rest = v ∷ m.rest;
+        parts = m.parts ∙ append_assoc left (v ∷ []) m.rest;
+        row =
+            ap (λ (l : List (Option T)). set l i (Some v)) m.row
+            ∙ (laid-before i (start + length (left ++ v ∷ [])) (Some v) (full m.rest) r
+            (omega (arith, next, one)) (omega (arith, next, one, all, room))
+            ∙ ap (λ (n : ℕ). laid n (full (v ∷ m.rest)) r) next);
+      }
 
 -- a move is counted for each item that has come in
 module _ (n : ℕ) (c : Cost) where

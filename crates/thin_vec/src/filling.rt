@@ -1,5 +1,5 @@
 //! How the items of an iterator go between those of a list: a hole is filled, and room is made for what is beyond it.
-ghost use Rattle.std.specs.Prelude.{true, false, ◌≡◌, ℕ, ◌+◌, ◌-◌, ◌*◌, ◌==◌, ◌<◌, ◌≤◌, List, [], ◌∷◌, ◌++◌, IfErr, IsOk, IsSome, MatchOption, None, OnErr, OnOk, drop, if◌then◌else◌, length, take};
+ghost use Rattle.std.specs.Prelude.{true, false, ◌≡◌, ℕ, ◌+◌, ◌-◌, ◌*◌, ◌==◌, ◌<◌, ◌≤◌, List, [], ◌∷◌, ◌++◌, IfErr, IsOk, IsSome, MatchOption, None, OnErr, OnOk, OnSome, drop, if◌then◌else◌, length, take};
 ghost use Rattle.std.specs.Iterator.{Drains, IsFinite, Yields, YieldsThen, size};
 ghost use Rattle.thin_block.specs.Cost.{moving};
 ghost use Rattle.thin_vec.specs.Cheap.{IsCheap};
@@ -11,7 +11,7 @@ ghost use Rattle.thin_vec.specs.ThinVec.{HasRoomFor, capacity_for};
 use crate::errors::{ExtendRefused, SpliceRefused};
 use crate::hole::Hole;
 use crate::list::ThinVec;
-use crate::placing::put_iter;
+use crate::placing::{put_iter, put_vec};
 use std::alloc::{AllocFailed, Allocator};
 use std::iter::Iterator;
 use thin_block::{Growth, ThinVecError};
@@ -36,6 +36,23 @@ impl<T, A: Allocator> Hole<T, A> {
         let (rest, end, ended) = put_iter(&mut self.block, self.kept, self.at, iter);
         self.kept = end;
         (rest, ended)
+    }
+
+    // Puts the items of `items` behind the front.
+    fn fill_from_vec<B: Allocator>(&mut self, items: Vec<T, B>)
+        requires room { length items.items ≤ self.old.before }
+        ensures front { self.new.front ≡ self.old.front ++ items.items }
+        ensures before { self.new.before ≡ self.old.before - length items.items }
+        ensures rest { self.new.rest ≡ self.old.rest }
+        ensures behind { self.new.behind ≡ self.old.behind }
+        ensures tail { self.new.tail ≡ self.old.tail }
+        ensures capacity { self.new.capacity ≡ self.old.capacity }
+        ensures alloc { self.new.alloc ≡ self.old.alloc }
+        ensures cost { self.new.cost ≡ moving (length items.items) self.old.cost }
+    {
+        let count = items.len();
+        put_vec(&mut self.block, self.kept, items);
+        self.kept += count;
     }
 
     // Moves the tail up by `count` slots, as one run.
@@ -217,7 +234,8 @@ impl<T: Drop, A: Allocator, G: Growth> ThinVec<T, A, G> {
         Ok(())
     }
 
-    // The items of `held` go before the item at `at`, into spare room.
+    // The items of `held` go before the item at `at`, into spare room. Where the hint was exact there are none, and the block is
+    // not opened.
     fn insert_vec(&mut self, at: usize, held: Vec<T, A>)
         requires in_bounds { at ≤ length self.old.items }
         requires room { HasRoomFor self.old (length held.items) }
@@ -226,8 +244,13 @@ impl<T: Drop, A: Allocator, G: Growth> ThinVec<T, A, G> {
         ensures alloc { self.new.alloc ≡ self.old.alloc }
         ensures cost { (m : ℕ) × (self.new.cost ≡ moving (length held.items + m) self.old.cost) × (m ≤ length self.old.items - at) }
     {
-        let count = held.len();
-        let (_end, _spent, _ended) = self.insert_run(at, count, held.into_iter());
+        if held.is_empty() {
+            held.destroy_empty();
+            return;
+        }
+        let mut hole = self.open_wide(at, held.len());
+        hole.fill_from_vec(held);
+        self.close(hole);
     }
 }
 
@@ -367,7 +390,13 @@ fn hold<T, A: Allocator, I: Iterator<Item = T>>(iter: I, alloc: A) -> (Vec<T, A>
 {
     let mut held = Vec::new(alloc);
     let mut rest = iter;
-    while let Some(item) = rest.next() {
+    loop {
+        let (filled, over, left) = hold_spare(held, rest);
+        held = filled;
+        rest = left;
+        let Some(item) = over else {
+            return (held, None, rest);
+        };
         match held.push(item) {
             Ok(()) => (),
             Err(refused) => {
@@ -376,5 +405,28 @@ fn hold<T, A: Allocator, I: Iterator<Item = T>>(iter: I, alloc: A) -> (Vec<T, A>
             }
         }
     }
-    (held, None, rest)
+}
+
+// Draws items into the spare room of `held`, and one item more. Hands back the vector, the item that found no room, and the
+// iterator. It has the vector by value, so that its length can stay in a register.
+fn hold_spare<T, A: Allocator, I: Iterator<Item = T>>(
+    held: Vec<T, A>,
+    iter: I,
+) -> (Vec<T, A>, Option<T>, I)
+    requires can_next { I.can_next iter }
+    requires finite { IsFinite (I.remaining iter) }
+    ensures items { (xs : List T) × (result.0.items ≡ held.items ++ xs) × YieldsThen I.next_gives iter xs result.1 result.2 }
+    ensures rest { OnSome result.1 (I.can_next result.2 × IsFinite (I.remaining result.2)) }
+    ensures nearer { OnSome result.1 (size (I.remaining result.2) < size (I.remaining iter)) }
+{
+    let mut filled = held;
+    let mut rest = iter;
+    while filled.len() < filled.capacity() {
+        let Some(item) = rest.next() else {
+            return (filled, None, rest);
+        };
+        filled.push_reserved(item);
+    }
+    let over = rest.next();
+    (filled, over, rest)
 }

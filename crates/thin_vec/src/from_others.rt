@@ -111,7 +111,7 @@ impl<T, A: Allocator> ThinVec<T, A> {
     }
 
     // The items of `items` go into the room of a list that holds none.
-    fn extend_from_vec_reserved<B: Allocator>(&mut self, mut items: Vec<T, B>)
+    fn extend_from_vec_reserved<B: Allocator>(&mut self, items: Vec<T, B>)
         requires empty { self.old.items ≡ [] }
         requires room { length items.items ≤ self.old.capacity }
         requires within { IsWithin T.row self.old }
@@ -122,9 +122,8 @@ impl<T, A: Allocator> ThinVec<T, A> {
         ensures within { IsWithin T.row self.new }
     {
         let len = items.len();
-        put_vec(&mut self.block, &mut items);
+        put_vec(&mut self.block, 0, items);
         self.block.set_len(len);
-        items.destroy_empty();
     }
 }
 

@@ -1,8 +1,8 @@
 //! Loops over a block: items are put into its empty slots, or taken out to be dropped.
 ghost use Rattle.std.specs.Iterator.{IsFinite, size};
-ghost use Rattle.std.specs.Prelude.{true, false, ◌≡◌, ℕ, ◌+◌, ◌-◌, ◌<◌, ◌≤◌, List, [], HoldsAt, length, replicate};
+ghost use Rattle.std.specs.Prelude.{true, false, ◌≡◌, ℕ, ◌+◌, ◌-◌, ◌<◌, ◌≤◌, List, HoldsAt, length, replicate};
 ghost use Rattle.thin_block.specs.Cost.{moving};
-ghost use Rattle.thin_block.specs.Slots.{AreEmpty, IsPacked, empty, front, full, laid, slot};
+ghost use Rattle.thin_block.specs.Slots.{AreEmpty, IsPacked, empty, full, laid, slot};
 ghost use Rattle.thin_vec.specs.Clones.{LaysClones};
 ghost use Rattle.thin_vec.specs.Extend.{Gives};
 
@@ -21,19 +21,25 @@ pub(crate) fn drop_items<T: Drop, A: Allocator>(block: &mut Block<T, A>, len: us
     }
 }
 
-// Moves the items of `items` into the first slots of an empty block. A `Vec` gives its items up from the last on.
-pub(crate) fn put_vec<T, A: Allocator, B: Allocator>(block: &mut Block<T, A>, items: &mut Vec<T, B>)
-    requires empty { block.old.slots ≡ empty (length block.old.slots) }
-    requires room { length items.old.items ≤ length block.old.slots }
-    ensures slots { block.new.slots ≡ front items.old.items (length block.old.slots) }
+// Moves the items of `items` into the empty slots from `start` on. A `Vec` gives its items up from the last on.
+pub(crate) fn put_vec<T, A: Allocator, B: Allocator>(
+    block: &mut Block<T, A>,
+    start: usize,
+    mut items: Vec<T, B>,
+)
+    requires in_bounds { start + length items.items ≤ length block.old.slots }
+    requires empty { AreEmpty block.old.slots start (length items.items) }
+    ensures slots { block.new.slots ≡ laid start (full items.items) block.old.slots }
     ensures len { block.new.len ≡ block.old.len }
     ensures alloc { block.new.alloc ≡ block.old.alloc }
-    ensures cost { block.new.cost ≡ moving (length items.old.items) block.old.cost }
-    ensures rest { items.new.items ≡ [] }
+    ensures cost { block.new.cost ≡ moving (length items.items) block.old.cost }
 {
+    // No capacity is past `isize::MAX`, so no index is.
+    let _whole = block.cap();
     while let Some(item) = items.pop() {
-        block.put(items.len(), item);
+        block.put(start + items.len(), item);
     }
+    items.destroy_empty();
 }
 
 // Puts clones of `items` into the empty slots from `start` on, and answers how many: it ends before a clone that is

@@ -1,26 +1,45 @@
-use Rattle.std.proofs.Common.{subst, sym}
-use Rattle.std.specs.Iterator.{Yields}
-use Rattle.thin_vec.proofs.ExtendLemmas.{yields-more}
+-- What the spare room took goes behind what was held, and the item that found none behind that.
+use Rattle.std.proofs.Common.{subst}
+use Rattle.std.specs.Iterator.{YieldsThen}
+use Rattle.thin_block.proofs.Outcomes.{at-some}
+use Rattle.thin_vec.proofs.FillingLemmas.{yields-drawn, yields-held}
 use Rattle.thin_vec.proofs.filling.hold.Goals as goal
 
 pub loop-item-preserved : goal.loop-item-preserved
 loop-item-preserved g c =
     let steps = g.I.Iterator.next_gives in
-    let was = c.loop-item.invariant in
-    let goes = c.in-Some.ensures.goes.on was.finite in
-    let gave = yields-more steps c.args.iter c.loop-item.rest c.next.new.self c.loop-item.held.items
-    c.in-Some.item was.gave c.in-Some.ensures.steps in
+    let now = c.hold_spare-filled.ensures.items in
+    let gave = yields-held steps c.args.iter c.loop-item.rest c.hold_spare-filled.result.2
+    c.loop-item.held.items now.0 c.hold_spare-filled.result.0.items c.hold_spare-filled.result.1
+    c.loop-item.invariant.gave now.1 now.2 in
+    let rest = at-some c.in-Some.is c.hold_spare-filled.ensures.rest in
     record {
-      can = goes.0;
-      finite = goes.1;
-      gave = subst (λ xs. Yields steps c.args.iter xs c.next.new.self)
-          (sym c.in-Ok.ensures.items) gave;
+      can = rest.0;
+      finite = rest.1;
+      gave = rw c.in-Ok.ensures.items
+          (yields-drawn steps c.args.iter c.hold_spare-filled.result.2
+          c.hold_spare-filled.result.0.items c.hold_spare-filled.result.1 c.in-Some.item
+          c.in-Some.is gave);
     }
+
+pub returns-in_default-clause-gave : goal.returns-in_default-clause-gave
+returns-in_default-clause-gave g c =
+    let steps = g.I.Iterator.next_gives in
+    let now = c.hold_spare-filled.ensures.items in
+    subst (λ o. YieldsThen steps c.args.iter c.hold_spare-filled.result.0.items o
+    c.hold_spare-filled.result.2) c.in_default.is
+    (yields-held steps c.args.iter c.loop-item.rest c.hold_spare-filled.result.2
+    c.loop-item.held.items now.0 c.hold_spare-filled.result.0.items c.hold_spare-filled.result.1
+    c.loop-item.invariant.gave now.1 now.2)
 
 pub returns-in-Err-clause-gave : goal.returns-in-Err-clause-gave
 returns-in-Err-clause-gave g c =
     let steps = g.I.Iterator.next_gives in
-    let was = c.loop-item.invariant in
-    let gave = yields-more steps c.args.iter c.loop-item.rest c.next.new.self c.loop-item.held.items
-    c.in-Some.item was.gave c.in-Some.ensures.steps in
-    rw c.in-Err.ensures.items (rw c.in-Err.ensures.value_returned gave)
+    let now = c.hold_spare-filled.ensures.items in
+    let gave = yields-held steps c.args.iter c.loop-item.rest c.hold_spare-filled.result.2
+    c.loop-item.held.items now.0 c.hold_spare-filled.result.0.items c.hold_spare-filled.result.1
+    c.loop-item.invariant.gave now.1 now.2 in
+    rw c.in-Err.ensures.items
+    (rw c.in-Err.ensures.value_returned
+    (yields-drawn steps c.args.iter c.hold_spare-filled.result.2 c.hold_spare-filled.result.0.items
+    c.hold_spare-filled.result.1 c.in-Some.item c.in-Some.is gave))

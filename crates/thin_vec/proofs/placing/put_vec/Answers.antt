@@ -1,30 +1,31 @@
 -- One item more has come in, from the last on.
-use Rattle.std.proofs.Common.{◌∙◌, ap, arith, length, length-append, refl, subst, sym}
+use Rattle.std.proofs.Common.{◌+◌, ◌∙◌, ap, arith, length, length-append, refl, subst, sym}
 use Rattle.std.proofs.lemmas.List.{length_push}
 use Rattle.thin_vec.proofs.FromOthersLemmas.{IsMoving, moving-first, moving-more, moving-next, moving-none}
 use Rattle.thin_vec.proofs.placing.put_vec.Goals as goal
 
 pub loop-item-init : goal.loop-item-init
 loop-item-init g c = record {
-  slots = moving-first c.args.items.now.items c.args.block.now.slots
-      c.requires.empty c.requires.room;
+  slots = moving-first c.args.items.items c.args.start c.args.block.now.slots;
   len = refl;
   alloc = refl;
-  cost = moving-none (length c.args.items.now.items) c.args.block.now.cost;
+  cost = moving-none (length c.args.items.items) c.args.block.now.cost;
 }
 
 pub loop-item-preserved : goal.loop-item-preserved
 loop-item-preserved g c =
-    let xs = c.args.items.now.items in
+    let xs = c.args.items.items in
+    let start = c.args.start in
+    let old = c.args.block.now.slots in
     let left = c.pop.new.self.items in
     let was = c.loop-item.invariant in
-    let cap = length c.args.block.now.slots in
-    let before = subst (λ l. IsMoving xs l cap c.loop-item.block.slots)
+    let before = subst (λ l. IsMoving xs l start old c.loop-item.block.slots)
     c.in-Some.ensures.items was.slots in
     record {
-      slots = subst (λ s. IsMoving xs left cap s) (sym c.put.ensures.slots)
-          (moving-next xs left cap c.len.result c.in-Some.item c.loop-item.block.slots before
-          (c.len.ensures ∙ c.pop.new.self.ok.0));
+      slots = subst (λ s. IsMoving xs left start old s) (sym c.put.ensures.slots)
+          (moving-next xs left start (start + c.len.result) c.in-Some.item old
+          c.loop-item.block.slots before
+          (ap (λ n. start + n) (c.len.ensures ∙ c.pop.new.self.ok.0)) c.requires.in_bounds);
       len = c.put.ensures.len ∙ was.len;
       alloc = c.put.ensures.alloc ∙ was.alloc;
       cost = moving-more (length xs) c.args.block.now.cost (length left)

@@ -6,7 +6,7 @@ use Rattle.thin_vec.proofs.placing.put_vec.Given as goal
 
 abbrev pub invariant-loop-item : goal.invariant-loop-item
 invariant-loop-item g l = record {
-  slots : IsMoving l.fn.items.items l.items.items (length l.fn.block.slots) l.block.slots;
+  slots : IsMoving l.fn.items.items l.items.items l.start l.fn.block.slots l.block.slots;
   len : l.block.len ≡ l.fn.block.len;
   alloc : l.block.alloc ≡ l.fn.block.alloc;
   cost : l.block.cost ≡ moving (length l.fn.items.items - length l.items.items) l.fn.block.cost;

@@ -1,24 +1,30 @@
 -- The items of the `Vec` lie in front.
-use Rattle.std.proofs.Common.{◌∙◌, ap, arith, length}
-use Rattle.thin_vec.proofs.ListLemmas.{Settled, from-same, settled}
+use Rattle.std.proofs.Common.{◌≡◌, [], ◌++◌, ◌∙◌, ap, arith, length, sym}
+use Rattle.thin_block.specs.Slots.{items_in}
+use Rattle.thin_vec.proofs.ListLemmas.{Settled}
+use Rattle.thin_vec.proofs.TwoListsLemmas.{settle-more}
 use Rattle.thin_vec.proofs.from_others.ThinVec+T+A.extend_from_vec_reserved.Goals as goal
 use Rattle.thin_vec.proofs.ThinVecLemmas.{within-stays}
 
-facts : (g : _) (c : goal.After-destroy_empty g) → Settled c.set_len.new.self c.self.inside.alloc
-    c.args.items.items (length c.self.inside.block.slots)
+-- the list has no item before
+none : (g : _) (c : goal.After-set_len g) → items_in c.self.inside.block.slots ≡ []
+none g c = ap (λ v. v.items) c.self.view_is ∙ c.requires.empty
+
+facts : (g : _) (c : goal.After-set_len g) → Settled c.set_len.new.self c.self.inside.alloc
+    (items_in c.self.inside.block.slots ++ c.args.items.items) (length c.self.inside.block.slots)
 facts g c =
-    settled c.set_len.new.self c.self.inside.alloc c.args.items.items
-    (length c.self.inside.block.slots) (c.set_len.ensures.slots ∙ c.put_vec.ensures.slots)
-    (c.set_len.ensures.len ∙ (c.len-len.ensures ∙ c.args.items.ok.0))
+    settle-more c.self.inside.block c.set_len.new.self c.self.inside.alloc c.args.items.items 0
+    c.self.invariant (sym (c.self.invariant.packed.len ∙ ap length (none g c)))
     (omega (arith, c.requires.room, ap (λ v. v.capacity) c.self.view_is))
-    (from-same c.self.inside.block c.set_len.new.self c.self.inside.alloc c.self.invariant.from
-    (c.set_len.ensures.alloc ∙ c.put_vec.ensures.alloc))
+    (c.set_len.ensures.slots ∙ c.put_vec.ensures.slots)
+    (omega (arith, c.set_len.ensures.len, c.len-len.ensures, c.args.items.ok.0))
+    (c.set_len.ensures.alloc ∙ c.put_vec.ensures.alloc)
 
 pub invariant_of-self : goal.invariant_of-self
 invariant_of-self g c = (facts g c).thin
 
 pub returns-clause-items : goal.returns-clause-items
-returns-clause-items g c = (facts g c).items
+returns-clause-items g c = (facts g c).items ∙ ap (λ xs. xs ++ c.args.items.items) (none g c)
 
 pub returns-clause-within : goal.returns-clause-within
 returns-clause-within g c =
