@@ -96,6 +96,7 @@ module _ {T : Type 0} where
   abbrev next : Bool → T → T → T × Answers T → T × Answers T
   next b x k a = if b then (a.0, (false, x) ∷ a.1) else (k, (true, a.0) ∷ a.1)
 
+  -- there is an answer for it, whether it goes or stays
   one-answer : (b : Bool) (x k : T) (a : T × Answers T) → length (next b x k a).1 ≡ suc (length a.1)
   one-answer true x k a = refl
   one-answer false x k a = refl
@@ -108,6 +109,7 @@ module _ {T J : Type 0} where
   pub few-asked : (ask : J → T → Bool × T × J) (j : J) (xs : List T) → length (left_at true (asked ask j xs)) ≤ length xs
   few-asked ask j xs = omega (arith, few-left (asked ask j xs), asked-length ask j xs)
 
+  -- of each later item there is an answer, and of all where the first one stays
   last-length : (same : J → T → T → Bool × T × T × J) (j : J) (k : T) (xs : List T) → length (asked_last same j k xs).1 ≡ length xs
   last-length same j k [] = refl
   last-length same j k (x ∷ xs) =
@@ -124,9 +126,11 @@ module _ {T J : Type 0} where
 
 -- where a test decides that has no state, what `dedup` leaves is what its answers leave
 module _ {T J : Type 0} (E : T → T → Bool) (j : J) where
+  -- what the test answers of two items, which it leaves as they are
   abbrev pub tells : J → T → T → Bool × T × T × J
   tells j later kept = (E later kept, later, kept, j)
 
+  -- behind an item that is kept
   dedup-last : (k : T) (xs : List T) → Leaves (unlike_from E k xs) (dedup_from E k xs) (asked_last tells j k xs)
   dedup-last k [] = (refl, refl)
   dedup-last k (x ∷ xs) = told (λ l. dedup-last l xs) (E x k)
@@ -138,10 +142,12 @@ module _ {T J : Type 0} (E : T → T → Bool) (j : J) where
       told by true = let h = by k in (ap (λ l. false ∷ l) h.0, h.1)
       told by false = let h = by x in (ap (λ l. true ∷ l) h.0, ap (λ l. k ∷ l) h.1)
 
+  -- from the first item on, which stays
   dedup-pairs : (xs : List T) → (moved_up (unlike E xs) ≡ moved_up (flags_of (asked_pairs tells j xs))) × (dedup E xs ≡ left_at true (asked_pairs tells j xs))
   dedup-pairs [] = (refl, refl)
   dedup-pairs (x ∷ xs) = let h = dedup-last x xs in (ap moved_up h.0, h.1)
 
+  -- the list that is left
   pub deduped-alike : {A : Type 0} (v w : Thin T A) → w.items ≡ dedup E v.items → w.cost ≡ moving (moved_up (unlike E v.items)) v.cost
       → w.capacity ≡ v.capacity → w.alloc ≡ v.alloc → w ≡ sifted v (asked_pairs tells j v.items)
   deduped-alike v w items cost capacity alloc =

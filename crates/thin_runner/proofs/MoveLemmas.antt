@@ -85,7 +85,7 @@ module _ {T A G J : Type 0} (here : Setting T A J) where
   step-moves v w (ReserveExact k) Done s = same-moves v w _ 0 s.1 (cost_at-moves v w.capacity)
   step-moves v w (ReserveExact k) (Refused cause) s = same-moves v w v 0 s.2 refl
   step-moves v w ShrinkToFit Done s = omega (arith, ap (λ z. z.cost.moves) s, shrunk-moves v)
-  step-moves v w ShrinkToFit (Refused cause) s = same-moves v w v 0 s.2.1 refl
+  step-moves v w ShrinkToFit (Refused cause) s = same-moves v w v 0 s.3 refl
   step-moves v w (Resize k x) Done s = grown-moves v w _ _ s.1.1
   step-moves v w (Resize k x) (Refused cause) s = refused-moves here v w (k - length v.items) _ cause (few-repeats (k - length v.items) x) s.1
   step-moves v w (ExtendFromSlice xs) Done s = grown-moves v w _ _ s.1.1
@@ -99,18 +99,18 @@ module _ {T A G J : Type 0} (here : Setting T A J) where
   step-moves v w (Append given) (Other back None) s = grown-moves v w _ _ s.1.1
   step-moves v w (Append given) (Other back (Some cause)) s = same-moves v w v 0 s.1.2 refl
   step-moves v w (SplitOff i) (Made out) s = same-moves v w _ 0 s.2 refl
-  step-moves v w (SplitOff i) (Refused cause) s = same-moves v w v 0 s.1.1 refl
+  step-moves v w (SplitOff i) (Refused cause) s = same-moves v w v 0 s.2 refl
   step-moves v w Clone (Made copy) s = same-moves v w v 0 s.2 refl
-  step-moves v w Clone (Refused cause) s = same-moves v w v 0 s.1.1 refl
+  step-moves v w Clone (Refused cause) s = same-moves v w v 0 s.2 refl
   step-moves v w Retain Done s = edited-moves v w _ _ s
   step-moves v w RetainMut Done s = edited-moves v w _ _ s
   step-moves v w Dedup Done s = edited-moves v w _ _ s
   step-moves v w DedupBy Done s = edited-moves v w _ _ s
   step-moves v w DedupByKey Done s = edited-moves v w _ _ s
   step-moves v w (Drain a b steps) (Answers answers) s = edited-moves v w _ _ s.1
-  step-moves v w (Drain a b steps) (Refused cause) s = same-moves v w v _ s.1.1 refl
+  step-moves v w (Drain a b steps) (Refused cause) s = same-moves v w v _ s.2 refl
   step-moves v w (ExtractIf a b k) (Answers answers) s = edited-moves v w _ _ s.3
-  step-moves v w (ExtractIf a b k) (Refused cause) s = same-moves v w v _ s.1.1 refl
+  step-moves v w (ExtractIf a b k) (Refused cause) s = same-moves v w v _ s.2 refl
   step-moves v w (Splice a b steps xs lower) (Answers answers) s =
       spliced-moves here.rule here.R v w a b xs.items _ (length xs.items) s.1 (omega arith)
   step-moves v w (Splice a b steps xs lower) (Stopped answers cause held in_hand rest) s =
@@ -118,7 +118,7 @@ module _ {T A G J : Type 0} (here : Setting T A J) where
       let others = held.items ++ (option_to_list in_hand ++ hinted_items rest) in
       spliced-moves here.rule here.R v w a b stopped.placed _ (length xs.items) stopped.filled
       (omega (arith, ap length stopped.all, length-append stopped.placed others))
-  step-moves v w (Splice a b steps xs lower) (Refused cause) s = same-moves v w v _ s.1.1 refl
+  step-moves v w (Splice a b steps xs lower) (Refused cause) s = same-moves v w v _ s.2 refl
   step-moves v w command reply s = absurd s
 
   pub runs-moves : (v w : Thin T A) (commands : List (Command T A G)) (replies : List (Reply T A G)) (run : Runs here v commands replies w) → w.cost.moves ≤ v.cost.moves + run_may_move here v w commands replies run

@@ -127,23 +127,23 @@ module _ {T A G J : Type 0} (here : Setting T A J) (law : KeepsLaw here.rule) wh
   step-paid v w (Append given) (Other back None) keeps a s = ruled-paid here.rule here.R law v w _ (length given.items) a s.1.0 s.1.1 refl refl (all-more v.items given.items)
   step-paid v w (Append given) (Other back (Some cause)) keeps a s = same-paid here.rule here.R law v w a s.1.2
   step-paid v w (SplitOff i) (Made out) keeps a s = kept-paid here.rule here.R law v w _ a s.2 refl refl refl (few-take v.items i)
-  step-paid v w (SplitOff i) (Refused cause) keeps a s = same-paid here.rule here.R law v w a s.1.1
+  step-paid v w (SplitOff i) (Refused cause) keeps a s = same-paid here.rule here.R law v w a s.2
   step-paid v w Clone (Made copy) keeps a s = same-paid here.rule here.R law v w a s.2
-  step-paid v w Clone (Refused cause) keeps a s = same-paid here.rule here.R law v w a s.1.1
+  step-paid v w Clone (Refused cause) keeps a s = same-paid here.rule here.R law v w a s.2
   step-paid v w Retain Done keeps a s = kept-paid here.rule here.R law v w _ a s refl refl refl (few-asked (λ j x. let a = here.judging.look j x in (a.0, x, a.1)) here.judge v.items)
   step-paid v w RetainMut Done keeps a s = kept-paid here.rule here.R law v w _ a s refl refl refl (few-asked here.judging.keep here.judge v.items)
   step-paid v w Dedup Done keeps a s = kept-paid here.rule here.R law v w _ a s refl refl refl (few-pairs (λ j later kept. (here.eq later kept, later, kept, j)) here.judge v.items)
   step-paid v w DedupBy Done keeps a s = kept-paid here.rule here.R law v w _ a s refl refl refl (few-pairs here.judging.same here.judge v.items)
   step-paid v w DedupByKey Done keeps a s = kept-paid here.rule here.R law v w _ a s refl refl refl (few-pairs (same_key here.judging.key) here.judge v.items)
   step-paid v w (Drain i j steps) (Answers answers) keeps a s = kept-paid here.rule here.R law v w _ a s.1 refl refl refl (few-drained v.items i j s.0.0 s.0.1)
-  step-paid v w (Drain i j steps) (Refused cause) keeps a s = same-paid here.rule here.R law v w a s.1.1
+  step-paid v w (Drain i j steps) (Refused cause) keeps a s = same-paid here.rule here.R law v w a s.2
   step-paid v w (ExtractIf i j k) (Answers answers) keeps a s =
       kept-paid here.rule here.R law v w _ a s.3 refl refl refl (few-extracted here.judging.take here.judge k v.items i j s.0 s.1)
-  step-paid v w (ExtractIf i j k) (Refused cause) keeps a s = same-paid here.rule here.R law v w a s.1.1
+  step-paid v w (ExtractIf i j k) (Refused cause) keeps a s = same-paid here.rule here.R law v w a s.2
   step-paid v w (Splice i j steps xs lower) (Answers answers) keeps a s = record { cheap = s.1.cheap a.cheap; room = s.1.within.room }
   step-paid v w (Splice i j steps xs lower) (Stopped answers cause held in_hand rest) keeps a s =
       record { cheap = s.1.filled.cheap a.cheap; room = s.1.filled.within.room }
-  step-paid v w (Splice i j steps xs lower) (Refused cause) keeps a s = same-paid here.rule here.R law v w a s.1.1
+  step-paid v w (Splice i j steps xs lower) (Refused cause) keeps a s = same-paid here.rule here.R law v w a s.2
   step-paid v w command reply keeps a s = absurd s
 
   pub runs-paid : (v w : Thin T A) (commands : List (Command T A G)) (replies : List (Reply T A G)) → All KeepsCheap commands → IsPaid v → Runs here v commands replies w → IsPaid w

@@ -113,6 +113,7 @@ module _ {T A : Type 0} (old : Thin T A) where
   pub cut-end : cut old (length old.items) (length old.items) ≡ old
   cut-end = λ i. record old { items = take-append-drop (length old.items) old.items i }
 
+  -- and there are places where there is room
   pub places-end : (most : ℕ) → HasPlacesFor old (length old.items) (length old.items) most → HasRoomFor old most
   places-end most (inl few) = absurd (omega (arith, few.0))
   places-end most (inr room) = subst (λ (v : Thin T A). HasRoomFor v most) cut-end room.1

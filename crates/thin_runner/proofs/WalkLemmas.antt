@@ -1,5 +1,5 @@
 -- What a step of a walk from the back hands out, before those of the steps that are left.
-use Rattle.std.proofs.Common.{◌≡◌, ◌-◌, List, [], ◌∷◌, ◌++◌, Option, None, Some, ap, arith, length, refl, sym, take, ◌∙◌}
+use Rattle.std.proofs.Common.{◌≡◌, ◌-◌, List, [], ◌∷◌, ◌++◌, Option, None, Some, ap, arith, length, refl, subst, sym, take, ◌∙◌}
 use Rattle.std.proofs.Math.Seq.{take-append_seam}
 use Rattle.std.proofs.lemmas.List.{length_push}
 use Rattle.std.specs.List.{slice_get}
@@ -9,16 +9,24 @@ use Rattle.thin_runner.specs.declared.command.Step.{Step}
 use Rattle.thin_runner.specs.declared.command.Step.TheVariants.{Back}
 
 module _ {T : Type 0} where
+  -- what stands behind a list is at its length
   last-of : (xs : List T) (x : T) → slice_get (xs ++ x ∷ []) (length xs) ≡ Some x
   last-of [] x = refl
   last-of (y ∷ xs) x = last-of xs x
 
-  pub walked-back : (xs ys : List T) (item : Option T) → MatchOption item ((xs ≡ []) × (ys ≡ [])) (λ x. xs ≡ ys ++ x ∷ [])
+  -- a step from the back of xs, of which it leaves ys
+  walked-last : (xs ys : List T) (item : Option T) → MatchOption item ((xs ≡ []) × (ys ≡ [])) (λ x. xs ≡ ys ++ x ∷ [])
       → (steps : List Step) → walked xs (Back ∷ steps) ≡ item ∷ walked ys steps
-  walked-back xs ys None e steps =
+  walked-last xs ys None e steps =
       ap (λ l. slice_get l (length l - 1) ∷ walked (take (length l - 1) l) steps) e.0 ∙ sym (ap (λ l. None ∷ walked l steps) e.1)
-  walked-back xs ys (Some x) e steps =
+  walked-last xs ys (Some x) e steps =
       let count : length xs - 1 ≡ length ys = omega (arith, ap length e, length_push ys x) in
       let last : slice_get xs (length xs - 1) ≡ Some x = (λ i. slice_get (e i) (count i)) ∙ last-of ys x in
       let others : take (length xs - 1) xs ≡ ys = (λ i. take (count i) (e i)) ∙ take-append_seam ys (x ∷ []) in
       λ i. last i ∷ walked (others i) steps
+
+  -- the same of a step that is one from the back
+  pub walked-back : (xs ys : List T) (item : Option T) (step : Step) → step ≡ Back → MatchOption item ((xs ≡ []) × (ys ≡ [])) (λ x. xs ≡ ys ++ x ∷ [])
+      → (steps : List Step) → walked xs (step ∷ steps) ≡ item ∷ walked ys steps
+  walked-back xs ys item step at gave steps =
+      subst (λ s. walked xs (s ∷ steps) ≡ item ∷ walked ys steps) (sym at) (walked-last xs ys item gave steps)

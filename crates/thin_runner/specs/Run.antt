@@ -37,7 +37,8 @@ module _ {T A G J : Type 0} (here : Setting T A J) where
   Runs old (command ∷ commands) (reply ∷ replies) new = (mid : Thin T A) × (Steps here old command reply mid × Runs mid commands replies new)
   Runs old commands replies new = ⊥
 
-  -- the moves that a command may make in a list of the items xs, growth aside; a refused one may make fewer
+  -- the moves that a command may make in a list of the items xs, growth aside: of one that filters, the items that stay and change
+  -- their place. A refused one may make fewer
   abbrev pub may_move : List T → Command T A G → Reply T A G → ℕ
   may_move xs (Push v) Done = 1
   may_move xs (Insert i v) Done = length xs - i + 1

@@ -5,13 +5,15 @@ use Rattle.std.specs.List.{AllZip, AppendsClones, remove_range, swap_remove}
 use Rattle.std.specs.Option.{option_to_list}
 use Rattle.thin_vec.specs.Clones.{IsResized}
 use Rattle.thin_vec.specs.Filters.{left_at}
-use Rattle.thin_vec.specs.ThinVec.{Thin, capacity_for, cost_shrunk, exact_for}
+use Rattle.thin_vec.specs.Growth.{exact_capacity}
+use Rattle.thin_vec.specs.ThinVec.{Thin, capacity_for, cost_shrunk}
+use Rattle.thin_vec.specs.declared.ThinVecError.TheVariants.{OutOfMemory}
 use Rattle.thin_runner.specs.Setting.{Setting}
-use Rattle.thin_runner.specs.commands.Edits.{Grows, Refuses, edited}
+use Rattle.thin_runner.specs.commands.Edits.{Grows, Refuses, at_capacity, edited}
 use Rattle.thin_runner.specs.commands.Filters.{answered, around, extracting, sifted}
 use Rattle.thin_runner.specs.commands.Many.{RefusesClone}
 use Rattle.thin_runner.specs.commands.Ranges.{Walks, walked}
-use Rattle.thin_runner.specs.commands.Room.{RefusesMemory, Reserves, made}
+use Rattle.thin_runner.specs.commands.Room.{made}
 use Rattle.thin_runner.specs.commands.Splices.{Replaces, StopsBetween}
 use Rattle.thin_runner.specs.declared.command.Command.{Command}
 use Rattle.thin_runner.specs.declared.command.Command.TheVariants.{Push, Pop, Insert, Remove, SwapRemove, Set, Truncate, Clear, Reserve, ReserveExact, ShrinkToFit, Resize, ExtendFromSlice, Extend, Append, SplitOff, Clone, Drain, ExtractIf, Splice}
@@ -26,7 +28,7 @@ module _ {T A G : Type 0} where
   IsInRange xs (Remove i) = i < length xs
   IsInRange xs (SwapRemove i) = i < length xs
   IsInRange xs (Set i v) = i < length xs
-  IsInRange xs (SplitOff at) = at ≤ length xs
+  IsInRange xs (SplitOff i) = i ≤ length xs
   IsInRange xs (Drain a b steps) = (a ≤ b) × (b ≤ length xs)
   IsInRange xs (ExtractIf a b k) = (a ≤ b) × (b ≤ length xs)
   IsInRange xs (Splice a b steps ys lower) = (a ≤ b) × (b ≤ length xs)
@@ -46,17 +48,18 @@ module _ {T A G J : Type 0} (here : Setting T A J) where
   Steps old (Set i v) (Item (Some x)) new = (slice_get old.items i ≡ Some x) × (new ≡ record old { items = slice_set old.items i v })
   Steps old (Truncate k) Done new = new ≡ record old { items = take k old.items }
   Steps old Clear Done new = new ≡ record old { items = [] }
-  Steps old (Reserve k) Done new = Reserves (capacity_for here.rule here.R old k) old new
+  Steps old (Reserve k) Done new = (capacity_for here.rule here.R old k ≡ Some new.capacity) × (new ≡ at_capacity old new.capacity)
   Steps old (Reserve k) (Refused cause) new = Refuses (capacity_for here.rule here.R old k) old k cause new
-  Steps old (ReserveExact k) Done new = Reserves (exact_for here.R old k) old new
-  Steps old (ReserveExact k) (Refused cause) new = Refuses (exact_for here.R old k) old k cause new
+  Steps old (ReserveExact k) Done new = (exact_capacity here.R old.capacity (length old.items + k) ≡ Some new.capacity) × (new ≡ at_capacity old new.capacity)
+  Steps old (ReserveExact k) (Refused cause) new = Refuses (exact_capacity here.R old.capacity (length old.items + k)) old k cause new
   Steps old ShrinkToFit Done new = new ≡ record old { capacity = length old.items; cost = cost_shrunk old }
-  Steps old ShrinkToFit (Refused cause) new = (0 < length old.items) × ¬ (length old.items ≡ old.capacity) × RefusesMemory old cause new
+  Steps old ShrinkToFit (Refused cause) new = (0 < length old.items) × ¬ (length old.items ≡ old.capacity) × (cause ≡ OutOfMemory) × (new ≡ old)
   Steps old (Resize k v) Done new = let more = k - length old.items in IsResized here.clones old.items k v new.items × Grows here old more new.items more new
   Steps old (Resize k v) (Refused cause) new = let more = k - length old.items in (0 < more) × RefusesClone here old more (replicate (more - 1) v) cause new
   Steps old (ExtendFromSlice xs) Done new =
       let more = length xs.items in AppendsClones here.clones old.items new.items xs.items × Grows here old more new.items more new
   Steps old (ExtendFromSlice xs) (Refused cause) new = let more = length xs.items in (0 < more) × RefusesClone here old more xs.items cause new
+  -- an `extend` puts items in the place of none, at the end, and moves each once
   Steps old (Extend xs lower) Done new = let end = length old.items in
       Replaces here.rule here.R old end end xs.items (lower + length xs.items) new × (new.cost.moves + end ≡ old.cost.moves + length new.items)
   Steps old (Extend xs lower) (Stopped answers cause held in_hand rest) new = let end = length old.items in
@@ -67,19 +70,21 @@ module _ {T A G J : Type 0} (here : Setting T A J) where
   Steps old (Append given) (Other back (Some cause)) new =
       let more = length given.items in (back ≡ given) × Refuses (capacity_for here.rule here.R old more) old more cause new
   Steps old (SplitOff i) (Made out) new = (i ≤ length old.items) × (out ≡ made here.alloc (drop i old.items)) × (new ≡ record old { items = take i old.items })
-  Steps old (SplitOff i) (Refused cause) new = (i < length old.items) × RefusesMemory old cause new
+  Steps old (SplitOff i) (Refused cause) new = (i < length old.items) × (cause ≡ OutOfMemory) × (new ≡ old)
   Steps old Clone (Made copy) new = AllZip here.clones old.items copy.items × (copy ≡ made here.alloc copy.items) × (new ≡ old)
-  Steps old Clone (Refused cause) new = (0 < length old.items) × RefusesMemory old cause new
+  Steps old Clone (Refused cause) new = (0 < length old.items) × (cause ≡ OutOfMemory) × (new ≡ old)
   Steps old (Drain a b steps) (Answers answers) new =
       Walks old.items a b steps.items answers.items × (new ≡ edited old (remove_range old.items a b) (if a == b then 0 else length old.items - b))
-  Steps old (Drain a b steps) (Refused cause) new = (0 < length steps.items) × RefusesMemory old cause new
+  Steps old (Drain a b steps) (Refused cause) new = (0 < length steps.items) × (cause ≡ OutOfMemory) × (new ≡ old)
+  -- it hands out those that go, from the front
   Steps old (ExtractIf a b k) (Answers answers) new = let asked = extracting here.judging.take here.judge k (slice_range old.items a b) in
       (a ≤ b) × (b ≤ length old.items) × (answers.items ≡ walked (left_at false asked) (replicate k Front)) × (new ≡ sifted old (around old.items a b asked))
-  Steps old (ExtractIf a b k) (Refused cause) new = (0 < k) × RefusesMemory old cause new
+  Steps old (ExtractIf a b k) (Refused cause) new = (0 < k) × (cause ≡ OutOfMemory) × (new ≡ old)
   Steps old (Splice a b steps xs lower) (Answers answers) new =
       Walks old.items a b steps.items answers.items × Replaces here.rule here.R old a b xs.items (lower + length xs.items) new
   Steps old (Splice a b steps xs lower) (Stopped answers cause held in_hand rest) new =
       Walks old.items a b steps.items answers.items × StopsBetween here.rule here.R old a b xs.items held.items lower cause in_hand rest new
-  Steps old (Splice a b steps xs lower) (Refused cause) new = (0 < length steps.items) × RefusesMemory old cause new
+  Steps old (Splice a b steps xs lower) (Refused cause) new = (0 < length steps.items) × (cause ≡ OutOfMemory) × (new ≡ old)
+  -- a command that filters
   Steps old command Done new = MatchOption (answered here old.items command) ⊥ (λ answers. new ≡ sifted old answers)
   Steps old command reply new = ⊥

@@ -11,6 +11,10 @@ module _ {T A : Type 0} where
   abbrev pub edited : Thin T A → List T → ℕ → Thin T A
   edited old xs m = record old { items = xs; cost = moving m old.cost }
 
+  -- old once its capacity is c, with what that has cost
+  abbrev pub at_capacity : Thin T A → ℕ → Thin T A
+  at_capacity old c = record old { capacity = c; cost = cost_at old c }
+
   -- there is no room for k items more: an overflow exactly where no capacity was named, and nothing changes
   abbrev pub Refuses : Option ℕ → Thin T A → ℕ → ThinVecError → Thin T A → Type 0
   Refuses named old k cause new = ¬ (HasRoomFor old k) × ((named ≡ None) ↔ (cause ≡ CapacityOverflow)) × (new ≡ old)
@@ -18,5 +22,4 @@ module _ {T A : Type 0} where
 module _ {T A J : Type 0} (here : Setting T A J) where
   -- the capacity becomes the one that is ruled for k items more, and then xs are the items, by m moves
   abbrev pub Grows : Thin T A → ℕ → List T → ℕ → Thin T A → Type 0
-  Grows old k xs m new = (capacity_for here.rule here.R old k ≡ Some new.capacity)
-      × (new ≡ record old { items = xs; capacity = new.capacity; cost = moving m (cost_at old new.capacity) })
+  Grows old k xs m new = (capacity_for here.rule here.R old k ≡ Some new.capacity) × (new ≡ edited (at_capacity old new.capacity) xs m)
