@@ -1,3 +1,4 @@
+-- The lemmas and the steps of the walks. Those that are `pub` are for the crates above too.
 mod SizesLemmas
 mod PowersLemmas
 mod Walks

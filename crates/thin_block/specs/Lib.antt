@@ -1,3 +1,4 @@
+-- The words of the contracts, the laws of the growth rules, and how a block is made of its items.
 pub mod Capacity
 pub mod Growth
 pub mod GrowthLaws

@@ -1,3 +1,4 @@
+-- The words of the contracts: the table, how a row is stored, its type, and what is lent.
 pub mod Table
 pub mod Entries
 pub mod RowType

@@ -1,3 +1,4 @@
+-- The lemmas; ThinVecLemmas and FiltersLemmas are for callers too.
 mod ListLemmas
 mod CapacityLemmas
 pub mod ThinVecLemmas

@@ -1,3 +1,4 @@
+-- The words of the contracts, with those of the block that they cite.
 pub mod ThinVec
 pub mod Cheap
 pub mod Clones

@@ -1,1 +1,2 @@
+-- The words of the contracts: what they read of a syntax tree.
 pub mod SyntaxTree

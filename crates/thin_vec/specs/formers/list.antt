@@ -1,1 +1,2 @@
+-- What `src/list.rt` declares of them: `ThinVec`.
 pub mod ThinVec

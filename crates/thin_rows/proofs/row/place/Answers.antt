@@ -1,3 +1,4 @@
+-- The closure answers an entry's column, and columns rise: the search ends at the place or the gap.
 use Rattle.std.proofs.Common.{rules}
 use Rattle.std.proofs.lemmas.List.Sorted.{answers_always}
 use Rattle.thin_rows.proofs.EntriesLemmas.{searched}

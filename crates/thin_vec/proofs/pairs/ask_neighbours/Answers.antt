@@ -1,3 +1,4 @@
+-- Each part of the slice is one item, and the slots hold both as they were left.
 use Rattle.std.proofs.Common.{rules}
 use Rattle.thin_vec.proofs.PairsLemmas.{parts-of}
 use Rattle.thin_vec.proofs.pairs.ask_neighbours.Goals as goal

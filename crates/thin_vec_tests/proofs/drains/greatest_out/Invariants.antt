@@ -1,3 +1,4 @@
+-- The greatest of those that were handed out so far, and of `least`.
 use Rattle.std.proofs.Common.{◌≡◌, max}
 use Rattle.std.specs.List.{fold}
 use Rattle.thin_vec_tests.proofs.drains.greatest_out.Given as goal

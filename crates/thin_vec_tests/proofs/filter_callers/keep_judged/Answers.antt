@@ -1,3 +1,4 @@
+-- The closure answers as the judge that it holds does.
 use Rattle.std.proofs.Common.{rules}
 use Rattle.thin_vec_tests.proofs.JudgeLemmas.{retained-by}
 use Rattle.thin_vec_tests.proofs.filter_callers.keep_judged.Goals as goal

@@ -1,3 +1,4 @@
+-- What the map has at a column is the entry at the column's place; at a gap it has none.
 use Rattle.std.proofs.Common.{sym}
 use Rattle.thin_rows.proofs.RowLemmas.{get_at, get_gap}
 use Rattle.thin_rows.proofs.row.Row.get.Goals as goal

@@ -1,3 +1,4 @@
+-- The place that was found is one among the map's entries; at a gap the map has no value.
 use Rattle.std.proofs.Common.{nat_cmp, refl, sym}
 use Rattle.std.specs.FinMap.{entries-from_sorted}
 use Rattle.thin_rows.proofs.RowLemmas.{get_gap}

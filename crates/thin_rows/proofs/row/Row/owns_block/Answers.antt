@@ -1,3 +1,4 @@
+-- By the invariant a block is there exactly where an entry is, and the map counts the entries.
 use Rattle.std.proofs.Common.{◌≡◌, ◌∙◌, length, sym, ap}
 use Rattle.std.specs.FinMap.{len}
 use Rattle.thin_rows.proofs.RowLemmas.{len_is}

@@ -1,3 +1,4 @@
+-- Written over at its place, or put into the gap, the entry makes the map with the value inserted.
 use Rattle.std.proofs.Common.{sym, ap, ◌∙◌, length-set, arith, Some}
 use Rattle.std.proofs.lemmas.Option.{get_or_from_slice_get}
 use Rattle.std.proofs.lemmas.List.Edits.{length-insert}

@@ -1,3 +1,4 @@
+-- The entry that is lent keeps its column, so what is written is the map's value there.
 use Rattle.std.proofs.Common.{◌≡◌, Some, nat_cmp, length-set, refl, sym, ap, ◌∙◌}
 use Rattle.std.proofs.lemmas.Option.{get_or_from_slice_get}
 use Rattle.std.specs.FinMap.{entries-from_sorted}

@@ -1,3 +1,4 @@
+-- What was counted, and what is to come, are all entries, or more than a word holds.
 use Rattle.std.proofs.Common.{◌≡◌, ◌+◌, ◌-◌, ◌^◌, ◌<◌, map, min, sum}
 use Rattle.std.specs.FinMap.{len}
 use Rattle.thin_rows.proofs.table.Rows.len.Given as goal

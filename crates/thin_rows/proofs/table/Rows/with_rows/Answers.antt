@@ -1,3 +1,4 @@
+-- At the end all rows are there; a row as `with_capacity` sees it has the same size and alignment.
 use Rattle.std.proofs.Common.{◌≡◌, ◌∙◌, ap, arith, refl, replicate}
 use Rattle.std.specs.FinMap as map
 use Rattle.thin_rows.proofs.RowTypeLemmas.{error_passes, exact_of_same, ok_passes}

@@ -1,3 +1,4 @@
+-- So far there are as many empty rows as there were turns, and the room is that for all.
 use Rattle.std.proofs.Common.{◌≡◌, replicate}
 use Rattle.std.specs.FinMap as map
 use Rattle.thin_rows.proofs.table.Rows.with_rows.Given as goal

@@ -1,3 +1,4 @@
+-- Those that stay joined the front, and the next item goes, or none is left.
 use Rattle.std.proofs.Common.{◌≡◌, ◌+◌, ◌∙◌, [], ap, arith, sym, take}
 use Rattle.std.proofs.lemmas.Bool.{false≢true}
 use Rattle.std.specs.Fn.{CalledAtMut}

@@ -1,3 +1,4 @@
+-- An item goes where the closure answers true: its answer is turned round twice.
 use Rattle.std.proofs.Common.{Bool, rules, sym, subst}
 use Rattle.std.specs.Fn.{CalledAtMut}
 use Rattle.thin_vec.proofs.ExtractLemmas.{not-not}

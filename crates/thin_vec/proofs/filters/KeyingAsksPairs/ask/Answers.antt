@@ -1,3 +1,4 @@
+-- The two calls of the closure, and the comparison of their keys, in order.
 use Rattle.std.proofs.Common.{rules}
 use Rattle.thin_vec.proofs.filters.KeyingAsksPairs.ask.Goals as goal
 

@@ -1,3 +1,4 @@
+-- The items' type as `with_capacity` sees it has the same size and alignment.
 use Rattle.std.proofs.Common.{◌∙◌, length, refl}
 use Rattle.thin_block.proofs.CapacityLemmas.{exact-at}
 use Rattle.thin_block.proofs.Outcomes.{ok-err}

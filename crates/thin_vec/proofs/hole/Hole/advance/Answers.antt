@@ -1,3 +1,4 @@
+-- Where there is no hole, the run that stays joins the front without a move.
 use Rattle.std.proofs.Common.{◌<◌, ◌++◌, ◌∙◌, ap, rules, sym, take}
 use Rattle.std.proofs.lemmas.Bool.{false≢true}
 use Rattle.thin_vec.proofs.FiltersLemmas.{moving-before}

@@ -1,3 +1,4 @@
+-- There is no item, or it stays and moves, or it goes.
 use Rattle.std.proofs.Common.{◌++◌, ◌∙◌, ap, arith, refl, rules, sym, take}
 use Rattle.std.proofs.lemmas.List.{append-nil}
 use Rattle.thin_block.specs.Cost.{moving}

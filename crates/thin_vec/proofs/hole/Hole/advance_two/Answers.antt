@@ -1,3 +1,4 @@
+-- The first item goes, or the second, or both stay and are one run with those behind them.
 use Rattle.std.proofs.Common.{◌∙◌, ap, arith, refl, rules, sym}
 use Rattle.std.proofs.lemmas.List.{append-nil}
 use Rattle.thin_block.specs.Cost.{moving}

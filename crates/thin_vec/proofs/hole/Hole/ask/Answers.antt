@@ -1,3 +1,4 @@
+-- The slot of the item is filled, and then holds the item as it was left.
 use Rattle.std.proofs.Common.{◌<◌, ◌+◌, refl, ap, sym, ◌∙◌, arith, length}
 use Rattle.thin_block.specs.Lends.{with_item}
 use Rattle.thin_vec.specs.Hole.{open_of}

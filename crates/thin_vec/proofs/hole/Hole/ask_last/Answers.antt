@@ -1,3 +1,4 @@
+-- The last slot of the front is filled, and then holds its item as it was left.
 use Rattle.std.proofs.Common.{◌-◌, refl, ap, sym, ◌∙◌, arith, length}
 use Rattle.thin_block.specs.Lends.{with_item}
 use Rattle.thin_vec.proofs.PairsLemmas.{WrittenLast, last-filled, write-last-step}

@@ -1,3 +1,4 @@
+-- The first slot of the middle run is filled, and then holds its item as it was left.
 use Rattle.std.proofs.Common.{◌≡◌, ◌<◌, ◌+◌, refl, ap, sym, ◌∙◌, arith, length}
 use Rattle.thin_vec.specs.Hole.{open_of}
 use Rattle.std.proofs.Common.{◌++◌, ◌∷◌, Some}

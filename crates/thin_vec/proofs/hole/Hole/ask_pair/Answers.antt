@@ -1,3 +1,4 @@
+-- Both slots are filled, and then hold the two items as they were left.
 use Rattle.std.proofs.Common.{◌-◌, ap, sym, ◌∙◌, arith, length}
 use Rattle.thin_vec.specs.Hole.{open_of}
 use Rattle.thin_vec.proofs.HoleLemmas.{rest-filled}

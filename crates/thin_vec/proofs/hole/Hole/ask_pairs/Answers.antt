@@ -1,3 +1,4 @@
+-- The first item stays unasked; one item more stays, or it goes and ends the run.
 use Rattle.std.proofs.Common.{refl, rules}
 use Rattle.thin_vec.proofs.DedupLemmas.{pair-goes, pair-more, pair-start}
 use Rattle.thin_vec.proofs.hole.Hole.ask_pairs.Goals as goal

@@ -1,3 +1,4 @@
+-- One item more was asked about and stays, or it goes and ends the run.
 use Rattle.std.proofs.Common.{refl, rules}
 use Rattle.thin_vec.proofs.FiltersLemmas.{stays-goes, stays-more, stays-start}
 use Rattle.thin_vec.proofs.hole.Hole.ask_run.Goals as goal

@@ -1,3 +1,4 @@
+-- What the iterator gave lies behind the front, and so much less of the hole is left.
 use Rattle.std.proofs.Common.{◌++◌, ◌∙◌, ap, arith}
 use Rattle.thin_vec.proofs.HoleLemmas.{fill-step}
 use Rattle.thin_vec.proofs.hole.Hole.fill.Goals as goal

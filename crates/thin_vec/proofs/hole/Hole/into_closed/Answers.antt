@@ -1,3 +1,4 @@
+-- What lies behind the hole goes to the front, or is there already.
 use Rattle.std.proofs.Common.{ap, arith, ◌∙◌}
 use Rattle.thin_block.specs.Slots.{front}
 use Rattle.thin_vec.specs.Open.{items_of}

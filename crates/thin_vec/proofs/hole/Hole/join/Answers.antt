@@ -1,3 +1,4 @@
+-- With no item between them, the two runs of empty slots are one.
 use Rattle.std.proofs.Common.{ap, ◌∙◌}
 use Rattle.thin_vec.proofs.HoleLemmas.{join-step}
 use Rattle.thin_vec.proofs.hole.Hole.join.Goals as goal

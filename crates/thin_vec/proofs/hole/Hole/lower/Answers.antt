@@ -1,3 +1,4 @@
+-- One item more went to the front, for one move more.
 use Rattle.std.proofs.Common.{◌++◌, drop, take, ap, sym, ◌∙◌, append_assoc, rules}
 use Rattle.std.proofs.Math.Seq.{take-add}
 use Rattle.std.proofs.lemmas.List.{drop-drop}

@@ -1,3 +1,4 @@
+-- The first slot of the middle run is filled, and its item then lies behind the front.
 use Rattle.std.proofs.Common.{◌≤◌, ◌++◌, ap, ◌∙◌, arith, length, take, drop}
 use Rattle.thin_vec.specs.Hole.{open_of}
 use Rattle.thin_vec.proofs.HoleLemmas.{Found, rest-filled}

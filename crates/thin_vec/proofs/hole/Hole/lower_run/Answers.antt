@@ -1,3 +1,4 @@
+-- The first slots of the middle run are filled, and their items then lie behind the front.
 use Rattle.std.proofs.Common.{◌≤◌, ◌++◌, ap, ◌∙◌, arith, length, take, drop}
 use Rattle.thin_vec.specs.Hole.{open_of}
 use Rattle.thin_vec.proofs.HoleLemmas.{Found, rest-filled}

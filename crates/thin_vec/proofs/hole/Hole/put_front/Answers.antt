@@ -1,3 +1,4 @@
+-- The first empty slot takes the value, which then lies behind the front.
 use Rattle.std.proofs.Common.{◌+◌, ◌-◌, ap, ◌∙◌, arith}
 use Rattle.thin_vec.specs.Hole.{open_of}
 use Rattle.std.proofs.Common.{◌++◌, ◌∷◌, []}

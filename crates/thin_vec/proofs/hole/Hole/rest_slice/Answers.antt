@@ -1,3 +1,4 @@
+-- The slots of the middle run are filled, and what they hold is the run.
 use Rattle.std.proofs.Common.{ap, ◌∙◌}
 use Rattle.thin_vec.specs.Hole.{open_of}
 use Rattle.thin_vec.proofs.HoleLemmas.{rest-filled, rest-run}

@@ -1,3 +1,4 @@
+-- Some first items stay; then none is left, or one goes and all behind it were asked about.
 use Rattle.std.proofs.Common.{◌≡◌, [], sym, ◌∙◌, arith, rules}
 use Rattle.thin_vec.proofs.FiltersLemmas.{nothing, sifted-ends, sifted-goes}
 use Rattle.thin_vec.proofs.hole.Hole.sift.Goals as goal

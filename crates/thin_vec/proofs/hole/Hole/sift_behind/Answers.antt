@@ -1,3 +1,4 @@
+-- One stretch of items after another was asked about, and at last the rest.
 use Rattle.thin_vec.proofs.FiltersLemmas.{sifts-start, sifts-then}
 use Rattle.thin_vec.proofs.hole.Hole.sift_behind.Goals as goal
 

@@ -1,3 +1,4 @@
+-- An item goes, or none does: either way fewer are left to ask about.
 use Rattle.std.proofs.Common.{◌∙◌, ap, arith, length, sym}
 use Rattle.std.proofs.lemmas.Bool.{false≢true}
 use Rattle.thin_vec.proofs.FiltersLemmas.{advanced-count, advanced-ends, advanced-goes, none-left}

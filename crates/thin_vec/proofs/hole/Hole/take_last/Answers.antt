@@ -1,3 +1,4 @@
+-- The last slot of the middle run is filled, and then empty.
 use Rattle.std.proofs.Common.{◌≡◌, ◌<◌, ◌∷◌, ◌++◌, ◌-◌, [], List, ap, sym, ◌∙◌, arith, length}
 use Rattle.thin_vec.specs.Hole.{open_of}
 use Rattle.thin_vec.proofs.HoleLemmas.{Found, last-left, last-seen, last-step, rest-filled}

@@ -1,3 +1,4 @@
+-- Each round joins those before it, and leaves an item in front to ask beside.
 use Rattle.thin_vec.proofs.DedupLemmas.{thins-start, thins-then}
 use Rattle.thin_vec.proofs.hole.Hole.thin_behind.Goals as goal
 

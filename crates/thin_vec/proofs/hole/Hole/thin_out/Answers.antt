@@ -1,3 +1,4 @@
+-- Some first items stay; then none is left, or one goes and rounds ask about those behind it.
 use Rattle.std.proofs.Common.{◌≡◌, ◌++◌, [], take, sym, ap, ◌∙◌, arith, rules}
 use Rattle.thin_vec.proofs.DedupLemmas.{thinned-ends, thinned-goes}
 use Rattle.thin_vec.proofs.FiltersLemmas.{nothing}

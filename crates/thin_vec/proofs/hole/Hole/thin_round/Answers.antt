@@ -1,3 +1,4 @@
+-- A round ends at the first item that goes, or where none is left: a case for each such place.
 use Rattle.std.proofs.Common.{◌≡◌, ◌∷◌, [], false, refl, sym, ◌∙◌, arith, rules}
 use Rattle.std.proofs.lemmas.List.{append-nil}
 use Rattle.thin_vec.proofs.DedupLemmas.{run-count, run-ends, run-goes, thins-goes, thins-run, thins-stays, thins-two}

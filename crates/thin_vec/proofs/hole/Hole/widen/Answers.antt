@@ -1,3 +1,4 @@
+-- The tail has room behind it, and once it is up, as many more empty slots before it.
 use Rattle.std.proofs.Common.{◌≡◌, ℕ, ◌+◌, ◌≤◌, ◌∙◌, ap, arith}
 use Rattle.thin_vec.specs.Hole.{Shows, open_of}
 use Rattle.thin_vec.specs.Open.{Open, reach}

@@ -1,3 +1,4 @@
+-- The items lie in front of the block that was closed.
 use Rattle.std.proofs.Common.{ap, sym, ◌∙◌}
 use Rattle.thin_vec.specs.Open.{items_of}
 use Rattle.thin_vec.proofs.ListLemmas.{Settled, settled, thin-room}

@@ -1,3 +1,4 @@
+-- The moves of what went in, and of the tail where the hole was not full by then.
 use Rattle.std.proofs.Common.{◌∙◌, ◌-◌, ap, arith, length, length-append}
 use Rattle.thin_vec.proofs.FillingLemmas.{closed-moves}
 use Rattle.thin_vec.proofs.list.ThinVec.close_filled.Goals as goal

@@ -1,3 +1,4 @@
+-- By a test without a state, what is left is `dedup` of the items, and `unlike` says which stay.
 use Rattle.std.proofs.Common.{ap, ◌∙◌}
 use Rattle.thin_block.specs.Cost.{moving}
 use Rattle.thin_vec.specs.Filters.{moved_up}

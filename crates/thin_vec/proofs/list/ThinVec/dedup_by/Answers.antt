@@ -1,3 +1,4 @@
+-- Each question to the judge is a call of the closure that it holds.
 use Rattle.std.specs.Fn.{CalledAtPairMut}
 use Rattle.thin_vec.proofs.DedupLemmas.{deduped-through}
 use Rattle.thin_vec.proofs.list.ThinVec.dedup_by.Goals as goal

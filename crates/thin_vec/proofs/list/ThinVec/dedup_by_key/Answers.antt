@@ -1,3 +1,4 @@
+-- Each question to the judge compares two keys by the closure that it holds.
 use Rattle.std.specs.Fn.{ComparesKeys}
 use Rattle.thin_vec.proofs.DedupLemmas.{deduped-through}
 use Rattle.thin_vec.proofs.list.ThinVec.dedup_by_key.Goals as goal

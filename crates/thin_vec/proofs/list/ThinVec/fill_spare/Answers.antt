@@ -1,3 +1,4 @@
+-- What the iterator gave lies behind the items, and the stored length counts both.
 use Rattle.std.proofs.Common.{◌++◌, ◌-◌, ◌≡◌, ◌∙◌, ap, arith, length, length-append}
 use Rattle.thin_block.specs.Cost.{moving}
 use Rattle.thin_block.specs.Slots.{items_in}

@@ -1,3 +1,4 @@
+-- One run for the hint, and one for what was held: items, capacity, cost and cause of both.
 use Rattle.std.proofs.Common.{Some, inl, inr, ◌++◌, ◌+◌, ◌-◌, ◌*◌, ◌∙◌, ap, arith, drop, length, length-append, refl, subst, sym, take}
 use Rattle.std.proofs.lemmas.List.{length-drop, length-take-le}
 use denote.Param.{param}

@@ -1,3 +1,4 @@
+-- The capacity, or the overflow, is that for as many items as were held.
 use Rattle.std.proofs.Common.{◌++◌, ◌∙◌, ap, arith, drop, length, length-append, subst, sym, take}
 use Rattle.std.proofs.lemmas.List.{length-drop, length-take-le}
 use denote.Param.{param}

@@ -1,3 +1,4 @@
+-- The moves of what went in, and of the items behind: up, and down if the iterator ended sooner.
 use Rattle.std.proofs.Common.{◌∙◌, ◌+◌, ◌-◌, ap, arith, length}
 use Rattle.std.proofs.lemmas.List.{length-drop, length-take-le}
 use Rattle.thin_block.specs.Cost.{moving}

@@ -1,3 +1,4 @@
+-- The block is the one that the list had, its items cut into three runs with no slot between.
 use Rattle.std.proofs.Common.{◌≡◌, ◌≤◌, ap, sym, ◌∙◌, subst, arith, drop, length, take}
 use Rattle.std.specs.Prelude.{slice_range}
 use Rattle.thin_block.specs.Slots.{items_in}

@@ -1,3 +1,4 @@
+-- Each question to the judge is a look of the closure that it holds.
 use Rattle.std.specs.Fn.{CalledAt}
 use Rattle.thin_vec.specs.Filters.{Looks}
 use Rattle.thin_vec.proofs.FiltersLemmas.{retained-through}
