@@ -7,8 +7,6 @@ mod orders;
 mod random;
 mod samples;
 
-use crate::reporting::{Status, report, report_rows, write_row};
-use crate::rows::row;
 use other_rules::{Fourfold, Threefold};
 use refusing::Refusing;
 use std::alloc::{Allocator, Global};
@@ -20,6 +18,8 @@ use thin_runner::command::{Command, Reply};
 use thin_runner::judge::Judge;
 use thin_runner::runner::{run, step};
 use thin_vec::{Doubling, Growth, PowerBytes, ThinVec, ThinVecError, thin_vec};
+use worked_rows::reporting::{Status, report, report_rows, write_row};
+use worked_rows::rows::row;
 
 #[test]
 fn runs_commands_in_order(rt: HostRuntime) -> Result<(), Fail> {

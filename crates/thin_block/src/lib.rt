@@ -9,8 +9,6 @@ mod memory;
 mod shifts;
 mod sizes;
 mod slots;
-#[cfg(test)]
-mod tests;
 
 pub use block::Block;
 pub use errors::ThinVecError;

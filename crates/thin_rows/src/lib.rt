@@ -3,8 +3,6 @@
 
 mod row;
 mod table;
-#[cfg(test)]
-mod tests;
 
 pub use table::Rows;
 pub use thin_vec::{Rejected, ThinVecError};

@@ -1,4 +1,5 @@
-//! The tests of the list, in a crate of their own: a crate that has tests is proved twice, and the list is proved once.
+//! The tests of the list, of its uses and of the table, in a crate of their own: a crate that has tests is proved twice, and
+//! those are proved once.
 #![tactic(auto)]
 
 #[cfg(test)]
@@ -40,6 +41,8 @@ mod items;
 mod iterating;
 pub mod last_digits;
 #[cfg(test)]
+mod limits;
+#[cfg(test)]
 mod making;
 #[cfg(test)]
 mod names;
@@ -62,11 +65,15 @@ pub mod splices;
 #[cfg(test)]
 mod standing;
 #[cfg(test)]
+mod tables;
+#[cfg(test)]
 mod texts;
 #[cfg(test)]
 mod trees;
 #[cfg(test)]
 mod two_lists;
+#[cfg(test)]
+mod uses;
 #[cfg(test)]
 pub mod widths;
 #[cfg(test)]

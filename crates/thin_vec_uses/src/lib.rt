@@ -11,5 +11,3 @@ pub mod sparse_counts;
 pub mod std_errors;
 pub mod style_lists;
 pub mod syntax_tree;
-#[cfg(test)]
-mod tests;

@@ -1,14 +1,10 @@
-//! The limits, at the types that Rust has, against numbers worked out by hand.
+//! The limits of a block, at the types that Rust has, against numbers worked out by hand.
 ghost use Rattle.std.specs.Prelude.{◌≡◌, IsTrue, IsFalse, ◌^◌, ◌-◌, ◌+◌};
 ghost use Rattle.thin_block.specs.Capacity.{items_offset, fits as fits_at};
 
-use crate::errors::ThinVecError;
-use crate::growth::Growth;
-use crate::growth::doubling::{first_capacity, next_capacity};
-use crate::growth::power_bytes::PowerBytes;
-use crate::sizes::fits;
 use std::alloc::AllocError;
 use std::test::Fail;
+use thin_block::{Growth, PowerBytes, ThinVecError, first_capacity, fits, next_capacity};
 
 #[test]
 fn the_greatest_capacity_that_fits(rt: HostRuntime) {
@@ -66,7 +62,7 @@ fn the_errors(rt: HostRuntime) -> Result<(), Fail> {
 }
 
 // No type of the language has an alignment above 16, so no run can show these.
-#[tactic(auto, unfolding(crate::specs::Capacity::fits))]
+#[tactic(auto, unfolding(thin_block::specs::Capacity::fits))]
 fn the_limits_at_greater_alignments()
     ensures byte_items { items_offset 1 ≡ 16 }
     ensures items_at_32 { items_offset 32 ≡ 32 }

@@ -1,13 +1,13 @@
-//! What no clause says of a table: when memory is asked for and given back, and texts. And many random calls, beside a map
-//! of std's that takes the same calls.
+//! What no clause says of the table of `thin_rows`: when memory is asked for and given back, and texts. And many random
+//! calls, beside a map of std's that takes the same calls.
 ghost use Rattle.std.specs.Prelude.{◌<◌, length};
 
-use crate::{Rows, ThinVecError};
 use refusing::Refusing;
 use std::alloc::{Allocator, Global};
 use std::collections::BTreeMap;
 use std::fmt::Debug;
 use std::process::Abort;
+use thin_rows::{Rows, ThinVecError};
 
 // Asserts that both are the same. Nothing is known of them afterwards.
 fn assert_same<T: PartialEq + Debug + Drop>(rt: &impl Abort, value: T, wanted: T) {

@@ -1,19 +1,19 @@
-//! Each use, once.
-use crate::first_list::first_list;
-use crate::moved_range::move_range;
-use crate::moves::{edited, extracted_first, spliced_middle};
-use crate::refused_push::push_or_return;
-use crate::reserved_room::push_both;
-use crate::sorting::sort;
-use crate::sparse_counts::{add, halve, is_row_empty, take};
-use crate::std_errors::{doubled, with_numbers, write_line};
-use crate::style_lists::{same_style, style_hash};
-use crate::syntax_tree::Node;
+//! Each use of `thin_vec_uses`, once.
 use refusing::Refusing;
 use std::io::ErrorKind;
 use std::test::Fail;
 use thin_rows::Rows;
 use thin_vec::{ThinVec, thin_vec};
+use thin_vec_uses::first_list::first_list;
+use thin_vec_uses::moved_range::move_range;
+use thin_vec_uses::moves::{edited, extracted_first, spliced_middle};
+use thin_vec_uses::refused_push::push_or_return;
+use thin_vec_uses::reserved_room::push_both;
+use thin_vec_uses::sorting::sort;
+use thin_vec_uses::sparse_counts::{add, halve, is_row_empty, take};
+use thin_vec_uses::std_errors::{doubled, with_numbers, write_line};
+use thin_vec_uses::style_lists::{same_style, style_hash};
+use thin_vec_uses::syntax_tree::Node;
 
 #[test]
 fn a_leaf_owns_no_block(rt: HostRuntime) -> Result<(), Fail> {
