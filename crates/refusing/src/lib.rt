@@ -12,9 +12,6 @@
 use std::alloc::{AllocError, Allocator};
 use std::cell::Cell;
 
-#[cfg(test)]
-mod tests;
-
 // How many requests were made, the number of the one that is refused, counting from 1 (at 0 none is), and how many blocks
 // are out.
 #[derive(Drop)]

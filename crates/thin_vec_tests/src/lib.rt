@@ -51,6 +51,8 @@ mod questions;
 #[cfg(test)]
 mod refusals;
 #[cfg(test)]
+mod requests;
+#[cfg(test)]
 pub mod rooms;
 #[cfg(test)]
 mod scarce;

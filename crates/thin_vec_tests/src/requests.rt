@@ -1,4 +1,5 @@
-use crate::Refusing;
+//! Which requests `refusing` refuses, and what it counts.
+use refusing::Refusing;
 use std::test::Fail;
 
 #[test]
