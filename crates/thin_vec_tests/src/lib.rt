@@ -1,5 +1,5 @@
-//! The tests of the list, of its uses and of the table, in a crate of their own: a crate that has tests is proved twice, and
-//! those are proved once.
+//! The tests of the list, the block, the table, the uses and the allocator `refusing`, in a crate of their own: one that has
+//! tests is proved twice, and those are proved once.
 #![tactic(auto)]
 
 #[cfg(test)]
