@@ -17,7 +17,6 @@ impl<T, A: Allocator, G: Growth> ThinVec<T, A, G> {
     /// Makes room for `additional` more items: where there is not room enough, the capacity becomes the ruled one.
     ///
     /// It is refused where that capacity overflows, or where memory is refused, and then nothing changes.
-    #[tactic(auto, using(thin_block::proofs::CapacityLemmas::ruled))]
     pub fn reserve(&mut self, additional: usize) -> Result<(), ThinVecError>
         ensures succeeds { HasRoomFor self.old additional → IsOk result }
         ensures succeeds_empty { additional ≡ 0 → IsOk result }

@@ -116,7 +116,6 @@ impl<T: Clone, A: Allocator, G: Growth> ThinVec<T, A, G> {
     /// It is refused only where the list is to be longer, as `reserve` is, and then nothing changes. It is refused as
     /// `OutOfMemory` also where a clone is: the clones made until then are dropped, the list has its old items, and the
     /// room that was made stays. Refused, `value` is dropped.
-    #[tactic(auto, using(thin_block::proofs::CapacityLemmas::ruled))]
     pub fn resize(&mut self, len: usize, value: T) -> Result<(), ThinVecError>
         ensures succeeds { len ≤ self.old.capacity → T.is_infallible value → IsOk result }
         ensures succeeds_shorter { len ≤ length self.old.items → IsOk result }

@@ -65,7 +65,6 @@ pub fn place<T, A: Allocator>(list: &mut ThinVec<T, A>, value: T)
 
 /// What `thin_vec!` calls for `count` times the same: `new`, and then `resize`.
 #[doc(hidden)]
-#[tactic(auto, using(crate::proofs::ClonesLemmas::new_lists))]
 pub fn repeated<T: Clone, A: Allocator>(
     alloc: A,
     value: T,

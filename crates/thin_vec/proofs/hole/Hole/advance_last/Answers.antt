@@ -3,6 +3,7 @@ use Rattle.std.proofs.Common.{◌++◌, ◌∙◌, ap, arith, refl, rules, sym, 
 use Rattle.std.proofs.lemmas.List.{append-nil}
 use Rattle.thin_block.specs.Cost.{moving}
 use Rattle.thin_vec.proofs.FiltersLemmas.{asked-count, moving-behind, moving-none, one-stays, stays-end, stays-goes, stays-start}
+use Rattle.std.proofs.lemmas.Grind.{common_steps}
 use Rattle.thin_vec.proofs.hole.Hole.advance_last.Goals as goal
 
 -- there is no item
@@ -74,3 +75,12 @@ returns-clause-advances g c =
       capacity = c.ask.ensures.capacity;
       alloc = c.ask.ensures.alloc;
     }
+
+pub lower_one-requires-clause-some : goal.lower_one-requires-clause-some
+lower_one-requires-clause-some g c = grind (arith, common_steps)
+
+pub returns-then-ask-clause-goes : goal.returns-then-ask-clause-goes
+returns-then-ask-clause-goes g c = grind (arith, common_steps)
+
+pub returns-clause-goes : goal.returns-clause-goes
+returns-clause-goes g c = grind (arith, common_steps)

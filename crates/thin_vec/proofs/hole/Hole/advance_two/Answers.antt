@@ -3,6 +3,7 @@ use Rattle.std.proofs.Common.{◌∙◌, ap, arith, refl, rules, sym}
 use Rattle.std.proofs.lemmas.List.{append-nil}
 use Rattle.thin_block.specs.Cost.{moving}
 use Rattle.thin_vec.proofs.FiltersLemmas.{moving-behind, moving-none, one-stays, runs-join, stays-goes, stays-start, two-stay}
+use Rattle.std.proofs.lemmas.Grind.{common_steps}
 use Rattle.thin_vec.proofs.hole.Hole.advance_two.Goals as goal
 
 -- the first item goes
@@ -82,3 +83,18 @@ returns-clause-advances g c =
       capacity = search rules;
       alloc = search rules;
     }
+
+pub returns-then-not-ask-clause-goes : goal.returns-then-not-ask-clause-goes
+returns-then-not-ask-clause-goes g c = grind (arith, common_steps)
+
+pub ask-requires-2-clause-in_bounds : goal.ask-requires-2-clause-in_bounds
+ask-requires-2-clause-in_bounds g c = grind (arith, common_steps)
+
+pub lower_one-requires-clause-some : goal.lower_one-requires-clause-some
+lower_one-requires-clause-some g c = grind (arith, common_steps)
+
+pub ask_run-count-requires-clause-in_bounds : goal.ask_run-count-requires-clause-in_bounds
+ask_run-count-requires-clause-in_bounds g c = grind (arith, common_steps)
+
+pub lower-requires-clause-in_bounds : goal.lower-requires-clause-in_bounds
+lower-requires-clause-in_bounds g c = grind (arith, common_steps)

@@ -1,6 +1,7 @@
 -- The first item stays unasked; one item more stays, or it goes and ends the run.
-use Rattle.std.proofs.Common.{refl, rules}
+use Rattle.std.proofs.Common.{arith, refl, rules}
 use Rattle.thin_vec.proofs.DedupLemmas.{pair-goes, pair-more, pair-start}
+use Rattle.std.proofs.lemmas.Grind.{common_steps}
 use Rattle.thin_vec.proofs.hole.Hole.ask_pairs.Goals as goal
 
 pub loop-kept-init : goal.loop-kept-init
@@ -38,3 +39,9 @@ loop-kept-preserved g c =
       alloc = search rules;
       cost = search rules;
     }
+
+pub loop-kept-smaller : goal.loop-kept-smaller
+loop-kept-smaller g c = grind (arith, common_steps)
+
+pub returns-clause-asked : goal.returns-clause-asked
+returns-clause-asked g c = grind (arith, common_steps)

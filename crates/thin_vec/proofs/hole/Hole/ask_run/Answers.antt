@@ -1,6 +1,7 @@
 -- One item more was asked about and stays, or it goes and ends the run.
-use Rattle.std.proofs.Common.{refl, rules}
+use Rattle.std.proofs.Common.{arith, refl, rules}
 use Rattle.thin_vec.proofs.FiltersLemmas.{stays-goes, stays-more, stays-start}
+use Rattle.std.proofs.lemmas.Grind.{common_steps}
 use Rattle.thin_vec.proofs.hole.Hole.ask_run.Goals as goal
 
 pub loop-at-init : goal.loop-at-init
@@ -38,3 +39,9 @@ loop-at-preserved g c =
       alloc = search rules;
       cost = search rules;
     }
+
+pub loop-at-smaller : goal.loop-at-smaller
+loop-at-smaller g c = grind (arith, common_steps)
+
+pub returns-clause-asked : goal.returns-clause-asked
+returns-clause-asked g c = grind (arith, common_steps)

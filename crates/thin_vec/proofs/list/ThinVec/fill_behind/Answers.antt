@@ -1,10 +1,11 @@
 -- With no item behind the hole, the closed list is what is left, and `extend` says the rest.
-use Rattle.std.proofs.Common.{◌∙◌, length, subst, sym}
+use Rattle.std.proofs.Common.{arith, ◌∙◌, length, subst, sym}
 use Rattle.std.specs.Iterator.{size}
 use Rattle.thin_vec.specs.ThinVec.{HasRoomFor}
 use denote.Param.{param}
 use Rattle.thin_vec.specs.Extend.{IsExtended, IsLoose}
 use Rattle.thin_vec.proofs.FillingLemmas.{closed-left}
+use Rattle.std.proofs.lemmas.Grind.{common_steps}
 use Rattle.thin_vec.proofs.list.ThinVec.fill_behind.Goals as goal
 
 pub returns-in-Ok-clause-capacity : goal.returns-in-Ok-clause-capacity
@@ -52,3 +53,6 @@ returns-in-Err-clause-had_room g c = λ fit.
     c.extend.ensures.had_room
     (subst (λ z. HasRoomFor z (size (g.I.Iterator.remaining c.args.iter))) (sym left) fit)
     ∙ c.close.ensures.capacity
+
+pub returns-in-Err-clause-cheap : goal.returns-in-Err-clause-cheap
+returns-in-Err-clause-cheap g c = grind (arith, common_steps)

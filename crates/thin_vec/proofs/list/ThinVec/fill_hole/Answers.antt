@@ -3,6 +3,7 @@ use Rattle.std.proofs.Common.{ap, arith, length}
 use denote.Param.{param}
 use Rattle.thin_vec.specs.Filling.{left_of}
 use Rattle.thin_vec.proofs.FillingLemmas.{any-err, if-err, overflows-one, spliced-extended, stopped-now}
+use Rattle.std.proofs.lemmas.Grind.{common_steps}
 use Rattle.thin_vec.proofs.list.ThinVec.fill_hole.Goals as goal
 
 pub returns-then-has_tail-clause-cause : goal.returns-then-has_tail-clause-cause
@@ -80,3 +81,6 @@ returns-clause-full g c =
 pub returns-clause-err : goal.returns-clause-err
 returns-clause-err g c =
     if-err c.fill_behind.result (λ refused is now _. now) c.fill_behind.ensures.err
+
+pub fill_behind-requires-clause-no_tail : goal.fill_behind-requires-clause-no_tail
+fill_behind-requires-clause-no_tail g c = grind (arith, common_steps)

@@ -5,6 +5,7 @@ use denote.Param.{param}
 use Rattle.thin_vec.specs.Clones.{CloneEquals, IsResized, StopsAtClone}
 use Rattle.thin_vec.specs.ThinVec.{capacity_for, cost_at}
 use Rattle.thin_block.proofs.Outcomes.{on-err, none-some}
+use Rattle.thin_block.proofs.CapacityLemmas.{ruled}
 use Rattle.thin_vec.proofs.list.ThinVec.resize.Goals as goal
 
 pub returns-clause-overflow : goal.returns-clause-overflow
@@ -55,3 +56,15 @@ returns-clause-refused g c =
           (subst (λ k. StopsAtClone g.T.Clone.is_infallible
           (replicate (c.args.len - c.len-old.result - 1) x) k new.cost) paid stops);
     })) c.resize_reserved.ensures.refused
+
+pub returns-then-len-old-clause-overflow : goal.returns-then-len-old-clause-overflow
+returns-then-len-old-clause-overflow g c = grind (arith, ruled)
+
+pub returns-then-len-old-clause-capacity : goal.returns-then-len-old-clause-capacity
+returns-then-len-old-clause-capacity g c = grind (arith, ruled)
+
+pub returns-in_err-reserve-clause-overflow : goal.returns-in_err-reserve-clause-overflow
+returns-in_err-reserve-clause-overflow g c = grind (arith, ruled)
+
+pub returns-clause-capacity : goal.returns-clause-capacity
+returns-clause-capacity g c = grind (arith, ruled)

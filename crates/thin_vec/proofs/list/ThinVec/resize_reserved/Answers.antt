@@ -1,6 +1,7 @@
 -- Clones that are equal, and the value, are so many times the value.
 use Rattle.std.proofs.Common.{arith}
 use Rattle.thin_vec.proofs.ClonesLemmas.{equal-repeated}
+use Rattle.std.proofs.lemmas.Grind.{common_steps}
 use Rattle.thin_vec.proofs.list.ThinVec.resize_reserved.Goals as goal
 
 pub returns-clause-items_if_clones_equal : goal.returns-clause-items_if_clones_equal
@@ -14,3 +15,15 @@ returns-clause-items_if_clones_equal g c = λ equal.
       c.if-push_repeated_reserved-count.false,
       c.requires.some,
     ))
+
+pub returns-then-push_repeated_reserved-count-clause-err_items : goal.returns-then-push_repeated_reserved-count-clause-err_items
+returns-then-push_repeated_reserved-count-clause-err_items g c = grind (arith, common_steps)
+
+pub returns-then-push_repeated_reserved-count-clause-refused : goal.returns-then-push_repeated_reserved-count-clause-refused
+returns-then-push_repeated_reserved-count-clause-refused g c = grind (arith, common_steps)
+
+pub push_reserved-requires : goal.push_reserved-requires
+push_reserved-requires g c = grind (arith, common_steps)
+
+pub returns-clause-items : goal.returns-clause-items
+returns-clause-items g c = grind (arith, common_steps)

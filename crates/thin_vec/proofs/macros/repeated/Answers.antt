@@ -1,0 +1,10 @@
+-- An overflow is that of a new list.
+use Rattle.std.proofs.Common.{arith}
+use Rattle.thin_vec.proofs.ClonesLemmas.{new_lists}
+use Rattle.thin_vec.proofs.macros.repeated.Goals as goal
+
+pub returns-in_err-resize-clause-overflow : goal.returns-in_err-resize-clause-overflow
+returns-in_err-resize-clause-overflow g c = grind (arith, new_lists)
+
+pub returns-clause-overflow : goal.returns-clause-overflow
+returns-clause-overflow g c = grind (arith, new_lists)
