@@ -1,6 +1,7 @@
 -- Each part of the slice is one item, and the slots hold both as they were left.
-use Rattle.std.proofs.Common.{rules}
+use Rattle.std.proofs.Common.{arith, rules}
 use Rattle.thin_vec.proofs.PairsLemmas.{parts-of}
+use Rattle.std.proofs.lemmas.Grind.{common_steps}
 use Rattle.thin_vec.proofs.pairs.ask_neighbours.Goals as goal
 
 pub returns-clause-asked : goal.returns-clause-asked
@@ -21,3 +22,9 @@ returns-clause-asked g c =
       asked = search rules;
       now = h.1;
     }
+
+pub split_at_mut-kept-requires : goal.split_at_mut-kept-requires
+split_at_mut-kept-requires g c = grind (arith, common_steps)
+
+pub bounds-later-0 : goal.bounds-later-0
+bounds-later-0 g c = grind (arith, common_steps)

@@ -2,6 +2,7 @@
 use Rattle.std.proofs.Common.{◌∷◌, ◌++◌, [], ◌∙◌, arith}
 use Rattle.std.proofs.lemmas.List.{length_push}
 use Rattle.thin_vec.proofs.ExtendLemmas.{laid-more, moving-more, yields-more}
+use Rattle.std.proofs.lemmas.Grind.{common_steps}
 use Rattle.thin_vec.proofs.placing.put_iter.Goals as goal
 
 pub loop-i-preserved : goal.loop-i-preserved
@@ -29,3 +30,9 @@ loop-i-preserved g c =
           c.args.block.now.cost (omega (arith, held.placed.2)) held.cost;
       nearer = omega (arith, held.nearer, goes.2);
     }
+
+pub loop-i-init : goal.loop-i-init
+loop-i-init g c = grind (arith, common_steps)
+
+pub put-requires-clause-in_bounds : goal.put-requires-clause-in_bounds
+put-requires-clause-in_bounds g c = grind (arith, common_steps)

@@ -4,6 +4,7 @@ use Rattle.thin_block.specs.Lends.{with_item}
 use Rattle.thin_vec.specs.Hole.{open_of}
 use Rattle.thin_vec.proofs.HoleLemmas.{rest-filled}
 use Rattle.thin_vec.proofs.SiftingLemmas.{Written, write-step}
+use Rattle.std.proofs.lemmas.Grind.{common_steps}
 use Rattle.thin_vec.proofs.hole.Hole.ask.Goals as goal
 
 pub slot_mut-requires : goal.slot_mut-requires
@@ -42,3 +43,9 @@ returns-clause-asked g c =
       asked = c.ask.ensures.asked;
       now = ap (λ v. v.rest) f.shown.view;
     }
+
+pub returns-clause-front : goal.returns-clause-front
+returns-clause-front g c = grind (arith, common_steps)
+
+pub returns-clause-tail : goal.returns-clause-tail
+returns-clause-tail g c = grind (arith, common_steps)

@@ -4,6 +4,7 @@ use Rattle.thin_block.specs.Slots.{front}
 use Rattle.thin_vec.specs.Open.{items_of}
 use Rattle.thin_vec.proofs.HoleLemmas.{behind-filled, close-row, closed-row}
 use Rattle.thin_vec.proofs.hole.Hole.into_closed.Goals.{else-kept-at, then-kept-at}
+use Rattle.std.proofs.lemmas.Grind.{common_steps}
 use Rattle.thin_vec.proofs.hole.Hole.into_closed.Goals as goal
 
 pub move_run-requires-clause-filled : goal.move_run-requires-clause-filled
@@ -22,3 +23,12 @@ returns-clause-slots g c =
           ∙ closed-row c.self.inside c.self.invariant none w.if-kept-at.false
     ]
     ∙ ap (λ v. front (items_of v) v.capacity) c.self.view_is)
+
+pub move_run-requires-clause-empty : goal.move_run-requires-clause-empty
+move_run-requires-clause-empty g c = grind (arith, common_steps)
+
+pub returns-clause-len : goal.returns-clause-len
+returns-clause-len g c = grind (arith, common_steps)
+
+pub returns-clause-in_bounds : goal.returns-clause-in_bounds
+returns-clause-in_bounds g c = grind (arith, common_steps)

@@ -3,6 +3,7 @@ use Rattle.std.proofs.Common.{◌≤◌, ◌++◌, ap, ◌∙◌, arith, length,
 use Rattle.thin_vec.specs.Hole.{open_of}
 use Rattle.thin_vec.proofs.HoleLemmas.{Found, rest-filled}
 use Rattle.thin_vec.proofs.SiftingLemmas.{lowered, lowered-seen, lower-one-step}
+use Rattle.std.proofs.lemmas.Grind.{common_steps}
 use Rattle.thin_vec.proofs.hole.Hole.lower_one.Goals as goal
 
 pub take-value-requires : goal.take-value-requires
@@ -37,3 +38,9 @@ returns-clause-front g c = ap (λ v. v.front) (facts g c).view
 
 pub returns-clause-rest : goal.returns-clause-rest
 returns-clause-rest g c = ap (λ v. v.rest) (facts g c).view ∙ ap (λ v. drop 1 v.rest) c.self.view_is
+
+pub put-requires-clause-empty : goal.put-requires-clause-empty
+put-requires-clause-empty g c = grind (arith, common_steps)
+
+pub returns-clause-tail : goal.returns-clause-tail
+returns-clause-tail g c = grind (arith, common_steps)

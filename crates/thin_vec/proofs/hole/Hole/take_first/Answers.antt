@@ -2,6 +2,7 @@
 use Rattle.std.proofs.Common.{◌≡◌, ◌<◌, ◌∷◌, List, ap, sym, ◌∙◌, arith, length}
 use Rattle.thin_vec.specs.Hole.{open_of}
 use Rattle.thin_vec.proofs.HoleLemmas.{Found, first-left, first-seen, first-step, rest-filled}
+use Rattle.std.proofs.lemmas.Grind.{common_steps}
 use Rattle.thin_vec.proofs.hole.Hole.take_first.Goals as goal
 
 pub take-requires : goal.take-requires
@@ -34,3 +35,9 @@ returns-clause-rest g c =
     sym (ap (λ v. v.rest) c.self.view_is)
     ∙ ((facts g c).1 ∙ ap (λ xs. c.take.result ∷ xs)
     (sym (ap (λ v. v.rest) (facts g c).2.view)))
+
+pub returns-clause-front : goal.returns-clause-front
+returns-clause-front g c = grind (arith, common_steps)
+
+pub returns-clause-tail : goal.returns-clause-tail
+returns-clause-tail g c = grind (arith, common_steps)

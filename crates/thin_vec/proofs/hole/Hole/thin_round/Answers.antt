@@ -3,6 +3,7 @@ use Rattle.std.proofs.Common.{◌≡◌, ◌∷◌, [], false, refl, sym, ◌∙
 use Rattle.std.proofs.lemmas.List.{append-nil}
 use Rattle.thin_vec.proofs.DedupLemmas.{run-count, run-ends, run-goes, thins-goes, thins-run, thins-stays, thins-two}
 use Rattle.thin_vec.proofs.FiltersLemmas.{nothing}
+use Rattle.std.proofs.lemmas.Grind.{common_steps}
 use Rattle.thin_vec.proofs.hole.Hole.thin_round.Goals as goal
 
 -- the next item goes
@@ -103,3 +104,24 @@ returns-else-rest_len-gt0-clause-thins g c =
       capacity = search rules;
       alloc = search rules;
     })
+
+pub returns-then-ask_last-clause-some : goal.returns-then-ask_last-clause-some
+returns-then-ask_last-clause-some g c = grind (arith, common_steps)
+
+pub returns-then-rest_len-eq0-clause-some : goal.returns-then-rest_len-eq0-clause-some
+returns-then-rest_len-eq0-clause-some g c = grind (arith, common_steps)
+
+pub returns-then-goes-clause-some : goal.returns-then-goes-clause-some
+returns-then-goes-clause-some g c = grind (arith, common_steps)
+
+pub lower-requires-clause-in_bounds : goal.lower-requires-clause-in_bounds
+lower-requires-clause-in_bounds g c = grind (arith, common_steps)
+
+pub returns-then-rest_len-gt0-clause-some : goal.returns-then-rest_len-gt0-clause-some
+returns-then-rest_len-gt0-clause-some g c = grind (arith, common_steps)
+
+pub returns-then-rest_len-gt0-clause-less : goal.returns-then-rest_len-gt0-clause-less
+returns-then-rest_len-gt0-clause-less g c = grind (arith, common_steps)
+
+pub returns-else-rest_len-gt0-clause-some : goal.returns-else-rest_len-gt0-clause-some
+returns-else-rest_len-gt0-clause-some g c = grind (arith, common_steps)

@@ -1,6 +1,7 @@
 -- The moves of what went in, and of the tail where the hole was not full by then.
 use Rattle.std.proofs.Common.{◌∙◌, ◌-◌, ap, arith, length, length-append}
 use Rattle.thin_vec.proofs.FillingLemmas.{closed-moves}
+use Rattle.std.proofs.lemmas.Grind.{common_steps}
 use Rattle.thin_vec.proofs.list.ThinVec.close_filled.Goals as goal
 
 pub returns-clause-cost : goal.returns-clause-cost
@@ -22,3 +23,12 @@ returns-clause-cost g c =
       put.2,
       λ full. put.3 (c.fill-rest.ensures.full full),
     )
+
+pub returns-clause-items : goal.returns-clause-items
+returns-clause-items g c = grind (arith, common_steps)
+
+pub returns-clause-full : goal.returns-clause-full
+returns-clause-full g c = grind (arith, common_steps)
+
+pub returns-clause-short : goal.returns-clause-short
+returns-clause-short g c = grind (arith, common_steps)

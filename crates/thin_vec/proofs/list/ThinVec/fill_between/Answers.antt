@@ -6,6 +6,7 @@ use Rattle.thin_vec.specs.Extend.{Gives, IsLoose}
 use Rattle.thin_vec.specs.Filling.{IsSpliced, left_of}
 use Rattle.thin_vec.proofs.ExtendLemmas.{loose-le}
 use Rattle.thin_vec.proofs.FillingLemmas.{between-length, between-more, drains-more, extended-after, if-err, on-ok, spliced-join, spliced-less, spliced-run, stopped-after}
+use Rattle.std.proofs.lemmas.Grind.{common_steps}
 use Rattle.thin_vec.proofs.list.ThinVec.fill_between.Goals as goal
 
 pub returns-then-ended-clause-named : goal.returns-then-ended-clause-named
@@ -145,3 +146,6 @@ returns-clause-cost g c =
       between-length hole gave.0,
       gave.2,
     )) both
+
+pub insert_all-requires-clause-in_bounds : goal.insert_all-requires-clause-in_bounds
+insert_all-requires-clause-in_bounds g c = grind (arith, common_steps)

@@ -5,6 +5,7 @@ use Rattle.thin_block.specs.Slots.{items_in}
 use Rattle.thin_vec.proofs.ThinVecLemmas.{within-settled}
 use Rattle.thin_vec.proofs.list.ThinVec.grow_to.Goals.{In_ok-grow}
 use Rattle.thin_vec.proofs.CapacityLemmas.{settle-grow}
+use Rattle.std.proofs.lemmas.Grind.{common_steps}
 use Rattle.thin_vec.proofs.list.ThinVec.grow_to.Goals as goal
 
 facts : (g : _) (c : In_ok-grow g) → Settled c.grow.new.self c.self.inside.alloc
@@ -23,3 +24,6 @@ returns-clause-items g c = (facts g c).items ∙ ap (λ v. v.items) c.self.view_
 pub returns-clause-within : goal.returns-clause-within
 returns-clause-within g c =
     within-settled _ _ _ _ _ c.requires.fits (facts g c)
+
+pub returns-clause-capacity : goal.returns-clause-capacity
+returns-clause-capacity g c = grind (arith, common_steps)

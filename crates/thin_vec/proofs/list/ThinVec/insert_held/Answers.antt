@@ -7,6 +7,7 @@ use Rattle.thin_vec.specs.ThinVec.{capacity_for}
 use Rattle.thin_vec.proofs.ExtendLemmas.{loose-ruled}
 use Rattle.thin_vec.proofs.FillingLemmas.{named-ruled}
 use Rattle.thin_block.proofs.Outcomes.{err-same}
+use Rattle.std.proofs.lemmas.Grind.{common_steps}
 use Rattle.thin_vec.proofs.list.ThinVec.insert_held.Goals as goal
 
 pub returns-in-Err-clause-overflow : goal.returns-in-Err-clause-overflow
@@ -43,3 +44,6 @@ returns-clause-named g c =
       c.requires.in_bounds,
       ap length c.reserve.ensures.items,
     )))
+
+pub returns-clause-cost : goal.returns-clause-cost
+returns-clause-cost g c = grind (arith, common_steps)

@@ -1,9 +1,13 @@
 -- The capacity stays, and the items fit it.
 use Rattle.std.proofs.Common.{◌≡◌, arith, rules}
 use Rattle.thin_vec.proofs.ThinVecLemmas.{within-like}
+use Rattle.std.proofs.lemmas.Grind.{common_steps}
 use Rattle.thin_vec.proofs.list.ThinVec.keep_those.Goals as goal
 
 pub returns-clause-within : goal.returns-clause-within
 returns-clause-within g c =
     let same : c.close.new.self.capacity ≡ c.args.self.now.capacity = search rules in
     (c.len-len.ensures.within, within-like _ c.close.new.self c.args.self.now c.len-len.ensures.within same (omega (arith, c.close.ensures.room, same)))
+
+pub returns-clause-retained : goal.returns-clause-retained
+returns-clause-retained g c = grind (arith, common_steps)

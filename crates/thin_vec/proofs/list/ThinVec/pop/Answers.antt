@@ -1,0 +1,13 @@
+-- A list with an item is not empty, and one shorter afterwards.
+use Rattle.std.proofs.Common.{arith}
+use Rattle.std.proofs.lemmas.Grind.{common_steps}
+use Rattle.thin_vec.proofs.list.ThinVec.pop.Goals as goal
+
+pub pop_last-requires : goal.pop_last-requires
+pop_last-requires g c = grind (arith, common_steps)
+
+pub returns-clause-variant : goal.returns-clause-variant
+returns-clause-variant g c = grind (arith, common_steps)
+
+pub returns-clause-within : goal.returns-clause-within
+returns-clause-within g c = grind (arith, common_steps)
