@@ -1,6 +1,6 @@
 //! What a call makes is on the allocator that it was passed, and not on the list's own; also what it makes of nothing.
 use crate::items::push_all;
-use crate::standing::assert_counts;
+use crate::standing::{assert_counts, assert_len};
 use refusing::Refusing;
 use std::alloc::Global;
 use std::process::Abort;
@@ -61,7 +61,7 @@ fn a_second_list_is_on_the_allocator_passed(rt: HostRuntime) {
         let one = Refusing::new(rt.alloc(), 0);
         let other = Refusing::new(rt.alloc(), 0);
         let mut list = list_on(&rt, &one, &other, items);
-        assert_eq!(rt; list.len(), items as usize);
+        assert_len(&rt, &list, items as usize);
         let mut tail = list.split_off(&other, 0).expect(&rt, "memory");
         let mut clone = tail.clone(&other).expect(&rt, "memory");
         push_all(&rt, &mut tail, 9..10);

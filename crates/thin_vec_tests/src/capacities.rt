@@ -3,6 +3,8 @@ use crate::items::push_all;
 use crate::standing::{assert_items, assert_list, assert_same};
 use refusing::Refusing;
 use std::alloc::Global;
+use std::ops::Range;
+use std::process::Abort;
 use thin_vec::{ThinVec, ThinVecError};
 
 #[test]
@@ -37,34 +39,47 @@ fn test_clear(rt: HostRuntime) {
     }
 }
 
+// Pushes these items, and asserts the capacity then.
+fn assert_pushed(rt: &impl Abort, list: &mut ThinVec<i32>, items: Range<i32>, capacity: usize) {
+    push_all(rt, list, items);
+    assert_same(rt, list.capacity(), capacity);
+}
+
+// Reserves room, and asserts the capacity then.
+fn assert_reserved(rt: &impl Abort, list: &mut ThinVec<i32>, additional: usize, capacity: usize) {
+    list.reserve(additional).expect(rt, "memory");
+    assert_same(rt, list.capacity(), capacity);
+}
+
+// The same by `reserve_exact`.
+fn assert_reserved_exact(
+    rt: &impl Abort,
+    list: &mut ThinVec<i32>,
+    additional: usize,
+    capacity: usize,
+) {
+    list.reserve_exact(additional).expect(rt, "memory");
+    assert_same(rt, list.capacity(), capacity);
+}
+
 #[test]
 fn test_reserve(rt: HostRuntime) {
     let mut list = ThinVec::new(rt.alloc());
-    list.reserve(2).expect(&rt, "memory");
-    assert_same(&rt, list.capacity(), 4);
-    push_all(&rt, &mut list, 0..16);
-    assert_same(&rt, list.capacity(), 16);
-    list.reserve(16).expect(&rt, "memory");
-    assert_same(&rt, list.capacity(), 32);
-    push_all(&rt, &mut list, 16..17);
-    assert_same(&rt, list.capacity(), 32);
-    list.reserve(16).expect(&rt, "memory");
-    assert_same(&rt, list.capacity(), 64);
+    assert_reserved(&rt, &mut list, 2, 4);
+    assert_pushed(&rt, &mut list, 0..16, 16);
+    assert_reserved(&rt, &mut list, 16, 32);
+    assert_pushed(&rt, &mut list, 16..17, 32);
+    assert_reserved(&rt, &mut list, 16, 64);
 }
 
 #[test]
 fn test_reserve_exact(rt: HostRuntime) {
     let mut list = ThinVec::new(rt.alloc());
-    list.reserve_exact(2).expect(&rt, "memory");
-    assert_same(&rt, list.capacity(), 2);
-    push_all(&rt, &mut list, 0..16);
-    assert_same(&rt, list.capacity(), 16);
-    list.reserve_exact(16).expect(&rt, "memory");
-    assert_same(&rt, list.capacity(), 32);
-    push_all(&rt, &mut list, 16..17);
-    assert_same(&rt, list.capacity(), 32);
-    list.reserve_exact(16).expect(&rt, "memory");
-    assert_same(&rt, list.capacity(), 33);
+    assert_reserved_exact(&rt, &mut list, 2, 2);
+    assert_pushed(&rt, &mut list, 0..16, 16);
+    assert_reserved_exact(&rt, &mut list, 16, 32);
+    assert_pushed(&rt, &mut list, 16..17, 32);
+    assert_reserved_exact(&rt, &mut list, 16, 33);
 }
 
 // No request is made: each overflow is found before.

@@ -1,8 +1,8 @@
 //! The calls that clone, also where a clone is refused.
-use crate::items::push_all;
+use crate::items::{boxes_of, push_all};
 use crate::scarce::Scarce;
 use crate::standing::{assert_list, assert_same};
-use std::alloc::{AllocError, Global};
+use std::alloc::Global;
 use std::cell::Cell;
 use std::process::Abort;
 use thin_vec::{ThinVec, ThinVecError, thin_vec};
@@ -42,22 +42,11 @@ fn copies_come_in_as_they_are(rt: HostRuntime) {
     assert_list(&rt, &copy, &[1, 2, 3, 4, 5, 6], 6);
 }
 
-fn boxed(alloc: Global, items: &[i32]) -> Result<ThinVec<Box<i32, Global>, Global>, AllocError> {
-    let mut list = ThinVec::new(alloc);
-    for item in items {
-        match list.push(Box::new(alloc, *item)?) {
-            Ok(()) => (),
-            Err(_refused) => return Err(AllocError),
-        }
-    }
-    Ok(list)
-}
-
 #[test]
 fn test_clone_from(rt: HostRuntime) {
     let alloc = rt.alloc();
-    let three = boxed(alloc, &[1, 2, 3]).expect(&rt, "memory");
-    let two = boxed(alloc, &[4, 5]).expect(&rt, "memory");
+    let three = boxes_of(alloc, &[1, 2, 3]).expect(&rt, "memory");
+    let two = boxes_of(alloc, &[4, 5]).expect(&rt, "memory");
     let mut list = ThinVec::new(alloc);
     for source in [&three, &three, &two, &three] {
         list = source.clone(alloc).expect(&rt, "memory");

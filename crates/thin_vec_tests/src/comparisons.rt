@@ -1,17 +1,10 @@
 //! How lists are compared.
-use thin_vec::thin_vec;
+use crate::items::list_of;
 
 #[test]
 fn test_partial_eq(rt: HostRuntime) {
     let alloc = rt.alloc();
-    assert!(rt;
-        thin_vec![alloc => 0].expect(&rt, "memory") == thin_vec![alloc => 0].expect(&rt, "memory")
-    );
-    assert!(rt;
-        thin_vec![alloc => 0].expect(&rt, "memory") != thin_vec![alloc => 1].expect(&rt, "memory")
-    );
-    assert!(rt;
-        thin_vec![alloc => 1, 2].expect(&rt, "memory")
-            < thin_vec![alloc => 1, 3].expect(&rt, "memory")
-    );
+    assert!(rt; list_of(&rt, alloc, &[0]) == list_of(&rt, alloc, &[0]));
+    assert!(rt; list_of(&rt, alloc, &[0]) != list_of(&rt, alloc, &[1]));
+    assert!(rt; list_of(&rt, alloc, &[1, 2]) < list_of(&rt, alloc, &[1, 3]));
 }

@@ -1,6 +1,7 @@
 //! Lists that are made from a `Vec` or a boxed slice, and turned into them.
+use crate::items::list_of;
 use crate::standing::{assert_items, assert_list};
-use thin_vec::{ThinVec, thin_vec};
+use thin_vec::ThinVec;
 
 #[test]
 fn a_vec_keeps_its_items(rt: HostRuntime) {
@@ -15,7 +16,7 @@ fn a_vec_keeps_its_items(rt: HostRuntime) {
 #[test]
 fn a_boxed_slice_keeps_its_items(rt: HostRuntime) {
     let alloc = rt.alloc();
-    let list = thin_vec![alloc => 1, 2, 3].expect(&rt, "memory");
+    let list = list_of(&rt, alloc, &[1, 2, 3]);
     let boxed = list.into_boxed_slice(alloc).ok().expect(&rt, "memory");
     assert_items(&rt, boxed.as_slice(), &[1, 2, 3]);
     let list = ThinVec::from_boxed_slice(alloc, boxed)

@@ -1,5 +1,8 @@
 //! An item that counts its drops.
+use std::alloc::Global;
 use std::cell::Cell;
+use std::process::Abort;
+use thin_vec::ThinVec;
 
 /// It adds 1 to the cell as it is dropped.
 pub struct Counted<'a> {
@@ -17,4 +20,18 @@ impl Drop for Counted<'_> {
         let Counted { drops } = self;
         drops.set(drops.get().saturating_add(1));
     }
+}
+
+/// A list of so many items that count their drops in one cell.
+pub fn counted_list<'a>(
+    rt: &impl Abort,
+    alloc: Global,
+    drops: &'a Cell<u32>,
+    len: u32,
+) -> ThinVec<Counted<'a>> {
+    let mut list = ThinVec::new(alloc);
+    for _ in 0..len {
+        list.push(Counted::new(drops)).ok().expect(rt, "memory");
+    }
+    list
 }

@@ -4,9 +4,11 @@ ghost use Rattle.std.specs.List.{fold, remove_range};
 ghost use Rattle.thin_vec.specs.Drain.{drain_lender};
 
 #[cfg(test)]
-use crate::counted::Counted;
+use crate::counted::counted_list;
 #[cfg(test)]
-use crate::standing::{assert_items, assert_list, assert_same};
+use crate::items::list_of;
+#[cfg(test)]
+use crate::standing::{assert_items, assert_len, assert_list, assert_same};
 use std::alloc::{AllocError, Allocator, Global};
 #[cfg(test)]
 use std::cell::Cell;
@@ -15,8 +17,6 @@ use std::mem;
 use std::ops::Bound;
 #[cfg(test)]
 use std::process::Abort;
-#[cfg(test)]
-use thin_vec::thin_vec;
 use thin_vec::{Drain, Growth, ThinVec, ThinVecError, bounds};
 
 /// Takes the items from `start` up to `end` out of the list, and answers the greatest of them, or `least` where that is more.
@@ -177,26 +177,26 @@ const ALL: (Bound<usize>, Bound<usize>) = (Bound::Unbounded, Bound::Unbounded);
 
 #[test]
 fn test_drain_items(rt: HostRuntime) {
-    let list = thin_vec![rt.alloc() => 1, 2, 3].expect(&rt, "memory");
+    let list = list_of(&rt, rt.alloc(), &[1, 2, 3]);
     assert_drained(&rt, list, ALL, &[1, 2, 3], &[]);
 }
 
 #[test]
 fn test_drain_items_reverse(rt: HostRuntime) {
-    let list = thin_vec![rt.alloc() => 1, 2, 3].expect(&rt, "memory");
+    let list = list_of(&rt, rt.alloc(), &[1, 2, 3]);
     assert_drained_back(&rt, list, ALL, &[1, 2, 3], &[]);
 }
 
 #[test]
 fn test_drain_items_zero_sized(rt: HostRuntime) {
-    let list = thin_vec![rt.alloc() => (), (), ()].expect(&rt, "memory");
+    let list = list_of(&rt, rt.alloc(), &[(), (), ()]);
     assert_drained(&rt, list, ALL, &[(), (), ()], &[]);
 }
 
 #[test]
 fn test_drain_range(rt: HostRuntime) {
     let from_four = (Bound::Included(4), Bound::Unbounded);
-    let numbers = thin_vec![rt.alloc() => 1, 2, 3, 4, 5].expect(&rt, "memory");
+    let numbers = list_of(&rt, rt.alloc(), &[1, 2, 3, 4, 5]);
     assert_drained(&rt, numbers, from_four, &[5], &[1, 2, 3, 4]);
 }
 
@@ -205,32 +205,32 @@ const INNER: (Bound<usize>, Bound<usize>) = (Bound::Included(1), Bound::Excluded
 
 #[test]
 fn test_drain_range_of_texts(rt: HostRuntime) {
-    let texts = thin_vec![rt.alloc() => "1", "2", "3", "4", "5"].expect(&rt, "memory");
+    let texts = list_of(&rt, rt.alloc(), &["1", "2", "3", "4", "5"]);
     assert_drained(&rt, texts, INNER, &["2", "3", "4"], &["1", "5"]);
 }
 
 #[test]
 fn test_drain_range_of_texts_reverse(rt: HostRuntime) {
-    let texts = thin_vec![rt.alloc() => "1", "2", "3", "4", "5"].expect(&rt, "memory");
+    let texts = list_of(&rt, rt.alloc(), &["1", "2", "3", "4", "5"]);
     assert_drained_back(&rt, texts, INNER, &["2", "3", "4"], &["1", "5"]);
 }
 
 #[test]
 fn test_drain_range_zero_sized(rt: HostRuntime) {
-    let units = thin_vec![rt.alloc() => (), (), (), (), ()].expect(&rt, "memory");
+    let units = list_of(&rt, rt.alloc(), &[(), (), (), (), ()]);
     assert_drained(&rt, units, INNER, &[(), (), ()], &[(), ()]);
 }
 
 #[test]
 fn test_drain_inclusive_range(rt: HostRuntime) {
-    let letters = thin_vec![rt.alloc() => 'a', 'b', 'c', 'd', 'e'].expect(&rt, "memory");
+    let letters = list_of(&rt, rt.alloc(), &['a', 'b', 'c', 'd', 'e']);
     let inner = (Bound::Included(1), Bound::Included(3));
     assert_drained(&rt, letters, inner, &['b', 'c', 'd'], &['a', 'e']);
 }
 
 #[test]
 fn test_drain_inclusive_range_to_the_first(rt: HostRuntime) {
-    let texts = thin_vec![rt.alloc() => "0", "1"].expect(&rt, "memory");
+    let texts = list_of(&rt, rt.alloc(), &["0", "1"]);
     let first = (Bound::Unbounded, Bound::Included(0));
     assert_drained(&rt, texts, first, &["0"], &["1"]);
 }
@@ -251,7 +251,7 @@ fn test_drain_inclusive_range_of_texts(rt: HostRuntime) {
 
 #[test]
 fn a_range_that_is_not_there_has_no_drain(rt: HostRuntime) {
-    let mut list = thin_vec![rt.alloc() => 1, 2, 3].expect(&rt, "memory");
+    let mut list = list_of(&rt, rt.alloc(), &[1, 2, 3]);
     for (start, end) in [
         (Bound::Included(3), Bound::Excluded(2)),
         (Bound::Unbounded, Bound::Included(3)),
@@ -266,12 +266,12 @@ fn a_range_that_is_not_there_has_no_drain(rt: HostRuntime) {
 #[test]
 fn collects_what_it_drains(rt: HostRuntime) {
     let alloc = rt.alloc();
-    let mut list = thin_vec![alloc => 1u32, 2, 3, 4, 5, 6].expect(&rt, "memory");
-    assert_eq!(rt; list.len(), 6);
+    let mut list = list_of(&rt, alloc, &[1u32, 2, 3, 4, 5, 6]);
+    assert_len(&rt, &list, 6);
     let front = collected(&mut list, 1, 3, alloc).expect(&rt, "memory");
     assert_items(&rt, front.as_slice(), &[2, 3]);
     assert_items(&rt, list.as_slice(), &[1, 4, 5, 6]);
-    assert_eq!(rt; list.len(), 4);
+    assert_len(&rt, &list, 4);
     let back = reversed(&mut list, 0, 2, alloc).expect(&rt, "memory");
     assert_items(&rt, back.as_slice(), &[4, 1]);
     assert_items(&rt, list.as_slice(), &[5, 6]);
@@ -280,17 +280,17 @@ fn collects_what_it_drains(rt: HostRuntime) {
 #[test]
 fn moves_a_range_to_another_list(rt: HostRuntime) {
     let alloc = rt.alloc();
-    let mut list = thin_vec![alloc => 1u32, 2, 3, 4, 5].expect(&rt, "memory");
-    let mut other = thin_vec![alloc => 9u32].expect(&rt, "memory");
-    assert_eq!(rt; list.len(), 5);
+    let mut list = list_of(&rt, alloc, &[1u32, 2, 3, 4, 5]);
+    let mut other = list_of(&rt, alloc, &[9u32]);
+    assert_len(&rt, &list, 5);
     move_range(&mut list, 1, 3, &mut other).expect(&rt, "memory");
     assert_items(&rt, list.as_slice(), &[1, 4, 5]);
     assert_items(&rt, other.as_slice(), &[9, 2, 3]);
-    assert_eq!(rt; list.len(), 3);
+    assert_len(&rt, &list, 3);
     extend_by_range(&mut list, 0, 2, &mut other).expect(&rt, "memory");
     assert_items(&rt, list.as_slice(), &[5]);
     assert_items(&rt, other.as_slice(), &[9, 2, 3, 1, 4]);
-    assert_eq!(rt; list.len(), 1);
+    assert_len(&rt, &list, 1);
     assert_same(&rt, greatest_out(&mut list, 0, 1, 3), 5);
     assert_same(&rt, without(&mut list, 0, 0), None);
     assert_items(&rt, list.as_slice(), &[]);
@@ -300,7 +300,7 @@ fn moves_a_range_to_another_list(rt: HostRuntime) {
 // the back.
 #[cfg(test)]
 fn give_up_after<A: Allocator>(rt: &impl Abort, mut list: ThinVec<i32, A>, steps: u32, back: u32) {
-    assert_eq!(rt; list.len(), 6);
+    assert_len(rt, &list, 6);
     {
         let mut drain = list.drain(1, 5);
         let mut left = [2, 3, 4, 5].as_slice();
@@ -339,7 +339,7 @@ fn but_last(items: &[i32]) -> &[i32] {
 fn a_drain_may_be_given_up_after_any_steps(rt: HostRuntime) {
     for steps in 0..6 {
         for back in 0..32 {
-            let list = thin_vec![rt.alloc() => 1, 2, 3, 4, 5, 6].expect(&rt, "memory");
+            let list = list_of(&rt, rt.alloc(), &[1, 2, 3, 4, 5, 6]);
             give_up_after(&rt, list, steps, back);
         }
     }
@@ -349,7 +349,7 @@ fn a_drain_may_be_given_up_after_any_steps(rt: HostRuntime) {
 // is proved.
 #[cfg(test)]
 fn drop_after<T: Drop>(rt: &impl Abort, list: &mut ThinVec<T>, steps: u32, back: u32) {
-    assert_eq!(rt; list.len(), 6);
+    assert_len(rt, list, 6);
     let mut drain = list.drain(1, 5);
     let mut bits = back;
     for _ in 0..steps {
@@ -368,10 +368,7 @@ fn a_drain_drops_each_item_once(rt: HostRuntime) {
         for back in 0..32 {
             let drops = Cell::new(0);
             {
-                let mut list = ThinVec::new(rt.alloc());
-                for _ in 0..6 {
-                    list.push(Counted::new(&drops)).ok().expect(&rt, "memory");
-                }
+                let mut list = counted_list(&rt, rt.alloc(), &drops, 6);
                 drop_after(&rt, &mut list, steps, back);
                 assert_same(&rt, (drops.get(), list.len()), (4, 2));
             }
@@ -382,24 +379,24 @@ fn a_drain_drops_each_item_once(rt: HostRuntime) {
 
 #[test]
 fn drains_nothing(rt: HostRuntime) {
-    let mut list = thin_vec![rt.alloc() => 1, 2, 3, 4, 5, 6].expect(&rt, "memory");
-    assert_eq!(rt; list.len(), 6);
+    let mut list = list_of(&rt, rt.alloc(), &[1, 2, 3, 4, 5, 6]);
+    assert_len(&rt, &list, 6);
     assert_same(&rt, list.drain(6, 6).next(), None);
     assert_list(&rt, &list, &[1, 2, 3, 4, 5, 6], 6);
 }
 
 #[test]
 fn drains_all_at_once(rt: HostRuntime) {
-    let mut list = thin_vec![rt.alloc() => 1, 2, 3, 4, 5, 6].expect(&rt, "memory");
-    assert_eq!(rt; list.len(), 6);
+    let mut list = list_of(&rt, rt.alloc(), &[1, 2, 3, 4, 5, 6]);
+    assert_len(&rt, &list, 6);
     drop(list.drain(0, 6));
     assert_list(&rt, &list, &[], 6);
 }
 
 #[test]
 fn a_forgotten_drain_leaves_a_list(rt: HostRuntime) {
-    let mut list = thin_vec![rt.alloc() => 1, 2, 3].expect(&rt, "memory");
-    assert_eq!(rt; list.len(), 3);
+    let mut list = list_of(&rt, rt.alloc(), &[1, 2, 3]);
+    assert_len(&rt, &list, 3);
     mem::forget(list.drain(1, 2));
     list.push(9).ok().expect(&rt, "memory");
     assert_same(&rt, list.as_slice().last(), Some(&9));
@@ -407,8 +404,8 @@ fn a_forgotten_drain_leaves_a_list(rt: HostRuntime) {
 
 #[test]
 fn test_drain_debug(rt: HostRuntime) {
-    let mut list = thin_vec![rt.alloc() => 1, 2, 3].expect(&rt, "memory");
-    assert_eq!(rt; list.len(), 3);
+    let mut list = list_of(&rt, rt.alloc(), &[1, 2, 3]);
+    assert_len(&rt, &list, 3);
     let drain = list.drain(1, 3);
     assert_same(
         &rt,

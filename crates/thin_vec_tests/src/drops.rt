@@ -1,33 +1,30 @@
 //! Each item is dropped once, by the list or by whoever it was handed out to, and each block is given back.
-use crate::counted::Counted;
+use crate::counted::{Counted, counted_list};
 use crate::items::push_all;
-use crate::standing::assert_same;
+use crate::standing::{assert_len, assert_same};
 use refusing::Refusing;
 use std::alloc::Global;
 use std::cell::Cell;
+use std::process::Abort;
 use thin_vec::ThinVec;
+
+// Asserts that an item that was handed out is dropped by the test, and was not before.
+fn assert_handed_out(rt: &impl Abort, item: Counted<'_>, drops: &Cell<u32>, dropped: u32) {
+    assert_same(rt, drops.get(), dropped);
+    drop(item);
+    assert_same(rt, drops.get(), dropped.saturating_add(1));
+}
 
 #[test]
 fn drops_each_item_once(rt: HostRuntime) {
     let drops = Cell::new(0);
     {
-        let mut list = ThinVec::new(rt.alloc());
-        for _ in 0..6 {
-            list.push(Counted::new(&drops)).ok().expect(&rt, "memory");
-        }
+        let mut list = counted_list(&rt, rt.alloc(), &drops, 6);
         assert_same(&rt, drops.get(), 0);
-
-        let last = list.pop();
-        assert!(rt; last.is_some());
-        assert_same(&rt, drops.get(), 0);
-        drop(last);
-        assert_same(&rt, drops.get(), 1);
-
-        assert_eq!(rt; list.len(), 5);
-        let first = list.swap_remove(0);
-        assert_same(&rt, drops.get(), 1);
-        drop(first);
-        assert_same(&rt, drops.get(), 2);
+        let last = list.pop().expect(&rt, "an item");
+        assert_handed_out(&rt, last, &drops, 0);
+        assert_len(&rt, &list, 5);
+        assert_handed_out(&rt, list.swap_remove(0), &drops, 1);
     }
     assert_same(&rt, drops.get(), 6);
 }
@@ -36,14 +33,11 @@ fn drops_each_item_once(rt: HostRuntime) {
 fn test_vec_truncate_drop(rt: HostRuntime) {
     let drops = Cell::new(0);
     {
-        let mut list = ThinVec::new(rt.alloc());
-        for _ in 0..5 {
-            list.push(Counted::new(&drops)).ok().expect(&rt, "memory");
+        let mut list = counted_list(&rt, rt.alloc(), &drops, 5);
+        for (len, dropped) in [(3, 2), (0, 5)] {
+            list.truncate(len);
+            assert_same(&rt, drops.get(), dropped);
         }
-        list.truncate(3);
-        assert_same(&rt, drops.get(), 2);
-        list.truncate(0);
-        assert_same(&rt, drops.get(), 5);
     }
     assert_same(&rt, drops.get(), 5);
 }

@@ -3,9 +3,27 @@ use crate::answers::Answers;
 use crate::counted::Counted;
 use crate::standing::{assert_counts, assert_list, assert_same};
 use refusing::Refusing;
+use std::alloc::Global;
 use std::cell::Cell;
 use std::iter::once;
+use std::process::Abort;
 use thin_vec::{ExtendRefused, ThinVec, ThinVecError};
+
+// Extends a list by an item that counts its drop.
+fn extend_counted(rt: &impl Abort, alloc: Global, drops: &Cell<u32>) {
+    let mut counted = ThinVec::new(alloc);
+    counted
+        .extend(once(Counted::new(drops)))
+        .ok()
+        .expect(rt, "memory");
+}
+
+// Extends a list by items without size.
+fn extend_units(rt: &impl Abort, alloc: Global) {
+    let mut units = ThinVec::new(alloc);
+    units.extend((0..2).map(|_| ())).ok().expect(rt, "memory");
+    assert_same(rt, (units.len(), units.capacity()), (2, 4));
+}
 
 #[test]
 fn test_extend(rt: HostRuntime) {
@@ -22,18 +40,9 @@ fn test_extend(rt: HostRuntime) {
     assert_list(&rt, &list, &twice, 20);
 
     let drops = Cell::new(0);
-    {
-        let mut counted = ThinVec::new(alloc);
-        counted
-            .extend(once(Counted::new(&drops)))
-            .ok()
-            .expect(&rt, "memory");
-    }
+    extend_counted(&rt, alloc, &drops);
     assert_same(&rt, drops.get(), 1);
-
-    let mut units = ThinVec::new(alloc);
-    units.extend((0..2).map(|_| ())).ok().expect(&rt, "memory");
-    assert_same(&rt, (units.len(), units.capacity()), (2, 4));
+    extend_units(&rt, alloc);
 }
 
 #[test]

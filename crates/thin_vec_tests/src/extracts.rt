@@ -2,10 +2,10 @@
 ghost use Rattle.std.specs.Prelude.{◌≡◌, ◌≤◌, length};
 
 #[cfg(test)]
-use crate::standing::{assert_list, assert_same};
-use std::alloc::Allocator;
+use crate::items::list_of;
 #[cfg(test)]
-use thin_vec::thin_vec;
+use crate::standing::{assert_len, assert_list, assert_same};
+use std::alloc::Allocator;
 use thin_vec::{Growth, ThinVec};
 
 #[tactic(auto, using(std::proofs::lemmas::List::Edits::split_between))]
@@ -26,8 +26,8 @@ pub fn untouched<T: Drop, A: Allocator, G: Growth>(
 
 #[test]
 fn an_extraction_asks_in_order_and_only_as_far_as_it_is_walked(rt: HostRuntime) {
-    let mut list = thin_vec![rt.alloc() => 1, 2, 3, 4, 5, 6].expect(&rt, "memory");
-    assert_eq!(rt; list.len(), 6);
+    let mut list = list_of(&rt, rt.alloc(), &[1, 2, 3, 4, 5, 6]);
+    assert_len(&rt, &list, 6);
     {
         let mut calls = 0u32;
         let mut extract = list.extract_if(0, 6, move |_item: &mut i32| {
@@ -44,8 +44,8 @@ fn an_extraction_asks_in_order_and_only_as_far_as_it_is_walked(rt: HostRuntime) 
 
 #[test]
 fn an_extraction_that_is_not_walked_changes_nothing(rt: HostRuntime) {
-    let mut list = thin_vec![rt.alloc() => 1, 2, 3].expect(&rt, "memory");
-    assert_eq!(rt; list.len(), 3);
+    let mut list = list_of(&rt, rt.alloc(), &[1, 2, 3]);
+    assert_len(&rt, &list, 3);
     untouched(&mut list, 0, 3);
     assert_list(&rt, &list, &[1, 2, 3], 3);
 }

@@ -1,18 +1,17 @@
 //! `retain` and `dedup`, in their forms: what no clause says, and the cases of the Rust crate's own tests.
-use crate::items::push_all;
+use crate::items::{boxes_of, list_of, push_all};
 use crate::last_digits::LastDigit;
 use crate::standing::{assert_items, assert_list, assert_same};
 use std::alloc::Global;
-use std::boxed::Box;
 use std::cell::Cell;
 use std::cmp::Ordering;
 use std::hash::{DefaultHasher, Hash, Hasher};
 use std::process::Abort;
-use thin_vec::{ThinVec, thin_vec};
+use thin_vec::ThinVec;
 
 #[test]
 fn test_retain(rt: HostRuntime) {
-    let mut list = thin_vec![rt.alloc() => 1, 2, 3, 4].expect(&rt, "memory");
+    let mut list = list_of(&rt, rt.alloc(), &[1, 2, 3, 4]);
     list.retain(|item| item % 2 == 0);
     assert_list(&rt, &list, &[2, 4], 4);
 }
@@ -20,7 +19,7 @@ fn test_retain(rt: HostRuntime) {
 // What is written stays on the items that stay.
 #[test]
 fn test_retain_mut(rt: HostRuntime) {
-    let mut list = thin_vec![rt.alloc() => 9, 9, 9, 9].expect(&rt, "memory");
+    let mut list = list_of(&rt, rt.alloc(), &[9, 9, 9, 9]);
     let mut number: i32 = 0;
     list.retain_mut(|item| {
         number = number.saturating_add(1);
@@ -51,11 +50,7 @@ fn test_dedup(rt: HostRuntime) {
 }
 
 fn deduped_boxes(rt: &impl Abort, alloc: Global, items: &[i32]) {
-    let mut list = ThinVec::new(alloc);
-    for item in items {
-        let boxed = Box::new(alloc, *item).ok().expect(rt, "memory");
-        list.push(boxed).ok().expect(rt, "memory");
-    }
+    let mut list = boxes_of(alloc, items).expect(rt, "memory");
     list.dedup();
     assert_same(rt, list.len(), 3);
     for (boxed, wanted) in list.iter().zip([1, 2, 3]) {
@@ -94,7 +89,7 @@ fn test_dedup_by_key(rt: HostRuntime) {
 
 #[test]
 fn test_dedup_by(rt: HostRuntime) {
-    let mut list = thin_vec![rt.alloc() => "foo", "bar", "Bar", "baz", "bar"].expect(&rt, "memory");
+    let mut list = list_of(&rt, rt.alloc(), &["foo", "bar", "Bar", "baz", "bar"]);
     list.dedup_by(|later, kept| later.eq_ignore_ascii_case(*kept));
     assert_items(&rt, list.as_slice(), &["foo", "bar", "baz", "bar"]);
 }
@@ -102,7 +97,7 @@ fn test_dedup_by(rt: HostRuntime) {
 // The later item's key is asked first, then that of the last item kept.
 #[test]
 fn asks_for_keys_in_order(rt: HostRuntime) {
-    let mut list = thin_vec![rt.alloc() => 10u64, 11, 20].expect(&rt, "memory");
+    let mut list = list_of(&rt, rt.alloc(), &[10u64, 11, 20]);
     let asked = Cell::new(0u64);
     list.dedup_by_key(|item| {
         asked.set(asked.get().wrapping_mul(100).wrapping_add(*item));
@@ -135,7 +130,7 @@ fn asks_nothing_of_fewer_than_two_items(rt: HostRuntime) {
 #[test]
 fn judges_may_count_their_calls(rt: HostRuntime) {
     let alloc = rt.alloc();
-    let mut list = thin_vec![alloc => 1, 2, 3, 4, 5, 6].expect(&rt, "memory");
+    let mut list = list_of(&rt, alloc, &[1, 2, 3, 4, 5, 6]);
     let mut answer = false;
     list.retain(|_item| {
         answer = !answer;
@@ -143,7 +138,7 @@ fn judges_may_count_their_calls(rt: HostRuntime) {
     });
     assert_list(&rt, &list, &[1, 3, 5], 6);
 
-    let mut list = thin_vec![alloc => 1, 2, 3, 4, 5, 6].expect(&rt, "memory");
+    let mut list = list_of(&rt, alloc, &[1, 2, 3, 4, 5, 6]);
     let mut answer = false;
     list.dedup_by(|_later, _kept| {
         answer = !answer;
@@ -168,18 +163,31 @@ fn hash_of(list: &ThinVec<LastDigit, Global>) -> u64 {
     hasher.finish()
 }
 
+// Asserts the numbers of the list.
+fn assert_numbers(rt: &impl Abort, list: &ThinVec<LastDigit, Global>, numbers: &[u32]) {
+    assert_same(rt, list.len(), numbers.len());
+    for (item, number) in list.iter().zip(numbers) {
+        assert_same(rt, item.number, *number);
+    }
+}
+
+// Asserts that the lists are equal, in each way to compare them.
+fn assert_alike(
+    rt: &impl Abort,
+    list: &ThinVec<LastDigit, Global>,
+    other: &ThinVec<LastDigit, Global>,
+) {
+    assert_same(rt, list == other, true);
+    assert_same(rt, list.cmp(other), Ordering::Equal);
+    assert_same(rt, hash_of(list), hash_of(other));
+}
+
 // Items that are equal need not be the same: the first of them stays.
 #[test]
 fn goes_by_the_equality_of_the_items(rt: HostRuntime) {
     let alloc = rt.alloc();
     let mut list = digits(&rt, alloc, &[10, 20, 31, 1]);
     list.dedup();
-    assert_same(&rt, list.len(), 2);
-    for (item, wanted) in list.iter().zip([10, 31]) {
-        assert_same(&rt, item.number, wanted);
-    }
-    let other = digits(&rt, alloc, &[0, 1]);
-    assert!(rt; list == other);
-    assert_same(&rt, list.cmp(&other), Ordering::Equal);
-    assert_same(&rt, hash_of(&list), hash_of(&other));
+    assert_numbers(&rt, &list, &[10, 31]);
+    assert_alike(&rt, &list, &digits(&rt, alloc, &[0, 1]));
 }

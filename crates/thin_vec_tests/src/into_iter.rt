@@ -3,14 +3,14 @@ ghost use Rattle.std.specs.Prelude.{◌≡◌, IfOk, length, min, reverse};
 ghost use Rattle.std.specs.List.{fold};
 
 #[cfg(test)]
+use crate::items::list_of;
+#[cfg(test)]
 use crate::standing::{assert_items, assert_list, assert_same};
 #[cfg(test)]
 use refusing::Refusing;
 use std::alloc::{AllocError, Allocator, Global};
 #[cfg(test)]
 use std::process::Abort;
-#[cfg(test)]
-use thin_vec::thin_vec;
 use thin_vec::{Growth, ThinVec};
 
 /// How many items there are, counted one by one.
@@ -77,9 +77,7 @@ pub fn carried_over(list: ThinVec<u32, Global>, alloc: Global) -> Result<Vec<u32
 
 #[test]
 fn test_into_iter_as_slice(rt: HostRuntime) {
-    let mut items = thin_vec![rt.alloc() => 'a', 'b', 'c']
-        .expect(&rt, "memory")
-        .into_iter();
+    let mut items = list_of(&rt, rt.alloc(), &['a', 'b', 'c']).into_iter();
     assert_items(&rt, items.as_slice(), &['a', 'b', 'c']);
     assert_same(&rt, items.next(), Some('a'));
     assert_items(&rt, items.as_slice(), &['b', 'c']);
@@ -92,9 +90,7 @@ fn test_into_iter_as_slice(rt: HostRuntime) {
 
 #[test]
 fn test_into_iter_as_mut_slice(rt: HostRuntime) {
-    let mut items = thin_vec![rt.alloc() => 'a', 'b', 'c']
-        .expect(&rt, "memory")
-        .into_iter();
+    let mut items = list_of(&rt, rt.alloc(), &['a', 'b', 'c']).into_iter();
     assert_eq!(rt; items.len(), 3);
     items.as_mut_slice()[0] = 'x';
     items.as_mut_slice()[1] = 'y';
@@ -104,9 +100,7 @@ fn test_into_iter_as_mut_slice(rt: HostRuntime) {
 
 #[test]
 fn test_into_iter_count(rt: HostRuntime) {
-    let items = thin_vec![rt.alloc() => 1, 2, 3]
-        .expect(&rt, "memory")
-        .into_iter();
+    let items = list_of(&rt, rt.alloc(), &[1, 2, 3]).into_iter();
     assert_same(&rt, items.count(), 3);
 }
 
@@ -114,9 +108,7 @@ fn test_into_iter_count(rt: HostRuntime) {
 fn test_into_iter_clone(rt: HostRuntime) {
     let refusing = Refusing::new(rt.alloc(), 2);
     let alloc = &refusing;
-    let mut items = thin_vec![alloc => 1, 2, 3]
-        .expect(&rt, "memory")
-        .into_iter();
+    let mut items = list_of(&rt, alloc, &[1, 2, 3]).into_iter();
     assert!(rt; items.clone(alloc).is_err());
     assert_same(&rt, refusing.blocks(), 1);
     assert_items(
@@ -144,9 +136,9 @@ fn test_into_iter_clone(rt: HostRuntime) {
 fn test_move_items(rt: HostRuntime) {
     let alloc = rt.alloc();
     let mut moved = ThinVec::new(alloc);
-    let list = thin_vec![alloc => 1, 2, 3].expect(&rt, "memory");
+    let list = list_of(&rt, alloc, &[1, 2, 3]);
     moved.extend(list.into_iter()).ok().expect(&rt, "memory");
-    let list = thin_vec![alloc => 1, 2, 3].expect(&rt, "memory");
+    let list = list_of(&rt, alloc, &[1, 2, 3]);
     moved
         .extend(list.into_iter().rev())
         .ok()
@@ -154,9 +146,9 @@ fn test_move_items(rt: HostRuntime) {
     assert_list(&rt, &moved, &[1, 2, 3, 3, 2, 1], 8);
 
     let mut units = ThinVec::new(alloc);
-    let list = thin_vec![alloc => (), (), ()].expect(&rt, "memory");
+    let list = list_of(&rt, alloc, &[(), (), ()]);
     units.extend(list.into_iter()).ok().expect(&rt, "memory");
-    let list = thin_vec![alloc => (), (), ()].expect(&rt, "memory");
+    let list = list_of(&rt, alloc, &[(), (), ()]);
     units
         .extend(list.into_iter().rev())
         .ok()
@@ -167,9 +159,7 @@ fn test_move_items(rt: HostRuntime) {
 #[test]
 fn test_into_iter_debug(rt: HostRuntime) {
     let alloc = rt.alloc();
-    let letters = thin_vec![alloc => 'a', 'b', 'c']
-        .expect(&rt, "memory")
-        .into_iter();
+    let letters = list_of(&rt, alloc, &['a', 'b', 'c']).into_iter();
     assert_same(
         &rt,
         format!(in alloc; "{letters:?}")
@@ -177,9 +167,7 @@ fn test_into_iter_debug(rt: HostRuntime) {
             .as_str(),
         "IntoIter(['a', 'b', 'c'])",
     );
-    let mut numbers = thin_vec![alloc => 1, 2, 3]
-        .expect(&rt, "memory")
-        .into_iter();
+    let mut numbers = list_of(&rt, alloc, &[1, 2, 3]).into_iter();
     assert_same(&rt, numbers.next(), Some(1));
     assert_same(
         &rt,
@@ -192,7 +180,7 @@ fn test_into_iter_debug(rt: HostRuntime) {
 
 #[cfg(test)]
 fn three(rt: &impl Abort, alloc: Global) -> ThinVec<u32, Global> {
-    thin_vec![alloc => 4, 3, 5].expect(rt, "memory")
+    list_of(rt, alloc, &[4, 3, 5])
 }
 
 #[test]

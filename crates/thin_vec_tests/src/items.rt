@@ -1,8 +1,21 @@
 //! Items for a list that is tested.
-use std::alloc::Allocator;
+ghost use Rattle.std.specs.Prelude.{◌≡◌, length};
+
+use std::alloc::{AllocError, Allocator, Global};
 use std::ops::Range;
 use std::process::Abort;
 use thin_vec::{Growth, ThinVec};
+
+/// A list of these items, without spare room.
+pub fn list_of<T: Copy + Drop, A: Allocator>(
+    rt: &impl Abort,
+    alloc: A,
+    items: &[T],
+) -> ThinVec<T, A>
+    ensures len { length result.items ≡ length items.now }
+{
+    ThinVec::from_copies(alloc, items).expect(rt, "memory")
+}
 
 /// Pushes each number of the range, and asserts that there is memory for it.
 pub fn push_all<A: Allocator, G: Growth>(
@@ -13,4 +26,19 @@ pub fn push_all<A: Allocator, G: Growth>(
     for item in items {
         list.push(item).ok().expect(rt, "memory");
     }
+}
+
+/// A list of boxes, of one item each.
+pub fn boxes_of(
+    alloc: Global,
+    items: &[i32],
+) -> Result<ThinVec<Box<i32, Global>, Global>, AllocError> {
+    let mut list = ThinVec::new(alloc);
+    for item in items {
+        match list.push(Box::new(alloc, *item)?) {
+            Ok(()) => (),
+            Err(_refused) => return Err(AllocError),
+        }
+    }
+    Ok(list)
 }

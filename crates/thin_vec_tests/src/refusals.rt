@@ -1,9 +1,18 @@
 //! Memory that is refused, request by request, and what stands afterwards.
-use crate::items::push_all;
-use crate::standing::{assert_counts, assert_items, assert_list, assert_same};
+use crate::items::{list_of, push_all};
+use crate::standing::{assert_counts, assert_items, assert_len, assert_list, assert_same};
 use refusing::Refusing;
+use std::alloc::Allocator;
 use std::io::Write;
-use thin_vec::{ThinVec, ThinVecError, thin_vec};
+use std::process::Abort;
+use thin_vec::{ThinVec, ThinVecError};
+
+// Pushes, which is refused, and asserts what is handed back.
+fn assert_push_refused<A: Allocator>(rt: &impl Abort, list: &mut ThinVec<i32, A>, item: i32) {
+    let refused = list.push(item).err().expect(rt, "accepted");
+    let wanted = (item, ThinVecError::OutOfMemory);
+    assert_same(rt, (refused.value, refused.cause), wanted);
+}
 
 #[test]
 fn row_16_push_refused(rt: HostRuntime) {
@@ -12,13 +21,11 @@ fn row_16_push_refused(rt: HostRuntime) {
     push_all(&rt, &mut list, 1..5);
     assert_counts(&rt, &refusing, 1, 1);
 
-    let refused = list.push(5).err().expect(&rt, "accepted");
-    assert_same(&rt, refused.value, 5);
-    assert_same(&rt, refused.cause, ThinVecError::OutOfMemory);
+    assert_push_refused(&rt, &mut list, 5);
     assert_list(&rt, &list, &[1, 2, 3, 4], 4);
     assert_counts(&rt, &refusing, 2, 1);
 
-    list.push(5).ok().expect(&rt, "memory");
+    push_all(&rt, &mut list, 5..6);
     assert_list(&rt, &list, &[1, 2, 3, 4, 5], 8);
     assert_counts(&rt, &refusing, 3, 1);
 }
@@ -40,12 +47,12 @@ fn an_overflow_makes_no_request(rt: HostRuntime) {
 #[test]
 fn calls_that_take_no_memory_make_no_request(rt: HostRuntime) {
     let refusing = Refusing::new(rt.alloc(), 0);
-    let mut list = thin_vec![&refusing => 1, 2, 3, 4, 5, 6].expect(&rt, "memory");
+    let mut list = list_of(&rt, &refusing, &[1, 2, 3, 4, 5, 6]);
     refusing.refuse(0);
     list.as_mut_slice()[0] = 7;
     list[1] = 8;
     assert_same(&rt, list.pop(), Some(6));
-    assert_eq!(rt; list.len(), 5);
+    assert_len(&rt, &list, 5);
     assert_same(&rt, list.swap_remove(0), 7);
     let mut items = list.into_iter();
     assert_same(&rt, (items.next(), items.next_back()), (Some(5), Some(4)));

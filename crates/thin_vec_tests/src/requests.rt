@@ -1,84 +1,90 @@
 //! Which requests `refusing` refuses, and what it counts.
+use crate::standing::{assert_items, assert_same};
 use refusing::Refusing;
-use std::test::Fail;
+use std::alloc::Allocator;
+use std::process::Abort;
+
+// Pushes, and asserts whether that was granted.
+fn assert_push<A: Allocator>(rt: &impl Abort, items: &mut Vec<u8, A>, item: u8, granted: bool) {
+    assert_same(rt, items.push(item).is_ok(), granted);
+}
+
+// Reserves room for many more, and asserts whether that was granted.
+fn assert_reserve<A: Allocator>(rt: &impl Abort, items: &mut Vec<u8, A>, granted: bool) {
+    assert_same(rt, items.reserve(1000).is_ok(), granted);
+}
 
 #[test]
-fn only_the_second_request_is_refused(rt: HostRuntime) -> Result<(), Fail> {
+fn only_the_second_request_is_refused(rt: HostRuntime) {
     let refusing = Refusing::new(rt.alloc(), 2);
     let mut one = Vec::new(&refusing);
     let mut other = Vec::new(&refusing);
 
-    one.push(1u8)?;
-    assert!(rt; other.push(2u8).is_err());
-    assert_eq!(rt; other.as_slice(), [].as_slice());
-    assert_eq!(rt; (other.capacity(), refusing.requests()), (0, 2));
+    assert_push(&rt, &mut one, 1, true);
+    assert_push(&rt, &mut other, 2, false);
+    assert_items(&rt, other.as_slice(), &[]);
+    assert_same(&rt, (other.capacity(), refusing.requests()), (0, 2));
 
-    other.push(3u8)?;
-    assert_eq!(rt; other.as_slice(), [3u8].as_slice());
-    assert_eq!(rt; one.as_slice(), [1u8].as_slice());
-    assert_eq!(rt; refusing.requests(), 3);
-    Ok(())
+    assert_push(&rt, &mut other, 3, true);
+    assert_items(&rt, other.as_slice(), &[3]);
+    assert_items(&rt, one.as_slice(), &[1]);
+    assert_same(&rt, refusing.requests(), 3);
 }
 
 #[test]
-fn a_refused_growth_changes_nothing(rt: HostRuntime) -> Result<(), Fail> {
+fn a_refused_growth_changes_nothing(rt: HostRuntime) {
     let refusing = Refusing::new(rt.alloc(), 0);
     let mut one = Vec::new(&refusing);
-    one.push(1u8)?;
-    assert_eq!(rt; refusing.requests(), 1);
+    assert_push(&rt, &mut one, 1, true);
+    assert_same(&rt, refusing.requests(), 1);
 
     refusing.refuse(1);
-    assert_eq!(rt; refusing.requests(), 0);
+    assert_same(&rt, refusing.requests(), 0);
     let capacity = one.capacity();
-    assert!(rt; one.reserve(1000).is_err());
-    assert_eq!(rt; one.as_slice(), [1u8].as_slice());
-    assert_eq!(rt; one.capacity(), capacity);
+    assert_reserve(&rt, &mut one, false);
+    assert_items(&rt, one.as_slice(), &[1]);
+    assert_same(&rt, one.capacity(), capacity);
 
-    one.reserve(1000)?;
-    assert_eq!(rt; one.as_slice(), [1u8].as_slice());
-    assert!(rt; one.capacity() >= 1001);
-    assert_eq!(rt; refusing.requests(), 2);
-    Ok(())
+    assert_reserve(&rt, &mut one, true);
+    assert_items(&rt, one.as_slice(), &[1]);
+    assert_same(&rt, one.capacity() >= 1001, true);
+    assert_same(&rt, refusing.requests(), 2);
 }
 
 #[test]
-fn counts_the_blocks_that_are_out(rt: HostRuntime) -> Result<(), Fail> {
+fn counts_the_blocks_that_are_out(rt: HostRuntime) {
     let refusing = Refusing::new(rt.alloc(), 0);
     {
         let mut one = Vec::new(&refusing);
-        assert_eq!(rt; refusing.blocks(), 0);
-        one.push(1u8)?;
-        assert_eq!(rt; refusing.blocks(), 1);
-        one.reserve(1000)?;
-        assert_eq!(rt; refusing.blocks(), 1);
+        assert_same(&rt, refusing.blocks(), 0);
+        assert_push(&rt, &mut one, 1, true);
+        assert_same(&rt, refusing.blocks(), 1);
+        assert_reserve(&rt, &mut one, true);
+        assert_same(&rt, refusing.blocks(), 1);
 
         refusing.refuse(1);
         let mut other = Vec::new(&refusing);
-        assert!(rt; other.push(2u8).is_err());
-        assert_eq!(rt; refusing.blocks(), 1);
-        other.push(2u8)?;
-        assert_eq!(rt; refusing.blocks(), 2);
+        for (granted, blocks) in [(false, 1), (true, 2)] {
+            assert_push(&rt, &mut other, 2, granted);
+            assert_same(&rt, refusing.blocks(), blocks);
+        }
     }
-    assert_eq!(rt; refusing.blocks(), 0);
-    Ok(())
+    assert_same(&rt, refusing.blocks(), 0);
 }
 
 #[test]
-fn a_block_that_inner_refuses_is_not_counted(rt: HostRuntime) -> Result<(), Fail> {
+fn a_block_that_inner_refuses_is_not_counted(rt: HostRuntime) {
     let inner = Refusing::new(rt.alloc(), 1);
     let outer = Refusing::new(&inner, 0);
     let mut items = Vec::new(&outer);
-    assert!(rt; items.push(1u8).is_err());
-    assert_eq!(rt;
-        (outer.requests(), outer.blocks(), inner.blocks()),
-        (1, 0, 0)
-    );
-    items.push(1u8)?;
-    assert_eq!(rt;
-        (outer.requests(), outer.blocks(), inner.blocks()),
-        (2, 1, 1)
-    );
-    Ok(())
+    for (granted, counts) in [(false, (1, 0, 0)), (true, (2, 1, 1))] {
+        assert_push(&rt, &mut items, 1, granted);
+        assert_same(
+            &rt,
+            (outer.requests(), outer.blocks(), inner.blocks()),
+            counts,
+        );
+    }
 }
 
 #[test]

@@ -1,7 +1,7 @@
 //! What is written through a lent slice or a lent item is in the list afterwards.
-use crate::items::push_all;
-use crate::standing::{assert_items, assert_same};
-use thin_vec::{ThinVec, thin_vec};
+use crate::items::{list_of, push_all};
+use crate::standing::{assert_items, assert_len, assert_same};
+use thin_vec::ThinVec;
 
 fn add(amount: i32, items: &mut [i32]) {
     for item in items {
@@ -13,7 +13,7 @@ fn add(amount: i32, items: &mut [i32]) {
 fn test_slice_from_mut(rt: HostRuntime) {
     let mut list = ThinVec::new(rt.alloc());
     push_all(&rt, &mut list, 1..6);
-    assert_eq!(rt; list.len(), 5);
+    assert_len(&rt, &list, 5);
     add(2, &mut list.as_mut_slice()[2..]);
     assert_items(&rt, list.as_slice(), &[1, 2, 5, 6, 7]);
 }
@@ -22,7 +22,7 @@ fn test_slice_from_mut(rt: HostRuntime) {
 fn test_slice_to_mut(rt: HostRuntime) {
     let mut list = ThinVec::new(rt.alloc());
     push_all(&rt, &mut list, 1..6);
-    assert_eq!(rt; list.len(), 5);
+    assert_len(&rt, &list, 5);
     add(1, &mut list.as_mut_slice()[..2]);
     assert_items(&rt, list.as_slice(), &[2, 3, 3, 4, 5]);
 }
@@ -31,7 +31,7 @@ fn test_slice_to_mut(rt: HostRuntime) {
 fn test_split_at_mut(rt: HostRuntime) {
     let mut list = ThinVec::new(rt.alloc());
     push_all(&rt, &mut list, 1..6);
-    assert_eq!(rt; list.len(), 5);
+    assert_len(&rt, &list, 5);
     let (left, right) = list.as_mut_slice().split_at_mut(2);
     add(1, left);
     add(2, right);
@@ -40,13 +40,13 @@ fn test_split_at_mut(rt: HostRuntime) {
 
 #[test]
 fn test_index(rt: HostRuntime) {
-    let list = thin_vec![rt.alloc() => 1, 2, 3].expect(&rt, "memory");
+    let list = list_of(&rt, rt.alloc(), &[1, 2, 3]);
     assert_same(&rt, list[1], 2);
 }
 
 #[test]
 fn test_index_mut(rt: HostRuntime) {
-    let mut list = thin_vec![rt.alloc() => 1, 2, 3].expect(&rt, "memory");
+    let mut list = list_of(&rt, rt.alloc(), &[1, 2, 3]);
     list[1] = 22;
     assert_items(&rt, list.as_slice(), &[1, 22, 3]);
 }

@@ -8,7 +8,9 @@ use crate::answers::Answers;
 #[cfg(test)]
 use crate::counted::Counted;
 #[cfg(test)]
-use crate::standing::{assert_counts, assert_items, assert_list, assert_same};
+use crate::items::list_of;
+#[cfg(test)]
+use crate::standing::{assert_counts, assert_items, assert_len, assert_list, assert_same};
 #[cfg(test)]
 use refusing::Refusing;
 use std::alloc::Allocator;
@@ -81,8 +83,8 @@ pub fn replace_and_undo<A: Allocator + Copy, G: Growth>(
 #[test]
 fn a_splice_is_undone(rt: HostRuntime) {
     for (numbers, capacity) in [(&[][..], 3), (&[7][..], 3), (&[7, 8, 9][..], 6)] {
-        let mut list = thin_vec![rt.alloc() => 1, 2, 3].expect(&rt, "memory");
-        assert_eq!(rt; list.len(), 3);
+        let mut list = list_of(&rt, rt.alloc(), &[1, 2, 3]);
+        assert_len(&rt, &list, 3);
         let undone = replace_and_undo(&mut list, 1, 2, numbers, rt.alloc());
         undone.expect(&rt, "memory");
         assert_same(
@@ -109,7 +111,7 @@ fn splice_five<A: Allocator, I: Iterator<Item = i32>>(
     requires can_next { I.can_next given }
     requires finite { IsFinite (I.remaining given) }
 {
-    assert_eq!(rt; list.len(), 5);
+    assert_len(rt, list, 5);
     let mut splice = list.splice(2, 4, given);
     assert_same(rt, (splice.len(), splice.size_hint()), (2, (2, Some(2))));
     if ends.0 {
@@ -122,37 +124,48 @@ fn splice_five<A: Allocator, I: Iterator<Item = i32>>(
 }
 
 // How many items are given, the lower bound that is claimed, the items and the capacity then, and how many requests for memory
-// there were behind the first.
+// there were, the list's first among them.
 #[cfg(test)]
 const DONE: [(usize, usize, &[i32], usize, u64); 9] = [
-    (0, 0, &[1, 2, 5], 5, 0),
-    (1, 1, &[1, 2, 10, 5], 5, 0),
-    (1, usize::MAX, &[1, 2, 10, 5], 5, 0),
-    (2, 0, &[1, 2, 10, 11, 5], 5, 0),
-    (3, 0, &[1, 2, 10, 11, 12, 5], 10, 2),
-    (3, 1, &[1, 2, 10, 11, 12, 5], 10, 1),
-    (3, 1000, &[1, 2, 10, 11, 12, 5], 1005, 1),
-    (5, 1, &[1, 2, 10, 11, 12, 13, 14, 5], 10, 2),
-    (5, 3, &[1, 2, 10, 11, 12, 13, 14, 5], 10, 1),
+    (0, 0, &[1, 2, 5], 5, 1),
+    (1, 1, &[1, 2, 10, 5], 5, 1),
+    (1, usize::MAX, &[1, 2, 10, 5], 5, 1),
+    (2, 0, &[1, 2, 10, 11, 5], 5, 1),
+    (3, 0, &[1, 2, 10, 11, 12, 5], 10, 3),
+    (3, 1, &[1, 2, 10, 11, 12, 5], 10, 2),
+    (3, 1000, &[1, 2, 10, 11, 12, 5], 1005, 2),
+    (5, 1, &[1, 2, 10, 11, 12, 13, 14, 5], 10, 3),
+    (5, 3, &[1, 2, 10, 11, 12, 13, 14, 5], 10, 2),
 ];
+
+// Puts what `iter` gives in the place of 3 and 4 of five, and asserts what the list has then, and how many requests there were.
+#[cfg(test)]
+fn assert_spliced(
+    rt: &impl Abort,
+    iter: Answers<'_>,
+    ends: (bool, bool),
+    left: (&[i32], usize),
+    requests: u64,
+    alloc: Global,
+) {
+    let refusing = Refusing::new(alloc, 0);
+    let mut list = list_of(rt, &refusing, &[1, 2, 3, 4, 5]);
+    splice_five(rt, &mut list, iter, &refusing, ends)
+        .ok()
+        .expect(rt, "memory");
+    assert_list(rt, &list, left.0, left.1);
+    assert_counts(rt, &refusing, requests, 1);
+}
 
 #[test]
 fn what_a_splice_leaves(rt: HostRuntime) {
     for (given, lower, items, capacity, requests) in DONE {
+        let answers = TEN_TO_FOURTEEN.get(..given).expect(&rt, "a range");
         for ends in [(false, false), (true, false), (false, true), (true, true)] {
-            let refusing = Refusing::new(rt.alloc(), 0);
             let asked = Cell::new(0);
-            let mut list = thin_vec![&refusing => 1, 2, 3, 4, 5].expect(&rt, "memory");
-            let iter = Answers::new(
-                TEN_TO_FOURTEEN.get(..given).expect(&rt, "a range"),
-                lower,
-                &asked,
-            );
-            splice_five(&rt, &mut list, iter, &refusing, ends)
-                .ok()
-                .expect(&rt, "memory");
-            assert_list(&rt, &list, items, capacity);
-            assert_counts(&rt, &refusing, requests.saturating_add(1), 1);
+            let iter = Answers::new(answers, lower, &asked);
+            let left = (items, capacity);
+            assert_spliced(&rt, iter, ends, left, requests, rt.alloc());
         }
     }
 }
@@ -206,7 +219,7 @@ fn assert_splice_refused(
     left: (&[i32], usize),
     wanted: (ThinVecError, &[i32], Option<i32>, &[i32]),
 ) {
-    let mut list = thin_vec![refusing => 1, 2, 3, 4, 5].expect(rt, "memory");
+    let mut list = list_of(rt, refusing, &[1, 2, 3, 4, 5]);
     let refused = splice_five(rt, &mut list, iter, refusing, (false, false))
         .err()
         .expect(rt, "accepted");
@@ -240,23 +253,47 @@ fn row_12_splice_refused(rt: HostRuntime) {
     assert_splice_refused(&rt, &refusing, iter, (&[1, 2, 10, 11, 5], 5), wanted);
 }
 
+// Puts what `iter` gives in the place of a range, and asserts what the list has by the refusal, and what that hands back.
+#[cfg(test)]
+fn assert_range_refused<A: Allocator>(
+    rt: &impl Abort,
+    list: &mut ThinVec<i32, A>,
+    range: (usize, usize),
+    iter: Answers<'_>,
+    alloc: A,
+    left: (&[i32], usize),
+    wanted: (ThinVecError, &[i32], Option<i32>, &[i32]),
+)
+    requires start_le_end { range.0 ≤ range.1 }
+    requires in_bounds { range.1 ≤ length list.old.items }
+{
+    let refused = splice_by(list, range, iter, alloc)
+        .err()
+        .expect(rt, "accepted");
+    assert_list(rt, list, left.0, left.1);
+    assert_refused(rt, refused, wanted);
+}
+
+// What is handed back where the lower bound alone is too great: nothing.
+#[cfg(test)]
+const OVERFLOW: (ThinVecError, &[i32], Option<i32>, &[i32]) = (
+    ThinVecError::CapacityOverflow,
+    &[],
+    None,
+    &[],
+);
+
 #[test]
 fn row_39_splice_refused(rt: HostRuntime) {
     // The list's first memory, the vector's, and then the list's growth.
     let refusing = Refusing::new(rt.alloc(), 3);
     let asked = Cell::new(0);
-    let mut list = thin_vec![&refusing => 1, 2, 3].expect(&rt, "memory");
+    let mut list = list_of(&rt, &refusing, &[1, 2, 3]);
     let iter = Answers::new(&[Some(7), Some(8), Some(9)], 0, &asked);
-    assert_eq!(rt; list.len(), 3);
-    let refused = splice_by(&mut list, (1, 2), iter, &refusing)
-        .err()
-        .expect(&rt, "accepted");
-    assert_list(&rt, &list, &[1, 7, 3], 3);
-    assert_refused(
-        &rt,
-        refused,
-        (ThinVecError::OutOfMemory, &[8, 9], None, &[]),
-    );
+    assert_len(&rt, &list, 3);
+    let left = (&[1, 7, 3][..], 3);
+    let wanted = (ThinVecError::OutOfMemory, &[8, 9][..], None, &[][..]);
+    assert_range_refused(&rt, &mut list, (1, 2), iter, &refusing, left, wanted);
 }
 
 #[test]
@@ -264,26 +301,19 @@ fn the_hint_is_asked_only_once_the_range_is_full(rt: HostRuntime) {
     let alloc = rt.alloc();
     let asked = Cell::new(0);
     let nine = [Some(9)];
-    let mut list = thin_vec![alloc => 1, 2, 3].expect(&rt, "memory");
+    let mut list = list_of(&rt, alloc, &[1, 2, 3]);
     let iter = Answers::new(&nine, usize::MAX, &asked);
-    assert_eq!(rt; list.len(), 3);
+    assert_len(&rt, &list, 3);
     let done = splice_by(&mut list, (0, 2), iter, alloc);
     done.ok().expect(&rt, "refused");
     assert_list(&rt, &list, &[9, 3], 3);
     assert_same(&rt, asked.get(), 2);
 
-    let mut list = thin_vec![alloc => 1, 2, 3].expect(&rt, "memory");
+    let mut list = list_of(&rt, alloc, &[1, 2, 3]);
     let iter = Answers::new(&nine, usize::MAX, &asked);
-    assert_eq!(rt; list.len(), 3);
-    let refused = splice_by(&mut list, (0, 1), iter, alloc)
-        .err()
-        .expect(&rt, "accepted");
-    assert_list(&rt, &list, &[9, 2, 3], 3);
-    assert_refused(
-        &rt,
-        refused,
-        (ThinVecError::CapacityOverflow, &[], None, &[]),
-    );
+    assert_len(&rt, &list, 3);
+    let left = (&[9, 2, 3][..], 3);
+    assert_range_refused(&rt, &mut list, (0, 1), iter, alloc, left, OVERFLOW);
 }
 
 #[test]
@@ -292,42 +322,37 @@ fn with_nothing_behind_the_range_it_is_an_extend(rt: HostRuntime) {
     let asked = Cell::new(0);
     let mut list: ThinVec<i32> = ThinVec::new(alloc);
     let nothing = Answers::new(&[], usize::MAX, &asked);
-    let refused = splice_by(&mut list, (0, 0), nothing, alloc)
-        .err()
-        .expect(&rt, "accepted");
-    assert_list(&rt, &list, &[], 0);
-    assert_refused(
-        &rt,
-        refused,
-        (ThinVecError::CapacityOverflow, &[], None, &[]),
-    );
+    let left = (&[][..], 0);
+    assert_range_refused(&rt, &mut list, (0, 0), nothing, alloc, left, OVERFLOW);
 
     // 1 stays, and the two of the range go. The second request is a growth.
     let refusing = Refusing::new(alloc, 2);
-    let mut list = thin_vec![&refusing => 1, 2, 3].expect(&rt, "memory");
+    let mut list = list_of(&rt, &refusing, &[1, 2, 3]);
     let iter = Answers::new(&TEN_TO_FOURTEEN, 0, &asked);
-    assert_eq!(rt; list.len(), 3);
-    let refused = splice_by(&mut list, (1, 3), iter, &refusing)
-        .err()
-        .expect(&rt, "accepted");
-    assert_list(&rt, &list, &[1, 10, 11], 3);
-    assert_refused(
-        &rt,
-        refused,
-        (ThinVecError::OutOfMemory, &[], Some(12), &[13, 14]),
-    );
+    assert_len(&rt, &list, 3);
+    let left = (&[1, 10, 11][..], 3);
+    let wanted = (ThinVecError::OutOfMemory, &[][..], Some(12), &[13, 14][..]);
+    assert_range_refused(&rt, &mut list, (1, 3), iter, &refusing, left, wanted);
+}
+
+// Puts so many numbers in the place of the second item.
+#[cfg(test)]
+fn splice_long(rt: &impl Abort, list: &mut ThinVec<i32>, count: i32, alloc: Global)
+    requires in_bounds { 2 ≤ length list.old.items }
+{
+    list.splice(1, 2, (0..count).filter(|_| true))
+        .finish(alloc)
+        .ok()
+        .expect(rt, "memory");
 }
 
 #[test]
 fn a_long_splice_is_not_refused(rt: HostRuntime) {
     let alloc = rt.alloc();
     for count in 0..301 {
-        let mut list = thin_vec![alloc => -1, -2, -3].expect(&rt, "memory");
-        assert_eq!(rt; list.len(), 3);
-        list.splice(1, 2, (0..count).filter(|_| true))
-            .finish(alloc)
-            .ok()
-            .expect(&rt, "memory");
+        let mut list = list_of(&rt, alloc, &[-1, -2, -3]);
+        assert_len(&rt, &list, 3);
+        splice_long(&rt, &mut list, count, alloc);
         let len = usize::try_from(count).unwrap_or(0);
         assert_same(&rt, list.len(), len.saturating_add(2));
         assert_same(&rt, (list.first(), list.last()), (Some(&-1), Some(&-3)));
@@ -338,11 +363,8 @@ fn a_long_splice_is_not_refused(rt: HostRuntime) {
 fn a_splice_into_a_long_list_is_not_refused(rt: HostRuntime) {
     let alloc = rt.alloc();
     let mut list = thin_vec![alloc => -7; 3000].expect(&rt, "memory");
-    assert_eq!(rt; list.len(), 3000);
-    list.splice(1, 2, (0..2000).filter(|_| true))
-        .finish(alloc)
-        .ok()
-        .expect(&rt, "memory");
+    assert_len(&rt, &list, 3000);
+    splice_long(&rt, &mut list, 2000, alloc);
     assert_same(&rt, list.len(), 4999);
     assert_same(
         &rt,
@@ -354,8 +376,8 @@ fn a_splice_into_a_long_list_is_not_refused(rt: HostRuntime) {
 #[test]
 fn test_splice_items_zero_sized(rt: HostRuntime) {
     let alloc = rt.alloc();
-    let mut list = thin_vec![alloc => (), (), ()].expect(&rt, "memory");
-    assert_eq!(rt; list.len(), 3);
+    let mut list = list_of(&rt, alloc, &[(), (), ()]);
+    assert_len(&rt, &list, 3);
     let mut splice = list.splice(1, 2, empty());
     assert_same(&rt, (splice.next(), splice.next()), (Some(()), None));
     splice.finish(alloc).ok().expect(&rt, "memory");

@@ -18,6 +18,13 @@ pub fn assert_items<T: PartialEq + Debug>(rt: &impl Abort, items: &[T], wanted: 
     assert_eq!(rt; items, wanted);
 }
 
+/// Asserts how many items the list has, which a call on a range of them asks for.
+pub fn assert_len<T, A: Allocator, G: Growth>(rt: &impl Abort, list: &ThinVec<T, A, G>, len: usize)
+    ensures len { length list.now.items ≡ len }
+{
+    assert_eq!(rt; list.len(), len);
+}
+
 /// Asserts what the list holds, and its capacity.
 pub fn assert_list<A: Allocator, G: Growth>(
     rt: &impl Abort,
@@ -27,7 +34,7 @@ pub fn assert_list<A: Allocator, G: Growth>(
 )
     ensures len { length list.now.items ≡ length items.now }
 {
-    assert_eq!(rt; list.len(), items.len());
+    assert_len(rt, list, items.len());
     assert_same(rt, (list.as_slice(), list.capacity()), (items, capacity));
 }
 

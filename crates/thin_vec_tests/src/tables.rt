@@ -138,20 +138,34 @@ fn a_row_gives_its_block_back_with_its_last_entry(rt: HostRuntime) {
     {
         let mut table = Rows::with_rows(&refusing, 3).expect(&rt, "memory");
         assert_counts(&rt, &refusing, 1, 1);
-        assert_set(&rt, &mut table, (1, 7), 10, None);
-        assert_set(&rt, &mut table, (1, 2), 20, None);
-        assert_set(&rt, &mut table, (2, 2), 30, None);
+        for (place, value) in [((1, 7), 10), ((1, 2), 20), ((2, 2), 30)] {
+            assert_set(&rt, &mut table, place, value, None);
+        }
         assert_counts(&rt, &refusing, 3, 3);
         assert_same(&rt, table.len(), 3);
-        assert_removed(&rt, &mut table, (1, 2), Some(20));
-        assert_entries(&rt, &table, 1, &[(7, 10)]);
-        assert_removed(&rt, &mut table, (1, 7), Some(10));
-        assert_entries(&rt, &table, 1, &[]);
+        for (column, value, left) in [(2, 20, &[(7, 10)][..]), (7, 10, &[][..])] {
+            assert_removed(&rt, &mut table, (1, column), Some(value));
+            assert_entries(&rt, &table, 1, left);
+        }
         assert_counts(&rt, &refusing, 3, 2);
         assert_set(&rt, &mut table, (1, 9), 40, None);
         assert_counts(&rt, &refusing, 4, 3);
     }
     assert_counts(&rt, &refusing, 4, 0);
+}
+
+// Sets boxes of the columns' numbers in the first row.
+fn set_boxes<'a>(
+    rt: &impl Abort,
+    table: &mut Rows<Box<usize, &'a Refusing<Global>>, &'a Refusing<Global>>,
+    alloc: &'a Refusing<Global>,
+    columns: &[usize],
+) {
+    for &column in columns {
+        let value = Box::new(alloc, column).ok().expect(rt, "memory");
+        assert_row(rt, table, 0);
+        table.set(0, column, value).ok().expect(rt, "memory");
+    }
 }
 
 #[test]
@@ -160,11 +174,7 @@ fn drops_each_value_once(rt: HostRuntime) {
     let alloc = &refusing;
     {
         let mut table = Rows::with_rows(alloc, 2).expect(&rt, "memory");
-        for column in [3, 1, 2, 1] {
-            let value = Box::new(alloc, column).ok().expect(&rt, "memory");
-            assert_row(&rt, &table, 0);
-            table.set(0, column, value).ok().expect(&rt, "memory");
-        }
+        set_boxes(&rt, &mut table, alloc, &[3, 1, 2, 1]);
         // Two blocks of the table, and a box for each of three values: the fourth took the place of one.
         assert_same(&rt, refusing.blocks(), 5);
         assert_row(&rt, &table, 0);

@@ -1,12 +1,13 @@
 //! `append` and `split_off`: what both lists have afterwards, also refused.
+use crate::items::list_of;
 use crate::standing::{assert_counts, assert_list, assert_same};
 use refusing::Refusing;
-use thin_vec::{ThinVecError, thin_vec};
+use thin_vec::ThinVecError;
 
 #[test]
 fn test_append(rt: HostRuntime) {
-    let mut list = thin_vec![rt.alloc() => 1, 2, 3].expect(&rt, "memory");
-    let mut other = thin_vec![rt.alloc() => 4, 5, 6].expect(&rt, "memory");
+    let mut list = list_of(&rt, rt.alloc(), &[1, 2, 3]);
+    let mut other = list_of(&rt, rt.alloc(), &[4, 5, 6]);
     list.append(&mut other).expect(&rt, "memory");
     assert_list(&rt, &list, &[1, 2, 3, 4, 5, 6], 6);
     assert_list(&rt, &other, &[], 3);
@@ -14,7 +15,7 @@ fn test_append(rt: HostRuntime) {
 
 #[test]
 fn test_split_off(rt: HostRuntime) {
-    let mut list = thin_vec![rt.alloc() => 1, 2, 3, 4, 5, 6].expect(&rt, "memory");
+    let mut list = list_of(&rt, rt.alloc(), &[1, 2, 3, 4, 5, 6]);
     let tail = list.split_off(rt.alloc(), 4).expect(&rt, "memory");
     assert_list(&rt, &list, &[1, 2, 3, 4], 6);
     assert_list(&rt, &tail, &[5, 6], 2);
@@ -23,8 +24,8 @@ fn test_split_off(rt: HostRuntime) {
 #[test]
 fn row_38_append_refused(rt: HostRuntime) {
     let refusing = Refusing::new(rt.alloc(), 3);
-    let mut list = thin_vec![&refusing => 1, 2].expect(&rt, "memory");
-    let mut other = thin_vec![&refusing => 3].expect(&rt, "memory");
+    let mut list = list_of(&rt, &refusing, &[1, 2]);
+    let mut other = list_of(&rt, &refusing, &[3]);
     assert_same(&rt, list.append(&mut other), Err(ThinVecError::OutOfMemory));
     assert_list(&rt, &list, &[1, 2], 2);
     assert_list(&rt, &other, &[3], 1);
