@@ -55,6 +55,21 @@ fn a_boxed_slice_is_on_the_allocator_passed(rt: HostRuntime) {
     }
 }
 
+// Clones what remains of a walk over the list, and asserts what is out on either allocator then.
+fn assert_clone_counts<'a>(
+    rt: &impl Abort,
+    list: ThinVec<i32, &'a Refusing<Global>>,
+    one: &Refusing<Global>,
+    other: &'a Refusing<Global>,
+    items: i32,
+) {
+    let rest = list.into_iter();
+    let again = rest.clone(other).expect(rt, "memory");
+    assert_counts(rt, one, 0, if items == 0 { 0 } else { 1 });
+    assert_counts(rt, other, if items == 0 { 3 } else { 5 }, 3);
+    drop(again);
+}
+
 #[test]
 fn a_second_list_is_on_the_allocator_passed(rt: HostRuntime) {
     for items in [0, 3] {
@@ -66,10 +81,6 @@ fn a_second_list_is_on_the_allocator_passed(rt: HostRuntime) {
         let mut clone = tail.clone(&other).expect(&rt, "memory");
         push_all(&rt, &mut tail, 9..10);
         push_all(&rt, &mut clone, 9..10);
-        let rest = clone.into_iter();
-        let again = rest.clone(&other).expect(&rt, "memory");
-        assert_counts(&rt, &one, 0, if items == 0 { 0 } else { 1 });
-        assert_counts(&rt, &other, if items == 0 { 3 } else { 5 }, 3);
-        drop(again);
+        assert_clone_counts(&rt, clone, &one, &other, items);
     }
 }

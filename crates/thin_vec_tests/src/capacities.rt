@@ -16,8 +16,7 @@ fn a_list_without_items_owns_no_block(rt: HostRuntime) {
         ThinVec::ruled(alloc),
         ThinVec::with_capacity(alloc, 0).expect(&rt, "memory"),
     ] {
-        assert!(rt; !list.has_capacity());
-        assert_same(&rt, list.capacity(), 0);
+        assert_same(&rt, (list.has_capacity(), list.capacity()), (false, 0));
         assert_items(&rt, list.as_slice(), &[]);
     }
 }

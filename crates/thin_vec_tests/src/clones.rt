@@ -25,7 +25,7 @@ fn test_clone(rt: HostRuntime) {
     push_all(&rt, &mut list, 0..1);
     assert_same(&rt, list.pop(), Some(0));
     let clone = list.clone(alloc).expect(&rt, "memory");
-    assert!(rt; !clone.has_capacity());
+    assert_same(&rt, clone.has_capacity(), false);
     assert_same(&rt, (list.capacity(), clone.capacity()), (4, 0));
 }
 

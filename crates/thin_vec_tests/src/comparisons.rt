@@ -1,10 +1,13 @@
 //! How lists are compared.
 use crate::items::list_of;
+use crate::standing::assert_same;
 
 #[test]
 fn test_partial_eq(rt: HostRuntime) {
     let alloc = rt.alloc();
-    assert!(rt; list_of(&rt, alloc, &[0]) == list_of(&rt, alloc, &[0]));
-    assert!(rt; list_of(&rt, alloc, &[0]) != list_of(&rt, alloc, &[1]));
-    assert!(rt; list_of(&rt, alloc, &[1, 2]) < list_of(&rt, alloc, &[1, 3]));
+    let (zero, one) = (list_of(&rt, alloc, &[0]), list_of(&rt, alloc, &[1]));
+    assert_same(&rt, zero == list_of(&rt, alloc, &[0]), true);
+    assert_same(&rt, zero != one, true);
+    let less = list_of(&rt, alloc, &[1, 2]) < list_of(&rt, alloc, &[1, 3]);
+    assert_same(&rt, less, true);
 }

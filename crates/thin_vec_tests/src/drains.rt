@@ -8,7 +8,7 @@ use crate::counted::counted_list;
 #[cfg(test)]
 use crate::items::list_of;
 #[cfg(test)]
-use crate::standing::{assert_items, assert_len, assert_list, assert_same};
+use crate::standing::{assert_items, assert_len, assert_list, assert_same, assert_text};
 use std::alloc::{AllocError, Allocator, Global};
 #[cfg(test)]
 use std::cell::Cell;
@@ -145,9 +145,8 @@ fn assert_drained<T: PartialEq + std::fmt::Debug + Drop, A: Allocator>(
         for item in given {
             assert_same(rt, drain.next().as_ref(), Some(item));
         }
-        assert_same(rt, drain.len(), 0);
-        assert_same(rt, drain.next(), None);
-        assert_same(rt, drain.next_back(), None);
+        let ended = (drain.len(), drain.next(), drain.next_back());
+        assert_same(rt, ended, (0, None, None));
     }
     assert_items(rt, list.as_slice(), left);
     assert_same(rt, list.capacity(), capacity);
@@ -258,7 +257,8 @@ fn a_range_that_is_not_there_has_no_drain(rt: HostRuntime) {
         (Bound::Excluded(usize::MAX), Bound::Unbounded),
         (Bound::Unbounded, Bound::Included(usize::MAX)),
     ] {
-        assert!(rt; drain_between(&mut list, start, end).is_none());
+        let drain = drain_between(&mut list, start, end);
+        assert_same(&rt, drain.is_none(), true);
     }
     assert_list(&rt, &list, &[1, 2, 3], 3);
 }
@@ -277,6 +277,15 @@ fn collects_what_it_drains(rt: HostRuntime) {
     assert_items(&rt, list.as_slice(), &[5, 6]);
 }
 
+// Takes the last item out.
+#[cfg(test)]
+fn assert_emptied(rt: &impl Abort, list: &mut ThinVec<u32>) {
+    assert_len(rt, list, 1);
+    assert_same(rt, greatest_out(list, 0, 1, 3), 5);
+    assert_same(rt, without(list, 0, 0), None);
+    assert_items(rt, list.as_slice(), &[]);
+}
+
 #[test]
 fn moves_a_range_to_another_list(rt: HostRuntime) {
     let alloc = rt.alloc();
@@ -290,10 +299,7 @@ fn moves_a_range_to_another_list(rt: HostRuntime) {
     extend_by_range(&mut list, 0, 2, &mut other).expect(&rt, "memory");
     assert_items(&rt, list.as_slice(), &[5]);
     assert_items(&rt, other.as_slice(), &[9, 2, 3, 1, 4]);
-    assert_len(&rt, &list, 1);
-    assert_same(&rt, greatest_out(&mut list, 0, 1, 3), 5);
-    assert_same(&rt, without(&mut list, 0, 0), None);
-    assert_items(&rt, list.as_slice(), &[]);
+    assert_emptied(&rt, &mut list);
 }
 
 // Drains the items 1 to 4 of six by `steps` steps and gives up. The bits of `back`, the lowest first, say which step takes from
@@ -407,11 +413,5 @@ fn test_drain_debug(rt: HostRuntime) {
     let mut list = list_of(&rt, rt.alloc(), &[1, 2, 3]);
     assert_len(&rt, &list, 3);
     let drain = list.drain(1, 3);
-    assert_same(
-        &rt,
-        format!(in rt.alloc(); "{drain:?}")
-            .expect(&rt, "memory")
-            .as_str(),
-        "Drain([2, 3])",
-    );
+    assert_text(&rt, rt.alloc(), &drain, "Drain([2, 3])");
 }

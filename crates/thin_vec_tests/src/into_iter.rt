@@ -5,12 +5,14 @@ ghost use Rattle.std.specs.List.{fold};
 #[cfg(test)]
 use crate::items::list_of;
 #[cfg(test)]
-use crate::standing::{assert_items, assert_list, assert_same};
+use crate::standing::{assert_items, assert_list, assert_same, assert_text};
 #[cfg(test)]
 use refusing::Refusing;
 use std::alloc::{AllocError, Allocator, Global};
 #[cfg(test)]
 use std::process::Abort;
+#[cfg(test)]
+use thin_vec::IntoIter;
 use thin_vec::{Growth, ThinVec};
 
 /// How many items there are, counted one by one.
@@ -104,55 +106,52 @@ fn test_into_iter_count(rt: HostRuntime) {
     assert_same(&rt, items.count(), 3);
 }
 
+// Clones what remains, and asserts the items of the clone.
+#[cfg(test)]
+fn assert_cloned<'a>(
+    rt: &impl Abort,
+    items: &IntoIter<i32, &'a Refusing<Global>>,
+    alloc: &'a Refusing<Global>,
+    wanted: &[i32],
+) {
+    let clone = items.clone(alloc).expect(rt, "memory");
+    assert_items(rt, clone.as_slice(), wanted);
+}
+
 #[test]
 fn test_into_iter_clone(rt: HostRuntime) {
     let refusing = Refusing::new(rt.alloc(), 2);
     let alloc = &refusing;
     let mut items = list_of(&rt, alloc, &[1, 2, 3]).into_iter();
-    assert!(rt; items.clone(alloc).is_err());
+    assert_same(&rt, items.clone(alloc).is_err(), true);
     assert_same(&rt, refusing.blocks(), 1);
-    assert_items(
-        &rt,
-        items.clone(alloc).expect(&rt, "memory").as_slice(),
-        &[1, 2, 3],
-    );
+    assert_cloned(&rt, &items, alloc, &[1, 2, 3]);
     assert_same(&rt, items.next(), Some(1));
-    assert_items(
-        &rt,
-        items.clone(alloc).expect(&rt, "memory").as_slice(),
-        &[2, 3],
-    );
-    assert_same(&rt, items.next_back(), Some(3));
-    assert_same(&rt, items.next(), Some(2));
+    assert_cloned(&rt, &items, alloc, &[2, 3]);
+    assert_same(&rt, (items.next_back(), items.next()), (Some(3), Some(2)));
     refusing.refuse(1);
-    assert_items(
-        &rt,
-        items.clone(alloc).expect(&rt, "memory").as_slice(),
-        &[],
-    );
+    assert_cloned(&rt, &items, alloc, &[]);
+}
+
+// A list to which the items were moved, in order and then last first.
+#[cfg(test)]
+fn moved_twice<T: Copy + Drop>(rt: &impl Abort, alloc: Global, items: &[T]) -> ThinVec<T> {
+    let mut moved = ThinVec::new(alloc);
+    let list = list_of(rt, alloc, items);
+    moved.extend(list.into_iter()).ok().expect(rt, "memory");
+    let list = list_of(rt, alloc, items);
+    moved
+        .extend(list.into_iter().rev())
+        .ok()
+        .expect(rt, "memory");
+    moved
 }
 
 #[test]
 fn test_move_items(rt: HostRuntime) {
-    let alloc = rt.alloc();
-    let mut moved = ThinVec::new(alloc);
-    let list = list_of(&rt, alloc, &[1, 2, 3]);
-    moved.extend(list.into_iter()).ok().expect(&rt, "memory");
-    let list = list_of(&rt, alloc, &[1, 2, 3]);
-    moved
-        .extend(list.into_iter().rev())
-        .ok()
-        .expect(&rt, "memory");
+    let moved = moved_twice(&rt, rt.alloc(), &[1, 2, 3]);
     assert_list(&rt, &moved, &[1, 2, 3, 3, 2, 1], 8);
-
-    let mut units = ThinVec::new(alloc);
-    let list = list_of(&rt, alloc, &[(), (), ()]);
-    units.extend(list.into_iter()).ok().expect(&rt, "memory");
-    let list = list_of(&rt, alloc, &[(), (), ()]);
-    units
-        .extend(list.into_iter().rev())
-        .ok()
-        .expect(&rt, "memory");
+    let units = moved_twice(&rt, rt.alloc(), &[(), (), ()]);
     assert_same(&rt, units.len(), 6);
 }
 
@@ -160,22 +159,10 @@ fn test_move_items(rt: HostRuntime) {
 fn test_into_iter_debug(rt: HostRuntime) {
     let alloc = rt.alloc();
     let letters = list_of(&rt, alloc, &['a', 'b', 'c']).into_iter();
-    assert_same(
-        &rt,
-        format!(in alloc; "{letters:?}")
-            .expect(&rt, "memory")
-            .as_str(),
-        "IntoIter(['a', 'b', 'c'])",
-    );
+    assert_text(&rt, alloc, &letters, "IntoIter(['a', 'b', 'c'])");
     let mut numbers = list_of(&rt, alloc, &[1, 2, 3]).into_iter();
     assert_same(&rt, numbers.next(), Some(1));
-    assert_same(
-        &rt,
-        format!(in alloc; "{numbers:?}")
-            .expect(&rt, "memory")
-            .as_str(),
-        "IntoIter([2, 3])",
-    );
+    assert_text(&rt, alloc, &numbers, "IntoIter([2, 3])");
 }
 
 #[cfg(test)]

@@ -1,4 +1,5 @@
 //! The names that a program takes from the crate, and the traits that it relies on: of each is one use.
+use crate::standing::assert_same;
 use std::alloc::{AllocError, Allocator, Global};
 use std::convert::AsSlice;
 use std::error::Error;
@@ -44,11 +45,11 @@ fn names_and_traits_are_there(rt: HostRuntime) {
     let alloc = rt.alloc();
     let list: ThinVec<u8, Global, Doubling> = thin_vec![alloc => 1, 2].expect(&rt, "memory");
     is_a_list(&list);
-    assert_eq!(rt; of_a_rule::<Doubling, Global>(&list), 2);
+    assert_same(&rt, of_a_rule::<Doubling, Global>(&list), 2);
     let items: IntoIter<u8, Global, Doubling> = list.into_iter();
     is_an_iterator(&items);
     is_a_cause(&ThinVecError::OutOfMemory);
-    assert!(rt; fits::<u8>(3));
+    assert_same(&rt, fits::<u8>(3), true);
 }
 
 #[test]

@@ -1,5 +1,5 @@
 //! Which requests `refusing` refuses, and what it counts.
-use crate::standing::{assert_items, assert_same};
+use crate::standing::{assert_counts, assert_items, assert_same};
 use refusing::Refusing;
 use std::alloc::Allocator;
 use std::process::Abort;
@@ -95,9 +95,9 @@ fn each_number_refuses_its_own_request(rt: HostRuntime) {
         for request in 1..10 {
             let mut one = Vec::new(&refusing);
             let answer = (refused, request, one.push(request).is_ok());
-            assert_eq!(rt; answer, (refused, request, request != refused));
+            assert_same(&rt, answer, (refused, request, request != refused));
             kept.push(one).ok().expect(&rt, "memory");
         }
-        assert_eq!(rt; (refusing.requests(), refusing.blocks()), (9, 8));
+        assert_counts(&rt, &refusing, 9, 8);
     }
 }

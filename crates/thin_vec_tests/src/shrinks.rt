@@ -2,22 +2,28 @@
 use crate::items::push_all;
 use crate::standing::assert_same;
 use std::alloc::Global;
+use std::process::Abort;
 use thin_vec::ThinVec;
+
+// Asserts whether the list owns a block.
+fn assert_owns_block<T>(rt: &impl Abort, list: &ThinVec<T>, owns_block: bool) {
+    assert_same(rt, list.has_capacity(), owns_block);
+}
 
 // By `has_capacity`.
 #[test]
 fn test_alloc(rt: HostRuntime) {
     let alloc = rt.alloc();
     let mut list = ThinVec::new(alloc);
-    assert_same(&rt, list.has_capacity(), false);
+    assert_owns_block(&rt, &list, false);
     push_all(&rt, &mut list, 0..1);
-    assert_same(&rt, list.has_capacity(), true);
+    assert_owns_block(&rt, &list, true);
     assert_same(&rt, list.pop(), Some(0));
-    assert_same(&rt, list.has_capacity(), true);
+    assert_owns_block(&rt, &list, true);
     list.shrink_to_fit().expect(&rt, "memory");
-    assert_same(&rt, list.has_capacity(), false);
+    assert_owns_block(&rt, &list, false);
     list.reserve(64).expect(&rt, "memory");
-    assert_same(&rt, list.has_capacity(), true);
+    assert_owns_block(&rt, &list, true);
 
     for (capacity, owns_block) in [(64, true), (0, false)] {
         let list = ThinVec::<u32, Global>::with_capacity(alloc, capacity).expect(&rt, "memory");

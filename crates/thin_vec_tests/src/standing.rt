@@ -18,6 +18,12 @@ pub fn assert_items<T: PartialEq + Debug>(rt: &impl Abort, items: &[T], wanted: 
     assert_eq!(rt; items, wanted);
 }
 
+/// Asserts how the value is printed in one line.
+pub fn assert_text<D: Debug>(rt: &impl Abort, alloc: Global, value: &D, line: &str) {
+    let text = format!(in alloc; "{value:?}").expect(rt, "memory");
+    assert_same(rt, text.as_str(), line);
+}
+
 /// Asserts how many items the list has, which a call on a range of them asks for.
 pub fn assert_len<T, A: Allocator, G: Growth>(rt: &impl Abort, list: &ThinVec<T, A, G>, len: usize)
     ensures len { length list.now.items ≡ len }

@@ -1,6 +1,6 @@
 //! How a list, and the iterator that it becomes, are printed: in one line and in many, with items and without.
 use crate::items::list_of;
-use crate::standing::assert_same;
+use crate::standing::{assert_same, assert_text};
 use std::alloc::Global;
 use std::fmt::Debug;
 use std::process::Abort;
@@ -8,8 +8,7 @@ use thin_vec::ThinVec;
 
 // Asserts both texts of a value.
 fn assert_texts<D: Debug>(rt: &impl Abort, alloc: Global, value: &D, line: &str, lines: &str) {
-    let text = format!(in alloc; "{value:?}").expect(rt, "memory");
-    assert_same(rt, text.as_str(), line);
+    assert_text(rt, alloc, value, line);
     let text = format!(in alloc; "{value:#?}").expect(rt, "memory");
     assert_same(rt, text.as_str(), lines);
 }
