@@ -1,7 +1,7 @@
 //! Which requests `refusing` refuses, and what it counts.
 use crate::standing::{assert_counts, assert_items, assert_same};
 use refusing::Refusing;
-use std::alloc::Allocator;
+use std::alloc::{Allocator, Global};
 use std::process::Abort;
 
 // Pushes, and asserts whether that was granted.
@@ -14,6 +14,21 @@ fn assert_reserve<A: Allocator>(rt: &impl Abort, items: &mut Vec<u8, A>, granted
     assert_same(rt, items.reserve(1000).is_ok(), granted);
 }
 
+// Asserts what the `Vec` holds.
+fn assert_holds<A: Allocator>(rt: &impl Abort, items: &Vec<u8, A>, wanted: &[u8]) {
+    assert_items(rt, items.as_slice(), wanted);
+}
+
+// Asserts how many requests were made.
+fn assert_requests(rt: &impl Abort, refusing: &Refusing<Global>, requests: u64) {
+    assert_same(rt, refusing.requests(), requests);
+}
+
+// Asserts how many blocks are out.
+fn assert_blocks(rt: &impl Abort, refusing: &Refusing<Global>, blocks: u64) {
+    assert_same(rt, refusing.blocks(), blocks);
+}
+
 #[test]
 fn only_the_second_request_is_refused(rt: HostRuntime) {
     let refusing = Refusing::new(rt.alloc(), 2);
@@ -22,13 +37,14 @@ fn only_the_second_request_is_refused(rt: HostRuntime) {
 
     assert_push(&rt, &mut one, 1, true);
     assert_push(&rt, &mut other, 2, false);
-    assert_items(&rt, other.as_slice(), &[]);
-    assert_same(&rt, (other.capacity(), refusing.requests()), (0, 2));
+    assert_holds(&rt, &other, &[]);
+    assert_same(&rt, other.capacity(), 0);
+    assert_requests(&rt, &refusing, 2);
 
     assert_push(&rt, &mut other, 3, true);
-    assert_items(&rt, other.as_slice(), &[3]);
-    assert_items(&rt, one.as_slice(), &[1]);
-    assert_same(&rt, refusing.requests(), 3);
+    assert_holds(&rt, &other, &[3]);
+    assert_holds(&rt, &one, &[1]);
+    assert_requests(&rt, &refusing, 3);
 }
 
 #[test]
@@ -36,19 +52,28 @@ fn a_refused_growth_changes_nothing(rt: HostRuntime) {
     let refusing = Refusing::new(rt.alloc(), 0);
     let mut one = Vec::new(&refusing);
     assert_push(&rt, &mut one, 1, true);
-    assert_same(&rt, refusing.requests(), 1);
+    assert_requests(&rt, &refusing, 1);
 
     refusing.refuse(1);
-    assert_same(&rt, refusing.requests(), 0);
+    assert_requests(&rt, &refusing, 0);
     let capacity = one.capacity();
     assert_reserve(&rt, &mut one, false);
-    assert_items(&rt, one.as_slice(), &[1]);
+    assert_holds(&rt, &one, &[1]);
     assert_same(&rt, one.capacity(), capacity);
 
     assert_reserve(&rt, &mut one, true);
-    assert_items(&rt, one.as_slice(), &[1]);
+    assert_holds(&rt, &one, &[1]);
     assert_same(&rt, one.capacity() >= 1001, true);
-    assert_same(&rt, refusing.requests(), 2);
+    assert_requests(&rt, &refusing, 2);
+}
+
+// Pushes to a `Vec` of its own, and asserts how many blocks are out by the refusal, and by the push after it.
+fn assert_blocks_by_pushes(rt: &impl Abort, refusing: &Refusing<Global>) {
+    let mut other = Vec::new(refusing);
+    assert_push(rt, &mut other, 2, false);
+    assert_blocks(rt, refusing, 1);
+    assert_push(rt, &mut other, 2, true);
+    assert_blocks(rt, refusing, 2);
 }
 
 #[test]
@@ -56,20 +81,27 @@ fn counts_the_blocks_that_are_out(rt: HostRuntime) {
     let refusing = Refusing::new(rt.alloc(), 0);
     {
         let mut one = Vec::new(&refusing);
-        assert_same(&rt, refusing.blocks(), 0);
+        assert_blocks(&rt, &refusing, 0);
         assert_push(&rt, &mut one, 1, true);
-        assert_same(&rt, refusing.blocks(), 1);
+        assert_blocks(&rt, &refusing, 1);
         assert_reserve(&rt, &mut one, true);
-        assert_same(&rt, refusing.blocks(), 1);
+        assert_blocks(&rt, &refusing, 1);
 
         refusing.refuse(1);
-        let mut other = Vec::new(&refusing);
-        for (granted, blocks) in [(false, 1), (true, 2)] {
-            assert_push(&rt, &mut other, 2, granted);
-            assert_same(&rt, refusing.blocks(), blocks);
-        }
+        assert_blocks_by_pushes(&rt, &refusing);
     }
-    assert_same(&rt, refusing.blocks(), 0);
+    assert_blocks(&rt, &refusing, 0);
+}
+
+// Asserts how many requests `outer` has had, and how many blocks are out of it and of `inner`.
+fn assert_both(
+    rt: &impl Abort,
+    outer: &Refusing<&Refusing<Global>>,
+    inner: &Refusing<Global>,
+    wanted: (u64, u64, u64),
+) {
+    let counts = (outer.requests(), outer.blocks(), inner.blocks());
+    assert_same(rt, counts, wanted);
 }
 
 #[test]
@@ -77,14 +109,10 @@ fn a_block_that_inner_refuses_is_not_counted(rt: HostRuntime) {
     let inner = Refusing::new(rt.alloc(), 1);
     let outer = Refusing::new(&inner, 0);
     let mut items = Vec::new(&outer);
-    for (granted, counts) in [(false, (1, 0, 0)), (true, (2, 1, 1))] {
-        assert_push(&rt, &mut items, 1, granted);
-        assert_same(
-            &rt,
-            (outer.requests(), outer.blocks(), inner.blocks()),
-            counts,
-        );
-    }
+    assert_push(&rt, &mut items, 1, false);
+    assert_both(&rt, &outer, &inner, (1, 0, 0));
+    assert_push(&rt, &mut items, 1, true);
+    assert_both(&rt, &outer, &inner, (2, 1, 1));
 }
 
 #[test]

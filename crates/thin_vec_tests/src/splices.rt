@@ -159,7 +159,7 @@ fn assert_spliced(
 
 #[test]
 fn what_a_splice_leaves(rt: HostRuntime) {
-    for (given, lower, items, capacity, requests) in DONE {
+    for &(given, lower, items, capacity, requests) in &DONE {
         let answers = TEN_TO_FOURTEEN.get(..given).expect(&rt, "a range");
         for ends in [(false, false), (true, false), (false, true), (true, true)] {
             let asked = Cell::new(0);
@@ -230,7 +230,7 @@ fn assert_splice_refused(
 
 #[test]
 fn what_a_refused_finish_leaves(rt: HostRuntime) {
-    for (lower, request, items, capacity, held, in_hand, rest) in REFUSED {
+    for &(lower, request, items, capacity, held, in_hand, rest) in &REFUSED {
         let refusing = Refusing::new(rt.alloc(), request);
         let asked = Cell::new(0);
         let iter = Answers::new(&TEN_TO_FOURTEEN, lower, &asked);
@@ -253,24 +253,27 @@ fn row_12_splice_refused(rt: HostRuntime) {
     assert_splice_refused(&rt, &refusing, iter, (&[1, 2, 10, 11, 5], 5), wanted);
 }
 
-// Puts what `iter` gives in the place of a range, and asserts what the list has by the refusal, and what that hands back.
+// Puts what `iter` gives in the place of a range of the items, and asserts what their list has by the refusal, and what that
+// hands back.
 #[cfg(test)]
-fn assert_range_refused<A: Allocator>(
+fn assert_range_refused<A: Allocator + Copy>(
     rt: &impl Abort,
-    list: &mut ThinVec<i32, A>,
+    alloc: A,
+    items: &[i32],
     range: (usize, usize),
     iter: Answers<'_>,
-    alloc: A,
     left: (&[i32], usize),
     wanted: (ThinVecError, &[i32], Option<i32>, &[i32]),
 )
     requires start_le_end { range.0 ≤ range.1 }
-    requires in_bounds { range.1 ≤ length list.old.items }
+    requires in_bounds { range.1 ≤ length items.now }
 {
-    let refused = splice_by(list, range, iter, alloc)
+    let mut list = list_of(rt, alloc, items);
+    assert_len(rt, &list, items.len());
+    let refused = splice_by(&mut list, range, iter, alloc)
         .err()
         .expect(rt, "accepted");
-    assert_list(rt, list, left.0, left.1);
+    assert_list(rt, &list, left.0, left.1);
     assert_refused(rt, refused, wanted);
 }
 
@@ -288,12 +291,20 @@ fn row_39_splice_refused(rt: HostRuntime) {
     // The list's first memory, the vector's, and then the list's growth.
     let refusing = Refusing::new(rt.alloc(), 3);
     let asked = Cell::new(0);
-    let mut list = list_of(&rt, &refusing, &[1, 2, 3]);
     let iter = Answers::new(&[Some(7), Some(8), Some(9)], 0, &asked);
-    assert_len(&rt, &list, 3);
     let left = (&[1, 7, 3][..], 3);
     let wanted = (ThinVecError::OutOfMemory, &[8, 9][..], None, &[][..]);
-    assert_range_refused(&rt, &mut list, (1, 2), iter, &refusing, left, wanted);
+    assert_range_refused(&rt, &refusing, &[1, 2, 3], (1, 2), iter, left, wanted);
+}
+
+// Puts the one item that `iter` gives in the place of two of three.
+#[cfg(test)]
+fn assert_nine_spliced(rt: &impl Abort, alloc: Global, iter: Answers<'_>) {
+    let mut list = list_of(rt, alloc, &[1, 2, 3]);
+    assert_len(rt, &list, 3);
+    let done = splice_by(&mut list, (0, 2), iter, alloc);
+    done.ok().expect(rt, "refused");
+    assert_list(rt, &list, &[9, 3], 3);
 }
 
 #[test]
@@ -301,38 +312,29 @@ fn the_hint_is_asked_only_once_the_range_is_full(rt: HostRuntime) {
     let alloc = rt.alloc();
     let asked = Cell::new(0);
     let nine = [Some(9)];
-    let mut list = list_of(&rt, alloc, &[1, 2, 3]);
     let iter = Answers::new(&nine, usize::MAX, &asked);
-    assert_len(&rt, &list, 3);
-    let done = splice_by(&mut list, (0, 2), iter, alloc);
-    done.ok().expect(&rt, "refused");
-    assert_list(&rt, &list, &[9, 3], 3);
+    assert_nine_spliced(&rt, alloc, iter);
     assert_same(&rt, asked.get(), 2);
 
-    let mut list = list_of(&rt, alloc, &[1, 2, 3]);
     let iter = Answers::new(&nine, usize::MAX, &asked);
-    assert_len(&rt, &list, 3);
     let left = (&[9, 2, 3][..], 3);
-    assert_range_refused(&rt, &mut list, (0, 1), iter, alloc, left, OVERFLOW);
+    assert_range_refused(&rt, alloc, &[1, 2, 3], (0, 1), iter, left, OVERFLOW);
 }
 
 #[test]
 fn with_nothing_behind_the_range_it_is_an_extend(rt: HostRuntime) {
     let alloc = rt.alloc();
     let asked = Cell::new(0);
-    let mut list: ThinVec<i32> = ThinVec::new(alloc);
     let nothing = Answers::new(&[], usize::MAX, &asked);
     let left = (&[][..], 0);
-    assert_range_refused(&rt, &mut list, (0, 0), nothing, alloc, left, OVERFLOW);
+    assert_range_refused(&rt, alloc, &[], (0, 0), nothing, left, OVERFLOW);
 
     // 1 stays, and the two of the range go. The second request is a growth.
     let refusing = Refusing::new(alloc, 2);
-    let mut list = list_of(&rt, &refusing, &[1, 2, 3]);
     let iter = Answers::new(&TEN_TO_FOURTEEN, 0, &asked);
-    assert_len(&rt, &list, 3);
     let left = (&[1, 10, 11][..], 3);
     let wanted = (ThinVecError::OutOfMemory, &[][..], Some(12), &[13, 14][..]);
-    assert_range_refused(&rt, &mut list, (1, 3), iter, &refusing, left, wanted);
+    assert_range_refused(&rt, &refusing, &[1, 2, 3], (1, 3), iter, left, wanted);
 }
 
 // Puts so many numbers in the place of the second item.

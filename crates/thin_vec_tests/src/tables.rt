@@ -132,21 +132,31 @@ fn a_refused_table_is_none(rt: HostRuntime) {
     }
 }
 
+// Removes both entries of the row 1, and asserts what is left of it each time.
+fn empty_row<A: Allocator>(rt: &impl Abort, table: &mut Rows<u32, A>) {
+    assert_removed(rt, table, (1, 2), Some(20));
+    assert_entries(rt, table, 1, &[(7, 10)]);
+    assert_removed(rt, table, (1, 7), Some(10));
+    assert_entries(rt, table, 1, &[]);
+}
+
+// Sets two entries of the row 1, and one of the row 2.
+fn fill_rows<A: Allocator>(rt: &impl Abort, table: &mut Rows<u32, A>) {
+    assert_set(rt, table, (1, 7), 10, None);
+    assert_set(rt, table, (1, 2), 20, None);
+    assert_set(rt, table, (2, 2), 30, None);
+}
+
 #[test]
 fn a_row_gives_its_block_back_with_its_last_entry(rt: HostRuntime) {
     let refusing = Refusing::new(rt.alloc(), 0);
     {
         let mut table = Rows::with_rows(&refusing, 3).expect(&rt, "memory");
         assert_counts(&rt, &refusing, 1, 1);
-        for (place, value) in [((1, 7), 10), ((1, 2), 20), ((2, 2), 30)] {
-            assert_set(&rt, &mut table, place, value, None);
-        }
+        fill_rows(&rt, &mut table);
         assert_counts(&rt, &refusing, 3, 3);
         assert_same(&rt, table.len(), 3);
-        for (column, value, left) in [(2, 20, &[(7, 10)][..]), (7, 10, &[][..])] {
-            assert_removed(&rt, &mut table, (1, column), Some(value));
-            assert_entries(&rt, &table, 1, left);
-        }
+        empty_row(&rt, &mut table);
         assert_counts(&rt, &refusing, 3, 2);
         assert_set(&rt, &mut table, (1, 9), 40, None);
         assert_counts(&rt, &refusing, 4, 3);
