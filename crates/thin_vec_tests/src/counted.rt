@@ -1,4 +1,5 @@
 //! An item that counts its drops.
+use crate::items::push;
 use std::alloc::Global;
 use std::cell::Cell;
 use std::process::Abort;
@@ -31,7 +32,7 @@ pub fn counted_list<'a>(
 ) -> ThinVec<Counted<'a>> {
     let mut list = ThinVec::new(alloc);
     for _ in 0..len {
-        list.push(Counted::new(drops)).ok().expect(rt, "memory");
+        push(rt, &mut list, Counted::new(drops));
     }
     list
 }

@@ -6,7 +6,7 @@ ghost use Rattle.thin_vec.specs.Drain.{drain_lender};
 #[cfg(test)]
 use crate::counted::counted_list;
 #[cfg(test)]
-use crate::items::list_of;
+use crate::items::{list_of, push};
 #[cfg(test)]
 use crate::standing::{assert_items, assert_len, assert_list, assert_same, assert_text};
 use std::alloc::{AllocError, Allocator, Global};
@@ -404,7 +404,7 @@ fn a_forgotten_drain_leaves_a_list(rt: HostRuntime) {
     let mut list = list_of(&rt, rt.alloc(), &[1, 2, 3]);
     assert_len(&rt, &list, 3);
     mem::forget(list.drain(1, 2));
-    list.push(9).ok().expect(&rt, "memory");
+    push(&rt, &mut list, 9);
     assert_same(&rt, list.as_slice().last(), Some(&9));
 }
 

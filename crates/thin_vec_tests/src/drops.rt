@@ -1,6 +1,6 @@
 //! Each item is dropped once, by the list or by whoever it was handed out to, and each block is given back.
 use crate::counted::{Counted, counted_list};
-use crate::items::push_all;
+use crate::items::{push, push_all};
 use crate::standing::{assert_len, assert_same};
 use refusing::Refusing;
 use std::alloc::Global;
@@ -57,16 +57,8 @@ fn test_double_drop(rt: HostRuntime) {
             early: ThinVec::new(rt.alloc()),
             late: ThinVec::new(rt.alloc()),
         };
-        lists
-            .early
-            .push(Counted::new(&early_drops))
-            .ok()
-            .expect(&rt, "memory");
-        lists
-            .late
-            .push(Counted::new(&late_drops))
-            .ok()
-            .expect(&rt, "memory");
+        push(&rt, &mut lists.early, Counted::new(&early_drops));
+        push(&rt, &mut lists.late, Counted::new(&late_drops));
         drop(lists.early);
         assert_same(&rt, (early_drops.get(), late_drops.get()), (1, 0));
     }
@@ -95,7 +87,7 @@ fn gives_the_blocks_of_inner_lists_back(rt: HostRuntime) {
         for items in 0..6 {
             let mut list = ThinVec::new(&refusing);
             push_all(&rt, &mut list, 0..items);
-            lists.push(list).ok().expect(&rt, "memory");
+            push(&rt, &mut lists, list);
         }
         assert_same(&rt, refusing.blocks(), 6);
         lists.truncate(3);

@@ -1,5 +1,5 @@
 //! `retain` and `dedup`, in their forms: what no clause says, and the cases of the Rust crate's own tests.
-use crate::items::{boxes_of, list_of, push_all};
+use crate::items::{boxes_of, list_of, push, push_all};
 use crate::last_digits::LastDigit;
 use crate::standing::{assert_items, assert_list, assert_same};
 use std::alloc::Global;
@@ -150,9 +150,7 @@ fn judges_may_count_their_calls(rt: HostRuntime) {
 fn digits(rt: &impl Abort, alloc: Global, numbers: &[u32]) -> ThinVec<LastDigit, Global> {
     let mut list = ThinVec::new(alloc);
     for number in numbers {
-        list.push(LastDigit { number: *number })
-            .ok()
-            .expect(rt, "memory");
+        push(rt, &mut list, LastDigit { number: *number });
     }
     list
 }

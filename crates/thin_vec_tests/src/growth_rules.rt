@@ -1,4 +1,5 @@
 //! Lists under each growth rule: the two that the list gives, and two of the tests.
+use crate::items::push;
 use crate::standing::{assert_items, assert_same};
 use other_rules::{Fourfold, Threefold};
 use std::alloc::Global;
@@ -15,7 +16,7 @@ fn assert_grows<T: Copy + Drop, G: Growth>(
     let mut list = ThinVec::<T, Global, G>::ruled(alloc);
     for &capacity in capacities {
         for _ in list.len()..capacity {
-            list.push(item).ok().expect(rt, "memory");
+            push(rt, &mut list, item);
             assert_same(rt, list.capacity(), capacity);
         }
     }

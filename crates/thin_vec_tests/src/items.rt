@@ -17,6 +17,15 @@ pub fn list_of<T: Copy + Drop, A: Allocator>(
     ThinVec::from_copies(alloc, items).expect(rt, "memory")
 }
 
+/// Pushes the item, and asserts that there is memory for it.
+pub fn push<T: Drop, A: Allocator, G: Growth>(
+    rt: &impl Abort,
+    list: &mut ThinVec<T, A, G>,
+    item: T,
+) {
+    list.push(item).ok().expect(rt, "memory");
+}
+
 /// Pushes each number of the range, and asserts that there is memory for it.
 pub fn push_all<A: Allocator, G: Growth>(
     rt: &impl Abort,
@@ -24,7 +33,7 @@ pub fn push_all<A: Allocator, G: Growth>(
     items: Range<i32>,
 ) {
     for item in items {
-        list.push(item).ok().expect(rt, "memory");
+        push(rt, list, item);
     }
 }
 

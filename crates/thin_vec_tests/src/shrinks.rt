@@ -1,5 +1,5 @@
 //! `shrink_to_fit`: what it leaves.
-use crate::items::push_all;
+use crate::items::{push, push_all};
 use crate::standing::assert_same;
 use std::alloc::Global;
 use std::process::Abort;
@@ -35,7 +35,7 @@ fn test_alloc(rt: HostRuntime) {
 #[test]
 fn overaligned_allocations(rt: HostRuntime) {
     let mut list = ThinVec::new(rt.alloc());
-    list.push(273u128).ok().expect(&rt, "memory");
+    push(&rt, &mut list, 273u128);
     for i in 0..4096 {
         list.reserve_exact(i).expect(&rt, "memory");
         assert_same(&rt, (i, list.as_slice()), (i, &[273]));

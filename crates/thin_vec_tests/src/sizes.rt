@@ -1,4 +1,5 @@
 //! How wide a list is, and items that are not wide at all.
+use crate::items::push;
 use crate::standing::assert_same;
 use std::alloc::Global;
 use std::mem::size_of;
@@ -15,7 +16,7 @@ fn a_list_is_one_pointer_wide(rt: HostRuntime) {
 fn zero_sized_values(rt: HostRuntime) {
     let mut list = ThinVec::new(rt.alloc());
     for _ in 0..2 {
-        list.push(()).ok().expect(&rt, "memory");
+        push(&rt, &mut list, ());
     }
     assert_same(
         &rt,
@@ -24,7 +25,7 @@ fn zero_sized_values(rt: HostRuntime) {
     );
 
     for _ in 0..4 {
-        list.push(()).ok().expect(&rt, "memory");
+        push(&rt, &mut list, ());
     }
     assert_same(&rt, list.as_slice().iter().count(), 4);
     list.clear();

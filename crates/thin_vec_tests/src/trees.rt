@@ -1,5 +1,6 @@
 //! A list inside the type that it holds.
 use crate::counted::Counted;
+use crate::items::push;
 use crate::standing::assert_same;
 use std::alloc::Global;
 use std::cell::Cell;
@@ -42,7 +43,7 @@ fn parent<'a>(rt: &impl Abort, alloc: Global, tag: u32, drops: &'a Cell<u32>) ->
     let mut node = leaf(alloc, tag, drops);
     for inner in 2..tag {
         let child = leaf(alloc, inner.saturating_mul(10), drops);
-        node.children.push(child).ok().expect(rt, "memory");
+        push(rt, &mut node.children, child);
     }
     node
 }
@@ -55,7 +56,7 @@ fn a_tree_drops_each_node_once(rt: HostRuntime) {
         let mut root = leaf(alloc, 1, &drops);
         for tag in 2..5 {
             let child = parent(&rt, alloc, tag, &drops);
-            root.children.push(child).ok().expect(&rt, "memory");
+            push(&rt, &mut root.children, child);
         }
         assert_same(&rt, count(&root), 7);
         assert_same(&rt, sum_of_tags(&root), 80);

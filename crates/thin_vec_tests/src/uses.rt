@@ -1,5 +1,5 @@
 //! Each use of `thin_vec_uses`, once.
-use crate::items::list_of;
+use crate::items::{list_of, push};
 use crate::standing::{assert_items, assert_len, assert_same};
 use refusing::Refusing;
 use std::alloc::Global;
@@ -37,7 +37,7 @@ fn a_leaf_owns_no_block(rt: HostRuntime) {
 fn roomy(rt: &impl Abort, alloc: Global, rules: &[u32]) -> ThinVec<u32> {
     let mut style = ThinVec::with_capacity(alloc, 10).expect(rt, "memory");
     for rule in rules {
-        style.push(*rule).ok().expect(rt, "memory");
+        push(rt, &mut style, *rule);
     }
     style
 }
