@@ -237,7 +237,7 @@ fn test_drain_inclusive_range_to_the_first(rt: HostRuntime) {
 #[test]
 fn test_drain_inclusive_range_of_texts(rt: HostRuntime) {
     let all = ["0", "1", "2", "3", "4", "5"];
-    for (first, last, given, left) in [
+    for &(first, last, given, left) in &[
         (1, 5, &all[1..], &all[..1]),
         (0, 5, &all[..], &all[..0]),
         (0, 3, &all[..4], &all[4..]),
@@ -251,7 +251,7 @@ fn test_drain_inclusive_range_of_texts(rt: HostRuntime) {
 #[test]
 fn a_range_that_is_not_there_has_no_drain(rt: HostRuntime) {
     let mut list = list_of(&rt, rt.alloc(), &[1, 2, 3]);
-    for (start, end) in [
+    for &(start, end) in &[
         (Bound::Included(3), Bound::Excluded(2)),
         (Bound::Unbounded, Bound::Included(3)),
         (Bound::Excluded(usize::MAX), Bound::Unbounded),

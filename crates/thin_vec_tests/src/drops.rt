@@ -34,7 +34,7 @@ fn test_vec_truncate_drop(rt: HostRuntime) {
     let drops = Cell::new(0);
     {
         let mut list = counted_list(&rt, rt.alloc(), &drops, 5);
-        for (len, dropped) in [(3, 2), (0, 5)] {
+        for &(len, dropped) in &[(3, 2), (0, 5)] {
             list.truncate(len);
             assert_same(&rt, drops.get(), dropped);
         }
@@ -68,7 +68,7 @@ fn test_double_drop(rt: HostRuntime) {
 #[test]
 fn gives_each_block_back(rt: HostRuntime) {
     let refusing = Refusing::new(rt.alloc(), 0);
-    for (items, left, blocks) in [(0, 0, 0), (1, 1, 1), (50, 50, 1), (50, 3, 1), (50, 0, 1)] {
+    for &(items, left, blocks) in &[(0, 0, 0), (1, 1, 1), (50, 50, 1), (50, 3, 1), (50, 0, 1)] {
         {
             let mut list = ThinVec::new(&refusing);
             push_all(&rt, &mut list, 0..items);

@@ -3,11 +3,11 @@ use crate::answers::Answers;
 use crate::counted::Counted;
 use crate::standing::{assert_counts, assert_list, assert_same};
 use refusing::Refusing;
-use std::alloc::Global;
+use std::alloc::{Allocator, Global};
 use std::cell::Cell;
 use std::iter::once;
 use std::process::Abort;
-use thin_vec::{ExtendRefused, ThinVec, ThinVecError};
+use thin_vec::{CollectRefused, ExtendRefused, ThinVec, ThinVecError};
 
 // Extends a list by an item that counts its drop.
 fn extend_counted(rt: &impl Abort, alloc: Global, drops: &Cell<u32>) {
@@ -55,6 +55,16 @@ fn test_collect_capacity(rt: HostRuntime) {
     }
 }
 
+// Asserts that no item was drawn, as the lower bound alone was too great.
+fn assert_nothing_collected<A: Allocator>(
+    rt: &impl Abort,
+    refused: CollectRefused<i32, Answers<'_>, A>,
+) {
+    assert_list(rt, &refused.list, &[], 0);
+    let wanted = (ThinVecError::CapacityOverflow, None);
+    assert_same(rt, (refused.cause, refused.in_hand), wanted);
+}
+
 #[test]
 fn a_from_iter_that_overflows_asks_for_nothing(rt: HostRuntime) {
     let refusing = Refusing::new(rt.alloc(), 0);
@@ -62,12 +72,7 @@ fn a_from_iter_that_overflows_asks_for_nothing(rt: HostRuntime) {
     let refused = ThinVec::from_iter(&refusing, Answers::new(&[Some(1)], usize::MAX, &asked))
         .err()
         .expect(&rt, "accepted");
-    assert_list(&rt, &refused.list, &[], 0);
-    assert_same(
-        &rt,
-        (refused.cause, refused.in_hand),
-        (ThinVecError::CapacityOverflow, None),
-    );
+    assert_nothing_collected(&rt, refused);
     assert_same(&rt, (asked.get(), refusing.requests()), (0, 0));
 }
 

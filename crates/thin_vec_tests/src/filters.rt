@@ -110,7 +110,7 @@ fn asks_for_keys_in_order(rt: HostRuntime) {
 // Neither a list without items nor one of a single item is asked about by the dedup family.
 #[test]
 fn asks_nothing_of_fewer_than_two_items(rt: HostRuntime) {
-    for (end, len) in [(0, 0), (1, 1)] {
+    for &(end, len) in &[(0, 0), (1, 1)] {
         let mut list = ThinVec::new(rt.alloc());
         push_all(&rt, &mut list, 0..end);
         let calls = Cell::new(0u32);

@@ -108,14 +108,27 @@ fn test_into_iter_count(rt: HostRuntime) {
 
 // Clones what remains, and asserts the items of the clone.
 #[cfg(test)]
-fn assert_cloned<'a>(
+fn assert_cloned<A: Allocator>(
     rt: &impl Abort,
-    items: &IntoIter<i32, &'a Refusing<Global>>,
-    alloc: &'a Refusing<Global>,
+    items: &IntoIter<i32, A>,
+    alloc: A,
     wanted: &[i32],
 ) {
     let clone = items.clone(alloc).expect(rt, "memory");
     assert_items(rt, clone.as_slice(), wanted);
+}
+
+// Clones what remains of a walk over 1, 2, 3, before a step and after it, and walks to the end.
+#[cfg(test)]
+fn clone_between_steps<A: Allocator + Copy>(
+    rt: &impl Abort,
+    items: &mut IntoIter<i32, A>,
+    alloc: A,
+) {
+    assert_cloned(rt, items, alloc, &[1, 2, 3]);
+    assert_same(rt, items.next(), Some(1));
+    assert_cloned(rt, items, alloc, &[2, 3]);
+    assert_same(rt, (items.next_back(), items.next()), (Some(3), Some(2)));
 }
 
 #[test]
@@ -125,10 +138,7 @@ fn test_into_iter_clone(rt: HostRuntime) {
     let mut items = list_of(&rt, alloc, &[1, 2, 3]).into_iter();
     assert_same(&rt, items.clone(alloc).is_err(), true);
     assert_same(&rt, refusing.blocks(), 1);
-    assert_cloned(&rt, &items, alloc, &[1, 2, 3]);
-    assert_same(&rt, items.next(), Some(1));
-    assert_cloned(&rt, &items, alloc, &[2, 3]);
-    assert_same(&rt, (items.next_back(), items.next()), (Some(3), Some(2)));
+    clone_between_steps(&rt, &mut items, alloc);
     refusing.refuse(1);
     assert_cloned(&rt, &items, alloc, &[]);
 }

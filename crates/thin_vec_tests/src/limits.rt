@@ -8,7 +8,7 @@ use thin_block::{Growth, PowerBytes, ThinVecError, first_capacity, fits, next_ca
 
 #[test]
 fn the_greatest_capacity_that_fits(rt: HostRuntime) {
-    for (fitting, past) in [
+    for &(fitting, past) in &[
         (fits::<u8>((1 << 63) - 24), fits::<u8>((1 << 63) - 23)),
         (fits::<u16>((1 << 62) - 12), fits::<u16>((1 << 62) - 11)),
         (fits::<u32>((1 << 61) - 6), fits::<u32>((1 << 61) - 5)),
@@ -22,7 +22,7 @@ fn the_greatest_capacity_that_fits(rt: HostRuntime) {
 #[test]
 fn the_next_capacity(rt: HostRuntime) {
     assert_same(&rt, first_capacity::<u8>(), 4);
-    for (cap, want, next) in [(0, 1, 4), (3, 4, 6), (3, 13, 13), (4, 4, 4)] {
+    for &(cap, want, next) in &[(0, 1, 4), (3, 4, 6), (3, 13, 13), (4, 4, 4)] {
         let answer = (cap, want, next_capacity::<i32>(cap, want));
         assert_same(&rt, answer, (cap, want, Some(next)));
     }
@@ -41,7 +41,7 @@ fn the_next_capacity(rt: HostRuntime) {
 #[test]
 fn the_last_power_of_two(rt: HostRuntime) {
     let last = (1 << 62) - 16;
-    for (want, of_powers, doubled) in [
+    for &(want, of_powers, doubled) in &[
         (last, Some(last), Some(last)),
         (last + 1, None, Some(last + 1)),
     ] {
@@ -53,7 +53,7 @@ fn the_last_power_of_two(rt: HostRuntime) {
 
 #[test]
 fn the_errors(rt: HostRuntime) {
-    for (error, wanted) in [
+    for &(error, wanted) in &[
         (ThinVecError::CapacityOverflow, "capacity overflow"),
         (ThinVecError::OutOfMemory, "out of memory"),
     ] {

@@ -25,7 +25,7 @@ fn test_alloc(rt: HostRuntime) {
     list.reserve(64).expect(&rt, "memory");
     assert_owns_block(&rt, &list, true);
 
-    for (capacity, owns_block) in [(64, true), (0, false)] {
+    for &(capacity, owns_block) in &[(64, true), (0, false)] {
         let list = ThinVec::<u32, Global>::with_capacity(alloc, capacity).expect(&rt, "memory");
         assert_same(&rt, (capacity, list.has_capacity()), (capacity, owns_block));
     }

@@ -82,7 +82,7 @@ pub fn replace_and_undo<A: Allocator + Copy, G: Growth>(
 
 #[test]
 fn a_splice_is_undone(rt: HostRuntime) {
-    for (numbers, capacity) in [(&[][..], 3), (&[7][..], 3), (&[7, 8, 9][..], 6)] {
+    for &(numbers, capacity) in &[(&[][..], 3), (&[7][..], 3), (&[7, 8, 9][..], 6)] {
         let mut list = list_of(&rt, rt.alloc(), &[1, 2, 3]);
         assert_len(&rt, &list, 3);
         let undone = replace_and_undo(&mut list, 1, 2, numbers, rt.alloc());
@@ -161,7 +161,7 @@ fn assert_spliced(
 fn what_a_splice_leaves(rt: HostRuntime) {
     for &(given, lower, items, capacity, requests) in &DONE {
         let answers = TEN_TO_FOURTEEN.get(..given).expect(&rt, "a range");
-        for ends in [(false, false), (true, false), (false, true), (true, true)] {
+        for &ends in &[(false, false), (true, false), (false, true), (true, true)] {
             let asked = Cell::new(0);
             let iter = Answers::new(answers, lower, &asked);
             let left = (items, capacity);
