@@ -7,90 +7,126 @@ mod orders;
 mod random;
 mod samples;
 
+use crate::tests::samples::{Lender, put};
 use other_rules::{Fourfold, Threefold};
 use refusing::Refusing;
 use std::alloc::{Allocator, Global};
 use std::io;
 use std::io::{ErrorKind, Write};
 use std::process::{Abort, ExitCode};
-use std::test::Fail;
 use thin_runner::command::{Command, Reply};
 use thin_runner::judge::Judge;
 use thin_runner::runner::{run, step};
 use thin_vec::{Doubling, Growth, PowerBytes, ThinVec, ThinVecError, thin_vec};
 use worked_rows::reporting::{Status, report, report_rows, write_row};
-use worked_rows::rows::row;
+use worked_rows::rows::{Outcome, row};
+
+// These commands, in a list of their own.
+fn commands_of<A: Allocator, G: Growth, R: Abort, const N: usize>(
+    rt: &R,
+    alloc: A,
+    commands: [Command<u32, A, G>; N],
+) -> Vec<Command<u32, A, G>, A> {
+    Vec::from_array(alloc, commands).ok().expect(rt, "memory")
+}
+
+// Pushes of the numbers below `end`.
+fn pushes<A: Allocator, G: Growth, R: Abort>(
+    rt: &R,
+    alloc: A,
+    end: u32,
+) -> Vec<Command<u32, A, G>, A> {
+    let mut commands = Vec::new(alloc);
+    for item in 0..end {
+        put(&mut commands, Command::Push(item))
+            .ok()
+            .expect(rt, "memory");
+    }
+    commands
+}
+
+// The replies of a run that is not refused.
+fn replies_of<A: Allocator + Copy, G: Growth, R: Abort>(
+    rt: &R,
+    alloc: A,
+    list: &mut ThinVec<u32, A, G>,
+    commands: Vec<Command<u32, A, G>, A>,
+) -> Vec<Reply<u32, A, G>, A> {
+    let mut replies = Vec::new(alloc);
+    let ran = run(alloc, list, commands, &mut replies, &Agrees);
+    assert!(rt; ran.is_ok());
+    replies
+}
+
+// Asserts that the list has these items and this capacity.
+fn assert_holds<A: Allocator, R: Abort>(
+    rt: &R,
+    list: &ThinVec<u32, A>,
+    items: &[u32],
+    capacity: usize,
+) {
+    assert_eq!(rt; list.as_slice(), items);
+    assert_eq!(rt; list.capacity(), capacity);
+}
 
 #[test]
-fn runs_commands_in_order(rt: HostRuntime) -> Result<(), Fail> {
+fn runs_commands_in_order(rt: HostRuntime) {
     let alloc = rt.alloc();
     let mut list = ThinVec::new(alloc);
-    let mut replies = Vec::new(alloc);
-    let commands = vec![in alloc;
-        Command::Push(1),
-        Command::Push(2),
-        Command::Pop,
-        Command::Push(3),
-    ]?;
-    run(alloc, &mut list, commands, &mut replies, &Agrees)
-        .ok()
-        .ok_or("memory")?;
-    assert_eq!(rt; list.as_slice(), [1, 3].as_slice());
-    assert_eq!(rt; list.capacity(), 4);
+    let commands = commands_of(
+        &rt,
+        alloc,
+        [
+            Command::Push(1),
+            Command::Push(2),
+            Command::Pop,
+            Command::Push(3),
+        ],
+    );
+    let replies = replies_of(&rt, alloc, &mut list, commands);
+    assert_holds(&rt, &list, &[1, 3], 4);
     assert_eq!(rt; replies.len(), 4);
     let items = replies
         .iter()
         .filter(|reply| matches!(reply, Reply::Item(Some(2))))
         .count();
     assert_eq!(rt; items, 1);
-    Ok(())
 }
 
-// Five pushes and a pop under a growth rule, and the capacity that they leave.
-fn capacity_of_run<G: Growth>(alloc: Global) -> Result<usize, Fail> {
+// Asserts that five pushes and a pop under a growth rule leave that capacity.
+fn assert_capacity<G: Growth, R: Abort>(rt: &R, alloc: Global, capacity: usize) {
     let mut list = ThinVec::<u32, Global, G>::ruled(alloc);
-    let mut replies = Vec::new(alloc);
-    let mut commands = vec![in alloc; Command::Push(0)]?;
-    for item in 1..5 {
-        commands.push(Command::Push(item))?;
-    }
-    commands.push(Command::Pop)?;
-    run(alloc, &mut list, commands, &mut replies, &Agrees)
-        .ok()
-        .ok_or("memory")?;
-    match replies.pop() {
-        Some(Reply::Item(Some(4))) => Ok(list.capacity()),
-        _ => Ok(0),
-    }
+    let mut commands = pushes(rt, alloc, 5);
+    put(&mut commands, Command::Pop).ok().expect(rt, "memory");
+    let mut replies = replies_of(rt, alloc, &mut list, commands);
+    assert!(rt; matches!(replies.pop(), Some(Reply::Item(Some(4)))));
+    assert_eq!(rt; list.capacity(), capacity);
 }
 
 #[test]
-fn runs_under_each_growth_rule(rt: HostRuntime) -> Result<(), Fail> {
+fn runs_under_each_growth_rule(rt: HostRuntime) {
     let alloc = rt.alloc();
-    assert_eq!(rt; capacity_of_run::<Doubling>(alloc)?, 8);
-    assert_eq!(rt; capacity_of_run::<PowerBytes>(alloc)?, 12);
-    assert_eq!(rt; capacity_of_run::<Threefold>(alloc)?, 9);
-    assert_eq!(rt; capacity_of_run::<Fourfold>(alloc)?, 16);
-    Ok(())
+    assert_capacity::<Doubling, _>(&rt, alloc, 8);
+    assert_capacity::<PowerBytes, _>(&rt, alloc, 12);
+    assert_capacity::<Threefold, _>(&rt, alloc, 9);
+    assert_capacity::<Fourfold, _>(&rt, alloc, 16);
 }
 
 #[test]
-fn run_is_refused_room_for_its_replies(rt: HostRuntime) -> Result<(), Fail> {
+fn run_is_refused_room_for_its_replies(rt: HostRuntime) {
     let refusing = Refusing::new(rt.alloc(), 0);
     let alloc = &refusing;
     let mut list = ThinVec::new(alloc);
-    list.push(7).ok().ok_or("memory")?;
+    assert!(rt; list.push(7).is_ok());
     let mut replies = Vec::new(alloc);
-    let commands = vec![in alloc; Command::Push(1), Command::Pop]?;
+    let commands = commands_of(&rt, alloc, [Command::Push(1), Command::Pop]);
 
     refusing.refuse(1);
     let refused = run(alloc, &mut list, commands, &mut replies, &Agrees);
     assert!(rt; refused == Err(ThinVecError::OutOfMemory));
-    assert_eq!(rt; list.as_slice(), [7].as_slice());
-    assert_eq!(rt; list.capacity(), 4);
+    assert_holds(&rt, &list, &[7], 4);
     assert!(rt; replies.is_empty());
     assert_eq!(rt; refusing.requests(), 1);
-    Ok(())
 }
 
 // It holds what was written, and refuses one call.
@@ -134,69 +170,66 @@ fn assert_end(rt: &impl Abort, alloc: Global, end: ExitCode, status: u8) {
     assert_eq!(rt; text.as_str(), wanted.as_str());
 }
 
-#[test]
-fn reports_until_a_line_is_refused(rt: HostRuntime) -> Result<(), Fail> {
-    let alloc = rt.alloc();
-    let mut whole = String::new(alloc);
-    let mut calls = 0;
-    {
-        let mut out = Failing {
-            text: &mut whole,
-            calls: 0,
-            failing: 0,
-        };
-        assert_end(&rt, rt.alloc(), report(alloc, &mut out), 0);
-        calls = out.calls;
-    }
-    assert_eq!(rt; whole.as_str(), REPORT);
-    for failing in 1..calls.saturating_add(1) {
-        let mut text = String::new(alloc);
-        {
-            let mut out = Failing {
-                text: &mut text,
-                calls: 0,
-                failing,
-            };
-            assert_end(&rt, rt.alloc(), report(alloc, &mut out), 3);
-            assert_eq!(rt; out.calls, failing);
-        }
-        assert!(rt; REPORT.starts_with(text.as_str()), "at call {failing}");
-    }
-    Ok(())
+// Reports into `text`, of which the call of that number is refused, or none at 0. Asserts that the report ends with that status,
+// and answers how many calls it made.
+fn report_into<A: Allocator + Copy, R: Abort>(
+    rt: &R,
+    alloc: A,
+    text: &mut String,
+    failing: usize,
+    status: u8,
+) -> usize {
+    let global = *text.allocator();
+    let mut out = Failing {
+        text,
+        calls: 0,
+        failing,
+    };
+    assert_end(rt, global, report(alloc, &mut out), status);
+    out.calls
+}
+
+// Asserts that a report whose call of that number is refused wrote the whole report up to there.
+fn assert_written_until<R: Abort>(rt: &R, alloc: Global, failing: usize) {
+    let mut text = String::new(alloc);
+    let calls = report_into(rt, alloc, &mut text, failing, 3);
+    assert_eq!(rt; calls, failing);
+    assert!(rt; REPORT.starts_with(text.as_str()), "at call {failing}");
 }
 
 #[test]
-fn reports_memory_refused_at_any_request(rt: HostRuntime) -> Result<(), Fail> {
+fn reports_until_a_line_is_refused(rt: HostRuntime) {
+    let alloc = rt.alloc();
+    let mut whole = String::new(alloc);
+    let calls = report_into(&rt, alloc, &mut whole, 0, 0);
+    assert_eq!(rt; whole.as_str(), REPORT);
+    for failing in 1..calls.saturating_add(1) {
+        assert_written_until(&rt, alloc, failing);
+    }
+}
+
+// Asserts that a report whose request of that number is refused wrote the whole report up to there, and why it ends.
+fn assert_reported_until<R: Abort>(rt: &R, alloc: Global, nth: u64) {
+    let refusing = Refusing::new(alloc, nth);
+    let mut text = String::new(alloc);
+    let _calls = report_into(rt, &refusing, &mut text, 0, 2);
+    let rows = text
+        .as_str()
+        .strip_suffix("out of memory\n")
+        .expect(rt, "another end");
+    assert!(rt; REPORT.starts_with(rows), "at request {nth}");
+}
+
+#[test]
+fn reports_memory_refused_at_any_request(rt: HostRuntime) {
     let granted = Refusing::new(rt.alloc(), 0);
     let mut whole = String::new(rt.alloc());
-    {
-        let mut out = Failing {
-            text: &mut whole,
-            calls: 0,
-            failing: 0,
-        };
-        assert_end(&rt, rt.alloc(), report(&granted, &mut out), 0);
-    }
+    let _calls = report_into(&rt, &granted, &mut whole, 0, 0);
     let requests = granted.requests();
     assert!(rt; requests > 0);
     for nth in 1..requests.saturating_add(1) {
-        let refusing = Refusing::new(rt.alloc(), nth);
-        let mut text = String::new(rt.alloc());
-        {
-            let mut out = Failing {
-                text: &mut text,
-                calls: 0,
-                failing: 0,
-            };
-            assert_end(&rt, rt.alloc(), report(&refusing, &mut out), 2);
-        }
-        let rows = text
-            .as_str()
-            .strip_suffix("out of memory\n")
-            .ok_or("another end")?;
-        assert!(rt; REPORT.starts_with(rows), "at request {nth}");
+        assert_reported_until(&rt, rt.alloc(), nth);
     }
-    Ok(())
 }
 
 // What is written of these rows, and the status.
@@ -238,6 +271,23 @@ fn counts_the_rows_that_failed(rt: HostRuntime) {
     );
 }
 
+// Asserts that the row 7, where it ends so, is written as that line, and gives that status.
+fn assert_row<R: Abort>(rt: &R, alloc: Global, outcome: Outcome, line: &str, status: Status) {
+    let mut text = String::new(alloc);
+    {
+        let mut out = Failing {
+            text: &mut text,
+            calls: 0,
+            failing: 0,
+        };
+        assert!(rt;
+            write_row(7, outcome, &mut out).ok() == Some(status),
+            "{line}"
+        );
+    }
+    assert_eq!(rt; text.as_str(), line);
+}
+
 #[test]
 fn a_row_that_overflows_has_failed(rt: HostRuntime) {
     for (outcome, line, status) in [
@@ -254,19 +304,7 @@ fn a_row_that_overflows_has_failed(rt: HostRuntime) {
             Status::OutOfMemory,
         ),
     ] {
-        let mut text = String::new(rt.alloc());
-        {
-            let mut out = Failing {
-                text: &mut text,
-                calls: 0,
-                failing: 0,
-            };
-            assert!(rt;
-                write_row(7, outcome, &mut out).ok() == Some(status),
-                "{line}"
-            );
-        }
-        assert_eq!(rt; text.as_str(), line);
+        assert_row(&rt, rt.alloc(), outcome, line, status);
     }
 }
 
@@ -297,16 +335,36 @@ const REQUESTS: [(u32, u64); 23] = [
     (36, 3),
 ];
 
+// Asserts that a row is ok, makes so many requests, and leaves no block.
+fn assert_requests<R: Abort>(rt: &R, alloc: Global, number: u32, requests: u64) {
+    let refusing = Refusing::new(alloc, 0);
+    assert!(rt; matches!(row(&refusing, number), Ok(true)), "row {number}");
+    assert_eq!(rt;
+        (number, refusing.requests(), refusing.blocks()),
+        (number, requests, 0)
+    );
+}
+
 #[test]
 fn each_row_makes_its_own_requests(rt: HostRuntime) {
     for (number, requests) in REQUESTS {
-        let refusing = Refusing::new(rt.alloc(), 0);
-        assert!(rt; matches!(row(&refusing, number), Ok(true)), "row {number}");
-        assert_eq!(rt;
-            (number, refusing.requests(), refusing.blocks()),
-            (number, requests, 0)
-        );
+        assert_requests(&rt, rt.alloc(), number, requests);
     }
+}
+
+// Three pushes of lists of one item.
+fn pushes_of_lists<'a, R: Abort>(
+    rt: &R,
+    alloc: Lender<'a>,
+) -> Vec<Command<ThinVec<u32, Lender<'a>>, Lender<'a>>, Lender<'a>> {
+    let mut commands = Vec::new(alloc);
+    for _ in 0..3 {
+        let item = thin_vec![alloc => 1].expect(rt, "memory");
+        put(&mut commands, Command::Push(item))
+            .ok()
+            .expect(rt, "memory");
+    }
+    commands
 }
 
 #[test]
@@ -315,14 +373,7 @@ fn a_refused_run_drops_its_commands(rt: HostRuntime) {
     let alloc = &refusing;
     let mut list = ThinVec::new(alloc);
     let mut replies = Vec::new(alloc);
-    let mut commands = Vec::new(alloc);
-    for _ in 0..3 {
-        let item = thin_vec![alloc => 1].expect(&rt, "memory");
-        commands
-            .push(Command::Push(item))
-            .ok()
-            .expect(&rt, "memory");
-    }
+    let commands = pushes_of_lists(&rt, alloc);
     assert_eq!(rt; refusing.blocks(), 4);
     refusing.refuse(1);
     assert!(rt; run(alloc, &mut list, commands, &mut replies, &Agrees).is_err());
@@ -332,16 +383,9 @@ fn a_refused_run_drops_its_commands(rt: HostRuntime) {
 #[test]
 fn runs_a_hundred_commands(rt: HostRuntime) {
     let alloc = rt.alloc();
-    let mut list = ThinVec::new(alloc);
-    let mut replies = Vec::new(alloc);
-    let mut commands = Vec::new(alloc);
-    for item in 0..100 {
-        commands
-            .push(Command::Push(item))
-            .ok()
-            .expect(&rt, "memory");
-    }
-    assert!(rt; run(alloc, &mut list, commands, &mut replies, &Agrees).is_ok());
+    let mut list: ThinVec<u32, Global> = ThinVec::new(alloc);
+    let commands = pushes(&rt, alloc, 100);
+    let replies = replies_of(&rt, alloc, &mut list, commands);
     assert_eq!(rt;
         (list.len(), list.capacity(), replies.len()),
         (100, 128, 100)
@@ -384,32 +428,27 @@ impl<T> Judge<T> for Agrees {
     }
 }
 
-// Items whose clones are other values: another block holds them.
-fn texts_and_boxes<A: Allocator + Copy>(alloc: A) -> Result<bool, ThinVecError> {
-    let mut texts: ThinVec<String<A>, A> = ThinVec::new(alloc);
-    let resized = step(
-        alloc,
-        &mut texts,
-        Command::Resize(3, String::new(alloc)),
-        &Agrees,
-    );
-    let boxed: Box<i32, A> = match Box::new(alloc, 7) {
-        Ok(boxed) => boxed,
-        Err(_refused) => return Err(ThinVecError::OutOfMemory),
-    };
-    let mut boxes: ThinVec<Box<i32, A>, A> = ThinVec::new(alloc);
-    let pushed = step(alloc, &mut boxes, Command::Push(boxed), &Agrees);
-    let cloned = step(alloc, &mut boxes, Command::Clone, &Agrees);
-    Ok(
-        matches!(resized, Reply::Done)
-            && matches!(pushed, Reply::Done)
-            && matches!(cloned, Reply::List(_))
-            && texts.len() == 3,
-    )
+// Asserts that an empty list of texts is resized to three.
+fn assert_texts<R: Abort>(rt: &R, alloc: Global) {
+    let mut texts: ThinVec<String, Global> = ThinVec::new(alloc);
+    let resize = Command::Resize(3, String::new(alloc));
+    let resized = step(alloc, &mut texts, resize, &Agrees);
+    assert!(rt; matches!(resized, Reply::Done) && texts.len() == 3);
 }
 
+// Asserts that a list of a box is cloned.
+fn assert_boxes<R: Abort>(rt: &R, alloc: Global) {
+    let boxed = Box::new(alloc, 7).ok().expect(rt, "memory");
+    let mut boxes: ThinVec<Box<i32, Global>, Global> = ThinVec::new(alloc);
+    let pushed = step(alloc, &mut boxes, Command::Push(boxed), &Agrees);
+    assert!(rt; matches!(pushed, Reply::Done));
+    let cloned = step(alloc, &mut boxes, Command::Clone, &Agrees);
+    assert!(rt; matches!(cloned, Reply::List(_)));
+}
+
+// The clones of these items are other values: another block holds them.
 #[test]
-fn runs_on_texts_and_boxes(rt: HostRuntime) -> Result<(), Fail> {
-    assert!(rt; texts_and_boxes(rt.alloc()).ok().ok_or("memory")?);
-    Ok(())
+fn runs_on_texts_and_boxes(rt: HostRuntime) {
+    assert_texts(&rt, rt.alloc());
+    assert_boxes(&rt, rt.alloc());
 }

@@ -7,6 +7,7 @@ use std::alloc::{AllocError, Allocator, Global};
 use std::fmt::Debug;
 use std::process::Abort;
 use std::test::Fail;
+use thin_runner::command::{Command, Reply};
 use thin_runner::judge::Judge;
 use thin_runner::runner::run;
 use thin_vec::{Doubling, Growth, PowerBytes, ThinVec, ThinVecError};
@@ -79,6 +80,15 @@ fn has(replies: &[Replied], one: Replied) -> bool {
     false
 }
 
+// Puts a reply behind the others, unless it is one of them.
+fn put_new(replies: &mut Vec<Replied, Global>, one: Replied) -> Result<(), AllocError> {
+    if has(replies.as_slice(), one) {
+        Ok(())
+    } else {
+        put(replies, one)
+    }
+}
+
 // The digits of a number as a command on a list of six items: in, at and past its end, of few items and of more than there is room
 // for, claiming none, some, or more than any block holds, unwalked and walked past the end.
 fn order_of(number: usize) -> Order {
@@ -145,16 +155,21 @@ fn assert_orders<'a, T: Sample<Lender<'a>>, G: Ruled, J: Judge<T>, R: Abort>(
                 form != Form::Never && alloc.blocks() == 0,
                 "{order:?}, refused {nth}"
             );
-            if !has(replies.as_slice(), (order.kind, form, cause)) {
-                put(replies, (order.kind, form, cause))
-                    .ok()
-                    .expect(rt, "memory");
-            }
+            put_new(replies, (order.kind, form, cause))
+                .ok()
+                .expect(rt, "memory");
             if nth > 0 && cause != Some(ThinVecError::OutOfMemory) {
                 break;
             }
         }
     }
+}
+
+// Asserts that a command has that reply.
+fn assert_listed<R: Abort>(rt: &R, alloc: Global, replied: &Replied) {
+    let (kind, form, cause) = replied;
+    let line = format!(in alloc; "{kind:?} {form:?} {cause:?}\n").expect(rt, "memory");
+    assert!(rt; REPLIES.contains(line.as_str()), "{line}");
 }
 
 #[test]
@@ -165,9 +180,8 @@ fn each_command_has_each_of_its_replies(rt: HostRuntime) {
     assert_orders::<u64, Doubling, _, _>(&rt, &refusing, &Evens, &mut replies);
     assert_orders::<u32, PowerBytes, _, _>(&rt, &refusing, &wavers, &mut replies);
     assert_orders::<Box<u64, Lender<'_>>, Doubling, _, _>(&rt, &refusing, &wavers, &mut replies);
-    for (kind, form, cause) in &replies {
-        let line = format!(in rt.alloc(); "{kind:?} {form:?} {cause:?}\n").expect(&rt, "memory");
-        assert!(rt; REPLIES.contains(line.as_str()), "{line}");
+    for replied in &replies {
+        assert_listed(&rt, rt.alloc(), replied);
     }
     assert_eq!(rt; replies.len(), REPLIES.lines().count());
 }
@@ -271,6 +285,11 @@ fn worked_powers() -> [Worked<'static>; 9] {
     ]
 }
 
+// Asserts that a text is what is worked out.
+fn assert_text<R: Abort>(rt: &R, text: &str, order: &Order, worked: &str) {
+    assert_eq!(rt; text, worked, "{order:?}");
+}
+
 // Asserts that a reply shows what is worked out.
 fn assert_shown<T: Debug + Drop, A: Allocator + Copy, R: Abort>(
     rt: &R,
@@ -282,7 +301,7 @@ fn assert_shown<T: Debug + Drop, A: Allocator + Copy, R: Abort>(
     let text = format!(in alloc; "{:?} {:?} {:?}", shown.form, shown.answers, shown.items)
         .ok()
         .expect(rt, "memory");
-    assert_eq!(rt; text.as_str(), worked, "{order:?}");
+    assert_text(rt, text.as_str(), order, worked);
 }
 
 // Asserts that a list and its capacity are what is worked out.
@@ -296,7 +315,37 @@ fn assert_list<T: Debug, A: Allocator + Copy, G: Growth, R: Abort>(
     let text = format!(in alloc; "{:?} {}", list.as_slice(), list.capacity())
         .ok()
         .expect(rt, "memory");
-    assert_eq!(rt; text.as_str(), worked, "{order:?}");
+    assert_text(rt, text.as_str(), order, worked);
+}
+
+// The commands of a worked run.
+fn commands_of<'a, 's, T: Sample<Lender<'a>>, G: Growth, R: Abort>(
+    rt: &R,
+    alloc: Lender<'a>,
+    worked: &[Worked<'s>],
+) -> Vec<Command<T, Lender<'a>, G>, Lender<'a>> {
+    let mut commands = Vec::new(alloc);
+    for (order, _, _) in worked {
+        let command = command_of(alloc, *order).ok().expect(rt, "memory");
+        put(&mut commands, command).ok().expect(rt, "memory");
+    }
+    commands
+}
+
+// Asserts that the replies of a run show what is worked out.
+fn assert_replies<'a, 's, T: Drop + Debug, G: Growth, R: Abort>(
+    rt: &R,
+    alloc: Lender<'a>,
+    replies: Vec<Reply<T, Lender<'a>, G>, Lender<'a>>,
+    worked: &[Worked<'s>],
+) {
+    let mut next = worked.iter();
+    for reply in replies {
+        let shown = show(alloc, reply).ok().expect(rt, "memory");
+        if let Some((order, reply, _)) = next.next() {
+            assert_shown(rt, alloc, &shown, order, reply);
+        }
+    }
 }
 
 // Asserts that a run of these commands replies what is worked out.
@@ -308,20 +357,10 @@ fn assert_run<'a, 's, T: Sample<Lender<'a>> + Debug, G: Ruled, J: Judge<T>, R: A
     worked: &[Worked<'s>],
 ) {
     let mut replies = Vec::new(alloc);
-    let mut commands = Vec::new(alloc);
-    for (order, _, _) in worked {
-        let command = command_of(alloc, *order).ok().expect(rt, "memory");
-        put(&mut commands, command).ok().expect(rt, "memory");
-    }
+    let commands = commands_of(rt, alloc, worked);
     let ran = run(alloc, list, commands, &mut replies, judge);
     assert!(rt; ran.is_ok() && replies.len() == worked.len());
-    let mut next = worked.iter();
-    for reply in replies {
-        let shown = show(alloc, reply).ok().expect(rt, "memory");
-        if let Some((order, reply, _)) = next.next() {
-            assert_shown(rt, alloc, &shown, order, reply);
-        }
-    }
+    assert_replies(rt, alloc, replies, worked);
     if let Some((order, _, end)) = worked.last() {
         assert_list(rt, alloc, list, order, end);
     }
@@ -342,6 +381,45 @@ fn assert_worked<'a, 's, T: Sample<Lender<'a>> + Debug, G: Ruled, J: Judge<T>, R
     }
 }
 
+// Does a command of a run as the definition says, and asserts that the reply is one of its. Answers whether a request was refused.
+fn is_refused<'a, T: Sample<Lender<'a>>, G: Ruled, J: Judge<T>, R: Abort>(
+    rt: &R,
+    alloc: Lender<'a>,
+    model: &mut Model<T, Lender<'a>, G>,
+    order: &Order,
+    judge: &J,
+    reply: Reply<T, Lender<'a>, G>,
+    nth: u64,
+) -> bool {
+    let (form, cause) = model
+        .follow(alloc, *order, judge, reply, 1)
+        .ok()
+        .expect(rt, "memory");
+    assert!(rt; form != Form::Never, "{order:?}, refused {nth}");
+    cause == Some(ThinVecError::OutOfMemory)
+}
+
+// Does the commands of a run as the definition says. Answers to how many of them a request was refused.
+fn refusals_of<'a, 's, T: Sample<Lender<'a>>, G: Ruled, J: Judge<T>, R: Abort>(
+    rt: &R,
+    alloc: Lender<'a>,
+    model: &mut Model<T, Lender<'a>, G>,
+    judge: &J,
+    replies: Vec<Reply<T, Lender<'a>, G>, Lender<'a>>,
+    worked: &[Worked<'s>],
+    nth: u64,
+) -> u64 {
+    let mut refusals: u64 = 0;
+    let mut next = worked.iter();
+    for reply in replies {
+        if let Some((order, _, _)) = next.next() {
+            let refused = is_refused(rt, alloc, model, order, judge, reply, nth);
+            refusals = refusals.saturating_add(u64::from(refused));
+        }
+    }
+    refusals
+}
+
 // Asserts that a run, with its request of that number refused, does what the definition says. Answers whether one was refused.
 fn refused_run<'a, 's, T: Sample<Lender<'a>>, G: Ruled, J: Judge<T>, R: Abort>(
     rt: &R,
@@ -353,28 +431,14 @@ fn refused_run<'a, 's, T: Sample<Lender<'a>>, G: Ruled, J: Judge<T>, R: Abort>(
     let mut list = ThinVec::ruled(alloc);
     let mut model: Model<T, Lender<'a>, G> = Model::new(alloc);
     let mut replies = Vec::new(alloc);
-    let mut commands = Vec::new(alloc);
-    for (order, _, _) in worked {
-        let command = command_of(alloc, *order).ok().expect(rt, "memory");
-        put(&mut commands, command).ok().expect(rt, "memory");
-    }
+    let commands = commands_of(rt, alloc, worked);
     alloc.refuse(nth);
     let ran = run(alloc, &mut list, commands, &mut replies, judge);
     let refused = alloc.requests() >= nth;
     alloc.refuse(0);
     assert_eq!(rt; ran.is_err(), nth == 1);
-    let mut refusals: u64 = u64::from(ran.is_err());
-    let mut next = worked.iter();
-    for reply in replies {
-        if let Some((order, _, _)) = next.next() {
-            let (form, cause) = model
-                .follow(alloc, *order, judge, reply, 1)
-                .ok()
-                .expect(rt, "memory");
-            assert!(rt; form != Form::Never, "{order:?}, refused {nth}");
-            refusals = refusals.saturating_add(u64::from(cause == Some(ThinVecError::OutOfMemory)));
-        }
-    }
+    let of_commands = refusals_of(rt, alloc, &mut model, judge, replies, worked, nth);
+    let refusals = of_commands.saturating_add(u64::from(ran.is_err()));
     assert!(rt;
         model.is(&list) && refusals == u64::from(refused),
         "refused {nth}"

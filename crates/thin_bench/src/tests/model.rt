@@ -1,6 +1,6 @@
 //! The definition written as a program, short and slow, over a `Vec` and a number.
 use crate::tests::orders::{Form, Kind, Order, Shown, command_of, show, steps_of};
-use crate::tests::samples::{Lender, Sample, one, put, samples};
+use crate::tests::samples::{Lender, Sample, one, put, put_all, samples};
 use other_rules::{Fourfold, Threefold};
 use std::alloc::{AllocError, Allocator};
 use std::marker::PhantomData;
@@ -67,6 +67,24 @@ pub struct Model<T, A: Allocator, G> {
     rule: PhantomData<G>,
 }
 
+// The first `at` items, and the others.
+fn parted<T: Drop, A: Allocator + Copy>(
+    alloc: A,
+    items: Vec<T, A>,
+    at: usize,
+) -> Result<(Vec<T, A>, Vec<T, A>), AllocError> {
+    let mut first = Vec::new(alloc);
+    let mut others = Vec::new(alloc);
+    for item in items {
+        if first.len() < at {
+            put(&mut first, item)?;
+        } else {
+            put(&mut others, item)?;
+        }
+    }
+    Ok((first, others))
+}
+
 // The items from `start` up to `end` go out, and `new` comes in for them.
 fn replaced<T: Drop, A: Allocator + Copy>(
     alloc: A,
@@ -75,26 +93,10 @@ fn replaced<T: Drop, A: Allocator + Copy>(
     end: usize,
     new: Vec<T, A>,
 ) -> Result<(Vec<T, A>, Vec<T, A>), AllocError> {
-    let mut left = Vec::new(alloc);
-    let mut out = Vec::new(alloc);
-    let mut tail = Vec::new(alloc);
-    let mut index: usize = 0;
-    for item in items {
-        if index < start {
-            put(&mut left, item)?;
-        } else if index < end {
-            put(&mut out, item)?;
-        } else {
-            put(&mut tail, item)?;
-        }
-        index = index.saturating_add(1);
-    }
-    for item in new {
-        put(&mut left, item)?;
-    }
-    for item in tail {
-        put(&mut left, item)?;
-    }
+    let (mut left, rest) = parted(alloc, items, start)?;
+    let (out, tail) = parted(alloc, rest, end.saturating_sub(start))?;
+    put_all(&mut left, new)?;
+    put_all(&mut left, tail)?;
     Ok((left, out))
 }
 
@@ -151,6 +153,11 @@ impl<T: Sample<A>, A: Allocator + Copy, G: Ruled> Model<T, A, G> {
         self.items.len()
     }
 
+    // Every item, of which none is left.
+    fn take_items(&mut self, alloc: A) -> Vec<T, A> {
+        mem::replace(&mut self.items, Vec::new(alloc))
+    }
+
     fn replace(
         &mut self,
         alloc: A,
@@ -158,7 +165,7 @@ impl<T: Sample<A>, A: Allocator + Copy, G: Ruled> Model<T, A, G> {
         end: usize,
         new: Vec<T, A>,
     ) -> Result<Vec<T, A>, AllocError> {
-        let items = mem::replace(&mut self.items, Vec::new(alloc));
+        let items = self.take_items(alloc);
         let (left, out) = replaced(alloc, items, start, end, new)?;
         self.items = left;
         Ok(out)
@@ -193,10 +200,16 @@ impl<T: Sample<A>, A: Allocator + Copy, G: Ruled> Model<T, A, G> {
         Shown::plain(alloc, Form::Done, None)
     }
 
-    // These items come in at `at`.
-    fn bring(&mut self, alloc: A, at: usize, new: Vec<T, A>) -> Result<Shown<T, A>, AllocError> {
-        let shown = self.reserve(alloc, self.len().saturating_add(new.len()));
-        let _none = self.replace(alloc, at, at, new)?;
+    // So many items, from that number on, come in at `at`.
+    fn bring(
+        &mut self,
+        alloc: A,
+        at: usize,
+        count: usize,
+        number: u64,
+    ) -> Result<Shown<T, A>, AllocError> {
+        let shown = self.reserve(alloc, self.len().saturating_add(count));
+        let _none = self.replace(alloc, at, at, samples(alloc, count, number)?)?;
         Ok(shown)
     }
 
@@ -213,6 +226,20 @@ impl<T: Sample<A>, A: Allocator + Copy, G: Ruled> Model<T, A, G> {
         Ok(Shown::with_answers(Form::Item, alloc, answers))
     }
 
+    // The item at `at` goes out, as the reply.
+    fn remove(&mut self, alloc: A, at: usize) -> Result<Shown<T, A>, AllocError> {
+        self.change(alloc, at, at.saturating_add(1), Vec::new(alloc))
+    }
+
+    fn set(&mut self, alloc: A, at: usize, number: u64) -> Result<Shown<T, A>, AllocError> {
+        self.change(alloc, at, at.saturating_add(1), samples(alloc, 1, number)?)
+    }
+
+    fn pop(&mut self, alloc: A) -> Result<Shown<T, A>, AllocError> {
+        let len = self.len();
+        self.change(alloc, len.saturating_sub(1), len, Vec::new(alloc))
+    }
+
     // The items from `at` on go out.
     fn cut(&mut self, alloc: A, at: usize) -> Result<Vec<T, A>, AllocError> {
         let len = self.len();
@@ -227,10 +254,18 @@ impl<T: Sample<A>, A: Allocator + Copy, G: Ruled> Model<T, A, G> {
     fn swap_remove(&mut self, alloc: A, at: usize) -> Result<Shown<T, A>, AllocError> {
         let last = self.len().saturating_sub(1);
         if at == last {
-            return self.change(alloc, at, last.saturating_add(1), Vec::new(alloc));
+            return self.remove(alloc, at);
         }
         let end = self.cut(alloc, last)?;
         self.change(alloc, at, at.saturating_add(1), end)
+    }
+
+    // So many items of that number come in at the end.
+    fn repeat(&mut self, alloc: A, count: usize, number: u64) -> Result<(), AllocError> {
+        for _ in 0..count {
+            put(&mut self.items, T::sample(alloc, number)?)?;
+        }
+        Ok(())
     }
 
     fn resize(&mut self, alloc: A, order: Order) -> Result<Shown<T, A>, AllocError> {
@@ -240,16 +275,14 @@ impl<T: Sample<A>, A: Allocator + Copy, G: Ruled> Model<T, A, G> {
         }
         let shown = self.reserve(alloc, order.lower);
         if shown.cause.is_none() {
-            for _ in len..order.lower {
-                put(&mut self.items, T::sample(alloc, order.number)?)?;
-            }
+            self.repeat(alloc, order.lower.saturating_sub(len), order.number)?;
         }
         Ok(shown)
     }
 
     fn append(&mut self, alloc: A, order: Order) -> Result<Shown<T, A>, AllocError> {
         let len = self.len();
-        let _done = self.bring(alloc, len, samples(alloc, order.count, order.number)?)?;
+        let _done = self.bring(alloc, len, order.count, order.number)?;
         Ok(Shown::with_items(Form::Other, None, alloc, Vec::new(alloc), order.count))
     }
 
@@ -274,7 +307,7 @@ impl<T: Sample<A>, A: Allocator + Copy, G: Ruled> Model<T, A, G> {
         kind: Kind,
         mut judge: J,
     ) -> Result<Shown<T, A>, AllocError> {
-        for item in mem::replace(&mut self.items, Vec::new(alloc)) {
+        for item in self.take_items(alloc) {
             let mut item = item;
             if stays(&mut judge, kind, &mut item) {
                 put(&mut self.items, item)?;
@@ -283,25 +316,33 @@ impl<T: Sample<A>, A: Allocator + Copy, G: Ruled> Model<T, A, G> {
         Ok(Shown::plain(alloc, Form::Done, None))
     }
 
+    // An item comes in at the end, unless it is found the same as the last one.
+    fn put_other<J: Judge<T>>(
+        &mut self,
+        kind: Kind,
+        judge: &mut J,
+        item: T,
+    ) -> Result<(), AllocError> {
+        let mut later = item;
+        if let Some(last) = self.items.pop() {
+            let mut kept = last;
+            let same = is_same(judge, kind, &mut later, &mut kept);
+            put(&mut self.items, kept)?;
+            if same {
+                return Ok(());
+            }
+        }
+        put(&mut self.items, later)
+    }
+
     fn dedup<J: Judge<T>>(
         &mut self,
         alloc: A,
         kind: Kind,
         mut judge: J,
     ) -> Result<Shown<T, A>, AllocError> {
-        for item in mem::replace(&mut self.items, Vec::new(alloc)) {
-            let mut later = item;
-            match self.items.pop() {
-                None => put(&mut self.items, later)?,
-                Some(last) => {
-                    let mut kept = last;
-                    let same = is_same(&mut judge, kind, &mut later, &mut kept);
-                    put(&mut self.items, kept)?;
-                    if !same {
-                        put(&mut self.items, later)?;
-                    }
-                }
-            }
+        for item in self.take_items(alloc) {
+            self.put_other(kind, &mut judge, item)?;
         }
         Ok(Shown::plain(alloc, Form::Done, None))
     }
@@ -312,6 +353,22 @@ impl<T: Sample<A>, A: Allocator + Copy, G: Ruled> Model<T, A, G> {
         Ok(Shown::with_answers(Form::Answers, alloc, answers))
     }
 
+    // An item goes out into `answers` if it is asked about and picked, and otherwise comes in at the end.
+    fn pick<J: Judge<T>>(
+        &mut self,
+        is_asked: bool,
+        judge: &mut J,
+        answers: &mut Vec<Option<T>, A>,
+        item: T,
+    ) -> Result<(), AllocError> {
+        let mut item = item;
+        if is_asked && judge.take(&mut item) {
+            put(answers, Some(item))
+        } else {
+            put(&mut self.items, item)
+        }
+    }
+
     fn extract_if<J: Judge<T>>(
         &mut self,
         alloc: A,
@@ -320,14 +377,9 @@ impl<T: Sample<A>, A: Allocator + Copy, G: Ruled> Model<T, A, G> {
     ) -> Result<Shown<T, A>, AllocError> {
         let mut answers = Vec::new(alloc);
         let mut index: usize = 0;
-        for item in mem::replace(&mut self.items, Vec::new(alloc)) {
-            let mut item = item;
-            let asked = order.at <= index && index < order.to && answers.len() < order.count;
-            if asked && judge.take(&mut item) {
-                put(&mut answers, Some(item))?;
-            } else {
-                put(&mut self.items, item)?;
-            }
+        for item in self.take_items(alloc) {
+            let is_asked = order.at <= index && index < order.to && answers.len() < order.count;
+            self.pick(is_asked, &mut judge, &mut answers, item)?;
             index = index.saturating_add(1);
         }
         for _ in answers.len()..order.count {
@@ -362,15 +414,8 @@ impl<T: Sample<A>, A: Allocator + Copy, G: Ruled> Model<T, A, G> {
         order: Order,
         placed: usize,
     ) -> Result<Shown<T, A>, AllocError> {
-        let mut come = Vec::new(alloc);
-        let mut back = Vec::new(alloc);
-        for item in samples(alloc, order.count, order.number)? {
-            if come.len() < placed {
-                put(&mut come, item)?;
-            } else {
-                put(&mut back, item)?;
-            }
-        }
+        let items = samples(alloc, order.count, order.number)?;
+        let (come, back) = parted(alloc, items, placed)?;
         let out = self.replace(alloc, start, end, come)?;
         Ok(Shown {
             form: Form::Stopped,
@@ -434,38 +479,34 @@ impl<T: Sample<A>, A: Allocator + Copy, G: Ruled> Model<T, A, G> {
         Ok(Shown::with_items(Form::OutOfRange, None, alloc, items, order.at))
     }
 
-    // What a command does, and replies, where no request is refused.
-    fn step<J: Judge<T>>(
+    fn shrink_to_fit(&mut self, alloc: A) -> Shown<T, A> {
+        self.capacity = self.len();
+        Shown::plain(alloc, Form::Done, None)
+    }
+
+    // What a command does, and replies, whose index or range is one of the list.
+    fn change_by<J: Judge<T>>(
         &mut self,
         alloc: A,
         order: Order,
         judge: &J,
     ) -> Result<Shown<T, A>, AllocError> {
-        if !self.is_in_range(order) {
-            return self.out_of_range(alloc, order);
-        }
         let len = self.len();
         let at = order.at;
-        let next = at.saturating_add(1);
         match order.kind {
-            Kind::Push => self.bring(alloc, len, samples(alloc, 1, order.number)?),
-            Kind::Pop => self.change(alloc, len.saturating_sub(1), len, Vec::new(alloc)),
-            Kind::Insert => self.bring(alloc, at, samples(alloc, 1, order.number)?),
-            Kind::Remove => self.change(alloc, at, next, Vec::new(alloc)),
+            Kind::Push => self.bring(alloc, len, 1, order.number),
+            Kind::Pop => self.pop(alloc),
+            Kind::Insert => self.bring(alloc, at, 1, order.number),
+            Kind::Remove => self.remove(alloc, at),
             Kind::SwapRemove => self.swap_remove(alloc, at),
-            Kind::Set => self.change(alloc, at, next, samples(alloc, 1, order.number)?),
+            Kind::Set => self.set(alloc, at, order.number),
             Kind::Truncate => self.truncate(alloc, at),
             Kind::Clear => self.truncate(alloc, 0),
             Kind::Reserve => Ok(self.reserve(alloc, len.saturating_add(order.lower))),
             Kind::ReserveExact => Ok(self.reserve_exact(alloc, len.saturating_add(order.lower))),
-            Kind::ShrinkToFit => {
-                self.capacity = len;
-                self.truncate(alloc, len)
-            }
+            Kind::ShrinkToFit => Ok(self.shrink_to_fit(alloc)),
             Kind::Resize => self.resize(alloc, order),
-            Kind::ExtendFromSlice => {
-                self.bring(alloc, len, samples(alloc, order.count, order.number)?)
-            }
+            Kind::ExtendFromSlice => self.bring(alloc, len, order.count, order.number),
             Kind::Extend => self.extend(alloc, order),
             Kind::Append => self.append(alloc, order),
             Kind::SplitOff => self.split_off(alloc, at),
@@ -477,6 +518,20 @@ impl<T: Sample<A>, A: Allocator + Copy, G: Ruled> Model<T, A, G> {
             Kind::Drain => self.drain(alloc, order),
             Kind::ExtractIf => self.extract_if(alloc, order, *judge),
             Kind::Splice => self.splice(alloc, at, order.to, order),
+        }
+    }
+
+    // What a command does, and replies, where no request is refused.
+    fn step<J: Judge<T>>(
+        &mut self,
+        alloc: A,
+        order: Order,
+        judge: &J,
+    ) -> Result<Shown<T, A>, AllocError> {
+        if self.is_in_range(order) {
+            self.change_by(alloc, order, judge)
+        } else {
+            self.out_of_range(alloc, order)
         }
     }
 
@@ -560,6 +615,22 @@ impl<T: Sample<A>, A: Allocator + Copy, G: Ruled> Model<T, A, G> {
         }
     }
 
+    // What a command is to reply, by what its reply shows.
+    fn wanted<J: Judge<T>>(
+        &mut self,
+        alloc: A,
+        order: Order,
+        judge: &J,
+        given: &Shown<T, A>,
+        nth: u64,
+    ) -> Result<Shown<T, A>, AllocError> {
+        if given.cause == Some(ThinVecError::OutOfMemory) {
+            self.refuse(alloc, order, given, nth)
+        } else {
+            self.step(alloc, order, judge)
+        }
+    }
+
     /// Does a command, of which the reply tells whether a request was refused to it, and which one that was if items are cloned.
     /// Answers what the reply is, or `Never`.
     pub fn follow<J: Judge<T>>(
@@ -571,16 +642,13 @@ impl<T: Sample<A>, A: Allocator + Copy, G: Ruled> Model<T, A, G> {
         nth: u64,
     ) -> Result<(Form, Option<ThinVecError>), AllocError> {
         let given = show(alloc, reply)?;
-        let wanted = if given.cause == Some(ThinVecError::OutOfMemory) {
-            self.refuse(alloc, order, &given, nth)?
+        let wanted = self.wanted(alloc, order, judge, &given, nth)?;
+        let form = if given.is(&wanted) {
+            given.form
         } else {
-            self.step(alloc, order, judge)?
+            Form::Never
         };
-        if given.is(&wanted) {
-            Ok((given.form, given.cause))
-        } else {
-            Ok((Form::Never, given.cause))
-        }
+        Ok((form, given.cause))
     }
 
     /// Whether the list is this one.
@@ -607,6 +675,22 @@ fn has_its_blocks<'a, T: Sample<Lender<'a>>, G: Ruled>(
     blocks == alloc.blocks()
 }
 
+// The runner's reply to a command of which the request of that number is refused, and whether that request was reached.
+fn reply_of<'a, T: Sample<Lender<'a>>, G: Ruled, J: Judge<T>>(
+    alloc: Lender<'a>,
+    list: &mut ThinVec<T, Lender<'a>, G>,
+    order: Order,
+    judge: &J,
+    nth: u64,
+) -> Result<(Reply<T, Lender<'a>, G>, bool), AllocError> {
+    let command = command_of(alloc, order)?;
+    alloc.refuse(nth);
+    let reply = step(alloc, list, command, judge);
+    let refused = nth > 0 && alloc.requests() >= nth;
+    alloc.refuse(0);
+    Ok((reply, refused))
+}
+
 /// A command by both, of which the request of that number is refused, or none at 0. Answers the reply, `Never` where they differ,
 /// and whether the request was reached.
 pub fn both<'a, T: Sample<Lender<'a>>, G: Ruled, J: Judge<T>>(
@@ -617,11 +701,7 @@ pub fn both<'a, T: Sample<Lender<'a>>, G: Ruled, J: Judge<T>>(
     judge: &J,
     nth: u64,
 ) -> Result<(Form, Option<ThinVecError>), AllocError> {
-    let command = command_of(alloc, order)?;
-    alloc.refuse(nth);
-    let reply = step(alloc, list, command, judge);
-    let refused = nth > 0 && alloc.requests() >= nth;
-    alloc.refuse(0);
+    let (reply, refused) = reply_of(alloc, list, order, judge, nth)?;
     let (form, cause) = model.follow(alloc, order, judge, reply, nth)?;
     let told = cause == Some(ThinVecError::OutOfMemory);
     if told == refused && model.is(list) && has_its_blocks(alloc, list, model) {

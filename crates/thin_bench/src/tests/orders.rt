@@ -2,6 +2,7 @@
 use crate::tests::samples::{Sample, one, put, samples};
 use std::alloc::{AllocError, Allocator};
 use thin_runner::command::{Command, Reply, Step};
+use thin_runner::hinted::Hinted;
 use thin_vec::{Growth, ThinVec, ThinVecError};
 
 /// Which command.
@@ -115,53 +116,69 @@ fn listed<T: Sample<A>, A: Allocator + Copy, G: Growth>(
     Ok(list)
 }
 
-/// The command of an order.
-pub fn command_of<T: Sample<A>, A: Allocator + Copy, G: Growth>(
-    alloc: A,
+// The command of an order whose command has an item.
+fn with_item<T: Drop, A: Allocator, G: Growth>(order: Order, item: T) -> Command<T, A, G> {
+    match order.kind {
+        Kind::Insert => Command::Insert(order.at, item),
+        Kind::Set => Command::Set(order.at, item),
+        Kind::Resize => Command::Resize(order.lower, item),
+        _ => Command::Push(item),
+    }
+}
+
+// The command of an order whose command has items.
+fn with_items<T: Drop, A: Allocator, G: Growth>(
     order: Order,
-) -> Result<Command<T, A, G>, AllocError> {
-    let Order {
-        kind,
-        at,
-        to,
-        count,
-        lower,
-        steps: _,
-        number,
-    } = order;
-    Ok(match kind {
-        Kind::Push => Command::Push(T::sample(alloc, number)?),
-        Kind::Pop => Command::Pop,
-        Kind::Insert => Command::Insert(at, T::sample(alloc, number)?),
-        Kind::Remove => Command::Remove(at),
-        Kind::SwapRemove => Command::SwapRemove(at),
-        Kind::Set => Command::Set(at, T::sample(alloc, number)?),
-        Kind::Truncate => Command::Truncate(at),
+    steps: Vec<Step, A>,
+    items: Vec<T, A>,
+) -> Command<T, A, G> {
+    match order.kind {
+        Kind::Splice => Command::Splice(order.at, order.to, steps, items, order.lower),
+        Kind::Extend => Command::Extend(items, order.lower),
+        _ => Command::ExtendFromSlice(items),
+    }
+}
+
+// The command of an order whose command has neither items nor a walk.
+fn with_none<T, A: Allocator, G: Growth>(order: Order) -> Command<T, A, G> {
+    match order.kind {
+        Kind::Remove => Command::Remove(order.at),
+        Kind::SwapRemove => Command::SwapRemove(order.at),
+        Kind::Truncate => Command::Truncate(order.at),
         Kind::Clear => Command::Clear,
-        Kind::Reserve => Command::Reserve(lower),
-        Kind::ReserveExact => Command::ReserveExact(lower),
+        Kind::Reserve => Command::Reserve(order.lower),
+        Kind::ReserveExact => Command::ReserveExact(order.lower),
         Kind::ShrinkToFit => Command::ShrinkToFit,
-        Kind::Resize => Command::Resize(lower, T::sample(alloc, number)?),
-        Kind::ExtendFromSlice => Command::ExtendFromSlice(samples(alloc, count, number)?),
-        Kind::Extend => Command::Extend(samples(alloc, count, number)?, lower),
-        Kind::Append => Command::Append(listed(alloc, order)?),
-        Kind::SplitOff => Command::SplitOff(at),
+        Kind::SplitOff => Command::SplitOff(order.at),
         Kind::Clone => Command::Clone,
         Kind::Retain => Command::Retain,
         Kind::RetainMut => Command::RetainMut,
         Kind::Dedup => Command::Dedup,
         Kind::DedupBy => Command::DedupBy,
         Kind::DedupByKey => Command::DedupByKey,
-        Kind::Drain => Command::Drain(at, to, steps_of(alloc, order)?),
-        Kind::ExtractIf => Command::ExtractIf(at, to, count),
-        Kind::Splice => Command::Splice(
-            at,
-            to,
-            steps_of(alloc, order)?,
-            samples(alloc, count, number)?,
-            lower,
-        ),
-    })
+        Kind::ExtractIf => Command::ExtractIf(order.at, order.to, order.count),
+        _ => Command::Pop,
+    }
+}
+
+/// The command of an order.
+pub fn command_of<T: Sample<A>, A: Allocator + Copy, G: Growth>(
+    alloc: A,
+    order: Order,
+) -> Result<Command<T, A, G>, AllocError> {
+    match order.kind {
+        Kind::Push | Kind::Insert | Kind::Set | Kind::Resize => {
+            Ok(with_item(order, T::sample(alloc, order.number)?))
+        }
+        Kind::ExtendFromSlice | Kind::Extend | Kind::Splice => {
+            let steps = steps_of(alloc, order)?;
+            let items = samples(alloc, order.count, order.number)?;
+            Ok(with_items(order, steps, items))
+        }
+        Kind::Append => Ok(Command::Append(listed(alloc, order)?)),
+        Kind::Drain => Ok(Command::Drain(order.at, order.to, steps_of(alloc, order)?)),
+        _ => Ok(with_none(order)),
+    }
 }
 
 /// Which reply.
@@ -304,6 +321,43 @@ fn items_with<T: Drop, A: Allocator + Copy, G: Growth>(
     }
 }
 
+// What a reply shows that is a list.
+fn show_list<T: Drop, A: Allocator + Copy, G: Growth>(
+    form: Form,
+    cause: Option<ThinVecError>,
+    alloc: A,
+    list: ThinVec<T, A, G>,
+) -> Result<Shown<T, A>, AllocError> {
+    let capacity = list.capacity();
+    let items = items_of(alloc, list)?;
+    Ok(Shown::with_items(form, cause, alloc, items, capacity))
+}
+
+// What the reply of a call shows that was refused half way.
+fn show_stopped<T: Drop, A: Allocator + Copy>(
+    answers: Vec<Option<T>, A>,
+    cause: ThinVecError,
+    held: Vec<T, A>,
+    in_hand: Option<T>,
+    rest: Hinted<T, A>,
+) -> Result<Shown<T, A>, AllocError> {
+    let mut items = held;
+    if let Some(item) = in_hand {
+        put(&mut items, item)?;
+    }
+    let number = items.len();
+    for item in rest {
+        put(&mut items, item)?;
+    }
+    Ok(Shown {
+        form: Form::Stopped,
+        cause: Some(cause),
+        answers,
+        items,
+        number,
+    })
+}
+
 /// What a reply shows, which is taken apart.
 pub fn show<T: Drop, A: Allocator + Copy, G: Growth>(
     alloc: A,
@@ -313,16 +367,8 @@ pub fn show<T: Drop, A: Allocator + Copy, G: Growth>(
         Reply::Done => Ok(Shown::plain(alloc, Form::Done, None)),
         Reply::Item(item) => Ok(Shown::with_answers(Form::Item, alloc, one(alloc, item)?)),
         Reply::Answers(answers) => Ok(Shown::with_answers(Form::Answers, alloc, answers)),
-        Reply::List(list) => {
-            let capacity = list.capacity();
-            let items = items_of(alloc, list)?;
-            Ok(Shown::with_items(Form::List, None, alloc, items, capacity))
-        }
-        Reply::Other(list, cause) => {
-            let capacity = list.capacity();
-            let items = items_of(alloc, list)?;
-            Ok(Shown::with_items(Form::Other, cause, alloc, items, capacity))
-        }
+        Reply::List(list) => show_list(Form::List, None, alloc, list),
+        Reply::Other(list, cause) => show_list(Form::Other, cause, alloc, list),
         Reply::Returned(value, cause) => {
             let items = one(alloc, value)?;
             Ok(Shown::with_items(Form::Returned, Some(cause), alloc, items, 0))
@@ -334,23 +380,7 @@ pub fn show<T: Drop, A: Allocator + Copy, G: Growth>(
             held,
             in_hand,
             rest,
-        } => {
-            let mut items = held;
-            if let Some(item) = in_hand {
-                put(&mut items, item)?;
-            }
-            let number = items.len();
-            for item in rest {
-                put(&mut items, item)?;
-            }
-            Ok(Shown {
-                form: Form::Stopped,
-                cause: Some(cause),
-                answers,
-                items,
-                number,
-            })
-        }
+        } => show_stopped(answers, cause, held, in_hand, rest),
         Reply::OutOfRange(command) => {
             let index = index_of(&command);
             let items = items_with(alloc, command)?;

@@ -221,6 +221,17 @@ pub fn put<T: Drop, A: Allocator>(items: &mut Vec<T, A>, item: T) -> Result<(), 
     }
 }
 
+/// Puts these items behind the others.
+pub fn put_all<T: Drop, A: Allocator>(
+    items: &mut Vec<T, A>,
+    new: Vec<T, A>,
+) -> Result<(), AllocError> {
+    for item in new {
+        put(items, item)?;
+    }
+    Ok(())
+}
+
 /// That item alone.
 pub fn one<T: Drop, A: Allocator>(alloc: A, item: T) -> Result<Vec<T, A>, AllocError> {
     let mut items = Vec::new(alloc);
