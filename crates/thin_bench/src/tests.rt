@@ -98,8 +98,8 @@ fn assert_capacity<G: Growth, R: Abort>(rt: &R, alloc: Global, capacity: usize) 
     let mut list = ThinVec::<u32, Global, G>::ruled(alloc);
     let mut commands = pushes(rt, alloc, 5);
     put(&mut commands, Command::Pop).ok().expect(rt, "memory");
-    let mut replies = replies_of(rt, alloc, &mut list, commands);
-    assert!(rt; matches!(replies.pop(), Some(Reply::Item(Some(4)))));
+    let replies = replies_of(rt, alloc, &mut list, commands);
+    assert!(rt; matches!(replies.as_slice().last(), Some(Reply::Item(Some(4)))));
     assert_eq!(rt; list.capacity(), capacity);
 }
 
@@ -112,20 +112,29 @@ fn runs_under_each_growth_rule(rt: HostRuntime) {
     assert_capacity::<Fourfold, _>(&rt, alloc, 16);
 }
 
+// Asserts that a run whose first request is refused is refused, and gives no reply.
+fn assert_refused<'a, T: Clone + Eq, R: Abort>(
+    rt: &R,
+    alloc: Lender<'a>,
+    list: &mut ThinVec<T, Lender<'a>>,
+    commands: Vec<Command<T, Lender<'a>>, Lender<'a>>,
+) {
+    let mut replies = Vec::new(alloc);
+    alloc.refuse(1);
+    let refused = run(alloc, list, commands, &mut replies, &Agrees);
+    assert!(rt; refused == Err(ThinVecError::OutOfMemory));
+    assert!(rt; replies.is_empty());
+}
+
 #[test]
 fn run_is_refused_room_for_its_replies(rt: HostRuntime) {
     let refusing = Refusing::new(rt.alloc(), 0);
     let alloc = &refusing;
     let mut list = ThinVec::new(alloc);
     assert!(rt; list.push(7).is_ok());
-    let mut replies = Vec::new(alloc);
     let commands = commands_of(&rt, alloc, [Command::Push(1), Command::Pop]);
-
-    refusing.refuse(1);
-    let refused = run(alloc, &mut list, commands, &mut replies, &Agrees);
-    assert!(rt; refused == Err(ThinVecError::OutOfMemory));
+    assert_refused(&rt, alloc, &mut list, commands);
     assert_holds(&rt, &list, &[7], 4);
-    assert!(rt; replies.is_empty());
     assert_eq!(rt; refusing.requests(), 1);
 }
 
@@ -372,11 +381,9 @@ fn a_refused_run_drops_its_commands(rt: HostRuntime) {
     let refusing = Refusing::new(rt.alloc(), 0);
     let alloc = &refusing;
     let mut list = ThinVec::new(alloc);
-    let mut replies = Vec::new(alloc);
     let commands = pushes_of_lists(&rt, alloc);
     assert_eq!(rt; refusing.blocks(), 4);
-    refusing.refuse(1);
-    assert!(rt; run(alloc, &mut list, commands, &mut replies, &Agrees).is_err());
+    assert_refused(&rt, alloc, &mut list, commands);
     assert_eq!(rt; (refusing.requests(), refusing.blocks()), (1, 0));
 }
 
@@ -428,11 +435,20 @@ impl<T> Judge<T> for Agrees {
     }
 }
 
+// The reply to a command.
+fn reply_to<T: Clone + Eq>(
+    alloc: Global,
+    list: &mut ThinVec<T, Global>,
+    command: Command<T, Global>,
+) -> Reply<T, Global> {
+    step(alloc, list, command, &Agrees)
+}
+
 // Asserts that an empty list of texts is resized to three.
 fn assert_texts<R: Abort>(rt: &R, alloc: Global) {
     let mut texts: ThinVec<String, Global> = ThinVec::new(alloc);
     let resize = Command::Resize(3, String::new(alloc));
-    let resized = step(alloc, &mut texts, resize, &Agrees);
+    let resized = reply_to(alloc, &mut texts, resize);
     assert!(rt; matches!(resized, Reply::Done) && texts.len() == 3);
 }
 
@@ -440,9 +456,9 @@ fn assert_texts<R: Abort>(rt: &R, alloc: Global) {
 fn assert_boxes<R: Abort>(rt: &R, alloc: Global) {
     let boxed = Box::new(alloc, 7).ok().expect(rt, "memory");
     let mut boxes: ThinVec<Box<i32, Global>, Global> = ThinVec::new(alloc);
-    let pushed = step(alloc, &mut boxes, Command::Push(boxed), &Agrees);
+    let pushed = reply_to(alloc, &mut boxes, Command::Push(boxed));
     assert!(rt; matches!(pushed, Reply::Done));
-    let cloned = step(alloc, &mut boxes, Command::Clone, &Agrees);
+    let cloned = reply_to(alloc, &mut boxes, Command::Clone);
     assert!(rt; matches!(cloned, Reply::List(_)));
 }
 

@@ -1,4 +1,6 @@
 //! The worked rows: a function each, which does what the row says and compares.
+ghost use Rattle.std.specs.Prelude.{◌≡◌, IfOk};
+
 mod bulk;
 mod commands;
 mod edits;
@@ -69,6 +71,16 @@ pub fn row<A: Allocator + Copy>(alloc: A, number: u32) -> Outcome {
         41 => row_41(alloc),
         _ => Ok(false),
     }
+}
+
+// A list of these numbers, without room to spare.
+fn listed<A: Allocator, const N: usize>(
+    alloc: A,
+    items: [i32; N],
+) -> Result<ThinVec<i32, A>, ThinVecError>
+    ensures items { IfOk result (λ list. list.items ≡ items.entry) }
+{
+    Ok(ThinVec::from_array(alloc, items)?)
 }
 
 // Whether the list has these items and this capacity.

@@ -332,18 +332,31 @@ fn commands_of<'a, 's, T: Sample<Lender<'a>>, G: Growth, R: Abort>(
     commands
 }
 
-// Asserts that the replies of a run show what is worked out.
-fn assert_replies<'a, 's, T: Drop + Debug, G: Growth, R: Abort>(
+// What the replies of a run show.
+fn show_all<'a, T: Drop, G: Growth, R: Abort>(
     rt: &R,
     alloc: Lender<'a>,
     replies: Vec<Reply<T, Lender<'a>, G>, Lender<'a>>,
+) -> Vec<Shown<T, Lender<'a>>, Lender<'a>> {
+    let mut all = Vec::new(alloc);
+    for reply in replies {
+        let shown = show(alloc, reply).ok().expect(rt, "memory");
+        put(&mut all, shown).ok().expect(rt, "memory");
+    }
+    all
+}
+
+// Asserts that the replies of a run show what is worked out.
+fn assert_replies<'a, 's, T: Drop + Debug, R: Abort>(
+    rt: &R,
+    alloc: Lender<'a>,
+    all: &[Shown<T, Lender<'a>>],
     worked: &[Worked<'s>],
 ) {
     let mut next = worked.iter();
-    for reply in replies {
-        let shown = show(alloc, reply).ok().expect(rt, "memory");
+    for shown in all {
         if let Some((order, reply, _)) = next.next() {
-            assert_shown(rt, alloc, &shown, order, reply);
+            assert_shown(rt, alloc, shown, order, reply);
         }
     }
 }
@@ -360,7 +373,8 @@ fn assert_run<'a, 's, T: Sample<Lender<'a>> + Debug, G: Ruled, J: Judge<T>, R: A
     let commands = commands_of(rt, alloc, worked);
     let ran = run(alloc, list, commands, &mut replies, judge);
     assert!(rt; ran.is_ok() && replies.len() == worked.len());
-    assert_replies(rt, alloc, replies, worked);
+    let all = show_all(rt, alloc, replies);
+    assert_replies(rt, alloc, all.as_slice(), worked);
     if let Some((order, _, end)) = worked.last() {
         assert_list(rt, alloc, list, order, end);
     }
@@ -388,11 +402,11 @@ fn is_refused<'a, T: Sample<Lender<'a>>, G: Ruled, J: Judge<T>, R: Abort>(
     model: &mut Model<T, Lender<'a>, G>,
     order: &Order,
     judge: &J,
-    reply: Reply<T, Lender<'a>, G>,
+    given: &Shown<T, Lender<'a>>,
     nth: u64,
 ) -> bool {
     let (form, cause) = model
-        .follow(alloc, *order, judge, reply, 1)
+        .follow(alloc, *order, judge, given, 1)
         .ok()
         .expect(rt, "memory");
     assert!(rt; form != Form::Never, "{order:?}, refused {nth}");
@@ -405,15 +419,15 @@ fn refusals_of<'a, 's, T: Sample<Lender<'a>>, G: Ruled, J: Judge<T>, R: Abort>(
     alloc: Lender<'a>,
     model: &mut Model<T, Lender<'a>, G>,
     judge: &J,
-    replies: Vec<Reply<T, Lender<'a>, G>, Lender<'a>>,
+    all: &[Shown<T, Lender<'a>>],
     worked: &[Worked<'s>],
     nth: u64,
 ) -> u64 {
     let mut refusals: u64 = 0;
     let mut next = worked.iter();
-    for reply in replies {
+    for given in all {
         if let Some((order, _, _)) = next.next() {
-            let refused = is_refused(rt, alloc, model, order, judge, reply, nth);
+            let refused = is_refused(rt, alloc, model, order, judge, given, nth);
             refusals = refusals.saturating_add(u64::from(refused));
         }
     }
@@ -437,7 +451,8 @@ fn refused_run<'a, 's, T: Sample<Lender<'a>>, G: Ruled, J: Judge<T>, R: Abort>(
     let refused = alloc.requests() >= nth;
     alloc.refuse(0);
     assert_eq!(rt; ran.is_err(), nth == 1);
-    let of_commands = refusals_of(rt, alloc, &mut model, judge, replies, worked, nth);
+    let all = show_all(rt, alloc, replies);
+    let of_commands = refusals_of(rt, alloc, &mut model, judge, all.as_slice(), worked, nth);
     let refusals = of_commands.saturating_add(u64::from(ran.is_err()));
     assert!(rt;
         model.is(&list) && refusals == u64::from(refused),

@@ -5,7 +5,7 @@ use other_rules::{Fourfold, Threefold};
 use std::alloc::{AllocError, Allocator};
 use std::marker::PhantomData;
 use std::mem;
-use thin_runner::command::{Reply, Step};
+use thin_runner::command::Step;
 use thin_runner::judge::Judge;
 use thin_runner::runner::step;
 use thin_vec::{Doubling, Growth, PowerBytes, ThinVec, ThinVecError};
@@ -484,13 +484,16 @@ impl<T: Sample<A>, A: Allocator + Copy, G: Ruled> Model<T, A, G> {
         Shown::plain(alloc, Form::Done, None)
     }
 
-    // What a command does, and replies, whose index or range is one of the list.
-    fn change_by<J: Judge<T>>(
+    // What a command does, and replies, where no request is refused.
+    fn step<J: Judge<T>>(
         &mut self,
         alloc: A,
         order: Order,
         judge: &J,
     ) -> Result<Shown<T, A>, AllocError> {
+        if !self.is_in_range(order) {
+            return self.out_of_range(alloc, order);
+        }
         let len = self.len();
         let at = order.at;
         match order.kind {
@@ -518,20 +521,6 @@ impl<T: Sample<A>, A: Allocator + Copy, G: Ruled> Model<T, A, G> {
             Kind::Drain => self.drain(alloc, order),
             Kind::ExtractIf => self.extract_if(alloc, order, *judge),
             Kind::Splice => self.splice(alloc, at, order.to, order),
-        }
-    }
-
-    // What a command does, and replies, where no request is refused.
-    fn step<J: Judge<T>>(
-        &mut self,
-        alloc: A,
-        order: Order,
-        judge: &J,
-    ) -> Result<Shown<T, A>, AllocError> {
-        if self.is_in_range(order) {
-            self.change_by(alloc, order, judge)
-        } else {
-            self.out_of_range(alloc, order)
         }
     }
 
@@ -615,34 +604,21 @@ impl<T: Sample<A>, A: Allocator + Copy, G: Ruled> Model<T, A, G> {
         }
     }
 
-    // What a command is to reply, by what its reply shows.
-    fn wanted<J: Judge<T>>(
+    /// Does a command, of which what its reply shows tells whether a request was refused to it, and which one that was if items
+    /// are cloned. Answers what the reply is, or `Never`.
+    pub fn follow<J: Judge<T>>(
         &mut self,
         alloc: A,
         order: Order,
         judge: &J,
         given: &Shown<T, A>,
         nth: u64,
-    ) -> Result<Shown<T, A>, AllocError> {
-        if given.cause == Some(ThinVecError::OutOfMemory) {
-            self.refuse(alloc, order, given, nth)
-        } else {
-            self.step(alloc, order, judge)
-        }
-    }
-
-    /// Does a command, of which the reply tells whether a request was refused to it, and which one that was if items are cloned.
-    /// Answers what the reply is, or `Never`.
-    pub fn follow<J: Judge<T>>(
-        &mut self,
-        alloc: A,
-        order: Order,
-        judge: &J,
-        reply: Reply<T, A, G>,
-        nth: u64,
     ) -> Result<(Form, Option<ThinVecError>), AllocError> {
-        let given = show(alloc, reply)?;
-        let wanted = self.wanted(alloc, order, judge, &given, nth)?;
+        let wanted = if given.cause == Some(ThinVecError::OutOfMemory) {
+            self.refuse(alloc, order, given, nth)?
+        } else {
+            self.step(alloc, order, judge)?
+        };
         let form = if given.is(&wanted) {
             given.form
         } else {
@@ -675,20 +651,20 @@ fn has_its_blocks<'a, T: Sample<Lender<'a>>, G: Ruled>(
     blocks == alloc.blocks()
 }
 
-// The runner's reply to a command of which the request of that number is refused, and whether that request was reached.
-fn reply_of<'a, T: Sample<Lender<'a>>, G: Ruled, J: Judge<T>>(
+// What the runner's reply shows to a command of which the request of that number is refused, and whether that request was reached.
+fn shown_by_runner<'a, T: Sample<Lender<'a>>, G: Ruled, J: Judge<T>>(
     alloc: Lender<'a>,
     list: &mut ThinVec<T, Lender<'a>, G>,
     order: Order,
     judge: &J,
     nth: u64,
-) -> Result<(Reply<T, Lender<'a>, G>, bool), AllocError> {
+) -> Result<(Shown<T, Lender<'a>>, bool), AllocError> {
     let command = command_of(alloc, order)?;
     alloc.refuse(nth);
     let reply = step(alloc, list, command, judge);
     let refused = nth > 0 && alloc.requests() >= nth;
     alloc.refuse(0);
-    Ok((reply, refused))
+    Ok((show(alloc, reply)?, refused))
 }
 
 /// A command by both, of which the request of that number is refused, or none at 0. Answers the reply, `Never` where they differ,
@@ -701,8 +677,9 @@ pub fn both<'a, T: Sample<Lender<'a>>, G: Ruled, J: Judge<T>>(
     judge: &J,
     nth: u64,
 ) -> Result<(Form, Option<ThinVecError>), AllocError> {
-    let (reply, refused) = reply_of(alloc, list, order, judge, nth)?;
-    let (form, cause) = model.follow(alloc, order, judge, reply, nth)?;
+    let (given, refused) = shown_by_runner(alloc, list, order, judge, nth)?;
+    let (form, cause) = model.follow(alloc, order, judge, &given, nth)?;
+    drop(given);
     let told = cause == Some(ThinVecError::OutOfMemory);
     if told == refused && model.is(list) && has_its_blocks(alloc, list, model) {
         Ok((form, cause))

@@ -6,31 +6,39 @@ use thin_runner::command::{Command, Reply, Step};
 use thin_runner::runner::run;
 use thin_vec::{ThinVec, ThinVecError};
 
+// Puts an item behind the others.
+fn put<T: Drop, A: Allocator>(items: &mut Vec<T, A>, item: T) -> Result<(), ThinVecError> {
+    match items.push(item) {
+        Ok(()) => Ok(()),
+        Err(_refused) => Err(ThinVecError::OutOfMemory),
+    }
+}
+
 pub fn row_1<A: Allocator + Copy>(alloc: A) -> Outcome {
     let mut list: ThinVec<i32, A> = ThinVec::new(alloc);
     let new = list.len() == 0 && list.capacity() == 0 && list.as_slice().is_empty();
     let mut commands = Vec::new(alloc);
-    if commands.push(Command::Pop).is_err() {
-        return Err(ThinVecError::OutOfMemory);
-    }
+    put(&mut commands, Command::Pop)?;
     let replies = replies_of(alloc, &mut list, commands)?;
     let none = matches!(replies.as_slice(), [Reply::Item(None)]);
     Ok(new && none && list.capacity() == 0)
 }
 
+// An insert past the end, a push, and a walk past the end of the one item.
+fn past_the_end<A: Allocator + Copy>(alloc: A) -> Result<Vec<Command<i32, A>, A>, ThinVecError> {
+    let mut steps = Vec::new(alloc);
+    put(&mut steps, Step::Back)?;
+    put(&mut steps, Step::Front)?;
+    let mut commands = Vec::new(alloc);
+    put(&mut commands, Command::Insert(9, 1))?;
+    put(&mut commands, Command::Push(5))?;
+    put(&mut commands, Command::Drain(0, 1, steps))?;
+    Ok(commands)
+}
+
 pub fn row_41<A: Allocator + Copy>(alloc: A) -> Outcome {
     let mut list: ThinVec<i32, A> = ThinVec::new(alloc);
-    let mut steps = Vec::new(alloc);
-    let mut commands = Vec::new(alloc);
-    if steps.push(Step::Back).is_err()
-        || steps.push(Step::Front).is_err()
-        || commands.push(Command::Insert(9, 1)).is_err()
-        || commands.push(Command::Push(5)).is_err()
-        || commands.push(Command::Drain(0, 1, steps)).is_err()
-    {
-        return Err(ThinVecError::OutOfMemory);
-    }
-    let replies = replies_of(alloc, &mut list, commands)?;
+    let replies = replies_of(alloc, &mut list, past_the_end(alloc)?)?;
     let told = match replies.as_slice() {
         [
             Reply::OutOfRange(Command::Insert(9, 1)),

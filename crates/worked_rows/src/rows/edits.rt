@@ -1,12 +1,12 @@
 //! Rows of edits: calls that stay beside the list while they work, and the test for their ranges.
-use crate::rows::{Outcome, holds};
+use crate::rows::{Outcome, holds, listed};
 use std::alloc::Allocator;
 use std::fmt::Debug;
 use std::ops::Bound;
-use thin_vec::{ThinVec, bounds, thin_vec};
+use thin_vec::bounds;
 
 pub fn row_7<A: Allocator + Copy>(alloc: A) -> Outcome {
-    let mut list = thin_vec![alloc => 1, 2, 3, 4, 5, 6]?;
+    let mut list = listed(alloc, [1, 2, 3, 4, 5, 6])?;
     let mut drain = list.drain(1, 5);
     let ends = [drain.next(), drain.next_back()] == [Some(2), Some(5)];
     drop(drain);
@@ -18,7 +18,7 @@ fn is_even(item: i32) -> bool {
 }
 
 pub fn row_8<A: Allocator + Copy>(alloc: A) -> Outcome {
-    let mut list = thin_vec![alloc => 1, 2, 3, 4, 5, 6]?;
+    let mut list = listed(alloc, [1, 2, 3, 4, 5, 6])?;
     let mut extract = list.extract_if(1, 5, |item: &mut i32| is_even(*item));
     let before = extract.size_hint() == (0, Some(4));
     let first = extract.next() == Some(2);
@@ -28,7 +28,7 @@ pub fn row_8<A: Allocator + Copy>(alloc: A) -> Outcome {
 }
 
 pub fn row_9<A: Allocator + Copy>(alloc: A) -> Outcome {
-    let mut list = thin_vec![alloc => 1, 2, 3, 4]?;
+    let mut list = listed(alloc, [1, 2, 3, 4])?;
     let mut extract = list.extract_if(0, 4, |item: &mut i32| {
         *item = item.wrapping_add(1);
         *item == 3
@@ -61,7 +61,7 @@ pub fn row_18<A: Allocator + Copy>(_alloc: A) -> Outcome {
 }
 
 pub fn row_33<A: Allocator + Copy>(alloc: A) -> Outcome {
-    let mut list = thin_vec![alloc => 1, 2, 3, 4, 5, 6, 8, 9, 11, 13, 14, 15]?;
+    let mut list = listed(alloc, [1, 2, 3, 4, 5, 6, 8, 9, 11, 13, 14, 15])?;
     let mut extract = list.extract_if(0, 12, |item: &mut i32| is_even(*item));
     let mut given = true;
     for wanted in [2, 4, 6, 8, 14] {
@@ -77,14 +77,18 @@ fn shows<T: Debug, A: Allocator>(alloc: A, value: &T, text: &str) -> Outcome {
     Ok(format!(in alloc; "{value:?}")?.as_str() == text)
 }
 
+// Whether the items that a `Drain` has yet to hand out are written.
+fn shows_drain<A: Allocator + Copy>(alloc: A) -> Outcome {
+    let mut list = listed(alloc, [1, 2, 3])?;
+    let drain = list.drain(1, 2);
+    shows(alloc, &drain, "Drain([2])")
+}
+
 pub fn row_35<A: Allocator + Copy>(alloc: A) -> Outcome {
-    let list = thin_vec![alloc => 1, 2, 3]?;
+    let list = listed(alloc, [1, 2, 3])?;
     let whole = shows(alloc, &list, "[1, 2, 3]")?;
     let mut items = list.into_iter();
     let first = items.next() == Some(1);
     let rest = shows(alloc, &items, "IntoIter([2, 3])")?;
-    let mut anew = thin_vec![alloc => 1, 2, 3]?;
-    let drain = anew.drain(1, 2);
-    let range = shows(alloc, &drain, "Drain([2])")?;
-    Ok(first && whole && rest && range)
+    Ok(first && whole && rest && shows_drain(alloc)?)
 }

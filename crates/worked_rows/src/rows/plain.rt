@@ -18,14 +18,17 @@ pub fn row_2<A: Allocator + Copy>(alloc: A) -> Outcome {
     Ok(ruled && list.as_slice() == [1, 2, 3, 4, 5].as_slice())
 }
 
+// Whether a full list of three items has that capacity once so much room is reserved.
+fn reserves<A: Allocator + Copy>(alloc: A, additional: usize, capacity: usize) -> Outcome {
+    let mut list = thin_vec![alloc => 1, 2, 3]?;
+    list.reserve(additional)?;
+    Ok(list.capacity() == capacity)
+}
+
 pub fn row_4<A: Allocator + Copy>(alloc: A) -> Outcome {
-    let mut ruled = thin_vec![alloc => 1, 2, 3]?;
-    ruled.reserve(1)?;
-    let mut far = thin_vec![alloc => 1, 2, 3]?;
-    far.reserve(10)?;
     let mut exact = thin_vec![alloc => 1, 2, 3]?;
     exact.reserve_exact(1)?;
-    Ok(ruled.capacity() == 6 && far.capacity() == 13 && exact.capacity() == 4)
+    Ok(reserves(alloc, 1, 6)? && reserves(alloc, 10, 13)? && exact.capacity() == 4)
 }
 
 pub fn row_5<A: Allocator + Copy>(alloc: A) -> Outcome {
@@ -40,12 +43,19 @@ pub fn row_5<A: Allocator + Copy>(alloc: A) -> Outcome {
 
 pub fn row_6<A: Allocator + Copy>(alloc: A) -> Outcome {
     let mut list = thin_vec![alloc => "foo", "bar", "baz", "qux"]?;
-    let bar = list.swap_remove(1) == "bar" && list.as_slice() == ["foo", "qux", "baz"].as_slice();
-    if list.is_empty() {
-        return Ok(false);
-    }
-    let foo = list.swap_remove(0) == "foo" && list.as_slice() == ["baz", "qux"].as_slice();
+    let bar = swaps_out(&mut list, 1, "bar", &["foo", "qux", "baz"]);
+    let foo = swaps_out(&mut list, 0, "foo", &["baz", "qux"]);
     Ok(bar && foo && list.capacity() == 4)
+}
+
+// Whether `swap_remove` hands that word out, and leaves these.
+fn swaps_out<A: Allocator>(
+    list: &mut ThinVec<&'static str, A>,
+    index: usize,
+    word: &str,
+    left: &[&str],
+) -> bool {
+    index < list.len() && list.swap_remove(index) == word && list.as_slice() == left
 }
 
 pub fn row_17<A: Allocator + Copy>(alloc: A) -> Outcome {

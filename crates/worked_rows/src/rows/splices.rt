@@ -1,22 +1,31 @@
 //! Rows of `splice`.
 use crate::rows::bulk::claiming;
-use crate::rows::{Outcome, holds};
+use crate::rows::{Outcome, holds, listed};
 use std::alloc::Allocator;
 use std::iter::{empty, once};
-use thin_vec::{SpliceRefused, ThinVec, ThinVecError, thin_vec};
+use thin_vec::{SpliceRefused, ThinVec, ThinVecError};
 
-pub fn row_10<A: Allocator + Copy>(alloc: A) -> Outcome {
-    let mut list = thin_vec![alloc => 1, 2, 3, 4, 5]?;
+// Whether room is made for as many items as are claimed.
+fn makes_room<A: Allocator + Copy>(alloc: A) -> Outcome {
+    let mut list = listed(alloc, [1, 2, 3, 4, 5])?;
     let items = claiming(alloc, [10, 11, 12], 1000)?;
     list.splice(2, 4, items).finish(alloc)?;
-    let mut anew = thin_vec![alloc => 1, 2, 3, 4, 5]?;
-    anew.splice(2, 4, 10..13).finish(alloc)?;
-    let filled = [1, 2, 10, 11, 12, 5];
-    Ok(holds(&list, &filled, 1005) && holds(&anew, &filled, 10))
+    Ok(holds(&list, &[1, 2, 10, 11, 12, 5], 1005))
+}
+
+// Whether three items come in for two.
+fn replaces_two<A: Allocator + Copy>(alloc: A) -> Outcome {
+    let mut list = listed(alloc, [1, 2, 3, 4, 5])?;
+    list.splice(2, 4, 10..13).finish(alloc)?;
+    Ok(holds(&list, &[1, 2, 10, 11, 12, 5], 10))
+}
+
+pub fn row_10<A: Allocator + Copy>(alloc: A) -> Outcome {
+    Ok(makes_room(alloc)? && replaces_two(alloc)?)
 }
 
 pub fn row_11<A: Allocator + Copy>(alloc: A) -> Outcome {
-    let mut list = thin_vec![alloc => 1, 2, 3, 4, 5]?;
+    let mut list = listed(alloc, [1, 2, 3, 4, 5])?;
     let items = claiming(alloc, [10, 11, 12], usize::MAX)?;
     match list.splice(2, 4, items).finish(alloc) {
         Ok(()) => Ok(false),
@@ -50,12 +59,8 @@ fn edits_nothing<A: Allocator + Copy>(alloc: A, list: &mut ThinVec<i32, A>) -> O
     Ok(nothing && !list.has_capacity())
 }
 
-pub fn row_22<A: Allocator + Copy>(alloc: A) -> Outcome {
-    let mut list = ThinVec::new(alloc);
-    let none = !list.has_capacity();
-    list.shrink_to_fit()?;
-    let other = list.split_off(alloc, 0)?;
-    let clone = list.clone(alloc)?;
+// Whether the calls that ask about items ask about none.
+fn asks_about_none<A: Allocator>(list: &mut ThinVec<i32, A>) -> bool {
     let mut calls = 0u32;
     list.retain(|_item| {
         calls = calls.wrapping_add(1);
@@ -65,13 +70,22 @@ pub fn row_22<A: Allocator + Copy>(alloc: A) -> Outcome {
         calls = calls.wrapping_add(1);
         true
     });
-    let uncalled = calls == 0 && holds(&other, &[], 0) && holds(&clone, &[], 0);
-    Ok(none && uncalled && edits_nothing(alloc, &mut list)?)
+    calls == 0
+}
+
+pub fn row_22<A: Allocator + Copy>(alloc: A) -> Outcome {
+    let mut list = ThinVec::new(alloc);
+    let none = !list.has_capacity();
+    list.shrink_to_fit()?;
+    let other = list.split_off(alloc, 0)?;
+    let clone = list.clone(alloc)?;
+    let empty = holds(&other, &[], 0) && holds(&clone, &[], 0);
+    Ok(none && empty && asks_about_none(&mut list) && edits_nothing(alloc, &mut list)?)
 }
 
 // Whether a range that is handed out whole, and nothing that takes its place, leave an empty list.
 fn empties<A: Allocator + Copy>(alloc: A) -> Outcome {
-    let mut list = thin_vec![alloc => 1, 2, 3, 4, 5]?;
+    let mut list = listed(alloc, [1, 2, 3, 4, 5])?;
     let mut splice = list.splice(0, 5, empty());
     let first = [splice.next(), splice.next(), splice.next()] == [Some(1), Some(2), Some(3)];
     let last = [splice.next(), splice.next()] == [Some(4), Some(5)];
@@ -79,25 +93,33 @@ fn empties<A: Allocator + Copy>(alloc: A) -> Outcome {
     Ok(first && last && holds(&list, &[], 5))
 }
 
-// Whether a second splice takes out what a first one put in.
-fn twice<A: Allocator + Copy>(alloc: A) -> Outcome {
-    let mut list = thin_vec![alloc => 1, 2, 3, 4, 5]?;
+// Whether a splice of the numbers from 1 to 5 hands out two items, and puts three in.
+fn puts_in<A: Allocator + Copy>(alloc: A, list: &mut ThinVec<i32, A>) -> Outcome {
+    if list.len() < 4 {
+        return Ok(false);
+    }
     let mut splice = list.splice(2, 4, 10..13);
     let ends = [splice.next(), splice.next_back()] == [Some(3), Some(4)];
     splice.finish(alloc)?;
-    let put = holds(&list, &[1, 2, 10, 11, 12, 5], 10);
+    Ok(ends && holds(list, &[1, 2, 10, 11, 12, 5], 10))
+}
+
+// Whether a second splice hands out what the first one put in.
+fn takes_out<A: Allocator + Copy>(alloc: A, list: &mut ThinVec<i32, A>) -> Outcome {
     if list.len() < 3 {
         return Ok(false);
     }
     let mut again = list.splice(1, 3, once(20));
     let taken = [again.next(), again.next()] == [Some(2), Some(10)];
     again.finish(alloc)?;
-    Ok(ends && put && taken && holds(&list, &[1, 20, 11, 12, 5], 10))
+    Ok(taken && holds(list, &[1, 20, 11, 12, 5], 10))
 }
 
 pub fn row_32<A: Allocator + Copy>(alloc: A) -> Outcome {
     let mut list = ThinVec::new(alloc);
     list.splice(0, 0, 10..13).finish(alloc)?;
     let behind = holds(&list, &[10, 11, 12], 4);
-    Ok(behind && empties(alloc)? && twice(alloc)?)
+    let mut spliced = listed(alloc, [1, 2, 3, 4, 5])?;
+    let twice = puts_in(alloc, &mut spliced)? && takes_out(alloc, &mut spliced)?;
+    Ok(behind && twice && empties(alloc)?)
 }
