@@ -34,3 +34,15 @@ returns-clause-ok g c =
     let all : c.args.commands.items ≡ ran.done = ran.split ∙ (ap (λ l. ran.done ++ l) none ∙ append-nil ran.done) in
     headline (setting g.T.Clone.is_clone g.T.Clone.is_infallible g.T.PartialEq.eq g.J.Judge.judging g.G.Growth.rule (param 0 g.row.T) c.args.alloc c.args.judge.now) g.met.G.Growth.law
     _ _ _ _ _ _ _ c.capacity-capacity.ensures.within c.capacity-end.ensures.within all ran.appended ran.ran
+
+pub returns-clause-succeeds : goal.returns-clause-succeeds
+returns-clause-succeeds g c = search rules
+
+pub returns-clause-err : goal.returns-clause-err
+returns-clause-err g c = search rules
+
+pub returns-clause-cause : goal.returns-clause-cause
+returns-clause-cause g c = search rules
+
+pub returns-in-Err : goal.returns-in-Err
+returns-in-Err g c = search rules

@@ -1,5 +1,6 @@
 -- The range goes out of one list, and comes in behind the other.
-use Rattle.std.proofs.Common.{rules}
+use Rattle.std.proofs.Common.{arith, rules}
+use Rattle.std.proofs.lemmas.Grind.{common_steps}
 use Rattle.thin_vec_uses.proofs.moved_range.move_range.Goals as goal
 
 pub returns-clause-items : goal.returns-clause-items
@@ -7,3 +8,12 @@ returns-clause-items g c = search rules
 
 pub returns-clause-other_items : goal.returns-clause-other_items
 returns-clause-other_items g c = search rules
+
+pub returns-clause-succeeds : goal.returns-clause-succeeds
+returns-clause-succeeds g c = search rules
+
+pub returns-in_err-reserve : goal.returns-in_err-reserve
+returns-in_err-reserve g c = search rules
+
+pub returns-in_err-extend : goal.returns-in_err-extend
+returns-in_err-extend g c = grind (arith, common_steps)
