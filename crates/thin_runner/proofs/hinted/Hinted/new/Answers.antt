@@ -1,5 +1,5 @@
 -- A run gives the items that are left, since each call takes the first of them.
-use Rattle.std.proofs.Common.{length, ap}
+use Rattle.std.proofs.Common.{length, ap, rules}
 use Rattle.std.proofs.iter.runs.Sources.{from_front, as_is}
 use Rattle.thin_runner.specs.Hinted.{HintedSteps, hinted_items}
 use Rattle.thin_runner.proofs.hinted.Hinted.new.Goals as goal
@@ -8,3 +8,6 @@ pub returns-clause-runs : goal.returns-clause-runs
 returns-clause-runs g c run seen =
     let steps = HintedSteps {T = g.row.T.Denot} {A = g.row.A.Denot} in
     as_is run _ (from_front steps (λ item. item) hinted_items (λ old new step. ap length step.0.0) (λ old item new step. step.0) run seen)
+
+pub returns-clause-claim : goal.returns-clause-claim
+returns-clause-claim g c = search rules

@@ -1,0 +1,6 @@
+-- The claim is answered as it was made.
+use Rattle.std.proofs.Common.{rules}
+use Rattle.thin_runner.proofs.hinted.HintedIterator.size_hint.Goals as goal
+
+pub returns-clause-value : goal.returns-clause-value
+returns-clause-value g c = search rules
