@@ -1,4 +1,5 @@
 -- Refused, what was placed is what the first calls gave.
+use Rattle.std.proofs.Common.{rules}
 use Rattle.thin_vec.proofs.ExtendLemmas.{yields-first}
 use Rattle.thin_vec.proofs.extend.ThinVecExtend.extend.Goals as goal
 
@@ -8,3 +9,9 @@ returns-in-Err g c =
     let steps = g.U.IntoIter.Iterator.next_gives in
     let first = yields-first steps c.into_iter.result c.in-Err._refused.rest placed.0 _ placed.2 in
     record { ran = (c.into_iter.result, placed.0, c.into_iter.ensures.into_iter_gives, placed.1, first) }
+
+pub extend-requires-clause-can_next : goal.extend-requires-clause-can_next
+extend-requires-clause-can_next g c = search rules
+
+pub returns-in-Ok : goal.returns-in-Ok
+returns-in-Ok g c = search rules

@@ -1,5 +1,5 @@
 -- The cause, by the slice's length.
-use Rattle.std.proofs.Common.{◌∙◌, ap}
+use Rattle.std.proofs.Common.{rules, ◌∙◌, ap}
 use denote.Param.{param}
 use Rattle.thin_block.specs.Growth.{exact_capacity}
 use Rattle.thin_block.proofs.Outcomes.{err-same}
@@ -10,3 +10,9 @@ returns-in-Err-clause-overflow g c =
     λ none. err-same (c.in-Err.ensures.overflow
     (ap (λ n. exact_capacity (param 0 g.row.T) 0 n) (c.len.ensures ∙ c.args.items.items.ok.0)
     ∙ none))
+
+pub returns-in-Ok-clause-capacity : goal.returns-in-Ok-clause-capacity
+returns-in-Ok-clause-capacity g c = search rules
+
+pub returns-in-Ok-clause-cost : goal.returns-in-Ok-clause-cost
+returns-in-Ok-clause-cost g c = search rules

@@ -1,5 +1,5 @@
 -- The tail has room behind it, and once it is up, as many more empty slots before it.
-use Rattle.std.proofs.Common.{◌≡◌, ℕ, ◌+◌, ◌≤◌, ◌∙◌, ap, arith}
+use Rattle.std.proofs.Common.{rules, ◌≡◌, ℕ, ◌+◌, ◌≤◌, ◌∙◌, ap, arith}
 use Rattle.thin_vec.specs.Hole.{Shows, open_of}
 use Rattle.thin_vec.specs.Open.{Open, reach}
 use Rattle.thin_vec.specs.declared.hole.Hole.TheInside.{Inside}
@@ -43,3 +43,6 @@ returns-clause-tail g c =
     c.self.view_is c.requires.room in
     ap (λ v. v.tail) (widen-step c.self.inside c.self.invariant c.move_run.new.self c.args.count
     room c.move_run.ensures.slots).view ∙ ap (λ v. v.tail) c.self.view_is
+
+pub returns-clause-cost : goal.returns-clause-cost
+returns-clause-cost g c = search rules

@@ -1,5 +1,5 @@
 -- Fewer items than the capacity fit.
-use Rattle.std.proofs.Common.{ap, arith, length}
+use Rattle.std.proofs.Common.{rules, ap, arith, length}
 use denote.Param.{param}
 use Rattle.thin_block.proofs.CapacityLemmas.{fits-less}
 use Rattle.thin_vec.proofs.IntoIterLemmas.{walked-room}
@@ -21,3 +21,12 @@ with_fitting_capacity-requires g c =
             ap (λ v. length v.items) c.self.view_is,
           ));
     }
+
+pub returns-clause-items : goal.returns-clause-items
+returns-clause-items g c = search rules
+
+pub returns-clause-items_if_clones_equal : goal.returns-clause-items_if_clones_equal
+returns-clause-items_if_clones_equal g c = search rules
+
+pub returns-clause-cost : goal.returns-clause-cost
+returns-clause-cost g c = search rules

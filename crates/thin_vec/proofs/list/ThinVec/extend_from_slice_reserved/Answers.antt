@@ -1,7 +1,8 @@
 -- No clone is refused where none can be; clones that are equal are the items.
-use Rattle.std.proofs.Common.{◌++◌, ap, take_all, ◌∙◌}
+use Rattle.std.proofs.Common.{arith, rules, ◌++◌, ap, take_all, ◌∙◌}
 use Rattle.std.proofs.lemmas.List.Elements.{same_from_all_zip}
 use Rattle.thin_vec.proofs.ClonesLemmas.{not-all}
+use Rattle.std.proofs.lemmas.Grind.{common_steps}
 use Rattle.thin_vec.proofs.list.ThinVec.extend_from_slice_reserved.Goals as goal
 
 pub returns-then-push_clones_reserved-items-clause-succeeds :
@@ -18,3 +19,18 @@ returns-clause-items_if_clones_equal g c = λ equal.
     let placed = c.push_clones_reserved.ensures.items in
     placed.1 ∙ ap (λ ys. old ++ ys) (same_from_all_zip g.T.Clone.is_clone _ placed.0 placed.2 equal
     ∙ take_all c.push_clones_reserved.result items c.if-push_clones_reserved-items.false)
+
+pub returns-then-push_clones_reserved-items-clause-err_items : goal.returns-then-push_clones_reserved-items-clause-err_items
+returns-then-push_clones_reserved-items-clause-err_items g c = grind (arith, common_steps)
+
+pub returns-then-push_clones_reserved-items-clause-refused : goal.returns-then-push_clones_reserved-items-clause-refused
+returns-then-push_clones_reserved-items-clause-refused g c = search rules
+
+pub returns-clause-succeeds : goal.returns-clause-succeeds
+returns-clause-succeeds g c = search rules
+
+pub returns-clause-err_items : goal.returns-clause-err_items
+returns-clause-err_items g c = search rules
+
+pub returns-clause-refused : goal.returns-clause-refused
+returns-clause-refused g c = search rules

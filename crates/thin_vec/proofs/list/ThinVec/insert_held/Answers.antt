@@ -1,5 +1,5 @@
 -- The capacity, or the overflow, is that for as many items as were held.
-use Rattle.std.proofs.Common.{◌++◌, ◌∙◌, ap, arith, drop, length, length-append, subst, sym, take}
+use Rattle.std.proofs.Common.{rules, ◌++◌, ◌∙◌, ap, arith, drop, length, length-append, subst, sym, take}
 use Rattle.std.proofs.lemmas.List.{length-drop, length-take-le}
 use denote.Param.{param}
 use Rattle.thin_vec.specs.Extend.{IsLoose, IsNamed}
@@ -47,3 +47,9 @@ returns-clause-named g c =
 
 pub returns-clause-cost : goal.returns-clause-cost
 returns-clause-cost g c = grind (arith, common_steps)
+
+pub returns-in-Some-clause-placed : goal.returns-in-Some-clause-placed
+returns-in-Some-clause-placed g c = search rules
+
+pub returns-in-Err-clause-placed : goal.returns-in-Err-clause-placed
+returns-in-Err-clause-placed g c = search rules

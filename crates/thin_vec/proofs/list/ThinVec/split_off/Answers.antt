@@ -1,5 +1,5 @@
 -- Fewer items than the length fit.
-use Rattle.std.proofs.Common.{◌-◌, arith}
+use Rattle.std.proofs.Common.{rules, ◌-◌, arith}
 use denote.Param.{param}
 use Rattle.thin_block.proofs.CapacityLemmas.{fits-less}
 use Rattle.thin_vec.proofs.list.ThinVec.split_off.Goals as goal
@@ -10,3 +10,9 @@ with_fitting_capacity-requires g c =
       fits = fits-less (param 0 g.row.T) (c.len.result - c.args.at)
           c.len.result c.len.ensures.fits (omega arith);
     }
+
+pub returns-in_err-tail-clause-other_capacity : goal.returns-in_err-tail-clause-other_capacity
+returns-in_err-tail-clause-other_capacity g c = search rules
+
+pub returns-clause-other_capacity : goal.returns-clause-other_capacity
+returns-clause-other_capacity g c = search rules

@@ -1,0 +1,6 @@
+-- The block has just as many places.
+use Rattle.std.proofs.Common.{rules}
+use Rattle.thin_vec.proofs.capacity.ThinVec+T+A.with_capacity.Goals as goal
+
+pub returns-clause-capacity : goal.returns-clause-capacity
+returns-clause-capacity g c = search rules

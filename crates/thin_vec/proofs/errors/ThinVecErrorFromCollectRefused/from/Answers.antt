@@ -1,0 +1,6 @@
+-- The cause is taken out.
+use Rattle.std.proofs.Common.{rules}
+use Rattle.thin_vec.proofs.errors.ThinVecErrorFromCollectRefused.from.Goals as goal
+
+pub returns : goal.returns
+returns g c = search rules
