@@ -1,8 +1,7 @@
 -- Where there is no hole, the run that stays joins the front without a move.
-use Rattle.std.proofs.Common.{arith, ◌<◌, ◌++◌, ◌∙◌, ap, rules, sym, take}
+use Rattle.std.proofs.Common.{◌<◌, ◌++◌, ◌∙◌, ap, rules, sym, take}
 use Rattle.std.proofs.lemmas.Bool.{false≢true}
 use Rattle.thin_vec.proofs.FiltersLemmas.{moving-before}
-use Rattle.std.proofs.lemmas.Grind.{common_steps}
 use Rattle.thin_vec.proofs.hole.Hole.advance.Goals as goal
 
 -- there is no hole
@@ -27,6 +26,3 @@ returns-clause-advances g c =
       capacity = search rules;
       alloc = search rules;
     }
-
-pub pass-requires-clause-in_bounds : goal.pass-requires-clause-in_bounds
-pass-requires-clause-in_bounds g c = grind (arith, common_steps)
