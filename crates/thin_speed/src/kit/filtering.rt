@@ -6,9 +6,28 @@ use crate::shared::{
 };
 use std::alloc::Global;
 
-/// Keeps every second item.
+/// Runs the workload of that name, or none where there is no such here.
+pub fn run(alloc: Global, workload: &str, size: usize, times: usize) -> Option<Outcome> {
+    Some(match workload {
+        "retain_half" => retain_half(alloc, size, times),
+        "retain_random" => retain_random(alloc, size, times),
+        "retain_but_one" => retain_but_one(alloc, size, times),
+        "retain_runs" => retain_runs(alloc, size, times),
+        "wide_refill" => wide_refill(alloc, size, times),
+        "wide_half" => wide_half(alloc, size, times),
+        "wide_random" => wide_random(alloc, size, times),
+        "wide_but_one" => wide_but_one(alloc, size, times),
+        "wide_runs" => wide_runs(alloc, size, times),
+        "dedup_by_key" => dedup_by_key(alloc, size, times),
+        "extract_if" => extract_if(alloc, size, times),
+        "extract_random" => extract_random(alloc, size, times),
+        _ => return None,
+    })
+}
+
+// Keeps every second item.
 #[inline(never)]
-pub fn retain_half(alloc: Global, size: usize, times: usize) -> Outcome {
+fn retain_half(alloc: Global, size: usize, times: usize) -> Outcome {
     let mut list = filled(alloc, size)?;
     let mut sum = 0;
     for _ in 0..times {
@@ -19,9 +38,9 @@ pub fn retain_half(alloc: Global, size: usize, times: usize) -> Outcome {
     Ok(sum)
 }
 
-/// Keeps half of the items, in no order.
+// Keeps half of the items, in no order.
 #[inline(never)]
-pub fn retain_random(alloc: Global, size: usize, times: usize) -> Outcome {
+fn retain_random(alloc: Global, size: usize, times: usize) -> Outcome {
     let mut list = filled(alloc, size)?;
     let mut sum = 0;
     for _ in 0..times {
@@ -32,9 +51,9 @@ pub fn retain_random(alloc: Global, size: usize, times: usize) -> Outcome {
     Ok(sum)
 }
 
-/// Keeps all items but one.
+// Keeps all items but one.
 #[inline(never)]
-pub fn retain_but_one(alloc: Global, size: usize, times: usize) -> Outcome {
+fn retain_but_one(alloc: Global, size: usize, times: usize) -> Outcome {
     let mut list = filled(alloc, size)?;
     let mut sum = 0;
     for _ in 0..times {
@@ -45,9 +64,9 @@ pub fn retain_but_one(alloc: Global, size: usize, times: usize) -> Outcome {
     Ok(sum)
 }
 
-/// Keeps runs of fifteen.
+// Keeps runs of fifteen.
 #[inline(never)]
-pub fn retain_runs(alloc: Global, size: usize, times: usize) -> Outcome {
+fn retain_runs(alloc: Global, size: usize, times: usize) -> Outcome {
     let mut list = filled(alloc, size)?;
     let mut sum = 0;
     for _ in 0..times {
@@ -68,9 +87,9 @@ fn refill_wide(list: &mut Vec<Wide>, size: usize) -> Result<(), Refused> {
     Ok(())
 }
 
-/// Fills the same list of wide items anew.
+// Fills the same list of wide items anew.
 #[inline(never)]
-pub fn wide_refill(alloc: Global, size: usize, times: usize) -> Outcome {
+fn wide_refill(alloc: Global, size: usize, times: usize) -> Outcome {
     let mut list = Vec::with_capacity(alloc, size)?;
     let mut sum = 0;
     for _ in 0..times {
@@ -80,9 +99,9 @@ pub fn wide_refill(alloc: Global, size: usize, times: usize) -> Outcome {
     Ok(sum)
 }
 
-/// Keeps every second item, where items are wide.
+// Keeps every second item, where items are wide.
 #[inline(never)]
-pub fn wide_half(alloc: Global, size: usize, times: usize) -> Outcome {
+fn wide_half(alloc: Global, size: usize, times: usize) -> Outcome {
     let mut list = Vec::with_capacity(alloc, size)?;
     let mut sum = 0;
     for _ in 0..times {
@@ -93,9 +112,9 @@ pub fn wide_half(alloc: Global, size: usize, times: usize) -> Outcome {
     Ok(sum)
 }
 
-/// Keeps half of the items, in no order, where items are wide.
+// Keeps half of the items, in no order, where items are wide.
 #[inline(never)]
-pub fn wide_random(alloc: Global, size: usize, times: usize) -> Outcome {
+fn wide_random(alloc: Global, size: usize, times: usize) -> Outcome {
     let mut list = Vec::with_capacity(alloc, size)?;
     let mut sum = 0;
     for _ in 0..times {
@@ -106,9 +125,9 @@ pub fn wide_random(alloc: Global, size: usize, times: usize) -> Outcome {
     Ok(sum)
 }
 
-/// Keeps all items but one, where items are wide.
+// Keeps all items but one, where items are wide.
 #[inline(never)]
-pub fn wide_but_one(alloc: Global, size: usize, times: usize) -> Outcome {
+fn wide_but_one(alloc: Global, size: usize, times: usize) -> Outcome {
     let mut list = Vec::with_capacity(alloc, size)?;
     let mut sum = 0;
     for _ in 0..times {
@@ -119,9 +138,9 @@ pub fn wide_but_one(alloc: Global, size: usize, times: usize) -> Outcome {
     Ok(sum)
 }
 
-/// Keeps runs of fifteen, where items are wide.
+// Keeps runs of fifteen, where items are wide.
 #[inline(never)]
-pub fn wide_runs(alloc: Global, size: usize, times: usize) -> Outcome {
+fn wide_runs(alloc: Global, size: usize, times: usize) -> Outcome {
     let mut list = Vec::with_capacity(alloc, size)?;
     let mut sum = 0;
     for _ in 0..times {
@@ -132,9 +151,9 @@ pub fn wide_runs(alloc: Global, size: usize, times: usize) -> Outcome {
     Ok(sum)
 }
 
-/// Keeps the first of each two items.
+// Keeps the first of each two items.
 #[inline(never)]
-pub fn dedup_by_key(alloc: Global, size: usize, times: usize) -> Outcome {
+fn dedup_by_key(alloc: Global, size: usize, times: usize) -> Outcome {
     let mut list = filled(alloc, size)?;
     let mut sum = 0;
     for _ in 0..times {
@@ -145,9 +164,9 @@ pub fn dedup_by_key(alloc: Global, size: usize, times: usize) -> Outcome {
     Ok(sum)
 }
 
-/// Takes every second item out.
+// Takes every second item out.
 #[inline(never)]
-pub fn extract_if(alloc: Global, size: usize, times: usize) -> Outcome {
+fn extract_if(alloc: Global, size: usize, times: usize) -> Outcome {
     let mut list = filled(alloc, size)?;
     let mut sum = 0;
     for _ in 0..times {
@@ -160,9 +179,9 @@ pub fn extract_if(alloc: Global, size: usize, times: usize) -> Outcome {
     Ok(sum)
 }
 
-/// Takes half of the items out, in no order.
+// Takes half of the items out, in no order.
 #[inline(never)]
-pub fn extract_random(alloc: Global, size: usize, times: usize) -> Outcome {
+fn extract_random(alloc: Global, size: usize, times: usize) -> Outcome {
     let mut list = filled(alloc, size)?;
     let mut sum = 0;
     for _ in 0..times {

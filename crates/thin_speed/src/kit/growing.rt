@@ -3,6 +3,25 @@ use crate::shared::{Outcome, Refused, SIXTEEN, Unhinted, mixed, seen};
 use std::alloc::Global;
 use std::io::Write;
 
+/// Runs the workload of that name, or none where there is no such here.
+pub fn run(alloc: Global, workload: &str, size: usize, times: usize) -> Option<Outcome> {
+    Some(match workload {
+        "push" => push(alloc, size, times),
+        "push_few" => push_few(alloc, size, times),
+        "push_reserved" => push_reserved(alloc, size, times),
+        "push_pop" => push_pop(alloc, size, times),
+        "extend_hinted" => extend_hinted(alloc, size, times),
+        "extend_unhinted" => extend_unhinted(alloc, size, times),
+        "extend_slice" => extend_slice(alloc, size, times),
+        "extend_sixteen" => extend_sixteen(alloc, size, times),
+        "resize" => resize(alloc, size, times),
+        "clone" => clone(alloc, size, times),
+        "write_five" => write_five(alloc, size, times),
+        "into_iter" => into_iter(alloc, size, times),
+        _ => return None,
+    })
+}
+
 // The numbers below `size`, in a block of just that size.
 #[inline(never)]
 pub(crate) fn filled(alloc: Global, size: usize) -> Result<Vec<u64>, Refused> {
@@ -13,9 +32,9 @@ pub(crate) fn filled(alloc: Global, size: usize) -> Result<Vec<u64>, Refused> {
     Ok(list)
 }
 
-/// Pushes onto a new list.
+// Pushes onto a new list.
 #[inline(never)]
-pub fn push(alloc: Global, size: usize, times: usize) -> Outcome {
+fn push(alloc: Global, size: usize, times: usize) -> Outcome {
     let mut sum = 0;
     for _ in 0..times {
         let mut list = Vec::new(alloc);
@@ -27,9 +46,9 @@ pub fn push(alloc: Global, size: usize, times: usize) -> Outcome {
     Ok(sum)
 }
 
-/// Pushes a few, with two bits turned.
+// Pushes a few, with two bits turned.
 #[inline(never)]
-pub fn push_few(alloc: Global, size: usize, times: usize) -> Outcome {
+fn push_few(alloc: Global, size: usize, times: usize) -> Outcome {
     let mut sum = 0;
     for _ in 0..times {
         let mut list = Vec::new(alloc);
@@ -41,9 +60,9 @@ pub fn push_few(alloc: Global, size: usize, times: usize) -> Outcome {
     Ok(sum)
 }
 
-/// Pushes into room.
+// Pushes into room.
 #[inline(never)]
-pub fn push_reserved(alloc: Global, size: usize, times: usize) -> Outcome {
+fn push_reserved(alloc: Global, size: usize, times: usize) -> Outcome {
     let mut sum = 0;
     for _ in 0..times {
         let mut list = Vec::with_capacity(alloc, size)?;
@@ -55,9 +74,9 @@ pub fn push_reserved(alloc: Global, size: usize, times: usize) -> Outcome {
     Ok(sum)
 }
 
-/// Pushes onto a new list, then pops all.
+// Pushes onto a new list, then pops all.
 #[inline(never)]
-pub fn push_pop(alloc: Global, size: usize, times: usize) -> Outcome {
+fn push_pop(alloc: Global, size: usize, times: usize) -> Outcome {
     let mut sum = 0;
     for _ in 0..times {
         let mut list = Vec::new(alloc);
@@ -73,9 +92,9 @@ pub fn push_pop(alloc: Global, size: usize, times: usize) -> Outcome {
     Ok(sum)
 }
 
-/// Extends a new list by an iterator that knows how many items it has.
+// Extends a new list by an iterator that knows how many items it has.
 #[inline(never)]
-pub fn extend_hinted(alloc: Global, size: usize, times: usize) -> Outcome {
+fn extend_hinted(alloc: Global, size: usize, times: usize) -> Outcome {
     let mut sum = 0;
     for _ in 0..times {
         let mut list = Vec::new(alloc);
@@ -85,9 +104,9 @@ pub fn extend_hinted(alloc: Global, size: usize, times: usize) -> Outcome {
     Ok(sum)
 }
 
-/// Extends a new list by an iterator that doesn't.
+// Extends a new list by an iterator that doesn't.
 #[inline(never)]
-pub fn extend_unhinted(alloc: Global, size: usize, times: usize) -> Outcome {
+fn extend_unhinted(alloc: Global, size: usize, times: usize) -> Outcome {
     let mut sum = 0;
     for _ in 0..times {
         let mut list = Vec::new(alloc);
@@ -97,9 +116,9 @@ pub fn extend_unhinted(alloc: Global, size: usize, times: usize) -> Outcome {
     Ok(sum)
 }
 
-/// Extends a new list by one slice.
+// Extends a new list by one slice.
 #[inline(never)]
-pub fn extend_slice(alloc: Global, size: usize, times: usize) -> Outcome {
+fn extend_slice(alloc: Global, size: usize, times: usize) -> Outcome {
     let source = filled(alloc, size)?;
     let mut sum = 0;
     for _ in 0..times {
@@ -110,9 +129,9 @@ pub fn extend_slice(alloc: Global, size: usize, times: usize) -> Outcome {
     Ok(sum)
 }
 
-/// Extends a new list by slices of sixteen.
+// Extends a new list by slices of sixteen.
 #[inline(never)]
-pub fn extend_sixteen(alloc: Global, size: usize, times: usize) -> Outcome {
+fn extend_sixteen(alloc: Global, size: usize, times: usize) -> Outcome {
     let mut sum = 0;
     for _ in 0..times {
         let mut list = Vec::new(alloc);
@@ -124,9 +143,9 @@ pub fn extend_sixteen(alloc: Global, size: usize, times: usize) -> Outcome {
     Ok(sum)
 }
 
-/// Makes a new list so long.
+// Makes a new list so long.
 #[inline(never)]
-pub fn resize(alloc: Global, size: usize, times: usize) -> Outcome {
+fn resize(alloc: Global, size: usize, times: usize) -> Outcome {
     let mut sum = 0;
     for _ in 0..times {
         let mut list = Vec::new(alloc);
@@ -136,9 +155,9 @@ pub fn resize(alloc: Global, size: usize, times: usize) -> Outcome {
     Ok(sum)
 }
 
-/// Copies a list.
+// Copies a list.
 #[inline(never)]
-pub fn clone(alloc: Global, size: usize, times: usize) -> Outcome {
+fn clone(alloc: Global, size: usize, times: usize) -> Outcome {
     let source = filled(alloc, size)?;
     let mut sum = 0;
     for _ in 0..times {
@@ -148,9 +167,9 @@ pub fn clone(alloc: Global, size: usize, times: usize) -> Outcome {
     Ok(sum)
 }
 
-/// Writes five bytes at a time.
+// Writes five bytes at a time.
 #[inline(never)]
-pub fn write_five(alloc: Global, size: usize, times: usize) -> Outcome {
+fn write_five(alloc: Global, size: usize, times: usize) -> Outcome {
     let mut sum = 0;
     for _ in 0..times {
         let mut list: Vec<u8> = Vec::new(alloc);
@@ -164,9 +183,9 @@ pub fn write_five(alloc: Global, size: usize, times: usize) -> Outcome {
     Ok(sum)
 }
 
-/// Fills a list, and takes each item out of it from the front.
+// Fills a list, and takes each item out of it from the front.
 #[inline(never)]
-pub fn into_iter(alloc: Global, size: usize, times: usize) -> Outcome {
+fn into_iter(alloc: Global, size: usize, times: usize) -> Outcome {
     let mut sum = 0;
     for _ in 0..times {
         for number in filled(alloc, size)? {

@@ -2,9 +2,19 @@
 use crate::shared::{Outcome, Refused, mixed};
 use std::alloc::Global;
 
-/// Makes a list of so many empty lists, and walks over all.
+/// Runs the workload of that name, or none where there is no such here.
+pub fn run(alloc: Global, workload: &str, size: usize, times: usize) -> Option<Outcome> {
+    Some(match workload {
+        "empty_lists" => empty_lists(alloc, size, times),
+        "sparse_lists" => sparse_lists(alloc, size, times),
+        "tree" => tree(alloc, size, times),
+        _ => return None,
+    })
+}
+
+// Makes a list of so many empty lists, and walks over all.
 #[inline(never)]
-pub fn empty_lists(alloc: Global, size: usize, times: usize) -> Outcome {
+fn empty_lists(alloc: Global, size: usize, times: usize) -> Outcome {
     let mut sum = 0;
     for _ in 0..times {
         let mut lists: Vec<Vec<u64>> = Vec::new(alloc);
@@ -16,9 +26,9 @@ pub fn empty_lists(alloc: Global, size: usize, times: usize) -> Outcome {
     Ok(sum)
 }
 
-/// The same of lists of which every sixteenth has three items.
+// The same of lists of which every sixteenth has three items.
 #[inline(never)]
-pub fn sparse_lists(alloc: Global, size: usize, times: usize) -> Outcome {
+fn sparse_lists(alloc: Global, size: usize, times: usize) -> Outcome {
     let mut sum = 0;
     for _ in 0..times {
         let mut lists: Vec<Vec<u64>> = Vec::new(alloc);
@@ -53,9 +63,9 @@ struct Node {
     children: Vec<Node>,
 }
 
-/// Builds a tree so deep, with ten children a node, and walks over it.
+// Builds a tree so deep, with ten children a node, and walks over it.
 #[inline(never)]
-pub fn tree(alloc: Global, size: usize, times: usize) -> Outcome {
+fn tree(alloc: Global, size: usize, times: usize) -> Outcome {
     let mut sum = 0;
     for _ in 0..times {
         let top = build(alloc, size)?;

@@ -4,6 +4,21 @@ use crate::shared::{Outcome, Refused, Unhinted, mixed, seen};
 use std::alloc::Global;
 use thin_vec::ThinVec;
 
+/// Runs the workload of that name, or none where there is no such here.
+pub fn run(alloc: Global, workload: &str, size: usize, times: usize) -> Option<Outcome> {
+    Some(match workload {
+        "refill" => refill_alone(alloc, size, times),
+        "insert_front" => insert_front(alloc, size, times),
+        "remove_front" => remove_front(alloc, size, times),
+        "swap_remove" => swap_remove(alloc, size, times),
+        "split_append" => split_append(alloc, size, times),
+        "drain" => drain(alloc, size, times),
+        "splice_hinted" => splice_hinted(alloc, size, times),
+        "splice_unhinted" => splice_unhinted(alloc, size, times),
+        _ => return None,
+    })
+}
+
 // Makes the list the numbers below `size` again, in the block that it has.
 #[inline(never)]
 pub(crate) fn refill(list: &mut ThinVec<u64>, size: usize) -> Result<(), Refused> {
@@ -14,9 +29,9 @@ pub(crate) fn refill(list: &mut ThinVec<u64>, size: usize) -> Result<(), Refused
     Ok(())
 }
 
-/// Fills the same list anew.
+// Fills the same list anew.
 #[inline(never)]
-pub fn refill_alone(alloc: Global, size: usize, times: usize) -> Outcome {
+fn refill_alone(alloc: Global, size: usize, times: usize) -> Outcome {
     let mut list = filled(alloc, size)?;
     let mut sum = 0;
     for _ in 0..times {
@@ -26,9 +41,9 @@ pub fn refill_alone(alloc: Global, size: usize, times: usize) -> Outcome {
     Ok(sum)
 }
 
-/// Inserts at the front.
+// Inserts at the front.
 #[inline(never)]
-pub fn insert_front(alloc: Global, size: usize, times: usize) -> Outcome {
+fn insert_front(alloc: Global, size: usize, times: usize) -> Outcome {
     let mut list = filled(alloc, size)?;
     let mut sum = 0;
     for number in 0..times {
@@ -40,9 +55,9 @@ pub fn insert_front(alloc: Global, size: usize, times: usize) -> Outcome {
     Ok(mixed(sum, seen(list.as_slice())))
 }
 
-/// Removes at the front.
+// Removes at the front.
 #[inline(never)]
-pub fn remove_front(alloc: Global, size: usize, times: usize) -> Outcome {
+fn remove_front(alloc: Global, size: usize, times: usize) -> Outcome {
     let mut list = filled(alloc, size)?;
     let mut sum = 0;
     for _ in 0..times {
@@ -55,9 +70,9 @@ pub fn remove_front(alloc: Global, size: usize, times: usize) -> Outcome {
     Ok(mixed(sum, seen(list.as_slice())))
 }
 
-/// Removes the item in the middle until there is none.
+// Removes the item in the middle until there is none.
 #[inline(never)]
-pub fn swap_remove(alloc: Global, size: usize, times: usize) -> Outcome {
+fn swap_remove(alloc: Global, size: usize, times: usize) -> Outcome {
     let mut list = filled(alloc, size)?;
     let mut sum = 0;
     for _ in 0..times {
@@ -72,9 +87,9 @@ pub fn swap_remove(alloc: Global, size: usize, times: usize) -> Outcome {
     Ok(sum)
 }
 
-/// Splits a list in the middle, and appends the second half again.
+// Splits a list in the middle, and appends the second half again.
 #[inline(never)]
-pub fn split_append(alloc: Global, size: usize, times: usize) -> Outcome {
+fn split_append(alloc: Global, size: usize, times: usize) -> Outcome {
     let mut list = filled(alloc, size)?;
     let mut sum = 0;
     for _ in 0..times {
@@ -86,9 +101,9 @@ pub fn split_append(alloc: Global, size: usize, times: usize) -> Outcome {
     Ok(sum)
 }
 
-/// Drains the middle half.
+// Drains the middle half.
 #[inline(never)]
-pub fn drain(alloc: Global, size: usize, times: usize) -> Outcome {
+fn drain(alloc: Global, size: usize, times: usize) -> Outcome {
     let mut list = filled(alloc, size)?;
     let mut sum = 0;
     for _ in 0..times {
@@ -105,9 +120,9 @@ pub fn drain(alloc: Global, size: usize, times: usize) -> Outcome {
     Ok(sum)
 }
 
-/// Puts all numbers in the place of the middle half, and knows how many there are.
+// Puts all numbers in the place of the middle half, and knows how many there are.
 #[inline(never)]
-pub fn splice_hinted(alloc: Global, size: usize, times: usize) -> Outcome {
+fn splice_hinted(alloc: Global, size: usize, times: usize) -> Outcome {
     let mut list = filled(alloc, size)?;
     let mut sum = 0;
     for _ in 0..times {
@@ -123,9 +138,9 @@ pub fn splice_hinted(alloc: Global, size: usize, times: usize) -> Outcome {
     Ok(sum)
 }
 
-/// The same where that isn't known.
+// The same where that isn't known.
 #[inline(never)]
-pub fn splice_unhinted(alloc: Global, size: usize, times: usize) -> Outcome {
+fn splice_unhinted(alloc: Global, size: usize, times: usize) -> Outcome {
     let mut list = filled(alloc, size)?;
     let mut sum = 0;
     for _ in 0..times {

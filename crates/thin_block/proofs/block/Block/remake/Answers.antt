@@ -1,5 +1,5 @@
 -- The run that moves is filled, and what is left is empty.
-use Rattle.std.proofs.Common.{◌≡◌, ℕ, length, List, None, sym, ap, ◌∙◌, arith}
+use Rattle.std.proofs.Common.{◌≡◌, ℕ, length, List, None, sym, ap, ◌∙◌, arith, rules}
 use Rattle.std.specs.Prelude.{Option}
 use Rattle.std.proofs.lemmas.List.{length-replicate}
 use Rattle.thin_block.specs.Slots.{empty, slot, emptied}
@@ -52,3 +52,9 @@ release-requires-clause-empty g c =
     let left : c.replace-old.result.slots ≡ empty (length old) =
     (λ i. (c.replace-old.ensures.value i).slots) ∙ gone in
     left ∙ ap (λ (k : ℕ). empty k) (sym (ap length left ∙ length-replicate (length old) None))
+
+pub returns-clause-len : goal.returns-clause-len
+returns-clause-len g c = search rules
+
+pub returns-clause-cost : goal.returns-clause-cost
+returns-clause-cost g c = search rules

@@ -1,0 +1,6 @@
+-- The run goes to the slots that are asked for, which are empty.
+use Rattle.std.proofs.Common.{rules}
+use Rattle.thin_block.proofs.block.Block.move_run_to.Goals as goal
+
+pub move_run_charging-requires : goal.move_run_charging-requires
+move_run_charging-requires g c κs within = search rules
