@@ -1,4 +1,5 @@
 -- One clone more is laid.
+use Rattle.std.proofs.lemmas.Grind.{common_steps}
 use Rattle.std.proofs.Common.{ap, arith, ◌∙◌}
 use Rattle.thin_block.specs.Cost.{moving}
 use Rattle.thin_vec.proofs.ClonesLemmas.{lays-more, moving-one}
@@ -20,3 +21,9 @@ loop-i-preserved g c =
       alloc = c.put.ensures.alloc ∙ was.alloc;
       cost = c.put.ensures.cost ∙ (ap (λ d. moving 1 d) was.cost ∙ moving-one n old.cost);
     }
+
+pub returns-clause-slots : goal.returns-clause-slots
+returns-clause-slots g c = search (arith, ◌∙◌)
+
+pub returns-in-Err-clause-refused : goal.returns-in-Err-clause-refused
+returns-in-Err-clause-refused g c = grind (arith, common_steps)

@@ -36,3 +36,6 @@ loop-i-init g c = grind (arith, common_steps)
 
 pub put-requires-clause-in_bounds : goal.put-requires-clause-in_bounds
 put-requires-clause-in_bounds g c = grind (arith, common_steps)
+
+pub returns-in_default-clause-slots : goal.returns-in_default-clause-slots
+returns-in_default-clause-slots g c = search (arith, ◌∙◌)

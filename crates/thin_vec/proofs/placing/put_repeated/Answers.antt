@@ -24,3 +24,6 @@ loop-i-preserved g c =
       alloc = c.put.ensures.alloc ∙ was.alloc;
       cost = c.put.ensures.cost ∙ (ap (λ d. moving 1 d) was.cost ∙ moving-one n old.cost);
     }
+
+pub returns-clause-slots : goal.returns-clause-slots
+returns-clause-slots g c = search (arith, ◌∙◌)

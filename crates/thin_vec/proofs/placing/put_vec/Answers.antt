@@ -37,3 +37,6 @@ loop-item-preserved g c =
             length-append c.loop-item.items.items was.slots.rest,
           )) was.cost c.put.ensures.cost;
     }
+
+pub returns-clause-slots : goal.returns-clause-slots
+returns-clause-slots g c = search (arith, ◌∙◌)

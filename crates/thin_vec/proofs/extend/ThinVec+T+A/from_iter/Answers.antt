@@ -62,3 +62,45 @@ returns-in-Err-extend_unhinted-clause-runs_err g c =
     run_given g.I.Iterator.next_gives c.args.iter placed.0 hand c.in-Err-extend_unhinted.refused.rest
     (λ l. l ≡ c.extend_unhinted.new.self.items ++ option_to_list hand) placed.2
     (ap (λ l. l ++ option_to_list hand) (sym items))
+
+pub returns-in-Err-clause-err : goal.returns-in-Err-clause-err
+returns-in-Err-clause-err g c = search (arith, ◌∙◌)
+
+pub returns-in-Err-clause-err_alloc : goal.returns-in-Err-clause-err_alloc
+returns-in-Err-clause-err_alloc g c = search (arith, ◌∙◌)
+
+pub returns-in-Err-clause-full : goal.returns-in-Err-clause-full
+returns-in-Err-clause-full g c = search (arith, ◌∙◌)
+
+pub returns-in-Err-extend_unhinted-clause-cause : goal.returns-in-Err-extend_unhinted-clause-cause
+returns-in-Err-extend_unhinted-clause-cause g c = search (arith, ◌∙◌)
+
+pub returns-in-Err-extend_unhinted-clause-err : goal.returns-in-Err-extend_unhinted-clause-err
+returns-in-Err-extend_unhinted-clause-err g c = search (arith, ◌∙◌)
+
+pub returns-in-Err-extend_unhinted-clause-err_alloc : goal.returns-in-Err-extend_unhinted-clause-err_alloc
+returns-in-Err-extend_unhinted-clause-err_alloc g c = search (arith, ◌∙◌)
+
+pub returns-in-Err-extend_unhinted-clause-err_cheap : goal.returns-in-Err-extend_unhinted-clause-err_cheap
+returns-in-Err-extend_unhinted-clause-err_cheap g c = search (arith, ◌∙◌)
+
+pub returns-in-Err-extend_unhinted-clause-err_moves : goal.returns-in-Err-extend_unhinted-clause-err_moves
+returns-in-Err-extend_unhinted-clause-err_moves g c = search (arith, ◌∙◌)
+
+pub returns-in-Err-extend_unhinted-clause-full : goal.returns-in-Err-extend_unhinted-clause-full
+returns-in-Err-extend_unhinted-clause-full g c = search (arith, ◌∙◌)
+
+pub returns-in-Err-extend_unhinted-clause-placed : goal.returns-in-Err-extend_unhinted-clause-placed
+returns-in-Err-extend_unhinted-clause-placed g c = search (arith, ◌∙◌)
+
+pub returns-in-Ok-extend_unhinted-clause-alloc : goal.returns-in-Ok-extend_unhinted-clause-alloc
+returns-in-Ok-extend_unhinted-clause-alloc g c = search (arith, ◌∙◌)
+
+pub returns-in-Ok-extend_unhinted-clause-capacity : goal.returns-in-Ok-extend_unhinted-clause-capacity
+returns-in-Ok-extend_unhinted-clause-capacity g c = search (arith, ◌∙◌)
+
+pub returns-in-Ok-extend_unhinted-clause-cheap : goal.returns-in-Ok-extend_unhinted-clause-cheap
+returns-in-Ok-extend_unhinted-clause-cheap g c = search (arith, ◌∙◌)
+
+pub returns-in-Ok-extend_unhinted-clause-moves : goal.returns-in-Ok-extend_unhinted-clause-moves
+returns-in-Ok-extend_unhinted-clause-moves g c = search (arith, ◌∙◌)

@@ -1,4 +1,5 @@
 -- The items of the `Vec` lie in front.
+use Rattle.std.proofs.lemmas.Grind.{common_steps}
 use Rattle.std.proofs.Common.{◌≡◌, [], ◌++◌, ◌∙◌, ap, arith, length, sym}
 use Rattle.thin_block.specs.Slots.{items_in}
 use Rattle.thin_vec.proofs.ListLemmas.{Settled}
@@ -30,3 +31,9 @@ pub returns-clause-within : goal.returns-clause-within
 returns-clause-within g c =
     within-stays _ c.self.inside.block c.self.inside.alloc c.set_len.new.self _ _ c.requires.within
     c.self.view_is (facts g c)
+
+pub returns-clause-alloc : goal.returns-clause-alloc
+returns-clause-alloc g c = search (arith, ◌∙◌)
+
+pub returns-clause-capacity : goal.returns-clause-capacity
+returns-clause-capacity g c = grind (arith, common_steps)

@@ -1,4 +1,5 @@
 -- The array's items lie in front.
+use Rattle.std.proofs.lemmas.Grind.{common_steps}
 use Rattle.std.proofs.Common.{◌++◌, ap, arith, length, sym, ◌∙◌}
 use Rattle.thin_block.specs.Slots.{items_in}
 use Rattle.thin_vec.proofs.TwoListsLemmas.{settle-more}
@@ -33,3 +34,12 @@ returns-in-Ok-clause-items g c = (facts g c).items ∙ ap (λ xs. xs ++ c.args.i
 pub returns-in-Ok-clause-within : goal.returns-in-Ok-clause-within
 returns-in-Ok-clause-within g c = within-stays _ c.list.inside.block c.list.inside.alloc
     c.set_len.new.self _ _ c.in-Ok.ensures.within c.list.view_is (facts g c)
+
+pub returns-in-Ok-clause-alloc : goal.returns-in-Ok-clause-alloc
+returns-in-Ok-clause-alloc g c = search (arith, ◌∙◌)
+
+pub returns-in-Ok-clause-cheap : goal.returns-in-Ok-clause-cheap
+returns-in-Ok-clause-cheap g c = search (arith, ◌∙◌)
+
+pub returns-in-Ok-clause-capacity : goal.returns-in-Ok-clause-capacity
+returns-in-Ok-clause-capacity g c = grind (arith, common_steps)

@@ -61,3 +61,6 @@ returns-clause-tail g c = ap (λ v. v.tail) (facts g c).shown.view ∙ ap (λ v.
 pub returns-clause-capacity : goal.returns-clause-capacity
 returns-clause-capacity g c = ap (λ v. v.capacity) (facts g c).shown.view
     ∙ ap (λ v. v.capacity) c.self.view_is
+
+pub returns-clause-alloc : goal.returns-clause-alloc
+returns-clause-alloc g c = search (arith, ◌∙◌)

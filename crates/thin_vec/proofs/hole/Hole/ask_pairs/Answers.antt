@@ -1,5 +1,5 @@
 -- The first item stays unasked; one item more stays, or it goes and ends the run.
-use Rattle.std.proofs.Common.{arith, refl, rules}
+use Rattle.std.proofs.Common.{◌∙◌, arith, refl, rules}
 use Rattle.thin_vec.proofs.DedupLemmas.{pair-goes, pair-more, pair-start}
 use Rattle.std.proofs.lemmas.Grind.{common_steps}
 use Rattle.thin_vec.proofs.hole.Hole.ask_pairs.Goals as goal
@@ -45,3 +45,12 @@ loop-kept-smaller g c = grind (arith, common_steps)
 
 pub returns-clause-asked : goal.returns-clause-asked
 returns-clause-asked g c = grind (arith, common_steps)
+
+pub returns-then-ask_pair-clause-alloc : goal.returns-then-ask_pair-clause-alloc
+returns-then-ask_pair-clause-alloc g c = search (arith, ◌∙◌)
+
+pub returns-then-ask_pair-clause-front : goal.returns-then-ask_pair-clause-front
+returns-then-ask_pair-clause-front g c = search (arith, ◌∙◌)
+
+pub returns-then-ask_pair-clause-tail : goal.returns-then-ask_pair-clause-tail
+returns-then-ask_pair-clause-tail g c = search (arith, ◌∙◌)

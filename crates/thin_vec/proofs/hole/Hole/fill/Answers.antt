@@ -1,4 +1,5 @@
 -- What the iterator gave lies behind the front, and so much less of the hole is left.
+use Rattle.std.proofs.lemmas.Grind.{common_steps}
 use Rattle.std.proofs.Common.{◌++◌, ◌∙◌, ap, arith}
 use Rattle.thin_vec.proofs.HoleLemmas.{fill-step}
 use Rattle.thin_vec.proofs.hole.Hole.fill.Goals as goal
@@ -39,3 +40,9 @@ returns-clause-tail g c =
     let seen = fill-step c.self.inside c.self.invariant c.put_iter-rest.new.block gave.0 _ gave.2
     c.put_iter-rest.ensures.within gave.1 in
     ap (λ v. v.tail) seen.view ∙ ap (λ v. v.tail) c.self.view_is
+
+pub returns-clause-alloc : goal.returns-clause-alloc
+returns-clause-alloc g c = search (arith, ◌∙◌)
+
+pub returns-clause-capacity : goal.returns-clause-capacity
+returns-clause-capacity g c = grind (arith, common_steps)

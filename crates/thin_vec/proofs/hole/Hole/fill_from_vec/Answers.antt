@@ -1,4 +1,5 @@
 -- The items of the `Vec` lie behind the front.
+use Rattle.std.proofs.lemmas.Grind.{common_steps}
 use Rattle.std.proofs.Common.{◌≡◌, ◌+◌, ◌-◌, ◌++◌, ◌∙◌, ap, arith, length}
 use Rattle.thin_vec.specs.Hole.{open_of}
 use Rattle.thin_vec.proofs.HoleLemmas.{Found, fill-step}
@@ -46,3 +47,9 @@ returns-clause-rest g c = ap (λ v. v.rest) (facts g c).view ∙ ap (λ v. v.res
 
 pub returns-clause-tail : goal.returns-clause-tail
 returns-clause-tail g c = ap (λ v. v.tail) (facts g c).view ∙ ap (λ v. v.tail) c.self.view_is
+
+pub returns-clause-alloc : goal.returns-clause-alloc
+returns-clause-alloc g c = search (arith, ◌∙◌)
+
+pub returns-clause-capacity : goal.returns-clause-capacity
+returns-clause-capacity g c = grind (arith, common_steps)

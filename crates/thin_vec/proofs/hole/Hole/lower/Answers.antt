@@ -1,5 +1,6 @@
 -- One item more went to the front, for one move more.
-use Rattle.std.proofs.Common.{◌++◌, drop, take, ap, sym, ◌∙◌, append_assoc, rules}
+use Rattle.std.proofs.lemmas.Grind.{common_steps}
+use Rattle.std.proofs.Common.{arith, ◌++◌, drop, take, ap, sym, ◌∙◌, append_assoc, rules}
 use Rattle.std.proofs.Math.Seq.{take-add}
 use Rattle.std.proofs.lemmas.List.{drop-drop}
 use Rattle.thin_block.specs.Cost.{moving}
@@ -26,3 +27,15 @@ loop-done-preserved g c =
       cost = c.lower_one-in-loop-done.ensures.cost
           ∙ (ap (moving 1) l.invariant.cost ∙ moving-more 1 l.done old.cost);
     }
+
+pub returns-clause-front : goal.returns-clause-front
+returns-clause-front g c = search (arith, ◌∙◌)
+
+pub returns-clause-rest : goal.returns-clause-rest
+returns-clause-rest g c = search (arith, ◌∙◌)
+
+pub returns-then-k-eq2-clause-rest : goal.returns-then-k-eq2-clause-rest
+returns-then-k-eq2-clause-rest g c = search (arith, ◌∙◌)
+
+pub returns-then-k-eq2-clause-front : goal.returns-then-k-eq2-clause-front
+returns-then-k-eq2-clause-front g c = grind (arith, common_steps)

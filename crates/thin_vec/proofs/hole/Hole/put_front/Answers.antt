@@ -35,3 +35,6 @@ returns-clause-rest g c = ap (λ v. v.rest) (facts g c).view ∙ ap (λ v. v.res
 
 pub returns-clause-tail : goal.returns-clause-tail
 returns-clause-tail g c = ap (λ v. v.tail) (facts g c).view ∙ ap (λ v. v.tail) c.self.view_is
+
+pub returns-clause-alloc : goal.returns-clause-alloc
+returns-clause-alloc g c = search (arith, ◌∙◌)

@@ -125,3 +125,6 @@ returns-then-rest_len-gt0-clause-less g c = grind (arith, common_steps)
 
 pub returns-else-rest_len-gt0-clause-some : goal.returns-else-rest_len-gt0-clause-some
 returns-else-rest_len-gt0-clause-some g c = grind (arith, common_steps)
+
+pub returns-then-goes-clause-less : goal.returns-then-goes-clause-less
+returns-then-goes-clause-less g c = search (arith, ◌∙◌)

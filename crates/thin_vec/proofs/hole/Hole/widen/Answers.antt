@@ -46,3 +46,6 @@ returns-clause-tail g c =
 
 pub returns-clause-cost : goal.returns-clause-cost
 returns-clause-cost g c = search rules
+
+pub returns-clause-alloc : goal.returns-clause-alloc
+returns-clause-alloc g c = search (arith, ◌∙◌)

@@ -1,5 +1,5 @@
 -- Fewer items than the capacity fit.
-use Rattle.std.proofs.Common.{rules, ap, arith, length}
+use Rattle.std.proofs.Common.{◌∙◌, rules, ap, arith, length}
 use denote.Param.{param}
 use Rattle.thin_block.proofs.CapacityLemmas.{fits-less}
 use Rattle.thin_vec.proofs.IntoIterLemmas.{walked-room}
@@ -30,3 +30,30 @@ returns-clause-items_if_clones_equal g c = search rules
 
 pub returns-clause-cost : goal.returns-clause-cost
 returns-clause-cost g c = search rules
+
+pub returns-clause-alloc : goal.returns-clause-alloc
+returns-clause-alloc g c = search (arith, ◌∙◌)
+
+pub returns-clause-cheap : goal.returns-clause-cheap
+returns-clause-cheap g c = search (arith, ◌∙◌)
+
+pub returns-in_err-extend_from_slice_reserved-clause-alloc : goal.returns-in_err-extend_from_slice_reserved-clause-alloc
+returns-in_err-extend_from_slice_reserved-clause-alloc g c = search (arith, ◌∙◌)
+
+pub returns-in_err-extend_from_slice_reserved-clause-capacity : goal.returns-in_err-extend_from_slice_reserved-clause-capacity
+returns-in_err-extend_from_slice_reserved-clause-capacity g c = search (arith, ◌∙◌)
+
+pub returns-in_err-extend_from_slice_reserved-clause-cause : goal.returns-in_err-extend_from_slice_reserved-clause-cause
+returns-in_err-extend_from_slice_reserved-clause-cause g c = search (arith, ◌∙◌)
+
+pub returns-in_err-extend_from_slice_reserved-clause-cheap : goal.returns-in_err-extend_from_slice_reserved-clause-cheap
+returns-in_err-extend_from_slice_reserved-clause-cheap g c = search (arith, ◌∙◌)
+
+pub returns-in_err-extend_from_slice_reserved-clause-cost : goal.returns-in_err-extend_from_slice_reserved-clause-cost
+returns-in_err-extend_from_slice_reserved-clause-cost g c = search (arith, ◌∙◌)
+
+pub returns-in_err-extend_from_slice_reserved-clause-items : goal.returns-in_err-extend_from_slice_reserved-clause-items
+returns-in_err-extend_from_slice_reserved-clause-items g c = search (arith, ◌∙◌)
+
+pub returns-in_err-extend_from_slice_reserved-clause-items_if_clones_equal : goal.returns-in_err-extend_from_slice_reserved-clause-items_if_clones_equal
+returns-in_err-extend_from_slice_reserved-clause-items_if_clones_equal g c = search (arith, ◌∙◌)

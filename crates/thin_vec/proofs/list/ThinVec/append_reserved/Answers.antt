@@ -73,3 +73,9 @@ returns-clause-within g c =
 pub returns-clause-other_within : goal.returns-clause-other_within
 returns-clause-other_within g c =
     within-kept _ _ _ _ _ _ c.other.invariant c.other.view_is c.len.ensures.slots_fit (cut g c)
+
+pub returns-clause-alloc : goal.returns-clause-alloc
+returns-clause-alloc g c = search (arith, ◌∙◌)
+
+pub returns-clause-other_alloc : goal.returns-clause-other_alloc
+returns-clause-other_alloc g c = search (arith, ◌∙◌)

@@ -1,5 +1,6 @@
 -- The items lie in front of the block that was closed.
-use Rattle.std.proofs.Common.{ap, sym, ◌∙◌}
+use Rattle.std.proofs.lemmas.Grind.{common_steps}
+use Rattle.std.proofs.Common.{arith, ap, sym, ◌∙◌}
 use Rattle.thin_vec.specs.Open.{items_of}
 use Rattle.thin_vec.proofs.ListLemmas.{Settled, settled, thin-room}
 use Rattle.thin_vec.proofs.list.ThinVec.close.Goals as goal
@@ -22,3 +23,9 @@ returns-clause-items g c = (facts g c).items
 
 pub returns-clause-room : goal.returns-clause-room
 returns-clause-room g c = thin-room c.replace-none.new.dest c.self.inside.alloc (facts g c).thin
+
+pub returns-clause-alloc : goal.returns-clause-alloc
+returns-clause-alloc g c = search (arith, ◌∙◌)
+
+pub returns-clause-capacity : goal.returns-clause-capacity
+returns-clause-capacity g c = grind (arith, common_steps)

@@ -1,4 +1,5 @@
 -- One growth for the hint, and those of the rest: capacity, cost and cause of both.
+use Rattle.std.proofs.lemmas.Grind.{common_steps}
 use Rattle.std.proofs.Common.{◌≡◌, ◌++◌, ◌∙◌, ap, arith, length, subst}
 use Rattle.std.proofs.lemmas.List.{append-nil}
 use Rattle.std.specs.Iterator.Runs.{SomeRun, WholeRun}
@@ -77,3 +78,45 @@ returns-in-Err-clause-runs_err g c =
     (λ l. (xs : List g.row.T.Denot) × (c.reserve.new.self.items ≡ c.args.self.now.items ++ xs)
     × (l ≡ xs ++ [])) refl
     ([], c.reserve.ensures.items ∙ sym (append-nil c.args.self.now.items), refl)
+
+pub returns-in-Err-clause-cost : goal.returns-in-Err-clause-cost
+returns-in-Err-clause-cost g c = search (arith, ◌∙◌)
+
+pub returns-in-Err-clause-err : goal.returns-in-Err-clause-err
+returns-in-Err-clause-err g c = search (arith, ◌∙◌)
+
+pub returns-in-Err-clause-full : goal.returns-in-Err-clause-full
+returns-in-Err-clause-full g c = search (arith, ◌∙◌)
+
+pub returns-in-Ok-clause-alloc : goal.returns-in-Ok-clause-alloc
+returns-in-Ok-clause-alloc g c = search (arith, ◌∙◌)
+
+pub returns-in-Ok-clause-cause : goal.returns-in-Ok-clause-cause
+returns-in-Ok-clause-cause g c = search (arith, ◌∙◌)
+
+pub returns-in-Ok-clause-cheap : goal.returns-in-Ok-clause-cheap
+returns-in-Ok-clause-cheap g c = search (arith, ◌∙◌)
+
+pub returns-in-Ok-clause-err : goal.returns-in-Ok-clause-err
+returns-in-Ok-clause-err g c = search (arith, ◌∙◌)
+
+pub returns-in-Ok-clause-full : goal.returns-in-Ok-clause-full
+returns-in-Ok-clause-full g c = search (arith, ◌∙◌)
+
+pub returns-in-Ok-clause-had_room : goal.returns-in-Ok-clause-had_room
+returns-in-Ok-clause-had_room g c = search (arith, ◌∙◌)
+
+pub returns-in-Ok-clause-items : goal.returns-in-Ok-clause-items
+returns-in-Ok-clause-items g c = search (arith, ◌∙◌)
+
+pub returns-in-Ok-clause-overflow : goal.returns-in-Ok-clause-overflow
+returns-in-Ok-clause-overflow g c = search (arith, ◌∙◌)
+
+pub returns-in-Ok-clause-placed : goal.returns-in-Ok-clause-placed
+returns-in-Ok-clause-placed g c = search (arith, ◌∙◌)
+
+pub returns-in-Ok-clause-succeeds : goal.returns-in-Ok-clause-succeeds
+returns-in-Ok-clause-succeeds g c = search (arith, ◌∙◌)
+
+pub returns-in-Err-clause-placed : goal.returns-in-Err-clause-placed
+returns-in-Err-clause-placed g c = grind (arith, common_steps)

@@ -1,4 +1,5 @@
 -- The copies lie behind the items.
+use Rattle.std.proofs.lemmas.Grind.{common_steps}
 use Rattle.std.proofs.Common.{◌++◌, ◌∙◌, ap, arith, length}
 use Rattle.thin_block.specs.Slots.{items_in}
 use Rattle.thin_vec.proofs.TwoListsLemmas.{settle-more}
@@ -31,3 +32,12 @@ returns-clause-items g c = (facts g c).items ∙ ap (λ v. v.items ++ c.args.ite
 pub returns-clause-within : goal.returns-clause-within
 returns-clause-within g c =
     within-settled _ _ _ _ _ c.len-len.ensures.slots_fit (facts g c)
+
+pub returns-clause-alloc : goal.returns-clause-alloc
+returns-clause-alloc g c = search (arith, ◌∙◌)
+
+pub returns-clause-capacity : goal.returns-clause-capacity
+returns-clause-capacity g c = grind (arith, common_steps)
+
+pub returns-then-is_empty-clause-items : goal.returns-then-is_empty-clause-items
+returns-then-is_empty-clause-items g c = grind (arith, common_steps)

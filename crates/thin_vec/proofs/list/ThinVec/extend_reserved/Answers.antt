@@ -1,5 +1,5 @@
 -- The iterator has ended, or gives one item more, for which there is no room.
-use Rattle.std.proofs.Common.{rules}
+use Rattle.std.proofs.Common.{◌∙◌, arith, rules}
 use Rattle.thin_vec.proofs.list.ThinVec.extend_reserved.Goals as goal
 
 pub next-over-requires : goal.next-over-requires
@@ -16,3 +16,15 @@ returns-then-ended-clause-nearer g c = search rules
 
 pub returns-then-ended-clause-full : goal.returns-then-ended-clause-full
 returns-then-ended-clause-full g c = search rules
+
+pub returns-clause-full : goal.returns-clause-full
+returns-clause-full g c = search (arith, ◌∙◌)
+
+pub returns-clause-items : goal.returns-clause-items
+returns-clause-items g c = search (arith, ◌∙◌)
+
+pub returns-clause-nearer : goal.returns-clause-nearer
+returns-clause-nearer g c = search (arith, ◌∙◌)
+
+pub returns-clause-rest : goal.returns-clause-rest
+returns-clause-rest g c = search (arith, ◌∙◌)

@@ -1,4 +1,5 @@
 -- What came in so far, and one item more.
+use Rattle.std.proofs.lemmas.Grind.{common_steps}
 use Rattle.std.proofs.Common.{◌++◌, ◌∷◌, [], ◌-◌, ◌∙◌, ap, arith, append_assoc, length, length-append, subst, sym, ◌+◌, inr}
 use Rattle.std.proofs.lemmas.List.{length_push}
 use denote.Param.{param}
@@ -168,3 +169,33 @@ returns-in-Err-clause-cost g c =
     rw c.in-Err.ensures.err
     (filled-join v u w low (omega (arith, c.extend_reserved-left.ensures.capacity))
     (omega (arith, some)) held.cost spare)
+
+pub returns-in-Err-clause-alloc : goal.returns-in-Err-clause-alloc
+returns-in-Err-clause-alloc g c = search (arith, ◌∙◌)
+
+pub returns-in-Err-clause-capacity : goal.returns-in-Err-clause-capacity
+returns-in-Err-clause-capacity g c = search (arith, ◌∙◌)
+
+pub returns-in-Err-clause-cause : goal.returns-in-Err-clause-cause
+returns-in-Err-clause-cause g c = search (arith, ◌∙◌)
+
+pub returns-in-Err-clause-cheap : goal.returns-in-Err-clause-cheap
+returns-in-Err-clause-cheap g c = search (arith, ◌∙◌)
+
+pub returns-in-Err-clause-full : goal.returns-in-Err-clause-full
+returns-in-Err-clause-full g c = search (arith, ◌∙◌)
+
+pub returns-in-Err-clause-had_room : goal.returns-in-Err-clause-had_room
+returns-in-Err-clause-had_room g c = search (arith, ◌∙◌)
+
+pub returns-in-Err-clause-rest : goal.returns-in-Err-clause-rest
+returns-in-Err-clause-rest g c = search (arith, ◌∙◌)
+
+pub returns-in_default-clause-alloc : goal.returns-in_default-clause-alloc
+returns-in_default-clause-alloc g c = search (arith, ◌∙◌)
+
+pub returns-in_default-clause-capacity : goal.returns-in_default-clause-capacity
+returns-in_default-clause-capacity g c = grind (arith, common_steps)
+
+pub returns-in_default-clause-cost : goal.returns-in_default-clause-cost
+returns-in_default-clause-cost g c = grind (arith, common_steps)

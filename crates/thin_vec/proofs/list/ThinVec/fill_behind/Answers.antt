@@ -56,3 +56,36 @@ returns-in-Err-clause-had_room g c = λ fit.
 
 pub returns-in-Err-clause-cheap : goal.returns-in-Err-clause-cheap
 returns-in-Err-clause-cheap g c = grind (arith, common_steps)
+
+pub returns-in-Err-clause-alloc : goal.returns-in-Err-clause-alloc
+returns-in-Err-clause-alloc g c = search (arith, ◌∙◌)
+
+pub returns-in-Err-clause-cause : goal.returns-in-Err-clause-cause
+returns-in-Err-clause-cause g c = search (arith, ◌∙◌)
+
+pub returns-in-Err-clause-cost : goal.returns-in-Err-clause-cost
+returns-in-Err-clause-cost g c = search (arith, ◌∙◌)
+
+pub returns-in-Err-clause-err : goal.returns-in-Err-clause-err
+returns-in-Err-clause-err g c = search (arith, ◌∙◌)
+
+pub returns-in-Err-clause-full : goal.returns-in-Err-clause-full
+returns-in-Err-clause-full g c = search (arith, ◌∙◌)
+
+pub returns-in-Err-clause-rest : goal.returns-in-Err-clause-rest
+returns-in-Err-clause-rest g c = search (arith, ◌∙◌)
+
+pub returns-in-Ok-clause-alloc : goal.returns-in-Ok-clause-alloc
+returns-in-Ok-clause-alloc g c = search (arith, ◌∙◌)
+
+pub returns-in-Ok-clause-cheap : goal.returns-in-Ok-clause-cheap
+returns-in-Ok-clause-cheap g c = search (arith, ◌∙◌)
+
+pub returns-in-Ok-clause-cost : goal.returns-in-Ok-clause-cost
+returns-in-Ok-clause-cost g c = search (arith, ◌∙◌)
+
+pub returns-in-Err-clause-placed : goal.returns-in-Err-clause-placed
+returns-in-Err-clause-placed g c = grind (arith, common_steps)
+
+pub returns-in-Ok-clause-items : goal.returns-in-Ok-clause-items
+returns-in-Ok-clause-items g c = grind (arith, common_steps)

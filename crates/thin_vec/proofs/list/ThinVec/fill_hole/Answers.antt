@@ -1,5 +1,5 @@
 -- With items behind the hole and with none, in the same words.
-use Rattle.std.proofs.Common.{ap, arith, length}
+use Rattle.std.proofs.Common.{◌∙◌, ap, arith, length}
 use denote.Param.{param}
 use Rattle.thin_vec.specs.Filling.{left_of}
 use Rattle.thin_vec.proofs.FillingLemmas.{any-err, if-err, overflows-one, spliced-extended, stopped-now}
@@ -84,3 +84,45 @@ returns-clause-err g c =
 
 pub fill_behind-requires-clause-no_tail : goal.fill_behind-requires-clause-no_tail
 fill_behind-requires-clause-no_tail g c = grind (arith, common_steps)
+
+pub returns-clause-cause_in_hand : goal.returns-clause-cause_in_hand
+returns-clause-cause_in_hand g c = search (arith, ◌∙◌)
+
+pub returns-clause-cheap : goal.returns-clause-cheap
+returns-clause-cheap g c = search (arith, ◌∙◌)
+
+pub returns-clause-had_room : goal.returns-clause-had_room
+returns-clause-had_room g c = search (arith, ◌∙◌)
+
+pub returns-clause-had_room_behind : goal.returns-clause-had_room_behind
+returns-clause-had_room_behind g c = search (arith, ◌∙◌)
+
+pub returns-clause-range : goal.returns-clause-range
+returns-clause-range g c = search (arith, ◌∙◌)
+
+pub returns-clause-succeeds : goal.returns-clause-succeeds
+returns-clause-succeeds g c = search (arith, ◌∙◌)
+
+pub returns-clause-succeeds_empty : goal.returns-clause-succeeds_empty
+returns-clause-succeeds_empty g c = search (arith, ◌∙◌)
+
+pub returns-then-has_tail-clause-cheap : goal.returns-then-has_tail-clause-cheap
+returns-then-has_tail-clause-cheap g c = search (arith, ◌∙◌)
+
+pub returns-then-has_tail-clause-cost : goal.returns-then-has_tail-clause-cost
+returns-then-has_tail-clause-cost g c = search (arith, ◌∙◌)
+
+pub returns-then-has_tail-clause-had_room : goal.returns-then-has_tail-clause-had_room
+returns-then-has_tail-clause-had_room g c = search (arith, ◌∙◌)
+
+pub returns-then-has_tail-clause-had_room_behind : goal.returns-then-has_tail-clause-had_room_behind
+returns-then-has_tail-clause-had_room_behind g c = search (arith, ◌∙◌)
+
+pub returns-then-has_tail-clause-range : goal.returns-then-has_tail-clause-range
+returns-then-has_tail-clause-range g c = search (arith, ◌∙◌)
+
+pub returns-then-has_tail-clause-succeeds_behind : goal.returns-then-has_tail-clause-succeeds_behind
+returns-then-has_tail-clause-succeeds_behind g c = search (arith, ◌∙◌)
+
+pub returns-then-has_tail-clause-succeeds_empty : goal.returns-then-has_tail-clause-succeeds_empty
+returns-then-has_tail-clause-succeeds_empty g c = search (arith, ◌∙◌)

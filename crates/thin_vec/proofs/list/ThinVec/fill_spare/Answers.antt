@@ -1,4 +1,5 @@
 -- What the iterator gave lies behind the items, and the stored length counts both.
+use Rattle.std.proofs.lemmas.Grind.{common_steps}
 use Rattle.std.proofs.Common.{◌++◌, ◌-◌, ◌≡◌, ◌∙◌, ap, arith, length, length-append}
 use Rattle.thin_block.specs.Cost.{moving}
 use Rattle.thin_block.specs.Slots.{items_in}
@@ -71,3 +72,12 @@ returns-clause-full g c = λ left. omega (
 pub returns-clause-within : goal.returns-clause-within
 returns-clause-within g c =
     within-kept _ _ _ _ _ _ c.self.invariant c.self.view_is c.len-len.ensures.slots_fit (facts g c)
+
+pub returns-clause-alloc : goal.returns-clause-alloc
+returns-clause-alloc g c = search (arith, ◌∙◌)
+
+pub returns-clause-capacity : goal.returns-clause-capacity
+returns-clause-capacity g c = grind (arith, common_steps)
+
+pub returns-clause-cheap : goal.returns-clause-cheap
+returns-clause-cheap g c = grind (arith, common_steps)

@@ -1,4 +1,5 @@
 -- One run for the hint, and one for what was held: items, capacity, cost and cause of both.
+use Rattle.std.proofs.lemmas.Grind.{common_steps}
 use Rattle.std.proofs.Common.{Some, inl, inr, ◌++◌, ◌+◌, ◌-◌, ◌*◌, ◌∙◌, ap, arith, drop, length, length-append, refl, subst, sym, take}
 use Rattle.std.proofs.lemmas.List.{length-drop, length-take-le}
 use denote.Param.{param}
@@ -136,3 +137,30 @@ returns-clause-named g c =
       c.size_hint-hint.ensures.lower,
       c.in_default.ensures.capacity ∙ ap Some (sym same),
     ))
+
+pub returns-clause-alloc : goal.returns-clause-alloc
+returns-clause-alloc g c = search (arith, ◌∙◌)
+
+pub returns-clause-cheap : goal.returns-clause-cheap
+returns-clause-cheap g c = search (arith, ◌∙◌)
+
+pub returns-clause-overflow : goal.returns-clause-overflow
+returns-clause-overflow g c = search (arith, ◌∙◌)
+
+pub returns-in-Err-clause-cost : goal.returns-in-Err-clause-cost
+returns-in-Err-clause-cost g c = search (arith, ◌∙◌)
+
+pub returns-then-ended-clause-alloc : goal.returns-then-ended-clause-alloc
+returns-then-ended-clause-alloc g c = search (arith, ◌∙◌)
+
+pub returns-then-ended-clause-cheap : goal.returns-then-ended-clause-cheap
+returns-then-ended-clause-cheap g c = search (arith, ◌∙◌)
+
+pub returns-then-ended-clause-items : goal.returns-then-ended-clause-items
+returns-then-ended-clause-items g c = search (arith, ◌∙◌)
+
+pub returns-in-Err-clause-placed : goal.returns-in-Err-clause-placed
+returns-in-Err-clause-placed g c = grind (arith, common_steps)
+
+pub returns-then-ended-clause-cost : goal.returns-then-ended-clause-cost
+returns-then-ended-clause-cost g c = grind (arith, common_steps)

@@ -53,3 +53,27 @@ returns-in-Some-clause-placed g c = search rules
 
 pub returns-in-Err-clause-placed : goal.returns-in-Err-clause-placed
 returns-in-Err-clause-placed g c = search rules
+
+pub returns-clause-alloc : goal.returns-clause-alloc
+returns-clause-alloc g c = search (arith, ◌∙◌)
+
+pub returns-clause-cheap : goal.returns-clause-cheap
+returns-clause-cheap g c = search (arith, ◌∙◌)
+
+pub returns-clause-items : goal.returns-clause-items
+returns-clause-items g c = search (arith, ◌∙◌)
+
+pub returns-in-Err-clause-cause : goal.returns-in-Err-clause-cause
+returns-in-Err-clause-cause g c = search (arith, ◌∙◌)
+
+pub returns-in-Err-clause-cheap : goal.returns-in-Err-clause-cheap
+returns-in-Err-clause-cheap g c = search (arith, ◌∙◌)
+
+pub returns-in-Err-clause-cost : goal.returns-in-Err-clause-cost
+returns-in-Err-clause-cost g c = search (arith, ◌∙◌)
+
+pub returns-in-Err-clause-err : goal.returns-in-Err-clause-err
+returns-in-Err-clause-err g c = search (arith, ◌∙◌)
+
+pub returns-in-Some-clause-cause : goal.returns-in-Some-clause-cause
+returns-in-Some-clause-cause g c = search (arith, ◌∙◌)

@@ -43,3 +43,6 @@ returns-clause-items g c =
 pub returns-clause-within : goal.returns-clause-within
 returns-clause-within g c =
     within-kept _ _ _ _ _ _ c.self.invariant c.self.view_is c.len-len.ensures.slots_fit (facts g c)
+
+pub returns-clause-alloc : goal.returns-clause-alloc
+returns-clause-alloc g c = search (arith, ◌∙◌)

@@ -1,4 +1,5 @@
 -- The list is shorter, or clones and the value lie behind the items.
+use Rattle.std.proofs.lemmas.Grind.{common_steps}
 use Rattle.std.proofs.Common.{◌≡◌, ◌+◌, ◌-◌, ◌++◌, ap, arith, inr, length, replicate, subst, sym, take, take_all, ◌∙◌}
 use Rattle.std.specs.Prelude.{OnOk, Some}
 use denote.Param.{param}
@@ -68,3 +69,42 @@ returns-in_err-reserve-clause-overflow g c = grind (arith, ruled)
 
 pub returns-clause-capacity : goal.returns-clause-capacity
 returns-clause-capacity g c = grind (arith, ruled)
+
+pub returns-clause-alloc : goal.returns-clause-alloc
+returns-clause-alloc g c = search (arith, ◌∙◌)
+
+pub returns-clause-cause : goal.returns-clause-cause
+returns-clause-cause g c = search (arith, ◌∙◌)
+
+pub returns-clause-cheap : goal.returns-clause-cheap
+returns-clause-cheap g c = search (arith, ◌∙◌)
+
+pub returns-clause-err : goal.returns-clause-err
+returns-clause-err g c = search (arith, ◌∙◌)
+
+pub returns-in_err-reserve-clause-capacity : goal.returns-in_err-reserve-clause-capacity
+returns-in_err-reserve-clause-capacity g c = search (arith, ◌∙◌)
+
+pub returns-in_err-reserve-clause-cause : goal.returns-in_err-reserve-clause-cause
+returns-in_err-reserve-clause-cause g c = search (arith, ◌∙◌)
+
+pub returns-in_err-reserve-clause-cost : goal.returns-in_err-reserve-clause-cost
+returns-in_err-reserve-clause-cost g c = search (arith, ◌∙◌)
+
+pub returns-in_err-reserve-clause-err : goal.returns-in_err-reserve-clause-err
+returns-in_err-reserve-clause-err g c = search (arith, ◌∙◌)
+
+pub returns-in_err-reserve-clause-err_items : goal.returns-in_err-reserve-clause-err_items
+returns-in_err-reserve-clause-err_items g c = search (arith, ◌∙◌)
+
+pub returns-in_err-reserve-clause-items : goal.returns-in_err-reserve-clause-items
+returns-in_err-reserve-clause-items g c = search (arith, ◌∙◌)
+
+pub returns-in_err-reserve-clause-items_if_clones_equal : goal.returns-in_err-reserve-clause-items_if_clones_equal
+returns-in_err-reserve-clause-items_if_clones_equal g c = search (arith, ◌∙◌)
+
+pub returns-in_err-reserve-clause-refused : goal.returns-in_err-reserve-clause-refused
+returns-in_err-reserve-clause-refused g c = search (arith, ◌∙◌)
+
+pub returns-then-len-old-clause-items : goal.returns-then-len-old-clause-items
+returns-then-len-old-clause-items g c = grind (arith, common_steps)

@@ -111,3 +111,30 @@ returns-clause-never_less g c =
     c.drop_rest.new.self.capacity c.fill_hole-answer.new.self.capacity
     c.fill_hole-answer.ensures.capacity in
     omega (arith, same, low)
+
+pub returns-clause-alloc : goal.returns-clause-alloc
+returns-clause-alloc g c = search (arith, ◌∙◌)
+
+pub returns-clause-cause_in_hand : goal.returns-clause-cause_in_hand
+returns-clause-cause_in_hand g c = search (arith, ◌∙◌)
+
+pub returns-clause-cheap : goal.returns-clause-cheap
+returns-clause-cheap g c = search (arith, ◌∙◌)
+
+pub returns-clause-cost : goal.returns-clause-cost
+returns-clause-cost g c = search (arith, ◌∙◌)
+
+pub returns-clause-had_room : goal.returns-clause-had_room
+returns-clause-had_room g c = search (arith, ◌∙◌)
+
+pub returns-clause-had_room_behind : goal.returns-clause-had_room_behind
+returns-clause-had_room_behind g c = search (arith, ◌∙◌)
+
+pub returns-clause-succeeds : goal.returns-clause-succeeds
+returns-clause-succeeds g c = search (arith, ◌∙◌)
+
+pub returns-clause-succeeds_behind : goal.returns-clause-succeeds_behind
+returns-clause-succeeds_behind g c = search (arith, ◌∙◌)
+
+pub returns-clause-succeeds_empty : goal.returns-clause-succeeds_empty
+returns-clause-succeeds_empty g c = search (arith, ◌∙◌)

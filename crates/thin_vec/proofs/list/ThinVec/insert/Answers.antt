@@ -1,0 +1,12 @@
+-- A growth by one place, and then the item among the others.
+use Rattle.std.proofs.Common.{◌∙◌, arith}
+use Rattle.thin_vec.proofs.list.ThinVec.insert.Goals as goal
+
+pub returns-clause-alloc : goal.returns-clause-alloc
+returns-clause-alloc g c = search (arith, ◌∙◌)
+
+pub returns-clause-items : goal.returns-clause-items
+returns-clause-items g c = search (arith, ◌∙◌)
+
+pub returns-in-Err-clause-err : goal.returns-in-Err-clause-err
+returns-in-Err-clause-err g c = search (arith, ◌∙◌)

@@ -1,0 +1,13 @@
+-- The hole is opened, and made wide where it has to be.
+use Rattle.std.proofs.lemmas.Grind.{common_steps}
+use Rattle.std.proofs.Common.{◌∙◌, arith}
+use Rattle.thin_vec.proofs.list.ThinVec.open_wide.Goals as goal
+
+pub returns-clause-front : goal.returns-clause-front
+returns-clause-front g c = search (arith, ◌∙◌)
+
+pub returns-clause-tail : goal.returns-clause-tail
+returns-clause-tail g c = search (arith, ◌∙◌)
+
+pub returns-clause-other_cost : goal.returns-clause-other_cost
+returns-clause-other_cost g c = grind (arith, common_steps)
