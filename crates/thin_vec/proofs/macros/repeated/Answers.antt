@@ -1,5 +1,5 @@
 -- An overflow is that of a new list.
-use Rattle.std.proofs.Common.{rules, arith}
+use Rattle.std.proofs.Common.{arith, ◌∙◌}
 use Rattle.thin_vec.proofs.ClonesLemmas.{new_lists}
 use Rattle.thin_vec.proofs.macros.repeated.Goals as goal
 
@@ -10,7 +10,7 @@ pub returns-clause-overflow : goal.returns-clause-overflow
 returns-clause-overflow g c = grind (arith, new_lists)
 
 pub returns-clause-capacity : goal.returns-clause-capacity
-returns-clause-capacity g c = search rules
+returns-clause-capacity g c = search (arith, ◌∙◌)
 
 pub returns-clause-cost : goal.returns-clause-cost
-returns-clause-cost g c = search rules
+returns-clause-cost g c = search (arith, ◌∙◌)

@@ -1,5 +1,5 @@
 -- The capacity at `u8` is the one at items of its size.
-use Rattle.std.proofs.Common.{rules, ◌∙◌, ap, length, refl, subst}
+use Rattle.std.proofs.Common.{◌∙◌, ap, length, refl, subst, arith}
 use Rattle.std.specs.Borrow.{u8}
 use Rattle.std.specs.Prelude.{IfErr, Option, ℕ}
 use Rattle.thin_block.proofs.CapacityLemmas.{exact-at}
@@ -22,7 +22,7 @@ returns-clause-cause g c =
     c.from_copies.ensures.cause
 
 pub returns-clause-items : goal.returns-clause-items
-returns-clause-items g c = search rules
+returns-clause-items g c = search (arith, ◌∙◌)
 
 pub returns-clause-capacity : goal.returns-clause-capacity
-returns-clause-capacity g c = search rules
+returns-clause-capacity g c = search (arith, ◌∙◌)

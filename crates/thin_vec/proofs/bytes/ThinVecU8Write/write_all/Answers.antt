@@ -1,5 +1,5 @@
 -- The capacity at `u8` is the one at items of its size.
-use Rattle.std.proofs.Common.{rules, ◌+◌, ◌∙◌, Some, ap, length, refl, sym}
+use Rattle.std.proofs.Common.{◌+◌, ◌∙◌, Some, ap, length, refl, sym, arith}
 use Rattle.std.specs.Borrow.{u8}
 use Rattle.thin_block.proofs.CapacityLemmas.{ruled-at}
 use Rattle.thin_block.proofs.Outcomes.{none-some}
@@ -17,4 +17,4 @@ pub returns-clause-overflow : goal.returns-clause-overflow
 returns-clause-overflow g c = λ none. none-some none (returns-clause-capacity g c)
 
 pub returns-clause-cheap : goal.returns-clause-cheap
-returns-clause-cheap g c = search rules
+returns-clause-cheap g c = search (arith, ◌∙◌)

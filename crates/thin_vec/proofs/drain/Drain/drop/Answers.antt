@@ -1,12 +1,12 @@
 -- The items behind the range close up to those in front of it.
-use Rattle.std.proofs.Common.{rules}
+use Rattle.std.proofs.Common.{arith, ◌∙◌}
 use Rattle.thin_vec.proofs.drain.Drain.drop.Goals as goal
 
 pub close-requires-clause-behind : goal.close-requires-clause-behind
-close-requires-clause-behind g c = search rules
+close-requires-clause-behind g c = search (arith, ◌∙◌)
 
 pub returns-clause-items : goal.returns-clause-items
-returns-clause-items g c = search rules
+returns-clause-items g c = search (arith, ◌∙◌)
 
 pub returns-clause-cost : goal.returns-clause-cost
-returns-clause-cost g c = search rules
+returns-clause-cost g c = search (arith, ◌∙◌)

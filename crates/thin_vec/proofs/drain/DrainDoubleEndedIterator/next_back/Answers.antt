@@ -1,6 +1,6 @@
 -- One step from the back.
-use Rattle.std.proofs.Common.{rules}
+use Rattle.std.proofs.Common.{arith, ◌∙◌}
 use Rattle.thin_vec.proofs.drain.DrainDoubleEndedIterator.next_back.Goals as goal
 
 pub returns-clause-steps : goal.returns-clause-steps
-returns-clause-steps g c = search rules
+returns-clause-steps g c = search (arith, ◌∙◌)

@@ -1,6 +1,6 @@
 -- The cause is taken out.
-use Rattle.std.proofs.Common.{rules}
+use Rattle.std.proofs.Common.{arith, ◌∙◌}
 use Rattle.thin_vec.proofs.errors.ThinVecErrorFromCollectRefused.from.Goals as goal
 
 pub returns : goal.returns
-returns g c = search rules
+returns g c = search (arith, ◌∙◌)

@@ -1,5 +1,5 @@
 -- Refused, what was placed is what the first calls gave.
-use Rattle.std.proofs.Common.{rules}
+use Rattle.std.proofs.Common.{arith, ◌∙◌}
 use Rattle.thin_vec.proofs.ExtendLemmas.{yields-first}
 use Rattle.thin_vec.proofs.extend.ThinVecExtend.extend.Goals as goal
 
@@ -11,7 +11,7 @@ returns-in-Err g c =
     record { ran = (c.into_iter.result, placed.0, c.into_iter.ensures.into_iter_gives, placed.1, first) }
 
 pub extend-requires-clause-can_next : goal.extend-requires-clause-can_next
-extend-requires-clause-can_next g c = search rules
+extend-requires-clause-can_next g c = search (arith, ◌∙◌)
 
 pub returns-in-Ok : goal.returns-in-Ok
-returns-in-Ok g c = search rules
+returns-in-Ok g c = search (arith, ◌∙◌)

@@ -1,6 +1,6 @@
 -- The later item is handed first, and then the one that was kept.
-use Rattle.std.proofs.Common.{rules}
+use Rattle.std.proofs.Common.{arith, ◌∙◌}
 use Rattle.thin_vec.proofs.filters.MergingAsksPairs.ask.Goals as goal
 
 pub returns-clause-asked : goal.returns-clause-asked
-returns-clause-asked g c = search rules
+returns-clause-asked g c = search (arith, ◌∙◌)

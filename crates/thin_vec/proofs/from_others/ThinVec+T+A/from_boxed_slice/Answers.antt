@@ -1,5 +1,5 @@
 -- The cause, by the slice's length.
-use Rattle.std.proofs.Common.{arith, rules, ◌∙◌, ap}
+use Rattle.std.proofs.Common.{arith, ◌∙◌, ap}
 use denote.Param.{param}
 use Rattle.thin_block.specs.Growth.{exact_capacity}
 use Rattle.thin_block.proofs.Outcomes.{err-same}
@@ -12,10 +12,10 @@ returns-in-Err-clause-overflow g c =
     ∙ none))
 
 pub returns-in-Ok-clause-capacity : goal.returns-in-Ok-clause-capacity
-returns-in-Ok-clause-capacity g c = search rules
+returns-in-Ok-clause-capacity g c = search (arith, ◌∙◌)
 
 pub returns-in-Ok-clause-cost : goal.returns-in-Ok-clause-cost
-returns-in-Ok-clause-cost g c = search rules
+returns-in-Ok-clause-cost g c = search (arith, ◌∙◌)
 
 pub returns-in-Ok-clause-alloc : goal.returns-in-Ok-clause-alloc
 returns-in-Ok-clause-alloc g c = search (arith, ◌∙◌)

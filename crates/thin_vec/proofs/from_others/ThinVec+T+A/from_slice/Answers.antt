@@ -1,9 +1,9 @@
 -- A refusal is that of the room.
-use Rattle.std.proofs.Common.{◌∙◌, arith, rules}
+use Rattle.std.proofs.Common.{◌∙◌, arith}
 use Rattle.thin_vec.proofs.from_others.ThinVec+T+A.from_slice.Goals as goal
 
 pub returns-in_err-list-clause-overflow : goal.returns-in_err-list-clause-overflow
-returns-in_err-list-clause-overflow g c = search rules
+returns-in_err-list-clause-overflow g c = search (arith, ◌∙◌)
 
 pub returns-clause-alloc : goal.returns-clause-alloc
 returns-clause-alloc g c = search (arith, ◌∙◌)

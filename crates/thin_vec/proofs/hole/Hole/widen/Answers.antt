@@ -1,5 +1,5 @@
 -- The tail has room behind it, and once it is up, as many more empty slots before it.
-use Rattle.std.proofs.Common.{rules, ◌≡◌, ℕ, ◌+◌, ◌≤◌, ◌∙◌, ap, arith}
+use Rattle.std.proofs.Common.{◌≡◌, ℕ, ◌+◌, ◌≤◌, ◌∙◌, ap, arith}
 use Rattle.thin_vec.specs.Hole.{Shows, open_of}
 use Rattle.thin_vec.specs.Open.{Open, reach}
 use Rattle.thin_vec.specs.declared.hole.Hole.TheInside.{Inside}
@@ -45,7 +45,7 @@ returns-clause-tail g c =
     room c.move_run.ensures.slots).view ∙ ap (λ v. v.tail) c.self.view_is
 
 pub returns-clause-cost : goal.returns-clause-cost
-returns-clause-cost g c = search rules
+returns-clause-cost g c = search (arith, ◌∙◌)
 
 pub returns-clause-alloc : goal.returns-clause-alloc
 returns-clause-alloc g c = search (arith, ◌∙◌)

@@ -1,5 +1,5 @@
 -- Fewer items than the capacity fit.
-use Rattle.std.proofs.Common.{◌∙◌, rules, ap, arith, length}
+use Rattle.std.proofs.Common.{◌∙◌, ap, arith, length}
 use denote.Param.{param}
 use Rattle.thin_block.proofs.CapacityLemmas.{fits-less}
 use Rattle.thin_vec.proofs.IntoIterLemmas.{walked-room}
@@ -23,13 +23,13 @@ with_fitting_capacity-requires g c =
     }
 
 pub returns-clause-items : goal.returns-clause-items
-returns-clause-items g c = search rules
+returns-clause-items g c = search (arith, ◌∙◌)
 
 pub returns-clause-items_if_clones_equal : goal.returns-clause-items_if_clones_equal
-returns-clause-items_if_clones_equal g c = search rules
+returns-clause-items_if_clones_equal g c = search (arith, ◌∙◌)
 
 pub returns-clause-cost : goal.returns-clause-cost
-returns-clause-cost g c = search rules
+returns-clause-cost g c = search (arith, ◌∙◌)
 
 pub returns-clause-alloc : goal.returns-clause-alloc
 returns-clause-alloc g c = search (arith, ◌∙◌)

@@ -1,6 +1,6 @@
 -- As many items come as are left.
-use Rattle.std.proofs.Common.{rules}
+use Rattle.std.proofs.Common.{arith, ◌∙◌}
 use Rattle.thin_vec.proofs.into_iter.IntoIter.len.Goals as goal
 
 pub returns : goal.returns
-returns g c = search rules
+returns g c = search (arith, ◌∙◌)

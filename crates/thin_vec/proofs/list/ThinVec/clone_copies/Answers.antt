@@ -1,9 +1,9 @@
 -- The clone has just enough places.
-use Rattle.std.proofs.Common.{rules}
+use Rattle.std.proofs.Common.{arith, ◌∙◌}
 use Rattle.thin_vec.proofs.list.ThinVec.clone_copies.Goals as goal
 
 pub returns-clause-capacity : goal.returns-clause-capacity
-returns-clause-capacity g c = search rules
+returns-clause-capacity g c = search (arith, ◌∙◌)
 
 pub returns-clause-cost : goal.returns-clause-cost
-returns-clause-cost g c = search rules
+returns-clause-cost g c = search (arith, ◌∙◌)

@@ -1,5 +1,5 @@
 -- What calls from either end give, and that each `next` leaves as it is what the list will have.
-use Rattle.std.proofs.Common.{rules}
+use Rattle.std.proofs.Common.{arith, ◌∙◌}
 use Rattle.thin_vec.proofs.DrainLemmas.{drain_keeps_along, drains_in_order, drains_in_reverse}
 use Rattle.thin_vec.proofs.list.ThinVec.drain.Goals as goal
 
@@ -13,4 +13,4 @@ pub returns-clause-stays : goal.returns-clause-stays
 returns-clause-stays g c = drain_keeps_along _
 
 pub returns-clause-rest : goal.returns-clause-rest
-returns-clause-rest g c = search rules
+returns-clause-rest g c = search (arith, ◌∙◌)

@@ -1,5 +1,5 @@
 -- The items' type as `reserve` sees it has the same size and alignment.
-use Rattle.std.proofs.Common.{rules, ◌+◌, ◌∙◌, Some, ap, length, refl, sym}
+use Rattle.std.proofs.Common.{◌+◌, ◌∙◌, Some, ap, length, refl, sym, arith}
 use Rattle.thin_block.proofs.CapacityLemmas.{ruled-at}
 use Rattle.thin_block.proofs.Outcomes.{none-some}
 use Rattle.thin_vec.proofs.list.ThinVec.extend_from_copies.Goals as goal
@@ -26,4 +26,4 @@ returns-in-Err-clause-cause g c = λ over. ruled-at _ _ c.args.self.now.capacity
     ∙ c.in-Err.ensures.cause over
 
 pub returns-clause-cheap : goal.returns-clause-cheap
-returns-clause-cheap g c = search rules
+returns-clause-cheap g c = search (arith, ◌∙◌)

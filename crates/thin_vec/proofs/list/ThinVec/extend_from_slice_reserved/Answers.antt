@@ -1,5 +1,5 @@
 -- No clone is refused where none can be; clones that are equal are the items.
-use Rattle.std.proofs.Common.{arith, rules, ◌++◌, ap, take_all, ◌∙◌}
+use Rattle.std.proofs.Common.{arith, ◌++◌, ap, take_all, ◌∙◌}
 use Rattle.std.proofs.lemmas.List.Elements.{same_from_all_zip}
 use Rattle.thin_vec.proofs.ClonesLemmas.{not-all}
 use Rattle.std.proofs.lemmas.Grind.{common_steps}
@@ -24,13 +24,13 @@ pub returns-then-push_clones_reserved-items-clause-err_items : goal.returns-then
 returns-then-push_clones_reserved-items-clause-err_items g c = grind (arith, common_steps)
 
 pub returns-then-push_clones_reserved-items-clause-refused : goal.returns-then-push_clones_reserved-items-clause-refused
-returns-then-push_clones_reserved-items-clause-refused g c = search rules
+returns-then-push_clones_reserved-items-clause-refused g c = search (arith, ◌∙◌)
 
 pub returns-clause-succeeds : goal.returns-clause-succeeds
-returns-clause-succeeds g c = search rules
+returns-clause-succeeds g c = search (arith, ◌∙◌)
 
 pub returns-clause-err_items : goal.returns-clause-err_items
-returns-clause-err_items g c = search rules
+returns-clause-err_items g c = search (arith, ◌∙◌)
 
 pub returns-clause-refused : goal.returns-clause-refused
-returns-clause-refused g c = search rules
+returns-clause-refused g c = search (arith, ◌∙◌)

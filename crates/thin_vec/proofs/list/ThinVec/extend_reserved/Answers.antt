@@ -1,21 +1,21 @@
 -- The iterator has ended, or gives one item more, for which there is no room.
-use Rattle.std.proofs.Common.{◌∙◌, arith, rules}
+use Rattle.std.proofs.Common.{◌∙◌, arith}
 use Rattle.thin_vec.proofs.list.ThinVec.extend_reserved.Goals as goal
 
 pub next-over-requires : goal.next-over-requires
-next-over-requires g c = search rules
+next-over-requires g c = search (arith, ◌∙◌)
 
 pub returns-then-ended-clause-items : goal.returns-then-ended-clause-items
-returns-then-ended-clause-items g c = search rules
+returns-then-ended-clause-items g c = search (arith, ◌∙◌)
 
 pub returns-then-ended-clause-rest : goal.returns-then-ended-clause-rest
-returns-then-ended-clause-rest g c = search rules
+returns-then-ended-clause-rest g c = search (arith, ◌∙◌)
 
 pub returns-then-ended-clause-nearer : goal.returns-then-ended-clause-nearer
-returns-then-ended-clause-nearer g c = search rules
+returns-then-ended-clause-nearer g c = search (arith, ◌∙◌)
 
 pub returns-then-ended-clause-full : goal.returns-then-ended-clause-full
-returns-then-ended-clause-full g c = search rules
+returns-then-ended-clause-full g c = search (arith, ◌∙◌)
 
 pub returns-clause-full : goal.returns-clause-full
 returns-clause-full g c = search (arith, ◌∙◌)

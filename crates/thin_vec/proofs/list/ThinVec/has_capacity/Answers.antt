@@ -1,6 +1,6 @@
 -- A list has a block where its capacity is not 0.
-use Rattle.std.proofs.Common.{rules}
+use Rattle.std.proofs.Common.{arith, ◌∙◌}
 use Rattle.thin_vec.proofs.list.ThinVec.has_capacity.Goals as goal
 
 pub returns : goal.returns
-returns g c = search rules
+returns g c = search (arith, ◌∙◌)

@@ -1,5 +1,5 @@
 -- The capacity, or the overflow, is that for as many items as were held.
-use Rattle.std.proofs.Common.{rules, ◌++◌, ◌∙◌, ap, arith, drop, length, length-append, subst, sym, take}
+use Rattle.std.proofs.Common.{◌++◌, ◌∙◌, ap, arith, drop, length, length-append, subst, sym, take}
 use Rattle.std.proofs.lemmas.List.{length-drop, length-take-le}
 use denote.Param.{param}
 use Rattle.thin_vec.specs.Extend.{IsLoose, IsNamed}
@@ -49,10 +49,10 @@ pub returns-clause-cost : goal.returns-clause-cost
 returns-clause-cost g c = grind (arith, common_steps)
 
 pub returns-in-Some-clause-placed : goal.returns-in-Some-clause-placed
-returns-in-Some-clause-placed g c = search rules
+returns-in-Some-clause-placed g c = search (arith, ◌∙◌)
 
 pub returns-in-Err-clause-placed : goal.returns-in-Err-clause-placed
-returns-in-Err-clause-placed g c = search rules
+returns-in-Err-clause-placed g c = search (arith, ◌∙◌)
 
 pub returns-clause-alloc : goal.returns-clause-alloc
 returns-clause-alloc g c = search (arith, ◌∙◌)

@@ -1,6 +1,6 @@
 -- The slice has the items in their order.
-use Rattle.std.proofs.Common.{rules}
+use Rattle.std.proofs.Common.{arith, ◌∙◌}
 use Rattle.thin_vec.proofs.list.ThinVec.into_boxed_slice.Goals as goal
 
 pub returns-clause-items : goal.returns-clause-items
-returns-clause-items g c = search rules
+returns-clause-items g c = search (arith, ◌∙◌)

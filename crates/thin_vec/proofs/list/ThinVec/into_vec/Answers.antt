@@ -1,9 +1,9 @@
 -- The `Vec` has just enough places.
-use Rattle.std.proofs.Common.{rules}
+use Rattle.std.proofs.Common.{arith, ◌∙◌}
 use Rattle.thin_vec.proofs.list.ThinVec.into_vec.Goals as goal
 
 pub returns-in-Ok-clause-capacity : goal.returns-in-Ok-clause-capacity
-returns-in-Ok-clause-capacity g c = search rules
+returns-in-Ok-clause-capacity g c = search (arith, ◌∙◌)
 
 pub returns-in-Err-clause-succeeds_empty : goal.returns-in-Err-clause-succeeds_empty
-returns-in-Err-clause-succeeds_empty g c = search rules
+returns-in-Err-clause-succeeds_empty g c = search (arith, ◌∙◌)

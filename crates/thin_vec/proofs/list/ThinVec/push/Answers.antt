@@ -1,9 +1,9 @@
 -- Refused, nothing changed, and the item comes back.
-use Rattle.std.proofs.Common.{rules}
+use Rattle.std.proofs.Common.{arith, ◌∙◌}
 use Rattle.thin_vec.proofs.list.ThinVec.push.Goals as goal
 
 pub returns-in-Err-clause-err : goal.returns-in-Err-clause-err
-returns-in-Err-clause-err g c = search rules
+returns-in-Err-clause-err g c = search (arith, ◌∙◌)
 
 pub returns-in-Err-clause-value_returned : goal.returns-in-Err-clause-value_returned
-returns-in-Err-clause-value_returned g c = search rules
+returns-in-Err-clause-value_returned g c = search (arith, ◌∙◌)

@@ -1,9 +1,9 @@
 -- The block has just as many places as were asked for.
-use Rattle.std.proofs.Common.{rules}
+use Rattle.std.proofs.Common.{arith, ◌∙◌}
 use Rattle.thin_vec.proofs.list.ThinVec.reserve_exact.Goals as goal
 
 pub returns-in_default-clause-capacity : goal.returns-in_default-clause-capacity
-returns-in_default-clause-capacity g c = search rules
+returns-in_default-clause-capacity g c = search (arith, ◌∙◌)
 
 pub returns-in_default-2-clause-capacity : goal.returns-in_default-2-clause-capacity
-returns-in_default-2-clause-capacity g c = search rules
+returns-in_default-2-clause-capacity g c = search (arith, ◌∙◌)

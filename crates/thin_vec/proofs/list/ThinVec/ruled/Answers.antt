@@ -1,5 +1,5 @@
 -- No block has no item and no slot.
-use Rattle.std.proofs.Common.{rules, ap, length}
+use Rattle.std.proofs.Common.{ap, length, arith, ◌∙◌}
 use Rattle.thin_block.specs.Slots.{items_in}
 use Rattle.thin_vec.proofs.ThinVecLemmas.{within-none}
 use Rattle.thin_vec.proofs.list.ThinVec.ruled.Goals as goal
@@ -9,4 +9,4 @@ returns-clause-within g c =
     within-none _ _ (ap items_in c.none.ensures.slots) (ap length c.none.ensures.slots)
 
 pub returns-clause-new : goal.returns-clause-new
-returns-clause-new g c = search rules
+returns-clause-new g c = search (arith, ◌∙◌)

@@ -1,5 +1,5 @@
 -- An empty list has no item to keep.
-use Rattle.std.proofs.Common.{rules, arith}
+use Rattle.std.proofs.Common.{arith, ◌∙◌}
 use Rattle.std.proofs.lemmas.Grind.{common_steps}
 use Rattle.thin_vec.proofs.list.ThinVec.shrink_to_fit.Goals as goal
 
@@ -10,7 +10,7 @@ pub returns-then-len-eq0-clause-items : goal.returns-then-len-eq0-clause-items
 returns-then-len-eq0-clause-items g c = grind (arith, common_steps)
 
 pub returns-then-len-eq0-clause-capacity : goal.returns-then-len-eq0-clause-capacity
-returns-then-len-eq0-clause-capacity g c = search rules
+returns-then-len-eq0-clause-capacity g c = search (arith, ◌∙◌)
 
 pub returns-clause-capacity : goal.returns-clause-capacity
-returns-clause-capacity g c = search rules
+returns-clause-capacity g c = search (arith, ◌∙◌)

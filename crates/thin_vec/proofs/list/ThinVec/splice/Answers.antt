@@ -1,13 +1,13 @@
 -- The range goes out, and what lies behind it stays behind.
-use Rattle.std.proofs.Common.{arith, rules}
+use Rattle.std.proofs.Common.{arith, ◌∙◌}
 use Rattle.std.proofs.lemmas.Grind.{common_steps}
 use Rattle.thin_vec.proofs.list.ThinVec.splice.Goals as goal
 
 pub returns-clause-rest : goal.returns-clause-rest
-returns-clause-rest g c = search rules
+returns-clause-rest g c = search (arith, ◌∙◌)
 
 pub returns-clause-tail : goal.returns-clause-tail
-returns-clause-tail g c = search rules
+returns-clause-tail g c = search (arith, ◌∙◌)
 
 pub returns-clause-range : goal.returns-clause-range
 returns-clause-range g c = grind (arith, common_steps)

@@ -1,5 +1,5 @@
 -- Fewer items than the length fit.
-use Rattle.std.proofs.Common.{rules, ◌-◌, arith}
+use Rattle.std.proofs.Common.{◌-◌, arith, ◌∙◌}
 use denote.Param.{param}
 use Rattle.thin_block.proofs.CapacityLemmas.{fits-less}
 use Rattle.thin_vec.proofs.list.ThinVec.split_off.Goals as goal
@@ -12,7 +12,7 @@ with_fitting_capacity-requires g c =
     }
 
 pub returns-in_err-tail-clause-other_capacity : goal.returns-in_err-tail-clause-other_capacity
-returns-in_err-tail-clause-other_capacity g c = search rules
+returns-in_err-tail-clause-other_capacity g c = search (arith, ◌∙◌)
 
 pub returns-clause-other_capacity : goal.returns-clause-other_capacity
-returns-clause-other_capacity g c = search rules
+returns-clause-other_capacity g c = search (arith, ◌∙◌)

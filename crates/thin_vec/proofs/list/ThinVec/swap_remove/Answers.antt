@@ -1,5 +1,5 @@
 -- One slot is emptied, and the last item takes it.
-use Rattle.std.proofs.Common.{rules, ◌-◌, sym, ap, ◌∙◌, length, arith}
+use Rattle.std.proofs.Common.{◌-◌, sym, ap, ◌∙◌, length, arith}
 use Rattle.std.specs.List.{slice_get, swap_remove}
 use Rattle.thin_block.specs.Slots.{items_in}
 use Rattle.thin_vec.proofs.EditsLemmas.{settle-replaced}
@@ -68,4 +68,4 @@ returns-clause-within g c =
     within-kept _ _ _ _ _ _ c.self.invariant c.self.view_is c.len-last.ensures.slots_fit (facts g c)
 
 pub returns-clause-cost : goal.returns-clause-cost
-returns-clause-cost g c = search rules
+returns-clause-cost g c = search (arith, ◌∙◌)
