@@ -1,3 +1,2 @@
--- The lemmas: of judges, and of a range that was replaced and put back.
-mod JudgeLemmas
+-- The lemmas: of a range that was replaced and put back.
 mod SpliceLemmas

@@ -1,81 +1,11 @@
-//! Walks over a list that is used up: what a program may promise of them, and how they end.
-ghost use Rattle.std.specs.Prelude.{◌≡◌, IfOk, length, min, reverse};
-ghost use Rattle.std.specs.List.{fold};
-
-#[cfg(test)]
+//! Walks over a list that is used up: what remains, and how they end.
 use crate::items::list_of;
-#[cfg(test)]
 use crate::standing::{assert_items, assert_list, assert_same, assert_text};
-#[cfg(test)]
 use refusing::Refusing;
-use std::alloc::{AllocError, Allocator, Global};
-#[cfg(test)]
+use std::alloc::{Allocator, Global};
 use std::process::Abort;
-#[cfg(test)]
-use thin_vec::IntoIter;
-use thin_vec::{Growth, ThinVec};
-
-/// How many items there are, counted one by one.
-pub fn count<T: Drop, A: Allocator, G: Growth>(list: ThinVec<T, A, G>) -> usize
-    ensures value { result ≡ length list.items }
-{
-    let mut count = 0;
-    for _item in list {
-        count += 1;
-    }
-    count
-}
-
-/// The least item, or `start` where that is less.
-pub fn least(list: ThinVec<u32, Global>, start: u32) -> u32
-    ensures value { result ≡ fold min start list.items }
-{
-    let mut least = start;
-    for item in list {
-        least = least.min(item);
-    }
-    least
-}
-
-/// The items, in a `Vec`.
-pub fn collected(list: ThinVec<u32, Global>, alloc: Global) -> Result<Vec<u32>, AllocError>
-    ensures items { IfOk result (λ vec. vec.items ≡ list.items) }
-{
-    list.into_iter().collect(alloc)
-}
-
-/// The items, last first.
-pub fn reversed(list: ThinVec<u32, Global>, alloc: Global) -> Result<Vec<u32>, AllocError>
-    ensures items { IfOk result (λ vec. vec.items ≡ reverse list.items) }
-{
-    list.into_iter().rev().collect(alloc)
-}
-
-/// The same under any allocator and rule, one by one.
-pub fn reversed_singly<A: Allocator, G: Growth>(
-    list: ThinVec<u32, A, G>,
-    alloc: Global,
-) -> Result<Vec<u32>, AllocError>
-    ensures items { IfOk result (λ vec. vec.items ≡ reverse list.items) }
-{
-    let mut vec = Vec::new(alloc);
-    for item in list.into_iter().rev() {
-        vec.push(item)?;
-    }
-    Ok(vec)
-}
-
-/// The items, in a `Vec`, one by one.
-pub fn carried_over(list: ThinVec<u32, Global>, alloc: Global) -> Result<Vec<u32>, AllocError>
-    ensures items { IfOk result (λ vec. vec.items ≡ list.items) }
-{
-    let mut vec = Vec::new(alloc);
-    let mut items = list.into_iter();
-    while let Some(item) = items.next() {
-        vec.push(item)?;
-    }
-    Ok(vec)
-}
+use thin_vec::{IntoIter, ThinVec};
+use thin_vec_callers::walks::{carried_over, collected, count, least, reversed, reversed_singly};
 
 #[test]
 fn test_into_iter_as_slice(rt: HostRuntime) {
@@ -107,7 +37,6 @@ fn test_into_iter_count(rt: HostRuntime) {
 }
 
 // Clones what remains, and asserts the items of the clone.
-#[cfg(test)]
 fn assert_cloned<A: Allocator>(
     rt: &impl Abort,
     items: &IntoIter<i32, A>,
@@ -119,7 +48,6 @@ fn assert_cloned<A: Allocator>(
 }
 
 // Clones what remains of a walk over 1, 2, 3, before a step and after it, and walks to the end.
-#[cfg(test)]
 fn clone_between_steps<A: Allocator + Copy>(
     rt: &impl Abort,
     items: &mut IntoIter<i32, A>,
@@ -144,7 +72,6 @@ fn test_into_iter_clone(rt: HostRuntime) {
 }
 
 // A list to which the items were moved, in order and then last first.
-#[cfg(test)]
 fn moved_twice<T: Copy + Drop>(rt: &impl Abort, alloc: Global, items: &[T]) -> ThinVec<T> {
     let mut moved = ThinVec::new(alloc);
     let list = list_of(rt, alloc, items);
@@ -175,7 +102,6 @@ fn test_into_iter_debug(rt: HostRuntime) {
     assert_text(&rt, alloc, &numbers, "IntoIter([2, 3])");
 }
 
-#[cfg(test)]
 fn three(rt: &impl Abort, alloc: Global) -> ThinVec<u32, Global> {
     list_of(rt, alloc, &[4, 3, 5])
 }

@@ -8,7 +8,6 @@ mod allocators;
 mod answers;
 #[cfg(test)]
 mod arguments;
-pub mod callers;
 #[cfg(test)]
 mod capacities;
 #[cfg(test)]
@@ -29,17 +28,16 @@ mod drops;
 mod extend;
 #[cfg(test)]
 pub mod extracts;
-pub mod filter_callers;
 #[cfg(test)]
 mod filters;
 #[cfg(test)]
 mod growth_rules;
-pub mod into_iter;
+#[cfg(test)]
+mod into_iter;
 #[cfg(test)]
 mod items;
 #[cfg(test)]
 mod iterating;
-pub mod last_digits;
 #[cfg(test)]
 mod limits;
 #[cfg(test)]

@@ -1,0 +1,68 @@
+//! Callers that walk over a list which is used up, with a loop or without.
+ghost use Rattle.std.specs.Prelude.{◌≡◌, IfOk, length, min, reverse};
+ghost use Rattle.std.specs.List.{fold};
+
+use std::alloc::{AllocError, Allocator, Global};
+use thin_vec::{Growth, ThinVec};
+
+/// How many items there are, counted one by one.
+pub fn count<T: Drop, A: Allocator, G: Growth>(list: ThinVec<T, A, G>) -> usize
+    ensures value { result ≡ length list.items }
+{
+    let mut count = 0;
+    for _item in list {
+        count += 1;
+    }
+    count
+}
+
+/// The least item, or `start` where that is less.
+pub fn least(list: ThinVec<u32, Global>, start: u32) -> u32
+    ensures value { result ≡ fold min start list.items }
+{
+    let mut least = start;
+    for item in list {
+        least = least.min(item);
+    }
+    least
+}
+
+/// The items, in a `Vec`.
+pub fn collected(list: ThinVec<u32, Global>, alloc: Global) -> Result<Vec<u32>, AllocError>
+    ensures items { IfOk result (λ vec. vec.items ≡ list.items) }
+{
+    list.into_iter().collect(alloc)
+}
+
+/// The items, last first.
+pub fn reversed(list: ThinVec<u32, Global>, alloc: Global) -> Result<Vec<u32>, AllocError>
+    ensures items { IfOk result (λ vec. vec.items ≡ reverse list.items) }
+{
+    list.into_iter().rev().collect(alloc)
+}
+
+/// The same under any allocator and rule, one by one.
+pub fn reversed_singly<A: Allocator, G: Growth>(
+    list: ThinVec<u32, A, G>,
+    alloc: Global,
+) -> Result<Vec<u32>, AllocError>
+    ensures items { IfOk result (λ vec. vec.items ≡ reverse list.items) }
+{
+    let mut vec = Vec::new(alloc);
+    for item in list.into_iter().rev() {
+        vec.push(item)?;
+    }
+    Ok(vec)
+}
+
+/// The items, in a `Vec`, one by one.
+pub fn carried_over(list: ThinVec<u32, Global>, alloc: Global) -> Result<Vec<u32>, AllocError>
+    ensures items { IfOk result (λ vec. vec.items ≡ list.items) }
+{
+    let mut vec = Vec::new(alloc);
+    let mut items = list.into_iter();
+    while let Some(item) = items.next() {
+        vec.push(item)?;
+    }
+    Ok(vec)
+}
