@@ -42,17 +42,21 @@ use std::hash::Hash;
 use std::process::Abort;
 use thin_vec::{Doubling, PowerBytes};
 
-/// Sweeps each call that a list of any items has.
+/// Sweeps each call that a list of any items has: under `Doubling`, and where it may grow under `PowerBytes`.
 pub fn every_call<T: Sample, R: Abort>(rt: &R, ledger: &'static Ledger) {
     every_growth::<T, Doubling, R>(rt, ledger);
     every_growth::<T, PowerBytes, R>(rt, ledger);
+    every_reading::<T, Doubling, R>(rt, ledger);
+    every_edit::<T, Doubling, R>(rt, ledger);
+    every_making::<T, R>(rt, ledger);
+}
+
+/// Sweeps those calls under the rules that are left: growths under rules of the tests' own, the others under `PowerBytes`.
+pub fn every_call_by_other_rules<T: Sample, R: Abort>(rt: &R, ledger: &'static Ledger) {
     every_growth::<T, Threefold, R>(rt, ledger);
     every_growth::<T, Fourfold, R>(rt, ledger);
-    every_reading::<T, Doubling, R>(rt, ledger);
     every_reading::<T, PowerBytes, R>(rt, ledger);
-    every_edit::<T, Doubling, R>(rt, ledger);
     every_edit::<T, PowerBytes, R>(rt, ledger);
-    every_making::<T, R>(rt, ledger);
 }
 
 // The calls for which a list may grow.

@@ -1,6 +1,8 @@
 //! The sweep at each type of items.
 use crate::calls::arrays::every_array;
-use crate::calls::{every_bound, every_call, every_call_of_bytes, every_plain_call};
+use crate::calls::{
+    every_bound, every_call, every_call_by_other_rules, every_call_of_bytes, every_plain_call,
+};
 use crate::ledger::Ledger;
 use crate::samples::{Counted, Inner};
 
@@ -26,6 +28,7 @@ fn sweeps_u8(rt: HostRuntime) {
 fn sweeps_u32(rt: HostRuntime) {
     let ledger = Ledger::new(&rt, rt.alloc());
     every_call::<u32, _>(&rt, ledger);
+    every_call_by_other_rules::<u32, _>(&rt, ledger);
     every_array::<u32, _>(&rt, ledger);
     every_plain_call::<u32, _>(&rt, ledger);
 }
@@ -58,6 +61,7 @@ fn sweeps_items_of_320_bytes(rt: HostRuntime) {
 fn sweeps_counted_items(rt: HostRuntime) {
     let ledger = Ledger::new(&rt, rt.alloc());
     every_call::<Counted, _>(&rt, ledger);
+    every_call_by_other_rules::<Counted, _>(&rt, ledger);
     every_array::<Counted, _>(&rt, ledger);
 }
 
