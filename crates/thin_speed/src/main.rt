@@ -1,11 +1,9 @@
 //! Runs workloads on lists, one for each line that it reads, and prints a sum for each.
 #![tactic(auto)]
 
-mod kit;
-mod shared;
 mod thin;
 
-use crate::shared::Outcome;
+use kit_speed::shared::Outcome;
 use std::alloc::Global;
 use std::io;
 
@@ -29,7 +27,7 @@ fn asked(alloc: Global, line: &str) -> Option<Outcome> {
     let times = words.next()?.parse::<usize>().ok()?;
     match list {
         "thin" => thin::run(alloc, workload, size, times),
-        "kit" => kit::run(alloc, workload, size, times),
+        "kit" => kit_speed::run(alloc, workload, size, times),
         _ => None,
     }
 }

@@ -4,7 +4,7 @@ mod filtering;
 mod growing;
 mod many;
 
-use crate::shared::Outcome;
+use kit_speed::shared::Outcome;
 use std::alloc::Global;
 
 /// Runs the workload of that name, or none where there is no such.

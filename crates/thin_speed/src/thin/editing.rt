@@ -1,7 +1,7 @@
 //! Workloads in which items move within a list, or leave it by their place.
 use super::growing::filled;
-use crate::shared::{Outcome, Refused, Unhinted, mixed, seen};
-use std::alloc::Global;
+use kit_speed::shared::{Outcome, Unhinted, mixed, seen};
+use std::alloc::{AllocError, Global};
 use thin_vec::ThinVec;
 
 /// Runs the workload of that name, or none where there is no such here.
@@ -21,7 +21,7 @@ pub fn run(alloc: Global, workload: &str, size: usize, times: usize) -> Option<O
 
 // Makes the list the numbers below `size` again, in the block that it has.
 #[inline(never)]
-pub(crate) fn refill(list: &mut ThinVec<u64>, size: usize) -> Result<(), Refused> {
+pub(crate) fn refill(list: &mut ThinVec<u64>, size: usize) -> Result<(), AllocError> {
     list.clear();
     for number in 0..size {
         list.push(number as u64)?;

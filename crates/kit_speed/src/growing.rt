@@ -1,6 +1,6 @@
 //! Workloads in which a list grows, or is read to its end.
-use crate::shared::{Outcome, Refused, SIXTEEN, Unhinted, mixed, seen};
-use std::alloc::Global;
+use crate::shared::{Outcome, SIXTEEN, Unhinted, mixed, seen};
+use std::alloc::{AllocError, Global};
 use std::io::Write;
 
 /// Runs the workload of that name, or none where there is no such here.
@@ -24,7 +24,7 @@ pub fn run(alloc: Global, workload: &str, size: usize, times: usize) -> Option<O
 
 // The numbers below `size`, in a block of just that size.
 #[inline(never)]
-pub(crate) fn filled(alloc: Global, size: usize) -> Result<Vec<u64>, Refused> {
+pub(crate) fn filled(alloc: Global, size: usize) -> Result<Vec<u64>, AllocError> {
     let mut list = Vec::with_capacity(alloc, size)?;
     for number in 0..size {
         list.push(number as u64)?;
@@ -175,7 +175,7 @@ fn write_five(alloc: Global, size: usize, times: usize) -> Outcome {
         let mut list: Vec<u8> = Vec::new(alloc);
         for _ in 0..size {
             if list.write_all(b"hello").is_err() {
-                return Err(Refused {});
+                return Err(AllocError);
             }
         }
         sum = mixed(sum, list.len() as u64);

@@ -1,6 +1,6 @@
 //! Workloads over many lists.
-use crate::shared::{Outcome, Refused, mixed};
-use std::alloc::Global;
+use crate::shared::{Outcome, mixed};
+use std::alloc::{AllocError, Global};
 
 /// Runs the workload of that name, or none where there is no such here.
 pub fn run(alloc: Global, workload: &str, size: usize, times: usize) -> Option<Outcome> {
@@ -74,7 +74,7 @@ fn tree(alloc: Global, size: usize, times: usize) -> Outcome {
     Ok(sum)
 }
 
-fn build(alloc: Global, depth: usize) -> Result<Node, Refused> {
+fn build(alloc: Global, depth: usize) -> Result<Node, AllocError> {
     let mut children = Vec::new(alloc);
     if depth > 0 {
         for _ in 0..10 {

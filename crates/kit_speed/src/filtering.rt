@@ -2,9 +2,9 @@
 use super::editing::refill;
 use super::growing::filled;
 use crate::shared::{
-    Outcome, Refused, Wide, is_even, is_in_a_run, is_not_one, is_random, mixed, seen, seen_wide,
+    Outcome, Wide, is_even, is_in_a_run, is_not_one, is_random, mixed, seen, seen_wide,
 };
-use std::alloc::Global;
+use std::alloc::{AllocError, Global};
 
 /// Runs the workload of that name, or none where there is no such here.
 pub fn run(alloc: Global, workload: &str, size: usize, times: usize) -> Option<Outcome> {
@@ -79,7 +79,7 @@ fn retain_runs(alloc: Global, size: usize, times: usize) -> Outcome {
 
 // Makes the list the wide items below `size` again.
 #[inline(never)]
-fn refill_wide(list: &mut Vec<Wide>, size: usize) -> Result<(), Refused> {
+fn refill_wide(list: &mut Vec<Wide>, size: usize) -> Result<(), AllocError> {
     list.clear();
     for number in 0..size {
         list.push(Wide::new(number as u64))?;

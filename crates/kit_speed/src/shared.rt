@@ -2,51 +2,10 @@
 ghost use Rattle.std.specs.Prelude.{◌-◌};
 ghost use Rattle.std.specs.Iterator.{at_most};
 
-use std::alloc::{AllocError, AllocFailed};
-use thin_vec::{ExtendRefused, Rejected, SpliceRefused, ThinVecError};
+use std::alloc::AllocError;
 
 /// The sum of a run, or that a call was refused.
-pub type Outcome = Result<u64, Refused>;
-
-/// A call was refused.
-#[derive(Drop)]
-pub struct Refused {}
-
-impl From<AllocError> for Refused {
-    fn from(_refused: AllocError) -> Refused {
-        Refused {}
-    }
-}
-
-impl<T: Drop> From<AllocFailed<T>> for Refused {
-    fn from(_refused: AllocFailed<T>) -> Refused {
-        Refused {}
-    }
-}
-
-impl From<ThinVecError> for Refused {
-    fn from(_refused: ThinVecError) -> Refused {
-        Refused {}
-    }
-}
-
-impl<T: Drop> From<Rejected<T>> for Refused {
-    fn from(_refused: Rejected<T>) -> Refused {
-        Refused {}
-    }
-}
-
-impl<T: Drop, I: Drop> From<ExtendRefused<T, I>> for Refused {
-    fn from(_refused: ExtendRefused<T, I>) -> Refused {
-        Refused {}
-    }
-}
-
-impl<T: Drop, I: Drop> From<SpliceRefused<T, I>> for Refused {
-    fn from(_refused: SpliceRefused<T, I>) -> Refused {
-        Refused {}
-    }
-}
+pub type Outcome = Result<u64, AllocError>;
 
 /// A sum with one number more.
 pub fn mixed(sum: u64, number: u64) -> u64 {

@@ -1,8 +1,11 @@
-//! The workloads over the kit's `Vec`.
+//! The workloads over the kit's `Vec`, and what those over `ThinVec` share with them.
+#![tactic(auto)]
+
 mod editing;
 mod filtering;
 mod growing;
 mod many;
+pub mod shared;
 
 use crate::shared::Outcome;
 use std::alloc::Global;
