@@ -1,5 +1,5 @@
 //! Callers that promise what an iterator gave, or what was copied, with no proof file.
-ghost use Rattle.std.specs.Prelude.{◌≡◌, ◌+◌, ◌/◌, ◌≤◌, ◌++◌, [], IfOk, IfSome, IsOk, IsSome, IsTrue, filter, length, map, nat_lt, OnErr, OnOk, ◌-◌, ◌<◌, slice_index, slice_set};
+ghost use Rattle.std.specs.Prelude.{◌≡◌, ◌+◌, ◌/◌, ◌≤◌, ◌++◌, [], IfOk, IfSome, IsOk, IsSome, IsTrue, filter, length, map, nat_lt, OnErr, OnOk, ◌-◌, ◌<◌, replicate, slice_index, slice_set, take};
 
 use std::alloc::Allocator;
 use thin_vec::{Growth, ThinVec, ThinVecError};
@@ -80,6 +80,7 @@ pub fn pad<A: Allocator, G: Growth>(
     len: usize,
 ) -> Result<(), ThinVecError>
     ensures succeeds { len ≤ text.old.capacity → IsOk result }
+    ensures items { OnOk result (text.new.items ≡ take len text.old.items ++ replicate (len - length text.old.items) 32) }
     ensures err { OnErr result (text.new ≡ text.old) }
 {
     text.resize(len, b' ')
@@ -103,6 +104,8 @@ pub fn take_all<T, A: Allocator, G: Growth>(
     other: &mut ThinVec<T, A, G>,
 ) -> Result<(), ThinVecError>
     ensures succeeds_empty { other.old.items ≡ [] → IsOk result }
+    ensures items { OnOk result (list.new.items ≡ list.old.items ++ other.old.items) }
+    ensures err { OnErr result (list.new ≡ list.old) }
 {
     list.append(other)
 }
