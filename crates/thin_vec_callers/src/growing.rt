@@ -58,12 +58,13 @@ pub fn continued<A: Allocator, G: Growth>(
     Ok(copy)
 }
 
-/// Appends the numbers, and answers how many went in: all, or those before the one that was refused.
+/// Appends the numbers, and answers how many went in behind the old items: all, or those before the one that was refused.
 pub fn extend_by_number<A: Allocator, G: Growth>(
     list: &mut ThinVec<u32, A, G>,
     numbers: &[u32],
 ) -> usize
     ensures grown { length list.new.items ≡ length list.old.items + result }
+    ensures kept { take (length list.old.items) list.new.items ≡ list.old.items }
     ensures in_bounds { result ≤ length numbers.now }
     ensures all { length list.old.items + length numbers.now ≤ list.old.capacity → result ≡ length numbers.now }
 {
@@ -98,14 +99,16 @@ pub fn append_line<A: Allocator, G: Growth>(
     text.extend_from_slice(line)
 }
 
-/// Takes all items of `other`. Where it has none, no memory is asked for.
+/// Takes all items of `other`. Where it has none, no memory is asked for. Refused, both are as they were.
 pub fn take_all<T, A: Allocator, G: Growth>(
     list: &mut ThinVec<T, A, G>,
     other: &mut ThinVec<T, A, G>,
 ) -> Result<(), ThinVecError>
     ensures succeeds_empty { other.old.items ≡ [] → IsOk result }
     ensures items { OnOk result (list.new.items ≡ list.old.items ++ other.old.items) }
+    ensures other_items { OnOk result (other.new.items ≡ []) }
     ensures err { OnErr result (list.new ≡ list.old) }
+    ensures other_err { OnErr result (other.new ≡ other.old) }
 {
     list.append(other)
 }
