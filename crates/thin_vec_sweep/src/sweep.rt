@@ -21,7 +21,9 @@ pub trait Call<T: Sample, G: Ruled> {
     fn run<R: Abort>(rt: &R, case: &mut Case<T, G>, argument: usize);
 }
 
-/// Sweeps a call.
+/// Sweeps a call. It stays a function of its own, as does `case`: inlined, all calls of an item type would be one function,
+/// and the compiler takes far longer over that.
+#[inline(never)]
 pub fn sweep<C: Call<T, G>, T: Sample, G: Ruled, R: Abort>(rt: &R, ledger: &'static Ledger) {
     for number in 0..SHAPES {
         let shape = Shape::nth(number);
@@ -52,6 +54,7 @@ fn until_granted<C: Call<T, G>, T: Sample, G: Ruled, R: Abort>(
 }
 
 // One case. Answers how many requests the call made.
+#[inline(never)]
 fn case<C: Call<T, G>, T: Sample, G: Ruled, R: Abort>(
     rt: &R,
     ledger: &'static Ledger,
