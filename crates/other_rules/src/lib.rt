@@ -1,5 +1,8 @@
 //! Two more growth rules, for tests: under any rule a list's calls, and a run of commands, do what they promise.
+//! And each rule once more, for what tests compare with.
 #![tactic(auto)]
+
+pub mod ruled;
 
 ghost use Rattle.std.specs.Prelude.{◌≡◌};
 ghost use Rattle.std.specs.Mem.{type_size};

@@ -33,9 +33,9 @@ use crate::calls::reads::{AsMutSlice, Index, IndexMut, Iterate, IterateMut, Read
 use crate::calls::rooms::{Reserve, ReserveExact, ShrinkToFit};
 use crate::calls::splices::Spliced;
 use crate::ledger::Ledger;
-use crate::rules::Ruled;
 use crate::samples::Sample;
 use crate::sweep::sweep;
+use other_rules::ruled::Ruled;
 use other_rules::{Fourfold, Threefold};
 use std::fmt::Debug;
 use std::hash::Hash;

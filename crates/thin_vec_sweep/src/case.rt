@@ -1,8 +1,8 @@
 //! One case: a list of some shape, and beside it the reference, which is made of std's `Vec` and a number.
 use crate::ledger::Ledger;
-use crate::rules::Ruled;
 use crate::samples::Sample;
 use crate::shapes::Shape;
+use other_rules::ruled::Ruled;
 use refusing::Refusing;
 use std::alloc::Global;
 use std::fmt::Debug;

@@ -1,9 +1,9 @@
 //! How a call is swept: over each shape, each argument and each request that can be refused.
 use crate::case::{At, Case};
 use crate::ledger::Ledger;
-use crate::rules::Ruled;
 use crate::samples::Sample;
 use crate::shapes::{SHAPES, Shape};
+use other_rules::ruled::Ruled;
 use std::process::Abort;
 
 /// A call that is swept, on lists of `T` under the rule `G`.

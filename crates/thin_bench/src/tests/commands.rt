@@ -1,7 +1,8 @@
 //! Each command with each of its replies, and worked runs, with each of their requests refused in turn.
-use crate::tests::model::{Model, Ruled, both};
+use crate::tests::model::{Model, both};
 use crate::tests::orders::{Form, KINDS, Kind, Order, Shown, command_of, show};
 use crate::tests::samples::{Evens, Lender, Sample, Wavers, put};
+use other_rules::ruled::Ruled;
 use refusing::Refusing;
 use std::alloc::{AllocError, Allocator, Global};
 use std::fmt::Debug;

@@ -1,60 +1,14 @@
 //! The definition written as a program, short and slow, over a `Vec` and a number.
 use crate::tests::orders::{Form, Kind, Order, Shown, command_of, show, steps_of};
 use crate::tests::samples::{Lender, Sample, one, put, put_all, samples};
-use other_rules::{Fourfold, Threefold};
+use other_rules::ruled::Ruled;
 use std::alloc::{AllocError, Allocator};
 use std::marker::PhantomData;
 use std::mem;
 use thin_runner::command::Step;
 use thin_runner::judge::Judge;
 use thin_runner::runner::step;
-use thin_vec::{Doubling, Growth, PowerBytes, ThinVec, ThinVecError};
-
-/// A growth rule, said once more: numbers only, and no limit.
-pub trait Ruled: Growth {
-    /// The capacity after `capacity` that has room for `want` items of `size` bytes, which are more.
-    fn named(size: usize, capacity: usize, want: usize) -> usize;
-}
-
-impl Ruled for Doubling {
-    fn named(_size: usize, capacity: usize, want: usize) -> usize {
-        if capacity == 0 {
-            want.max(4)
-        } else {
-            want.max(capacity.saturating_mul(2))
-        }
-    }
-}
-
-impl Ruled for PowerBytes {
-    // A block's first 16 bytes are its capacity and length.
-    fn named(size: usize, capacity: usize, want: usize) -> usize {
-        if size == 0 {
-            return Doubling::named(size, capacity, want);
-        }
-        let items = want.max(capacity.saturating_mul(2));
-        let bytes = items.saturating_mul(size).saturating_add(16);
-        let mut power: usize = 16;
-        for _ in 4..64 {
-            if power < bytes {
-                power = power.saturating_mul(2);
-            }
-        }
-        power.saturating_sub(16) / size
-    }
-}
-
-impl Ruled for Threefold {
-    fn named(_size: usize, capacity: usize, want: usize) -> usize {
-        want.max(capacity.saturating_mul(3))
-    }
-}
-
-impl Ruled for Fourfold {
-    fn named(_size: usize, capacity: usize, want: usize) -> usize {
-        want.max(capacity.saturating_mul(4))
-    }
-}
+use thin_vec::{ThinVec, ThinVecError};
 
 // Past so many items a capacity overflows: no test asks for a number between this one and what a block may hold.
 const LIMIT: usize = 1_000_000_000_000;

@@ -1,7 +1,8 @@
 //! Random runs: each command is done by `step`, and by the definition written as a program.
-use crate::tests::model::{Model, Ruled, both};
+use crate::tests::model::{Model, both};
 use crate::tests::orders::{Form, KINDS, Kind, Order};
 use crate::tests::samples::{Lender, Sample, Wavers, put};
+use other_rules::ruled::Ruled;
 use other_rules::{Fourfold, Threefold};
 use refusing::Refusing;
 use std::alloc::{AllocError, Global};
@@ -85,8 +86,8 @@ fn runs_alike<'a, T: Sample<Lender<'a>>, G: Ruled>(
     Ok(alloc.blocks() == 0)
 }
 
-// How many runs there are at each type of items under each growth rule: with ten types and four rules 100,000 in all.
-const RUNS: u64 = 2_500;
+// How many runs there are at each type of items under a growth rule: with ten types and two rules 100,000.
+const RUNS: u64 = 5_000;
 
 // Asserts that all runs from a seed on are alike.
 fn assert_alike<'a, T: Sample<Lender<'a>>, G: Ruled, R: Abort>(
@@ -102,7 +103,7 @@ fn assert_alike<'a, T: Sample<Lender<'a>>, G: Ruled, R: Abort>(
     }
 }
 
-// Asserts that all runs are alike, under every growth rule.
+// Asserts that all runs are alike, under the rules that `thin_vec` has.
 fn assert_all_alike<'a, T: Sample<Lender<'a>>, R: Abort>(
     rt: &R,
     alloc: Lender<'a>,
@@ -110,6 +111,14 @@ fn assert_all_alike<'a, T: Sample<Lender<'a>>, R: Abort>(
 ) {
     assert_alike::<T, Doubling, R>(rt, alloc, global, 0);
     assert_alike::<T, PowerBytes, R>(rt, alloc, global, 10_000);
+}
+
+// The same under two rules of the tests' own.
+fn assert_alike_by_other_rules<'a, T: Sample<Lender<'a>>, R: Abort>(
+    rt: &R,
+    alloc: Lender<'a>,
+    global: Global,
+) {
     assert_alike::<T, Threefold, R>(rt, alloc, global, 20_000);
     assert_alike::<T, Fourfold, R>(rt, alloc, global, 30_000);
 }
@@ -130,6 +139,7 @@ fn random_runs_at_u16(rt: HostRuntime) {
 fn random_runs_at_u32(rt: HostRuntime) {
     let refusing = Refusing::new(rt.alloc(), 0);
     assert_all_alike::<u32, _>(&rt, &refusing, rt.alloc());
+    assert_alike_by_other_rules::<u32, _>(&rt, &refusing, rt.alloc());
 }
 
 #[test]
@@ -166,6 +176,7 @@ fn random_runs_at_pairs(rt: HostRuntime) {
 fn random_runs_at_boxes(rt: HostRuntime) {
     let refusing = Refusing::new(rt.alloc(), 0);
     assert_all_alike::<Box<u64, Lender<'_>>, _>(&rt, &refusing, rt.alloc());
+    assert_alike_by_other_rules::<Box<u64, Lender<'_>>, _>(&rt, &refusing, rt.alloc());
 }
 
 #[test]

@@ -1,9 +1,9 @@
 //! Lists of bytes, and items that are copied as one run.
 use crate::case::{Case, numbers, same, source};
-use crate::rules::Ruled;
 use crate::samples::Sample;
 use crate::shapes::Shape;
 use crate::sweep::Call;
+use other_rules::ruled::Ruled;
 use std::io;
 use std::io::{ErrorKind, Write};
 use std::process::Abort;

@@ -1,9 +1,9 @@
 //! The calls that clone: `resize`, `extend_from_slice`, `clone`.
 use crate::case::{Case, Verdict, numbers, source};
-use crate::rules::Ruled;
 use crate::samples::Sample;
 use crate::shapes::Shape;
 use crate::sweep::Call;
+use other_rules::ruled::Ruled;
 use std::process::Abort;
 use thin_vec::ThinVec;
 

@@ -1,9 +1,9 @@
 //! Comparisons, hashes and texts: those of the items' slice.
 use crate::case::{Case, filled, same};
-use crate::rules::Ruled;
 use crate::samples::Sample;
 use crate::shapes::Shape;
 use crate::sweep::Call;
+use other_rules::ruled::Ruled;
 use std::fmt::Debug;
 use std::hash::{DefaultHasher, Hash, Hasher};
 use std::process::Abort;

@@ -1,10 +1,10 @@
 //! Lists made from other types, and other types that a list is turned into.
 use crate::calls::rooms::is_too_much;
 use crate::case::{Case, List, Verdict, numbers};
-use crate::rules::Ruled;
 use crate::samples::Sample;
 use crate::shapes::Shape;
 use crate::sweep::Call;
+use other_rules::ruled::Ruled;
 use refusing::Refusing;
 use std::alloc::Global;
 use std::process::Abort;

@@ -1,9 +1,9 @@
 //! Items that are copied as one run.
 use crate::case::{Case, source};
-use crate::rules::Ruled;
 use crate::samples::Sample;
 use crate::shapes::Shape;
 use crate::sweep::Call;
+use other_rules::ruled::Ruled;
 use std::process::Abort;
 use thin_vec::{Doubling, ThinVec};
 

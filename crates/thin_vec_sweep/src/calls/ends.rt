@@ -1,10 +1,10 @@
 //! An item, or the rest of a list, comes in or goes out: `push`, `push_reserved`, `pop`, `insert`, `insert_reserved`,
 //! `remove`, `swap_remove`, `truncate`, `clear`.
 use crate::case::{Case, same};
-use crate::rules::Ruled;
 use crate::samples::Sample;
 use crate::shapes::Shape;
 use crate::sweep::Call;
+use other_rules::ruled::Ruled;
 use std::process::Abort;
 
 // The number of an item that comes in.

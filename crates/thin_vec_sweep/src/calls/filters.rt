@@ -1,10 +1,10 @@
 //! Calls that keep some items, by what a closure answers of them: each is asked in turn, and may write.
 use crate::answers::{PATTERNS, Questions, number_at, stays};
 use crate::case::Case;
-use crate::rules::Ruled;
 use crate::samples::Sample;
 use crate::shapes::Shape;
 use crate::sweep::Call;
+use other_rules::ruled::Ruled;
 use std::alloc::Global;
 use std::cell::Cell;
 use std::mem;

@@ -1,10 +1,10 @@
 //! The iterator that a list becomes, from both ends.
 use crate::case::{Case, same};
-use crate::rules::Ruled;
 use crate::samples::Sample;
 use crate::shapes::Shape;
 use crate::sweep::Call;
 use crate::walks::{Remaining, WALKS, Walk};
+use other_rules::ruled::Ruled;
 use std::mem;
 use std::process::Abort;
 

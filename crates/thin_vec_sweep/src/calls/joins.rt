@@ -1,9 +1,9 @@
 //! Two lists: `append`, `split_off`.
 use crate::case::{Case, Verdict, filled, numbers};
-use crate::rules::Ruled;
 use crate::samples::Sample;
 use crate::shapes::Shape;
 use crate::sweep::Call;
+use other_rules::ruled::Ruled;
 use std::process::Abort;
 
 // The number of the other list's first item.

@@ -1,11 +1,11 @@
 //! Calls by which the items of a range go out, given up after any steps, and the test for ranges.
 use crate::answers::{number_at, stays};
 use crate::case::{At, Case, same, same_item, same_items};
-use crate::rules::Ruled;
 use crate::samples::Sample;
 use crate::shapes::{Cases, Ranged, Shape};
 use crate::sweep::Call;
 use crate::walks::{Remaining, WALKS, Walk, some_steps};
+use other_rules::ruled::Ruled;
 use std::alloc::{Allocator, Global};
 use std::ops::Bound;
 use std::process::Abort;

@@ -1,9 +1,9 @@
 //! What is read, and what is written through a `&mut`: no call of these takes memory.
 use crate::case::{Case, List, same};
-use crate::rules::Ruled;
 use crate::samples::Sample;
 use crate::shapes::Shape;
 use crate::sweep::Call;
+use other_rules::ruled::Ruled;
 use std::mem;
 use std::process::Abort;
 

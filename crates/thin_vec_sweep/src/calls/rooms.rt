@@ -1,9 +1,9 @@
 //! The capacity changes, and nothing else: `reserve`, `reserve_exact`, `shrink_to_fit`.
 use crate::case::Case;
-use crate::rules::Ruled;
 use crate::samples::Sample;
 use crate::shapes::Shape;
 use crate::sweep::Call;
+use other_rules::ruled::Ruled;
 use std::process::Abort;
 
 /// By each count, by the numbers about the greatest that fits, and by `usize::MAX`.

@@ -1,8 +1,8 @@
-//! The growth rules, said once more for the reference: numbers only, and no limit.
-use other_rules::{Fourfold, Threefold};
+//! The growth rules, said once more for what tests compare with: numbers only, and no limit.
+use crate::{Fourfold, Threefold};
 use thin_vec::{Doubling, Growth, PowerBytes};
 
-/// A growth rule that the reference can follow.
+/// A growth rule that a reference can follow.
 pub trait Ruled: Growth {
     /// The capacity after `capacity` that has room for `want` items of `size` bytes, which are more.
     fn named(size: usize, capacity: usize, want: usize) -> usize;
