@@ -1,5 +1,6 @@
 //! Callers that promise what an iterator gave, or what was copied, with no proof file.
 ghost use Rattle.std.specs.Prelude.{◌≡◌, ◌+◌, ◌/◌, ◌≤◌, ◌++◌, [], IfOk, IfSome, IsOk, IsSome, IsTrue, filter, length, map, nat_lt, OnErr, OnOk, ◌-◌, ◌<◌, replicate, slice_index, slice_set, take};
+ghost use Rattle.thin_vec.specs.ThinVec.{HasRoomFor};
 
 use std::alloc::Allocator;
 use thin_vec::{Growth, ThinVec, ThinVecError};
@@ -92,6 +93,7 @@ pub fn append_line<A: Allocator, G: Growth>(
     text: &mut ThinVec<u8, A, G>,
     line: &[u8],
 ) -> Result<(), ThinVecError>
+    ensures succeeds { HasRoomFor text.old (length line.now) → IsOk result }
     ensures succeeds_empty { length line.now ≡ 0 → IsOk result }
     ensures items { OnOk result (text.new.items ≡ text.old.items ++ line.now) }
     ensures err { OnErr result (text.new ≡ text.old) }
@@ -104,6 +106,7 @@ pub fn take_all<T, A: Allocator, G: Growth>(
     list: &mut ThinVec<T, A, G>,
     other: &mut ThinVec<T, A, G>,
 ) -> Result<(), ThinVecError>
+    ensures succeeds { HasRoomFor list.old (length other.old.items) → IsOk result }
     ensures succeeds_empty { other.old.items ≡ [] → IsOk result }
     ensures items { OnOk result (list.new.items ≡ list.old.items ++ other.old.items) }
     ensures other_items { OnOk result (other.new.items ≡ []) }

@@ -14,8 +14,8 @@
 //! are in `walks.rt`: on lists and ranges of up to 6 items all there are. An iterator that a call is given is one of
 //! `claims.rt`, which counts how often it is asked.
 //!
-//! A growth rule joins by an impl of `Ruled` (`other_rules`) and a line in `calls.rt`, and an item type by an impl of `Sample`
-//! (`samples.rt`) and a test.
+//! A growth rule joins by an impl of `Ruled` (`other_rules`) and a line in `calls.rt`, and an item type by an impl of
+//! `Sample` (`samples.rt`) and a test.
 #![tactic(auto)]
 
 #[cfg(test)]
