@@ -16,7 +16,7 @@ pub fn halves<A: Allocator>(alloc: A, numbers: &[u32]) -> Option<ThinVec<u32, A>
     }
 }
 
-/// Appends the numbers that are below `limit`, in order, and answers whether all went in.
+/// Appends the numbers that are below `limit`, in order, and answers whether all went in. The old items stay in any case.
 pub fn extend_below<A: Allocator, G: Growth>(
     list: &mut ThinVec<u32, A, G>,
     numbers: &[u32],
@@ -25,6 +25,7 @@ pub fn extend_below<A: Allocator, G: Growth>(
     ensures succeeds { length list.old.items + length numbers.now ≤ list.old.capacity → IsTrue result }
     ensures succeeds_empty { length numbers.now ≡ 0 → IsTrue result }
     ensures items { IsTrue result → list.new.items ≡ list.old.items ++ filter (λ number. nat_lt number limit) numbers.now }
+    ensures kept { take (length list.old.items) list.new.items ≡ list.old.items }
 {
     match list.extend(numbers.iter().copied().filter(|number| *number < limit)) {
         Ok(()) => true,
@@ -52,6 +53,7 @@ pub fn continued<A: Allocator, G: Growth>(
     alloc: A,
     more: &[u32],
 ) -> Result<ThinVec<u32, A, G>, ThinVecError>
+    ensures succeeds_empty { list.now.items ≡ [] → more.now ≡ [] → IsOk result }
     ensures items { IfOk result (λ copy. copy.items ≡ list.now.items ++ more.now) }
 {
     let mut copy = list.clone_copies(alloc)?;

@@ -1,5 +1,5 @@
 //! Callers that walk over a list which is used up, with a loop or without.
-ghost use Rattle.std.specs.Prelude.{◌≡◌, IfOk, length, min, reverse};
+ghost use Rattle.std.specs.Prelude.{◌≡◌, [], IfOk, IsOk, length, min, reverse};
 ghost use Rattle.std.specs.List.{fold};
 
 use std::alloc::{AllocError, Allocator, Global};
@@ -46,6 +46,7 @@ pub fn reversed_singly<A: Allocator, G: Growth>(
     list: ThinVec<u32, A, G>,
     alloc: Global,
 ) -> Result<Vec<u32>, AllocError>
+    ensures succeeds_empty { list.items ≡ [] → IsOk result }
     ensures items { IfOk result (λ vec. vec.items ≡ reverse list.items) }
 {
     let mut vec = Vec::new(alloc);
@@ -57,6 +58,7 @@ pub fn reversed_singly<A: Allocator, G: Growth>(
 
 /// The items, in a `Vec`, one by one.
 pub fn carried_over(list: ThinVec<u32, Global>, alloc: Global) -> Result<Vec<u32>, AllocError>
+    ensures succeeds_empty { list.items ≡ [] → IsOk result }
     ensures items { IfOk result (λ vec. vec.items ≡ list.items) }
 {
     let mut vec = Vec::new(alloc);

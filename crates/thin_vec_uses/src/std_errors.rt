@@ -1,5 +1,6 @@
 //! The list where std's traits and errors are asked for: `collect`, and `?` in functions that answer them.
-ghost use Rattle.std.specs.Prelude.{◌≡◌, ◌*◌, ◌++◌, [], ◌∷◌, IfOk, OnOk, map};
+ghost use Rattle.std.specs.Prelude.{◌≡◌, ◌+◌, ◌*◌, ◌++◌, [], ◌∷◌, IfOk, IsOk, OnOk, length, map, take};
+ghost use Rattle.thin_vec.specs.ThinVec.{HasRoomFor};
 
 use std::alloc::{AllocError, Allocator};
 use std::io;
@@ -15,12 +16,14 @@ pub fn doubled<A: Allocator>(alloc: A, numbers: &[u32]) -> Result<ThinVec<u64, A
         .collect(alloc)
 }
 
-/// Appends a line of text and its end.
+/// Appends a line of text and its end. Refused, the old bytes stay, and the line may stand behind them without its end.
 pub fn write_line<A: Allocator, G: Growth>(
     bytes: &mut ThinVec<u8, A, G>,
     line: &[u8],
 ) -> io::Result<()>
+    ensures succeeds { HasRoomFor bytes.old (length line.now + 1) → IsOk result }
     ensures items { OnOk result (bytes.new.items ≡ bytes.old.items ++ (line.now ++ 10 ∷ [])) }
+    ensures kept { take (length bytes.old.items) bytes.new.items ≡ bytes.old.items }
 {
     bytes.extend_from_copies(line)?;
     bytes.push(10)?;
@@ -32,6 +35,7 @@ pub fn with_numbers<A: Allocator, G: Growth>(
     mut list: ThinVec<u32, A, G>,
     more: &[u32],
 ) -> Result<ThinVec<u32, A, G>, AllocError>
+    ensures succeeds { HasRoomFor list (length more.now) → IsOk result }
     ensures items { IfOk result (λ longer. longer.items ≡ list.items ++ more.now) }
 {
     list.extend(more.iter().copied())?;
