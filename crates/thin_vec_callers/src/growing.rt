@@ -1,8 +1,8 @@
 //! Callers that promise what an iterator gave, or what was copied, with no proof file.
-ghost use Rattle.std.specs.Prelude.{◌≡◌, ◌+◌, ◌/◌, ◌≤◌, ◌++◌, [], IfOk, IfSome, IsOk, IsSome, IsTrue, filter, length, map, nat_lt, OnErr, OnOk, ◌-◌, ◌<◌, replicate, slice_index, slice_set, take};
-ghost use Rattle.thin_vec.specs.ThinVec.{HasRoomFor};
+ghost use Rattle.std.specs.Prelude.{◌≡◌, ◌+◌, ◌/◌, ◌≤◌, ◌++◌, [], IfErr, IfOk, IfSome, IsErrOf, IsOk, IsSome, IsTrue, None, filter, length, map, nat_lt, OnErr, OnOk, ◌-◌, ◌<◌, replicate, slice_index, slice_set, take};
+ghost use Rattle.thin_vec.specs.ThinVec.{HasRoomFor, IsCause, capacity_for};
 
-use std::alloc::Allocator;
+use std::alloc::{AllocError, Allocator};
 use thin_vec::{Growth, ThinVec, ThinVecError};
 
 /// A list of half of each number, in order, or `None` where it is refused.
@@ -38,7 +38,7 @@ pub fn joined<A: Allocator>(
     alloc: A,
     first: &[u32],
     second: &[u32],
-) -> Result<ThinVec<u32, A>, ThinVecError>
+) -> Result<ThinVec<u32, A>, AllocError>
     ensures succeeds_empty { first.now ≡ [] → second.now ≡ [] → IsOk result }
     ensures items { IfOk result (λ list. list.items ≡ first.now ++ second.now) }
 {
@@ -52,7 +52,7 @@ pub fn continued<A: Allocator, G: Growth>(
     list: &ThinVec<u32, A, G>,
     alloc: A,
     more: &[u32],
-) -> Result<ThinVec<u32, A, G>, ThinVecError>
+) -> Result<ThinVec<u32, A, G>, AllocError>
     ensures succeeds_empty { list.now.items ≡ [] → more.now ≡ [] → IsOk result }
     ensures items { IfOk result (λ copy. copy.items ≡ list.now.items ++ more.now) }
 {
@@ -82,25 +82,27 @@ pub fn extend_by_number<A: Allocator, G: Growth>(
 pub fn pad<A: Allocator, G: Growth>(
     text: &mut ThinVec<u8, A, G>,
     len: usize,
-) -> Result<(), ThinVecError>
+) -> Result<(), AllocError>
     ensures succeeds { len ≤ text.old.capacity → IsOk result }
     ensures items { OnOk result (text.new.items ≡ take len text.old.items ++ replicate (len - length text.old.items) 32) }
     ensures err { OnErr result (text.new ≡ text.old) }
 {
-    text.resize(len, b' ')
+    text.resize(len, b' ')?;
+    Ok(())
 }
 
 /// Appends a line. Refused, the text is as it was.
 pub fn append_line<A: Allocator, G: Growth>(
     text: &mut ThinVec<u8, A, G>,
     line: &[u8],
-) -> Result<(), ThinVecError>
+) -> Result<(), AllocError>
     ensures succeeds { HasRoomFor text.old (length line.now) → IsOk result }
     ensures succeeds_empty { length line.now ≡ 0 → IsOk result }
     ensures items { OnOk result (text.new.items ≡ text.old.items ++ line.now) }
     ensures err { OnErr result (text.new ≡ text.old) }
 {
-    text.extend_from_slice(line)
+    text.extend_from_slice(line)?;
+    Ok(())
 }
 
 /// Takes all items of `other`. Where it has none, no memory is asked for. Refused, both are as they were.
@@ -110,6 +112,8 @@ pub fn take_all<T, A: Allocator, G: Growth>(
 ) -> Result<(), ThinVecError>
     ensures succeeds { HasRoomFor list.old (length other.old.items) → IsOk result }
     ensures succeeds_empty { other.old.items ≡ [] → IsOk result }
+    ensures overflow { capacity_for G.rule T.row list.old (length other.old.items) ≡ None → IsErrOf result ThinVecError.CapacityOverflow }
+    ensures cause { IfErr result (IsCause (capacity_for G.rule T.row list.old (length other.old.items))) }
     ensures items { OnOk result (list.new.items ≡ list.old.items ++ other.old.items) }
     ensures other_items { OnOk result (other.new.items ≡ []) }
     ensures err { OnErr result (list.new ≡ list.old) }
