@@ -3,8 +3,8 @@ ghost use Rattle.std.specs.Option.{option_to_list};
 ghost use Rattle.std.specs.Prelude.{◌≡◌, ◌-◌, ◌≤◌, [], ◌∷◌, ◌++◌, IsOk, OnErr, OnOk, drop, length, slice_range, take};
 ghost use Rattle.thin_vec.specs.ThinVec.{HasRoomFor};
 
-use std::alloc::Allocator;
-use thin_vec::{Growth, ThinVec, ThinVecError};
+use std::alloc::{AllocError, Allocator};
+use thin_vec::{Growth, ThinVec};
 
 /// Moves the numbers from `start` up to `end` behind those of `other`, or moves none.
 ///
@@ -14,7 +14,7 @@ pub fn move_range<A: Allocator, G: Growth>(
     start: usize,
     end: usize,
     other: &mut ThinVec<u32, A, G>,
-) -> Result<(), ThinVecError>
+) -> Result<(), AllocError>
     requires start_le_end { start ≤ end }
     requires in_bounds { end ≤ length list.old.items }
     ensures succeeds { HasRoomFor other.old (end - start) → IsOk result }
@@ -33,7 +33,7 @@ pub fn move_range<A: Allocator, G: Growth>(
 pub fn move_odd<A: Allocator, G: Growth>(
     list: &mut ThinVec<u32, A, G>,
     other: &mut ThinVec<u32, A, G>,
-) -> Result<(), ThinVecError>
+) -> Result<(), AllocError>
     requires to_six { list.old.items ≡ 1 ∷ 2 ∷ 3 ∷ 4 ∷ 5 ∷ 6 ∷ [] }
     ensures succeeds { HasRoomFor other.old 3 → IsOk result }
     ensures items { OnOk result (list.new.items ≡ 2 ∷ 4 ∷ 6 ∷ []) }

@@ -1,9 +1,9 @@
 //! Callers that promise how many items an edit moves.
 ghost use Rattle.std.specs.Prelude.{◌≡◌, ◌+◌, ◌≤◌, [], ◌∷◌, ◌++◌, IfOk, OnOk, drop, length, take};
 
-use std::alloc::Allocator;
+use std::alloc::{AllocError, Allocator};
 use std::iter::once;
-use thin_vec::{Growth, ThinVec, ThinVecError, thin_vec};
+use thin_vec::{Growth, ThinVec, thin_vec};
 
 /// Takes four of six items out, two of them step by step: the last one moves, and no other.
 pub fn drained_middle<T: Drop, A: Allocator, G: Growth>(list: &mut ThinVec<T, A, G>)
@@ -20,6 +20,7 @@ pub fn drained_middle<T: Drop, A: Allocator, G: Growth>(list: &mut ThinVec<T, A,
 /// Takes no item out behind the last of six: nothing moves.
 pub fn drained_behind<T: Drop, A: Allocator, G: Growth>(list: &mut ThinVec<T, A, G>)
     requires six { length list.old.items ≡ 6 }
+    ensures items { list.new.items ≡ list.old.items }
     ensures no_move { list.new.cost ≡ list.old.cost }
 {
     drop(list.drain(6, 6));
@@ -50,7 +51,7 @@ pub fn extracted_first<A: Allocator, G: Growth>(list: &mut ThinVec<u32, A, G>) -
 pub fn spliced_middle<A: Allocator + Copy, G: Growth>(
     list: &mut ThinVec<u32, A, G>,
     alloc: A,
-) -> Result<(), ThinVecError>
+) -> Result<(), AllocError>
     requires five { length list.old.items ≡ 5 }
     ensures items { OnOk result (list.new.items ≡ (take 2 list.old.items ++ 10 ∷ 11 ∷ 12 ∷ []) ++ drop 4 list.old.items) }
     ensures five_moves { OnOk result (list.new.cost.moves ≤ list.old.cost.moves + 5) }
@@ -62,7 +63,7 @@ pub fn spliced_middle<A: Allocator + Copy, G: Growth>(
 
 /// A new list, filled and edited: six items come in behind, one between others, and five go out again. Two stay, after at most
 /// 14 moves.
-pub fn edited<A: Allocator + Copy>(alloc: A) -> Result<ThinVec<u32, A>, ThinVecError>
+pub fn edited<A: Allocator + Copy>(alloc: A) -> Result<ThinVec<u32, A>, AllocError>
     ensures len { IfOk result (λ list. length list.items ≡ 2) }
     ensures moves { IfOk result (λ list. list.cost.moves ≤ 14) }
 {
@@ -76,7 +77,7 @@ pub fn edited<A: Allocator + Copy>(alloc: A) -> Result<ThinVec<u32, A>, ThinVecE
 }
 
 // Puts 9 in the place of 2 and 3: one move for it, and at most two for each of the three behind.
-fn nine_for_two<A: Allocator>(list: &mut ThinVec<u32, A>, alloc: A) -> Result<(), ThinVecError>
+fn nine_for_two<A: Allocator>(list: &mut ThinVec<u32, A>, alloc: A) -> Result<(), AllocError>
     requires to_six { list.old.items ≡ 1 ∷ 2 ∷ 3 ∷ 4 ∷ 5 ∷ 6 ∷ [] }
     ensures items { OnOk result (list.new.items ≡ 1 ∷ 9 ∷ 4 ∷ 5 ∷ 6 ∷ []) }
     ensures moves { OnOk result (list.new.cost.moves ≤ list.old.cost.moves + 7) }

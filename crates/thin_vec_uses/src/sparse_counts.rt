@@ -4,8 +4,8 @@ ghost use Rattle.std.specs.Option.{unwrap_or};
 ghost use Rattle.std.specs.Prelude.{◌≡◌, ◌↔◌, ◌+◌, ◌-◌, ◌^◌, ◌<◌, ◌/◌, IfSome, IsNone, IsOk, IsSome, IsTrue, None, OnErr, OnOk, length, min};
 ghost use Rattle.thin_rows.specs.Table.{row_of, value_at, with_value, without_value};
 
-use std::alloc::Allocator;
-use thin_rows::{Rows, ThinVecError};
+use std::alloc::{AllocError, Allocator};
+use thin_rows::Rows;
 
 /// Adds to the count at a row and a column. A count that would be past `u32::MAX` is `u32::MAX`.
 pub fn add<A: Allocator>(
@@ -13,7 +13,7 @@ pub fn add<A: Allocator>(
     row: usize,
     column: usize,
     more: u32,
-) -> Result<(), ThinVecError>
+) -> Result<(), AllocError>
     requires in_bounds { row < length counts.old }
     ensures succeeds { IsSome (value_at counts.old row column) → IsOk result }
     ensures table { OnOk result (counts.new ≡ with_value counts.old row column (min (unwrap_or (value_at counts.old row column) 0 + more) (2 ^ 32 - 1))) }

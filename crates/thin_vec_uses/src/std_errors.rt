@@ -1,9 +1,11 @@
 //! The list where std's traits and errors are asked for: `collect`, and `?` in functions that answer them.
-ghost use Rattle.std.specs.Prelude.{◌≡◌, ◌+◌, ◌*◌, ◌++◌, [], ◌∷◌, IfOk, IsOk, OnOk, length, map, take};
+ghost use Rattle.std.specs.Prelude.{◌≡◌, ◌+◌, ◌*◌, ◌++◌, [], ◌∷◌, IfErr, IfOk, IsOk, OnOk, length, map, take};
+ghost use Rattle.std.specs.IoError.{error_kind};
 ghost use Rattle.thin_vec.specs.ThinVec.{HasRoomFor};
 
 use std::alloc::{AllocError, Allocator};
 use std::io;
+use std::io::ErrorKind;
 use thin_vec::{Growth, ThinVec};
 
 /// Twice each number, collected into a list on `alloc`.
@@ -22,6 +24,7 @@ pub fn write_line<A: Allocator, G: Growth>(
     line: &[u8],
 ) -> io::Result<()>
     ensures succeeds { HasRoomFor bytes.old (length line.now + 1) → IsOk result }
+    ensures cause { IfErr result (λ error. error_kind error ≡ ErrorKind.OutOfMemory) }
     ensures items { OnOk result (bytes.new.items ≡ bytes.old.items ++ (line.now ++ 10 ∷ [])) }
     ensures kept { take (length bytes.old.items) bytes.new.items ≡ bytes.old.items }
 {
