@@ -284,20 +284,22 @@ module _ {S T : Type 0} (R : S → T → T → Bool → S → T → T → Type 0
   -- ---- on blocks that are open
 
   module _ {A : Type 0} (v w : Open T A) where
-    -- w has a hole, and of v the tail, the slots and where they came from
-    pub record Beside : Type 0 where
-      pub hole : 0 < w.before
-      pub behind : w.behind ≡ v.behind
-      pub tail : w.tail ≡ v.tail
-      pub capacity : w.capacity ≡ v.capacity
-      pub alloc : w.alloc ≡ v.alloc
+    -- w is v with another front, hole and middle run, at this cost
+    abbrev Moved : List T → Cost → Type 0
+    Moved front cost = w ≡ record v
+        { front = front; before = w.before; rest = w.rest; cost = cost }
+
+    moved : {f f' : List T} {k k' : Cost} → f ≡ f' → k ≡ k'
+        → record v { front = f; before = w.before; rest = w.rest; cost = k }
+        ≡ record v { front = f'; before = w.before; rest = w.rest; cost = k' }
+    moved e n = λ i. record v { front = e i; before = w.before; rest = w.rest; cost = n i }
 
     module _ (s t : S) where
       thins-of : (before : List T) (first : T) (done : List T) (stays : List Bool) (kept : List T)
           → v.front ≡ before ++ first ∷ [] → v.rest ≡ done ++ w.rest
-          → AskedLast R s first done stays kept t → w.front ≡ before ++ kept
-          → w.cost ≡ moving (trues stays) v.cost → Beside → Thins R s v t w
-      thins-of before first done stays kept was rest asked front cost like =
+          → AskedLast R s first done stays kept t → 0 < w.before
+          → Moved (before ++ kept) (moving (trues stays) v.cost) → Thins R s v t w
+      thins-of before first done stays kept was rest asked hole now =
           record {
             before = before;
             first = first;
@@ -307,33 +309,27 @@ module _ {S T : Type 0} (R : S → T → T → Bool → S → T → T → Type 0
             was = was;
             rest = rest;
             asked = asked;
-            front = front;
-            cost = cost;
-            hole = like.hole;
-            behind =
-                like.behind;
-            tail = like.tail;
-            capacity = like.capacity;
-            alloc = like.alloc;
+            hole = hole;
+            now = now;
           }
 
     -- the next item goes
     pub thins-goes : (s t : S) (x y : T) (front : List T) → IsLastAsked R s x v.front true t y front
-        → v.rest ≡ x ∷ w.rest → w.front ≡ front → w.cost ≡ v.cost → Beside → Thins R s v t w
-    thins-goes s t x y front a rest is cost like =
+        → v.rest ≡ x ∷ w.rest → 0 < w.before → Moved front v.cost → Thins R s v t w
+    thins-goes s t x y front a rest hole now =
         thins-of s t a.before a.kept (x ∷ []) (false ∷ []) (a.kept_left ∷ []) a.was rest
-        (last-goes s t a.kept x y a.kept_left a.asked) (is ∙ a.now)
-        (cost ∙ sym (moving-none v.cost)) like
+        (last-goes s t a.kept x y a.kept_left a.asked) hole
+        (now ∙ moved (λ i. a.now i) (sym (moving-none v.cost)))
 
     -- it stays
     pub thins-stays : (s t : S) (x y : T) (front : List T)
         → IsLastAsked R s x v.front false t y front → v.rest ≡ x ∷ w.rest
-        → w.front ≡ front ++ y ∷ [] → w.cost ≡ moving 1 v.cost → Beside → Thins R s v t w
-    thins-stays s t x y front a rest is cost like =
+        → 0 < w.before → Moved (front ++ y ∷ []) (moving 1 v.cost) → Thins R s v t w
+    thins-stays s t x y front a rest hole now =
         thins-of s t a.before a.kept (x ∷ []) (true ∷ []) (a.kept_left ∷ y ∷ []) a.was rest
-        (last-stays s t a.kept x y a.kept_left a.asked)
-        (is ∙ (ap (λ (l : List T). l ++ y ∷ []) a.now
-        ∙ append_assoc a.before (a.kept_left ∷ []) (y ∷ []))) cost like
+        (last-stays s t a.kept x y a.kept_left a.asked) hole
+        (now ∙ moved (ap (λ (l : List T). l ++ y ∷ []) a.now
+        ∙ append_assoc a.before (a.kept_left ∷ []) (y ∷ [])) refl)
 
     module _ (s t u : S) (x y z : T) (front ys zs : List T)
         (a : IsLastAsked R s x v.front false t y front) (b : Bool)
@@ -344,9 +340,9 @@ module _ {S T : Type 0} (R : S → T → T → Bool → S → T → T → Type 0
           ∙ append_assoc a.before (a.kept_left ∷ []) (z ∷ [])
 
       -- and the one behind it goes
-      pub thins-two : b ≡ true → (value : T) → zs ≡ value ∷ w.rest → w.front ≡ front ++ z ∷ []
-          → w.cost ≡ moving 1 v.cost → Beside → Thins R s v u w
-      thins-two e value rest is cost like =
+      pub thins-two : b ≡ true → (value : T) → zs ≡ value ∷ w.rest → 0 < w.before
+          → Moved (front ++ z ∷ []) (moving 1 v.cost) → Thins R s v u w
+      thins-two e value rest hole now =
           let asked = last-append (x ∷ []) s t u a.kept y (true ∷ []) (false ∷ [])
           (a.kept_left ∷ []) (z ∷ []) (n.later ∷ [])
           (last-stays s t a.kept x y a.kept_left a.asked)
@@ -355,14 +351,14 @@ module _ {S T : Type 0} (R : S → T → T → Bool → S → T → T → Type 0
           let same : n.behind ≡ w.rest = cons-tail (sym n.now ∙ rest) in
           thins-of s u a.before a.kept (x ∷ n.later ∷ []) (true ∷ false ∷ []) (a.kept_left ∷ z ∷ [])
           a.was (whole ∙ ap (λ (l : List T). x ∷ l)
-          (n.was ∙ ap (λ (l : List T). n.later ∷ l) same)) asked (is ∙ two-front) cost like
+          (n.was ∙ ap (λ (l : List T). n.later ∷ l) same)) asked hole (now ∙ moved two-front refl)
 
       -- and so does the one behind it, with a run
       pub thins-run : b ≡ false → (m : ℕ) (q : S) (ws : List T) (r : PairRuns R m u zs q ws)
           → r.behind ≡ w.rest → suc (trues r.stays) ≡ m
-          → w.front ≡ (front ++ z ∷ []) ++ take m ws → w.cost ≡ moving m (moving 1 v.cost)
-          → Beside → Thins R s v q w
-      thins-run e m q ws r rest count is cost like =
+          → 0 < w.before → Moved ((front ++ z ∷ []) ++ take m ws) (moving m (moving 1 v.cost))
+          → Thins R s v q w
+      thins-run e m q ws r rest count hole now =
           let pair = last-append (x ∷ []) s t u a.kept y (true ∷ []) (true ∷ []) (a.kept_left ∷ [])
           (z ∷ n.later_left ∷ []) (n.later ∷ []) (last-stays s t a.kept x y a.kept_left a.asked)
           (last-stays t u y n.later n.later_left z
@@ -380,10 +376,10 @@ module _ {S T : Type 0} (R : S → T → T → Bool → S → T → T → Type 0
           (cons-tail heads ∙ ap (λ (l : List T). r.done ++ l) rest)) in
           let paid : 1 + m ≡ suc (suc (trues r.stays)) = omega (arith, count) in
           thins-of s q a.before a.kept (x ∷ n.later ∷ r.done) (true ∷ true ∷ r.stays)
-          (a.kept_left ∷ z ∷ r.left) a.was all asked
-          (is ∙ ((λ i. two-front i ++ run-left m u zs q ws r i)
-          ∙ append_assoc a.before (a.kept_left ∷ z ∷ []) r.left))
-          (cost ∙ (moving-more m 1 v.cost ∙ ap (λ (k : ℕ). moving k v.cost) paid)) like
+          (a.kept_left ∷ z ∷ r.left) a.was all asked hole
+          (now ∙ moved ((λ i. two-front i ++ run-left m u zs q ws r i)
+          ∙ append_assoc a.before (a.kept_left ∷ z ∷ []) r.left)
+          (moving-more m 1 v.cost ∙ ap (λ (k : ℕ). moving k v.cost) paid))
 
   -- nothing was asked yet; and one stretch after another
   pub thins-start : {A : Type 0} (s : S) (v : Open T A) → 0 < length v.front
@@ -399,13 +395,8 @@ module _ {S T : Type 0} (R : S → T → T → Bool → S → T → T → Type 0
         was = p.2;
         rest = refl;
         asked = (refl, refl, refl);
-        front = p.2;
-        cost = sym (moving-none v.cost);
         hole = hole;
-        behind = refl;
-        tail = refl;
-        capacity = refl;
-        alloc = refl;
+        now = λ i. record v { front = p.2 i; cost = sym (moving-none v.cost) i };
       }
 
   pub thins-then : {A : Type 0} (s t u : S) (v w z : Open T A) → Thins R s v t w
@@ -414,7 +405,8 @@ module _ {S T : Type 0} (R : S → T → T → Bool → S → T → T → Type 0
       let p = last-of h.kept (last-some h.done s t h.first h.stays h.kept h.asked) in
       let e : (h.before ++ p.0) ++ p.1 ∷ [] ≡ k.before ++ k.first ∷ [] =
       append_assoc h.before p.0 (p.1 ∷ [])
-      ∙ (ap (λ (l : List T). h.before ++ l) (sym p.2) ∙ (sym h.front ∙ k.was)) in
+      ∙ (ap (λ (l : List T). h.before ++ l) (sym p.2)
+      ∙ (sym (ap (λ u. u.front) h.now) ∙ k.was)) in
       let ends = last-same (h.before ++ p.0) k.before p.1 k.first e in
       record {
         before = h.before;
@@ -428,35 +420,32 @@ module _ {S T : Type 0} (R : S → T → T → Bool → S → T → T → Type 0
         asked = last-append h.done s t u h.first p.1 h.stays k.stays p.0 k.kept k.done
             (subst (λ (l : List T). AskedLast R s h.first h.done h.stays l t) p.2 h.asked)
             (subst (λ (l : T). AskedLast R t l k.done k.stays k.kept u) (sym ends.1) k.asked);
-        front = k.front ∙ (ap (λ (l : List T). l ++ k.kept) (sym ends.0)
-            ∙ append_assoc h.before p.0 k.kept);
-        cost = k.cost ∙ (ap (λ (c : Cost). moving (trues k.stays) c) h.cost
-            ∙ (moving-more (trues k.stays) (trues h.stays) v.cost ∙ ap (λ (n : ℕ). moving n v.cost)
-            (sym (trues-join h.stays k.stays))));
         hole = k.hole;
-        behind = k.behind ∙ h.behind;
-        tail = k.tail ∙ h.tail;
-        capacity = k.capacity ∙ h.capacity;
-        alloc = k.alloc ∙ h.alloc;
+        now = k.now ∙ ((λ i. let u = h.now i in record u {
+          front = k.before ++ k.kept;
+          before = z.before;
+          rest = z.rest;
+          cost = moving (trues k.stays) u.cost;
+        })
+            ∙ moved v z (ap (λ (l : List T). l ++ k.kept) (sym ends.0)
+            ∙ append_assoc h.before p.0 k.kept)
+            (moving-more (trues k.stays) (trues h.stays) v.cost
+            ∙ ap (λ (n : ℕ). moving n v.cost) (sym (trues-join h.stays k.stays))));
       }
 
   module _ {A : Type 0} (v w : Open T A) (m : ℕ) (s t : S) (ys : List T)
       (r : PairRuns R m s v.rest t ys) where
     -- of v, w has the tail, the slots and where they came from, and the run in front, for nothing
-    pub record RunPassed : Type 0 where
-      pub front : w.front ≡ take m ys
-      pub cost : w.cost ≡ v.cost
-      pub behind : w.behind ≡ v.behind
-      pub tail : w.tail ≡ v.tail
-      pub capacity : w.capacity ≡ v.capacity
-      pub alloc : w.alloc ≡ v.alloc
+    abbrev RunPassed : Type 0
+    RunPassed = Moved v w (take m ys) v.cost
 
     -- the item behind the run goes, and then all others were asked about
     pub thinned-goes : (value : T) (u : S) (z : Open T A) → RunPassed → drop m ys ≡ value ∷ w.rest
         → Thins R t w u z → z.rest ≡ [] → IsThinned R s v u z
     thinned-goes value u z p k h none =
         let g = run-goes m s v.rest t ys r value w.rest k in
-        let here : w.front ≡ r.left = p.front ∙ run-left m s v.rest t ys r in
+        let here : w.front ≡ r.left = ap (λ x. x.front) p
+        ∙ run-left m s v.rest t ys r in
         let flags : r.stays ++ h.stays ≡ all-stay r.more ++ false ∷ h.stays =
         ap (λ (f : List Bool). f ++ h.stays) g.1 ∙ append_assoc (all-stay r.more)
         (false ∷ []) h.stays in
@@ -474,13 +463,13 @@ module _ {S T : Type 0} (R : S → T → T → Bool → S → T → T → Type 0
           asked = subst (λ (l : List T). AskedPairs R s l (r.stays ++ h.stays) z.front u)
               (ap (λ (l : List T). r.first ∷ (r.done ++ l)) (sym all) ∙ sym r.was)
               (subst (λ (l : List T). AskedLast R s r.first (r.done ++ h.done) (r.stays ++ h.stays)
-              l u) (sym h.front) asked);
-          rest = none;
-          cost = h.cost ∙ (λ i. moving (sym up i) (p.cost i));
-          behind = h.behind ∙ p.behind;
-          tail = h.tail ∙ p.tail;
-          capacity = h.capacity ∙ p.capacity;
-          alloc = h.alloc ∙ p.alloc;
+              l u) (sym (ap (λ x. x.front) h.now)) asked);
+          now = h.now ∙ (λ i. let x = p i in record x {
+            front = sym (ap (λ y. y.front) h.now) i;
+            before = z.before;
+            rest = none i;
+            cost = moving (sym up i) x.cost;
+          });
         }
 
     -- all items stay
@@ -495,13 +484,13 @@ module _ {S T : Type 0} (R : S → T → T → Bool → S → T → T → Type 0
               (sym (append-nil (r.first ∷ r.done))
               ∙ (ap (λ (l : List T). r.first ∷ (r.done ++ l)) (sym g.0) ∙ sym r.was))
               (subst (λ (l : List T). AskedLast R s r.first r.done r.stays l t)
-              (sym (p.front ∙ run-left m s v.rest t ys r)) r.asked);
-          rest = none;
-          cost = p.cost ∙ (sym (moving-none v.cost) ∙ ap (λ (n : ℕ). moving n v.cost) (sym up));
-          behind = p.behind;
-          tail = p.tail;
-          capacity = p.capacity;
-          alloc = p.alloc;
+              (sym (ap (λ x. x.front) p ∙ run-left m s v.rest t ys r)) r.asked);
+          now = p ∙ (λ i. record v {
+            front = sym (ap (λ x. x.front) p) i;
+            before = w.before;
+            rest = none i;
+            cost = (sym (moving-none v.cost) ∙ ap (λ (n : ℕ). moving n v.cost) (sym up)) i;
+          });
         }
 
 -- a judge that holds a closure answers as the closure does

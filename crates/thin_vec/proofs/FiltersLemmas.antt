@@ -400,29 +400,26 @@ module _ {S T : Type 0} (R : S → T → Bool → S → T → Type 0) where
   -- ---- on blocks that are open
 
   module _ {A : Type 0} (v w : Open T A) where
-    -- w has a hole, and of v the tail, the slots and where they came from
-    pub record Alike : Type 0 where
-      pub hole : 0 < w.before
-      pub behind : w.behind ≡ v.behind
-      pub tail : w.tail ≡ v.tail
-      pub capacity : w.capacity ≡ v.capacity
-      pub alloc : w.alloc ≡ v.alloc
-
     pub sifts-of : (m : ℕ) (s t : S) (kept : List T) → Part m s v.rest t kept w.rest
-        → w.front ≡ v.front ++ kept → w.cost ≡ moving m v.cost → Alike → Sifts R s v t w
-    sifts-of m s t kept p front cost alike =
+        → 0 < w.before → w ≡ record v {
+          front = v.front ++ kept;
+          before = w.before;
+          rest = w.rest;
+          cost = moving m v.cost;
+        } → Sifts R s v t w
+    sifts-of m s t kept p hole now =
         record {
           done = p.done;
           answers = p.answers;
           rest = p.was;
           asked = p.asked;
-          front = front ∙ ap (λ (l : List T). v.front ++ l) (sym p.left);
-          cost = cost ∙ ap (λ (n : ℕ). moving n v.cost) (sym p.count);
-          hole = alike.hole;
-          behind = alike.behind;
-          tail = alike.tail;
-          capacity = alike.capacity;
-          alloc = alike.alloc;
+          hole = hole;
+          now = now ∙ (λ i. record v {
+            front = v.front ++ sym p.left i;
+            before = w.before;
+            rest = w.rest;
+            cost = moving (sym p.count i) v.cost;
+          });
         }
 
   -- the middle run up to the first item that goes, behind a hole
@@ -432,51 +429,33 @@ module _ {S T : Type 0} (R : S → T → Bool → S → T → Type 0) where
     kept = take h.count h.left
 
     moved : w.cost ≡ moving h.count v.cost
-    moved = h.cost ∙ moving-behind v.before h.count v.cost hole
+    moved = ap (λ u. u.cost) h.now ∙ moving-behind v.before h.count v.cost hole
 
     -- that item left w, and nothing else did: z is what is open then
-    pub record Left (value : T) (z : Open T A) : Type 0 where
-      pub rest : w.rest ≡ value ∷ z.rest
-      pub before : z.before ≡ w.before + 1
-      pub front : z.front ≡ w.front
-      pub cost : z.cost ≡ w.cost
-      pub behind : z.behind ≡ w.behind
-      pub tail : z.tail ≡ w.tail
-      pub capacity : z.capacity ≡ w.capacity
-      pub alloc : z.alloc ≡ w.alloc
-
-    pub advanced-goes : (value : T) (z : Open T A) → Left value z → Sifts R s v t z
-    advanced-goes value z l =
+    pub advanced-goes : (value : T) (z : Open T A) → w.rest ≡ value ∷ z.rest
+        → z ≡ record w { rest = z.rest; before = w.before + 1 } → Sifts R s v t z
+    advanced-goes value z rest same =
         sifts-of v z h.count s t kept
-        (part-goes h.count s v.rest t h.left h.run value z.rest (sym h.rest ∙ l.rest))
-        (l.front ∙ h.front) (l.cost ∙ moved)
-        (record {
-          hole = omega (arith, l.before);
-          behind = l.behind ∙ h.behind;
-          tail = l.tail ∙ h.tail;
-          capacity = l.capacity ∙ h.capacity;
-          alloc = l.alloc ∙ h.alloc;
-        })
+        (part-goes h.count s v.rest t h.left h.run value z.rest
+        (sym (ap (λ u. u.rest) h.now) ∙ rest))
+        (omega (arith, ap (λ u. u.before) same))
+        (same ∙ (λ i. record (h.now i)
+        { before = sym (ap (λ u. u.before) same) i; rest = z.rest; cost = moved i }))
 
     -- none goes
     pub advanced-ends : w.rest ≡ [] → Sifts R s v t w
     advanced-ends none =
         sifts-of v w h.count s t kept
         (subst (λ (l : List T). Part h.count s v.rest t kept l) (sym none)
-        (part-ends h.count s v.rest t h.left h.run (sym h.rest ∙ none))) h.front moved
-        (record {
-          hole = omega (arith, h.before, hole);
-          behind = h.behind;
-          tail = h.tail;
-          capacity = h.capacity;
-          alloc = h.alloc;
-        })
+        (part-ends h.count s v.rest t h.left h.run (sym (ap (λ u. u.rest) h.now) ∙ none)))
+        (omega (arith, ap (λ u. u.before) h.now, hole))
+        (λ i. record (h.now i) { before = w.before; rest = w.rest; cost = moved i })
 
     -- no more items are left to ask about
     pub advanced-count : length w.rest ≤ length v.rest
     advanced-count = omega (
       arith,
-      ap length h.rest,
+      ap (λ u. length u.rest) h.now,
       length-drop h.count h.left,
       runs-count 0 h.count s v.rest t h.left h.run,
     )
@@ -489,13 +468,9 @@ module _ {S T : Type 0} (R : S → T → Bool → S → T → Type 0) where
         answers = [];
         rest = refl;
         asked = (refl, refl);
-        front = sym (append-nil v.front);
-        cost = sym (moving-none v.cost);
         hole = hole;
-        behind = refl;
-        tail = refl;
-        capacity = refl;
-        alloc = refl;
+        now = λ i. record v
+            { front = sym (append-nil v.front) i; cost = sym (moving-none v.cost) i };
       }
 
   pub sifts-then : {A : Type 0} (s t u : S) (v w z : Open T A) → Sifts R s v t w
@@ -507,30 +482,30 @@ module _ {S T : Type 0} (R : S → T → Bool → S → T → Type 0) where
         rest = h.rest ∙ (ap (λ (l : List T). h.done ++ l) k.rest
             ∙ sym (append_assoc h.done k.done z.rest));
         asked = asked-append h.done s t u k.done h.answers k.answers h.asked k.asked;
-        front = k.front ∙ (ap (λ (l : List T). l ++ left_at true k.answers) h.front
-            ∙ (append_assoc v.front (left_at true h.answers) (left_at true k.answers)
-            ∙ ap (λ (l : List T). v.front ++ l) (sym (left_at-append h.answers k.answers))));
-        cost = k.cost ∙ (ap (λ (c : Cost). moving (trues (flags_of k.answers)) c) h.cost
-            ∙ (moving-more (trues (flags_of k.answers)) (trues (flags_of h.answers)) v.cost
-            ∙ ap (λ (n : ℕ). moving n v.cost) (sym (trues-append h.answers k.answers))));
         hole = k.hole;
-        behind = k.behind ∙ h.behind;
-        tail = k.tail ∙ h.tail;
-        capacity = k.capacity ∙ h.capacity;
-        alloc = k.alloc ∙ h.alloc;
+        now = k.now ∙ ((λ i. let u = h.now i in record u {
+          front = u.front ++ left_at true k.answers;
+          before = z.before;
+          rest = z.rest;
+          cost = moving (trues (flags_of k.answers)) u.cost;
+        })
+            ∙ (λ i. record v {
+              front = (append_assoc v.front (left_at true h.answers) (left_at true k.answers)
+                  ∙ ap (λ (l : List T). v.front ++ l) (sym (left_at-append h.answers k.answers))) i;
+              before = z.before;
+              rest = z.rest;
+              cost = (moving-more (trues (flags_of k.answers)) (trues (flags_of h.answers)) v.cost
+                  ∙ ap (λ (n : ℕ). moving n v.cost) (sym (trues-append h.answers k.answers))) i;
+            }));
       }
 
   module _ {A : Type 0} (v w : Open T A) (m : ℕ) (s t : S) (ys : List T)
       (run : Runs R 0 m s v.rest t ys) where
     -- of v, w has the tail, the slots and where they came from, and the run in front of it, for
     -- nothing
-    pub record Passed : Type 0 where
-      pub front : w.front ≡ v.front ++ take m ys
-      pub cost : w.cost ≡ v.cost
-      pub behind : w.behind ≡ v.behind
-      pub tail : w.tail ≡ v.tail
-      pub capacity : w.capacity ≡ v.capacity
-      pub alloc : w.alloc ≡ v.alloc
+    abbrev Passed : Type 0
+    Passed = w ≡ record v
+        { front = v.front ++ take m ys; before = w.before; rest = w.rest }
 
     -- the item behind the run goes, and then all others were asked about
     pub sifted-goes : (value : T) (u : S) (z : Open T A) → Passed → drop m ys ≡ value ∷ w.rest
@@ -551,17 +526,21 @@ module _ {S T : Type 0} (R : S → T → Bool → S → T → Type 0) where
           asked = subst (λ (l : List T). Asked R s l answers u)
               (ap (λ (l : List T). part.done ++ l) all ∙ sym part.was)
               (asked-append part.done s t u h.done part.answers h.answers part.asked h.asked);
-          rest = none;
-          front = h.front ∙ (ap (λ (l : List T). l ++ left_at true h.answers)
-              (p.front ∙ ap (λ (l : List T). v.front ++ l) (sym part.left))
-              ∙ (append_assoc v.front (left_at true part.answers) (left_at true h.answers)
-              ∙ ap (λ (l : List T). v.front ++ l)
-              (sym (left_at-append part.answers h.answers))));
-          cost = h.cost ∙ (λ i. moving (sym up i) (p.cost i));
-          behind = h.behind ∙ p.behind;
-          tail = h.tail ∙ p.tail;
-          capacity = h.capacity ∙ p.capacity;
-          alloc = h.alloc ∙ p.alloc;
+          now = h.now ∙ ((λ i. let u = p i in record u {
+            front = u.front ++ left_at true h.answers;
+            before = z.before;
+            rest = none i;
+            cost = moving (sym up i) u.cost;
+          })
+              ∙ (λ i. record v {
+                front = (ap (λ (l : List T). (v.front ++ l) ++ left_at true h.answers) (sym part.left)
+                    ∙ (append_assoc v.front (left_at true part.answers) (left_at true h.answers)
+                    ∙ ap (λ (l : List T). v.front ++ l)
+                    (sym (left_at-append part.answers h.answers)))) i;
+                before = z.before;
+                rest = [];
+                cost = moving (moved_up (flags_of answers)) v.cost;
+              }));
         }
 
     -- all items stay
@@ -576,13 +555,12 @@ module _ {S T : Type 0} (R : S → T → Bool → S → T → Type 0) where
           answers = part.answers;
           asked = subst (λ (l : List T). Asked R s l part.answers t)
               (sym (append-nil part.done) ∙ sym part.was) part.asked;
-          rest = none;
-          front = p.front ∙ ap (λ (l : List T). v.front ++ l) (sym part.left);
-          cost = p.cost ∙ (sym (moving-none v.cost) ∙ ap (λ (n : ℕ). moving n v.cost) (sym up));
-          behind = p.behind;
-          tail = p.tail;
-          capacity = p.capacity;
-          alloc = p.alloc;
+          now = p ∙ (λ i. record v {
+            front = v.front ++ sym part.left i;
+            before = w.before;
+            rest = none i;
+            cost = (sym (moving-none v.cost) ∙ ap (λ (n : ℕ). moving n v.cost) (sym up)) i;
+          });
         }
 
 -- a judge that holds a closure answers as the closure does

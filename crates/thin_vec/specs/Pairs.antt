@@ -92,22 +92,22 @@ module _ {S T : Type 0} (R : S → T → T → Bool → S → T → T → Type 0
     pub was : v.front ≡ before ++ first ∷ []
     pub rest : v.rest ≡ done ++ w.rest
     pub asked : AskedLast R s first done stays kept t
-    pub front : w.front ≡ before ++ kept
-    pub cost : w.cost ≡ moving (trues stays) v.cost
     pub hole : 0 < w.before
-    pub behind : w.behind ≡ v.behind
-    pub tail : w.tail ≡ v.tail
-    pub capacity : w.capacity ≡ v.capacity
-    pub alloc : w.alloc ≡ v.alloc
+    pub now : w ≡ record v {
+      front = before ++ kept;
+      before = w.before;
+      rest = w.rest;
+      cost = moving (trues stays) v.cost;
+    }
 
   -- all items of the middle run of v were asked about, and none is left there: a move for each that
   -- stays and changes its place
   pub record IsThinned {A : Type 0} (s : S) (v : Open T A) (t : S) (w : Open T A) : Type 0 where
     pub stays : List Bool
     pub asked : AskedPairs R s v.rest stays w.front t
-    pub rest : w.rest ≡ []
-    pub cost : w.cost ≡ moving (moved_up stays) v.cost
-    pub behind : w.behind ≡ v.behind
-    pub tail : w.tail ≡ v.tail
-    pub capacity : w.capacity ≡ v.capacity
-    pub alloc : w.alloc ≡ v.alloc
+    pub now : w ≡ record v {
+      front = w.front;
+      before = w.before;
+      rest = [];
+      cost = moving (moved_up stays) v.cost;
+    }

@@ -48,14 +48,11 @@ module _ {S T : Type 0} (R : S → T → Bool → S → T → Type 0) where
     pub count : ℕ
     pub left : List T
     pub run : Runs 0 count s v.rest t left
-    pub front : w.front ≡ v.front ++ take count left
-    pub rest : w.rest ≡ drop count left
-    pub cost : w.cost ≡ (if v.before == 0 then v.cost else moving count v.cost)
-    pub before : w.before ≡ v.before
-    pub behind : w.behind ≡ v.behind
-    pub tail : w.tail ≡ v.tail
-    pub capacity : w.capacity ≡ v.capacity
-    pub alloc : w.alloc ≡ v.alloc
+    pub now : w ≡ record v {
+      front = v.front ++ take count left;
+      rest = drop count left;
+      cost = if v.before == 0 then v.cost else moving count v.cost;
+    }
 
   -- some first items of the middle run of v were asked about, from the state s on: w is what is
   -- open then, and t the state. Those
@@ -65,23 +62,22 @@ module _ {S T : Type 0} (R : S → T → Bool → S → T → Type 0) where
     pub answers : Answers T
     pub rest : v.rest ≡ done ++ w.rest
     pub asked : Asked R s done answers t
-    pub front : w.front ≡ v.front ++ left_at true answers
-    pub cost : w.cost ≡ moving (trues (flags_of answers)) v.cost
     pub hole : 0 < w.before
-    pub behind : w.behind ≡ v.behind
-    pub tail : w.tail ≡ v.tail
-    pub capacity : w.capacity ≡ v.capacity
-    pub alloc : w.alloc ≡ v.alloc
+    pub now : w ≡ record v {
+      front = v.front ++ left_at true answers;
+      before = w.before;
+      rest = w.rest;
+      cost = moving (trues (flags_of answers)) v.cost;
+    }
 
   -- all items of the middle run of v were asked about, and none is left there: a move for each that
   -- stays and changes its place
   pub record IsSifted {A : Type 0} (s : S) (v : Open T A) (t : S) (w : Open T A) : Type 0 where
     pub answers : Answers T
     pub asked : Asked R s v.rest answers t
-    pub rest : w.rest ≡ []
-    pub front : w.front ≡ v.front ++ left_at true answers
-    pub cost : w.cost ≡ moving (moved_up (flags_of answers)) v.cost
-    pub behind : w.behind ≡ v.behind
-    pub tail : w.tail ≡ v.tail
-    pub capacity : w.capacity ≡ v.capacity
-    pub alloc : w.alloc ≡ v.alloc
+    pub now : w ≡ record v {
+      front = v.front ++ left_at true answers;
+      before = w.before;
+      rest = [];
+      cost = moving (moved_up (flags_of answers)) v.cost;
+    }

@@ -22,12 +22,11 @@ impl<T, A: Allocator> Hole<T, A> {
         requires can_next { I.can_next iter }
         requires finite { IsFinite (I.remaining iter) }
         ensures front { (xs : List T) × (self.new.front ≡ self.old.front ++ xs) × (self.new.before + length xs ≡ self.old.before) × Gives I.next_gives iter xs result.1 result.0 }
-        ensures rest { self.new.rest ≡ self.old.rest }
-        ensures behind { self.new.behind ≡ self.old.behind }
-        ensures tail { self.new.tail ≡ self.old.tail }
-        ensures capacity { self.new.capacity ≡ self.old.capacity }
-        ensures alloc { self.new.alloc ≡ self.old.alloc }
-        ensures cost { self.new.cost ≡ moving (self.old.before - self.new.before) self.old.cost }
+        ensures same { self.new ≡ record self.old {
+          front = self.new.front;
+          before = self.new.before;
+          cost = moving (self.old.before - self.new.before) self.old.cost;
+        } }
         ensures full { result.1 ≡ false → self.new.before ≡ 0 }
         ensures short { result.1 ≡ true → 0 < self.new.before }
         ensures asked { result.1 ≡ false → I.can_next result.0 × IsFinite (I.remaining result.0) }
@@ -41,14 +40,11 @@ impl<T, A: Allocator> Hole<T, A> {
     // Puts the items of `items` behind the front.
     fn fill_from_vec<B: Allocator>(&mut self, items: Vec<T, B>)
         requires room { length items.items ≤ self.old.before }
-        ensures front { self.new.front ≡ self.old.front ++ items.items }
-        ensures before { self.new.before ≡ self.old.before - length items.items }
-        ensures rest { self.new.rest ≡ self.old.rest }
-        ensures behind { self.new.behind ≡ self.old.behind }
-        ensures tail { self.new.tail ≡ self.old.tail }
-        ensures capacity { self.new.capacity ≡ self.old.capacity }
-        ensures alloc { self.new.alloc ≡ self.old.alloc }
-        ensures cost { self.new.cost ≡ moving (length items.items) self.old.cost }
+        ensures { self.new ≡ record self.old {
+          front = self.old.front ++ items.items;
+          before = self.old.before - length items.items;
+          cost = moving (length items.items) self.old.cost;
+        } }
     {
         let count = items.len();
         put_vec(&mut self.block, self.kept, items);
@@ -59,14 +55,10 @@ impl<T, A: Allocator> Hole<T, A> {
     fn widen(&mut self, count: usize)
         requires some { 0 < count }
         requires room { reach self.old + count ≤ self.old.capacity }
-        ensures before { self.new.before ≡ self.old.before }
-        ensures front { self.new.front ≡ self.old.front }
-        ensures rest { self.new.rest ≡ self.old.rest }
-        ensures behind { self.new.behind ≡ self.old.behind + count }
-        ensures tail { self.new.tail ≡ self.old.tail }
-        ensures capacity { self.new.capacity ≡ self.old.capacity }
-        ensures alloc { self.new.alloc ≡ self.old.alloc }
-        ensures cost { self.new.cost ≡ moving (length self.old.tail) self.old.cost }
+        ensures { self.new ≡ record self.old {
+          behind = self.old.behind + count;
+          cost = moving (length self.old.tail) self.old.cost;
+        } }
     {
         self.block
             .move_run(self.stop, self.stop + count, self.len - self.stop);

@@ -115,13 +115,7 @@ impl<T, A: Allocator> Hole<T, A> {
     pub(crate) fn take_first(&mut self) -> T
         requires some { 0 < length self.old.rest }
         ensures rest { self.old.rest ≡ result ∷ self.new.rest }
-        ensures before { self.new.before ≡ self.old.before + 1 }
-        ensures behind { self.new.behind ≡ self.old.behind }
-        ensures front { self.new.front ≡ self.old.front }
-        ensures tail { self.new.tail ≡ self.old.tail }
-        ensures capacity { self.new.capacity ≡ self.old.capacity }
-        ensures alloc { self.new.alloc ≡ self.old.alloc }
-        ensures cost { self.new.cost ≡ self.old.cost }
+        ensures same { self.new ≡ record self.old { rest = self.new.rest; before = self.old.before + 1 } }
     {
         let first = self.at;
         self.at += 1;
@@ -132,13 +126,7 @@ impl<T, A: Allocator> Hole<T, A> {
     pub(crate) fn take_last(&mut self) -> T
         requires some { 0 < length self.old.rest }
         ensures rest { self.old.rest ≡ self.new.rest ++ result ∷ [] }
-        ensures before { self.new.before ≡ self.old.before }
-        ensures behind { self.new.behind ≡ self.old.behind + 1 }
-        ensures front { self.new.front ≡ self.old.front }
-        ensures tail { self.new.tail ≡ self.old.tail }
-        ensures capacity { self.new.capacity ≡ self.old.capacity }
-        ensures alloc { self.new.alloc ≡ self.old.alloc }
-        ensures cost { self.new.cost ≡ self.old.cost }
+        ensures same { self.new ≡ record self.old { rest = self.new.rest; behind = self.old.behind + 1 } }
     {
         self.end -= 1;
         self.block.take(self.end)
@@ -168,14 +156,7 @@ impl<T, A: Allocator> Hole<T, A> {
     // Counts all empty slots as one hole. The middle run is empty.
     pub(crate) fn join(&mut self)
         requires none { self.old.rest ≡ [] }
-        ensures rest { self.new.rest ≡ [] }
-        ensures before { self.new.before ≡ self.old.before + self.old.behind }
-        ensures behind { self.new.behind ≡ 0 }
-        ensures front { self.new.front ≡ self.old.front }
-        ensures tail { self.new.tail ≡ self.old.tail }
-        ensures capacity { self.new.capacity ≡ self.old.capacity }
-        ensures alloc { self.new.alloc ≡ self.old.alloc }
-        ensures cost { self.new.cost ≡ self.old.cost }
+        ensures { self.new ≡ record self.old { before = self.old.before + self.old.behind; behind = 0 } }
     {
         self.at = self.stop;
         self.end = self.stop;
@@ -209,14 +190,11 @@ impl<T, A: Allocator> Hole<T, A> {
 impl<T: Drop, A: Allocator> Hole<T, A> {
     // Drops what is left of the middle run, and counts all empty slots as one hole. Nothing moves.
     pub(crate) fn drop_rest(&mut self)
-        ensures rest { self.new.rest ≡ [] }
-        ensures before { self.new.before ≡ self.old.before + length self.old.rest + self.old.behind }
-        ensures behind { self.new.behind ≡ 0 }
-        ensures front { self.new.front ≡ self.old.front }
-        ensures tail { self.new.tail ≡ self.old.tail }
-        ensures capacity { self.new.capacity ≡ self.old.capacity }
-        ensures alloc { self.new.alloc ≡ self.old.alloc }
-        ensures cost { self.new.cost ≡ self.old.cost }
+        ensures { self.new ≡ record self.old {
+          before = self.old.before + length self.old.rest + self.old.behind;
+          rest = [];
+          behind = 0;
+        } }
     {
         while self.rest_len() > 0 {
             drop(self.take_first());

@@ -1,5 +1,5 @@
 //! Steps on a block that is open: each item of its middle run is asked about beside the last one that stays.
-ghost use Rattle.std.specs.Prelude.{◌≡◌, ◌+◌, ◌^◌, ◌<◌, ◌≤◌, ◌∷◌, ◌++◌, [], Bool, length};
+ghost use Rattle.std.specs.Prelude.{◌≡◌, ◌+◌, ◌-◌, ◌^◌, ◌<◌, ◌≤◌, ◌∷◌, ◌++◌, [], Bool, length};
 ghost use Rattle.thin_block.specs.Cost.{moving};
 ghost use Rattle.thin_block.specs.Slots.{AreFilled};
 ghost use Rattle.thin_vec.specs.Pairs.{AreAskedIn};
@@ -32,13 +32,7 @@ impl<T, A: Allocator> Hole<T, A> {
         requires ready { J.ready judge.old }
         ensures asked { IsPairAskedAt J.asks k judge.old self.old.rest result judge.new self.new.rest }
         ensures ready { J.ready judge.new }
-        ensures before { self.new.before ≡ self.old.before }
-        ensures behind { self.new.behind ≡ self.old.behind }
-        ensures front { self.new.front ≡ self.old.front }
-        ensures tail { self.new.tail ≡ self.old.tail }
-        ensures capacity { self.new.capacity ≡ self.old.capacity }
-        ensures alloc { self.new.alloc ≡ self.old.alloc }
-        ensures cost { self.new.cost ≡ self.old.cost }
+        ensures same { self.new ≡ record self.old { rest = self.new.rest } }
     {
         let kept = self.at + (k - 1);
         ask_neighbours(&mut self.block, kept, judge)
@@ -50,13 +44,7 @@ impl<T, A: Allocator> Hole<T, A> {
         requires ready { J.ready judge.old }
         ensures asked { IsLastAsked J.asks judge.old later.old self.old.front result judge.new later.new self.new.front }
         ensures ready { J.ready judge.new }
-        ensures before { self.new.before ≡ self.old.before }
-        ensures behind { self.new.behind ≡ self.old.behind }
-        ensures rest { self.new.rest ≡ self.old.rest }
-        ensures tail { self.new.tail ≡ self.old.tail }
-        ensures capacity { self.new.capacity ≡ self.old.capacity }
-        ensures alloc { self.new.alloc ≡ self.old.alloc }
-        ensures cost { self.new.cost ≡ self.old.cost }
+        ensures same { self.new ≡ record self.old { front = self.new.front } }
     {
         judge.ask(later, self.block.slot_mut(self.kept - 1))
     }
@@ -67,13 +55,7 @@ impl<T, A: Allocator> Hole<T, A> {
         requires ready { J.ready judge.old }
         ensures asked { IsNextAsked J.asks judge.old kept.old self.old.rest result judge.new kept.new self.new.rest }
         ensures ready { J.ready judge.new }
-        ensures before { self.new.before ≡ self.old.before }
-        ensures behind { self.new.behind ≡ self.old.behind }
-        ensures front { self.new.front ≡ self.old.front }
-        ensures tail { self.new.tail ≡ self.old.tail }
-        ensures capacity { self.new.capacity ≡ self.old.capacity }
-        ensures alloc { self.new.alloc ≡ self.old.alloc }
-        ensures cost { self.new.cost ≡ self.old.cost }
+        ensures same { self.new ≡ record self.old { rest = self.new.rest } }
     {
         judge.ask(self.block.slot_mut(self.at), kept)
     }
@@ -81,14 +63,11 @@ impl<T, A: Allocator> Hole<T, A> {
     // `value` goes behind the front.
     pub(crate) fn put_front(&mut self, value: T)
         requires hole { 0 < self.old.before }
-        ensures front { self.new.front ≡ self.old.front ++ value ∷ [] }
-        ensures before { self.new.before + 1 ≡ self.old.before }
-        ensures behind { self.new.behind ≡ self.old.behind }
-        ensures rest { self.new.rest ≡ self.old.rest }
-        ensures tail { self.new.tail ≡ self.old.tail }
-        ensures capacity { self.new.capacity ≡ self.old.capacity }
-        ensures alloc { self.new.alloc ≡ self.old.alloc }
-        ensures cost { self.new.cost ≡ moving 1 self.old.cost }
+        ensures { self.new ≡ record self.old {
+          front = self.old.front ++ value ∷ [];
+          before = self.old.before - 1;
+          cost = moving 1 self.old.cost;
+        } }
     {
         self.block.put(self.kept, value);
         self.kept += 1;
@@ -105,13 +84,7 @@ impl<T, A: Allocator> Hole<T, A> {
         requires ready { J.ready judge.old }
         ensures asked { PairRuns J.asks result judge.old self.old.rest judge.new self.new.rest }
         ensures ready { J.ready judge.new }
-        ensures before { self.new.before ≡ self.old.before }
-        ensures behind { self.new.behind ≡ self.old.behind }
-        ensures front { self.new.front ≡ self.old.front }
-        ensures tail { self.new.tail ≡ self.old.tail }
-        ensures capacity { self.new.capacity ≡ self.old.capacity }
-        ensures alloc { self.new.alloc ≡ self.old.alloc }
-        ensures cost { self.new.cost ≡ self.old.cost }
+        ensures same { self.new ≡ record self.old { rest = self.new.rest } }
     {
         let mut kept = 1;
         while kept < self.rest_len() {

@@ -31,13 +31,7 @@ impl<T, A: Allocator> Hole<T, A> {
         requires ready { J.ready judge.old }
         ensures asked { IsAskedAt J.asks k judge.old self.old.rest result judge.new self.new.rest }
         ensures ready { J.ready judge.new }
-        ensures before { self.new.before ≡ self.old.before }
-        ensures behind { self.new.behind ≡ self.old.behind }
-        ensures front { self.new.front ≡ self.old.front }
-        ensures tail { self.new.tail ≡ self.old.tail }
-        ensures capacity { self.new.capacity ≡ self.old.capacity }
-        ensures alloc { self.new.alloc ≡ self.old.alloc }
-        ensures cost { self.new.cost ≡ self.old.cost }
+        ensures same { self.new ≡ record self.old { rest = self.new.rest } }
     {
         judge.ask(self.block.slot_mut(self.at + k))
     }
@@ -46,14 +40,7 @@ impl<T, A: Allocator> Hole<T, A> {
     pub(crate) fn pass(&mut self, k: usize)
         requires none { self.old.before ≡ 0 }
         requires in_bounds { k ≤ length self.old.rest }
-        ensures front { self.new.front ≡ self.old.front ++ take k self.old.rest }
-        ensures rest { self.new.rest ≡ drop k self.old.rest }
-        ensures before { self.new.before ≡ 0 }
-        ensures behind { self.new.behind ≡ self.old.behind }
-        ensures tail { self.new.tail ≡ self.old.tail }
-        ensures capacity { self.new.capacity ≡ self.old.capacity }
-        ensures alloc { self.new.alloc ≡ self.old.alloc }
-        ensures cost { self.new.cost ≡ self.old.cost }
+        ensures { self.new ≡ record self.old { front = self.old.front ++ take k self.old.rest; rest = drop k self.old.rest } }
     {
         self.kept += k;
         self.at += k;
@@ -63,14 +50,11 @@ impl<T, A: Allocator> Hole<T, A> {
     pub(crate) fn lower_one(&mut self)
         requires some { 0 < length self.old.rest }
         requires hole { 0 < self.old.before }
-        ensures front { self.new.front ≡ self.old.front ++ take 1 self.old.rest }
-        ensures rest { self.new.rest ≡ drop 1 self.old.rest }
-        ensures before { self.new.before ≡ self.old.before }
-        ensures behind { self.new.behind ≡ self.old.behind }
-        ensures tail { self.new.tail ≡ self.old.tail }
-        ensures capacity { self.new.capacity ≡ self.old.capacity }
-        ensures alloc { self.new.alloc ≡ self.old.alloc }
-        ensures cost { self.new.cost ≡ moving 1 self.old.cost }
+        ensures { self.new ≡ record self.old {
+          front = self.old.front ++ take 1 self.old.rest;
+          rest = drop 1 self.old.rest;
+          cost = moving 1 self.old.cost;
+        } }
     {
         let value = self.block.take(self.at);
         self.block.put(self.kept, value);
@@ -83,14 +67,11 @@ impl<T, A: Allocator> Hole<T, A> {
     pub(crate) fn lower(&mut self, k: usize)
         requires in_bounds { k ≤ length self.old.rest }
         requires hole { 0 < self.old.before }
-        ensures front { self.new.front ≡ self.old.front ++ take k self.old.rest }
-        ensures rest { self.new.rest ≡ drop k self.old.rest }
-        ensures before { self.new.before ≡ self.old.before }
-        ensures behind { self.new.behind ≡ self.old.behind }
-        ensures tail { self.new.tail ≡ self.old.tail }
-        ensures capacity { self.new.capacity ≡ self.old.capacity }
-        ensures alloc { self.new.alloc ≡ self.old.alloc }
-        ensures cost { self.new.cost ≡ moving k self.old.cost }
+        ensures { self.new ≡ record self.old {
+          front = self.old.front ++ take k self.old.rest;
+          rest = drop k self.old.rest;
+          cost = moving k self.old.cost;
+        } }
     {
         if k == 2 {
             self.lower_one();
@@ -111,14 +92,11 @@ impl<T, A: Allocator> Hole<T, A> {
     fn lower_run(&mut self, k: usize)
         requires in_bounds { k ≤ length self.old.rest }
         requires hole { 0 < self.old.before }
-        ensures front { self.new.front ≡ self.old.front ++ take k self.old.rest }
-        ensures rest { self.new.rest ≡ drop k self.old.rest }
-        ensures before { self.new.before ≡ self.old.before }
-        ensures behind { self.new.behind ≡ self.old.behind }
-        ensures tail { self.new.tail ≡ self.old.tail }
-        ensures capacity { self.new.capacity ≡ self.old.capacity }
-        ensures alloc { self.new.alloc ≡ self.old.alloc }
-        ensures cost { self.new.cost ≡ moving k self.old.cost }
+        ensures { self.new ≡ record self.old {
+          front = self.old.front ++ take k self.old.rest;
+          rest = drop k self.old.rest;
+          cost = moving k self.old.cost;
+        } }
     {
         self.block.move_run(self.at, self.kept, k);
         self.kept += k;
@@ -139,13 +117,7 @@ impl<T, A: Allocator> Hole<T, A> {
         requires ready { J.ready judge.old }
         ensures asked { Runs J.asks k result judge.old self.old.rest judge.new self.new.rest }
         ensures ready { J.ready judge.new }
-        ensures before { self.new.before ≡ self.old.before }
-        ensures behind { self.new.behind ≡ self.old.behind }
-        ensures front { self.new.front ≡ self.old.front }
-        ensures tail { self.new.tail ≡ self.old.tail }
-        ensures capacity { self.new.capacity ≡ self.old.capacity }
-        ensures alloc { self.new.alloc ≡ self.old.alloc }
-        ensures cost { self.new.cost ≡ self.old.cost }
+        ensures same { self.new ≡ record self.old { rest = self.new.rest } }
     {
         let mut at = k;
         while at < self.rest_len() {

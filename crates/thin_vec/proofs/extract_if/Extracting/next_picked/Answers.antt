@@ -1,5 +1,5 @@
 -- Those that stay joined the front, and the next item goes, or none is left.
-use Rattle.std.proofs.Common.{◌≡◌, ◌+◌, ◌∙◌, [], ap, arith, sym, take}
+use Rattle.std.proofs.Common.{◌≡◌, ◌∙◌, [], ap, arith, rules, sym, take}
 use Rattle.std.proofs.lemmas.Bool.{false≢true}
 use Rattle.std.specs.Fn.{CalledAtMut}
 use Rattle.thin_vec.proofs.ExtractLemmas.{cost-of, picked-count, picked-none, picked-room, picked-some}
@@ -16,18 +16,18 @@ returns-then-advance-clause-extracts g c =
     let z = c.take_first.new.self in
     let x = c.take_first.result in
     let asked = picked-some R (λ s. s.pick) a.count v.picks v.hole.rest t a.left a.run x z.rest
-    (sym a.rest ∙ c.take_first.ensures.rest) in
+    (sym (ap (λ w. w.rest) a.now) ∙ c.take_first.ensures.rest) in
     record {
       kept = take a.count a.left;
       asked = asked;
       count = picked-count R v.picks.pick v.hole.rest _ t.pick (take a.count a.left) z.rest asked;
-      front = c.take_first.ensures.front ∙ a.front;
-      before = c.take_first.ensures.before ∙ ap (λ n. n + 1) a.before;
-      tail = c.take_first.ensures.tail ∙ a.tail;
-      capacity = c.take_first.ensures.capacity ∙ a.capacity;
-      alloc = c.take_first.ensures.alloc ∙ a.alloc;
-      cost = c.take_first.ensures.cost
-          ∙ (a.cost ∙ cost-of v.hole.before v.hole.cost a.count a.left
+      front = search rules;
+      before = search rules;
+      tail = search rules;
+      capacity = search rules;
+      alloc = search rules;
+      cost = ap (λ w. w.cost) c.take_first.ensures.same
+          ∙ (ap (λ w. w.cost) a.now ∙ cost-of v.hole.before v.hole.cost a.count a.left
           (picked-room R (λ s. s.pick) a.count v.picks v.hole.rest t a.left a.run));
     }
 
@@ -39,21 +39,22 @@ returns-else-advance-clause-extracts g c =
     let a = c.advance.ensures.advances in
     let t = c.advance.new.judge in
     let w = c.advance.new.self in
+    let rest = ap (λ u. u.rest) a.now in
     let none : w.rest ≡ [] =
     none-left w.rest
     (λ some. false≢true (sym c.if-advance.false ∙ c.advance.ensures.goes.1 some)) in
     let asked = picked-none R (λ s. s.pick) a.count v.picks v.hole.rest t a.left a.run
-    (sym a.rest ∙ none) in
+    (sym rest ∙ none) in
     record {
       kept = take a.count a.left;
-      asked = rw a.rest asked;
-      count = rw a.rest
+      asked = rw rest asked;
+      count = rw rest
           (picked-count R v.picks.pick v.hole.rest _ t.pick (take a.count a.left) _ asked);
-      front = a.front;
-      before = omega (arith, a.before);
-      tail = a.tail;
-      capacity = a.capacity;
-      alloc = a.alloc;
-      cost = a.cost ∙ cost-of v.hole.before v.hole.cost a.count a.left
+      front = ap (λ u. u.front) a.now;
+      before = omega (arith, ap (λ u. u.before) a.now);
+      tail = ap (λ u. u.tail) a.now;
+      capacity = ap (λ u. u.capacity) a.now;
+      alloc = ap (λ u. u.alloc) a.now;
+      cost = ap (λ u. u.cost) a.now ∙ cost-of v.hole.before v.hole.cost a.count a.left
           (picked-room R (λ s. s.pick) a.count v.picks v.hole.rest t a.left a.run);
     }

@@ -1,5 +1,5 @@
 -- Where there is no hole, the run that stays joins the front without a move.
-use Rattle.std.proofs.Common.{◌<◌, ◌++◌, ◌∙◌, ap, rules, sym, take}
+use Rattle.std.proofs.Common.{◌≡◌, ◌<◌, ◌++◌, ◌∙◌, ap, drop, sym, take}
 use Rattle.std.proofs.lemmas.Bool.{false≢true}
 use Rattle.thin_vec.proofs.FiltersLemmas.{moving-before}
 use Rattle.thin_vec.proofs.hole.Hole.advance.Goals as goal
@@ -11,18 +11,14 @@ returns-clause-advances g c =
     let run = c.ask_run-count in
     let none : 0 < v.before → ⊥ =
     λ some. false≢true (sym c.if-has_hole.false ∙ c.has_hole.ensures.value.1 some) in
+    let run-cost : run.new.self.cost ≡ v.cost = ap (λ u. u.cost) run.ensures.same in
     record {
       count = run.result;
       left = run.new.self.rest;
       run = run.ensures.asked;
-      front = c.pass.ensures.front
-          ∙ ap (λ l. l ++ take run.result run.new.self.rest) run.ensures.front;
-      rest = c.pass.ensures.rest;
-      cost = c.pass.ensures.cost
-          ∙ (run.ensures.cost ∙ sym (moving-before v.before run.result v.cost none));
-      before = search rules;
-      behind = search rules;
-      tail = search rules;
-      capacity = search rules;
-      alloc = search rules;
+      now = c.pass.ensures ∙ (λ i. let u = run.ensures.same i in record u {
+        front = u.front ++ take run.result run.new.self.rest;
+        rest = drop run.result run.new.self.rest;
+        cost = (run-cost ∙ sym (moving-before v.before run.result v.cost none)) i;
+      });
     }

@@ -1,5 +1,5 @@
 -- There is no item, or it stays and moves, or it goes.
-use Rattle.std.proofs.Common.{◌++◌, ◌∙◌, ap, arith, refl, rules, sym, take}
+use Rattle.std.proofs.Common.{◌++◌, ◌∙◌, ap, arith, drop, rules, sym, take}
 use Rattle.std.proofs.lemmas.List.{append-nil}
 use Rattle.thin_block.specs.Cost.{moving}
 use Rattle.thin_vec.proofs.FiltersLemmas.{asked-count, moving-behind, moving-none, one-stays, stays-end, stays-goes, stays-start}
@@ -17,14 +17,10 @@ returns-then-rest_len-eq0-clause-advances g c =
       left = v.rest;
       run = stays-end R 0 0 s v.rest s v.rest (stays-start R 0 s v.rest (omega arith))
           (omega (arith, c.rest_len.ensures.value, c.if-rest_len-eq0.true));
-      front = sym (append-nil v.front);
-      rest = refl;
-      cost = sym (moving-none v.cost) ∙ sym (moving-behind v.before 0 v.cost c.requires.hole);
-      before = refl;
-      behind = refl;
-      tail = refl;
-      capacity = refl;
-      alloc = refl;
+      now = λ i. record v {
+        front = sym (append-nil v.front) i;
+        cost = (sym (moving-none v.cost) ∙ sym (moving-behind v.before 0 v.cost c.requires.hole)) i;
+      };
     }
 
 -- it stays
@@ -40,16 +36,12 @@ returns-then-ask-clause-advances g c =
       left = ys;
       run = stays-end R 0 1 s v.rest t ys (one-stays R s v.rest t ys (search rules))
           (omega (arith, c.requires.short, asked-count R 0 _ _ _ _ _ c.ask.ensures.asked));
-      front = c.lower_one.ensures.front ∙ ap (λ l. l ++ take 1 ys) c.ask.ensures.front;
-      rest = c.lower_one.ensures.rest;
-      cost = c.lower_one.ensures.cost
-          ∙ (ap (moving 1) c.ask.ensures.cost
-          ∙ sym (moving-behind v.before 1 v.cost c.requires.hole));
-      before = c.lower_one.ensures.before ∙ c.ask.ensures.before;
-      behind = c.lower_one.ensures.behind ∙ c.ask.ensures.behind;
-      tail = c.lower_one.ensures.tail ∙ c.ask.ensures.tail;
-      capacity = c.lower_one.ensures.capacity ∙ c.ask.ensures.capacity;
-      alloc = c.lower_one.ensures.alloc ∙ c.ask.ensures.alloc;
+      now = c.lower_one.ensures ∙ (λ i. let u = c.ask.ensures.same i in record u {
+        front = u.front ++ take 1 ys;
+        rest = drop 1 ys;
+        cost = (ap (λ w. moving 1 w.cost) c.ask.ensures.same
+            ∙ sym (moving-behind v.before 1 v.cost c.requires.hole)) i;
+      });
     }
 
 -- it goes
@@ -65,15 +57,11 @@ returns-clause-advances g c =
       left = ys;
       run = stays-goes R 0 0 s v.rest s v.rest (stays-start R 0 s v.rest (omega arith)) t ys
           (search rules);
-      front = c.ask.ensures.front ∙ sym (append-nil v.front);
-      rest = refl;
-      cost = c.ask.ensures.cost
-          ∙ (sym (moving-none v.cost) ∙ sym (moving-behind v.before 0 v.cost c.requires.hole));
-      before = c.ask.ensures.before;
-      behind = c.ask.ensures.behind;
-      tail = c.ask.ensures.tail;
-      capacity = c.ask.ensures.capacity;
-      alloc = c.ask.ensures.alloc;
+      now = c.ask.ensures.same ∙ (λ i. record v {
+        front = sym (append-nil v.front) i;
+        rest = ys;
+        cost = (sym (moving-none v.cost) ∙ sym (moving-behind v.before 0 v.cost c.requires.hole)) i;
+      });
     }
 
 pub lower_one-requires-clause-some : goal.lower_one-requires-clause-some

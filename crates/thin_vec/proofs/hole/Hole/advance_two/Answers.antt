@@ -1,5 +1,5 @@
 -- The first item goes, or the second, or both stay and are one run with those behind them.
-use Rattle.std.proofs.Common.{◌∙◌, ap, arith, refl, rules, sym}
+use Rattle.std.proofs.Common.{◌≡◌, ◌++◌, ◌∙◌, ap, arith, drop, rules, sym, take}
 use Rattle.std.proofs.lemmas.List.{append-nil}
 use Rattle.thin_block.specs.Cost.{moving}
 use Rattle.thin_vec.proofs.FiltersLemmas.{moving-behind, moving-none, one-stays, runs-join, stays-goes, stays-start, two-stay}
@@ -19,15 +19,11 @@ returns-then-not-ask-clause-advances g c =
       left = ys;
       run = stays-goes R 0 0 s v.rest s v.rest (stays-start R 0 s v.rest (omega arith)) t ys
           (search rules);
-      front = c.ask.ensures.front ∙ sym (append-nil v.front);
-      rest = refl;
-      cost = c.ask.ensures.cost
-          ∙ (sym (moving-none v.cost) ∙ sym (moving-behind v.before 0 v.cost c.requires.hole));
-      before = c.ask.ensures.before;
-      behind = c.ask.ensures.behind;
-      tail = c.ask.ensures.tail;
-      capacity = c.ask.ensures.capacity;
-      alloc = c.ask.ensures.alloc;
+      now = c.ask.ensures.same ∙ (λ i. record v {
+        front = sym (append-nil v.front) i;
+        rest = ys;
+        cost = (sym (moving-none v.cost) ∙ sym (moving-behind v.before 0 v.cost c.requires.hole)) i;
+      });
     }
 
 -- the first one stays, and the second goes
@@ -38,22 +34,19 @@ returns-then-not-ask-2-clause-advances g c =
     let v = c.args.self.now in
     let t = c.ask-2.new.judge in
     let ys = c.ask-2.new.self.rest in
+    let asked : c.ask-2.new.self ≡ record v { rest = ys } = search rules in
     record {
       count = 1;
       left = ys;
       run = stays-goes R 0 1 s v.rest c.ask.new.judge c.ask.new.self.rest
           (one-stays R s v.rest c.ask.new.judge c.ask.new.self.rest (search rules)) t ys
           (search rules);
-      front = search rules;
-      rest = c.lower_one.ensures.rest;
-      cost = c.lower_one.ensures.cost
-          ∙ (ap (moving 1) (c.ask-2.ensures.cost ∙ c.ask.ensures.cost)
-          ∙ sym (moving-behind v.before 1 v.cost c.requires.hole));
-      before = search rules;
-      behind = search rules;
-      tail = search rules;
-      capacity = search rules;
-      alloc = search rules;
+      now = c.lower_one.ensures ∙ (λ i. let u = asked i in record u {
+        front = u.front ++ take 1 ys;
+        rest = drop 1 ys;
+        cost = (ap (λ w. moving 1 w.cost) asked
+            ∙ sym (moving-behind v.before 1 v.cost c.requires.hole)) i;
+      });
     }
 
 -- both stay
@@ -65,23 +58,19 @@ returns-clause-advances g c =
     let n = c.ask_run-count.result in
     let t = c.ask_run-count.new.judge in
     let ys = c.ask_run-count.new.self.rest in
+    let asked : c.ask_run-count.new.self ≡ record v { rest = ys } = search rules in
     record {
       count = n;
       left = ys;
       run = runs-join R 2 n s v.rest c.ask-2.new.judge c.ask-2.new.self.rest t ys
           (two-stay R s v.rest c.ask.new.judge c.ask.new.self.rest c.ask-2.new.judge
           c.ask-2.new.self.rest (search rules) (search rules)) c.ask_run-count.ensures.asked;
-      front = search rules;
-      rest = c.lower.ensures.rest;
-      cost = c.lower.ensures.cost
-          ∙ (ap (moving n)
-          (c.ask_run-count.ensures.cost ∙ (c.ask-2.ensures.cost ∙ c.ask.ensures.cost))
-          ∙ sym (moving-behind v.before n v.cost c.requires.hole));
-      before = search rules;
-      behind = search rules;
-      tail = search rules;
-      capacity = search rules;
-      alloc = search rules;
+      now = c.lower.ensures ∙ (λ i. let u = asked i in record u {
+        front = u.front ++ take n ys;
+        rest = drop n ys;
+        cost = (ap (λ w. moving n w.cost) asked
+            ∙ sym (moving-behind v.before n v.cost c.requires.hole)) i;
+      });
     }
 
 pub returns-then-not-ask-clause-goes : goal.returns-then-not-ask-clause-goes

@@ -4,7 +4,6 @@ use Rattle.thin_block.specs.Lends.{with_item}
 use Rattle.thin_vec.specs.Hole.{open_of}
 use Rattle.thin_vec.proofs.HoleLemmas.{rest-filled}
 use Rattle.thin_vec.proofs.SiftingLemmas.{Written, write-step}
-use Rattle.std.proofs.lemmas.Grind.{common_steps}
 use Rattle.thin_vec.proofs.hole.Hole.ask.Goals as goal
 
 pub slot_mut-requires : goal.slot_mut-requires
@@ -44,8 +43,6 @@ returns-clause-asked g c =
       now = ap (λ v. v.rest) f.shown.view;
     }
 
-pub returns-clause-front : goal.returns-clause-front
-returns-clause-front g c = grind (arith, common_steps)
-
-pub returns-clause-tail : goal.returns-clause-tail
-returns-clause-tail g c = grind (arith, common_steps)
+pub returns-clause-same : goal.returns-clause-same
+returns-clause-same g c = let seen = (facts g c).shown.view in
+    seen ∙ (λ i. record (c.self.view_is i) { rest = (sym seen i).rest })

@@ -37,8 +37,6 @@ returns-clause-asked g c =
       now = ap (λ v. v.front) f.shown.view;
     }
 
-pub returns-clause-rest : goal.returns-clause-rest
-returns-clause-rest g c = ap (λ v. v.rest) (facts g c).shown.view ∙ ap (λ v. v.rest) c.self.view_is
-
-pub returns-clause-tail : goal.returns-clause-tail
-returns-clause-tail g c = ap (λ v. v.tail) (facts g c).shown.view ∙ ap (λ v. v.tail) c.self.view_is
+pub returns-clause-same : goal.returns-clause-same
+returns-clause-same g c = let seen = (facts g c).shown.view in
+    seen ∙ (λ i. record (c.self.view_is i) { front = (sym seen i).front })

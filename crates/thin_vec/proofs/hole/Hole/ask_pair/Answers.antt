@@ -51,16 +51,6 @@ returns-clause-asked g c =
       now = ap (λ v. v.rest) f.shown.view;
     }
 
-pub returns-clause-front : goal.returns-clause-front
-returns-clause-front g c = ap (λ v. v.front) (facts g c).shown.view
-    ∙ ap (λ v. v.front) c.self.view_is
-
-pub returns-clause-tail : goal.returns-clause-tail
-returns-clause-tail g c = ap (λ v. v.tail) (facts g c).shown.view ∙ ap (λ v. v.tail) c.self.view_is
-
-pub returns-clause-capacity : goal.returns-clause-capacity
-returns-clause-capacity g c = ap (λ v. v.capacity) (facts g c).shown.view
-    ∙ ap (λ v. v.capacity) c.self.view_is
-
-pub returns-clause-alloc : goal.returns-clause-alloc
-returns-clause-alloc g c = search (arith, ◌∙◌)
+pub returns-clause-same : goal.returns-clause-same
+returns-clause-same g c = let seen = (facts g c).shown.view in
+    seen ∙ (λ i. record (c.self.view_is i) { rest = (sym seen i).rest })

@@ -9,13 +9,7 @@ loop-at-init g c = record {
   stays = stays-start g.J.Asks.asks c.args.k c.args.judge.now
       c.args.self.now.rest c.requires.in_bounds;
   ready = c.requires.ready;
-  before = refl;
-  behind = refl;
-  front = refl;
-  tail = refl;
-  capacity = refl;
-  alloc = refl;
-  cost = refl;
+  same = refl;
 }
 
 pub returns-then-not-ask-clause-asked : goal.returns-then-not-ask-clause-asked
@@ -31,13 +25,7 @@ loop-at-preserved g c =
       stays = stays-more g.J.Asks.asks c.args.k l.at c.args.judge.now c.args.self.now.rest l.judge
           l.self.rest l.invariant.stays c.ask.new.judge c.ask.new.self.rest (search rules);
       ready = search rules;
-      before = search rules;
-      behind = search rules;
-      front = search rules;
-      tail = search rules;
-      capacity = search rules;
-      alloc = search rules;
-      cost = search rules;
+      same = search rules;
     }
 
 pub loop-at-smaller : goal.loop-at-smaller

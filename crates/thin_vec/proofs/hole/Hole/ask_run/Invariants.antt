@@ -7,13 +7,7 @@ abbrev pub invariant-loop-at : goal.invariant-loop-at
 invariant-loop-at g l = record {
   stays : Stays g.J.Asks.asks l.fn.k l.at l.fn.judge l.fn.self.rest l.judge l.self.rest;
   ready : g.J.Asks.ready l.judge;
-  before : l.self.before ≡ l.fn.self.before;
-  behind : l.self.behind ≡ l.fn.self.behind;
-  front : l.self.front ≡ l.fn.self.front;
-  tail : l.self.tail ≡ l.fn.self.tail;
-  capacity : l.self.capacity ≡ l.fn.self.capacity;
-  alloc : l.self.alloc ≡ l.fn.self.alloc;
-  cost : l.self.cost ≡ l.fn.self.cost;
+  same : l.self ≡ record l.fn.self { rest = l.self.rest };
 }
 
 abbrev pub decreases-loop-at : goal.decreases-loop-at

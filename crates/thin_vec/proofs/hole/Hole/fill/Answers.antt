@@ -1,6 +1,6 @@
 -- What the iterator gave lies behind the front, and so much less of the hole is left.
-use Rattle.std.proofs.lemmas.Grind.{common_steps}
-use Rattle.std.proofs.Common.{◌++◌, ◌∙◌, ap, arith}
+use Rattle.std.proofs.Common.{◌≡◌, ◌-◌, ◌++◌, ◌∙◌, ap, arith, sym}
+use Rattle.thin_block.specs.Cost.{moving}
 use Rattle.thin_vec.proofs.HoleLemmas.{fill-step}
 use Rattle.thin_vec.proofs.hole.Hole.fill.Goals as goal
 
@@ -27,22 +27,25 @@ returns-clause-front g c =
       gave.3,
     )
 
-pub returns-clause-rest : goal.returns-clause-rest
-returns-clause-rest g c =
+pub returns-clause-same : goal.returns-clause-same
+returns-clause-same g c =
     let gave = c.put_iter-rest.ensures.slots in
-    let seen = fill-step c.self.inside c.self.invariant c.put_iter-rest.new.block gave.0 _ gave.2
-    c.put_iter-rest.ensures.within gave.1 in
-    ap (λ v. v.rest) seen.view ∙ ap (λ v. v.rest) c.self.view_is
-
-pub returns-clause-tail : goal.returns-clause-tail
-returns-clause-tail g c =
-    let gave = c.put_iter-rest.ensures.slots in
-    let seen = fill-step c.self.inside c.self.invariant c.put_iter-rest.new.block gave.0 _ gave.2
-    c.put_iter-rest.ensures.within gave.1 in
-    ap (λ v. v.tail) seen.view ∙ ap (λ v. v.tail) c.self.view_is
-
-pub returns-clause-alloc : goal.returns-clause-alloc
-returns-clause-alloc g c = search (arith, ◌∙◌)
-
-pub returns-clause-capacity : goal.returns-clause-capacity
-returns-clause-capacity g c = grind (arith, common_steps)
+    let seen = (fill-step c.self.inside c.self.invariant c.put_iter-rest.new.block gave.0 _ gave.2
+    c.put_iter-rest.ensures.within gave.1).view in
+    let alloc : c.put_iter-rest.new.block.alloc ≡ c.args.self.now.alloc = search (arith, ◌∙◌) in
+    let many : c.put_iter-rest.result.1 - c.self.inside.kept
+    ≡ c.args.self.now.before - (c.self.inside.at - c.put_iter-rest.result.1) =
+    omega (
+      arith,
+      gave.2,
+      c.put_iter-rest.ensures.within,
+      ap (λ v. v.before) c.self.view_is,
+      c.self.invariant.before,
+    ) in
+    seen ∙ (λ i. record (c.self.view_is i) {
+      front = (sym seen i).front;
+      before = (sym seen i).before;
+      alloc = alloc i;
+      cost = (c.put_iter-rest.ensures.cost
+          ∙ (λ j. moving (many j) (c.self.view_is j).cost)) i;
+    })

@@ -1,5 +1,5 @@
 -- The items of the `Vec` lie behind the front.
-use Rattle.std.proofs.lemmas.Grind.{common_steps}
+use Rattle.thin_block.specs.Cost.{moving}
 use Rattle.std.proofs.Common.{◌≡◌, ◌+◌, ◌-◌, ◌++◌, ◌∙◌, ap, arith, length}
 use Rattle.thin_vec.specs.Hole.{open_of}
 use Rattle.thin_vec.proofs.HoleLemmas.{Found, fill-step}
@@ -38,18 +38,18 @@ facts g c =
 pub invariant_of-self : goal.invariant_of-self
 invariant_of-self g c = (facts g c).lies
 
-pub returns-clause-front : goal.returns-clause-front
-returns-clause-front g c = ap (λ v. v.front) (facts g c).view
-    ∙ ap (λ v. v.front ++ c.args.items.items) c.self.view_is
-
-pub returns-clause-rest : goal.returns-clause-rest
-returns-clause-rest g c = ap (λ v. v.rest) (facts g c).view ∙ ap (λ v. v.rest) c.self.view_is
-
-pub returns-clause-tail : goal.returns-clause-tail
-returns-clause-tail g c = ap (λ v. v.tail) (facts g c).view ∙ ap (λ v. v.tail) c.self.view_is
-
-pub returns-clause-alloc : goal.returns-clause-alloc
-returns-clause-alloc g c = search (arith, ◌∙◌)
-
-pub returns-clause-capacity : goal.returns-clause-capacity
-returns-clause-capacity g c = grind (arith, common_steps)
+pub returns : goal.returns
+returns g c =
+    let old = c.args.self.now in
+    let alloc : c.put_vec.new.block.alloc ≡ old.alloc = search (arith, ◌∙◌) in
+    let spent : c.put_vec.new.block.cost ≡ moving (length c.args.items.items) old.cost =
+    search (arith, ◌∙◌) in
+    let left : c.self.inside.at - (c.self.inside.kept + c.len-count.result)
+    ≡ old.before - length c.args.items.items =
+    omega (arith, count g c, ap (λ v. v.before) c.self.view_is) in
+    (facts g c).view ∙ (λ i. let v = c.self.view_is i in record v {
+      front = v.front ++ c.args.items.items;
+      before = left i;
+      alloc = alloc i;
+      cost = spent i;
+    })

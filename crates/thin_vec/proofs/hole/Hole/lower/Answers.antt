@@ -1,6 +1,5 @@
 -- One item more went to the front, for one move more.
-use Rattle.std.proofs.lemmas.Grind.{common_steps}
-use Rattle.std.proofs.Common.{arith, ◌++◌, drop, take, ap, sym, ◌∙◌, append_assoc, rules}
+use Rattle.std.proofs.Common.{◌++◌, drop, take, ap, sym, ◌∙◌, append_assoc}
 use Rattle.std.proofs.Math.Seq.{take-add}
 use Rattle.std.proofs.lemmas.List.{drop-drop}
 use Rattle.thin_block.specs.Cost.{moving}
@@ -10,32 +9,13 @@ use Rattle.thin_vec.proofs.hole.Hole.lower.Goals as goal
 -- one item more went to the front
 pub loop-done-preserved : goal.loop-done-preserved
 loop-done-preserved g c =
-    let l = c.loop-done in
+    let n = c.loop-done.done in
     let old = c.args.self.now in
-    record {
-      front = c.lower_one-in-loop-done.ensures.front
-          ∙ ((λ i. l.invariant.front i ++ take 1 (l.invariant.rest i))
-          ∙ (append_assoc old.front (take l.done old.rest) (take 1 (drop l.done old.rest))
-          ∙ ap (λ xs. old.front ++ xs) (sym (take-add l.done 1 old.rest))));
-      rest = c.lower_one-in-loop-done.ensures.rest
-          ∙ (ap (drop 1) l.invariant.rest ∙ drop-drop 1 l.done old.rest);
-      before = search rules;
-      behind = search rules;
-      tail = search rules;
-      capacity = search rules;
-      alloc = search rules;
-      cost = c.lower_one-in-loop-done.ensures.cost
-          ∙ (ap (moving 1) l.invariant.cost ∙ moving-more 1 l.done old.cost);
-    }
-
-pub returns-clause-front : goal.returns-clause-front
-returns-clause-front g c = search (arith, ◌∙◌)
-
-pub returns-clause-rest : goal.returns-clause-rest
-returns-clause-rest g c = search (arith, ◌∙◌)
-
-pub returns-then-k-eq2-clause-rest : goal.returns-then-k-eq2-clause-rest
-returns-then-k-eq2-clause-rest g c = search (arith, ◌∙◌)
-
-pub returns-then-k-eq2-clause-front : goal.returns-then-k-eq2-clause-front
-returns-then-k-eq2-clause-front g c = grind (arith, common_steps)
+    c.lower_one-in-loop-done.ensures ∙ ((λ i. let v = c.loop-done.invariant i in record v
+    { front = v.front ++ take 1 v.rest; rest = drop 1 v.rest; cost = moving 1 v.cost })
+    ∙ (λ i. record old {
+      front = (append_assoc old.front (take n old.rest) (take 1 (drop n old.rest))
+          ∙ ap (λ xs. old.front ++ xs) (sym (take-add n 1 old.rest))) i;
+      rest = drop-drop 1 n old.rest i;
+      cost = moving-more 1 n old.cost i;
+    }))

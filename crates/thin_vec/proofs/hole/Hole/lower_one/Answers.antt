@@ -1,5 +1,6 @@
 -- The first slot of the middle run is filled, and its item then lies behind the front.
-use Rattle.std.proofs.Common.{◌≤◌, ◌++◌, ap, ◌∙◌, arith, length, take, drop}
+use Rattle.std.proofs.Common.{◌≤◌, ◌++◌, ap, ◌∙◌, arith, length, take, drop, rules, ◌≡◌}
+use Rattle.thin_block.specs.Cost.{moving}
 use Rattle.thin_vec.specs.Hole.{open_of}
 use Rattle.thin_vec.proofs.HoleLemmas.{Found, rest-filled}
 use Rattle.thin_vec.proofs.SiftingLemmas.{lowered, lowered-seen, lower-one-step}
@@ -32,15 +33,11 @@ facts g c =
 pub invariant_of-self : goal.invariant_of-self
 invariant_of-self g c = (facts g c).lies
 
-pub returns-clause-front : goal.returns-clause-front
-returns-clause-front g c = ap (λ v. v.front) (facts g c).view
-    ∙ ap (λ v. v.front ++ take 1 v.rest) c.self.view_is
-
-pub returns-clause-rest : goal.returns-clause-rest
-returns-clause-rest g c = ap (λ v. v.rest) (facts g c).view ∙ ap (λ v. drop 1 v.rest) c.self.view_is
-
 pub put-requires-clause-empty : goal.put-requires-clause-empty
 put-requires-clause-empty g c = grind (arith, common_steps)
 
-pub returns-clause-tail : goal.returns-clause-tail
-returns-clause-tail g c = grind (arith, common_steps)
+pub returns : goal.returns
+returns g c =
+    let spent : c.put.new.self.cost ≡ moving 1 c.args.self.now.cost = search rules in
+    (facts g c).view ∙ (λ i. let v = c.self.view_is i in record v
+    { front = v.front ++ take 1 v.rest; rest = drop 1 v.rest; cost = spent i })

@@ -1,5 +1,6 @@
 -- The first slots of the middle run are filled, and their items then lie behind the front.
-use Rattle.std.proofs.Common.{◌≤◌, ◌++◌, ap, ◌∙◌, arith, length, take, drop}
+use Rattle.std.proofs.Common.{◌≤◌, ◌++◌, ap, ◌∙◌, arith, length, take, drop, rules, ◌≡◌}
+use Rattle.thin_block.specs.Cost.{moving}
 use Rattle.thin_vec.specs.Hole.{open_of}
 use Rattle.thin_vec.proofs.HoleLemmas.{Found, rest-filled}
 use Rattle.thin_vec.proofs.SiftingLemmas.{lowered, lowered-seen, lower-step}
@@ -25,13 +26,8 @@ facts g c =
 pub invariant_of-self : goal.invariant_of-self
 invariant_of-self g c = (facts g c).lies
 
-pub returns-clause-front : goal.returns-clause-front
-returns-clause-front g c = ap (λ v. v.front) (facts g c).view
-    ∙ ap (λ v. v.front ++ take c.args.k v.rest) c.self.view_is
-
-pub returns-clause-rest : goal.returns-clause-rest
-returns-clause-rest g c = ap (λ v. v.rest) (facts g c).view
-    ∙ ap (λ v. drop c.args.k v.rest) c.self.view_is
-
-pub returns-clause-tail : goal.returns-clause-tail
-returns-clause-tail g c = ap (λ v. v.tail) (facts g c).view ∙ ap (λ v. v.tail) c.self.view_is
+pub returns : goal.returns
+returns g c =
+    let spent : c.move_run.new.self.cost ≡ moving c.args.k c.args.self.now.cost = search rules in
+    (facts g c).view ∙ (λ i. let v = c.self.view_is i in record v
+    { front = v.front ++ take c.args.k v.rest; rest = drop c.args.k v.rest; cost = spent i })

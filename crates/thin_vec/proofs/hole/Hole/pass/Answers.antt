@@ -19,10 +19,6 @@ facts g c =
 pub invariant_of-self : goal.invariant_of-self
 invariant_of-self g c = (facts g c).lies
 
-pub returns-clause-front : goal.returns-clause-front
-returns-clause-front g c = ap (λ v. v.front) (facts g c).view
-    ∙ ap (λ v. v.front ++ take c.args.k v.rest) c.self.view_is
-
-pub returns-clause-rest : goal.returns-clause-rest
-returns-clause-rest g c = ap (λ v. v.rest) (facts g c).view
-    ∙ ap (λ v. drop c.args.k v.rest) c.self.view_is
+pub returns : goal.returns
+returns g c = (facts g c).view ∙ (λ i. let v = c.self.view_is i in
+    record v { front = v.front ++ take c.args.k v.rest; rest = drop c.args.k v.rest })

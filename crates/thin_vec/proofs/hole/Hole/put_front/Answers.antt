@@ -1,5 +1,6 @@
 -- The first empty slot takes the value, which then lies behind the front.
-use Rattle.std.proofs.Common.{◌+◌, ◌-◌, ap, ◌∙◌, arith}
+use Rattle.std.proofs.Common.{◌≡◌, ◌+◌, ◌-◌, ap, ◌∙◌, arith, rules}
+use Rattle.thin_block.specs.Cost.{moving}
 use Rattle.thin_vec.specs.Hole.{open_of}
 use Rattle.std.proofs.Common.{◌++◌, ◌∷◌, []}
 use Rattle.thin_vec.proofs.HoleLemmas.{Found}
@@ -26,15 +27,8 @@ facts g c = put-step c.self.inside c.self.invariant c.put.new.self c.args.value 
 pub invariant_of-self : goal.invariant_of-self
 invariant_of-self g c = (facts g c).lies
 
-pub returns-clause-front : goal.returns-clause-front
-returns-clause-front g c = ap (λ v. v.front) (facts g c).view
-    ∙ ap (λ v. v.front ++ c.args.value ∷ []) c.self.view_is
-
-pub returns-clause-rest : goal.returns-clause-rest
-returns-clause-rest g c = ap (λ v. v.rest) (facts g c).view ∙ ap (λ v. v.rest) c.self.view_is
-
-pub returns-clause-tail : goal.returns-clause-tail
-returns-clause-tail g c = ap (λ v. v.tail) (facts g c).view ∙ ap (λ v. v.tail) c.self.view_is
-
-pub returns-clause-alloc : goal.returns-clause-alloc
-returns-clause-alloc g c = search (arith, ◌∙◌)
+pub returns : goal.returns
+returns g c =
+    let spent : c.put.new.self.cost ≡ moving 1 c.args.self.now.cost = search rules in
+    (facts g c).view ∙ (λ i. let v = c.self.view_is i in record v
+    { front = v.front ++ c.args.value ∷ []; before = v.before - 1; cost = spent i })

@@ -1,5 +1,5 @@
 -- Some first items stay; then none is left, or one goes and all behind it were asked about.
-use Rattle.std.proofs.Common.{◌≡◌, [], sym, ◌∙◌, arith, rules}
+use Rattle.std.proofs.Common.{◌≡◌, [], ap, sym, ◌∙◌, arith, rules}
 use Rattle.thin_vec.proofs.FiltersLemmas.{nothing, sifted-ends, sifted-goes}
 use Rattle.thin_vec.proofs.hole.Hole.sift.Goals as goal
 
@@ -11,15 +11,8 @@ returns-then-rest_len-gt0 g c =
       sifted = sifted-goes R c.args.self.now c.take_first.new.self run.result c.args.judge.now
           run.new.judge run.new.self.rest run.ensures.asked c.take_first.result
           c.sift_behind.new.judge c.sift_behind.new.self
-          (record {
-            front = search rules;
-            cost = search rules;
-            behind = search rules;
-            tail = search rules;
-            capacity = search rules;
-            alloc = search rules;
-          })
-          (sym c.pass.ensures.rest ∙ c.take_first.ensures.rest) c.sift_behind.ensures.sifts
+          (search rules)
+          (sym (ap (λ v. v.rest) c.pass.ensures) ∙ c.take_first.ensures.rest) c.sift_behind.ensures.sifts
           c.sift_behind.ensures.rest;
     }
 
@@ -32,13 +25,6 @@ returns-else-rest_len-gt0 g c =
     record {
       sifted = sifted-ends R c.args.self.now c.pass.new.self run.result c.args.judge.now
           run.new.judge run.new.self.rest run.ensures.asked
-          (record {
-            front = search rules;
-            cost = search rules;
-            behind = search rules;
-            tail = search rules;
-            capacity = search rules;
-            alloc = search rules;
-          })
-          (sym c.pass.ensures.rest ∙ none) none;
+          (search rules)
+          (sym (ap (λ v. v.rest) c.pass.ensures) ∙ none) none;
     }

@@ -9,17 +9,7 @@ pub returns-then-advance_last-clause-sifts : goal.returns-then-advance_last-clau
 returns-then-advance_last-clause-sifts g c =
     advanced-goes g.J.Asks.asks c.args.judge.now c.advance_last.new.judge c.args.self.now
     c.advance_last.new.self c.requires.hole c.advance_last.ensures.advances c.take_first.result
-    c.take_first.new.self
-    (record {
-      rest = c.take_first.ensures.rest;
-      before = c.take_first.ensures.before;
-      front = c.take_first.ensures.front;
-      cost = c.take_first.ensures.cost;
-      behind = c.take_first.ensures.behind;
-      tail = c.take_first.ensures.tail;
-      capacity = c.take_first.ensures.capacity;
-      alloc = c.take_first.ensures.alloc;
-    })
+    c.take_first.new.self c.take_first.ensures.rest c.take_first.ensures.same
 
 -- none goes
 pub returns-else-advance_last-clause-sifts : goal.returns-else-advance_last-clause-sifts

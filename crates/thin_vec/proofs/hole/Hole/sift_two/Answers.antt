@@ -9,17 +9,7 @@ pub returns-then-advance_two-clause-sifts : goal.returns-then-advance_two-clause
 returns-then-advance_two-clause-sifts g c =
     advanced-goes g.J.Asks.asks c.args.judge.now c.advance_two.new.judge c.args.self.now
     c.advance_two.new.self c.requires.hole c.advance_two.ensures.advances c.take_first.result
-    c.take_first.new.self
-    (record {
-      rest = c.take_first.ensures.rest;
-      before = c.take_first.ensures.before;
-      front = c.take_first.ensures.front;
-      cost = c.take_first.ensures.cost;
-      behind = c.take_first.ensures.behind;
-      tail = c.take_first.ensures.tail;
-      capacity = c.take_first.ensures.capacity;
-      alloc = c.take_first.ensures.alloc;
-    })
+    c.take_first.new.self c.take_first.ensures.rest c.take_first.ensures.same
 
 -- none goes
 pub returns-else-advance_two-clause-sifts : goal.returns-else-advance_two-clause-sifts

@@ -1,8 +1,7 @@
 -- The first slot of the middle run is filled, and then empty.
-use Rattle.std.proofs.Common.{◌≡◌, ◌<◌, ◌∷◌, List, ap, sym, ◌∙◌, arith, length}
+use Rattle.std.proofs.Common.{◌≡◌, ◌<◌, ◌+◌, ◌∷◌, List, ap, sym, ◌∙◌, arith, length}
 use Rattle.thin_vec.specs.Hole.{open_of}
 use Rattle.thin_vec.proofs.HoleLemmas.{Found, first-left, first-seen, first-step, rest-filled}
-use Rattle.std.proofs.lemmas.Grind.{common_steps}
 use Rattle.thin_vec.proofs.hole.Hole.take_first.Goals as goal
 
 pub take-requires : goal.take-requires
@@ -36,8 +35,7 @@ returns-clause-rest g c =
     ∙ ((facts g c).1 ∙ ap (λ xs. c.take.result ∷ xs)
     (sym (ap (λ v. v.rest) (facts g c).2.view)))
 
-pub returns-clause-front : goal.returns-clause-front
-returns-clause-front g c = grind (arith, common_steps)
-
-pub returns-clause-tail : goal.returns-clause-tail
-returns-clause-tail g c = grind (arith, common_steps)
+pub returns-clause-same : goal.returns-clause-same
+returns-clause-same g c = let seen = (facts g c).2.view in
+    seen ∙ (λ i. let v = c.self.view_is i in
+    record v { rest = (sym seen i).rest; before = v.before + 1 })

@@ -1,5 +1,5 @@
 -- The last slot of the middle run is filled, and then empty.
-use Rattle.std.proofs.Common.{◌≡◌, ◌<◌, ◌∷◌, ◌++◌, ◌-◌, [], List, ap, sym, ◌∙◌, arith, length}
+use Rattle.std.proofs.Common.{◌≡◌, ◌<◌, ◌+◌, ◌∷◌, ◌++◌, ◌-◌, [], List, ap, sym, ◌∙◌, arith, length}
 use Rattle.thin_vec.specs.Hole.{open_of}
 use Rattle.thin_vec.proofs.HoleLemmas.{Found, last-left, last-seen, last-step, rest-filled}
 use Rattle.thin_vec.proofs.hole.Hole.take_last.Goals as goal
@@ -35,3 +35,8 @@ returns-clause-rest g c =
     sym (ap (λ v. v.rest) c.self.view_is)
     ∙ ((facts g c).1 ∙ ap (λ xs. xs ++ c.take.result ∷ [])
     (sym (ap (λ v. v.rest) (facts g c).2.view)))
+
+pub returns-clause-same : goal.returns-clause-same
+returns-clause-same g c = let seen = (facts g c).2.view in
+    seen ∙ (λ i. let v = c.self.view_is i in
+    record v { rest = (sym seen i).rest; behind = v.behind + 1 })

@@ -1,5 +1,5 @@
 -- Some first items stay; then none is left, or one goes and rounds ask about those behind it.
-use Rattle.std.proofs.Common.{◌≡◌, ◌++◌, [], take, sym, ap, ◌∙◌, arith, rules}
+use Rattle.std.proofs.Common.{◌≡◌, [], sym, ap, ◌∙◌, arith, rules}
 use Rattle.thin_vec.proofs.DedupLemmas.{thinned-ends, thinned-goes}
 use Rattle.thin_vec.proofs.FiltersLemmas.{nothing}
 use Rattle.thin_vec.proofs.hole.Hole.thin_out.Goals as goal
@@ -11,18 +11,8 @@ returns-then-rest_len-gt0 g c =
       thinned = thinned-goes g.J.AsksPairs.asks c.args.self.now c.take_first.new.self run.result
           c.args.judge.now run.new.judge run.new.self.rest run.ensures.asked c.take_first.result
           c.thin_behind.new.judge c.thin_behind.new.self
-          (record {
-            front = c.take_first.ensures.front
-                ∙ (c.pass.ensures.front ∙ ap (λ l. l ++ take run.result run.new.self.rest)
-                (run.ensures.front ∙ c.requires.front));
-            cost = search rules;
-            behind = search rules;
-            tail = search rules;
-            capacity =
-                search rules;
-            alloc = search rules;
-          })
-          (sym c.pass.ensures.rest ∙ c.take_first.ensures.rest) c.thin_behind.ensures.thins
+          (search rules)
+          (sym (ap (λ v. v.rest) c.pass.ensures) ∙ c.take_first.ensures.rest) c.thin_behind.ensures.thins
           c.thin_behind.ensures.rest;
     }
 
@@ -34,15 +24,6 @@ returns-else-rest_len-gt0 g c =
     record {
       thinned = thinned-ends g.J.AsksPairs.asks c.args.self.now c.pass.new.self run.result
           c.args.judge.now run.new.judge run.new.self.rest run.ensures.asked
-          (record {
-            front = c.pass.ensures.front ∙ ap (λ l. l ++ take run.result run.new.self.rest)
-                (run.ensures.front ∙ c.requires.front);
-            cost = search rules;
-            behind = search rules;
-            tail = search rules;
-            capacity =
-                search rules;
-            alloc = search rules;
-          })
-          (sym c.pass.ensures.rest ∙ none) none;
+          (search rules)
+          (sym (ap (λ v. v.rest) c.pass.ensures) ∙ none) none;
     }

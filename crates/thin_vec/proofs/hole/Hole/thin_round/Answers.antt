@@ -1,5 +1,5 @@
 -- A round ends at the first item that goes, or where none is left: a case for each such place.
-use Rattle.std.proofs.Common.{◌≡◌, ◌∷◌, [], false, refl, sym, ◌∙◌, arith, rules}
+use Rattle.std.proofs.Common.{◌≡◌, ◌∷◌, [], ap, false, refl, sym, ◌∙◌, arith, rules}
 use Rattle.std.proofs.lemmas.List.{append-nil}
 use Rattle.thin_vec.proofs.DedupLemmas.{run-count, run-ends, run-goes, thins-goes, thins-run, thins-stays, thins-two}
 use Rattle.thin_vec.proofs.FiltersLemmas.{nothing}
@@ -12,14 +12,7 @@ returns-then-ask_last-clause-thins g c =
     thins-goes g.J.AsksPairs.asks c.args.self.now c.ask_last.new.self c.args.judge.now
     c.ask_last.new.judge c.take_first-later.result c.ask_last.new.later
     c.ask_last.new.self.front
-    (search rules) (search rules) refl (search rules)
-    (record {
-      hole = search rules;
-      behind = search rules;
-      tail = search rules;
-      capacity = search rules;
-      alloc = search rules;
-    })
+    (search rules) (search rules) (search rules) (search rules)
 
 -- it stays, and is the last
 pub returns-then-rest_len-eq0-clause-thins : goal.returns-then-rest_len-eq0-clause-thins
@@ -28,13 +21,6 @@ returns-then-rest_len-eq0-clause-thins g c =
     c.ask_last.new.judge c.take_first-later.result c.ask_last.new.later
     c.ask_last.new.self.front
     (search rules) (search rules) (search rules) (search rules)
-    (record {
-      hole = search rules;
-      behind = search rules;
-      tail = search rules;
-      capacity = search rules;
-      alloc = search rules;
-    })
 
 -- it stays, and the one behind it goes
 pub returns-then-goes-clause-thins : goal.returns-then-goes-clause-thins
@@ -45,13 +31,6 @@ returns-then-goes-clause-thins g c =
     c.ask_last.new.self.front c.ask_last.new.self.rest c.ask_next-goes.new.self.rest (search rules)
     c.ask_next-goes.result c.ask_next-goes.ensures.asked (search rules)
     c.if-goes.true c.take_first.result (search rules) (search rules) (search rules)
-    (record {
-      hole = search rules;
-      behind = search rules;
-      tail = search rules;
-      capacity = search rules;
-      alloc = search rules;
-    })
 
 -- both stay, with a run, and the one behind that goes
 pub returns-then-rest_len-gt0-clause-thins : goal.returns-then-rest_len-gt0-clause-thins
@@ -62,7 +41,7 @@ returns-then-rest_len-gt0-clause-thins g c =
     let goes = run-goes R c.ask_pairs-kept.result c.ask_next-goes.new.judge
     c.put_front-2.new.self.rest c.ask_pairs-kept.new.judge c.ask_pairs-kept.new.self.rest r
     c.take_first-then-rest_len-gt0.result w.rest
-    (sym c.lower.ensures.rest ∙ c.take_first-then-rest_len-gt0.ensures.rest) in
+    (sym (ap (λ v. v.rest) c.lower.ensures) ∙ c.take_first-then-rest_len-gt0.ensures.rest) in
     thins-run R c.args.self.now w c.args.judge.now c.ask_last.new.judge c.ask_next-goes.new.judge
     c.take_first-later.result c.ask_last.new.later c.ask_next-goes.new.kept
     c.ask_last.new.self.front c.ask_last.new.self.rest c.put_front-2.new.self.rest (search rules)
@@ -70,13 +49,6 @@ returns-then-rest_len-gt0-clause-thins g c =
     c.if-goes.false c.ask_pairs-kept.result c.ask_pairs-kept.new.judge
     c.ask_pairs-kept.new.self.rest r goes.0 (run-count R _ _ _ _ _ r (false ∷ []) refl goes.1)
     (search rules) (search rules)
-    (record {
-      hole = search rules;
-      behind = search rules;
-      tail = search rules;
-      capacity = search rules;
-      alloc = search rules;
-    })
 
 -- and so do all others
 pub returns-else-rest_len-gt0-clause-thins : goal.returns-else-rest_len-gt0-clause-thins
@@ -88,7 +60,7 @@ returns-else-rest_len-gt0-clause-thins g c =
     nothing w.rest (omega (arith, c.rest_len-2.ensures.value, c.if-rest_len-gt0.false)) in
     let ends = run-ends R c.ask_pairs-kept.result c.ask_next-goes.new.judge
     c.put_front-2.new.self.rest c.ask_pairs-kept.new.judge c.ask_pairs-kept.new.self.rest r
-    (sym c.lower.ensures.rest ∙ none) in
+    (sym (ap (λ v. v.rest) c.lower.ensures) ∙ none) in
     thins-run R c.args.self.now w c.args.judge.now c.ask_last.new.judge c.ask_next-goes.new.judge
     c.take_first-later.result c.ask_last.new.later c.ask_next-goes.new.kept
     c.ask_last.new.self.front c.ask_last.new.self.rest c.put_front-2.new.self.rest (search rules)
@@ -97,13 +69,6 @@ returns-else-rest_len-gt0-clause-thins g c =
     c.ask_pairs-kept.new.self.rest r (ends.0 ∙ sym none)
     (run-count R _ _ _ _ _ r [] refl (ends.1 ∙ sym (append-nil _)))
     (search rules) (search rules)
-    (record {
-      hole = search rules;
-      behind = search rules;
-      tail = search rules;
-      capacity = search rules;
-      alloc = search rules;
-    })
 
 pub returns-then-ask_last-clause-some : goal.returns-then-ask_last-clause-some
 returns-then-ask_last-clause-some g c = grind (arith, common_steps)

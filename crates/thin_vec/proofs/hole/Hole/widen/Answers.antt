@@ -1,9 +1,10 @@
 -- The tail has room behind it, and once it is up, as many more empty slots before it.
-use Rattle.std.proofs.Common.{◌≡◌, ℕ, ◌+◌, ◌≤◌, ◌∙◌, ap, arith}
+use Rattle.std.proofs.Common.{◌≡◌, ℕ, ◌+◌, ◌≤◌, ◌∙◌, ap, arith, length}
+use Rattle.thin_block.specs.Cost.{moving}
 use Rattle.thin_vec.specs.Hole.{Shows, open_of}
 use Rattle.thin_vec.specs.Open.{Open, reach}
 use Rattle.thin_vec.specs.declared.hole.Hole.TheInside.{Inside}
-use Rattle.thin_vec.proofs.HoleLemmas.{reached, tail-filled, widen-step}
+use Rattle.thin_vec.proofs.HoleLemmas.{Found, reached, tail-filled, widen-step, widened, widened-seen}
 use Rattle.thin_vec.proofs.hole.Hole.widen.Goals as goal
 
 -- the tail has room behind it
@@ -16,36 +17,22 @@ pub move_run-requires-clause-filled : goal.move_run-requires-clause-filled
 move_run-requires-clause-filled g c = λ j low high. tail-filled c.self.inside
     (open_of c.self.inside) c.self.invariant j low (omega (arith, high, c.self.invariant.tail))
 
+facts : (g : _) (c : goal.After-self-2-1 g)
+    → let room = fits c.self.inside c.args.self.now c.args.count c.self.invariant
+    c.self.view_is c.requires.room in
+    Found (widened c.self.inside c.self.invariant c.move_run.new.self c.args.count room)
+    (widened-seen c.self.inside c.self.invariant c.move_run.new.self c.args.count room)
+facts g c = widen-step c.self.inside c.self.invariant c.move_run.new.self c.args.count
+    (fits c.self.inside c.args.self.now c.args.count c.self.invariant c.self.view_is
+    c.requires.room) c.move_run.ensures.slots
+
 pub invariant_of-self : goal.invariant_of-self
-invariant_of-self g c =
-    let room = fits c.self.inside c.args.self.now c.args.count c.self.invariant
-    c.self.view_is c.requires.room in
-    (widen-step c.self.inside c.self.invariant c.move_run.new.self c.args.count room
-    c.move_run.ensures.slots).lies
+invariant_of-self g c = (facts g c).lies
 
-pub returns-clause-front : goal.returns-clause-front
-returns-clause-front g c =
-    let room = fits c.self.inside c.args.self.now c.args.count c.self.invariant
-    c.self.view_is c.requires.room in
-    ap (λ v. v.front) (widen-step c.self.inside c.self.invariant c.move_run.new.self c.args.count
-    room c.move_run.ensures.slots).view ∙ ap (λ v. v.front) c.self.view_is
-
-pub returns-clause-rest : goal.returns-clause-rest
-returns-clause-rest g c =
-    let room = fits c.self.inside c.args.self.now c.args.count c.self.invariant
-    c.self.view_is c.requires.room in
-    ap (λ v. v.rest) (widen-step c.self.inside c.self.invariant c.move_run.new.self c.args.count
-    room c.move_run.ensures.slots).view ∙ ap (λ v. v.rest) c.self.view_is
-
-pub returns-clause-tail : goal.returns-clause-tail
-returns-clause-tail g c =
-    let room = fits c.self.inside c.args.self.now c.args.count c.self.invariant
-    c.self.view_is c.requires.room in
-    ap (λ v. v.tail) (widen-step c.self.inside c.self.invariant c.move_run.new.self c.args.count
-    room c.move_run.ensures.slots).view ∙ ap (λ v. v.tail) c.self.view_is
-
-pub returns-clause-cost : goal.returns-clause-cost
-returns-clause-cost g c = search (arith, ◌∙◌)
-
-pub returns-clause-alloc : goal.returns-clause-alloc
-returns-clause-alloc g c = search (arith, ◌∙◌)
+pub returns : goal.returns
+returns g c =
+    let alloc : c.move_run.new.self.alloc ≡ c.args.self.now.alloc = search (arith, ◌∙◌) in
+    let spent : c.move_run.new.self.cost ≡ moving (length c.args.self.now.tail) c.args.self.now.cost
+    = search (arith, ◌∙◌) in
+    (facts g c).view ∙ (λ i. let v = c.self.view_is i in record v
+    { behind = v.behind + c.args.count; alloc = alloc i; cost = spent i })

@@ -9,8 +9,9 @@ returns-clause-cost g c =
     let gave = c.fill-rest.ensures.front in
     let hole = c.fill-rest.new.self in
     let put = closed-moves c.args.hole hole (c.front_end-end.result - length c.args.hole.front)
-    c.fill-rest.ensures.cost (c.fill-rest.ensures.rest ∙ c.requires.none)
-    c.fill-rest.ensures.tail
+    (ap (λ v. v.cost) c.fill-rest.ensures.same)
+    (ap (λ v. v.rest) c.fill-rest.ensures.same ∙ c.requires.none)
+    (ap (λ v. v.tail) c.fill-rest.ensures.same)
     (omega (
       arith,
       c.front_end-end.ensures.value,

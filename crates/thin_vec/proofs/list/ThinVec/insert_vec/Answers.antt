@@ -12,11 +12,13 @@ returns-clause-cost g c =
     let k = length c.args.held.items in
     let count = c.len.ensures ∙ c.args.held.ok.0 in
     let before = c.open_wide-hole.ensures.before in
-    let none : w.before ≡ 0 = omega (arith, c.fill_from_vec.ensures.before, before, count) in
+    let none : w.before ≡ 0 =
+    omega (arith, ap (λ v. v.before) c.fill_from_vec.ensures, before, count) in
     let all : k ≡ hole.before - w.before = omega (arith, none, before, count) in
     let put = closed-moves hole w k
-    (c.fill_from_vec.ensures.cost ∙ ap (λ n. moving n hole.cost) all)
-    (c.fill_from_vec.ensures.rest ∙ c.open_wide-hole.ensures.rest) c.fill_from_vec.ensures.tail
+    (ap (λ v. v.cost) c.fill_from_vec.ensures ∙ ap (λ n. moving n hole.cost) all)
+    (ap (λ v. v.rest) c.fill_from_vec.ensures ∙ c.open_wide-hole.ensures.rest)
+    (ap (λ v. v.tail) c.fill_from_vec.ensures)
     all in
     let moves = run-moves c.len.result (length v.items - c.args.at) k put.0 v.cost hole.cost
     c.open_wide-hole.ensures.other_cost in (

@@ -1,24 +1,32 @@
 -- What filling the hole says, of the range that was dropped before.
-use Rattle.std.proofs.Common.{◌≡◌, ◌<◌, ◌++◌, ◌∙◌, ap, arith, length, length-append, subst, sym}
+use Rattle.std.proofs.Common.{◌≡◌, [], ◌<◌, ◌+◌, ◌++◌, ◌∙◌, ap, arith, length, length-append, subst, sym}
 use denote.Param.{param}
 use Rattle.thin_vec.specs.Extend.{IsExtended, IsLoose}
+use Rattle.thin_vec.specs.Open.{Open}
 use Rattle.thin_vec.specs.Splice.{splice_alloc, splice_hole, splice_iter, splice_replaced}
 use Rattle.thin_vec.proofs.ExtendLemmas.{loose-le, run_of_ok}
 use Rattle.thin_vec.proofs.FillingLemmas.{if-err, left-same, on-ok}
 use Rattle.thin_vec.proofs.splice.Splice.finish.Goals as goal
 
+-- what is open once the rest was dropped
+seen : {T A : Type 0} (v : Open T A) {h w : Open T A} → h ≡ v → w ≡ record h
+    { before = h.before + length h.rest + h.behind; rest = []; behind = 0 }
+    → w ≡ record v { before = v.before + length v.rest + v.behind; rest = []; behind = 0 }
+seen v is now = now ∙ (λ i. let h = is i in
+    record h { before = h.before + length h.rest + h.behind; rest = []; behind = 0 })
+
 pub returns-clause-items : goal.returns-clause-items
 returns-clause-items g c =
-    let front = c.drop_rest.ensures.front ∙ ap (λ v. v.front) c.into_inner-hole.ensures.value in
-    let tail = c.drop_rest.ensures.tail ∙ ap (λ v. v.tail) c.into_inner-hole.ensures.value in
+    let front = ap (λ v. v.front) (seen (splice_hole c.args.self) c.into_inner-hole.ensures.value c.drop_rest.ensures) in
+    let tail = ap (λ v. v.tail) (seen (splice_hole c.args.self) c.into_inner-hole.ensures.value c.drop_rest.ensures) in
     on-ok c.fill_hole-answer.result
     (λ now. (now.0, now.1, now.2 ∙ (λ i. (front i ++ now.0) ++ tail i)))
     c.fill_hole-answer.ensures.items
 
 pub returns-clause-runs : goal.returns-clause-runs
 returns-clause-runs g c =
-    let front = c.drop_rest.ensures.front ∙ ap (λ v. v.front) c.into_inner-hole.ensures.value in
-    let tail = c.drop_rest.ensures.tail ∙ ap (λ v. v.tail) c.into_inner-hole.ensures.value in
+    let front = ap (λ v. v.front) (seen (splice_hole c.args.self) c.into_inner-hole.ensures.value c.drop_rest.ensures) in
+    let tail = ap (λ v. v.tail) (seen (splice_hole c.args.self) c.into_inner-hole.ensures.value c.drop_rest.ensures) in
     run_of_ok g.I.Iterator.next_gives (splice_iter c.args.self)
     (λ xs. c.fill_hole-answer.new.self.items ≡ splice_replaced c.args.self xs)
     c.fill_hole-answer.result
@@ -28,58 +36,57 @@ returns-clause-runs g c =
 
 pub returns-clause-capacity : goal.returns-clause-capacity
 returns-clause-capacity g c =
-    let same = c.drop_rest.ensures.capacity
-    ∙ ap (λ v. v.capacity) c.into_inner-hole.ensures.value in
+    let same = ap (λ v. v.capacity) (seen (splice_hole c.args.self) c.into_inner-hole.ensures.value c.drop_rest.ensures) in
     subst
     (λ n. IsLoose g.G.Growth.rule (param 0 g.row.T) n c.fill_hole-answer.new.self.capacity) same
     c.fill_hole-answer.ensures.capacity
 
 pub returns-clause-named : goal.returns-clause-named
 returns-clause-named g c =
-    let hole = c.drop_rest.new.self in let was = c.into_inner-hole.ensures.value in
+    let hole = c.drop_rest.new.self in
     let w = c.fill_hole-answer.new.self in
     let left = left-same hole (splice_hole c.args.self) c.clear.new.self.alloc
-    (splice_alloc c.args.self) (c.drop_rest.ensures.front ∙ ap (λ v. v.front) was)
-    (c.drop_rest.ensures.tail ∙ ap (λ v. v.tail) was)
-    (c.drop_rest.ensures.capacity ∙ ap (λ v. v.capacity) was)
-    (c.drop_rest.ensures.cost ∙ ap (λ v. v.cost) was) c.clear.ensures.alloc in
+    (splice_alloc c.args.self) (ap (λ v. v.front) (seen (splice_hole c.args.self) c.into_inner-hole.ensures.value c.drop_rest.ensures))
+    (ap (λ v. v.tail) (seen (splice_hole c.args.self) c.into_inner-hole.ensures.value c.drop_rest.ensures))
+    (ap (λ v. v.capacity) (seen (splice_hole c.args.self) c.into_inner-hole.ensures.value c.drop_rest.ensures))
+    (ap (λ v. v.cost) (seen (splice_hole c.args.self) c.into_inner-hole.ensures.value c.drop_rest.ensures)) c.clear.ensures.alloc in
     subst (λ z. IsExtended g.G.Growth.rule (param 0 g.row.T) z w.capacity (length w.items)
     (g.I.Iterator.remaining (splice_iter c.args.self))) left c.fill_hole-answer.ensures.named
 
 pub returns-clause-placed : goal.returns-clause-placed
 returns-clause-placed g c =
-    let front = c.drop_rest.ensures.front ∙ ap (λ v. v.front) c.into_inner-hole.ensures.value in
-    let tail = c.drop_rest.ensures.tail ∙ ap (λ v. v.tail) c.into_inner-hole.ensures.value in
+    let front = ap (λ v. v.front) (seen (splice_hole c.args.self) c.into_inner-hole.ensures.value c.drop_rest.ensures) in
+    let tail = ap (λ v. v.tail) (seen (splice_hole c.args.self) c.into_inner-hole.ensures.value c.drop_rest.ensures) in
     if-err c.fill_hole-answer.result
     (λ refused is now. (now.0, now.1 ∙ (λ i. (front i ++ now.0) ++ tail i), now.2))
     c.fill_hole-answer.ensures.placed
 
 pub returns-clause-overflow_behind : goal.returns-clause-overflow_behind
 returns-clause-overflow_behind g c =
-    let tail = c.drop_rest.ensures.tail ∙ ap (λ v. v.tail) c.into_inner-hole.ensures.value in
+    let tail = ap (λ v. v.tail) (seen (splice_hole c.args.self) c.into_inner-hole.ensures.value c.drop_rest.ensures) in
     if-err c.fill_hole-answer.result (λ refused is now none. now (tail ∙ none))
     c.fill_hole-answer.ensures.overflow_behind
 
 pub returns-clause-held : goal.returns-clause-held
 returns-clause-held g c =
-    let tail = c.drop_rest.ensures.tail ∙ ap (λ v. v.tail) c.into_inner-hole.ensures.value in
+    let tail = ap (λ v. v.tail) (seen (splice_hole c.args.self) c.into_inner-hole.ensures.value c.drop_rest.ensures) in
     if-err c.fill_hole-answer.result (λ refused is now none. now (tail ∙ none))
     c.fill_hole-answer.ensures.held
 
 pub returns-clause-full : goal.returns-clause-full
 returns-clause-full g c =
-    let tail = c.drop_rest.ensures.tail ∙ ap (λ v. v.tail) c.into_inner-hole.ensures.value in
+    let tail = ap (λ v. v.tail) (seen (splice_hole c.args.self) c.into_inner-hole.ensures.value c.drop_rest.ensures) in
     if-err c.fill_hole-answer.result (λ refused is now none. now (tail ∙ none))
     c.fill_hole-answer.ensures.full
 
 pub returns-clause-err : goal.returns-clause-err
 returns-clause-err g c =
-    let hole = c.drop_rest.new.self in let was = c.into_inner-hole.ensures.value in
-    let tail = c.drop_rest.ensures.tail ∙ ap (λ v. v.tail) was in
+    let hole = c.drop_rest.new.self in
+    let tail = ap (λ v. v.tail) (seen (splice_hole c.args.self) c.into_inner-hole.ensures.value c.drop_rest.ensures) in
     let left = left-same hole (splice_hole c.args.self) c.clear.new.self.alloc
-    (splice_alloc c.args.self) (c.drop_rest.ensures.front ∙ ap (λ v. v.front) was) tail
-    (c.drop_rest.ensures.capacity ∙ ap (λ v. v.capacity) was)
-    (c.drop_rest.ensures.cost ∙ ap (λ v. v.cost) was) c.clear.ensures.alloc in
+    (splice_alloc c.args.self) (ap (λ v. v.front) (seen (splice_hole c.args.self) c.into_inner-hole.ensures.value c.drop_rest.ensures)) tail
+    (ap (λ v. v.capacity) (seen (splice_hole c.args.self) c.into_inner-hole.ensures.value c.drop_rest.ensures))
+    (ap (λ v. v.cost) (seen (splice_hole c.args.self) c.into_inner-hole.ensures.value c.drop_rest.ensures)) c.clear.ensures.alloc in
     if-err c.fill_hole-answer.result
     (λ refused is now none empty. let same = now (tail ∙ none) empty in (same.0 ∙ left, same.1))
     c.fill_hole-answer.ensures.err
@@ -88,15 +95,15 @@ pub returns-clause-range : goal.returns-clause-range
 returns-clause-range g c =
     let was = c.into_inner-hole.ensures.value in
     let v = splice_hole c.args.self in
-    let front = c.drop_rest.ensures.front ∙ ap (λ h. h.front) was in
-    let tail = c.drop_rest.ensures.tail ∙ ap (λ h. h.tail) was in
+    let front = ap (λ h. h.front) (seen (splice_hole c.args.self) c.into_inner-hole.ensures.value c.drop_rest.ensures) in
+    let tail = ap (λ h. h.tail) (seen (splice_hole c.args.self) c.into_inner-hole.ensures.value c.drop_rest.ensures) in
     if-err c.fill_hole-answer.result
     (λ refused is now some. omega (
       arith,
       now (subst (λ l. 0 < length l) (sym tail) some),
       ap length front,
       ap length tail,
-      c.drop_rest.ensures.before,
+      ap (λ h. h.before) c.drop_rest.ensures,
       ap (λ h. h.before) was,
       ap (λ h. length h.rest) was,
       ap (λ h. h.behind) was,
@@ -105,8 +112,7 @@ returns-clause-range g c =
 
 pub returns-clause-never_less : goal.returns-clause-never_less
 returns-clause-never_less g c =
-    let same = c.drop_rest.ensures.capacity
-    ∙ ap (λ v. v.capacity) c.into_inner-hole.ensures.value in
+    let same = ap (λ v. v.capacity) (seen (splice_hole c.args.self) c.into_inner-hole.ensures.value c.drop_rest.ensures) in
     let low = loose-le g.G.Growth.rule (param 0 g.row.T) g.met.G.Growth.law
     c.drop_rest.new.self.capacity c.fill_hole-answer.new.self.capacity
     c.fill_hole-answer.ensures.capacity in
