@@ -16,17 +16,20 @@ use thin_block::{Growth, ThinVecError};
 impl<A: Allocator> ThinVec<u8, A> {
     ghost use Rattle.thin_vec.specs.ThinVec.{IsCause, cost_new};
 
-    /// A list of the text's bytes, of capacity as many. No text takes no memory.
+    /// Makes a list of the text's bytes, with exactly that capacity. An empty text needs no
+    /// allocation.
     ///
-    /// It is refused where that capacity does not fit, or where memory is refused.
+    /// It fails where that capacity does not fit or memory is refused.
     pub fn from_str(alloc: A, text: &str) -> Result<ThinVec<u8, A>, ThinVecError>
         ensures succeeds_empty { length text.now ≡ 0 → IsOk result }
-        ensures overflow { exact_capacity u8 0 (length text.now) ≡ None → IsErrOf result ThinVecError.CapacityOverflow }
+        ensures overflow { exact_capacity u8 0 (length text.now) ≡ None
+            → IsErrOf result ThinVecError.CapacityOverflow }
         ensures cause { IfErr result (IsCause (exact_capacity u8 0 (length text.now))) }
         ensures items { IfOk result (λ list. list.items ≡ text.now) }
         ensures capacity { IfOk result (λ list. list.capacity ≡ length text.now) }
         ensures alloc { IfOk result (λ list. list.alloc ≡ alloc) }
-        ensures cost { IfOk result (λ list. list.cost ≡ moving (length text.now) (cost_new (length text.now))) }
+        ensures cost { IfOk result
+            (λ list. list.cost ≡ moving (length text.now) (cost_new (length text.now))) }
         ensures cheap { IfOk result (λ list. IsCheap list) }
         ensures within { IfOk result (λ list. IsWithin u8 list) }
     {
@@ -39,20 +42,24 @@ impl<A: Allocator, G: Growth> Write for ThinVec<u8, A, G> {
 
     ghost contents = { λ list. Some list.items };
 
-    /// Appends all of `buf`, and answers how many bytes it has.
+    /// Appends all of `buf`, and returns how many bytes it has.
     ///
-    /// It is refused as `reserve` is, and then nothing changes. The error's kind is `OutOfMemory` also where the ruled
-    /// capacity overflows.
+    /// It fails as `reserve` does, and then nothing changes. The error's kind is `OutOfMemory` also
+    /// where the ruled capacity overflows.
     fn write(&mut self, buf: &[u8]) -> io::Result<usize>
         ensures succeeds { HasRoomFor self.old (length buf.now) → IsOk result }
         ensures succeeds_empty { length buf.now ≡ 0 → IsOk result }
-        ensures overflow { capacity_for G.rule u8 self.old (length buf.now) ≡ None → IsErrAnd result (λ error. error_kind error ≡ ErrorKind.OutOfMemory) }
+        ensures overflow { capacity_for G.rule u8 self.old (length buf.now) ≡ None
+            → IsErrAnd result (λ error. error_kind error ≡ ErrorKind.OutOfMemory) }
         ensures cause { IfErr result (λ error. error_kind error ≡ ErrorKind.OutOfMemory) }
         ensures value { IfOk result (λ count. count ≡ length buf.now) }
         ensures items { OnOk result (self.new.items ≡ self.old.items ++ buf.now) }
-        ensures capacity { OnOk result (capacity_for G.rule u8 self.old (length buf.now) ≡ Some self.new.capacity) }
-        ensures had_room { HasRoomFor self.old (length buf.now) → self.new.capacity ≡ self.old.capacity }
-        ensures cost { OnOk result (self.new.cost ≡ moving (length buf.now) (cost_at self.old self.new.capacity)) }
+        ensures capacity { OnOk result
+            (capacity_for G.rule u8 self.old (length buf.now) ≡ Some self.new.capacity) }
+        ensures had_room { HasRoomFor self.old (length buf.now)
+            → self.new.capacity ≡ self.old.capacity }
+        ensures cost { OnOk result
+            (self.new.cost ≡ moving (length buf.now) (cost_at self.old self.new.capacity)) }
         ensures alloc { self.new.alloc ≡ self.old.alloc }
         ensures cheap { IsCheap self.old → IsCheap self.new }
         ensures err { OnErr result (self.new ≡ self.old) }
@@ -65,16 +72,20 @@ impl<A: Allocator, G: Growth> Write for ThinVec<u8, A, G> {
 
     /// Appends all of `buf`.
     ///
-    /// It is refused as `write` is.
+    /// It fails as `write` does.
     fn write_all(&mut self, buf: &[u8]) -> io::Result<()>
         ensures succeeds { HasRoomFor self.old (length buf.now) → IsOk result }
         ensures succeeds_empty { length buf.now ≡ 0 → IsOk result }
-        ensures overflow { capacity_for G.rule u8 self.old (length buf.now) ≡ None → IsErrAnd result (λ error. error_kind error ≡ ErrorKind.OutOfMemory) }
+        ensures overflow { capacity_for G.rule u8 self.old (length buf.now) ≡ None
+            → IsErrAnd result (λ error. error_kind error ≡ ErrorKind.OutOfMemory) }
         ensures cause { IfErr result (λ error. error_kind error ≡ ErrorKind.OutOfMemory) }
         ensures items { OnOk result (self.new.items ≡ self.old.items ++ buf.now) }
-        ensures capacity { OnOk result (capacity_for G.rule u8 self.old (length buf.now) ≡ Some self.new.capacity) }
-        ensures had_room { HasRoomFor self.old (length buf.now) → self.new.capacity ≡ self.old.capacity }
-        ensures cost { OnOk result (self.new.cost ≡ moving (length buf.now) (cost_at self.old self.new.capacity)) }
+        ensures capacity { OnOk result
+            (capacity_for G.rule u8 self.old (length buf.now) ≡ Some self.new.capacity) }
+        ensures had_room { HasRoomFor self.old (length buf.now)
+            → self.new.capacity ≡ self.old.capacity }
+        ensures cost { OnOk result
+            (self.new.cost ≡ moving (length buf.now) (cost_at self.old self.new.capacity)) }
         ensures alloc { self.new.alloc ≡ self.old.alloc }
         ensures cheap { IsCheap self.old → IsCheap self.new }
         ensures err { OnErr result (self.new ≡ self.old) }

@@ -1,4 +1,5 @@
-//! The calls that clone items. Each clones into spare room that it has made before, with no test an item.
+//! The calls that clone items. Each clones into spare room that it has made before, with no test an
+//! item.
 ghost use Rattle.std.specs.Prelude.{◌≡◌, ◌⊎◌, ◌+◌, ◌-◌, ◌<◌, ◌≤◌, [], ◌++◌, All, HoldsAt, IfErr, IfOk, IsErrOf, IsOk, None, OnErr, OnOk, Some, length, replicate, take};
 ghost use Rattle.std.specs.List.{AllZip, AppendsClones};
 ghost use Rattle.thin_block.specs.Cost.{moving};
@@ -15,16 +16,21 @@ impl<T: Copy, A: Allocator, G: Growth> ThinVec<T, A, G> {
 
     /// `extend_from_slice` of items that are copied: they come in as one run.
     ///
-    /// It is refused as `reserve` is, and then nothing changes.
+    /// It fails as `reserve` does, and then nothing changes.
     pub fn extend_from_copies(&mut self, items: &[T]) -> Result<(), ThinVecError>
         ensures succeeds { HasRoomFor self.old (length items.now) → IsOk result }
         ensures succeeds_empty { length items.now ≡ 0 → IsOk result }
-        ensures overflow { capacity_for G.rule T.row self.old (length items.now) ≡ None → IsErrOf result ThinVecError.CapacityOverflow }
-        ensures cause { IfErr result (IsCause (capacity_for G.rule T.row self.old (length items.now))) }
+        ensures overflow { capacity_for G.rule T.row self.old (length items.now) ≡ None
+            → IsErrOf result ThinVecError.CapacityOverflow }
+        ensures cause { IfErr result
+            (IsCause (capacity_for G.rule T.row self.old (length items.now))) }
         ensures items { OnOk result (self.new.items ≡ self.old.items ++ items.now) }
-        ensures capacity { OnOk result (capacity_for G.rule T.row self.old (length items.now) ≡ Some self.new.capacity) }
-        ensures had_room { HasRoomFor self.old (length items.now) → self.new.capacity ≡ self.old.capacity }
-        ensures cost { OnOk result (self.new.cost ≡ moving (length items.now) (cost_at self.old self.new.capacity)) }
+        ensures capacity { OnOk result
+            (capacity_for G.rule T.row self.old (length items.now) ≡ Some self.new.capacity) }
+        ensures had_room { HasRoomFor self.old (length items.now)
+            → self.new.capacity ≡ self.old.capacity }
+        ensures cost { OnOk result
+            (self.new.cost ≡ moving (length items.now) (cost_at self.old self.new.capacity)) }
         ensures alloc { self.new.alloc ≡ self.old.alloc }
         ensures cheap { IsCheap self.old → IsCheap self.new }
         ensures err { OnErr result (self.new ≡ self.old) }
@@ -41,14 +47,15 @@ impl<T: Copy, A: Allocator, G: Growth> ThinVec<T, A, G> {
 
     /// `clone` of items that are copied: they come over as one run.
     ///
-    /// It is refused only where memory is.
+    /// It fails only where memory is refused.
     pub fn clone_copies(&self, alloc: A) -> Result<ThinVec<T, A, G>, ThinVecError>
         ensures succeeds_empty { length self.now.items ≡ 0 → IsOk result }
         ensures cause { IfErr result (λ cause. cause ≡ ThinVecError.OutOfMemory) }
         ensures items { IfOk result (λ list. list.items ≡ self.now.items) }
         ensures capacity { IfOk result (λ list. list.capacity ≡ length self.now.items) }
         ensures alloc { IfOk result (λ list. list.alloc ≡ alloc) }
-        ensures cost { IfOk result (λ list. list.cost ≡ moving (length self.now.items) (cost_new (length self.now.items))) }
+        ensures cost { IfOk result (λ list. list.cost ≡ moving (length self.now.items)
+            (cost_new (length self.now.items))) }
         ensures cheap { IfOk result (λ list. IsCheap list) }
         ensures within { IfOk result (λ list. IsWithin T.row list) }
     {
@@ -80,28 +87,40 @@ impl<T: Clone, A: Allocator, G: Growth> ThinVec<T, A, G> {
     ghost use Rattle.thin_vec.specs.Cheap.{IsCheap};
     ghost use Rattle.thin_vec.specs.ThinVec.{HasRoomFor, IsCause, IsWithin, capacity_for, cost_at, cost_new};
 
-    /// Appends a clone of each of `items`, in order. Items that are `Copy` come in faster by `extend_from_copies`.
+    /// Appends a clone of each of `items`, in order. Items that are `Copy` come in faster by
+    /// `extend_from_copies`.
     ///
-    /// It is refused as `reserve` is, and then nothing changes. It is refused as `OutOfMemory` also where a clone is:
-    /// the clones made until then are dropped, the list has its old items, and the room that was made stays.
+    /// It fails as `reserve` does, and then nothing changes. It fails with `OutOfMemory` also where
+    /// a clone does: the clones made before are dropped, the list has its old items, and the room
+    /// that was made stays.
     pub fn extend_from_slice(&mut self, items: &[T]) -> Result<(), ThinVecError>
-        ensures succeeds { HasRoomFor self.old (length items.now) → All T.is_infallible items.now → IsOk result }
+        ensures succeeds { HasRoomFor self.old (length items.now) → All T.is_infallible items.now
+            → IsOk result }
         ensures succeeds_empty { length items.now ≡ 0 → IsOk result }
-        ensures overflow { capacity_for G.rule T.row self.old (length items.now) ≡ None → IsErrOf result ThinVecError.CapacityOverflow }
-        ensures cause { IfErr result (IsCause (capacity_for G.rule T.row self.old (length items.now))) }
+        ensures overflow { capacity_for G.rule T.row self.old (length items.now) ≡ None
+            → IsErrOf result ThinVecError.CapacityOverflow }
+        ensures cause { IfErr result
+            (IsCause (capacity_for G.rule T.row self.old (length items.now))) }
 
         // The capacity is the ruled one.
-        ensures items { OnOk result (AppendsClones T.is_clone self.old.items self.new.items items.now) }
-        ensures items_if_clones_equal { OnOk result (ClonesEqual T.is_clone → self.new.items ≡ self.old.items ++ items.now) }
-        ensures capacity { OnOk result (capacity_for G.rule T.row self.old (length items.now) ≡ Some self.new.capacity) }
-        ensures had_room { HasRoomFor self.old (length items.now) → self.new.capacity ≡ self.old.capacity }
-        ensures cost { OnOk result (self.new.cost ≡ moving (length items.now) (cost_at self.old self.new.capacity)) }
+        ensures items { OnOk result
+            (AppendsClones T.is_clone self.old.items self.new.items items.now) }
+        ensures items_if_clones_equal { OnOk result (ClonesEqual T.is_clone
+            → self.new.items ≡ self.old.items ++ items.now) }
+        ensures capacity { OnOk result
+            (capacity_for G.rule T.row self.old (length items.now) ≡ Some self.new.capacity) }
+        ensures had_room { HasRoomFor self.old (length items.now)
+            → self.new.capacity ≡ self.old.capacity }
+        ensures cost { OnOk result
+            (self.new.cost ≡ moving (length items.now) (cost_at self.old self.new.capacity)) }
         ensures alloc { self.new.alloc ≡ self.old.alloc }
         ensures cheap { IsCheap self.old → IsCheap self.new }
 
-        // Refused, nothing changed, or there was room and a clone was refused.
+        // Where it fails, nothing changed, or there was room and a clone failed.
         ensures err_items { OnErr result (self.new.items ≡ self.old.items) }
-        ensures refused { OnErr result ((self.new ≡ self.old) ⊎ IsCloneRefused G.rule T.row T.is_infallible items.now (length items.now) self.old self.new) }
+        ensures refused { OnErr result
+            ((self.new ≡ self.old) ⊎ IsCloneRefused G.rule T.row T.is_infallible items.now
+            (length items.now) self.old self.new) }
         ensures err { All T.is_infallible items.now → OnErr result (self.new ≡ self.old) }
         ensures never_less { self.old.capacity ≤ self.new.capacity }
         ensures within { IsWithin T.row self.old × IsWithin T.row self.new }
@@ -110,31 +129,43 @@ impl<T: Clone, A: Allocator, G: Growth> ThinVec<T, A, G> {
         self.extend_from_slice_reserved(items)
     }
 
-    /// Makes the length `len`: drops the items from there on, or appends clones of `value`, the last one `value` itself.
-    /// Where none is appended, `value` is dropped.
+    /// Makes the length `len`: drops the items from there on, or appends clones of `value`, the
+    /// last one `value` itself. Where none is appended, `value` is dropped.
     ///
-    /// It is refused only where the list is to be longer, as `reserve` is, and then nothing changes. It is refused as
-    /// `OutOfMemory` also where a clone is: the clones made until then are dropped, the list has its old items, and the
-    /// room that was made stays. Refused, `value` is dropped.
+    /// It fails only where the list is to be longer, as `reserve` does, and then nothing changes.
+    /// It fails with `OutOfMemory` also where a clone does: the clones made before are dropped, the
+    /// list has its old items, and the room that was made stays. Where it fails, `value` is
+    /// dropped.
     pub fn resize(&mut self, len: usize, value: T) -> Result<(), ThinVecError>
         ensures succeeds { len ≤ self.old.capacity → T.is_infallible value → IsOk result }
         ensures succeeds_shorter { len ≤ length self.old.items → IsOk result }
-        ensures succeeds_by_one { len ≡ length self.old.items + 1 → HasRoomFor self.old 1 → IsOk result }
-        ensures overflow { capacity_for G.rule T.row self.old (len - length self.old.items) ≡ None → IsErrOf result ThinVecError.CapacityOverflow }
-        ensures cause { IfErr result (IsCause (capacity_for G.rule T.row self.old (len - length self.old.items))) }
+        ensures succeeds_by_one { len ≡ length self.old.items + 1 → HasRoomFor self.old 1
+            → IsOk result }
+        ensures overflow { capacity_for G.rule T.row self.old (len - length self.old.items) ≡ None
+            → IsErrOf result ThinVecError.CapacityOverflow }
+        ensures cause { IfErr result
+            (IsCause (capacity_for G.rule T.row self.old (len - length self.old.items))) }
 
         // The capacity is the ruled one: the same where the list is not to be longer.
         ensures items { OnOk result (IsResized T.is_clone self.old.items len value self.new.items) }
-        ensures items_if_clones_equal { OnOk result (CloneEquals T.is_clone value → self.new.items ≡ take len self.old.items ++ replicate (len - length self.old.items) value) }
-        ensures capacity { OnOk result (capacity_for G.rule T.row self.old (len - length self.old.items) ≡ Some self.new.capacity) }
+        ensures items_if_clones_equal { OnOk result (CloneEquals T.is_clone value
+            → self.new.items ≡ take len self.old.items ++ replicate
+            (len - length self.old.items) value) }
+        ensures capacity { OnOk result
+            (capacity_for G.rule T.row self.old (len - length self.old.items)
+            ≡ Some self.new.capacity) }
         ensures had_room { len ≤ self.old.capacity → self.new.capacity ≡ self.old.capacity }
-        ensures cost { OnOk result (self.new.cost ≡ moving (len - length self.old.items) (cost_at self.old self.new.capacity)) }
+        ensures cost { OnOk result (self.new.cost ≡ moving (len - length self.old.items)
+            (cost_at self.old self.new.capacity)) }
         ensures alloc { self.new.alloc ≡ self.old.alloc }
         ensures cheap { IsCheap self.old → IsCheap self.new }
 
-        // Refused, nothing changed, or there was room and a clone was refused.
+        // Where it fails, nothing changed, or there was room and a clone failed.
         ensures err_items { OnErr result (self.new.items ≡ self.old.items) }
-        ensures refused { OnErr result ((self.new ≡ self.old) ⊎ IsCloneRefused G.rule T.row T.is_infallible (replicate (len - length self.old.items - 1) value) (len - length self.old.items) self.old self.new) }
+        ensures refused { OnErr result
+            ((self.new ≡ self.old) ⊎ IsCloneRefused G.rule T.row T.is_infallible
+            (replicate (len - length self.old.items - 1) value)
+            (len - length self.old.items) self.old self.new) }
         ensures err { T.is_infallible value → OnErr result (self.new ≡ self.old) }
         ensures never_less { self.old.capacity ≤ self.new.capacity }
         ensures within { IsWithin T.row self.old × IsWithin T.row self.new }
@@ -148,18 +179,22 @@ impl<T: Clone, A: Allocator, G: Growth> ThinVec<T, A, G> {
         self.resize_reserved(value, len - old)
     }
 
-    /// A list on `alloc` of a clone of each item, in order, under the same growth rule. Its capacity is the length: the
-    /// clone of an empty list owns no block. Items that are `Copy` come over faster by `clone_copies`.
+    /// A list on `alloc` of a clone of each item, in order, under the same growth rule. Its
+    /// capacity is the length: the clone of an empty list allocates nothing. Items that are `Copy`
+    /// come over faster by `clone_copies`.
     ///
-    /// It is refused where memory is, also that of an item's clone, and then the clones made until then are dropped.
+    /// It fails where memory is refused or the clone of an item fails, and then the clones made
+    /// before are dropped.
     pub fn clone(&self, alloc: A) -> Result<ThinVec<T, A, G>, ThinVecError>
         ensures succeeds_empty { length self.now.items ≡ 0 → IsOk result }
         ensures cause { IfErr result (λ cause. cause ≡ ThinVecError.OutOfMemory) }
         ensures items { IfOk result (λ list. AllZip T.is_clone self.now.items list.items) }
-        ensures items_if_clones_equal { IfOk result (λ list. ClonesEqual T.is_clone → list.items ≡ self.now.items) }
+        ensures items_if_clones_equal { IfOk result (λ list. ClonesEqual T.is_clone
+            → list.items ≡ self.now.items) }
         ensures capacity { IfOk result (λ list. list.capacity ≡ length self.now.items) }
         ensures alloc { IfOk result (λ list. list.alloc ≡ alloc) }
-        ensures cost { IfOk result (λ list. list.cost ≡ moving (length self.now.items) (cost_new (length self.now.items))) }
+        ensures cost { IfOk result (λ list. list.cost ≡ moving (length self.now.items)
+            (cost_new (length self.now.items))) }
         ensures cheap { IfOk result (λ list. IsCheap list) }
         ensures within { IfOk result (λ list. IsWithin T.row list) }
     {
@@ -168,17 +203,20 @@ impl<T: Clone, A: Allocator, G: Growth> ThinVec<T, A, G> {
         Ok(list)
     }
 
-    // Clones of `items` go into the spare room. Where one is refused, those made before it are dropped.
+    // Clones of `items` go into the spare room. Where one fails, those made before it are dropped.
     pub(crate) fn extend_from_slice_reserved(&mut self, items: &[T]) -> Result<(), ThinVecError>
         requires room { HasRoomFor self.old (length items.now) }
         ensures succeeds { All T.is_infallible items.now → IsOk result }
-        ensures items { OnOk result (AppendsClones T.is_clone self.old.items self.new.items items.now) }
-        ensures items_if_clones_equal { OnOk result (ClonesEqual T.is_clone → self.new.items ≡ self.old.items ++ items.now) }
+        ensures items { OnOk result
+            (AppendsClones T.is_clone self.old.items self.new.items items.now) }
+        ensures items_if_clones_equal { OnOk result (ClonesEqual T.is_clone
+            → self.new.items ≡ self.old.items ++ items.now) }
         ensures cost { OnOk result (self.new.cost ≡ moving (length items.now) self.old.cost) }
         ensures capacity { self.new.capacity ≡ self.old.capacity }
         ensures alloc { self.new.alloc ≡ self.old.alloc }
         ensures err_items { OnErr result (self.new.items ≡ self.old.items) }
-        ensures refused { OnErr result (StopsAtClone T.is_infallible items.now self.old.cost self.new.cost) }
+        ensures refused { OnErr result
+            (StopsAtClone T.is_infallible items.now self.old.cost self.new.cost) }
         ensures cause { IfErr result (λ cause. cause ≡ ThinVecError.OutOfMemory) }
         ensures within { IsWithin T.row self.old × IsWithin T.row self.new }
     {
@@ -190,20 +228,25 @@ impl<T: Clone, A: Allocator, G: Growth> ThinVec<T, A, G> {
         Ok(())
     }
 
-    // Clones of `value`, and then `value` itself, go into `count` places of the spare room. Where a clone is refused,
-    // those made before it are dropped, and `value` is.
+    // Clones of `value`, and then `value` itself, go into `count` places of the spare room. Where a
+    // clone fails, those made before it are dropped, and so is `value`.
     fn resize_reserved(&mut self, value: T, count: usize) -> Result<(), ThinVecError>
         requires some { 0 < count }
         requires room { HasRoomFor self.old count }
         ensures succeeds { T.is_infallible value → IsOk result }
         ensures succeeds_by_one { count ≡ 1 → IsOk result }
-        ensures items { OnOk result (IsResized T.is_clone self.old.items (length self.old.items + count) value self.new.items) }
-        ensures items_if_clones_equal { OnOk result (CloneEquals T.is_clone value → self.new.items ≡ self.old.items ++ replicate count value) }
+        ensures items { OnOk result
+            (IsResized T.is_clone self.old.items (length self.old.items + count) value
+            self.new.items) }
+        ensures items_if_clones_equal { OnOk result (CloneEquals T.is_clone value
+            → self.new.items ≡ self.old.items ++ replicate count value) }
         ensures cost { OnOk result (self.new.cost ≡ moving count self.old.cost) }
         ensures capacity { self.new.capacity ≡ self.old.capacity }
         ensures alloc { self.new.alloc ≡ self.old.alloc }
         ensures err_items { OnErr result (self.new.items ≡ self.old.items) }
-        ensures refused { OnErr result (StopsAtClone T.is_infallible (replicate (count - 1) value) self.old.cost self.new.cost) }
+        ensures refused { OnErr result
+            (StopsAtClone T.is_infallible (replicate (count - 1) value) self.old.cost
+            self.new.cost) }
         ensures cause { IfErr result (λ cause. cause ≡ ThinVecError.OutOfMemory) }
         ensures within { IsWithin T.row self.old × IsWithin T.row self.new }
     {
@@ -216,15 +259,18 @@ impl<T: Clone, A: Allocator, G: Growth> ThinVec<T, A, G> {
         Ok(())
     }
 
-    // Clones of `items` go into the spare room, as many as it answers: it ends before a clone that is refused.
+    // Clones of `items` go into the spare room, as many as it returns: it ends before a clone that
+    // fails.
     fn push_clones_reserved(&mut self, items: &[T]) -> usize
         requires room { HasRoomFor self.old (length items.now) }
         ensures in_bounds { result ≤ length items.now }
-        ensures items { AppendsClones T.is_clone self.old.items self.new.items (take result items.now) }
+        ensures items { AppendsClones T.is_clone self.old.items self.new.items
+            (take result items.now) }
         ensures capacity { self.new.capacity ≡ self.old.capacity }
         ensures alloc { self.new.alloc ≡ self.old.alloc }
         ensures cost { self.new.cost ≡ moving result self.old.cost }
-        ensures refused { result < length items.now → HoldsAt (λ x. ¬ (T.is_infallible x)) items.now result }
+        ensures refused { result < length items.now
+            → HoldsAt (λ x. ¬ (T.is_infallible x)) items.now result }
         ensures within { IsWithin T.row self.old × IsWithin T.row self.new }
     {
         let len = self.block.len();

@@ -14,10 +14,11 @@ use std::fmt;
 use std::iter::FusedIterator;
 use thin_block::{Doubling, Growth};
 
-/// The items of a range of a list, handed out from either end. Dropped at any moment, it drops those that remain, and the list
-/// has the items before and behind the range.
+/// The items of a range of a list, yielded from either end. When dropped, it drops those that
+/// remain, and the list keeps the items before and after the range.
 ///
-/// While it lives it owns the list's block, and the list is empty and without one: one that is forgotten leaves such a list.
+/// While it lives it owns the list's block, and the list is empty and without one: a `Drain` that
+/// is forgotten leaves such a list.
 pub struct Drain<
     'a,
     T,
@@ -32,9 +33,10 @@ pub struct Drain<
 
 impl<'a, T: Drop, A: Allocator, G: Growth, H: Holds<Inner = Hole<T, A>>> Drop
     for Drain<'a, T, A, G, H> {
-    // Each item that remains is dropped, and those behind the range move to its start, as one run.
+    // Each item that remains is dropped, and those after the range move to its start, as one run.
     fn drop(self)
-        ensures items { self.exit.0.now.items ≡ (H.inner self.entry.held).front ++ (H.inner self.entry.held).tail }
+        ensures items { self.exit.0.now.items ≡ (H.inner self.entry.held).front
+            ++ (H.inner self.entry.held).tail }
         ensures capacity { self.exit.0.now.capacity ≡ (H.inner self.entry.held).capacity }
         ensures alloc { self.exit.0.now.alloc ≡ self.entry.list.now.alloc }
         ensures cost { self.exit.0.now.cost ≡ cost_drained (H.inner self.entry.held) }
@@ -50,10 +52,11 @@ impl<'a, T: Drop, A: Allocator, G: Growth, H: Holds<Inner = Hole<T, A>>> Drop
 impl<T: Drop, A: Allocator, G: Growth> ThinVec<T, A, G> {
     ghost use Rattle.thin_vec.specs.Drain.{DrainKeepsAlong, DrainsInOrder, DrainsInReverse, drain_alloc, drain_capacity, drain_cost, drain_kept, drain_lender, drain_rest};
 
-    /// Takes the items from `start` up to `end` out of the list: the answer hands them out from either end.
+    /// Takes the items from `start` up to `end` out of the list, and yields them from either end.
     ///
-    /// Once the answer is dropped, whatever was handed out, the list has the items before and behind the range, its capacity and
-    /// its allocator. Neither takes memory. `bounds` is the test for the range.
+    /// Once the `Drain` is dropped, whatever it yielded, the list keeps the items before and after
+    /// the range, its capacity and its allocator. Neither allocates. `bounds` is the test for the
+    /// range.
     pub fn drain(&mut self, start: usize, end: usize) -> Drain<'_, T, A, G>
         requires start_le_end { start ≤ end }
         requires in_bounds { end ≤ length self.old.items }
@@ -61,12 +64,13 @@ impl<T: Drop, A: Allocator, G: Growth> ThinVec<T, A, G> {
         ensures runs { DrainsInOrder result }
         ensures runs_back { DrainsInReverse result }
 
-        // Once dropped, it leaves the list this, also after calls of `next`.
+        // When dropped, it leaves the list this, also after calls of `next`.
         ensures same_reference { drain_lender result ≡ self.entry.ghost_name }
         ensures kept { drain_kept result ≡ remove_range self.old.items start end }
         ensures capacity { drain_capacity result ≡ self.old.capacity }
         ensures alloc { drain_alloc result ≡ self.old.alloc }
-        ensures cost { drain_cost result ≡ (if start == end then self.old.cost else moving (length self.old.items - end) self.old.cost) }
+        ensures cost { drain_cost result ≡ (if start == end then self.old.cost else moving
+            (length self.old.items - end) self.old.cost) }
         ensures stays { DrainKeepsAlong result }
     {
         let hole = self.open(start, end);
@@ -89,13 +93,14 @@ impl<'a, T, A: Allocator, G: Growth> Drain<'a, T, A, G> {
 
     /// How many items remain, as the least and the greatest number that may come.
     pub fn size_hint(&self) -> (usize, Option<usize>)
-        ensures value { result ≡ (length (drain_rest self.now), Some (length (drain_rest self.now))) }
+        ensures value { result
+            ≡ (length (drain_rest self.now), Some (length (drain_rest self.now))) }
     {
         let len = self.len();
         (len, Some(len))
     }
 
-    /// Hands out the first item of those that remain, or answers `None` where none does.
+    /// Returns the first item of those that remain, or `None` where none does.
     pub fn next(&mut self) -> Option<T>
         ensures steps { DrainSteps self.old result self.new }
     {
@@ -105,7 +110,7 @@ impl<'a, T, A: Allocator, G: Growth> Drain<'a, T, A, G> {
         Some(self.held.value.take_first())
     }
 
-    /// Hands out the last item of those that remain, or answers `None` where none does.
+    /// Returns the last item of those that remain, or `None` where none does.
     pub fn next_back(&mut self) -> Option<T>
         ensures steps { DrainStepsBack self.old result self.new }
     {
@@ -139,7 +144,8 @@ impl<'a, T: Drop, A: Allocator, G: Growth> Iterator for Drain<'a, T, A, G> {
     fn size_hint(&self) -> (usize, Option<usize>)
         ensures lower { IsWithinCount result.0 (item_count drain_rest self.now) }
         ensures upper { IfSome result.1 (UpTo (item_count drain_rest self.now)) }
-        ensures value { result ≡ (length (drain_rest self.now), Some (length (drain_rest self.now))) }
+        ensures value { result
+            ≡ (length (drain_rest self.now), Some (length (drain_rest self.now))) }
     {
         Drain::size_hint(self)
     }

@@ -20,35 +20,53 @@ use std::iter::{Extend, FromIterator, IntoIterator, Iterator};
 use thin_block::{Growth, ThinVecError};
 
 impl<T, A: Allocator, G: Growth> ThinVec<T, A, G> {
-    /// Appends the items that `iter` gives before its first `None`, after which it is not asked again.
+    /// Appends the items that `iter` yields before its first `None`, after which it is not asked
+    /// again.
     ///
-    /// Its hint is asked once, and room is made for its lower bound. Then items are placed while there is room, and each
-    /// further one is pushed. It is refused as `reserve` and `push` are: what was placed stays, the item for which there was
-    /// no room is handed back, and the rest of the iterator with it.
+    /// It asks for the hint once, and makes room for its lower bound. Then it places items while
+    /// there is room, and pushes each further one. It fails as `reserve` and `push` do: what was
+    /// placed stays, and the item for which there was no room is returned with the rest of the
+    /// iterator.
     pub fn extend<I: Iterator<Item = T>>(&mut self, iter: I) -> Result<(), ExtendRefused<T, I>>
         requires can_next { I.can_next iter }
         requires finite { IsFinite (I.remaining iter) }
         ensures succeeds { HasRoomFor self.old (size (I.remaining iter)) → IsOk result }
         ensures succeeds_empty { size (I.remaining iter) ≡ 0 → IsOk result }
-        ensures overflow { IfErr result (λ refused. IsSome refused.in_hand → capacity_for G.rule T.row self.new 1 ≡ None → refused.cause ≡ ThinVecError.CapacityOverflow) }
-        ensures cause { IfErr result (λ refused. refused.cause ≡ ThinVecError.CapacityOverflow → Overflows G.rule T.row self.new refused.in_hand (I.remaining refused.rest)) }
-        ensures items { OnOk result ((xs : List T) × Drains I.next_gives iter xs × (self.new.items ≡ self.old.items ++ xs)) }
-        ensures runs { OnOk result (WholeRun I.next_gives iter (λ p. self.new.items ≡ self.old.items ++ p.items)) }
+        ensures overflow { IfErr result (λ refused. IsSome refused.in_hand
+            → capacity_for G.rule T.row self.new 1 ≡ None
+            → refused.cause ≡ ThinVecError.CapacityOverflow) }
+        ensures cause { IfErr result (λ refused. refused.cause ≡ ThinVecError.CapacityOverflow
+            → Overflows G.rule T.row self.new refused.in_hand (I.remaining refused.rest)) }
+        ensures items { OnOk result ((xs : List T) × Drains I.next_gives iter xs
+            × (self.new.items ≡ self.old.items ++ xs)) }
+        ensures runs { OnOk result
+            (WholeRun I.next_gives iter (λ p. self.new.items ≡ self.old.items ++ p.items)) }
 
-        // Accepted or refused, each item that came in has moved once.
+        // Whether it fails or not, each item that came in has moved once.
         ensures capacity { IsLoose G.rule T.row self.old.capacity self.new.capacity }
-        ensures named { IsExtended G.rule T.row self.old self.new.capacity (length self.new.items) (I.remaining iter) }
-        ensures had_room { HasRoomFor self.old (size (I.remaining iter)) → self.new.capacity ≡ self.old.capacity }
+        ensures named { IsExtended G.rule T.row self.old self.new.capacity (length self.new.items)
+            (I.remaining iter) }
+        ensures had_room { HasRoomFor self.old (size (I.remaining iter))
+            → self.new.capacity ≡ self.old.capacity }
         ensures cost { IsExtendCost self.old self.new }
         ensures alloc { self.new.alloc ≡ self.old.alloc }
         ensures cheap { IsCheap self.old → IsCheap self.new }
 
-        // Refused, no item is lost. One is in hand only where the list is full, and else nothing happened.
-        ensures placed { IfErr result (λ refused. (xs : List T) × (self.new.items ≡ self.old.items ++ xs) × GaveUp I.next_gives iter xs refused.in_hand refused.rest) }
-        ensures runs_err { IfErr result (λ refused. SomeRun I.next_gives iter (λ p. (xs : List T) × (self.new.items ≡ self.old.items ++ xs) × (p.items ≡ xs ++ option_to_list refused.in_hand))) }
-        ensures rest { IfErr result (λ refused. I.can_next refused.rest × IsFinite (I.remaining refused.rest)) }
-        ensures full { IfErr result (λ refused. IsSome refused.in_hand → length self.new.items ≡ self.new.capacity) }
-        ensures err { IfErr result (λ refused. refused.in_hand ≡ None → (self.new ≡ self.old) × (refused.rest ≡ iter)) }
+        // Where it fails, no item is lost. One is in hand only where the list is full; otherwise
+        // nothing happened.
+        ensures placed { IfErr result (λ refused. (xs : List T)
+            × (self.new.items ≡ self.old.items ++ xs)
+            × GaveUp I.next_gives iter xs refused.in_hand refused.rest) }
+        ensures runs_err { IfErr result
+            (λ refused. SomeRun I.next_gives iter
+            (λ p. (xs : List T) × (self.new.items ≡ self.old.items ++ xs)
+            × (p.items ≡ xs ++ option_to_list refused.in_hand))) }
+        ensures rest { IfErr result (λ refused. I.can_next refused.rest
+            × IsFinite (I.remaining refused.rest)) }
+        ensures full { IfErr result (λ refused. IsSome refused.in_hand
+            → length self.new.items ≡ self.new.capacity) }
+        ensures err { IfErr result (λ refused. refused.in_hand ≡ None → (self.new ≡ self.old)
+            × (refused.rest ≡ iter)) }
         ensures never_less { self.old.capacity ≤ self.new.capacity }
         ensures within { IsWithin T.row self.old × IsWithin T.row self.new }
     {
@@ -71,17 +89,25 @@ impl<T, A: Allocator, G: Growth> ThinVec<T, A, G> {
         requires finite { IsFinite (I.remaining iter) }
         requires within { IsWithin T.row self.old }
         ensures succeeds { HasRoomFor self.old (size (I.remaining iter)) → IsOk result }
-        ensures overflow { IfErr result (λ refused. capacity_for G.rule T.row self.new 1 ≡ None → refused.cause ≡ ThinVecError.CapacityOverflow) }
-        ensures cause { IfErr result (λ refused. IsCause (capacity_for G.rule T.row self.new 1) refused.cause) }
-        ensures items { OnOk result ((xs : List T) × Drains I.next_gives iter xs × (self.new.items ≡ self.old.items ++ xs)) }
+        ensures overflow { IfErr result (λ refused. capacity_for G.rule T.row self.new 1 ≡ None
+            → refused.cause ≡ ThinVecError.CapacityOverflow) }
+        ensures cause { IfErr result
+            (λ refused. IsCause (capacity_for G.rule T.row self.new 1) refused.cause) }
+        ensures items { OnOk result ((xs : List T) × Drains I.next_gives iter xs
+            × (self.new.items ≡ self.old.items ++ xs)) }
         ensures capacity { IsLoose G.rule T.row self.old.capacity self.new.capacity }
-        ensures had_room { HasRoomFor self.old (size (I.remaining iter)) → self.new.capacity ≡ self.old.capacity }
+        ensures had_room { HasRoomFor self.old (size (I.remaining iter))
+            → self.new.capacity ≡ self.old.capacity }
         ensures cost { IsExtendCost self.old self.new }
         ensures alloc { self.new.alloc ≡ self.old.alloc }
         ensures cheap { IsCheap self.old → IsCheap self.new }
-        ensures placed { IfErr result (λ refused. (xs : List T) × (self.new.items ≡ self.old.items ++ xs) × GaveUp I.next_gives iter xs refused.in_hand refused.rest) }
-        ensures rest { IfErr result (λ refused. I.can_next refused.rest × IsFinite (I.remaining refused.rest)) }
-        ensures named { IsNamed G.rule T.row self.old.capacity self.new.capacity (length self.new.items) }
+        ensures placed { IfErr result (λ refused. (xs : List T)
+            × (self.new.items ≡ self.old.items ++ xs)
+            × GaveUp I.next_gives iter xs refused.in_hand refused.rest) }
+        ensures rest { IfErr result (λ refused. I.can_next refused.rest
+            × IsFinite (I.remaining refused.rest)) }
+        ensures named { IsNamed G.rule T.row self.old.capacity self.new.capacity
+            (length self.new.items) }
         ensures in_hand { IfErr result (λ refused. IsSome refused.in_hand) }
         ensures full { OnErr result (length self.new.items ≡ self.new.capacity) }
         ensures never_less { self.old.capacity ≤ self.new.capacity }
@@ -108,18 +134,23 @@ impl<T, A: Allocator, G: Growth> ThinVec<T, A, G> {
         }
     }
 
-    // Fills the spare room, and draws one item more. Hands back the iterator, and the item that found no room.
+    // Fills the spare room, and draws one item more. Returns the iterator, and the item that found
+    // no room.
     fn extend_reserved<I: Iterator<Item = T>>(&mut self, iter: I) -> (I, Option<T>)
         requires can_next { I.can_next iter }
         requires finite { IsFinite (I.remaining iter) }
-        ensures items { (xs : List T) × (self.new.items ≡ self.old.items ++ xs) × YieldsThen I.next_gives iter xs result.1 result.0 }
+        ensures items { (xs : List T) × (self.new.items ≡ self.old.items ++ xs)
+            × YieldsThen I.next_gives iter xs result.1 result.0 }
         ensures capacity { self.new.capacity ≡ self.old.capacity }
         ensures room { length self.new.items ≤ self.new.capacity }
         ensures alloc { self.new.alloc ≡ self.old.alloc }
-        ensures cost { self.new.cost ≡ moving (length self.new.items - length self.old.items) self.old.cost }
+        ensures cost { self.new.cost ≡ moving (length self.new.items - length self.old.items)
+            self.old.cost }
         ensures cheap { IsCheap self.old → IsCheap self.new }
         ensures rest { OnSome result.1 (I.can_next result.0 × IsFinite (I.remaining result.0)) }
-        ensures nearer { OnSome result.1 (length self.new.items + size (I.remaining result.0) < length self.old.items + size (I.remaining iter)) }
+        ensures nearer { OnSome result.1
+            (length self.new.items + size (I.remaining result.0) < length self.old.items + size
+            (I.remaining iter)) }
         ensures full { OnSome result.1 (length self.new.items ≡ self.new.capacity) }
         ensures within { IsWithin T.row self.old × IsWithin T.row self.new }
     {
@@ -131,19 +162,22 @@ impl<T, A: Allocator, G: Growth> ThinVec<T, A, G> {
         (rest, over)
     }
 
-    // Fills the spare room, and stores the length once. Hands back the iterator, and whether it ended before the list was
-    // full.
+    // Fills the spare room, and stores the length once. Returns the iterator, and whether it ended
+    // before the list was full.
     pub(crate) fn fill_spare<I: Iterator<Item = T>>(&mut self, iter: I) -> (I, bool)
         requires can_next { I.can_next iter }
         requires finite { IsFinite (I.remaining iter) }
-        ensures items { (xs : List T) × (self.new.items ≡ self.old.items ++ xs) × Gives I.next_gives iter xs result.1 result.0 }
+        ensures items { (xs : List T) × (self.new.items ≡ self.old.items ++ xs)
+            × Gives I.next_gives iter xs result.1 result.0 }
         ensures capacity { self.new.capacity ≡ self.old.capacity }
         ensures room { length self.new.items ≤ self.new.capacity }
         ensures alloc { self.new.alloc ≡ self.old.alloc }
-        ensures cost { self.new.cost ≡ moving (length self.new.items - length self.old.items) self.old.cost }
+        ensures cost { self.new.cost ≡ moving (length self.new.items - length self.old.items)
+            self.old.cost }
         ensures cheap { IsCheap self.old → IsCheap self.new }
         ensures rest { result.1 ≡ false → I.can_next result.0 × IsFinite (I.remaining result.0) }
-        ensures nearer { result.1 ≡ false → length self.new.items + size (I.remaining result.0) ≤ length self.old.items + size (I.remaining iter) }
+        ensures nearer { result.1 ≡ false → length self.new.items + size (I.remaining result.0)
+            ≤ length self.old.items + size (I.remaining iter) }
         ensures full { result.1 ≡ false → length self.new.items ≡ self.new.capacity }
         ensures within { IsWithin T.row self.old × IsWithin T.row self.new }
     {
@@ -156,11 +190,12 @@ impl<T, A: Allocator, G: Growth> ThinVec<T, A, G> {
 }
 
 impl<T, A: Allocator> ThinVec<T, A> {
-    /// A list of the items that `iter` gives before its first `None`, after which it is not asked again.
+    /// A list of the items that `iter` yields before its first `None`, after which it is not asked
+    /// again.
     ///
-    /// Its hint is asked once, and the list begins with the capacity that its lower bound says. It is refused as
-    /// `with_capacity` and `push` are, and hands back the list of what was placed, the item for which there was no room, and
-    /// the rest of the iterator.
+    /// It asks for the hint once, and the list begins with its lower bound as capacity. It fails as
+    /// `with_capacity` and `push` do, and returns the list of what was placed, the item for which
+    /// there was no room, and the rest of the iterator.
     pub fn from_iter<I: Iterator<Item = T>>(
         alloc: A,
         iter: I,
@@ -168,24 +203,39 @@ impl<T, A: Allocator> ThinVec<T, A> {
         requires can_next { I.can_next iter }
         requires finite { IsFinite (I.remaining iter) }
         ensures succeeds { size (I.remaining iter) ≡ 0 → IsOk result }
-        ensures overflow { IfErr result (λ refused. IsSome refused.in_hand → capacity_for doubling T.row refused.list 1 ≡ None → refused.cause ≡ ThinVecError.CapacityOverflow) }
-        ensures cause { IfErr result (λ refused. refused.cause ≡ ThinVecError.CapacityOverflow → OverflowsNew doubling T.row refused.list refused.in_hand (I.remaining refused.rest)) }
+        ensures overflow { IfErr result (λ refused. IsSome refused.in_hand
+            → capacity_for doubling T.row refused.list 1 ≡ None
+            → refused.cause ≡ ThinVecError.CapacityOverflow) }
+        ensures cause { IfErr result (λ refused. refused.cause ≡ ThinVecError.CapacityOverflow
+            → OverflowsNew doubling T.row refused.list refused.in_hand (I.remaining refused.rest)) }
         ensures items { IfOk result (λ list. Drains I.next_gives iter list.items) }
-        ensures runs { IfOk result (λ list. WholeRun I.next_gives iter (λ p. list.items ≡ p.items)) }
+        ensures runs { IfOk result
+            (λ list. WholeRun I.next_gives iter (λ p. list.items ≡ p.items)) }
         ensures capacity { size (I.remaining iter) ≡ 0 → IfOk result (λ list. list.capacity ≡ 0) }
-        ensures named { IfOk result (λ list. IsCollected doubling T.row list.capacity (length list.items) (I.remaining iter)) }
+        ensures named { IfOk result (λ list. IsCollected doubling T.row list.capacity
+            (length list.items) (I.remaining iter)) }
         ensures moves { IfOk result (λ list. list.cost.moves ≡ length list.items) }
         ensures alloc { IfOk result (λ list. list.alloc ≡ alloc) }
         ensures cheap { IfOk result (λ list. IsCheap list) }
 
-        // Refused, no item is lost. One is in hand only where the list is full, and else nothing happened.
-        ensures placed { IfErr result (λ refused. GaveUp I.next_gives iter refused.list.items refused.in_hand refused.rest) }
-        ensures runs_err { IfErr result (λ refused. SomeRun I.next_gives iter (λ p. p.items ≡ refused.list.items ++ option_to_list refused.in_hand)) }
-        ensures rest { IfErr result (λ refused. I.can_next refused.rest × IsFinite (I.remaining refused.rest)) }
-        ensures full { IfErr result (λ refused. IsSome refused.in_hand → length refused.list.items ≡ refused.list.capacity) }
-        ensures err { IfErr result (λ refused. refused.in_hand ≡ None → IsNew refused.list alloc × (refused.rest ≡ iter)) }
-        ensures err_named { IfErr result (λ refused. IsCollected doubling T.row refused.list.capacity (length refused.list.items) (I.remaining iter)) }
-        ensures err_moves { IfErr result (λ refused. refused.list.cost.moves ≡ length refused.list.items) }
+        // Where it fails, no item is lost. One is in hand only where the list is full; otherwise
+        // nothing happened.
+        ensures placed { IfErr result
+            (λ refused. GaveUp I.next_gives iter refused.list.items refused.in_hand refused.rest) }
+        ensures runs_err { IfErr result
+            (λ refused. SomeRun I.next_gives iter
+            (λ p. p.items ≡ refused.list.items ++ option_to_list refused.in_hand)) }
+        ensures rest { IfErr result (λ refused. I.can_next refused.rest
+            × IsFinite (I.remaining refused.rest)) }
+        ensures full { IfErr result (λ refused. IsSome refused.in_hand
+            → length refused.list.items ≡ refused.list.capacity) }
+        ensures err { IfErr result (λ refused. refused.in_hand ≡ None → IsNew refused.list alloc
+            × (refused.rest ≡ iter)) }
+        ensures err_named { IfErr result
+            (λ refused. IsCollected doubling T.row refused.list.capacity (length refused.list.items)
+            (I.remaining iter)) }
+        ensures err_moves { IfErr result
+            (λ refused. refused.list.cost.moves ≡ length refused.list.items) }
         ensures err_alloc { IfErr result (λ refused. refused.list.alloc ≡ alloc) }
         ensures err_cheap { IfErr result (λ refused. IsCheap refused.list) }
         ensures within { IfOk result (λ list. IsWithin T.row list) }
@@ -225,7 +275,7 @@ impl<T, A: Allocator> ThinVec<T, A> {
 impl<T: Drop, A: Allocator, G: Growth> Extend<T> for ThinVec<T, A, G> {
     ghost extend_gives = { λ list xs extended. extended.items ≡ list.items ++ xs };
 
-    // What was not placed is dropped where it is refused.
+    // Where it fails, what was not placed is dropped.
     fn extend<U: IntoIterator<Item = T>>(&mut self, iter: U) -> Result<(), AllocError> {
         match ThinVec::extend(self, iter.into_iter()) {
             Ok(()) => Ok(()),
@@ -239,7 +289,7 @@ impl<T: Drop, A: Allocator> FromIterator<T> for ThinVec<T, A> {
 
     ghost from_iter_gives = { λ xs list. list.items ≡ xs };
 
-    // What was drawn is dropped where it is refused.
+    // Where it fails, what was drawn is dropped.
     fn from_iter<U: IntoIterator<Item = T>>(
         alloc: A,
         iter: U,

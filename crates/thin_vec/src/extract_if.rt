@@ -1,7 +1,9 @@
-//! `extract_if`: the items of a range at which a closure answers true go out of a list, one by one.
+//! `extract_if`: the items of a range for which a closure returns true go out of a list, one by
+//! one.
 //!
-//! Up to the first item that goes nothing moves. From then on the list has a hole, and the items that stay wait where they are
-//! until the next one goes or the range ends: then they go to the front of the hole as one run.
+//! Up to the first item that goes nothing moves. From then on the list has a hole, and the items
+//! that stay wait where they are until the next one goes or the range ends: then they go to the
+//! start of the hole as one run.
 ghost use Rattle.std.specs.Prelude.{◌≡◌, ◌≤◌, ◌==◌, IfSome, Some, drop, length, not, slice_range, take};
 ghost use Rattle.std.specs.Fn.{CalledAtMut};
 ghost use Rattle.std.specs.Iterator.{UpTo, at_most};
@@ -15,10 +17,11 @@ use crate::sifting::Asks;
 use std::alloc::{Allocator, Global};
 use thin_block::{Doubling, Growth};
 
-/// The items of a range of a list at which a closure answers true, handed out in order, as the closure left them. Dropped at any
-/// moment, it asks about no item more, and the list has all items but those that were handed out.
+/// The items of a range of a list for which a closure returns true, yielded in order, as the
+/// closure left them. When dropped, it stops asking; every item not yet yielded stays.
 ///
-/// While it lives it owns the list's block, and the list is empty and without one: one that is forgotten leaves such a list.
+/// While it lives it owns the list's block, and the list is empty and without one: an `ExtractIf`
+/// that is forgotten leaves such a list.
 pub struct ExtractIf<
     'a,
     T,
@@ -32,14 +35,15 @@ pub struct ExtractIf<
     ghost from: { IsOf (H.inner held).hole.alloc list.now.alloc },
 }
 
-/// What an `ExtractIf` owns: the open block, of which the middle run is still to be asked about, and the closure.
+/// What an `ExtractIf` owns: the open block, of which the middle run is still to be asked about,
+/// and the closure.
 pub struct Extracting<T, F, A: Allocator> {
     hole: Hole<T, A>,
     picks: Picks<F>,
     ghost adjacent: { hole.behind ≡ 0 },
 }
 
-/// A closure that answers true at an item that goes.
+/// A closure that returns true for an item that goes.
 pub struct Picks<F> {
     pick: F,
 }
@@ -59,7 +63,7 @@ impl<T, F: FnMut(&mut T) -> bool> Asks<T> for Picks<F> {
 
 impl<'a, T: Drop, F: Drop, A: Allocator, G: Growth, H: Holds<Inner = Extracting<T, F, A>>> Drop
     for ExtractIf<'a, T, F, A, G, H> {
-    // What was not asked about and what stands behind the range close the hole, as one run.
+    // What was not asked about and what comes after the range close the hole, as one run.
     fn drop(self)
         ensures items { self.exit.0.now.items ≡ items_of (H.inner self.entry.held).hole }
         ensures capacity { self.exit.0.now.capacity ≡ (H.inner self.entry.held).hole.capacity }
@@ -78,7 +82,8 @@ impl<'a, T: Drop, F: Drop, A: Allocator, G: Growth, H: Holds<Inner = Extracting<
 impl<T, F: FnMut(&mut T) -> bool, A: Allocator> Extracting<T, F, A> {
     ghost use Rattle.thin_vec.specs.Extract.{Extracts};
 
-    // Asks about items up to the first that goes, and hands it out. Those before it move to the front, where there is a hole.
+    // Asks about items up to the first that goes, and returns it. Where there is a hole, those
+    // before it move to the front.
     fn next_picked(&mut self) -> Option<T>
         requires callable { F.IsAlwaysCallable self.old.picks.pick }
         ensures extracts { Extracts (CalledAtMut F.FnMut) self.old result self.new }
@@ -95,11 +100,12 @@ impl<T, F: FnMut(&mut T) -> bool, A: Allocator> Extracting<T, F, A> {
 impl<T: Drop, A: Allocator, G: Growth> ThinVec<T, A, G> {
     ghost use Rattle.thin_vec.specs.ExtractIf.{extract_alloc, extract_callee, extract_capacity, extract_cost, extract_front, extract_gone, extract_lender, extract_rest, extract_tail};
 
-    /// Takes those items from `start` up to `end` out of the list at which `pick` answers true: the answer hands them out, in
-    /// order, as `pick` left them. It is called at each item of the range once, in order, as far as the answer is walked.
+    /// Takes those items from `start` up to `end` out of the list for which `pick` returns true,
+    /// and yields them, in order, as `pick` left them. `pick` is called for each item of the range
+    /// once, in order, as far as the iterator is walked.
     ///
-    /// Once the answer is dropped, the list has all items but those that were handed out, its capacity and its allocator. Neither
-    /// takes memory. `bounds` is the test for the range.
+    /// Once it is dropped, the list has all items but those that were yielded, its capacity and its
+    /// allocator. Neither allocates. `bounds` is the test for the range.
     pub fn extract_if<F: FnMut(&mut T) -> bool>(
         &mut self,
         start: usize,
@@ -143,8 +149,8 @@ impl<'a, T, F, A: Allocator, G: Growth> ExtractIf<'a, T, F, A, G> {
 impl<'a, T, F: FnMut(&mut T) -> bool, A: Allocator, G: Growth> ExtractIf<'a, T, F, A, G> {
     ghost use Rattle.thin_vec.specs.ExtractIf.{ExtractSteps, extract_callee};
 
-    /// Asks about items up to the first at which the closure answers true, and hands that one out, or answers `None` where the
-    /// range has no such item any more.
+    /// Asks about items up to the first for which the closure returns true, and returns that one,
+    /// or `None` where the range has no such item any more.
     pub fn next(&mut self) -> Option<T>
         requires callable { F.IsAlwaysCallable (extract_callee self.old) }
         ensures steps { ExtractSteps (CalledAtMut F.FnMut) self.old result self.new }

@@ -1,7 +1,8 @@
 //! Items go by what a closure says of them: `retain` and `dedup`, in their forms.
 //!
-//! Up to the first item that goes nothing moves. From then on the list has a hole, and items that stay side by side wait where
-//! they are until a later one goes or the walk ends: then they go to the front of the hole as one run.
+//! Up to the first item that goes nothing moves. From then on the list has a hole, and adjacent
+//! items that stay wait where they are until a later one goes or the walk ends: then they go to the
+//! start of the hole as one run.
 ghost use Rattle.std.specs.Prelude.{◌≡◌, ◌+◌, ◌<◌};
 ghost use Rattle.std.specs.Fn.{CalledAt, CalledAtMut, CalledAtPairMut, ComparesKeys};
 ghost use Rattle.std.specs.List.{dedup};
@@ -17,9 +18,10 @@ impl<T: Drop, A: Allocator, G: Growth> ThinVec<T, A, G> {
     ghost use Rattle.thin_vec.specs.Filters.{IsDedupedBy, IsDedupedTo, IsRetained, IsRetainedTo, Looks};
     ghost use Rattle.thin_vec.specs.ThinVec.{IsWithin};
 
-    /// Keeps the items at which `keep` answers true, and drops the others. It is called at each item once, in order.
+    /// Keeps the items for which `keep` returns true, and drops the others. It is called for each
+    /// item once, in order.
     ///
-    /// Each item that stays behind the first that goes moves once, and no other. The capacity stays.
+    /// Each item that stays after the first that goes moves once, and no other. The capacity stays.
     pub fn retain<F: FnMut(&T) -> bool>(&mut self, keep: F)
         requires callable { F.IsAlwaysCallable keep }
         ensures retained { IsRetained (Looks (CalledAt F.FnMut)) keep self.old self.new }
@@ -34,7 +36,8 @@ impl<T: Drop, A: Allocator, G: Growth> ThinVec<T, A, G> {
         let Looking { keep: _ } = judge;
     }
 
-    /// `retain` with a closure that may write to each item. What it writes stays on those that stay.
+    /// `retain` with a closure that may write to each item. What it writes stays on those that
+    /// stay.
     pub fn retain_mut<F: FnMut(&mut T) -> bool>(&mut self, keep: F)
         requires callable { F.IsAlwaysCallable keep }
         ensures retained { IsRetained (CalledAtMut F.FnMut) keep self.old self.new }
@@ -63,10 +66,12 @@ impl<T: Drop, A: Allocator, G: Growth> ThinVec<T, A, G> {
         self.close(hole);
     }
 
-    /// Of items that stand side by side and of which `same` answers true, keeps the first and drops the others.
+    /// Keeps the first of each run of adjacent items for which `same` returns true, and drops the
+    /// others.
     ///
-    /// `same` is called at each item but the first, with the item and the last one kept before it, in this order, and may write
-    /// to both. It is not called for fewer than two items. What moves is as for `retain`.
+    /// `same` is called for each item but the first, with the item and the last one kept before it,
+    /// in this order, and may write to both. It is not called for fewer than two items. What moves
+    /// is as for `retain`.
     pub fn dedup_by<F: FnMut(&mut T, &mut T) -> bool>(&mut self, same: F)
         requires callable { F.IsAlwaysCallable same }
         ensures deduped { IsDedupedBy (CalledAtPairMut F.FnMut) same self.old self.new }
@@ -81,7 +86,8 @@ impl<T: Drop, A: Allocator, G: Growth> ThinVec<T, A, G> {
         let Merging { same: _ } = judge;
     }
 
-    // Asks about each item but the first, in order, beside the last one kept, and drops those that go.
+    // Asks about each item but the first, in order, beside the last one kept, and drops those that
+    // go.
     fn merge_those<J: AsksPairs<T>>(&mut self, judge: &mut J)
         requires ready { J.ready judge.old }
         ensures deduped { IsDedupedTo J.asks judge.old self.old self.new judge.new }
@@ -98,7 +104,8 @@ impl<T: Drop, A: Allocator, G: Growth> ThinVec<T, A, G> {
         self.close(hole);
     }
 
-    /// `dedup_by` for items whose keys are equal. Of each two the key of the later item is asked first.
+    /// `dedup_by` for items whose keys are equal. Of each two the key of the later item is taken
+    /// first.
     pub fn dedup_by_key<K: PartialEq + Drop, F: FnMut(&mut T) -> K>(&mut self, key: F)
         requires callable { F.IsAlwaysCallable key }
         ensures deduped { IsDedupedBy (ComparesKeys F.FnMut K.eq) key self.old self.new }
@@ -118,14 +125,16 @@ impl<T: PartialEq + Drop, A: Allocator, G: Growth> ThinVec<T, A, G> {
     ghost use Rattle.thin_vec.specs.Filters.{moved_up, unlike};
     ghost use Rattle.thin_vec.specs.ThinVec.{IsWithin};
 
-    /// Of equal items that stand side by side, keeps the first and drops the others: of a sorted list it leaves each value once.
+    /// Keeps the first of each run of equal items and drops the others: a sorted list keeps each
+    /// value once.
     ///
     /// What moves is as for `retain`.
     pub fn dedup(&mut self)
         ensures items { self.new.items ≡ dedup T.eq self.old.items }
         ensures capacity { self.new.capacity ≡ self.old.capacity }
         ensures alloc { self.new.alloc ≡ self.old.alloc }
-        ensures cost { self.new.cost ≡ moving (moved_up (unlike T.eq self.old.items)) self.old.cost }
+        ensures cost { self.new.cost ≡ moving (moved_up (unlike T.eq self.old.items))
+            self.old.cost }
         ensures within { IsWithin T.row self.old × IsWithin T.row self.new }
     {
         let mut judge = Comparing {};

@@ -17,16 +17,19 @@ use std::boxed::BoxedSlice;
 use thin_block::ThinVecError;
 
 impl<T, A: Allocator> ThinVec<T, A> {
-    /// A list of the array's items, of capacity N. An array of nothing takes no memory.
+    /// Makes a list of the array's items, with exactly that capacity. An empty array needs no
+    /// allocation.
     ///
-    /// It is refused where N does not fit, or where memory is refused, and then the array is handed back. Code that is
-    /// generic in T shows that its array takes fewer than 2^63 bytes: `thin_vec!` asks nothing of the size of an item.
+    /// It fails where N does not fit or memory is refused, and then returns the array. Code that is
+    /// generic in T shows that its array takes fewer than 2^63 bytes: `thin_vec!` asks nothing of
+    /// the size of an item.
     pub fn from_array<const N: usize>(
         alloc: A,
         items: [T; N],
     ) -> Result<ThinVec<T, A>, Rejected<[T; N]>>
         ensures succeeds { N ≡ 0 → IsOk result }
-        ensures overflow { exact_capacity T.row 0 N ≡ None → IsErrAnd result (λ refused. refused.cause ≡ ThinVecError.CapacityOverflow) }
+        ensures overflow { exact_capacity T.row 0 N ≡ None
+            → IsErrAnd result (λ refused. refused.cause ≡ ThinVecError.CapacityOverflow) }
         ensures cause { IfErr result (λ refused. IsCause (exact_capacity T.row 0 N) refused.cause) }
         ensures items { IfOk result (λ list. list.items ≡ items) }
         ensures capacity { IfOk result (λ list. list.capacity ≡ N) }
@@ -50,20 +53,24 @@ impl<T, A: Allocator> ThinVec<T, A> {
         }
     }
 
-    /// A list of the items of `items`, in order, of capacity as many. A `Vec` of no item takes no memory.
+    /// Makes a list of the vector's items, with exactly that capacity. An empty vector needs no
+    /// allocation.
     ///
-    /// It is refused where that capacity does not fit, or where memory is refused, and then the `Vec` is handed back.
+    /// It fails where that capacity does not fit or memory is refused, and then returns the vector.
     pub fn from_vec<B: Allocator>(
         alloc: A,
         items: Vec<T, B>,
     ) -> Result<ThinVec<T, A>, Rejected<Vec<T, B>>>
         ensures succeeds_empty { length items.items ≡ 0 → IsOk result }
-        ensures overflow { exact_capacity T.row 0 (length items.items) ≡ None → IsErrAnd result (λ refused. refused.cause ≡ ThinVecError.CapacityOverflow) }
-        ensures cause { IfErr result (λ refused. IsCause (exact_capacity T.row 0 (length items.items)) refused.cause) }
+        ensures overflow { exact_capacity T.row 0 (length items.items) ≡ None
+            → IsErrAnd result (λ refused. refused.cause ≡ ThinVecError.CapacityOverflow) }
+        ensures cause { IfErr result
+            (λ refused. IsCause (exact_capacity T.row 0 (length items.items)) refused.cause) }
         ensures items { IfOk result (λ list. list.items ≡ items.items) }
         ensures capacity { IfOk result (λ list. list.capacity ≡ length items.items) }
         ensures alloc { IfOk result (λ list. list.alloc ≡ alloc) }
-        ensures cost { IfOk result (λ list. list.cost ≡ moving (length items.items) (cost_new (length items.items))) }
+        ensures cost { IfOk result (λ list. list.cost ≡ moving (length items.items)
+            (cost_new (length items.items))) }
         ensures cheap { IfOk result (λ list. IsCheap list) }
         ensures value_returned { IfErr result (λ refused. refused.value ≡ items) }
         ensures within { IfOk result (λ list. IsWithin T.row list) }
@@ -80,20 +87,26 @@ impl<T, A: Allocator> ThinVec<T, A> {
         }
     }
 
-    /// A list of the items of a boxed slice, in order, of capacity as many. A slice of no item takes no memory.
+    /// Makes a list of the items of a boxed slice, with exactly that capacity. An empty slice needs
+    /// no allocation.
     ///
-    /// It is refused where that capacity does not fit, or where memory is refused, and then the boxed slice is handed back.
+    /// It fails where that capacity does not fit or memory is refused, and then returns the boxed
+    /// slice.
     pub fn from_boxed_slice<B: Allocator>(
         alloc: A,
         items: BoxedSlice<T, B>,
     ) -> Result<ThinVec<T, A>, Rejected<BoxedSlice<T, B>>>
         ensures succeeds_empty { length (boxed_slice_items items) ≡ 0 → IsOk result }
-        ensures overflow { exact_capacity T.row 0 (length (boxed_slice_items items)) ≡ None → IsErrAnd result (λ refused. refused.cause ≡ ThinVecError.CapacityOverflow) }
-        ensures cause { IfErr result (λ refused. IsCause (exact_capacity T.row 0 (length (boxed_slice_items items))) refused.cause) }
+        ensures overflow { exact_capacity T.row 0 (length (boxed_slice_items items)) ≡ None
+            → IsErrAnd result (λ refused. refused.cause ≡ ThinVecError.CapacityOverflow) }
+        ensures cause { IfErr result
+            (λ refused. IsCause (exact_capacity T.row 0 (length (boxed_slice_items items)))
+            refused.cause) }
         ensures items { IfOk result (λ list. list.items ≡ boxed_slice_items items) }
         ensures capacity { IfOk result (λ list. list.capacity ≡ length (boxed_slice_items items)) }
         ensures alloc { IfOk result (λ list. list.alloc ≡ alloc) }
-        ensures cost { IfOk result (λ list. list.cost ≡ moving (length (boxed_slice_items items)) (cost_new (length (boxed_slice_items items)))) }
+        ensures cost { IfOk result (λ list. list.cost ≡ moving (length (boxed_slice_items items))
+            (cost_new (length (boxed_slice_items items)))) }
         ensures cheap { IfOk result (λ list. IsCheap list) }
         ensures value_returned { IfErr result (λ refused. refused.value ≡ items) }
         ensures within { IfOk result (λ list. IsWithin T.row list) }
@@ -130,15 +143,17 @@ impl<T, A: Allocator> ThinVec<T, A> {
 impl<T: Copy, A: Allocator> ThinVec<T, A> {
     /// `from_slice` of items that are copied: they come in as one run.
     ///
-    /// It is refused where a capacity of as many does not fit, or where memory is refused.
+    /// It fails where a capacity of their number does not fit or memory is refused.
     pub fn from_copies(alloc: A, items: &[T]) -> Result<ThinVec<T, A>, ThinVecError>
         ensures succeeds_empty { length items.now ≡ 0 → IsOk result }
-        ensures overflow { exact_capacity T.row 0 (length items.now) ≡ None → IsErrOf result ThinVecError.CapacityOverflow }
+        ensures overflow { exact_capacity T.row 0 (length items.now) ≡ None
+            → IsErrOf result ThinVecError.CapacityOverflow }
         ensures cause { IfErr result (IsCause (exact_capacity T.row 0 (length items.now))) }
         ensures items { IfOk result (λ list. list.items ≡ items.now) }
         ensures capacity { IfOk result (λ list. list.capacity ≡ length items.now) }
         ensures alloc { IfOk result (λ list. list.alloc ≡ alloc) }
-        ensures cost { IfOk result (λ list. list.cost ≡ moving (length items.now) (cost_new (length items.now))) }
+        ensures cost { IfOk result
+            (λ list. list.cost ≡ moving (length items.now) (cost_new (length items.now))) }
         ensures cheap { IfOk result (λ list. IsCheap list) }
         ensures within { IfOk result (λ list. IsWithin T.row list) }
     {
@@ -153,20 +168,23 @@ impl<T: Copy, A: Allocator> ThinVec<T, A> {
 }
 
 impl<T: Clone, A: Allocator> ThinVec<T, A> {
-    /// A list of a clone of each of `items`, in order, of capacity as many. A slice of nothing takes no memory. Items that
-    /// are `Copy` come in faster by `from_copies`.
+    /// Makes a list of a clone of each of `items`, in order, with exactly that capacity. An empty
+    /// slice needs no allocation. Items that are `Copy` come in faster by `from_copies`.
     ///
-    /// It is refused where that capacity does not fit, or where memory is refused, also that of an item's clone, and then
-    /// the clones made until then are dropped.
+    /// It fails where that capacity does not fit, memory is refused or the clone of an item fails,
+    /// and then the clones made before are dropped.
     pub fn from_slice(alloc: A, items: &[T]) -> Result<ThinVec<T, A>, ThinVecError>
         ensures succeeds_empty { length items.now ≡ 0 → IsOk result }
-        ensures overflow { exact_capacity T.row 0 (length items.now) ≡ None → IsErrOf result ThinVecError.CapacityOverflow }
+        ensures overflow { exact_capacity T.row 0 (length items.now) ≡ None
+            → IsErrOf result ThinVecError.CapacityOverflow }
         ensures cause { IfErr result (IsCause (exact_capacity T.row 0 (length items.now))) }
         ensures items { IfOk result (λ list. AllZip T.is_clone items.now list.items) }
-        ensures items_if_clones_equal { IfOk result (λ list. ClonesEqual T.is_clone → list.items ≡ items.now) }
+        ensures items_if_clones_equal { IfOk result (λ list. ClonesEqual T.is_clone
+            → list.items ≡ items.now) }
         ensures capacity { IfOk result (λ list. list.capacity ≡ length items.now) }
         ensures alloc { IfOk result (λ list. list.alloc ≡ alloc) }
-        ensures cost { IfOk result (λ list. list.cost ≡ moving (length items.now) (cost_new (length items.now))) }
+        ensures cost { IfOk result
+            (λ list. list.cost ≡ moving (length items.now) (cost_new (length items.now))) }
         ensures cheap { IfOk result (λ list. IsCheap list) }
         ensures within { IfOk result (λ list. IsWithin T.row list) }
     {

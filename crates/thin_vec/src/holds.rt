@@ -1,7 +1,8 @@
 //! How an edit holds what it took out of a list.
 //!
-//! An edit lends a list and owns its block. A struct that has a raw pointer in a declared field beside a `&mut` can't say, in
-//! the contract of its drop, what the `&mut` then leads to. So what an edit owns stands behind a type parameter.
+//! An edit lends a list and owns its block. A struct that has a raw pointer in a declared field
+//! beside a `&mut` can't say, in the contract of its drop, what the `&mut` then leads to. So what
+//! an edit owns stands behind a type parameter.
 ghost use Rattle.std.specs.Prelude.{◌≡◌};
 
 /// Something that holds one value, and gives it up.

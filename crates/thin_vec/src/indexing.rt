@@ -25,7 +25,8 @@ impl<T, A: Allocator, G: Growth> DerefSlice for ThinVec<T, A, G> {
 
 impl<T, A: Allocator, G: Growth> DerefSliceMut for ThinVec<T, A, G> {
     fn deref_mut(&mut self) -> &mut [T]
-        ensures* writes_back { sem 𝓛 (LendsItems T.row A.row G.row A.Allocator G.Growth self.entry result) }
+        ensures* writes_back { sem 𝓛
+            (LendsItems T.row A.row G.row A.Allocator G.Growth self.entry result) }
         ensures value { result.now ≡ self.old.items }
         ensures within { IsWithin T.row self.old }
     {
@@ -54,10 +55,11 @@ impl<T, A: Allocator, G: Growth> Index<usize> for ThinVec<T, A, G> {
 }
 
 impl<T, A: Allocator, G: Growth> IndexMut<usize> for ThinVec<T, A, G> {
-    // What is written is what the list then holds at `index`.
+    // What is written is what the list holds at `index` afterwards.
     fn index_mut(&mut self, index: usize) -> &mut T
         requires { index < length self.old.items }
-        ensures* writes_back { sem 𝓛 (LendsItem T.row A.row G.row A.Allocator G.Growth self.entry index result) }
+        ensures* writes_back { sem 𝓛
+            (LendsItem T.row A.row G.row A.Allocator G.Growth self.entry index result) }
         ensures value { slice_get self.old.items index ≡ Some result.now }
         ensures item { result.now ≡ slice_index_or self.old.items index result.now }
     {
@@ -86,9 +88,10 @@ impl<'a, T, A: Allocator, G: Growth> IntoIterator for &'a mut ThinVec<T, A, G> {
     ghost into_iter_gives = { λ list it. (iter_mut_rest it ≡ list.now.items) × (length (iter_mut_rest it) < 2 ^ 64)
         × EveryRun (iter_mut_steps {A = T}) (λ p. ItemsMapTo p (λ x. x.now) (iter_mut_rest p.from)) };
 
-    // What is written to the items is what the list then holds.
+    // What is written to the items is what the list holds afterwards.
     fn into_iter(self) -> IterMut<'a, T>
-        ensures* writes_back { sem 𝓛 (LendsIter T.row A.row G.row A.Allocator G.Growth self.entry result) }
+        ensures* writes_back { sem 𝓛
+            (LendsIter T.row A.row G.row A.Allocator G.Growth self.entry result) }
         ensures into_iter_gives { (iter_mut_rest result ≡ self.old.items) × (length (iter_mut_rest result) < 2 ^ 64)
             × EveryRun (iter_mut_steps {A = T}) (λ p. ItemsMapTo p (λ x. x.now) (iter_mut_rest p.from)) }
     {

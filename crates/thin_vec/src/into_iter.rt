@@ -1,4 +1,4 @@
-//! The iterator that a list becomes: it hands its items out from either end.
+//! The iterator that a list becomes: it yields the items from either end.
 ghost use Rattle.std.specs.Prelude.{◌≡◌, ◌↔◌, ◌^◌, ◌<◌, [], ◌∷◌, ◌++◌, IfErr, IfOk, IsOk, IsSome, Some, length};
 ghost use Rattle.std.specs.Iterator.{YieldsFirst, YieldsLast, item_count};
 ghost use Rattle.std.specs.List.{AllZip};
@@ -14,11 +14,14 @@ use std::iter::FusedIterator;
 use std::marker::{Model, PhantomData};
 use thin_block::{Block, Doubling, Growth, ThinVecError};
 
-/// The items of a list, handed out from either end. It owns those that remain, and the list's block and allocator.
+/// The items of a list, yielded from either end. It owns those that remain, and the list's block
+/// and allocator.
 ///
-/// Contracts see it as they see a list, of the items that remain. An item stays in its place until it is handed out.
+/// Contracts see it as they see a list, of the items that remain. An item stays in its place until
+/// it is yielded.
 pub struct IntoIter<T, A: Allocator = Global, G: Growth = Doubling> {
-    // The items that remain lie in the slots from `start` up to `end`. The block's stored length is not read again.
+    // The items that remain lie in the slots from `start` up to `end`. The block's stored length is
+    // not read again.
     block: Block<T, A>,
     alloc: A,
     start: usize,
@@ -40,7 +43,7 @@ impl<T, A: Allocator, G: Growth> Model for IntoIter<T, A, G> {
 }
 
 impl<T, A: Allocator, G: Growth> ThinVec<T, A, G> {
-    /// The items, to be handed out from either end. It takes no memory: the block stays as it is.
+    /// The items, to be yielded from either end. It allocates nothing: the block stays as it is.
     pub fn into_iter(self) -> IntoIter<T, A, G>
         ensures value { result ≡ self }
         ensures small { length result.items < 2 ^ 64 }
@@ -90,7 +93,7 @@ impl<T, A: Allocator, G: Growth> IntoIter<T, A, G> {
         (len, Some(len))
     }
 
-    /// Hands out the first item of those that remain, or answers `None` where none does.
+    /// Returns the first item of those that remain, or `None` where none does.
     pub fn next(&mut self) -> Option<T>
         ensures variant { IsSome result ↔ (0 < length self.old.items) }
         ensures items { self.old.items ≡ option_to_list result ++ self.new.items }
@@ -104,7 +107,7 @@ impl<T, A: Allocator, G: Growth> IntoIter<T, A, G> {
         Some(self.take_first())
     }
 
-    /// Hands out the last item of those that remain, or answers `None` where none does.
+    /// Returns the last item of those that remain, or `None` where none does.
     pub fn next_back(&mut self) -> Option<T>
         ensures variant { IsSome result ↔ (0 < length self.old.items) }
         ensures items { self.old.items ≡ self.new.items ++ option_to_list result }
@@ -150,15 +153,17 @@ impl<T, A: Allocator, G: Growth> IntoIter<T, A, G> {
         self.block.slice(self.start, self.end)
     }
 
-    /// The items that remain, in order, to be written. What is written is what is then handed out.
+    /// The items that remain, in order, to be written. What is written is what is yielded
+    /// afterwards.
     pub fn as_mut_slice(&mut self) -> &mut [T]
-        ensures* writes_back { sem 𝓛 (LendsRest T.row A.row G.row A.Allocator G.Growth self.entry result) }
+        ensures* writes_back { sem 𝓛
+            (LendsRest T.row A.row G.row A.Allocator G.Growth self.entry result) }
         ensures value { result.now ≡ self.old.items }
     {
         self.block.slice_mut(self.start, self.end)
     }
 
-    // The end of an iterator of which nothing remains: the block is given back.
+    // The end of an iterator of which nothing remains: the block is freed.
     pub(crate) fn release(self)
         requires empty { self.items ≡ [] }
     {
@@ -177,18 +182,21 @@ impl<T: Clone, A: Allocator, G: Growth> IntoIter<T, A, G> {
     ghost use Rattle.thin_vec.specs.Cheap.{IsCheap};
     ghost use Rattle.thin_vec.specs.ThinVec.{cost_new};
 
-    /// An iterator on `alloc` over a clone of each item that remains, in order. Its capacity is their number: where none
-    /// remains, it owns no block.
+    /// An iterator on `alloc` over a clone of each item that remains, in order. Its capacity is
+    /// their number: where none remains, it allocates nothing.
     ///
-    /// It is refused where memory is, also that of an item's clone, and then the clones made until then are dropped.
+    /// It fails where memory is refused or the clone of an item fails, and then the clones made
+    /// before are dropped.
     pub fn clone(&self, alloc: A) -> Result<IntoIter<T, A, G>, ThinVecError>
         ensures succeeds_empty { length self.now.items ≡ 0 → IsOk result }
         ensures cause { IfErr result (λ cause. cause ≡ ThinVecError.OutOfMemory) }
         ensures items { IfOk result (λ it. AllZip T.is_clone self.now.items it.items) }
-        ensures items_if_clones_equal { IfOk result (λ it. ClonesEqual T.is_clone → it.items ≡ self.now.items) }
+        ensures items_if_clones_equal { IfOk result (λ it. ClonesEqual T.is_clone
+            → it.items ≡ self.now.items) }
         ensures capacity { IfOk result (λ it. it.capacity ≡ length self.now.items) }
         ensures alloc { IfOk result (λ it. it.alloc ≡ alloc) }
-        ensures cost { IfOk result (λ it. it.cost ≡ moving (length self.now.items) (cost_new (length self.now.items))) }
+        ensures cost { IfOk result (λ it. it.cost ≡ moving (length self.now.items)
+            (cost_new (length self.now.items))) }
         ensures cheap { IfOk result (λ it. IsCheap it) }
     {
         // Their number fits, as the capacity does.
@@ -240,7 +248,7 @@ impl<T: fmt::Debug, A: Allocator, G: Growth> fmt::Debug for IntoIter<T, A, G> {
 }
 
 impl<T: Drop, A: Allocator, G: Growth> Drop for IntoIter<T, A, G> {
-    // Each item that remains is dropped, and then the block is given back.
+    // Each item that remains is dropped, and then the block is freed.
     fn drop(mut self) {
         while let Some(_item) = self.next() {}
         self.release();

@@ -1,4 +1,4 @@
-//! Other types that a list is turned into.
+//! Other types that a list becomes.
 ghost use Rattle.std.specs.Prelude.{◌≡◌, ◌↔◌, ◌≤◌, [], IfErr, IfOk, IsOk, length, vec_capacity, vec_len};
 ghost use Rattle.std.specs.Box.{boxed_slice_items, boxed_slice_len};
 ghost use Rattle.thin_vec.specs.ThinVec.{IsWithin};
@@ -10,9 +10,11 @@ use std::boxed::BoxedSlice;
 use thin_block::{Growth, ThinVecError};
 
 impl<T, A: Allocator, G: Growth> ThinVec<T, A, G> {
-    /// The items, in order, as a `Vec` on `alloc` whose capacity is their number. The list's block is given back.
+    /// The items, in order, as a `Vec` on `alloc` whose capacity is their number. The list's block
+    /// is freed.
     ///
-    /// It is refused only where memory is, and then the list is handed back. A list of no item takes no memory.
+    /// It fails only where memory is refused, and then returns the list. An empty list needs no
+    /// allocation.
     pub fn into_vec(self, alloc: A) -> Result<Vec<T, A>, Rejected<ThinVec<T, A, G>>>
         ensures succeeds_empty { length self.items ≡ 0 → IsOk result }
         ensures cause { IfErr result (λ refused. refused.cause ≡ ThinVecError.OutOfMemory) }
@@ -47,9 +49,10 @@ impl<T, A: Allocator, G: Growth> ThinVec<T, A, G> {
         vec
     }
 
-    /// The items, in order, as a boxed slice on `alloc`. The list's block is given back.
+    /// The items, in order, as a boxed slice on `alloc`. The list's block is freed.
     ///
-    /// It is refused only where memory is, and then the list is handed back. A list of no item takes no memory.
+    /// It fails only where memory is refused, and then returns the list. An empty list needs no
+    /// allocation.
     pub fn into_boxed_slice(self, alloc: A) -> Result<BoxedSlice<T, A>, Rejected<ThinVec<T, A, G>>>
         ensures succeeds_empty { length self.items ≡ 0 → IsOk result }
         ensures cause { IfErr result (λ refused. refused.cause ≡ ThinVecError.OutOfMemory) }
@@ -61,13 +64,14 @@ impl<T, A: Allocator, G: Growth> ThinVec<T, A, G> {
         Ok(self.into_vec(alloc)?.into_boxed_slice())
     }
 
-    /// The items, in order, as an array, where there are N of them. The list's block is given back.
+    /// The items, in order, as an array, where there are N of them. The list's block is freed.
     ///
-    /// A list of any other length is handed back as it was. No memory is asked for.
+    /// A list of any other length is returned as it was. It allocates nothing.
     ///
-    /// N items have to take fewer than 2^63 bytes, as any array: at a known type each caller shows that by itself, and one
-    /// that is generic in T requires it, as `N * type_size T.row < 2 ^ 63` with `type_size` of `Rattle.std.specs.Mem`.
-    /// `into_vec` and `into_iter` ask for nothing of the kind.
+    /// N items have to take fewer than 2^63 bytes, as any array: at a known type each caller shows
+    /// that by itself, and one that is generic in T requires it, as `N * type_size T.row < 2 ^ 63`
+    /// with `type_size` of `Rattle.std.specs.Mem`. `into_vec` and `into_iter` ask for nothing of
+    /// the kind.
     pub fn into_array<const N: usize>(mut self) -> Result<[T; N], ThinVec<T, A, G>>
         ensures variant { IsOk result ↔ (length self.items ≡ N) }
         ensures items { IfOk result (λ items. items ≡ self.items) }

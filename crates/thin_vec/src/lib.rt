@@ -1,4 +1,5 @@
-//! A growable list that is one pointer wide: its length and its capacity stand in the block that it allocates.
+//! A growable list that is one pointer wide: its length and its capacity stand in the block that it
+//! allocates.
 #![tactic(auto)]
 
 mod bytes;

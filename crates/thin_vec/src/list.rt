@@ -11,9 +11,10 @@ use std::alloc::{Allocator, Global};
 use std::marker::{Model, PhantomData};
 use thin_block::{Block, Doubling, Growth, ThinVecError};
 
-/// A growable list that is one pointer wide, beside its allocator. A new list owns no block.
+/// A `Vec` one pointer wide, beside its allocator: length and capacity are stored at the start of
+/// its allocation. A new list allocates nothing.
 ///
-/// It is std's `Vec` under `Vec`'s names. `G` is the rule by which its capacity grows.
+/// `G` is the rule by which its capacity grows.
 pub struct ThinVec<T, A: Allocator = Global, G: Growth = Doubling> {
     pub(crate) block: Block<T, A>,
     pub(crate) alloc: A,
@@ -35,7 +36,7 @@ impl<T, A: Allocator, G: Growth> Model for ThinVec<T, A, G> {
 impl<T, A: Allocator> ThinVec<T, A> {
     ghost use Rattle.thin_vec.specs.ThinVec.{IsNew, IsWithin};
 
-    /// An empty list of capacity 0, without a block. It takes no memory.
+    /// An empty list of capacity 0. It allocates nothing.
     pub fn new(alloc: A) -> ThinVec<T, A>
         ensures new { IsNew result alloc }
         ensures within { IsWithin T.row result }
@@ -43,7 +44,7 @@ impl<T, A: Allocator> ThinVec<T, A> {
         ThinVec::ruled(alloc)
     }
 
-    /// The same as `new`, in the place of `Default`, which has no allocator to give.
+    /// The same as `new`, in place of the trait `Default`, which has no allocator to give.
     pub fn default_in(alloc: A) -> ThinVec<T, A>
         ensures new { IsNew result alloc }
         ensures within { IsWithin T.row result }
@@ -113,22 +114,25 @@ impl<T, A: Allocator, G: Growth> ThinVec<T, A, G> {
 
     /// Appends `value`, which the list owns afterwards.
     ///
-    /// It is refused only where there is no spare room, and then because the ruled capacity overflows, or because memory
-    /// is refused.
+    /// It fails only where there is no spare room, and then because the ruled capacity overflows,
+    /// or because memory is refused.
     pub fn push(&mut self, value: T) -> Result<(), Rejected<T>>
         ensures succeeds { HasRoomFor self.old 1 → IsOk result }
-        ensures overflow { capacity_for G.rule T.row self.old 1 ≡ None → IsErrAnd result (λ refused. refused.cause ≡ ThinVecError.CapacityOverflow) }
-        ensures cause { IfErr result (λ refused. IsCause (capacity_for G.rule T.row self.old 1) refused.cause) }
+        ensures overflow { capacity_for G.rule T.row self.old 1 ≡ None
+            → IsErrAnd result (λ refused. refused.cause ≡ ThinVecError.CapacityOverflow) }
+        ensures cause { IfErr result
+            (λ refused. IsCause (capacity_for G.rule T.row self.old 1) refused.cause) }
 
         // The capacity is the ruled one.
         ensures items { OnOk result (self.new.items ≡ self.old.items ++ value ∷ []) }
-        ensures capacity { OnOk result (capacity_for G.rule T.row self.old 1 ≡ Some self.new.capacity) }
+        ensures capacity { OnOk result
+            (capacity_for G.rule T.row self.old 1 ≡ Some self.new.capacity) }
         ensures had_room { HasRoomFor self.old 1 → self.new.capacity ≡ self.old.capacity }
         ensures cost { OnOk result (self.new.cost ≡ moving 1 (cost_at self.old self.new.capacity)) }
         ensures alloc { self.new.alloc ≡ self.old.alloc }
         ensures cheap { IsCheap self.old → IsCheap self.new }
 
-        // Refused, the caller has the value back, and nothing changed.
+        // Where it fails, the caller has the value back, and nothing changed.
         ensures err { OnErr result (self.new ≡ self.old) }
         ensures value_returned { IfErr result (λ refused. refused.value ≡ value) }
         ensures never_less { self.old.capacity ≤ self.new.capacity }
@@ -148,9 +152,10 @@ impl<T, A: Allocator, G: Growth> ThinVec<T, A, G> {
         self.block.slice(0, self.block.len())
     }
 
-    /// The items, in order, to be written. What is written is what the list then holds.
+    /// The items, in order, to be written. What is written is what the list holds afterwards.
     pub fn as_mut_slice(&mut self) -> &mut [T]
-        ensures* writes_back { sem 𝓛 (LendsItems T.row A.row G.row A.Allocator G.Growth self.entry result) }
+        ensures* writes_back { sem 𝓛
+            (LendsItems T.row A.row G.row A.Allocator G.Growth self.entry result) }
         ensures value { result.now ≡ self.old.items }
         ensures within { IsWithin T.row self.old }
     {
@@ -158,8 +163,8 @@ impl<T, A: Allocator, G: Growth> ThinVec<T, A, G> {
         self.block.slice_mut(0, len)
     }
 
-    /// `push` into room that the caller has shown to be there, as behind `reserve`: it answers no `Result`. (std: `Vec::push_reserved`
-    /// of the kit, and `smallvec`'s)
+    /// `push` into room that the caller has shown to be there, as after `reserve`: it returns no
+    /// `Result`. (`push_reserved` of the kit's `Vec` and `smallvec`)
     pub fn push_reserved(&mut self, value: T)
         requires room { HasRoomFor self.old 1 }
         ensures items { self.new.items ≡ self.old.items ++ value ∷ [] }
@@ -173,7 +178,7 @@ impl<T, A: Allocator, G: Growth> ThinVec<T, A, G> {
         self.block.put_and_store(len, value, len + 1);
     }
 
-    /// Removes the last item and hands it out, or answers `None` where there is none. The capacity stays.
+    /// Removes the last item and returns it, or `None` where there is none. The capacity stays.
     pub fn pop(&mut self) -> Option<T>
         ensures variant { IsSome result ↔ (0 < length self.old.items) }
         ensures items { self.old.items ≡ self.new.items ++ option_to_list result }
@@ -218,7 +223,7 @@ impl<T, A: Allocator, G: Growth> ThinVec<T, A, G> {
         (block, alloc)
     }
 
-    // The end of an empty list: its block is given back.
+    // The end of an empty list: its block is freed.
     pub(crate) fn release(self)
         requires empty { self.items ≡ [] }
     {
@@ -232,7 +237,7 @@ impl<T, A: Allocator, G: Growth> ThinVec<T, A, G> {
 }
 
 impl<T: Drop, A: Allocator, G: Growth> Drop for ThinVec<T, A, G> {
-    // Each item is dropped, and then the block is given back. No length is stored any more.
+    // Each item is dropped, and then the block is freed. No length is stored any more.
     fn drop(self) {
         let len = self.len();
         let (mut block, alloc) = self.into_parts();

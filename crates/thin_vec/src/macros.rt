@@ -10,14 +10,16 @@ use crate::list::ThinVec;
 use std::alloc::Allocator;
 use thin_block::ThinVecError;
 
-/// Makes a list: `thin_vec![alloc =>]` is `Ok` of `new`, and `thin_vec![alloc => x, y]` has the items in order and the
-/// capacity of their count. `thin_vec![alloc => x; k]` is `new` and then `resize(k, x)`: clones of x, and x itself as the
-/// last of k, at the capacity that `Doubling` names for k items.
+/// Makes a list: `thin_vec![alloc =>]` is `Ok` of `new`, and `thin_vec![alloc => x, y]` has the
+/// items in order, with exactly that capacity. `thin_vec![alloc => x; k]` is `new` and then
+/// `resize(k, x)`: clones of x, and x itself as the last of k, at the capacity that `Doubling`
+/// names for k items.
 ///
-/// Each form gives a `Result<ThinVec<T, A>, ThinVecError>`, and is used inside a function's body, whatever that function
-/// answers. A trailing comma is allowed, but not behind k. `alloc` is evaluated once and first. Items that are written out
-/// are evaluated once each, in order, and only where the memory was granted; x and then k are evaluated before it is asked
-/// for, and a refused x is dropped.
+/// Each form gives a `Result<ThinVec<T, A>, ThinVecError>`, and is used inside a function's body,
+/// whatever that function returns. A trailing comma is allowed, but not after k. `alloc` is
+/// evaluated once and first. Items that are written out are evaluated once each, in order, and only
+/// where the memory was granted; x and then k are evaluated before it is asked for, and where that
+/// fails x is dropped.
 #[macro_export]
 macro_rules! thin_vec {
     ($alloc:expr =>) => {
@@ -71,11 +73,14 @@ pub fn repeated<T: Clone, A: Allocator>(
     count: usize,
 ) -> Result<ThinVec<T, A>, ThinVecError>
     ensures succeeds { count ≡ 0 → IsOk result }
-    ensures overflow { ruled_capacity doubling T.row 0 count ≡ None → IsErrOf result ThinVecError.CapacityOverflow }
+    ensures overflow { ruled_capacity doubling T.row 0 count ≡ None
+        → IsErrOf result ThinVecError.CapacityOverflow }
     ensures cause { IfErr result (IsCause (ruled_capacity doubling T.row 0 count)) }
     ensures items { IfOk result (λ list. IsResized T.is_clone [] count value list.items) }
-    ensures items_if_clones_equal { IfOk result (λ list. CloneEquals T.is_clone value → list.items ≡ replicate count value) }
-    ensures capacity { IfOk result (λ list. ruled_capacity doubling T.row 0 count ≡ Some list.capacity) }
+    ensures items_if_clones_equal { IfOk result (λ list. CloneEquals T.is_clone value
+        → list.items ≡ replicate count value) }
+    ensures capacity { IfOk result
+        (λ list. ruled_capacity doubling T.row 0 count ≡ Some list.capacity) }
     ensures alloc { IfOk result (λ list. list.alloc ≡ alloc) }
     ensures cost { IfOk result (λ list. list.cost ≡ moving count (cost_new list.capacity)) }
     ensures cheap { IfOk result (λ list. IsCheap list) }

@@ -21,7 +21,8 @@ pub(crate) fn drop_items<T: Drop, A: Allocator>(block: &mut Block<T, A>, len: us
     }
 }
 
-// Moves the items of `items` into the empty slots from `start` on. A `Vec` gives its items up from the last on.
+// Moves the items of `items` into the empty slots from `start` on. A `Vec` gives its items up from
+// the last on.
 pub(crate) fn put_vec<T, A: Allocator, B: Allocator>(
     block: &mut Block<T, A>,
     start: usize,
@@ -42,8 +43,8 @@ pub(crate) fn put_vec<T, A: Allocator, B: Allocator>(
     items.destroy_empty();
 }
 
-// Puts clones of `items` into the empty slots from `start` on, and answers how many: it ends before a clone that is
-// refused.
+// Puts clones of `items` into the empty slots from `start` on, and returns how many: it ends before
+// a clone that fails.
 pub(crate) fn put_clones<T: Clone, A: Allocator>(
     block: &mut Block<T, A>,
     start: usize,
@@ -56,7 +57,8 @@ pub(crate) fn put_clones<T: Clone, A: Allocator>(
     ensures len { block.new.len ≡ block.old.len }
     ensures alloc { block.new.alloc ≡ block.old.alloc }
     ensures cost { block.new.cost ≡ moving result block.old.cost }
-    ensures refused { result < length items.now → HoldsAt (λ x. ¬ (T.is_infallible x)) items.now result }
+    ensures refused { result < length items.now
+        → HoldsAt (λ x. ¬ (T.is_infallible x)) items.now result }
 {
     // No capacity is past `isize::MAX`, so no index is.
     let _whole = block.cap();
@@ -69,8 +71,8 @@ pub(crate) fn put_clones<T: Clone, A: Allocator>(
     items.len()
 }
 
-// Puts clones of `value` into the `count` empty slots from `start` on, and answers how many: it ends before a clone that
-// is refused.
+// Puts clones of `value` into the `count` empty slots from `start` on, and returns how many: it
+// ends before a clone that fails.
 pub(crate) fn put_repeated<T: Clone, A: Allocator>(
     block: &mut Block<T, A>,
     start: usize,
@@ -80,7 +82,8 @@ pub(crate) fn put_repeated<T: Clone, A: Allocator>(
     requires in_bounds { start + count ≤ length block.old.slots }
     requires empty { AreEmpty block.old.slots start count }
     ensures in_bounds { result ≤ count }
-    ensures slots { LaysClones T.is_clone (replicate count value.now) result start block.old.slots block.new.slots }
+    ensures slots { LaysClones T.is_clone (replicate count value.now) result start block.old.slots
+        block.new.slots }
     ensures len { block.new.len ≡ block.old.len }
     ensures alloc { block.new.alloc ≡ block.old.alloc }
     ensures cost { block.new.cost ≡ moving result block.old.cost }
@@ -97,8 +100,8 @@ pub(crate) fn put_repeated<T: Clone, A: Allocator>(
     count
 }
 
-// Puts what `iter` gives into the empty slots from `start` up to `end`. Hands back the iterator, where it stopped, and
-// whether the iterator ended before the slots were full.
+// Puts what `iter` yields into the empty slots from `start` up to `end`. Returns the iterator,
+// where it stopped, and whether the iterator ended before the slots were full.
 pub(crate) fn put_iter<T, A: Allocator, I: Iterator<Item = T>>(
     block: &mut Block<T, A>,
     start: usize,
@@ -110,13 +113,15 @@ pub(crate) fn put_iter<T, A: Allocator, I: Iterator<Item = T>>(
     requires empty { (k : ℕ) → start ≤ k → k < end → slot block.old.slots k ≡ None }
     requires can_next { I.can_next iter }
     requires finite { IsFinite (I.remaining iter) }
-    ensures slots { (xs : List T) × (block.new.slots ≡ laid start (full xs) block.old.slots) × (result.1 ≡ start + length xs) × Gives I.next_gives iter xs result.2 result.0 }
+    ensures slots { (xs : List T) × (block.new.slots ≡ laid start (full xs) block.old.slots)
+        × (result.1 ≡ start + length xs) × Gives I.next_gives iter xs result.2 result.0 }
     ensures within { result.1 ≤ end }
     ensures len { block.new.len ≡ block.old.len }
     ensures alloc { block.new.alloc ≡ block.old.alloc }
     ensures cost { block.new.cost ≡ moving (result.1 - start) block.old.cost }
     ensures rest { result.2 ≡ false → I.can_next result.0 × IsFinite (I.remaining result.0) }
-    ensures nearer { result.2 ≡ false → result.1 + size (I.remaining result.0) ≤ start + size (I.remaining iter) }
+    ensures nearer { result.2 ≡ false → result.1 + size (I.remaining result.0) ≤ start + size
+        (I.remaining iter) }
     ensures full { result.2 ≡ false → result.1 ≡ end }
     ensures short { result.2 ≡ true → result.1 < end }
 {

@@ -4,8 +4,9 @@ ghost use Rattle.thin_vec.specs.Ranges.{range_between};
 
 use std::ops::Bound;
 
-/// The range between two bounds in a list of `len` items, as the index of its first item and the one behind its last, or `None`
-/// where it begins behind its end, or ends behind the list. It is the test for the ranges that edits ask for.
+/// The range between two bounds in a list of `len` items, as the index of its first item and the
+/// one after its last, or `None` where it begins after its end, or ends past the list. It is the
+/// test for the ranges that edits ask for.
 ///
 /// It is what std's `slice::range` does with such bounds, where that panics.
 pub fn bounds(start: Bound<usize>, end: Bound<usize>, len: usize) -> Option<(usize, usize)>

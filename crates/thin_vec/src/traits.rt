@@ -1,4 +1,5 @@
-//! How lists are compared, hashed and printed: as slices of their items, whatever their capacities and costs.
+//! How lists are compared, hashed and printed: as slices of their items, whatever their capacities
+//! and costs.
 ghost use Rattle.std.specs.Cmp.{on_equiv, on_per, on_po, on_total};
 ghost use Rattle.std.specs.Cmp.Lexicographic.{lists_agrees, lists_equiv, lists_per, lists_po, lists_ties, lists_total, pointwise, slice_cmp, slice_partial_cmp};
 ghost use Rattle.std.specs.Hash as fed;

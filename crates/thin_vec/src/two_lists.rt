@@ -1,4 +1,4 @@
-//! Two lists: one goes behind the other, or one is cut in two.
+//! Two lists: one is appended to the other, or one is cut in two.
 ghost use Rattle.std.specs.Prelude.{◌≡◌, ◌+◌, ◌-◌, ◌≤◌, ◌++◌, [], IfErr, IfOk, IsErrOf, IsOk, None, OnErr, OnOk, Some, drop, length, take};
 ghost use Rattle.thin_block.specs.Cost.{moving};
 
@@ -10,20 +10,26 @@ impl<T, A: Allocator, G: Growth> ThinVec<T, A, G> {
     ghost use Rattle.thin_vec.specs.Cheap.{IsCheap};
     ghost use Rattle.thin_vec.specs.ThinVec.{HasRoomFor, IsCause, IsWithin, capacity_for, cost_at, cost_new};
 
-    /// Moves all items of `other` behind those of this list. `other` is left empty, with its capacity.
+    /// Moves all items of `other` to the end of this list. `other` is left empty, with its
+    /// capacity.
     ///
-    /// It is refused as `reserve` is, before either list changes.
+    /// It fails as `reserve` does, before either list changes.
     pub fn append(&mut self, other: &mut ThinVec<T, A, G>) -> Result<(), ThinVecError>
         ensures succeeds { HasRoomFor self.old (length other.old.items) → IsOk result }
         ensures succeeds_empty { length other.old.items ≡ 0 → IsOk result }
-        ensures overflow { capacity_for G.rule T.row self.old (length other.old.items) ≡ None → IsErrOf result ThinVecError.CapacityOverflow }
-        ensures cause { IfErr result (IsCause (capacity_for G.rule T.row self.old (length other.old.items))) }
+        ensures overflow { capacity_for G.rule T.row self.old (length other.old.items) ≡ None
+            → IsErrOf result ThinVecError.CapacityOverflow }
+        ensures cause { IfErr result
+            (IsCause (capacity_for G.rule T.row self.old (length other.old.items))) }
 
         // The capacity is the ruled one.
         ensures items { OnOk result (self.new.items ≡ self.old.items ++ other.old.items) }
-        ensures capacity { OnOk result (capacity_for G.rule T.row self.old (length other.old.items) ≡ Some self.new.capacity) }
-        ensures had_room { HasRoomFor self.old (length other.old.items) → self.new.capacity ≡ self.old.capacity }
-        ensures cost { OnOk result (self.new.cost ≡ moving (length other.old.items) (cost_at self.old self.new.capacity)) }
+        ensures capacity { OnOk result (capacity_for G.rule T.row self.old (length other.old.items)
+            ≡ Some self.new.capacity) }
+        ensures had_room { HasRoomFor self.old (length other.old.items)
+            → self.new.capacity ≡ self.old.capacity }
+        ensures cost { OnOk result (self.new.cost ≡ moving (length other.old.items)
+            (cost_at self.old self.new.capacity)) }
         ensures alloc { self.new.alloc ≡ self.old.alloc }
         ensures cheap { IsCheap self.old → IsCheap self.new }
 
@@ -33,7 +39,7 @@ impl<T, A: Allocator, G: Growth> ThinVec<T, A, G> {
         ensures other_cost { other.new.cost ≡ other.old.cost }
         ensures other_alloc { other.new.alloc ≡ other.old.alloc }
 
-        // Refused, nothing changed.
+        // Where it fails, nothing changed.
         ensures err { OnErr result (self.new ≡ self.old) }
         ensures other_err { OnErr result (other.new ≡ other.old) }
         ensures never_less { self.old.capacity ≤ self.new.capacity }
@@ -48,10 +54,11 @@ impl<T, A: Allocator, G: Growth> ThinVec<T, A, G> {
         Ok(())
     }
 
-    /// Cuts the list at `at`: it keeps the first `at` items and its capacity, and the answer has the others, and the
-    /// capacity of their count.
+    /// Cuts the list at `at`: it keeps the first `at` items and its capacity, and the others are
+    /// returned, with exactly the capacity that they need.
     ///
-    /// It is refused only where memory is, and then nothing changes. At the length it takes no memory.
+    /// It fails only where memory is refused, and then nothing changes. At the length it needs no
+    /// allocation.
     pub fn split_off(&mut self, alloc: A, at: usize) -> Result<ThinVec<T, A, G>, ThinVecError>
         requires in_bounds { at ≤ length self.old.items }
         ensures succeeds { at ≡ length self.old.items → IsOk result }
@@ -65,7 +72,8 @@ impl<T, A: Allocator, G: Growth> ThinVec<T, A, G> {
         // The second list.
         ensures other_items { IfOk result (λ tail. tail.items ≡ drop at self.old.items) }
         ensures other_capacity { IfOk result (λ tail. tail.capacity ≡ length self.old.items - at) }
-        ensures other_cost { IfOk result (λ tail. tail.cost ≡ moving (length self.old.items - at) (cost_new (length self.old.items - at))) }
+        ensures other_cost { IfOk result (λ tail. tail.cost ≡ moving (length self.old.items - at)
+            (cost_new (length self.old.items - at))) }
         ensures other_alloc { IfOk result (λ tail. tail.alloc ≡ alloc) }
         ensures other_cheap { IfOk result (λ tail. IsCheap tail) }
         ensures within { IsWithin T.row self.old × IsWithin T.row self.new }
@@ -76,7 +84,8 @@ impl<T, A: Allocator, G: Growth> ThinVec<T, A, G> {
         Ok(tail)
     }
 
-    // Moves the items of `other` from `start` on behind those of this list, into spare room, as one run.
+    // Moves the items of `other` from `start` on to the end of this list, into spare room, as one
+    // run.
     fn append_reserved(&mut self, other: &mut ThinVec<T, A, G>, start: usize)
         requires in_bounds { start ≤ length other.old.items }
         requires room { HasRoomFor self.old (length other.old.items - start) }
