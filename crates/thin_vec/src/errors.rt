@@ -5,8 +5,9 @@ ghost use Rattle.std.specs.declared.io.ErrorKind.TheVariants as Kind;
 
 use crate::list::ThinVec;
 use std::alloc::{AllocError, Allocator, Global};
-use std::io;
+use std::error::Error;
 use std::io::ErrorKind;
+use std::{fmt, io};
 use thin_block::ThinVecError;
 
 /// A value that a refused call hands back to its caller, who owns it again.
@@ -154,3 +155,68 @@ impl<T: Drop, I: Drop, A: Allocator> From<SpliceRefused<T, I, A>> for io::Error 
         io::Error::from(ErrorKind::OutOfMemory)
     }
 }
+
+// The texts tell the cause alone, so that nothing is asked of what is handed back.
+impl<S> fmt::Debug for Rejected<S> {
+    fn fmt<W: fmt::Write>(&self, f: &mut fmt::Formatter<W>) -> fmt::Result {
+        f.debug_struct("Rejected")
+            .field("cause", &self.cause)
+            .finish_non_exhaustive()
+    }
+}
+
+impl<S> fmt::Display for Rejected<S> {
+    fn fmt<W: fmt::Write>(&self, f: &mut fmt::Formatter<W>) -> fmt::Result {
+        fmt::Display::fmt(&self.cause, f)
+    }
+}
+
+impl<S: Drop> Error for Rejected<S> {}
+
+impl<T, I> fmt::Debug for ExtendRefused<T, I> {
+    fn fmt<W: fmt::Write>(&self, f: &mut fmt::Formatter<W>) -> fmt::Result {
+        f.debug_struct("ExtendRefused")
+            .field("cause", &self.cause)
+            .finish_non_exhaustive()
+    }
+}
+
+impl<T, I> fmt::Display for ExtendRefused<T, I> {
+    fn fmt<W: fmt::Write>(&self, f: &mut fmt::Formatter<W>) -> fmt::Result {
+        fmt::Display::fmt(&self.cause, f)
+    }
+}
+
+impl<T: Drop, I: Drop> Error for ExtendRefused<T, I> {}
+
+impl<T, I, A: Allocator> fmt::Debug for CollectRefused<T, I, A> {
+    fn fmt<W: fmt::Write>(&self, f: &mut fmt::Formatter<W>) -> fmt::Result {
+        f.debug_struct("CollectRefused")
+            .field("cause", &self.cause)
+            .finish_non_exhaustive()
+    }
+}
+
+impl<T, I, A: Allocator> fmt::Display for CollectRefused<T, I, A> {
+    fn fmt<W: fmt::Write>(&self, f: &mut fmt::Formatter<W>) -> fmt::Result {
+        fmt::Display::fmt(&self.cause, f)
+    }
+}
+
+impl<T: Drop, I: Drop, A: Allocator> Error for CollectRefused<T, I, A> {}
+
+impl<T, I, A: Allocator> fmt::Debug for SpliceRefused<T, I, A> {
+    fn fmt<W: fmt::Write>(&self, f: &mut fmt::Formatter<W>) -> fmt::Result {
+        f.debug_struct("SpliceRefused")
+            .field("cause", &self.cause)
+            .finish_non_exhaustive()
+    }
+}
+
+impl<T, I, A: Allocator> fmt::Display for SpliceRefused<T, I, A> {
+    fn fmt<W: fmt::Write>(&self, f: &mut fmt::Formatter<W>) -> fmt::Result {
+        fmt::Display::fmt(&self.cause, f)
+    }
+}
+
+impl<T: Drop, I: Drop, A: Allocator> Error for SpliceRefused<T, I, A> {}

@@ -4,6 +4,7 @@
 pub mod first_list;
 pub mod moved_range;
 pub mod moves;
+pub mod own_error;
 pub mod refused_push;
 pub mod reserved_room;
 pub mod sorting;
