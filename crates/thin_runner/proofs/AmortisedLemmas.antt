@@ -61,28 +61,28 @@ module _ {T A G J : Type 0} (here : Setting T A J) (law : KeepsLaw here.rule) wh
   step-amortised : (m : ℕ) (v w : Thin T A) (command : Command T A G) (reply : Reply T A G) → IsPushOrPop command → IsAmortised m v → Steps here v command reply w → IsAmortised (m + accepted (command ∷ []) (reply ∷ [])) w
   step-amortised m v w (Push x) Done only a s =
       let was : length v.items ≤ m = a.items in
-      let paid : w.cost.grown ≡ (cost_at v w.capacity).grown = ap (λ z. z.cost.grown) s.1 in
+      let paid : w.cost.grown ≡ (cost_at v w.capacity).grown = ap (λ z. z.cost.grown) s.1.1 in
       record {
         paid = step-paid {G = G} here law v w (Push x) Done tt a.paid s;
-        items = omega (arith, ap (λ z. length z.items) s.1, length_push v.items x, was);
+        items = omega (arith, ap (λ z. length z.items) s.1.1, length_push v.items x, was);
         copied = elim (cases_lt v.capacity (length v.items + 1)) [
-          | inl full ↦ let grown : w.cost.grown ≡ v.cost.grown + length v.items = paid ∙ ap (λ c. c.grown) (cost_at-grown here.rule here.R law v 1 w.capacity full s.0) in
+          | inl full ↦ let grown : w.cost.grown ≡ v.cost.grown + length v.items = paid ∙ ap (λ c. c.grown) (cost_at-grown here.rule here.R law v 1 w.capacity full s.1.0) in
               inl (copied-growing v.capacity (length v.items) m v.cost w.cost.grown a.paid.cheap a.paid.room (omega arith) a.items grown)
-          | inr spare ↦ copied-kept m (m + 1) v.cost.grown w.cost.grown a.copied (omega arith) (paid ∙ ap (λ c. c.grown) (cost_at-kept here.rule here.R law v 1 w.capacity spare s.0))
+          | inr spare ↦ copied-kept m (m + 1) v.cost.grown w.cost.grown a.copied (omega arith) (paid ∙ ap (λ c. c.grown) (cost_at-kept here.rule here.R law v 1 w.capacity spare s.1.0))
         ];
       }
   step-amortised m v w Pop (Item o) only a s =
       let was : length v.items ≤ m = a.items in
       record {
         paid = step-paid {G = G} here law v w Pop (Item o) tt a.paid s;
-        items = omega (arith, ap length s.1, length-append w.items (option_to_list o), was);
-        copied = copied-kept m (m + 0) v.cost.grown w.cost.grown a.copied (omega arith) (ap (λ z. z.cost.grown) s.2);
+        items = omega (arith, ap length s.1.1, length-append w.items (option_to_list o), was);
+        copied = copied-kept m (m + 0) v.cost.grown w.cost.grown a.copied (omega arith) (ap (λ z. z.cost.grown) s.1.2);
       }
-  step-amortised m v w (Push x) (Returned y cause) only a s = same-amortised m v w a s.1.2
+  step-amortised m v w (Push x) (Returned y cause) only a s = same-amortised m v w a s.1.1.2
   step-amortised m v w (Push x) (OutOfRange back) only a s = same-amortised m v w a s.2
   step-amortised m v w Pop (OutOfRange back) only a s = same-amortised m v w a s.2
-  step-amortised m v w (Push x) reply only a s = absurd s
-  step-amortised m v w Pop reply only a s = absurd s
+  step-amortised m v w (Push x) reply only a s = absurd s.1
+  step-amortised m v w Pop reply only a s = absurd s.1
   step-amortised m v w command reply only a s = absurd only
 
   accepted-cons : (command : Command T A G) (reply : Reply T A G) (commands : List (Command T A G)) (replies : List (Reply T A G)) → accepted (command ∷ commands) (reply ∷ replies) ≡ accepted (command ∷ []) (reply ∷ []) + accepted commands replies

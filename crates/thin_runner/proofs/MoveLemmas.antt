@@ -70,56 +70,56 @@ module _ {T A J : Type 0} (here : Setting T A J) where
 module _ {T A G J : Type 0} (here : Setting T A J) where
   pub step-moves : (v w : Thin T A) (command : Command T A G) (reply : Reply T A G) → Steps here v command reply w → w.cost.moves ≤ v.cost.moves + may_move here v.items command reply
   step-moves v w command (OutOfRange back) s = same-moves v w v _ s.2 refl
-  step-moves v w (Push x) Done s = grown-moves v w _ 1 s.1
-  step-moves v w (Push x) (Returned y cause) s = same-moves v w v 0 s.1.2 refl
-  step-moves v w Pop (Item o) s = same-moves v w _ 0 s.2 refl
+  step-moves v w (Push x) Done s = grown-moves v w _ 1 s.1.1
+  step-moves v w (Push x) (Returned y cause) s = same-moves v w v 0 s.1.1.2 refl
+  step-moves v w Pop (Item o) s = same-moves v w _ 0 s.1.2 refl
   step-moves v w (Insert i x) Done s = grown-moves v w _ _ s.1.1
-  step-moves v w (Insert i x) (Returned y cause) s = same-moves v w v 0 s.1.2 refl
-  step-moves v w (Remove i) (Item (Some x)) s = edited-moves v w _ _ s.1
-  step-moves v w (SwapRemove i) (Item (Some x)) s = edited-moves v w _ _ s.1
-  step-moves v w (Set i x) (Item (Some y)) s = same-moves v w _ 0 s.1 refl
-  step-moves v w (Truncate k) Done s = same-moves v w _ 0 s refl
-  step-moves v w Clear Done s = same-moves v w _ 0 s refl
-  step-moves v w (Reserve k) Done s = same-moves v w _ 0 s.1 (cost_at-moves v w.capacity)
-  step-moves v w (Reserve k) (Refused cause) s = same-moves v w v 0 s.2 refl
-  step-moves v w (ReserveExact k) Done s = same-moves v w _ 0 s.1 (cost_at-moves v w.capacity)
-  step-moves v w (ReserveExact k) (Refused cause) s = same-moves v w v 0 s.2 refl
-  step-moves v w ShrinkToFit Done s = omega (arith, ap (λ z. z.cost.moves) s, shrunk-moves v)
-  step-moves v w ShrinkToFit (Refused cause) s = same-moves v w v 0 s.3 refl
-  step-moves v w (Resize k x) Done s = grown-moves v w _ _ s.1.1
-  step-moves v w (Resize k x) (Refused cause) s = refused-moves here v w (k - length v.items) _ cause (few-repeats (k - length v.items) x) s.1
-  step-moves v w (ExtendFromSlice xs) Done s = grown-moves v w _ _ s.1.1
-  step-moves v w (ExtendFromSlice xs) (Refused cause) s = refused-moves here v w (length xs.items) xs.items cause (omega arith) s.1
+  step-moves v w (Insert i x) (Returned y cause) s = same-moves v w v 0 s.1.1.2 refl
+  step-moves v w (Remove i) (Item (Some x)) s = edited-moves v w _ _ s.1.1
+  step-moves v w (SwapRemove i) (Item (Some x)) s = edited-moves v w _ _ s.1.1
+  step-moves v w (Set i x) (Item (Some y)) s = same-moves v w _ 0 s.1.1 refl
+  step-moves v w (Truncate k) Done s = same-moves v w _ 0 s.1 refl
+  step-moves v w Clear Done s = same-moves v w _ 0 s.1 refl
+  step-moves v w (Reserve k) Done s = same-moves v w _ 0 s.1.1 (cost_at-moves v w.capacity)
+  step-moves v w (Reserve k) (Refused cause) s = same-moves v w v 0 s.1.2 refl
+  step-moves v w (ReserveExact k) Done s = same-moves v w _ 0 s.1.1 (cost_at-moves v w.capacity)
+  step-moves v w (ReserveExact k) (Refused cause) s = same-moves v w v 0 s.1.2 refl
+  step-moves v w ShrinkToFit Done s = omega (arith, ap (λ z. z.cost.moves) s.1, shrunk-moves v)
+  step-moves v w ShrinkToFit (Refused cause) s = same-moves v w v 0 s.1.3 refl
+  step-moves v w (Resize k x) Done s = grown-moves v w _ _ s.1.1.1
+  step-moves v w (Resize k x) (Refused cause) s = refused-moves here v w (k - length v.items) _ cause (few-repeats (k - length v.items) x) s.1.1
+  step-moves v w (ExtendFromSlice xs) Done s = grown-moves v w _ _ s.1.1.1
+  step-moves v w (ExtendFromSlice xs) (Refused cause) s = refused-moves here v w (length xs.items) xs.items cause (omega arith) s.1.1
   step-moves v w (Extend xs lower) Done s = let end = length v.items in
-      omega (arith, spliced-moves here.rule here.R v w end end xs.items _ (length xs.items) s.0 (omega arith))
+      omega (arith, spliced-moves here.rule here.R v w end end xs.items _ (length xs.items) s.1.0 (omega arith))
   step-moves v w (Extend xs lower) (Stopped answers cause held in_hand rest) s =
       let end = length v.items in
       let others = held.items ++ (option_to_list in_hand ++ hinted_items rest) in
-      omega (arith, spliced-moves here.rule here.R v w end end s.1.placed _ (length xs.items) s.1.filled (omega (arith, ap length s.1.all, length-append s.1.placed others)))
-  step-moves v w (Append given) (Other back None) s = grown-moves v w _ _ s.1.1
-  step-moves v w (Append given) (Other back (Some cause)) s = same-moves v w v 0 s.1.2 refl
-  step-moves v w (SplitOff i) (Made out) s = same-moves v w _ 0 s.2 refl
-  step-moves v w (SplitOff i) (Refused cause) s = same-moves v w v 0 s.2 refl
-  step-moves v w Clone (Made copy) s = same-moves v w v 0 s.2 refl
-  step-moves v w Clone (Refused cause) s = same-moves v w v 0 s.2 refl
-  step-moves v w Retain Done s = edited-moves v w _ _ s
-  step-moves v w RetainMut Done s = edited-moves v w _ _ s
-  step-moves v w Dedup Done s = edited-moves v w _ _ s
-  step-moves v w DedupBy Done s = edited-moves v w _ _ s
-  step-moves v w DedupByKey Done s = edited-moves v w _ _ s
-  step-moves v w (Drain a b steps) (Answers answers) s = edited-moves v w _ _ s.1
-  step-moves v w (Drain a b steps) (Refused cause) s = same-moves v w v _ s.2 refl
-  step-moves v w (ExtractIf a b k) (Answers answers) s = edited-moves v w _ _ s.3
-  step-moves v w (ExtractIf a b k) (Refused cause) s = same-moves v w v _ s.2 refl
+      omega (arith, spliced-moves here.rule here.R v w end end s.1.1.placed _ (length xs.items) s.1.1.filled (omega (arith, ap length s.1.1.all, length-append s.1.1.placed others)))
+  step-moves v w (Append given) (Other back None) s = grown-moves v w _ _ s.1.1.1
+  step-moves v w (Append given) (Other back (Some cause)) s = same-moves v w v 0 s.1.1.2 refl
+  step-moves v w (SplitOff i) (Made out) s = same-moves v w _ 0 s.1.1 refl
+  step-moves v w (SplitOff i) (Refused cause) s = same-moves v w v 0 s.1.2 refl
+  step-moves v w Clone (Made copy) s = same-moves v w v 0 s.1.2 refl
+  step-moves v w Clone (Refused cause) s = same-moves v w v 0 s.1.2 refl
+  step-moves v w Retain Done s = edited-moves v w _ _ s.1
+  step-moves v w RetainMut Done s = edited-moves v w _ _ s.1
+  step-moves v w Dedup Done s = edited-moves v w _ _ s.1
+  step-moves v w DedupBy Done s = edited-moves v w _ _ s.1
+  step-moves v w DedupByKey Done s = edited-moves v w _ _ s.1
+  step-moves v w (Drain a b steps) (Answers answers) s = edited-moves v w _ _ s.1.1
+  step-moves v w (Drain a b steps) (Refused cause) s = same-moves v w v _ s.1.2 refl
+  step-moves v w (ExtractIf a b k) (Answers answers) s = edited-moves v w _ _ s.1.1
+  step-moves v w (ExtractIf a b k) (Refused cause) s = same-moves v w v _ s.1.2 refl
   step-moves v w (Splice a b steps xs lower) (Answers answers) s =
-      spliced-moves here.rule here.R v w a b xs.items _ (length xs.items) s.1 (omega arith)
+      spliced-moves here.rule here.R v w a b xs.items _ (length xs.items) s.1.1 (omega arith)
   step-moves v w (Splice a b steps xs lower) (Stopped answers cause held in_hand rest) s =
-      let stopped = s.1 in
+      let stopped = s.1.1 in
       let others = held.items ++ (option_to_list in_hand ++ hinted_items rest) in
       spliced-moves here.rule here.R v w a b stopped.placed _ (length xs.items) stopped.filled
       (omega (arith, ap length stopped.all, length-append stopped.placed others))
-  step-moves v w (Splice a b steps xs lower) (Refused cause) s = same-moves v w v _ s.2 refl
-  step-moves v w command reply s = absurd s
+  step-moves v w (Splice a b steps xs lower) (Refused cause) s = same-moves v w v _ s.1.2 refl
+  step-moves v w command reply s = absurd s.1
 
   pub runs-moves : (v w : Thin T A) (commands : List (Command T A G)) (replies : List (Reply T A G)) (run : Runs here v commands replies w) → w.cost.moves ≤ v.cost.moves + run_may_move here v w commands replies run
   runs-moves v w [] [] run = omega (arith, ap (λ z. z.cost.moves) run)

@@ -7,7 +7,7 @@ use Rattle.std.specs.List.{AllZip, AppendsClones, remove_range, swap_remove, sli
 use Rattle.thin_vec.specs.Clones.{IsResized}
 use Rattle.thin_runner.specs.commands.Filters.{same_key}
 use Rattle.thin_runner.proofs.ExtractLemmas.{few-extracted}
-use Rattle.thin_runner.proofs.FilterLemmas.{few-asked, few-pairs}
+use Rattle.thin_runner.proofs.FilterLemmas.{few-asked, few-pairs, looks, tells}
 use Rattle.thin_runner.proofs.RunLemmas.{runs-keep}
 use Rattle.std.specs.Prelude.{◌⊎◌, All, HoldsAt, drop, remove, slice_get, slice_set, take}
 use Rattle.std.specs.Borrow.{RattleType}
@@ -29,11 +29,15 @@ use Rattle.thin_runner.specs.declared.command.Reply.{Reply}
 use Rattle.thin_runner.specs.declared.command.Reply.TheVariants.{Answers, Done, Item, List as Made, Other, Returned, Refused, Stopped, OutOfRange}
 
 -- copied items and blocks decide whether a cost is cheap
-cheap-same : (c : ℕ) (k k' : Cost) → k'.blocks ≡ k.blocks → k'.grown ≡ k.grown → IsCheapAt c k → IsCheapAt c k'
+cheap-same : (c : ℕ) (k k' : Cost) → k'.blocks ≡ k.blocks → k'.grown ≡ k.grown
+    → IsCheapAt c k → IsCheapAt c k'
 cheap-same c k k' blocks grown h = record {
   none = λ e. let z = h.none e in (omega (arith, blocks, z.0), omega (arith, grown, z.1));
   grown = λ e. omega (arith, grown, h.grown e);
-  blocks = λ e. let b = h.blocks e in let same : 2 ^ k'.blocks ≡ 2 ^ k.blocks = ap (λ n. 2 ^ n) blocks in omega (arith, same, b);
+  blocks = λ e.
+      let b = h.blocks e in
+      let same : 2 ^ k'.blocks ≡ 2 ^ k.blocks = ap (λ n. 2 ^ n) blocks in
+      omega (arith, same, b);
 }
 
 -- a cheap list that has room for its items
@@ -41,48 +45,79 @@ pub record IsPaid {T A : Type 0} (v : Thin T A) : Type 0 where
   pub cheap : IsCheap v
   pub room : length v.items ≤ v.capacity
 
-module _ {T A : Type 0} (rule : Rule) (R : RattleType) (law : KeepsLaw rule) where
+module _ {T A : Type 0} (v w : Thin T A) (a : IsPaid v) where
+  -- nothing changed
+  same-paid : w ≡ v → IsPaid w
+  same-paid e = subst IsPaid (sym e) a
+
   -- the capacity, the blocks and the copied items stay, and no item comes in
-  kept-paid : (v w u : Thin T A) → IsPaid v → w ≡ u → u.capacity ≡ v.capacity → u.cost.blocks ≡ v.cost.blocks → u.cost.grown ≡ v.cost.grown → length u.items ≤ length v.items → IsPaid w
-  kept-paid v w u a e cap blocks copied few =
+  kept-paid : (u : Thin T A) → w ≡ u → u.capacity ≡ v.capacity
+      → u.cost.blocks ≡ v.cost.blocks → u.cost.grown ≡ v.cost.grown
+      → length u.items ≤ length v.items → IsPaid w
+  kept-paid u e cap blocks copied few =
       let room : length v.items ≤ v.capacity = a.room in
-      let cheap : IsCheapAt v.capacity u.cost = cheap-same v.capacity v.cost u.cost blocks copied a.cheap in
-      subst IsPaid (sym e) (record { cheap = subst (λ c. IsCheapAt c u.cost) (sym cap) cheap; room = omega (arith, room, few, cap) })
+      let cheap : IsCheapAt v.capacity u.cost =
+      cheap-same v.capacity v.cost u.cost blocks copied a.cheap in
+      subst IsPaid (sym e) (record {
+        cheap = subst (λ c. IsCheapAt c u.cost) (sym cap) cheap;
+        room = omega (arith, room, few, cap);
+      })
 
-  same-paid : (v w : Thin T A) → IsPaid v → w ≡ v → IsPaid w
-  same-paid v w a e = subst IsPaid (sym e) a
-
+module _ {T A J : Type 0} (here : Setting T A J) (law : KeepsLaw here.rule) (v w : Thin T A)
+    (a : IsPaid v) where
   -- the capacity is the ruled one for n items more, and at most n come in
-  ruled-paid : (v w u : Thin T A) (n : ℕ) → IsPaid v → capacity_for rule R v n ≡ Some w.capacity → w ≡ u → u.cost.blocks ≡ (cost_at v w.capacity).blocks → u.cost.grown ≡ (cost_at v w.capacity).grown → length u.items ≤ length v.items + n → IsPaid w
-  ruled-paid v w u n a next e blocks copied few =
+  ruled-paid : (u : Thin T A) (n : ℕ) → capacity_for here.rule here.R v n ≡ Some w.capacity
+      → w ≡ u → u.cost.blocks ≡ (cost_at v w.capacity).blocks
+      → u.cost.grown ≡ (cost_at v w.capacity).grown
+      → length u.items ≤ length v.items + n → IsPaid w
+  ruled-paid u n next e blocks copied few =
+      let items : length w.items ≡ length u.items = ap (λ z. length z.items) e in
       record {
-        cheap = cheap-same w.capacity (cost_at v w.capacity) w.cost (ap (λ z. z.cost.blocks) e ∙ blocks) (ap (λ z. z.cost.grown) e ∙ copied) (cheap-regrown rule R law v n w.capacity a.cheap a.room next);
+        cheap = cheap-same w.capacity (cost_at v w.capacity) w.cost
+            (ap (λ z. z.cost.blocks) e ∙ blocks)
+            (ap (λ z. z.cost.grown) e ∙ copied)
+            (cheap-regrown here.rule here.R law v n w.capacity a.cheap a.room next);
         room = elim (cases_lt v.capacity (length v.items + n)) [
-          | inl full ↦ let g = cap-grown rule R law v n w.capacity full next in omega (arith, ap (λ z. length z.items) e, few, g.0)
-          | inr spare ↦ let same = cap-kept rule R law v n w.capacity spare next in omega (arith, ap (λ z. length z.items) e, few, same, spare)
+          | inl full ↦
+              let g = cap-grown here.rule here.R law v n w.capacity full next in
+              omega (arith, items, few, g.0)
+          | inr spare ↦
+              let same = cap-kept here.rule here.R law v n w.capacity spare next in
+              omega (arith, items, few, same, spare)
         ];
       }
 
-module _ {T A J : Type 0} (here : Setting T A J) (law : KeepsLaw here.rule) where
-  refused-paid : (v w : Thin T A) (n : ℕ) (sources : List T) (cause : ThinVecError) → IsPaid v → RefusesClone here v n sources cause w → IsPaid w
-  refused-paid v w n sources cause a r = stopped r.2
+  -- nothing changed, or there is room for n items more
+  refused-paid : (n : ℕ) (sources : List T) (cause : ThinVecError)
+      → RefusesClone here v n sources cause w → IsPaid w
+  refused-paid n sources cause r = stopped r.2
     where
-      stopped : (w ≡ v) ⊎ ((at : ℕ) × (at < length sources) × HoldsAt (λ x. ¬ (here.infallible x)) sources at × Grows here v n v.items at w) → IsPaid w
-      stopped (inl e) = same-paid here.rule here.R law v w a e
-      stopped (inr s) = ruled-paid here.rule here.R law v w _ n a s.3.0 s.3.1 refl refl (omega arith)
+      stopped : (w ≡ v) ⊎ ((at : ℕ) × (at < length sources)
+          × HoldsAt (λ x. ¬ (here.infallible x)) sources at × Grows here v n v.items at w)
+          → IsPaid w
+      stopped (inl e) = same-paid v w a e
+      stopped (inr s) = ruled-paid _ n s.3.0 s.3.1 refl refl (omega arith)
 
+-- how many items an edit leaves, at most
 module _ {T : Type 0} where
   few-swap_remove : (xs : List T) (i : ℕ) (x : T) → length (swap_remove xs i x) ≤ length xs
-  few-swap_remove xs i x = omega (arith, length-take (length xs - 1) (slice_set xs i (slice_index_or xs (length xs - 1) x)))
+  few-swap_remove xs i x =
+      let last = slice_index_or xs (length xs - 1) x in
+      omega (arith, length-take (length xs - 1) (slice_set xs i last))
 
-  few-drained : (xs : List T) (a b : ℕ) → a ≤ b → b ≤ length xs → length (remove_range xs a b) ≤ length xs
-  few-drained xs a b order within = omega (arith, order, within, length-append (take a xs) (drop b xs), length-take a xs, length-drop b xs)
+  few-drained : (xs : List T) (a b : ℕ) → (a ≤ b) × (b ≤ length xs)
+      → length (remove_range xs a b) ≤ length xs
+  few-drained xs a b inside =
+      let all = length-append (take a xs) (drop b xs) in
+      omega (arith, inside.0, inside.1, all, length-take a xs, length-drop b xs)
 
   few-take : (xs : List T) (k : ℕ) → length (take k xs) ≤ length xs
   few-take xs k = omega (arith, length-take k xs)
 
-  few-remove : (xs : List T) (i : ℕ) (x : T) → slice_get xs i ≡ Some x → length (remove xs i) ≤ length xs
-  few-remove xs i x at = omega (arith, length-append (take i xs) (drop (suc i) xs), length-take i xs, length-drop (suc i) xs)
+  few-remove : (xs : List T) (i : ℕ) → length (remove xs i) ≤ length xs
+  few-remove xs i =
+      let all = length-append (take i xs) (drop (suc i) xs) in
+      omega (arith, all, length-take i xs, length-drop (suc i) xs)
 
   one-more : (xs : List T) (x : T) → length (xs ++ x ∷ []) ≤ length xs + 1
   one-more xs x = omega (arith, length_push xs x)
@@ -90,63 +125,104 @@ module _ {T : Type 0} where
   all-more : (xs ys : List T) → length (xs ++ ys) ≤ length xs + length ys
   all-more xs ys = omega (arith, length-append xs ys)
 
-  resized-more : (clones : T → T → Type 0) (xs ys : List T) (k : ℕ) (x : T) → IsResized clones xs k x ys → length ys ≤ length xs + (k - length xs)
+  resized-more : (clones : T → T → Type 0) (xs ys : List T) (k : ℕ) (x : T)
+      → IsResized clones xs k x ys → length ys ≤ length xs + (k - length xs)
   resized-more clones xs ys k x r = omega (arith, r.len)
 
-  zipped-more : (clones : T → T → Type 0) (xs ys : List T) → AllZip clones xs ys → length ys ≡ length xs
+  zipped-more : (clones : T → T → Type 0) (xs ys : List T) → AllZip clones xs ys
+      → length ys ≡ length xs
   zipped-more clones [] [] z = refl
   zipped-more clones (x ∷ xs) (y ∷ ys) z = ap suc (zipped-more clones xs ys z.1)
   zipped-more clones xs ys z = absurd z
 
-  clones-more : (clones : T → T → Type 0) (xs ys more : List T) → AppendsClones clones xs ys more → length ys ≤ length xs + length more
-  clones-more clones xs ys more a = omega (arith, ap length a.1, length-append xs a.0, zipped-more clones more a.0 a.2)
+  clones-more : (clones : T → T → Type 0) (xs ys more : List T)
+      → AppendsClones clones xs ys more → length ys ≤ length xs + length more
+  clones-more clones xs ys more a =
+      let count = zipped-more clones more a.0 a.2 in
+      omega (arith, ap length a.1, length-append xs a.0, count)
 
 module _ {T A G J : Type 0} (here : Setting T A J) (law : KeepsLaw here.rule) where
-  pub step-paid : (v w : Thin T A) (command : Command T A G) (reply : Reply T A G) → KeepsCheap command → IsPaid v → Steps here v command reply w → IsPaid w
-  step-paid v w command (OutOfRange back) keeps a s = same-paid here.rule here.R law v w a s.2
+  -- a step keeps a list cheap
+  pub step-paid : (v w : Thin T A) (command : Command T A G) (reply : Reply T A G)
+      → KeepsCheap command → IsPaid v → Steps here v command reply w → IsPaid w
+  step-paid v w command (OutOfRange back) keeps a s = same-paid v w a s.2
   step-paid v w (ReserveExact k) reply keeps a s = absurd keeps
   step-paid v w ShrinkToFit reply keeps a s = absurd keeps
-  step-paid v w (Push x) Done keeps a s = ruled-paid here.rule here.R law v w _ 1 a s.0 s.1 refl refl (one-more v.items x)
-  step-paid v w (Push x) (Returned y cause) keeps a s = same-paid here.rule here.R law v w a s.1.2
-  step-paid v w Pop (Item o) keeps a s = kept-paid here.rule here.R law v w _ a s.2 refl refl refl (omega (arith, ap length s.1, length-append w.items (option_to_list o)))
-  step-paid v w (Insert i x) Done keeps a s = ruled-paid here.rule here.R law v w _ 1 a s.1.0 s.1.1 refl refl (omega (arith, length-insert v.items i x s.0))
-  step-paid v w (Insert i x) (Returned y cause) keeps a s = same-paid here.rule here.R law v w a s.1.2
-  step-paid v w (Remove i) (Item (Some x)) keeps a s = kept-paid here.rule here.R law v w _ a s.1 refl refl refl (few-remove v.items i x s.0)
-  step-paid v w (SwapRemove i) (Item (Some x)) keeps a s = kept-paid here.rule here.R law v w _ a s.1 refl refl refl (few-swap_remove v.items i x)
-  step-paid v w (Set i x) (Item (Some y)) keeps a s = kept-paid here.rule here.R law v w _ a s.1 refl refl refl (omega (arith, length-set v.items i x))
-  step-paid v w (Truncate k) Done keeps a s = kept-paid here.rule here.R law v w _ a s refl refl refl (few-take v.items k)
-  step-paid v w Clear Done keeps a s = kept-paid here.rule here.R law v w _ a s refl refl refl (omega arith)
-  step-paid v w (Reserve k) Done keeps a s = ruled-paid here.rule here.R law v w _ k a s.0 s.1 refl refl (omega arith)
-  step-paid v w (Reserve k) (Refused cause) keeps a s = same-paid here.rule here.R law v w a s.2
-  step-paid v w (Resize k x) Done keeps a s = ruled-paid here.rule here.R law v w _ (k - length v.items) a s.1.0 s.1.1 refl refl (resized-more here.clones v.items w.items k x s.0)
-  step-paid v w (Resize k x) (Refused cause) keeps a s = refused-paid here law v w (k - length v.items) _ cause a s.1
-  step-paid v w (ExtendFromSlice xs) Done keeps a s = ruled-paid here.rule here.R law v w _ (length xs.items) a s.1.0 s.1.1 refl refl (clones-more here.clones v.items w.items xs.items s.0)
-  step-paid v w (ExtendFromSlice xs) (Refused cause) keeps a s = refused-paid here law v w (length xs.items) xs.items cause a s.1
-  step-paid v w (Extend xs lower) Done keeps a s = record { cheap = s.0.cheap a.cheap; room = s.0.within.room }
-  step-paid v w (Extend xs lower) (Stopped answers cause held in_hand rest) keeps a s = record { cheap = s.1.filled.cheap a.cheap; room = s.1.filled.within.room }
-  step-paid v w (Append given) (Other back None) keeps a s = ruled-paid here.rule here.R law v w _ (length given.items) a s.1.0 s.1.1 refl refl (all-more v.items given.items)
-  step-paid v w (Append given) (Other back (Some cause)) keeps a s = same-paid here.rule here.R law v w a s.1.2
-  step-paid v w (SplitOff i) (Made out) keeps a s = kept-paid here.rule here.R law v w _ a s.2 refl refl refl (few-take v.items i)
-  step-paid v w (SplitOff i) (Refused cause) keeps a s = same-paid here.rule here.R law v w a s.2
-  step-paid v w Clone (Made copy) keeps a s = same-paid here.rule here.R law v w a s.2
-  step-paid v w Clone (Refused cause) keeps a s = same-paid here.rule here.R law v w a s.2
-  step-paid v w Retain Done keeps a s = kept-paid here.rule here.R law v w _ a s refl refl refl (few-asked (λ j x. let a = here.judging.look j x in (a.0, x, a.1)) here.judge v.items)
-  step-paid v w RetainMut Done keeps a s = kept-paid here.rule here.R law v w _ a s refl refl refl (few-asked here.judging.keep here.judge v.items)
-  step-paid v w Dedup Done keeps a s = kept-paid here.rule here.R law v w _ a s refl refl refl (few-pairs (λ j later kept. (here.eq later kept, later, kept, j)) here.judge v.items)
-  step-paid v w DedupBy Done keeps a s = kept-paid here.rule here.R law v w _ a s refl refl refl (few-pairs here.judging.same here.judge v.items)
-  step-paid v w DedupByKey Done keeps a s = kept-paid here.rule here.R law v w _ a s refl refl refl (few-pairs (same_key here.judging.key) here.judge v.items)
-  step-paid v w (Drain i j steps) (Answers answers) keeps a s = kept-paid here.rule here.R law v w _ a s.1 refl refl refl (few-drained v.items i j s.0.0 s.0.1)
-  step-paid v w (Drain i j steps) (Refused cause) keeps a s = same-paid here.rule here.R law v w a s.2
+  step-paid v w (Push x) Done keeps a s =
+      ruled-paid here law v w a _ 1 s.1.0 s.1.1 refl refl (one-more v.items x)
+  step-paid v w (Push x) (Returned y cause) keeps a s = same-paid v w a s.1.1.2
+  step-paid v w Pop (Item o) keeps a s =
+      let items = length-append w.items (option_to_list o) in
+      kept-paid v w a _ s.1.2 refl refl refl (omega (arith, ap length s.1.1, items))
+  step-paid v w (Insert i x) Done keeps a s =
+      let items = length-insert v.items i x s.0 in
+      ruled-paid here law v w a _ 1 s.1.0 s.1.1 refl refl (omega (arith, items))
+  step-paid v w (Insert i x) (Returned y cause) keeps a s = same-paid v w a s.1.1.2
+  step-paid v w (Remove i) (Item (Some x)) keeps a s =
+      kept-paid v w a _ s.1.1 refl refl refl (few-remove v.items i)
+  step-paid v w (SwapRemove i) (Item (Some x)) keeps a s =
+      kept-paid v w a _ s.1.1 refl refl refl (few-swap_remove v.items i x)
+  step-paid v w (Set i x) (Item (Some y)) keeps a s =
+      kept-paid v w a _ s.1.1 refl refl refl (omega (arith, length-set v.items i x))
+  step-paid v w (Truncate k) Done keeps a s =
+      kept-paid v w a _ s.1 refl refl refl (few-take v.items k)
+  step-paid v w Clear Done keeps a s = kept-paid v w a _ s.1 refl refl refl (omega arith)
+  step-paid v w (Reserve k) Done keeps a s =
+      ruled-paid here law v w a _ k s.1.0 s.1.1 refl refl (omega arith)
+  step-paid v w (Reserve k) (Refused cause) keeps a s = same-paid v w a s.1.2
+  step-paid v w (Resize k x) Done keeps a s =
+      let few = resized-more here.clones v.items w.items k x s.1.0 in
+      ruled-paid here law v w a _ (k - length v.items) s.1.1.0 s.1.1.1 refl refl few
+  step-paid v w (Resize k x) (Refused cause) keeps a s =
+      refused-paid here law v w a (k - length v.items) _ cause s.1.1
+  step-paid v w (ExtendFromSlice xs) Done keeps a s =
+      let few = clones-more here.clones v.items w.items xs.items s.1.0 in
+      ruled-paid here law v w a _ (length xs.items) s.1.1.0 s.1.1.1 refl refl few
+  step-paid v w (ExtendFromSlice xs) (Refused cause) keeps a s =
+      refused-paid here law v w a (length xs.items) xs.items cause s.1.1
+  step-paid v w (Extend xs lower) Done keeps a s =
+      record { cheap = s.1.0.cheap a.cheap; room = s.1.0.within.room }
+  step-paid v w (Extend xs lower) (Stopped answers cause held in_hand rest) keeps a s =
+      let filled = s.1.1.filled in record { cheap = filled.cheap a.cheap; room = filled.within.room }
+  step-paid v w (Append given) (Other back None) keeps a s =
+      let few = all-more v.items given.items in
+      ruled-paid here law v w a _ (length given.items) s.1.1.0 s.1.1.1 refl refl few
+  step-paid v w (Append given) (Other back (Some cause)) keeps a s = same-paid v w a s.1.1.2
+  step-paid v w (SplitOff i) (Made out) keeps a s =
+      kept-paid v w a _ s.1.1 refl refl refl (few-take v.items i)
+  step-paid v w (SplitOff i) (Refused cause) keeps a s = same-paid v w a s.1.2
+  step-paid v w Clone (Made copy) keeps a s = same-paid v w a s.1.2
+  step-paid v w Clone (Refused cause) keeps a s = same-paid v w a s.1.2
+  step-paid v w Retain Done keeps a s =
+      let few = few-asked (looks here.judging.look) here.judge v.items in
+      kept-paid v w a _ s.1 refl refl refl few
+  step-paid v w RetainMut Done keeps a s =
+      kept-paid v w a _ s.1 refl refl refl (few-asked here.judging.keep here.judge v.items)
+  step-paid v w Dedup Done keeps a s =
+      kept-paid v w a _ s.1 refl refl refl (few-pairs (tells here.eq here.judge) here.judge v.items)
+  step-paid v w DedupBy Done keeps a s =
+      kept-paid v w a _ s.1 refl refl refl (few-pairs here.judging.same here.judge v.items)
+  step-paid v w DedupByKey Done keeps a s =
+      let few = few-pairs (same_key here.judging.key) here.judge v.items in
+      kept-paid v w a _ s.1 refl refl refl few
+  step-paid v w (Drain i j steps) (Answers answers) keeps a s =
+      kept-paid v w a _ s.1.1 refl refl refl (few-drained v.items i j s.0)
+  step-paid v w (Drain i j steps) (Refused cause) keeps a s = same-paid v w a s.1.2
   step-paid v w (ExtractIf i j k) (Answers answers) keeps a s =
-      kept-paid here.rule here.R law v w _ a s.3 refl refl refl (few-extracted here.judging.take here.judge k v.items i j s.0 s.1)
-  step-paid v w (ExtractIf i j k) (Refused cause) keeps a s = same-paid here.rule here.R law v w a s.2
-  step-paid v w (Splice i j steps xs lower) (Answers answers) keeps a s = record { cheap = s.1.cheap a.cheap; room = s.1.within.room }
+      let few = few-extracted here.judging.take here.judge k v.items i j s.0.0 s.0.1 in
+      kept-paid v w a _ s.1.1 refl refl refl few
+  step-paid v w (ExtractIf i j k) (Refused cause) keeps a s = same-paid v w a s.1.2
+  step-paid v w (Splice i j steps xs lower) (Answers answers) keeps a s =
+      record { cheap = s.1.1.cheap a.cheap; room = s.1.1.within.room }
   step-paid v w (Splice i j steps xs lower) (Stopped answers cause held in_hand rest) keeps a s =
-      record { cheap = s.1.filled.cheap a.cheap; room = s.1.filled.within.room }
-  step-paid v w (Splice i j steps xs lower) (Refused cause) keeps a s = same-paid here.rule here.R law v w a s.2
-  step-paid v w command reply keeps a s = absurd s
+      let filled = s.1.1.filled in record { cheap = filled.cheap a.cheap; room = filled.within.room }
+  step-paid v w (Splice i j steps xs lower) (Refused cause) keeps a s = same-paid v w a s.1.2
+  step-paid v w command reply keeps a s = absurd s.1
 
-  pub runs-paid : (v w : Thin T A) (commands : List (Command T A G)) (replies : List (Reply T A G)) → All KeepsCheap commands → IsPaid v → Runs here v commands replies w → IsPaid w
+  -- and so does a run
+  pub runs-paid : (v w : Thin T A) (commands : List (Command T A G)) (replies : List (Reply T A G))
+      → All KeepsCheap commands → IsPaid v → Runs here v commands replies w → IsPaid w
   runs-paid v w commands replies only a run =
-      runs-keep here (λ n z. IsPaid z) KeepsCheap (λ c r. 0) (λ n x y c r keeps h s. step-paid x y c r keeps h s)
+      runs-keep here (λ n z. IsPaid z) KeepsCheap (λ c r. 0)
+      (λ n x y c r keeps h s. step-paid x y c r keeps h s)
       (λ cs rs. 0) (λ c r cs rs. omega arith) (omega arith) 0 v w commands replies only a run

@@ -1,18 +1,18 @@
--- What a command may do to a list, and what it replies: a case for each, in the order of the commands, and one for all that filter.
--- What no case names is not allowed.
+-- What a command may do to a list, and what it replies: a case for each, in the order of the
+-- commands, and one for all that filter. What no case names is not allowed. A difference of numbers
+-- is 0 where it would be below.
 use Rattle.std.specs.Prelude.{◌≡◌, ◌+◌, ◌-◌, ◌==◌, ◌<◌, ◌≤◌, ◌↔◌, List, [], ◌∷◌, ◌++◌, IsSome, MatchOption, None, Some, drop, false, if◌then◌else◌, insert, length, remove, replicate, slice_get, slice_range, slice_set, take}
 use Rattle.std.specs.List.{AllZip, AppendsClones, remove_range, swap_remove}
 use Rattle.std.specs.Option.{option_to_list}
 use Rattle.thin_vec.specs.Clones.{IsResized}
 use Rattle.thin_vec.specs.Filters.{left_at}
-use Rattle.thin_vec.specs.Growth.{exact_capacity}
-use Rattle.thin_vec.specs.ThinVec.{Thin, capacity_for, cost_shrunk}
+use Rattle.thin_vec.specs.ThinVec.{Thin, capacity_for, cost_shrunk, exact_for}
 use Rattle.thin_vec.specs.declared.ThinVecError.TheVariants.{OutOfMemory}
 use Rattle.thin_runner.specs.Setting.{Setting}
 use Rattle.thin_runner.specs.commands.Edits.{Grows, Refuses, at_capacity, edited}
 use Rattle.thin_runner.specs.commands.Filters.{answered, around, extracting, sifted}
 use Rattle.thin_runner.specs.commands.Many.{RefusesClone}
-use Rattle.thin_runner.specs.commands.Ranges.{Walks, walked}
+use Rattle.thin_runner.specs.commands.Ranges.{walked}
 use Rattle.thin_runner.specs.commands.Room.{made}
 use Rattle.thin_runner.specs.commands.Splices.{Replaces, StopsBetween}
 use Rattle.thin_runner.specs.declared.command.Command.{Command}
@@ -35,56 +35,93 @@ module _ {T A G : Type 0} where
   IsInRange xs command = Unit {0}
 
 module _ {T A G J : Type 0} (here : Setting T A J) where
-  abbrev pub Steps : Thin T A → Command T A G → Reply T A G → Thin T A → Type 0
-  Steps old command (OutOfRange back) new = (back ≡ command) × ¬ (IsInRange old.items command) × (new ≡ old)
-  Steps old (Push v) Done new = Grows here old 1 (old.items ++ v ∷ []) 1 new
-  Steps old (Push v) (Returned w cause) new = (w ≡ v) × Refuses (capacity_for here.rule here.R old 1) old 1 cause new
-  Steps old Pop (Item o) new = (IsSome o ↔ (0 < length old.items)) × (old.items ≡ new.items ++ option_to_list o) × (new ≡ record old { items = new.items })
-  Steps old (Insert i v) Done new = (i ≤ length old.items) × Grows here old 1 (insert old.items i v) (length old.items - i + 1) new
-  Steps old (Insert i v) (Returned w cause) new = (w ≡ v) × Refuses (capacity_for here.rule here.R old 1) old 1 cause new
-  Steps old (Remove i) (Item (Some x)) new = (slice_get old.items i ≡ Some x) × (new ≡ edited old (remove old.items i) (length old.items - (i + 1)))
-  Steps old (SwapRemove i) (Item (Some x)) new =
-      (slice_get old.items i ≡ Some x) × (new ≡ edited old (swap_remove old.items i x) (if i + 1 == length old.items then 0 else 1))
-  Steps old (Set i v) (Item (Some x)) new = (slice_get old.items i ≡ Some x) × (new ≡ record old { items = slice_set old.items i v })
-  Steps old (Truncate k) Done new = new ≡ record old { items = take k old.items }
-  Steps old Clear Done new = new ≡ record old { items = [] }
-  Steps old (Reserve k) Done new = (capacity_for here.rule here.R old k ≡ Some new.capacity) × (new ≡ at_capacity old new.capacity)
-  Steps old (Reserve k) (Refused cause) new = Refuses (capacity_for here.rule here.R old k) old k cause new
-  Steps old (ReserveExact k) Done new = (exact_capacity here.R old.capacity (length old.items + k) ≡ Some new.capacity) × (new ≡ at_capacity old new.capacity)
-  Steps old (ReserveExact k) (Refused cause) new = Refuses (exact_capacity here.R old.capacity (length old.items + k)) old k cause new
-  Steps old ShrinkToFit Done new = new ≡ record old { capacity = length old.items; cost = cost_shrunk old }
-  Steps old ShrinkToFit (Refused cause) new = (0 < length old.items) × ¬ (length old.items ≡ old.capacity) × (cause ≡ OutOfMemory) × (new ≡ old)
-  Steps old (Resize k v) Done new = let more = k - length old.items in IsResized here.clones old.items k v new.items × Grows here old more new.items more new
-  Steps old (Resize k v) (Refused cause) new = let more = k - length old.items in (0 < more) × RefusesClone here old more (replicate (more - 1) v) cause new
-  Steps old (ExtendFromSlice xs) Done new =
-      let more = length xs.items in AppendsClones here.clones old.items new.items xs.items × Grows here old more new.items more new
-  Steps old (ExtendFromSlice xs) (Refused cause) new = let more = length xs.items in (0 < more) × RefusesClone here old more xs.items cause new
+  -- what a command does whose index is one of the list
+  abbrev pub Does : Thin T A → Command T A G → Reply T A G → Thin T A → Type 0
+  Does old (Push v) Done new = Grows here old 1 (old.items ++ v ∷ []) 1 new
+  Does old (Push v) (Returned w cause) new =
+      (w ≡ v) × Refuses (capacity_for here.rule here.R old 1) old 1 cause new
+  Does old Pop (Item o) new = (IsSome o ↔ (0 < length old.items))
+      × (old.items ≡ new.items ++ option_to_list o) × (new ≡ record old { items = new.items })
+  Does old (Insert i v) Done new =
+      Grows here old 1 (insert old.items i v) (length old.items - i + 1) new
+  Does old (Insert i v) (Returned w cause) new =
+      (w ≡ v) × Refuses (capacity_for here.rule here.R old 1) old 1 cause new
+  Does old (Remove i) (Item (Some x)) new = (slice_get old.items i ≡ Some x)
+      × (new ≡ edited old (remove old.items i) (length old.items - (i + 1)))
+  Does old (SwapRemove i) (Item (Some x)) new = let m = if i + 1 == length old.items then 0 else 1 in
+      (slice_get old.items i ≡ Some x) × (new ≡ edited old (swap_remove old.items i x) m)
+  Does old (Set i v) (Item (Some x)) new =
+      (slice_get old.items i ≡ Some x) × (new ≡ record old { items = slice_set old.items i v })
+  Does old (Truncate k) Done new = new ≡ record old { items = take k old.items }
+  Does old Clear Done new = new ≡ record old { items = [] }
+  Does old (Reserve k) Done new = (capacity_for here.rule here.R old k ≡ Some new.capacity)
+      × (new ≡ at_capacity old new.capacity)
+  Does old (Reserve k) (Refused cause) new =
+      Refuses (capacity_for here.rule here.R old k) old k cause new
+  Does old (ReserveExact k) Done new = (exact_for here.R old k ≡ Some new.capacity)
+      × (new ≡ at_capacity old new.capacity)
+  Does old (ReserveExact k) (Refused cause) new = Refuses (exact_for here.R old k) old k cause new
+  Does old ShrinkToFit Done new =
+      new ≡ record old { capacity = length old.items; cost = cost_shrunk old }
+  Does old ShrinkToFit (Refused cause) new = (0 < length old.items)
+      × ¬ (length old.items ≡ old.capacity) × (cause ≡ OutOfMemory) × (new ≡ old)
+  Does old (Resize k v) Done new = let more = k - length old.items in
+      IsResized here.clones old.items k v new.items × Grows here old more new.items more new
+  Does old (Resize k v) (Refused cause) new = let more = k - length old.items in
+      (0 < more) × RefusesClone here old more (replicate (more - 1) v) cause new
+  Does old (ExtendFromSlice xs) Done new = let more = length xs.items in
+      AppendsClones here.clones old.items new.items xs.items
+      × Grows here old more new.items more new
+  Does old (ExtendFromSlice xs) (Refused cause) new = let more = length xs.items in
+      (0 < more) × RefusesClone here old more xs.items cause new
   -- an `extend` puts items in the place of none, at the end, and moves each once
-  Steps old (Extend xs lower) Done new = let end = length old.items in
-      Replaces here.rule here.R old end end xs.items (lower + length xs.items) new × (new.cost.moves + end ≡ old.cost.moves + length new.items)
-  Steps old (Extend xs lower) (Stopped answers cause held in_hand rest) new = let end = length old.items in
-      (answers.items ≡ []) × StopsBetween here.rule here.R old end end xs.items held.items lower cause in_hand rest new
+  Does old (Extend xs lower) Done new = let end = length old.items in
+      Replaces here.rule here.R old end end xs.items (lower + length xs.items) new
       × (new.cost.moves + end ≡ old.cost.moves + length new.items)
-  Steps old (Append given) (Other back None) new =
-      (back ≡ record given { items = [] }) × Grows here old (length given.items) (old.items ++ given.items) (length given.items) new
-  Steps old (Append given) (Other back (Some cause)) new =
-      let more = length given.items in (back ≡ given) × Refuses (capacity_for here.rule here.R old more) old more cause new
-  Steps old (SplitOff i) (Made out) new = (i ≤ length old.items) × (out ≡ made here.alloc (drop i old.items)) × (new ≡ record old { items = take i old.items })
-  Steps old (SplitOff i) (Refused cause) new = (i < length old.items) × (cause ≡ OutOfMemory) × (new ≡ old)
-  Steps old Clone (Made copy) new = AllZip here.clones old.items copy.items × (copy ≡ made here.alloc copy.items) × (new ≡ old)
-  Steps old Clone (Refused cause) new = (0 < length old.items) × (cause ≡ OutOfMemory) × (new ≡ old)
-  Steps old (Drain a b steps) (Answers answers) new =
-      Walks old.items a b steps.items answers.items × (new ≡ edited old (remove_range old.items a b) (if a == b then 0 else length old.items - b))
-  Steps old (Drain a b steps) (Refused cause) new = (0 < length steps.items) × (cause ≡ OutOfMemory) × (new ≡ old)
+  Does old (Extend xs lower) (Stopped answers cause held in_hand rest) new =
+      let end = length old.items in (answers.items ≡ [])
+      × StopsBetween here.rule here.R old end end xs.items held.items lower cause in_hand rest new
+      × (new.cost.moves + end ≡ old.cost.moves + length new.items)
+  Does old (Append given) (Other back None) new = let more = length given.items in
+      (back ≡ record given { items = [] })
+      × Grows here old more (old.items ++ given.items) more new
+  Does old (Append given) (Other back (Some cause)) new = let more = length given.items in
+      (back ≡ given) × Refuses (capacity_for here.rule here.R old more) old more cause new
+  Does old (SplitOff i) (Made out) new =
+      (out ≡ made here.alloc (drop i old.items)) × (new ≡ record old { items = take i old.items })
+  Does old (SplitOff i) (Refused cause) new =
+      (i < length old.items) × (cause ≡ OutOfMemory) × (new ≡ old)
+  Does old Clone (Made copy) new = AllZip here.clones old.items copy.items
+      × (copy ≡ made here.alloc copy.items) × (new ≡ old)
+  Does old Clone (Refused cause) new =
+      (0 < length old.items) × (cause ≡ OutOfMemory) × (new ≡ old)
+  Does old (Drain a b steps) (Answers answers) new =
+      let m = if a == b then 0 else length old.items - b in
+      (answers.items ≡ walked (slice_range old.items a b) steps.items)
+      × (new ≡ edited old (remove_range old.items a b) m)
+  Does old (Drain a b steps) (Refused cause) new =
+      (0 < length steps.items) × (cause ≡ OutOfMemory) × (new ≡ old)
   -- it hands out those that go, from the front
-  Steps old (ExtractIf a b k) (Answers answers) new = let asked = extracting here.judging.take here.judge k (slice_range old.items a b) in
-      (a ≤ b) × (b ≤ length old.items) × (answers.items ≡ walked (left_at false asked) (replicate k Front)) × (new ≡ sifted old (around old.items a b asked))
-  Steps old (ExtractIf a b k) (Refused cause) new = (0 < k) × (cause ≡ OutOfMemory) × (new ≡ old)
-  Steps old (Splice a b steps xs lower) (Answers answers) new =
-      Walks old.items a b steps.items answers.items × Replaces here.rule here.R old a b xs.items (lower + length xs.items) new
-  Steps old (Splice a b steps xs lower) (Stopped answers cause held in_hand rest) new =
-      Walks old.items a b steps.items answers.items × StopsBetween here.rule here.R old a b xs.items held.items lower cause in_hand rest new
-  Steps old (Splice a b steps xs lower) (Refused cause) new = (0 < length steps.items) × (cause ≡ OutOfMemory) × (new ≡ old)
+  Does old (ExtractIf a b k) (Answers answers) new =
+      let asked = extracting here.judging.take here.judge k (slice_range old.items a b) in
+      (answers.items ≡ walked (left_at false asked) (replicate k Front))
+      × (new ≡ sifted old (around old.items a b asked))
+  Does old (ExtractIf a b k) (Refused cause) new = (0 < k) × (cause ≡ OutOfMemory) × (new ≡ old)
+  Does old (Splice a b steps xs lower) (Answers answers) new =
+      (answers.items ≡ walked (slice_range old.items a b) steps.items)
+      × Replaces here.rule here.R old a b xs.items (lower + length xs.items) new
+  Does old (Splice a b steps xs lower) (Stopped answers cause held in_hand rest) new =
+      (answers.items ≡ walked (slice_range old.items a b) steps.items)
+      × StopsBetween here.rule here.R old a b xs.items held.items lower cause in_hand rest new
+  Does old (Splice a b steps xs lower) (Refused cause) new =
+      (0 < length steps.items) × (cause ≡ OutOfMemory) × (new ≡ old)
   -- a command that filters
-  Steps old command Done new = MatchOption (answered here old.items command) ⊥ (λ answers. new ≡ sifted old answers)
-  Steps old command reply new = ⊥
+  Does old command Done new =
+      MatchOption (answered here old.items command) ⊥ (λ answers. new ≡ sifted old answers)
+  Does old command reply new = ⊥
+
+  -- one step: a command whose index is none of the list is handed back, and nothing changes
+  abbrev pub Steps : Thin T A → Command T A G → Reply T A G → Thin T A → Type 0
+  Steps old command (OutOfRange back) new =
+      (back ≡ command) × ¬ (IsInRange old.items command) × (new ≡ old)
+  Steps old command reply new = IsInRange old.items command × Does old command reply new

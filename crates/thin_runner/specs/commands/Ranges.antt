@@ -1,5 +1,5 @@
 -- Ranges of items that go out of a list, step by step. (std: `Vec::drain`, `DoubleEndedIterator`)
-use Rattle.std.specs.Prelude.{◌≡◌, ℕ, ◌-◌, ◌≤◌, List, [], ◌∷◌, Option, drop, length, slice_get, slice_range, take}
+use Rattle.std.specs.Prelude.{ℕ, ◌-◌, List, [], ◌∷◌, Option, drop, length, slice_get, take}
 use Rattle.thin_runner.specs.declared.command.Step.{Step}
 use Rattle.thin_runner.specs.declared.command.Step.TheVariants.{Front, Back}
 
@@ -9,7 +9,3 @@ module _ {T : Type 0} where
   walked xs [] = []
   walked xs (Front ∷ steps) = slice_get xs 0 ∷ walked (drop 1 xs) steps
   walked xs (Back ∷ steps) = slice_get xs (length xs - 1) ∷ walked (take (length xs - 1) xs) steps
-
-  -- a walk over the items from a up to b, which is a range of xs, gave these answers
-  abbrev pub Walks : List T → ℕ → ℕ → List Step → List (Option T) → Type 0
-  Walks xs a b steps answers = (a ≤ b) × (b ≤ length xs) × (answers ≡ walked (slice_range xs a b) steps)

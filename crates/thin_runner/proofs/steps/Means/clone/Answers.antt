@@ -7,7 +7,7 @@ pub returns-in-Ok : goal.returns-in-Ok
 returns-in-Ok g c =
     let e = c.in-Ok.ensures in
     let same = length_all_zip _ _ _ e.items in
-    record { allowed = (e.items, grind (arith, same), search rules) }
+    record { allowed = (tt, (e.items, grind (arith, same), search rules)) }
 
 pub returns-in-Err : goal.returns-in-Err
 returns-in-Err g c = search rules

@@ -10,12 +10,17 @@ use Rattle.thin_runner.proofs.steps.Means.extend.Goals as goal
 pub returns-in-Ok : goal.returns-in-Ok
 returns-in-Ok g c =
     let e = c.in-Ok.ensures in
+    let old = c.args.list.now in
     let items = drains-items c.new.result e.items.0 e.items.1 ∙ c.new.ensures.items in
     record {
       allowed = (
-        replaces-end _ _ c.args.list.now c.extend-filled.new.self c.args.items.items _ (e.items.2 ∙ ap (λ l. c.args.list.now.items ++ l) items)
-            e.capacity e.within.1 (search rules) e.cost e.cheap e.alloc,
-        e.cost.moves,
+        tt,
+        (
+          replaces-end _ _ old c.extend-filled.new.self c.args.items.items _
+              (e.items.2 ∙ ap (λ l. old.items ++ l) items)
+              e.capacity e.within.1 (search rules) e.cost e.cheap e.alloc,
+          e.cost.moves,
+        ),
       );
     }
 
@@ -31,7 +36,7 @@ returns-in-Err g c =
     let none = c.new-in-Err-2.ensures.items in
     let full : ¬ (HasRoomFor old (c.args.lower + length c.args.items.items)) = search rules in
     record {
-      allowed = (
+      allowed = (tt, (
         c.new-in-Err.ensures.items,
         record {
           placed = e.placed.0;
@@ -49,5 +54,5 @@ returns-in-Err g c =
           unchanged = λ end empty. (e.err empty).0 ∙ sym (cut-end old);
         },
         e.cost.moves,
-      );
+      ));
     }

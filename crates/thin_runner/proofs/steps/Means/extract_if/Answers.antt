@@ -74,11 +74,14 @@ returns g c =
     ∙ (sym (ap (λ n. c.loop.answers.items ++ handed_out n (left_at false (left n))) none) ∙ at.answers) in
     record {
       allowed = (
-        c.requires.start_le_end,
-        c.requires.in_bounds,
-        all,
-        extracting-ends a.list.now _ a.start a.end asked (extract_front end) (extract_rest end) (extract_tail end) (extract_gone end) (extract_cost end)
-            (subst (λ l. IsExtracting asked (take a.start a.list.now.items) a.list.now.cost l (extract_front end) (extract_gone end) (extract_cost end)) stays at.extracting)
-            at.tail (search rules) (search rules) (search rules) (search rules),
+        (c.requires.start_le_end, c.requires.in_bounds),
+        (
+          all,
+          extracting-ends a.list.now _ a.start a.end asked (extract_front end) (extract_rest end)
+              (extract_tail end) (extract_gone end) (extract_cost end)
+              (subst (λ l. IsExtracting asked (take a.start a.list.now.items) a.list.now.cost l
+              (extract_front end) (extract_gone end) (extract_cost end)) stays at.extracting)
+              at.tail (search rules) (search rules) (search rules) (search rules),
+        ),
       );
     }

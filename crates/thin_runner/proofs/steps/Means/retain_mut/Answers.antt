@@ -6,4 +6,7 @@ use Rattle.thin_runner.proofs.steps.Means.retain_mut.Goals as goal
 pub returns : goal.returns
 returns g c =
     let e = c.retain_mut.ensures in
-    record { allowed = retained-by (λ f. f.0) _ _ (λ f x b f' y called. search rules) _ c.args.list.now c.retain_mut.new.self e.retained e.capacity e.alloc }
+    record {
+      allowed = (tt, retained-by (λ f. f.0) _ _ (λ f x b f' y called. search rules)
+          _ c.args.list.now c.retain_mut.new.self e.retained e.capacity e.alloc);
+    }

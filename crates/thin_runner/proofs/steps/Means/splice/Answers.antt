@@ -39,8 +39,8 @@ returns-in-Ok-finish g c =
     let all = drains-items (splice_iter c.walk.new.splice) e.items.0 e.items.1 ∙ items in
     record {
       allowed = (
-        (c.requires.start_le_end, c.requires.in_bounds, search rules),
-        replaces-of left (record {
+        (c.requires.start_le_end, c.requires.in_bounds),
+        (search rules, replaces-of left (record {
           items = e.items.2 ∙ (λ i. (is.front i ++ all i) ++ is.tail i);
           capacity = subst (λ n. IsLoose g.G.Growth.rule _ n c.finish.new.self.0.capacity) is.capacity e.capacity;
           within = subst (λ list. IsWithin _ list) (sym left) c.capacity-capacity.ensures.within;
@@ -50,7 +50,7 @@ returns-in-Ok-finish g c =
           cost = spliced old start end hole alloc is _ e.cost;
           cheap = λ cheap. e.cheap (subst IsCheap (sym (left-is old start end hole alloc is)) cheap);
           alloc = e.alloc ∙ is.same;
-        }),
+        })),
       );
     }
 
@@ -83,8 +83,8 @@ returns-in-Err-finish g c =
     let placed = e.placed.0 in
     record {
       allowed = (
-        (c.requires.start_le_end, c.requires.in_bounds, search rules),
-        stops-of left (record {
+        (c.requires.start_le_end, c.requires.in_bounds),
+        (search rules, stops-of left (record {
           placed = placed;
           all = sym items ∙ stopped-items (splice_iter c.walk.new.splice) refused.rest placed refused.held.items refused.in_hand e.placed.2;
           claim = stopped-claim (splice_iter c.walk.new.splice) refused.rest placed refused.held.items refused.in_hand e.placed.2 ∙ claim;
@@ -120,6 +120,6 @@ returns-in-Err-finish g c =
           );
           unchanged = λ full none. (e.err (no-tail old start end hole alloc is full) none).0
               ∙ left-is old start end hole alloc is;
-        }),
+        })),
       );
     }
