@@ -38,7 +38,7 @@ use base.Fraction.{full_share}
 use borrow.Author.Tests.{clash}
 use Rattle.core.proofs.mem.Param.{El, R}
 use Rattle.core.proofs.alloc.Calls.{Al}
-use Rattle.thin_block.specs.Ownership.{any, there, fits_block, places, parts, whole, frame, block_owns}
+use Rattle.thin_block.specs.Ownership.{any, there, fits_block, places, parts, whole, asked, frame, block_owns}
 use Rattle.thin_block.specs.contracts.block.Block as block
 use Rattle.std.specs.Mem.{type_size}
 use Rattle.std.specs.Align.{type_align}
@@ -149,7 +149,7 @@ module _ {M : Type 1} {𝓤 : Ura M} (𝓛 : Logic 𝓤) (R : RattleType) where
   -- a block is whole again where its slots are room
   pub gather : (t : Ty → Ptr → Fml) (n c b o : ℕ)
       → ent 𝓤 (sep 𝓤 (sem 𝓛 (frame t R n c b o)) (H.room (items R c) b (o + 16)))
-      (sep 𝓤 (H.room (whole R c) b o) (sem 𝓛 (t (whole R c) (block_ptr b o))))
+      (sep 𝓤 (H.room (asked R c) b o) (sem 𝓛 (t (asked R c) (block_ptr b o))))
   gather t n c b o =
       let word : Ty = ty_int w64 in
       qed 𝓛 (‵ (frame t R n c b o) ∷ ‵ (froom (items R c) b (o + 16)) ∷ []) ∵ fsplit ! $
@@ -161,7 +161,7 @@ module _ {M : Type 1} {𝓤 : Ura M} (𝓛 : Logic 𝓤) (R : RattleType) where
       use1 𝓛 (‵ (froom word b (o + 8))) (𝓛.laws.at_room word b (o + 8) (vint w64 n)) $
       move ! (1 ∷ []) $ fsplit ! $
       drop ! $ fsplit ! $ move ! (2 ∷ 4 ∷ []) $ fjoin ! $ move ! (3 ∷ 0 ∷ []) $ fjoin ! $
-      use2 𝓛 (‵ (froom (whole R c) b o)) (apply∗ 𝓤 (sem 𝓛 (parts R c b o)) (H.room (whole R c) b o))
+      use2 𝓛 (‵ (froom (asked R c) b o)) (apply∗ 𝓤 (sem 𝓛 (parts R c b o)) (H.room (asked R c) b o))
       $ done !
 
 -- ---- a block, with its slots apart

@@ -4,6 +4,7 @@ mod PowersLemmas
 mod Walks
 mod HeaderMemory
 mod SlotMemory
+mod Turning
 mod ShiftMemory
 mod CopyCall
 mod Sharing

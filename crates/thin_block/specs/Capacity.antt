@@ -1,6 +1,6 @@
 -- The bytes of a block, and which capacities fit. Everywhere s and a are the size and the alignment
 -- of an item, in bytes.
-use Rattle.std.specs.Prelude.{◌≡◌, ℕ, ◌+◌, ◌*◌, ◌-◌, ◌^◌, ◌&&◌, Bool, IsTrue, if◌then◌else◌, max, nat_lt}
+use Rattle.std.specs.Prelude.{◌≡◌, ℕ, ◌+◌, ◌*◌, ◌-◌, ◌^◌, ◌&&◌, ◌==◌, Bool, IsTrue, if◌then◌else◌, max, nat_lt}
 use Rattle.std.specs.Int.{next_multiple_of}
 use Rattle.std.specs.Mem.{type_size}
 use Rattle.std.specs.Align.{type_align}
@@ -41,3 +41,8 @@ Fits R c = IsTrue (fits (type_size R) (type_align R) c)
 -- bytes, 4 for others (thin-vec)
 unfoldable pub first : ℕ → ℕ
 first s = if nat_lt (2 ^ 61 - 1) s then 1 else 4
+
+-- how many items the header takes the room of, where it takes that of whole ones: two of 8 bytes,
+-- or one of 16, aligned as it is. Else 0
+abbrev pub header_items : ℕ → ℕ → ℕ
+header_items s a = if a == 8 then (if s == 8 then 2 else (if s == 16 then 1 else 0)) else 0

@@ -6,7 +6,7 @@
 --     backing            what turns the parts of the block back into the room that was asked for, and the right to give it back
 --     block_owns         all of a block, or of the words that every list without a block shares
 --     .._lent            the same, as a `&` sees it
-use Rattle.std.specs.Prelude.{◌≡◌, ℕ, ◌+◌, List, [], ◌∷◌, length, Bool, true, false, Option}
+use Rattle.std.specs.Prelude.{◌≡◌, ℕ, zero, suc, ◌+◌, List, [], ◌∷◌, length, Bool, true, false, Option}
 use Rattle.std.specs.declared.option.Option.TheVariants.{Some, None}
 use Rattle.std.specs.Mem.{type_size}
 use Rattle.std.specs.Align.{type_align}
@@ -22,7 +22,7 @@ use denote.Memory.{lone}
 use denote.RawPtr.{Ptr, block_ptr, null_ptr, lies_at, room_for}
 use denote.Sharing.{nothing, said, beside}
 use denote.Struct.Lending.{lent_at}
-use Rattle.thin_block.specs.Capacity.{is_small}
+use Rattle.thin_block.specs.Capacity.{is_small, header_items}
 
 -- whether there is any
 abbrev pub any : {X : Type 0} → List X → Bool
@@ -56,9 +56,21 @@ places R [] b o = ftrue
 places R (x ∷ xs) b o = fsep (place R x b o) (places R xs b (o + type_size R))
 
 -- the type of a whole block of c slots, as it is asked for: the two words, and then the slots
+abbrev pub whole_of : Ty → ℕ → Ty
+whole_of τ c = ty_struct []
+    (tcons (ty_int w64) (tcons (ty_int w64) (tcons (raw (ty_array τ c)) tnil)))
+
 abbrev pub whole : RattleType → ℕ → Ty
-whole R c = ty_struct []
-    (tcons (ty_int w64) (tcons (ty_int w64) (tcons (raw (ty_array (lone R.mir) c)) tnil)))
+whole R c = whole_of (lone R.mir) c
+
+-- the type that it is asked for as, by how many items the header takes the room of: where it takes
+-- that of whole ones, it is an array of them, which the allocator can make larger in its place
+abbrev pub asked_for : ℕ → Ty → ℕ → Ty
+asked_for zero τ c = whole_of τ c
+asked_for (suc k) τ c = raw (ty_array τ (suc k + c))
+
+abbrev pub asked : RattleType → ℕ → Ty
+asked R c = asked_for (header_items (type_size R) (type_align R)) (lone R.mir) c
 
 -- room for its parts
 abbrev pub parts : RattleType → ℕ → ℕ → ℕ → Fml
@@ -67,8 +79,8 @@ parts R c b o = fsep (froom (ty_int w64) b o)
 
 -- what makes the block whole again, padding and all, and the right t to give it back
 abbrev pub backing : (Ty → Ptr → Fml) → RattleType → ℕ → ℕ → ℕ → Fml
-backing t R c b o = fsep (fwand (parts R c b o) (froom (whole R c) b o))
-    (t (whole R c) (block_ptr b o))
+backing t R c b o = fsep (fwand (parts R c b o) (froom (asked R c) b o))
+    (t (asked R c) (block_ptr b o))
 
 -- a block but for its slots: the capacity c, the length n, that the block fits, and the way back
 abbrev pub frame : (Ty → Ptr → Fml) → RattleType → ℕ → ℕ → ℕ → ℕ → Fml

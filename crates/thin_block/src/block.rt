@@ -9,7 +9,8 @@ ghost use Rattle.thin_block.specs.Ownership.{block_owns, block_lent, any, there}
 use std::alloc::Allocator;
 use std::marker::{Model, PhantomData};
 
-// What the pointer of a list without a block points to. Every such list shares it, and nothing writes it.
+// What the pointer of a list without a block points to. Every such list shares it, and nothing
+// writes it.
 static NO_BLOCK: Header = Header {
     cap: 0,
     len: 0,
@@ -23,13 +24,15 @@ struct Header {
     aligned: [u128; 0],
 }
 
-/// At most one allocation that holds a capacity, a stored length and that many slots, each empty or holding an item.
+/// At most one allocation that holds a capacity, a stored length and that many slots, each empty or
+/// holding an item.
 ///
-/// A block is one pointer wide. It is no owner that drops: `release` gives the memory back, once every slot is empty.
-/// Contracts see the slots, the stored length, the allocator that the memory came from and three counters, none of which
-/// but the first two takes a byte at run time.
+/// A block is one pointer wide. It is no owner that drops: `release` gives the memory back, once
+/// every slot is empty. Contracts see the slots, the stored length, the allocator that the memory
+/// came from and three counters, none of which but the first two takes a byte at run time.
 pub struct Block<T, A: Allocator> {
-    // It points to the capacity, behind which the length and then the slots lie: of the allocation, or of `NO_BLOCK`.
+    // It points to the capacity, behind which the length and then the slots lie: of the allocation,
+    // or of `NO_BLOCK`.
     pub(crate) at: *mut usize,
     pub(crate) item: PhantomData<T>,
     pub(crate) handle: PhantomData<A>,

@@ -12,7 +12,8 @@ use thiserror::Error;
 /// Why a call was refused.
 #[derive(Debug, Clone, Copy, PartialEq, Eq, Error)]
 pub enum ThinVecError {
-    /// The capacity that the call needs does not fit. It is found before memory is asked for that capacity.
+    /// The capacity that the call needs does not fit. It is found before memory is asked for that
+    /// capacity.
     #[error("capacity overflow")]
     CapacityOverflow,
     /// Memory was refused, or the clone of an item.

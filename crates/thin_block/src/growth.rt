@@ -9,9 +9,11 @@ use crate::sizes::fits;
 pub mod doubling;
 pub mod power_bytes;
 
-/// A rule that names the capacity after one that does not suffice. Nothing else decides by how much a list grows.
+/// A rule that names the capacity after one that does not suffice. Nothing else decides by how much
+/// a list grows.
 pub trait Growth {
-    /// The rule on numbers: an item's size and alignment in bytes, the capacity and the greater want, in items. None is an overflow.
+    /// The rule on numbers: an item's size and alignment in bytes, the capacity and the greater
+    /// want, in items. None is an overflow.
     ghost rule: { ℕ → ℕ → ℕ → ℕ → Option ℕ };
 
     /// The capacity after `cap` that has room for `want` items, or `None` where it overflows.

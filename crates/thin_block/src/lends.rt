@@ -11,7 +11,8 @@ use std::alloc::Allocator;
 impl<T, A: Allocator> Block<T, A> {
     ghost use Rattle.thin_block.specs.Lends.{LendsItem, LendsItems};
 
-    /// The items in the slots from `start` up to `end`. The range may be empty, also without a block.
+    /// The items in the slots from `start` up to `end`. The range may be empty, also without a
+    /// block.
     pub fn slice(&self, start: usize, end: usize) -> &[T]
         requires start_le_end { start ≤ end }
         requires in_bounds { end ≤ length self.now.slots }
@@ -35,7 +36,8 @@ impl<T, A: Allocator> Block<T, A> {
         unsafe { &mut *(at.add(HEADER_WORDS) as *mut T).add(i) }
     }
 
-    /// The items in the slots from `start` up to `end`, to be written. The range may be empty, also without a block.
+    /// The items in the slots from `start` up to `end`, to be written. The range may be empty, also
+    /// without a block.
     pub fn slice_mut(&mut self, start: usize, end: usize) -> &mut [T]
         requires start_le_end { start ≤ end }
         requires in_bounds { end ≤ length self.old.slots }

@@ -1,9 +1,11 @@
-//! One allocation that holds a length, a capacity and slots for items: the only crate with raw pointers.
+//! One allocation that holds a length, a capacity and slots for items: the only crate with raw
+//! pointers.
 #![tactic(auto)]
 
 mod block;
 mod errors;
 mod growth;
+mod in_place;
 mod lends;
 mod memory;
 mod shifts;

@@ -9,7 +9,8 @@ ghost use Rattle.thin_block.specs.Slots.{IsPacked, empty, run, laid};
 
 use crate::block::Block;
 use crate::errors::ThinVecError;
-use crate::sizes::{align_of_block, bytes_of_block};
+use crate::in_place::LONG;
+use crate::sizes::{align_of_block, bytes_of_block, header_items};
 use std::alloc::{AllocError, Allocator};
 use std::marker::PhantomData;
 use std::mem::{ManuallyDrop, replace};
@@ -33,7 +34,8 @@ impl<T, A: Allocator> Block<T, A> {
         }
     }
 
-    /// Makes room for `cap` slots, by one allocation and one copy. Refused only where memory is, and then nothing changes.
+    /// Makes room for `cap` slots, by one allocation and one copy. Refused only where memory is,
+    /// and then nothing changes.
     pub fn grow(&mut self, alloc: &A, cap: usize) -> Result<(), ThinVecError>
         requires from { IsFrom self.old alloc.now }
         requires larger { length self.old.slots < cap }
@@ -46,10 +48,16 @@ impl<T, A: Allocator> Block<T, A> {
         ensures err { OnErr result (self.new ≡ self.old) }
         ensures cause { IfErr result (λ cause. cause ≡ ThinVecError.OutOfMemory) }
     {
-        self.remake(alloc, cap)
+        let len = self.len();
+        match header_items::<T>() {
+            2 if len >= LONG => self.grow_in_place::<2>(alloc, len, cap),
+            1 if len >= LONG / 2 => self.grow_in_place::<1>(alloc, len, cap),
+            _ => self.remake(alloc, cap),
+        }
     }
 
-    /// Gives up all slots but the first `cap`, by one allocation and one copy. Refused only where memory is, and then nothing changes.
+    /// Gives up all slots but the first `cap`, by one allocation and one copy. Refused only where
+    /// memory is, and then nothing changes.
     pub fn shrink(&mut self, alloc: &A, cap: usize) -> Result<(), ThinVecError>
         requires from { IsFrom self.old alloc.now }
         requires some { 0 < cap }

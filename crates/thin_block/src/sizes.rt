@@ -3,11 +3,12 @@ ghost use Rattle.std.specs.Prelude.{◌≡◌, ◌↔◌, IsTrue};
 ghost use Rattle.std.specs.Mem.{type_size};
 ghost use Rattle.std.specs.Align.{type_align};
 ghost use prog.Memory.{capped};
-ghost use Rattle.thin_block.specs.Capacity.{IsAlign, block_align, block_bytes, Fits};
+ghost use Rattle.thin_block.specs.Capacity.{IsAlign, block_align, block_bytes, Fits, header_items};
 
 use std::mem::{align_of, size_of};
 
-// The bytes of the capacity and the length. No type has an alignment above 16, so the items always begin here.
+// The bytes of the capacity and the length. No type has an alignment above 16, so the items always
+// begin here.
 pub(crate) const HEADER: usize = 16;
 
 // The same in words: how far behind the capacity the first item lies.
@@ -28,6 +29,21 @@ pub(crate) fn item_align<T>() -> usize
     align_of::<T>()
 }
 
+// How many items the header takes the room of, where it takes that of whole ones, aligned as it is.
+// Else 0.
+pub(crate) fn header_items<T>() -> usize
+    ensures value { result ≡ header_items (type_size T.row) (type_align T.row) }
+{
+    if item_align::<T>() != 8 {
+        return 0;
+    }
+    match item_size::<T>() {
+        8 => 2,
+        16 => 1,
+        _ => 0,
+    }
+}
+
 // The alignment of a block in bytes.
 pub(crate) fn align_of_block<T>() -> usize
     ensures value { result ≡ block_align (type_align T.row) }
@@ -43,7 +59,8 @@ pub(crate) fn bytes_of_block<T>(cap: usize) -> usize
     (HEADER + cap * item_size::<T>()).next_multiple_of(align_of_block::<T>())
 }
 
-/// Whether a block for `cap` items is small enough to be asked for: neither `cap` nor the block's bytes are past `isize::MAX`.
+/// Whether a block for `cap` items is small enough to be asked for: neither `cap` nor the block's
+/// bytes are past `isize::MAX`.
 pub fn fits<T>(cap: usize) -> bool
     ensures value { IsTrue result ↔ Fits T.row cap }
 {

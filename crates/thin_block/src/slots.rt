@@ -36,7 +36,8 @@ impl<T, A: Allocator> Block<T, A> {
         ensures cost { self.new.cost ≡ growing from.now.len from.now.cost }
     {}
 
-    /// `put`, and then `store_len`: both by one pointer, so that writing the item can't make the block be read again.
+    /// `put`, and then `store_len`: both by one pointer, so that writing the item can't make the
+    /// block be read again.
     pub fn put_and_store(&mut self, i: usize, value: T, len: usize)
         requires in_bounds { i < length self.old.slots }
         requires empty { slot self.old.slots i ≡ None }
@@ -53,7 +54,8 @@ impl<T, A: Allocator> Block<T, A> {
         }
     }
 
-    /// Moves the item out of the slot `i`, which is empty afterwards. Only what comes in counts as moved.
+    /// Moves the item out of the slot `i`, which is empty afterwards. Only what comes in counts as
+    /// moved.
     pub fn take(&mut self, i: usize) -> T
         requires filled { IsSome (slot self.old.slots i) }
         ensures value { slot self.old.slots i ≡ Some result }
@@ -85,8 +87,8 @@ impl<T, A: Allocator> Block<T, A> {
         }
     }
 
-    /// Moves the item out of the slot `i`, and the one in the slot `j` into it. They may be the same slot: then nothing
-    /// moves but what comes out.
+    /// Moves the item out of the slot `i`, and the one in the slot `j` into it. They may be the
+    /// same slot: then nothing moves but what comes out.
     pub fn take_replacing(&mut self, i: usize, j: usize) -> T
         requires first { IsSome (slot self.old.slots i) }
         requires second { IsSome (slot self.old.slots j) }
@@ -133,7 +135,8 @@ impl<T, A: Allocator> Block<T, A> {
         unsafe { ((at.add(HEADER_WORDS) as *mut T).add(i) as *mut [T; N]).read() }
     }
 
-    /// Moves the `k` items in the slots from `from` on to those from `to` on. The two runs may overlap.
+    /// Moves the `k` items in the slots from `from` on to those from `to` on. The two runs may
+    /// overlap.
     pub fn move_run(&mut self, from: usize, to: usize, k: usize)
         requires source { from + k ≤ length self.old.slots }
         requires target { to + k ≤ length self.old.slots }
@@ -213,8 +216,8 @@ impl<T, A: Allocator> Block<T, A> {
         self.move_run_charging(from, other, to, k);
     }
 
-    // Moves the `k` items in the slots from `from` on to those of `to_block` from `to` on, and says what `to_block` has
-    // cost by then.
+    // Moves the `k` items in the slots from `from` on to those of `to_block` from `to` on, and says
+    // what `to_block` has cost by then.
     pub(crate) fn move_run_charging(
         &mut self,
         from: usize,
@@ -266,8 +269,8 @@ impl<T: Copy, A: Allocator> Block<T, A> {
 
 // `row` with a copy of each of `items`, as many as it has places.
 //
-// std's `Slots::copy_in` is one copy, by a call and behind a test whether the two runs overlap. For a few items that would
-// cost more than the items.
+// std's `Slots::copy_in` is one copy, by a call and behind a test whether the two runs overlap. For
+// a few items that would cost more than the items.
 fn copied<T: Copy>(mut row: Slots<T>, items: &[T]) -> Slots<T>
     requires room { slots_len row ≡ length items.now }
     ensures cap { SamePlaces row result }

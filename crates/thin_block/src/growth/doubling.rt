@@ -7,7 +7,8 @@ ghost use Rattle.thin_block.specs.Growth.{doubling, ruled_capacity};
 use crate::growth::{Growth, fitting};
 use crate::sizes::item_size;
 
-/// The rule of the Rust crate: twice the capacity, or the want where that is more, and at least `first_capacity`.
+/// The rule of the Rust crate: twice the capacity, or the want where that is more, and at least
+/// `first_capacity`.
 pub struct Doubling {}
 
 impl Growth for Doubling {
@@ -28,7 +29,8 @@ impl Growth for Doubling {
     ghost law = { doubling_law };
 }
 
-/// The least capacity that a growth by doubling makes: 4, or 1 for items of more than `usize::MAX / 8` bytes.
+/// The least capacity that a growth by doubling makes: 4, or 1 for items of more than `usize::MAX /
+/// 8` bytes.
 pub fn first_capacity<T>() -> usize
     ensures value { result ≡ first (type_size T.row) }
 {
@@ -39,7 +41,8 @@ pub fn first_capacity<T>() -> usize
     }
 }
 
-/// The capacity that doubling rules for `want` items: `cap` where that suffices, and `None` where it overflows.
+/// The capacity that doubling rules for `want` items: `cap` where that suffices, and `None` where
+/// it overflows.
 pub fn next_capacity<T>(cap: usize, want: usize) -> Option<usize>
     ensures value { result ≡ ruled_capacity doubling T.row cap want }
 {

@@ -8,9 +8,9 @@ use crate::growth::doubling::Doubling;
 use crate::growth::{Growth, fitting};
 use crate::sizes::{HEADER, item_size};
 
-/// As many items as fit, behind the header, into a power of two bytes: the least power that has room for the want, and for
-/// twice the capacity. Allocators that serve powers of two then waste less than one item of a block. Items of no size grow as
-/// by `Doubling`.
+/// As many items as fit, behind the header, into a power of two bytes: the least power that has
+/// room for the want, and for twice the capacity. Allocators that serve powers of two then waste
+/// less than one item of a block. Items of no size grow as by `Doubling`.
 ///
 /// The rule is this port's own, after the one that the Rust crate has for Gecko.
 pub struct PowerBytes {}
@@ -21,8 +21,8 @@ impl Growth for PowerBytes {
 
     ghost rule = { power_bytes };
 
-    // A block of as many items is at most a power of two bytes, before it is rounded up to its alignment, and one item more
-    // would be past that power.
+    // A block of as many items is at most a power of two bytes, before it is rounded up to its
+    // alignment, and one item more would be past that power.
     fn next_capacity<T>(cap: usize, want: usize) -> Option<usize>
         requires { cap < want }
         ensures value { result ≡ power_bytes (type_size T.row) (type_align T.row) cap want }
@@ -41,8 +41,8 @@ impl Growth for PowerBytes {
     ghost law = { power_bytes_law };
 }
 
-// The least power of two that is at least as many bytes as a header and so many items take, or `None` where that is past
-// 2 ^ 63: then no block of them fits.
+// The least power of two that is at least as many bytes as a header and so many items take, or
+// `None` where that is past 2 ^ 63: then no block of them fits.
 fn power_for(items: usize, size: usize) -> Option<usize>
     ensures none { IfNone result (2 ^ 63 < 16 + items * size) }
     ensures value { IfSome result (λ power. power ≡ least_power (16 + items * size)) }

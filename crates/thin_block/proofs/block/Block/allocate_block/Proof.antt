@@ -38,10 +38,11 @@ use Rattle.std.specs.Align.{type_align}
 use Rattle.core.proofs.mem.Param.{El, R}
 use Rattle.thin_block.specs.Cost.{growing, no_cost}
 use Rattle.thin_block.specs.Capacity.{Fits, block_align, block_bytes}
-use Rattle.thin_block.specs.Ownership.{fits_block, parts, places, frame, whole as whole_block}
+use Rattle.thin_block.specs.Ownership.{fits_block, parts, places, frame, asked as whole_block}
 use Rattle.thin_block.proofs.SizesLemmas.{fits_tells, opened, rounded}
 use Rattle.thin_block.proofs.Walks.{slot_at, then_runs, after, head, arm_body, says_all, refused_made}
-use Rattle.thin_block.proofs.HeaderMemory.{args, Br, any_some, block_val, block_made, whole_size, whole_align, carve, items}
+use Rattle.thin_block.proofs.Turning.{asked_size, asked_align, carve_asked}
+use Rattle.thin_block.proofs.HeaderMemory.{args, Br, any_some, block_val, block_made, items}
 use Rattle.thin_block.proofs.SlotMemory.{of_raw}
 use Rattle.thin_block.specs.contracts.block.Block.allocate_block.{ended, clauses}
 use Rattle.thin_block.specs.contracts.block.Block.allocate_block.Key.{name as #self}
@@ -115,9 +116,9 @@ allocate_block_spec 𝓤 𝓛 𝓜 𝓡 wired T A LT LA g d dd met md =
     let fits : fits_block Rt cap ≡ true = opened Rt cap small in
     let short = (fits_tells Rt cap fits).short in
     let sixteen = (rounded Rt 0).most in
-    let sized : capped (size τ) ≡ bytes = ap capped (whole_size Rt cap)
+    let sized : capped (size τ) ≡ bytes = ap capped (asked_size Rt cap)
     ∙ capped_is size_of_block (omega arith) ∙ sym bytes_are in
-    let laid : capped (align τ) ≡ al = ap capped (whole_align Rt cap)
+    let laid : capped (align τ) ≡ al = ap capped (asked_align Rt cap)
     ∙ capped_is align_of_block (omega arith) ∙ sym align_is in
     regoal ! (λ (us : List Val). prop (WpFn 𝓤 H C Λ fn us Post))
     (λ i. are.0.0 i ++ (are.1.0.0 i ++ (are.1.1.0.0 i ++ (are.1.1.1.0.0 i ++ [])))) refl $
@@ -166,7 +167,7 @@ allocate_block_spec 𝓤 𝓛 𝓜 𝓡 wired T A LT LA g d dd met md =
     sets ! (of_opd ! (get ! refl)) refl (tt, tt) $
     use1 𝓛 (‵ (froom (ty_int w64) b o) ⊛ ‵ (froom (ty_int w64) b (o + 8)) ⊛ ‵
     (froom (items Rt cap) b (o + 16)) ⊛ ‵ (fwand (parts Rt cap b o) (froom τ b o)))
-    (carve 𝓛 Rt cap b o) $ split3 ! $ move ! (2 ∷ []) $ split ! $ move ! (2 ∷ 3 ∷ []) $
+    (carve_asked 𝓛 E b cap o) $ split3 ! $ move ! (2 ∷ []) $ split ! $ move ! (2 ∷ 3 ∷ []) $
     -- [the two words; the items; the way back; the token; the lifetimes]
     rewrite ! 1 (λ (k : ℕ). ‵ (froom (ty_int w64) b k))
     (let turned : o + 8 ≡ 8 + o = omega arith in turned) refl $

@@ -30,10 +30,11 @@ use Rattle.std.specs.Align.{type_align}
 use Rattle.core.proofs.mem.Param.{El, R}
 use Rattle.thin_block.specs.Slots.{empty}
 use Rattle.thin_block.specs.Capacity.{block_align, block_bytes}
-use Rattle.thin_block.specs.Ownership.{places, whole as whole_block}
+use Rattle.thin_block.specs.Ownership.{places, asked as whole_block}
 use Rattle.thin_block.proofs.SizesLemmas.{fits_tells, rounded}
 use Rattle.thin_block.proofs.Walks.{slot_at, then_runs, out_of_block, after}
-use Rattle.thin_block.proofs.HeaderMemory.{args, header, t, block_val, block_had, whole_size, whole_align, gather, items}
+use Rattle.thin_block.proofs.Turning.{asked_size, asked_align}
+use Rattle.thin_block.proofs.HeaderMemory.{args, header, t, block_val, block_had, gather, items}
 use Rattle.thin_block.proofs.SlotMemory.{to_raw}
 use Rattle.thin_block.specs.contracts.block.Block.free_block.{ended, clauses}
 use Rattle.thin_block.specs.contracts.block.Block.free_block.Key.{name as #self}
@@ -113,9 +114,9 @@ free_block_spec 𝓤 𝓛 𝓜 𝓡 wired T A LT LA g d dd met md =
     -- [the room; the right to free it; the handle's `&`; its token; the other tokens]
     let short = (fits_tells Rt cap fits).short in
     let sixteen = (rounded Rt 0).most in
-    let sized : capped (size τ) ≡ bytes = ap capped (whole_size Rt cap)
+    let sized : capped (size τ) ≡ bytes = ap capped (asked_size Rt cap)
     ∙ capped_is size_of_block (omega arith) ∙ sym bytes_are in
-    let laid : capped (align τ) ≡ al = ap capped (whole_align Rt cap)
+    let laid : capped (align τ) ≡ al = ap capped (asked_align Rt cap)
     ∙ capped_is align_of_block (omega arith) ∙ sym align_is in
     let y = at_gives Y 𝓛 𝓜.mem 𝓡.returns κ q handle_at h b o bytes al τ in
     regoal ! (λ (us : List Val). prop (WpFn 𝓤 H C Λ fn us Post))

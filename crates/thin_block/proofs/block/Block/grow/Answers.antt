@@ -5,8 +5,8 @@ use Rattle.thin_block.proofs.Outcomes.{on-ok}
 use Rattle.thin_block.proofs.block.Block.grow.Goals as goal
 
 -- the items in a larger row are the old row and empty slots
-pub returns-clause-slots : goal.returns-clause-slots
-returns-clause-slots g c =
+pub returns-in_default-clause-slots : goal.returns-in_default-clause-slots
+returns-in_default-clause-slots g c =
     let larger = c.requires.larger in
     on-ok c.remake.result
     (λ e. e ∙ packed-grown c.args.self.now.slots c.args.self.now.len c.requires.packed
