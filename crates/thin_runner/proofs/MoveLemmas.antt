@@ -1,5 +1,5 @@
 -- What a run has moved.
-use Rattle.std.proofs.Common.{Bool, true, false, ◌≡◌, ℕ, ◌+◌, ◌-◌, ◌==◌, ◌<◌, ◌≤◌, List, [], ◌∷◌, ◌++◌, Some, None, length, arith, ap, refl, inl, inr}
+use Rattle.std.proofs.Common.{Bool, true, false, ◌≡◌, ℕ, ◌+◌, ◌-◌, ◌==◌, ◌<◌, ◌≤◌, List, [], ◌∷◌, ◌++◌, Option, Some, None, length, arith, ap, refl, inl, inr}
 use Rattle.std.proofs.lemmas.List.{length-append, length-replicate}
 use Rattle.std.specs.Prelude.{◌*◌, ◌⊎◌, drop, take, HoldsAt, replicate, if◌then◌else◌}
 use Rattle.std.specs.Borrow.{RattleType}
@@ -12,7 +12,8 @@ use Rattle.thin_runner.specs.Setting.{Setting}
 use Rattle.thin_runner.specs.Steps.{Steps}
 use Rattle.thin_runner.specs.commands.Edits.{Grows, edited}
 use Rattle.thin_runner.specs.commands.Many.{RefusesClone}
-use Rattle.thin_runner.specs.commands.Splices.{Replaces}
+use Rattle.thin_runner.specs.commands.Splices.{Replaces, StopsBetween}
+use Rattle.thin_runner.specs.declared.hinted.Hinted.{Hinted}
 use Rattle.thin_vec.specs.declared.ThinVecError.{ThinVecError}
 use Rattle.thin_runner.proofs.CommandLemmas.{grown}
 use Rattle.thin_runner.specs.Hinted.{hinted_items}
@@ -22,24 +23,30 @@ use Rattle.thin_runner.specs.declared.command.Command.TheVariants.{Push, Pop, In
 use Rattle.thin_runner.specs.declared.command.Reply.{Reply}
 use Rattle.thin_runner.specs.declared.command.Reply.TheVariants.{Answers, Done, Item, List as Made, Other, Returned, Refused, Stopped, OutOfRange}
 
+-- how many items a `resize` is to clone, at most
 few-repeats : {T : Type 0} (k : ℕ) (x : T) → length (replicate (k - 1) x) ≤ k
 few-repeats k x = omega (arith, length-replicate (k - 1) x)
 
-module _ {T A : Type 0} where
+module _ {T A : Type 0} (v w : Thin T A) where
   -- no move more
-  same-moves : (v w u : Thin T A) (k : ℕ) → w ≡ u → u.cost.moves ≡ v.cost.moves → w.cost.moves ≤ v.cost.moves + k
-  same-moves v w u k e same = omega (arith, ap (λ z. z.cost.moves) e, same)
+  same-moves : (u : Thin T A) (k : ℕ) → w ≡ u → u.cost.moves ≡ v.cost.moves
+      → w.cost.moves ≤ v.cost.moves + k
+  same-moves u k e same = omega (arith, ap (λ z. z.cost.moves) e, same)
 
-  edited-moves : (v w : Thin T A) (xs : List T) (m : ℕ) → w ≡ edited v xs m → w.cost.moves ≤ v.cost.moves + m
-  edited-moves v w xs m e = omega (arith, ap (λ z. z.cost.moves) e)
+  -- as many as an edit makes
+  edited-moves : (xs : List T) (m : ℕ) → w ≡ edited v xs m → w.cost.moves ≤ v.cost.moves + m
+  edited-moves xs m e = omega (arith, ap (λ z. z.cost.moves) e)
 
-  grown-moves : (v w : Thin T A) (xs : List T) (m : ℕ) → w ≡ grown v w.capacity xs m → w.cost.moves ≤ v.cost.moves + m
-  grown-moves v w xs m e = omega (arith, ap (λ z. z.cost.moves) e, cost_at-moves v w.capacity)
+  -- the same after a growth
+  grown-moves : (xs : List T) (m : ℕ) → w ≡ grown v w.capacity xs m
+      → w.cost.moves ≤ v.cost.moves + m
+  grown-moves xs m e = omega (arith, ap (λ z. z.cost.moves) e, cost_at-moves v w.capacity)
 
-  module _ (rule : Rule) (R : RattleType) (v w : Thin T A) where
-    spliced-moves : (a b : ℕ) (placed : List T) (most k : ℕ) → Replaces rule R v a b placed most w
+  module _ (rule : Rule) (R : RattleType) (a b : ℕ) where
+    -- one for each item that came in, and at most two for each of those after the range
+    spliced-moves : (placed : List T) (most k : ℕ) → Replaces rule R v a b placed most w
         → length placed ≤ k → w.cost.moves ≤ v.cost.moves + (2 * (length v.items - b) + k)
-    spliced-moves a b placed most k f few =
+    spliced-moves placed most k f few =
         omega (
           arith,
           f.cost.moves,
@@ -50,26 +57,44 @@ module _ {T A : Type 0} where
           few,
         )
 
-  shrunk-moves : (v : Thin T A) → (cost_shrunk v).moves ≤ v.cost.moves
-  shrunk-moves v = go (length v.items == v.capacity) (length v.items == 0)
-    where
-      go : (full none : Bool) → (if full then v.cost else (if none then no_cost else growing (length v.items) v.cost)).moves ≤ v.cost.moves
-      go true _ = omega arith
-      go false true = omega arith
-      go false false = omega arith
+    -- the same where it was stopped: no more came in than there were
+    stopped-moves : (xs held : List T) (lower : ℕ) (cause : ThinVecError) (in_hand : Option T)
+        (rest : Hinted T A) → StopsBetween rule R v a b xs held lower cause in_hand rest w
+        → w.cost.moves ≤ v.cost.moves + (2 * (length v.items - b) + length xs)
+    stopped-moves xs held lower cause in_hand rest s =
+        let others = held ++ (option_to_list in_hand ++ hinted_items rest) in
+        spliced-moves s.placed (lower + length xs) (length xs) s.filled
+        (omega (arith, ap length s.all, length-append s.placed others))
 
-module _ {T A J : Type 0} (here : Setting T A J) where
-  refused-moves : (v w : Thin T A) (k : ℕ) (sources : List T) (cause : ThinVecError)
-      → length sources ≤ k → RefusesClone here v k sources cause w → w.cost.moves ≤ v.cost.moves + k
-  refused-moves v w k sources cause few r = stopped r.2
+-- a `shrink_to_fit` makes none
+shrunk-moves : {T A : Type 0} (v : Thin T A) → (cost_shrunk v).moves ≤ v.cost.moves
+shrunk-moves v = go (length v.items == v.capacity) (length v.items == 0)
+  where
+    go : (full none : Bool)
+        → (if full then v.cost else (if none then no_cost else growing (length v.items) v.cost)).moves
+        ≤ v.cost.moves
+    go true _ = omega arith
+    go false true = omega arith
+    go false false = omega arith
+
+module _ {T A J : Type 0} (here : Setting T A J) (v w : Thin T A) where
+  -- where a clone was refused, one for each that was not
+  refused-moves : (k : ℕ) (sources : List T) (cause : ThinVecError) → length sources ≤ k
+      → RefusesClone here v k sources cause w → w.cost.moves ≤ v.cost.moves + k
+  refused-moves k sources cause few r = stopped r.2
     where
-      stopped : (w ≡ v) ⊎ ((at : ℕ) × (at < length sources) × HoldsAt (λ x. ¬ (here.infallible x)) sources at × Grows here v k v.items at w) → w.cost.moves ≤ v.cost.moves + k
+      stopped : (w ≡ v) ⊎ ((at : ℕ) × (at < length sources)
+          × HoldsAt (λ x. ¬ (here.infallible x)) sources at × Grows here v k v.items at w)
+          → w.cost.moves ≤ v.cost.moves + k
       stopped (inl e) = same-moves v w v k e refl
       stopped (inr s) = omega (arith, few, s.1, grown-moves v w v.items s.0 s.3.1)
 
 module _ {T A G J : Type 0} (here : Setting T A J) where
-  pub step-moves : (v w : Thin T A) (command : Command T A G) (reply : Reply T A G) → Steps here v command reply w → w.cost.moves ≤ v.cost.moves + may_move here v.items command reply
-  step-moves v w command (OutOfRange back) s = same-moves v w v _ s.2 refl
+  -- a step makes at most as many moves as its command and its reply say
+  pub step-moves : (v w : Thin T A) (command : Command T A G) (reply : Reply T A G)
+      → Steps here v command reply w
+      → w.cost.moves ≤ v.cost.moves + may_move here v.items command reply
+  step-moves v w command (OutOfRange back) s = same-moves v w v 0 s.2 refl
   step-moves v w (Push x) Done s = grown-moves v w _ 1 s.1.1
   step-moves v w (Push x) (Returned y cause) s = same-moves v w v 0 s.1.1.2 refl
   step-moves v w Pop (Item o) s = same-moves v w _ 0 s.1.2 refl
@@ -84,18 +109,25 @@ module _ {T A G J : Type 0} (here : Setting T A J) where
   step-moves v w (Reserve k) (Refused cause) s = same-moves v w v 0 s.1.2 refl
   step-moves v w (ReserveExact k) Done s = same-moves v w _ 0 s.1.1 (cost_at-moves v w.capacity)
   step-moves v w (ReserveExact k) (Refused cause) s = same-moves v w v 0 s.1.2 refl
-  step-moves v w ShrinkToFit Done s = omega (arith, ap (λ z. z.cost.moves) s.1, shrunk-moves v)
+  step-moves v w ShrinkToFit Done s =
+      omega (arith, ap (λ z. z.cost.moves) s.1, shrunk-moves v)
   step-moves v w ShrinkToFit (Refused cause) s = same-moves v w v 0 s.1.3 refl
   step-moves v w (Resize k x) Done s = grown-moves v w _ _ s.1.1.1
-  step-moves v w (Resize k x) (Refused cause) s = refused-moves here v w (k - length v.items) _ cause (few-repeats (k - length v.items) x) s.1.1
+  step-moves v w (Resize k x) (Refused cause) s =
+      let more = k - length v.items in
+      refused-moves here v w more _ cause (few-repeats more x) s.1.1
   step-moves v w (ExtendFromSlice xs) Done s = grown-moves v w _ _ s.1.1.1
-  step-moves v w (ExtendFromSlice xs) (Refused cause) s = refused-moves here v w (length xs.items) xs.items cause (omega arith) s.1.1
-  step-moves v w (Extend xs lower) Done s = let end = length v.items in
-      omega (arith, spliced-moves here.rule here.R v w end end xs.items _ (length xs.items) s.1.0 (omega arith))
+  step-moves v w (ExtendFromSlice xs) (Refused cause) s =
+      refused-moves here v w (length xs.items) xs.items cause (omega arith) s.1.1
+  step-moves v w (Extend xs lower) Done s =
+      let end = length v.items in
+      let most = lower + length xs.items in
+      let few = spliced-moves v w here.rule here.R end end xs.items most (length xs.items) s.1.0 in
+      omega (arith, few (omega arith))
   step-moves v w (Extend xs lower) (Stopped answers cause held in_hand rest) s =
       let end = length v.items in
-      let others = held.items ++ (option_to_list in_hand ++ hinted_items rest) in
-      omega (arith, spliced-moves here.rule here.R v w end end s.1.1.placed _ (length xs.items) s.1.1.filled (omega (arith, ap length s.1.1.all, length-append s.1.1.placed others)))
+      let few = stopped-moves v w here.rule here.R end end xs.items held.items lower cause in_hand rest in
+      omega (arith, few s.1.1)
   step-moves v w (Append given) (Other back None) s = grown-moves v w _ _ s.1.1.1
   step-moves v w (Append given) (Other back (Some cause)) s = same-moves v w v 0 s.1.1.2 refl
   step-moves v w (SplitOff i) (Made out) s = same-moves v w _ 0 s.1.1 refl
@@ -108,20 +140,23 @@ module _ {T A G J : Type 0} (here : Setting T A J) where
   step-moves v w DedupBy Done s = edited-moves v w _ _ s.1
   step-moves v w DedupByKey Done s = edited-moves v w _ _ s.1
   step-moves v w (Drain a b steps) (Answers answers) s = edited-moves v w _ _ s.1.1
-  step-moves v w (Drain a b steps) (Refused cause) s = same-moves v w v _ s.1.2 refl
+  step-moves v w (Drain a b steps) (Refused cause) s = same-moves v w v 0 s.1.2 refl
   step-moves v w (ExtractIf a b k) (Answers answers) s = edited-moves v w _ _ s.1.1
-  step-moves v w (ExtractIf a b k) (Refused cause) s = same-moves v w v _ s.1.2 refl
+  step-moves v w (ExtractIf a b k) (Refused cause) s = same-moves v w v 0 s.1.2 refl
   step-moves v w (Splice a b steps xs lower) (Answers answers) s =
-      spliced-moves here.rule here.R v w a b xs.items _ (length xs.items) s.1.1 (omega arith)
+      let most = lower + length xs.items in
+      spliced-moves v w here.rule here.R a b xs.items most (length xs.items) s.1.1 (omega arith)
   step-moves v w (Splice a b steps xs lower) (Stopped answers cause held in_hand rest) s =
-      let stopped = s.1.1 in
-      let others = held.items ++ (option_to_list in_hand ++ hinted_items rest) in
-      spliced-moves here.rule here.R v w a b stopped.placed _ (length xs.items) stopped.filled
-      (omega (arith, ap length stopped.all, length-append stopped.placed others))
-  step-moves v w (Splice a b steps xs lower) (Refused cause) s = same-moves v w v _ s.1.2 refl
+      stopped-moves v w here.rule here.R a b xs.items held.items lower cause in_hand rest s.1.1
+  step-moves v w (Splice a b steps xs lower) (Refused cause) s = same-moves v w v 0 s.1.2 refl
   step-moves v w command reply s = absurd s.1
 
-  pub runs-moves : (v w : Thin T A) (commands : List (Command T A G)) (replies : List (Reply T A G)) (run : Runs here v commands replies w) → w.cost.moves ≤ v.cost.moves + run_may_move here v w commands replies run
+  -- and a run at most as many as its steps
+  pub runs-moves : (v w : Thin T A) (commands : List (Command T A G))
+      (replies : List (Reply T A G)) (run : Runs here v commands replies w)
+      → w.cost.moves ≤ v.cost.moves + run_may_move here v w commands replies run
   runs-moves v w [] [] run = omega (arith, ap (λ z. z.cost.moves) run)
-  runs-moves v w (c ∷ commands) (r ∷ replies) run = omega (arith, step-moves v run.0 c r run.1.0, runs-moves run.0 w commands replies run.1.1)
+  runs-moves v w (c ∷ commands) (r ∷ replies) run =
+      let rest = runs-moves run.0 w commands replies run.1.1 in
+      omega (arith, step-moves v run.0 c r run.1.0, rest)
   runs-moves v w commands replies run = absurd run

@@ -19,4 +19,5 @@ module _ {T A : Type 0} where
 
   -- a call gave the first of the items that are left, if there is one, and the claim stays
   abbrev pub HintedSteps : Hinted T A → Option T → Hinted T A → Type 0
-  HintedSteps old item new = YieldsFirst hinted_items old item new × (hinted_claim new ≡ hinted_claim old)
+  HintedSteps old item new =
+      YieldsFirst hinted_items old item new × (hinted_claim new ≡ hinted_claim old)

@@ -9,7 +9,7 @@ use Rattle.thin_runner.specs.commands.Filters.{answered, around, extracting}
 use Rattle.thin_runner.specs.declared.command.Command.{Command}
 use Rattle.thin_runner.specs.declared.command.Command.TheVariants.{Push, Pop, Insert, Remove, SwapRemove, ReserveExact, ShrinkToFit, Resize, ExtendFromSlice, Extend, Append, Drain, ExtractIf, Splice}
 use Rattle.thin_runner.specs.declared.command.Reply.{Reply}
-use Rattle.thin_runner.specs.declared.command.Reply.TheVariants.{Done, Other}
+use Rattle.thin_runner.specs.declared.command.Reply.TheVariants.{Answers, Done, Item, OutOfRange, Other, Refused}
 
 module _ {T A G : Type 0} where
   -- how many of the commands are pushes that were accepted
@@ -34,26 +34,34 @@ module _ {T A G J : Type 0} (here : Setting T A J) where
   -- as many replies as commands, and between a command and its reply the list passes through `mid`
   abbrev pub Runs : Thin T A → List (Command T A G) → List (Reply T A G) → Thin T A → Type 0
   Runs old [] [] new = new ≡ old
-  Runs old (command ∷ commands) (reply ∷ replies) new = (mid : Thin T A) × (Steps here old command reply mid × Runs mid commands replies new)
+  Runs old (command ∷ commands) (reply ∷ replies) new =
+      (mid : Thin T A) × (Steps here old command reply mid × Runs mid commands replies new)
   Runs old commands replies new = ⊥
 
-  -- the moves that a command may make in a list of the items xs, growth aside: of one that filters, the items that stay and change
-  -- their place. A refused one may make fewer
+  -- the moves that a command with this reply may make in a list of the items xs, growth aside: of
+  -- one that filters, as many as items stay and change their place. What is stopped half way, or
+  -- refused a clone, may make fewer
   abbrev pub may_move : List T → Command T A G → Reply T A G → ℕ
+  may_move xs command (OutOfRange back) = 0
   may_move xs (Push v) Done = 1
   may_move xs (Insert i v) Done = length xs - i + 1
-  may_move xs (Remove i) reply = length xs - (i + 1)
-  may_move xs (SwapRemove i) reply = if i + 1 == length xs then 0 else 1
+  may_move xs (Remove i) (Item o) = length xs - (i + 1)
+  may_move xs (SwapRemove i) (Item o) = if i + 1 == length xs then 0 else 1
   may_move xs (Resize k v) reply = k - length xs
   may_move xs (ExtendFromSlice ys) reply = length ys.items
   may_move xs (Extend ys lower) reply = length ys.items
   may_move xs (Append given) (Other back None) = length given.items
-  may_move xs (Drain a b steps) reply = if a == b then 0 else length xs - b
-  may_move xs (ExtractIf a b k) reply = moved_up (flags_of (around xs a b (extracting here.judging.take here.judge k (slice_range xs a b))))
+  may_move xs (Drain a b steps) (Answers answers) = if a == b then 0 else length xs - b
+  may_move xs (ExtractIf a b k) (Answers answers) =
+      let asked = extracting here.judging.take here.judge k (slice_range xs a b) in
+      moved_up (flags_of (around xs a b asked))
+  may_move xs (Splice a b steps ys lower) (Refused cause) = 0
   may_move xs (Splice a b steps ys lower) reply = 2 * (length xs - b) + length ys.items
   may_move xs command reply = moved_up (flags_of (unwrap_or (answered here xs command) []))
 
   -- the moves that the commands of a run may make, each in the list that it finds
-  abbrev pub run_may_move : (old new : Thin T A) (commands : List (Command T A G)) (replies : List (Reply T A G)) → Runs old commands replies new → ℕ
-  run_may_move old new (command ∷ commands) (reply ∷ replies) run = may_move old.items command reply + run_may_move run.0 new commands replies run.1.1
+  abbrev pub run_may_move : (old new : Thin T A) (commands : List (Command T A G))
+      (replies : List (Reply T A G)) → Runs old commands replies new → ℕ
+  run_may_move old new (command ∷ commands) (reply ∷ replies) run =
+      may_move old.items command reply + run_may_move run.0 new commands replies run.1.1
   run_may_move old new commands replies run = 0

@@ -1,4 +1,5 @@
--- What a run stands in: what is known of its item type, its growth rule and its judge, and the allocator and the judge handed in.
+-- What a run stands in: what is known of its item type, its growth rule and its judge, and the
+-- allocator and the judge handed in.
 use Rattle.std.specs.Prelude.{Bool}
 use Rattle.std.specs.Borrow.{RattleType}
 use Rattle.thin_vec.specs.Growth.{Rule}
@@ -18,6 +19,16 @@ pub record Setting (T A J : Type 0) : Type 1 where
   pub judge : J
 
 -- the same, by its parts
-abbrev pub setting : {T A J : Type 0} → (T → T → Type 0) → (T → Type 0) → (T → T → Bool) → Judging T J → Rule → RattleType → A → J → Setting T A J
+abbrev pub setting : {T A J : Type 0} → (T → T → Type 0) → (T → Type 0) → (T → T → Bool)
+    → Judging T J → Rule → RattleType → A → J → Setting T A J
 setting clones infallible eq judging rule R alloc judge =
-    record { clones = clones; infallible = infallible; eq = eq; judging = judging; rule = rule; R = R; alloc = alloc; judge = judge }
+    record {
+      clones = clones;
+      infallible = infallible;
+      eq = eq;
+      judging = judging;
+      rule = rule;
+      R = R;
+      alloc = alloc;
+      judge = judge;
+    }

@@ -48,7 +48,8 @@ module _ {T A G J : Type 0} (here : Setting T A J) where
       (w ≡ v) × Refuses (capacity_for here.rule here.R old 1) old 1 cause new
   Does old (Remove i) (Item (Some x)) new = (slice_get old.items i ≡ Some x)
       × (new ≡ edited old (remove old.items i) (length old.items - (i + 1)))
-  Does old (SwapRemove i) (Item (Some x)) new = let m = if i + 1 == length old.items then 0 else 1 in
+  Does old (SwapRemove i) (Item (Some x)) new =
+      let m = if i + 1 == length old.items then 0 else 1 in
       (slice_get old.items i ≡ Some x) × (new ≡ edited old (swap_remove old.items i x) m)
   Does old (Set i v) (Item (Some x)) new =
       (slice_get old.items i ≡ Some x) × (new ≡ record old { items = slice_set old.items i v })

@@ -1,4 +1,5 @@
--- The plain edits of a list, of which one may want room for an item. (std: `Vec::push`, `Vec::insert`, `Vec::remove`)
+-- The plain edits of a list, of which one may want room for an item. (std: `Vec::push`,
+-- `Vec::insert`, `Vec::remove`)
 use Rattle.std.specs.Prelude.{◌≡◌, ℕ, ◌↔◌, List, None, Option, Some}
 use Rattle.thin_vec.specs.Cost.{moving}
 use Rattle.thin_vec.specs.ThinVec.{HasRoomFor, Thin, capacity_for, cost_at}
@@ -15,11 +16,15 @@ module _ {T A : Type 0} where
   abbrev pub at_capacity : Thin T A → ℕ → Thin T A
   at_capacity old c = record old { capacity = c; cost = cost_at old c }
 
-  -- there is no room for k items more: an overflow exactly where no capacity was named, and nothing changes
+  -- there is no room for k items more: an overflow exactly where no capacity was named, and nothing
+  -- changes
   abbrev pub Refuses : Option ℕ → Thin T A → ℕ → ThinVecError → Thin T A → Type 0
-  Refuses named old k cause new = ¬ (HasRoomFor old k) × ((named ≡ None) ↔ (cause ≡ CapacityOverflow)) × (new ≡ old)
+  Refuses named old k cause new =
+      ¬ (HasRoomFor old k) × ((named ≡ None) ↔ (cause ≡ CapacityOverflow)) × (new ≡ old)
 
 module _ {T A J : Type 0} (here : Setting T A J) where
-  -- the capacity becomes the one that is ruled for k items more, and then xs are the items, by m moves
+  -- the capacity becomes the one that is ruled for k items more, and then xs are the items, by m
+  -- moves
   abbrev pub Grows : Thin T A → ℕ → List T → ℕ → Thin T A → Type 0
-  Grows old k xs m new = (capacity_for here.rule here.R old k ≡ Some new.capacity) × (new ≡ edited (at_capacity old new.capacity) xs m)
+  Grows old k xs m new = (capacity_for here.rule here.R old k ≡ Some new.capacity)
+      × (new ≡ edited (at_capacity old new.capacity) xs m)

@@ -9,6 +9,8 @@ use Rattle.thin_runner.specs.commands.Edits.{Grows}
 module _ {T A J : Type 0} (here : Setting T A J) where
   -- room for k items more is refused, or the clone of one of the sources, and the items stay
   abbrev pub RefusesClone : Thin T A → ℕ → List T → ThinVecError → Thin T A → Type 0
-  RefusesClone old k sources cause new = ((capacity_for here.rule here.R old k ≡ None) ↔ (cause ≡ CapacityOverflow))
+  RefusesClone old k sources cause new =
+      ((capacity_for here.rule here.R old k ≡ None) ↔ (cause ≡ CapacityOverflow))
       × (HasRoomFor old k → ¬ (All here.infallible sources))
-      × ((new ≡ old) ⊎ ((at : ℕ) × (at < length sources) × HoldsAt (λ x. ¬ (here.infallible x)) sources at × Grows here old k old.items at new))
+      × ((new ≡ old) ⊎ ((at : ℕ) × (at < length sources)
+      × HoldsAt (λ x. ¬ (here.infallible x)) sources at × Grows here old k old.items at new))

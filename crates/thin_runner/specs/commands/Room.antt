@@ -6,4 +6,9 @@ use Rattle.thin_vec.specs.ThinVec.{Thin, cost_new}
 module _ {T A : Type 0} where
   -- a new list of the items xs, with no room to spare
   abbrev pub made : A → List T → Thin T A
-  made a xs = record { items = xs; capacity = length xs; alloc = a; cost = moving (length xs) (cost_new (length xs)) }
+  made a xs = record {
+    items = xs;
+    capacity = length xs;
+    alloc = a;
+    cost = moving (length xs) (cost_new (length xs));
+  }
