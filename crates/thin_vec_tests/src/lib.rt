@@ -31,6 +31,8 @@ pub mod extracts;
 #[cfg(test)]
 mod filters;
 #[cfg(test)]
+mod growth_in_place;
+#[cfg(test)]
 mod growth_rules;
 #[cfg(test)]
 mod into_iter;

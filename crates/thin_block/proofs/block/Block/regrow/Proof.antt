@@ -159,7 +159,8 @@ regrow_spec 𝓤 𝓛 𝓜 𝓡 wired T A N LT LA fits_N g d dd met md =
     split3 ! $ heard ! Packed (λ packed. heard ! Len (λ len_is. split3 ! $ heard ! Old (λ old_is.
     heard ! Larger (λ larger. split3 ! $ heard ! Small (λ small. heard ! Held (λ held_is.
     split ! $ heard ! Wanted (λ wanted_is. heard ! Room (λ room.
-    let hd : Headed (type_size Rt) (type_align Rt) N = headed (type_size Rt) (type_align Rt) N is_k any in
+    let hd : Headed (type_size Rt) (type_align Rt) N =
+    headed (type_size Rt) (type_align Rt) N is_k any in
     let items : List T.Denot = items_in x.slots in
     let all : len ≡ length items = len_is ∙ packed.len in
     let xs : List T.Denot = take (len - N) items in
@@ -169,12 +170,14 @@ regrow_spec 𝓤 𝓛 𝓜 𝓡 wired T A N LT LA fits_N g d dd met md =
     let joined : items ≡ xs ++ ys = sym (take-append-drop (len - N) items) in
     let counted : length x.slots ≡ length items + (length x.slots - length items) =
     ap length packed.row ∙ (length-append (full items) (empty (length x.slots - length items))
-    ∙ (λ i. length-map items Some i + length-replicate {A = Option T.Denot} (length x.slots - length items) None i)) in
+    ∙ (λ i. length-map items Some i
+    + length-replicate {A = Option T.Denot} (length x.slots - length items) None i)) in
     let within : len ≤ old = omega arith in
     let m : ℕ = old - len in
     let m' : ℕ = cap - len in
     let row : x.slots ≡ full (xs ++ ys) ++ empty m = packed.row
-    ∙ (λ i. full (joined i) ++ empty (let e : length x.slots - length items ≡ m = omega arith in e i)) in
+    ∙ (λ i. full (joined i)
+    ++ empty (let e : length x.slots - length items ≡ m = omega arith in e i)) in
     split ! $ split3 ! $ move ! (3 ∷ []) $ fsplit ! $ block_had E Y ! x vss.0 (λ b o at told fits.
     -- [the header; the slots; the other parameters; three tokens; the other tokens]
     let here : Ptr = block_ptr b o in
@@ -268,8 +271,9 @@ regrow_spec 𝓤 𝓛 𝓜 𝓡 wired T A N LT LA fits_N g d dd met md =
     sets ! (of_opd ! (get ! refl)) refl (tt, tt) $
     move ! (2 ∷ 3 ∷ []) $ join ! $ move ! (2 ∷ 0 ∷ []) $ join ! $ move ! (1 ∷ 0 ∷ []) $
     use2 𝓛 (raw (W.pre y))
-    (Resizes-goes Y T (Grows T) 𝓛 𝓜.mem 𝓡.returns κ κT q qT handle_at h b o len held wanted (ys ++ xs)
-    (⊑_trans κ κA A.lives z.0.2.0 leA) leT sizes are.1.1.0.1 are.1.1.1.1.1.0.1 are.1.1.1.1.1.1.0.1) $
+    (Resizes-goes Y T (Grows T) 𝓛 𝓜.mem 𝓡.returns κ κT q qT handle_at h b o len held wanted
+    (ys ++ xs) (⊑_trans κ κA A.lives z.0.2.0 leA) leT sizes are.1.1.0.1 are.1.1.1.1.1.0.1
+    are.1.1.1.1.1.1.0.1) $
     calls_at ! (fm 𝓛 𝓜 𝓡) W (met.grow dd T LT) y
     (and_then ! (get ! refl) (and_then ! (get ! refl) (and_then ! (get ! refl)
     (and_then ! (get ! refl) (and_then ! (get ! refl) (no_more !)))))) (λ u.
@@ -365,7 +369,8 @@ regrow_spec 𝓤 𝓛 𝓜 𝓡 wired T A N LT LA fits_N g d dd met md =
     -- tokens]
     rewrite ! 1 (λ (k : ℕ). ‵ (fat full_share (ty_int w64) b' k (vint w64 len)))
     (let turned : 8 + o' ≡ o' + 8 = omega arith in turned) refl $
-    use1 𝓛 (‵ (lies_at usize full_share (block_ptr b' o') cap)) (uint_in 𝓛 full_share w64 cap b' o') $
+    use1 𝓛 (‵ (lies_at usize full_share (block_ptr b' o') cap))
+    (uint_in 𝓛 full_share w64 cap b' o') $
     move ! (1 ∷ []) $
     use1 𝓛 (‵ (lies_at usize full_share (block_ptr b' (o' + 8)) len))
     (uint_in 𝓛 full_share w64 len b' (o' + 8)) $ move ! (3 ∷ 2 ∷ []) $
@@ -380,7 +385,8 @@ regrow_spec 𝓤 𝓛 𝓜 𝓡 wired T A N LT LA fits_N g d dd met md =
     block_made E Y ! y' b' o' refl $
     use1 𝓛 (‵ (Out.own_val (Ok y') (live 0 (vcons (block_val p) vnil) ∷ [])))
     (ok_of 𝓛 B B y' (block_val p)) $
-    nothing ! $ nothing ! $ fjoin ! $ nothing ! $ fjoin ! $ nothing ! $ fjoin ! $ nothing ! $ fjoin ! $ nothing ! $ fjoin ! $ nothing ! $ fjoin ! $ nothing ! $ fjoin ! $
+    nothing ! $ nothing ! $ fjoin ! $ nothing ! $ fjoin ! $ nothing ! $ fjoin ! $ nothing ! $
+    fjoin ! $ nothing ! $ fjoin ! $ nothing ! $ fjoin ! $ nothing ! $ fjoin ! $
     move ! (0 ∷ 1 ∷ []) $ join ! $ move ! (1 ∷ 0 ∷ []) $ join ! $
     suffices ! _ (ends_at 𝓛 En₀ hs c z (live 0 (vcons (block_val p) vnil)) (Ok y')
     (tt, (tt, (tt, (tt, (tt, (tt, (tt, tt))))))) (tt, (tt, (tt, (tt, (tt, (tt, (tt, tt)))))))) $
@@ -449,7 +455,8 @@ regrow_spec 𝓤 𝓛 𝓜 𝓡 wired T A N LT LA fits_N g d dd met md =
     block_made E Y ! x b o at $
     use1 𝓛 (‵ (Out.own_val (Err x) (live 1 (vcons (block_val here) vnil) ∷ [])))
     (err_of 𝓛 B B x (block_val here)) $
-    nothing ! $ nothing ! $ fjoin ! $ nothing ! $ fjoin ! $ nothing ! $ fjoin ! $ nothing ! $ fjoin ! $ nothing ! $ fjoin ! $ nothing ! $ fjoin ! $ nothing ! $ fjoin ! $
+    nothing ! $ nothing ! $ fjoin ! $ nothing ! $ fjoin ! $ nothing ! $ fjoin ! $ nothing ! $
+    fjoin ! $ nothing ! $ fjoin ! $ nothing ! $ fjoin ! $ nothing ! $ fjoin ! $
     move ! (0 ∷ 1 ∷ []) $ join ! $ move ! (1 ∷ 0 ∷ []) $ join ! $
     suffices ! _ (ends_at 𝓛 En₀ hs c z (live 1 (vcons (block_val here) vnil)) (Err x)
     (tt, (tt, (tt, (tt, (tt, (tt, (tt, tt))))))) (tt, (tt, (tt, (tt, (tt, (tt, (tt, tt)))))))) $
