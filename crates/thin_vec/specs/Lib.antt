@@ -9,6 +9,7 @@ pub mod Pairs
 pub mod Open
 pub mod Hole
 pub mod Filling
+pub mod Replacing
 pub mod Lends
 pub mod Ranges
 pub mod Drain

@@ -52,7 +52,7 @@ impl<T, A: Allocator> Hole<T, A> {
     }
 
     // Moves the tail up by `count` slots, as one run.
-    fn widen(&mut self, count: usize)
+    pub(crate) fn widen(&mut self, count: usize)
         requires some { 0 < count }
         requires room { reach self.old + count ≤ self.old.capacity }
         ensures { self.new ≡ record self.old {

@@ -23,6 +23,7 @@ mod macros;
 mod pairs;
 mod placing;
 mod ranges;
+mod replacing;
 mod sifting;
 mod splice;
 mod traits;

@@ -1,0 +1,202 @@
+//! A range of a list's items gives way to others, all or nothing.
+ghost use Rattle.std.specs.Prelude.{◌≡◌, ◌+◌, ◌-◌, ◌==◌, ◌<◌, ◌≤◌, ◌++◌, [], IfErr, IsErrOf, IsOk, None, OnErr, OnOk, Some, drop, if◌then◌else◌, length, take};
+ghost use Rattle.std.specs.List.{replace_range};
+ghost use Rattle.thin_block.specs.Cost.{moving};
+ghost use Rattle.thin_vec.specs.Cheap.{IsCheap};
+ghost use Rattle.thin_vec.specs.Open.{IsOf};
+ghost use Rattle.thin_vec.specs.Replacing.{moves_replacing};
+ghost use Rattle.thin_vec.specs.ThinVec.{HasRoomFor, IsCause, IsWithin, capacity_for, cost_at};
+
+use crate::hole::Hole;
+use crate::list::ThinVec;
+use std::alloc::Allocator;
+use thin_block::{Growth, ThinVecError};
+
+impl<T: Copy, A: Allocator, G: Growth> ThinVec<T, A, G> {
+    /// Puts copies of `items` in the place of the items from `start` up to `end`, which are dropped. (own)
+    ///
+    /// It fails as `reserve` does for the items that come in beyond the range, and then nothing changes.
+    pub fn replace_range_from_copies(
+        &mut self,
+        start: usize,
+        end: usize,
+        items: &[T],
+    ) -> Result<(), ThinVecError>
+        requires start_le_end { start ≤ end }
+        requires in_bounds { end ≤ length self.old.items }
+        ensures succeeds { HasRoomFor self.old (length items.now - (end - start)) → IsOk result }
+        ensures succeeds_shorter { length items.now ≤ end - start → IsOk result }
+        ensures overflow { capacity_for G.rule T.row self.old (length items.now - (end - start)) ≡ None → IsErrOf result ThinVecError.CapacityOverflow }
+        ensures cause { IfErr result (IsCause (capacity_for G.rule T.row self.old (length items.now - (end - start)))) }
+
+        // The capacity is the ruled one.
+        ensures items { OnOk result (self.new.items ≡ replace_range self.old.items start end items.now) }
+        ensures capacity { OnOk result (capacity_for G.rule T.row self.old (length items.now - (end - start)) ≡ Some self.new.capacity) }
+        ensures had_room { HasRoomFor self.old (length items.now - (end - start)) → self.new.capacity ≡ self.old.capacity }
+        ensures cost { OnOk result (self.new.cost ≡ moving (moves_replacing self.old start end (length items.now)) (cost_at self.old self.new.capacity)) }
+        ensures alloc { self.new.alloc ≡ self.old.alloc }
+        ensures cheap { IsCheap self.old → IsCheap self.new }
+        ensures err { OnErr result (self.new ≡ self.old) }
+        ensures never_less { self.old.capacity ≤ self.new.capacity }
+        ensures within { IsWithin T.row self.old × IsWithin T.row self.new }
+    {
+        match self.reserve(items.len().saturating_sub(end - start)) {
+            Ok(()) => (),
+            Err(cause) => return Err(cause),
+        }
+        self.replace_reserved_from_copies(start, end, items);
+        Ok(())
+    }
+
+    // `replace_range_from_copies` where there is room.
+    fn replace_reserved_from_copies(&mut self, start: usize, end: usize, items: &[T])
+        requires start_le_end { start ≤ end }
+        requires in_bounds { end ≤ length self.old.items }
+        requires room { HasRoomFor self.old (length items.now - (end - start)) }
+        requires within { IsWithin T.row self.old }
+        ensures items { self.new.items ≡ replace_range self.old.items start end items.now }
+        ensures capacity { self.new.capacity ≡ self.old.capacity }
+        ensures alloc { self.new.alloc ≡ self.old.alloc }
+        ensures cost { self.new.cost ≡ moving (moves_replacing self.old start end (length items.now)) self.old.cost }
+        ensures within { IsWithin T.row self.new }
+    {
+        let mut hole = self.open_range(start, end, items.len());
+        hole.fill_from_copies(items);
+        self.close(hole);
+    }
+}
+
+impl<T: Drop, A: Allocator, G: Growth> ThinVec<T, A, G> {
+    /// Moves all items of `other` to the place of the items from `start` up to `end`, which are dropped. `other` is left empty,
+    /// with its capacity. (own)
+    ///
+    /// It fails as `reserve` does for the items that come in beyond the range, and then neither list changes.
+    pub fn replace_range_from_list(
+        &mut self,
+        start: usize,
+        end: usize,
+        other: &mut ThinVec<T, A, G>,
+    ) -> Result<(), ThinVecError>
+        requires start_le_end { start ≤ end }
+        requires in_bounds { end ≤ length self.old.items }
+        ensures succeeds { HasRoomFor self.old (length other.old.items - (end - start)) → IsOk result }
+        ensures succeeds_shorter { length other.old.items ≤ end - start → IsOk result }
+        ensures overflow { capacity_for G.rule T.row self.old (length other.old.items - (end - start)) ≡ None → IsErrOf result ThinVecError.CapacityOverflow }
+        ensures cause { IfErr result (IsCause (capacity_for G.rule T.row self.old (length other.old.items - (end - start)))) }
+
+        // The capacity is the ruled one.
+        ensures items { OnOk result (self.new.items ≡ replace_range self.old.items start end other.old.items) }
+        ensures capacity { OnOk result (capacity_for G.rule T.row self.old (length other.old.items - (end - start)) ≡ Some self.new.capacity) }
+        ensures had_room { HasRoomFor self.old (length other.old.items - (end - start)) → self.new.capacity ≡ self.old.capacity }
+        ensures cost { OnOk result (self.new.cost ≡ moving (moves_replacing self.old start end (length other.old.items)) (cost_at self.old self.new.capacity)) }
+        ensures alloc { self.new.alloc ≡ self.old.alloc }
+        ensures cheap { IsCheap self.old → IsCheap self.new }
+
+        // The other list keeps its block.
+        ensures other_items { OnOk result (other.new.items ≡ []) }
+        ensures other_capacity { other.new.capacity ≡ other.old.capacity }
+        ensures other_cost { other.new.cost ≡ other.old.cost }
+        ensures other_alloc { other.new.alloc ≡ other.old.alloc }
+
+        // When it fails, nothing has changed.
+        ensures err { OnErr result (self.new ≡ self.old) }
+        ensures other_err { OnErr result (other.new ≡ other.old) }
+        ensures never_less { self.old.capacity ≤ self.new.capacity }
+        ensures within { IsWithin T.row self.old × IsWithin T.row self.new }
+        ensures other_within { IsWithin T.row other.old × IsWithin T.row other.new }
+    {
+        match self.reserve(other.len().saturating_sub(end - start)) {
+            Ok(()) => (),
+            Err(cause) => return Err(cause),
+        }
+        self.replace_reserved_from_list(start, end, other);
+        Ok(())
+    }
+
+    // `replace_range_from_list` where there is room.
+    fn replace_reserved_from_list(&mut self, start: usize, end: usize, other: &mut ThinVec<T, A, G>)
+        requires start_le_end { start ≤ end }
+        requires in_bounds { end ≤ length self.old.items }
+        requires room { HasRoomFor self.old (length other.old.items - (end - start)) }
+        requires within { IsWithin T.row self.old }
+        requires other_within { IsWithin T.row other.old }
+        ensures items { self.new.items ≡ replace_range self.old.items start end other.old.items }
+        ensures capacity { self.new.capacity ≡ self.old.capacity }
+        ensures alloc { self.new.alloc ≡ self.old.alloc }
+        ensures cost { self.new.cost ≡ moving (moves_replacing self.old start end (length other.old.items)) self.old.cost }
+        ensures within { IsWithin T.row self.new }
+        ensures other_items { other.new.items ≡ [] }
+        ensures other_capacity { other.new.capacity ≡ other.old.capacity }
+        ensures other_cost { other.new.cost ≡ other.old.cost }
+        ensures other_alloc { other.new.alloc ≡ other.old.alloc }
+        ensures other_within { IsWithin T.row other.new }
+    {
+        let mut hole = self.open_range(start, end, other.len());
+        hole.fill_from_list(other);
+        self.close(hole);
+    }
+
+    // Drops the items from `start` up to `end`. Answers the list's block, open where they were, with room there for `count`
+    // items: those behind the range move up, as one run, where that is more. The list is left empty and without a block.
+    fn open_range(&mut self, start: usize, end: usize, count: usize) -> Hole<T, A>
+        requires start_le_end { start ≤ end }
+        requires in_bounds { end ≤ length self.old.items }
+        requires room { HasRoomFor self.old (count - (end - start)) }
+        ensures front { result.front ≡ take start self.old.items }
+        ensures before { result.before ≡ end - start + (count - (end - start)) }
+        ensures rest { result.rest ≡ [] }
+        ensures behind { result.behind ≡ 0 }
+        ensures tail { result.tail ≡ drop end self.old.items }
+        ensures other_capacity { result.capacity ≡ self.old.capacity }
+        ensures from { IsOf result.alloc self.old.alloc }
+        ensures other_cost { result.cost ≡ (if count - (end - start) == 0 then self.old.cost else moving (length self.old.items - end) self.old.cost) }
+        ensures items { self.new.items ≡ [] }
+        ensures alloc { self.new.alloc ≡ self.old.alloc }
+    {
+        let mut hole = self.open(start, end);
+        hole.drop_rest();
+        if count > end - start {
+            hole.widen(count - (end - start));
+            hole.join();
+        }
+        hole
+    }
+}
+
+impl<T, A: Allocator> Hole<T, A> {
+    // Moves the items of `other` behind the front, as one run. `other` is left empty, with its block.
+    fn fill_from_list<G: Growth>(&mut self, other: &mut ThinVec<T, A, G>)
+        requires room { length other.old.items ≤ self.old.before }
+        ensures same { self.new ≡ record self.old {
+          front = self.old.front ++ other.old.items;
+          before = self.old.before - length other.old.items;
+          cost = moving (length other.old.items) self.old.cost;
+        } }
+        ensures other_items { other.new.items ≡ [] }
+        ensures other_capacity { other.new.capacity ≡ other.old.capacity }
+        ensures other_cost { other.new.cost ≡ other.old.cost }
+        ensures other_alloc { other.new.alloc ≡ other.old.alloc }
+    {
+        let count = other.block.len();
+        other
+            .block
+            .move_run_to(0, count, &mut self.block, self.kept);
+        other.block.set_len(0);
+        self.kept += count;
+    }
+}
+
+impl<T: Copy, A: Allocator> Hole<T, A> {
+    // Copies `items` behind the front, as one run.
+    fn fill_from_copies(&mut self, items: &[T])
+        requires room { length items.now ≤ self.old.before }
+        ensures { self.new ≡ record self.old {
+          front = self.old.front ++ items.now;
+          before = self.old.before - length items.now;
+          cost = moving (length items.now) self.old.cost;
+        } }
+    {
+        self.block.copy_in(self.kept, items);
+        self.kept += items.len();
+    }
+}
