@@ -2,18 +2,20 @@
 use Rattle.std.proofs.Common.{if◌then◌else◌, inl, inr, Option, Some, None, append_assoc, drop, take, subst, ◌≡◌, ℕ, ◌+◌, ◌-◌, ◌<◌, ◌≤◌, Bool, true, false, eqb, List, [], ◌∷◌, ◌++◌, ap, arith, length, length-append, refl, sym, ◌∙◌}
 use Rattle.std.proofs.lemmas.List.{append-nil, drop_at, length-take-le, take_at}
 use Rattle.std.specs.Borrow.{RattleType}
-use Rattle.std.specs.Option.{option_len, option_to_list}
-use Rattle.std.specs.Prelude.{IfErr, OnOk}
+use Rattle.std.specs.Option.{option_to_list}
+use Rattle.std.specs.Prelude.{◌↔◌, IfErr, IsSome, OnOk}
 use Rattle.std.specs.declared.result.Result.{Result}
 use Rattle.std.specs.declared.result.Result.TheVariants.{Ok, Err}
 use Rattle.std.specs.Iterator.{Count, Drains, IsFinite, Yields, YieldsThen, size}
 use Rattle.thin_vec.specs.Extend.{GaveUp, IsExtendCost, IsExtended, IsNamed, Overflows}
 use Rattle.std.proofs.lemmas.Bool.Decides.{nat_tests}
+use Rattle.thin_block.specs.declared.errors.ThinVecError.{ThinVecError}
+use Rattle.thin_block.specs.declared.errors.ThinVecError.TheVariants.{CapacityOverflow, OutOfMemory}
 use Rattle.thin_block.specs.Cost.{Cost, moving}
 use Rattle.thin_block.specs.Growth.{KeepsLaw, Rule, ruled_capacity}
-use Rattle.std.proofs.lemmas.Bool.{cases_lt}
+use Rattle.std.proofs.lemmas.Bool.{cases_lt, false≢true}
 use Rattle.thin_vec.specs.Open.{Open, cost_closed, items_of}
-use Rattle.thin_vec.specs.Filling.{IsSpliced, OverflowsBy, Stopped, left_of, with_between}
+use Rattle.thin_vec.specs.Filling.{IsSpliced, IsStopCause, Stopped, left_of, with_between}
 use Rattle.thin_vec.specs.ThinVec.{Thin, capacity_for, cost_at}
 use Rattle.thin_vec.proofs.ExtendLemmas.{filled-reserved, yields-join, yields-more}
 use Rattle.thin_vec.proofs.ThinVecLemmas.{cap-kept}
@@ -99,12 +101,18 @@ module _ {T A : Type 0} where
       → w.items ≡ v.items → IsSpliced v w 0
   spliced-reserved v w e n =
       let f = filled-reserved v w e n in
-      record { moves = omega (arith, f.moves); kept = f.kept; grown = f.grown }
+      record {
+        least = omega (arith, f.moves);
+        moves = omega (arith, f.moves);
+        kept = f.kept;
+        grown = f.grown;
+      }
 
   -- what items have cost that went into spare room
   pub spliced-run : (v w : Thin T A) (k m n : ℕ) → w.cost ≡ moving (k + m) v.cost
       → w.capacity ≡ v.capacity → length w.items ≡ length v.items + k → m ≤ n → IsSpliced v w n
   spliced-run v w k m n e same long few = record {
+    least = omega (arith, ap (λ c. c.moves) e, long);
     moves = omega (arith, ap (λ c. c.moves) e, long, few);
     kept = λ _. (ap (λ c. c.blocks) e, ap (λ c. c.grown) e);
     grown = λ more. absurd (omega (arith, more, same));
@@ -115,6 +123,7 @@ module _ {T A : Type 0} where
       → u.capacity ≤ w.capacity → length v.items ≤ length u.items → IsSpliced v u m
       → IsSpliced u w n → IsSpliced v w (m + n)
   spliced-join v u w m n low high long p q = record {
+    least = omega (arith, p.least, q.least);
     moves = omega (arith, p.moves, q.moves);
     kept = λ same. let a : u.capacity ≡ v.capacity = omega arith in
         let b : w.capacity ≡ u.capacity = omega arith in let f = p.kept a in let h = q.kept b in
@@ -133,7 +142,12 @@ module _ {T A : Type 0} where
 
   pub spliced-less : (v w : Thin T A) (m n : ℕ) → m ≤ n → IsSpliced v w m → IsSpliced v w n
   spliced-less v w m n less p =
-      record { moves = omega (arith, p.moves, less); kept = p.kept; grown = p.grown }
+      record {
+        least = p.least;
+        moves = omega (arith, p.moves, less);
+        kept = p.kept;
+        grown = p.grown;
+      }
 
 -- a fact of an outcome gives another
 pub on-ok : {X E P Q : Type 0} (r : Result X E) → (P → Q) → OnOk r P → OnOk r Q
@@ -185,15 +199,17 @@ module _ {S X : Type 0} (steps : S → Option X → S → Type 0) (can : S → T
               ∙ ap (λ l. l ++ last) (sym (append_assoc xs ys held))) gave,
           now.1,
           now.2,
+          now.3,
         )
     stopped-after xs ys held in_hand before (inr now) =
         inr (
           now.0,
+          now.1,
           (
-            now.1.0,
-            subst (λ l. Yields steps s l now.1.0) (sym (append_assoc xs ys held))
-                (yields-join steps s t now.1.0 xs (ys ++ held) before now.1.1),
-            now.1.2,
+            now.2.0,
+            subst (λ l. Yields steps s l now.2.0) (sym (append_assoc xs ys held))
+                (yields-join steps s t now.2.0 xs (ys ++ held) before now.2.1),
+            now.2.2,
           ),
         )
 
@@ -213,21 +229,60 @@ module _ {S X : Type 0} (steps : S → Option X → S → Type 0) (can : S → T
       inl (
         subst (λ l. Yields steps s (l ++ option_to_list in_hand) rest)
             (sym (append-nil xs) ∙ ap (λ l. xs ++ l) (sym none)) gave,
+        λ _. none,
         asked,
         fin,
       )
 
--- no capacity is ruled for the items that are held
-pub overflows-held : {T A : Type 0} (rule : Rule) (R : RattleType) (v : Thin T A) (held : List T)
-    (in_hand : Option T) (left : Count) → in_hand ≡ None → 0 < length held
-    → capacity_for rule R v (length held) ≡ None
-    → OverflowsBy rule R v held in_hand left
-overflows-held rule R v [] in_hand left none some over = absurd (omega (arith, some))
-overflows-held rule R v (x ∷ xs) in_hand left none some over =
-    let same : length (x ∷ xs) + option_len in_hand ≡ length (x ∷ xs) =
-    ap (λ o. length (x ∷ xs) + option_len o) none
-    ∙ (let z : length (x ∷ xs) + 0 ≡ length (x ∷ xs) = omega arith in z) in
-    ap (λ k. capacity_for rule R v k) same ∙ over
+-- a test found no item
+pub no-tail : {T : Type 0} (xs : List T) (b : Bool) → (0 < length xs → b ≡ true) → b ≡ false
+    → xs ≡ []
+no-tail [] b some e = refl
+no-tail (x ∷ xs) b some e = absurd (false≢true (sym e ∙ some (omega arith)))
+
+-- why a splice stopped
+module _ {T A : Type 0} (rule : Rule) (R : RattleType) (v : Thin T A) (tail held : List T)
+    (in_hand : Option T) (left : Count) (cause : ThinVecError) where
+  -- before a tail, at the hint
+  pub stop-at-hint : 0 < length tail → held ≡ [] → in_hand ≡ None
+      → (cause ≡ CapacityOverflow → Overflows rule R v None left)
+      → IsStopCause rule R v tail held in_hand left cause
+  stop-at-hint some none empty over = record {
+    by_hint = λ _ _. over;
+    by_held = λ more _. absurd (omega (arith, more, ap length none));
+    by_in_hand = λ _ is. absurd (false≢true (subst IsSome empty is));
+    by_push = λ no_tail. absurd (omega (arith, some, ap length no_tail));
+  }
+
+  -- before a tail, at an item that was to be held, or at what was held
+  pub stop-at-held : 0 < length tail → (in_hand ≡ None → 0 < length held)
+      → (in_hand ≡ None
+      → (cause ≡ CapacityOverflow) ↔ (capacity_for rule R v (length held) ≡ None))
+      → (IsSome in_hand → cause ≡ OutOfMemory)
+      → IsStopCause rule R v tail held in_hand left cause
+  stop-at-held some more over memory = record {
+    by_hint = λ none empty. absurd (omega (arith, more empty, ap length none));
+    by_held = λ _ empty. over empty;
+    by_in_hand = λ _ is. memory is;
+    by_push = λ no_tail. absurd (omega (arith, some, ap length no_tail));
+  }
+
+  -- with no tail, as `extend` does
+  pub stop-at-end : tail ≡ [] → held ≡ []
+      → (IsSome in_hand → capacity_for rule R v 1 ≡ None → cause ≡ CapacityOverflow)
+      → (cause ≡ CapacityOverflow → Overflows rule R v in_hand left)
+      → IsStopCause rule R v tail held in_hand left cause
+  stop-at-end no_tail none over why = record {
+    by_hint = λ _ empty is. subst (λ o. Overflows rule R v o left) empty (why is);
+    by_held = λ more _. absurd (omega (arith, more, ap length none));
+    by_in_hand = λ some _. absurd (omega (arith, some, ap length no_tail));
+    by_push = λ _ some. (λ is. one in_hand some (why is), over some);
+  }
+    where
+      one : (o : Option T) → IsSome o → Overflows rule R v o left
+          → capacity_for rule R v 1 ≡ None
+      one (Some x) some now = now
+      one None some now = absurd (false≢true some)
 
 module _ (rule : Rule) (R : RattleType) where
   -- a ruled capacity was named for what it was ruled for
@@ -305,13 +360,9 @@ module _ {T A : Type 0} where
   -- the cost of what went behind all is that of what went between
   pub spliced-extended : (v w : Thin T A) (n : ℕ) → IsExtendCost v w → IsSpliced v w n
   spliced-extended v w n p =
-      record { moves = omega (arith, p.moves); kept = p.kept; grown = p.grown }
-
-  -- no capacity is ruled for the one item in hand, or for a hint
-  pub overflows-one : (rule : Rule) (R : RattleType) (v : Thin T A) (held : List T)
-      (in_hand : Option T) (left : Count) → held ≡ [] → Overflows rule R v in_hand left
-      → OverflowsBy rule R v held in_hand left
-  overflows-one rule R v held None left none over =
-      subst (λ l. OverflowsBy rule R v l None left) (sym none) over
-  overflows-one rule R v held (Some x) left none over =
-      subst (λ l. OverflowsBy rule R v l (Some x) left) (sym none) over
+      record {
+        least = omega (arith, p.moves);
+        moves = omega (arith, p.moves);
+        kept = p.kept;
+        grown = p.grown;
+      }

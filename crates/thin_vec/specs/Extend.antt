@@ -1,4 +1,4 @@
--- What a list may have become once the items of an iterator went behind its own. (std:
+-- What a list is, and what it has cost, after the items of an iterator went in after its own. (std:
 -- `Vec::extend`)
 use Rattle.std.specs.Prelude.{◌≡◌, ◌⊎◌, ℕ, ◌+◌, ◌<◌, ◌≤◌, Bool, true, false, List, ◌++◌, Option, length}
 use Rattle.std.specs.Iterator.{Count, Yields, YieldsThen}
@@ -23,8 +23,8 @@ abbrev pub IsNamed : Rule → RattleType → ℕ → ℕ → ℕ → Type 0
 IsNamed rule R c d n = (d ≡ c) ⊎ IsRuled rule R d n
 
 -- the capacity d of a list that was v, into which the items of an iterator went that has `left` to
--- give, so that there are n:
--- as before, or named for a want of at most n, or for as many more as a hint allows
+-- give, so that there are n: as before, or named for a want of at most n, or for as many more as a
+-- hint allows
 abbrev pub IsExtended : {T A : Type 0} → Rule → RattleType → Thin T A → ℕ → ℕ → Count → Type 0
 IsExtended rule R v d n left =
     IsNamed rule R v.capacity d n
@@ -36,20 +36,21 @@ IsCollected rule R d n left =
     IsRuled rule R d n ⊎ ((h : ℕ) × IsWithinCount h left × (exact_capacity R 0 h ≡ Some d))
 
 module _ {T A : Type 0} where
-  -- what w has cost that was v, before items went in behind: one move for each of them; no block
-  -- and no copied item more where
-  -- the capacity stayed; where it grew, at least one block more, into which at least the items of v
-  -- were copied
+  -- what w has cost that was v, after items went in after its own
   pub record IsExtendCost (v w : Thin T A) : Type 0 where
+    -- one move for each item
     pub moves : w.cost.moves + length v.items ≡ v.cost.moves + length w.items
+
+    -- where the capacity stayed, no block and no copied item more
     pub kept : w.capacity ≡ v.capacity → (w.cost.blocks ≡ v.cost.blocks)
         × (w.cost.grown ≡ v.cost.grown)
+
+    -- where it grew, at least one block more, into which at least the items of v were copied
     pub grown : v.capacity < w.capacity → (v.cost.blocks < w.cost.blocks)
         × (v.cost.grown + length v.items ≤ w.cost.grown)
 
   -- no capacity is ruled for what was wanted: one place more, for the item in hand, or, where no
-  -- item was drawn, as many more
-  -- as a hint allows that has `left` to give
+  -- item was drawn, as many more as some hint allows of an iterator that has `left` to give
   abbrev pub Overflows : Rule → RattleType → Thin T A → Option T → Count → Type 0
   Overflows rule R v (Some x) left = capacity_for rule R v 1 ≡ None
   Overflows rule R v None left = (h : ℕ) × IsWithinCount h left × (capacity_for rule R v h ≡ None)

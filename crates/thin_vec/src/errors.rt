@@ -1,4 +1,4 @@
-//! What a refused call hands back.
+//! What a call returns that fails and owns what the caller passed.
 ghost use Rattle.std.specs.Prelude.{◌≡◌};
 ghost use Rattle.std.specs.IoError.{error_kind};
 ghost use Rattle.std.specs.declared.io.ErrorKind.TheVariants as Kind;
@@ -10,19 +10,19 @@ use std::io::ErrorKind;
 use std::{fmt, io};
 use thin_block::ThinVecError;
 
-/// A value that a refused call hands back to its caller, who owns it again.
+/// A value that a failed call returns to its caller, who owns it again.
 #[derive(Drop)]
 pub struct Rejected<S> {
     /// What was passed by value, as it was passed.
     pub value: S,
-    /// Why the call was refused.
+    /// Why the call failed.
     pub cause: ThinVecError,
 }
 
-/// What a refused `extend` hands back. The items that were placed stay in the list.
+/// What `extend` returns when it fails. The items that were placed stay in the list.
 #[derive(Drop)]
 pub struct ExtendRefused<T, I> {
-    /// Why the call was refused.
+    /// Why the call failed.
     pub cause: ThinVecError,
     /// The item that was drawn, and for which there was no room.
     pub in_hand: Option<T>,
@@ -30,12 +30,12 @@ pub struct ExtendRefused<T, I> {
     pub rest: I,
 }
 
-/// What a refused `from_iter` hands back.
+/// What `from_iter` returns when it fails.
 #[derive(Drop)]
 pub struct CollectRefused<T, I, A: Allocator = Global> {
     /// The items that were placed.
     pub list: ThinVec<T, A>,
-    /// Why the call was refused.
+    /// Why the call failed.
     pub cause: ThinVecError,
     /// The item that was drawn, and for which there was no room.
     pub in_hand: Option<T>,
@@ -43,16 +43,18 @@ pub struct CollectRefused<T, I, A: Allocator = Global> {
     pub rest: I,
 }
 
-/// What a refused `finish` of a `Splice` hands back. The items that were placed stay in the list.
+/// What `finish` of a `Splice` returns when it fails. The items that were placed stay in the list.
 #[derive(Drop)]
 pub struct SpliceRefused<T, I, A: Allocator = Global> {
-    /// Why it was refused.
+    /// Why the call failed.
     pub cause: ThinVecError,
-    /// The items that were drawn behind those that were placed, and for which the list has no room yet.
+    /// The items that were drawn after those that were placed, and for which the list has no room
+    /// yet.
     pub held: Vec<T, A>,
-    /// The item that was drawn behind those, and for which there was no room.
+    /// The item that was drawn after those, and for which there was no room.
     pub in_hand: Option<T>,
-    /// The iterator, which gives the items that were not drawn. Where its first `None` was drawn, it counts as empty.
+    /// The iterator, which gives the items that were not drawn. With nothing in hand and something
+    /// held it has ended, and is not to be asked again; else it may be.
     pub rest: I,
 }
 
@@ -93,28 +95,28 @@ impl<T: Drop, I: Drop, A: Allocator> From<SpliceRefused<T, I, A>> for ThinVecErr
 }
 
 impl<S: Drop> From<Rejected<S>> for AllocError {
-    // The value is dropped, and the cause is not told.
+    // The value is dropped, and the cause with it.
     fn from(_refused: Rejected<S>) -> AllocError {
         AllocError
     }
 }
 
 impl<T: Drop, I: Drop> From<ExtendRefused<T, I>> for AllocError {
-    // What was handed back is dropped, and the cause is not told.
+    // What was returned is dropped, and the cause with it.
     fn from(_refused: ExtendRefused<T, I>) -> AllocError {
         AllocError
     }
 }
 
 impl<T: Drop, I: Drop, A: Allocator> From<CollectRefused<T, I, A>> for AllocError {
-    // What was handed back is dropped, and the cause is not told.
+    // What was returned is dropped, and the cause with it.
     fn from(_refused: CollectRefused<T, I, A>) -> AllocError {
         AllocError
     }
 }
 
 impl<T: Drop, I: Drop, A: Allocator> From<SpliceRefused<T, I, A>> for AllocError {
-    // What was handed back is dropped, and the cause is not told.
+    // What was returned is dropped, and the cause with it.
     fn from(_refused: SpliceRefused<T, I, A>) -> AllocError {
         AllocError
     }
@@ -132,7 +134,7 @@ impl<S: Drop> From<Rejected<S>> for io::Error {
 impl<T: Drop, I: Drop> From<ExtendRefused<T, I>> for io::Error {
     ghost from_gives = { λ _ error. error_kind error ≡ Kind.OutOfMemory };
 
-    // What was handed back is dropped.
+    // What was returned is dropped.
     fn from(_refused: ExtendRefused<T, I>) -> io::Error {
         io::Error::from(ErrorKind::OutOfMemory)
     }
@@ -141,7 +143,7 @@ impl<T: Drop, I: Drop> From<ExtendRefused<T, I>> for io::Error {
 impl<T: Drop, I: Drop, A: Allocator> From<CollectRefused<T, I, A>> for io::Error {
     ghost from_gives = { λ _ error. error_kind error ≡ Kind.OutOfMemory };
 
-    // What was handed back is dropped.
+    // What was returned is dropped.
     fn from(_refused: CollectRefused<T, I, A>) -> io::Error {
         io::Error::from(ErrorKind::OutOfMemory)
     }
@@ -150,7 +152,7 @@ impl<T: Drop, I: Drop, A: Allocator> From<CollectRefused<T, I, A>> for io::Error
 impl<T: Drop, I: Drop, A: Allocator> From<SpliceRefused<T, I, A>> for io::Error {
     ghost from_gives = { λ _ error. error_kind error ≡ Kind.OutOfMemory };
 
-    // What was handed back is dropped.
+    // What was returned is dropped.
     fn from(_refused: SpliceRefused<T, I, A>) -> io::Error {
         io::Error::from(ErrorKind::OutOfMemory)
     }

@@ -1,11 +1,13 @@
-//! How the items of an iterator go between those of a list: a hole is filled, and room is made for what is beyond it.
-ghost use Rattle.std.specs.Prelude.{true, false, ◌≡◌, ℕ, ◌+◌, ◌-◌, ◌*◌, ◌==◌, ◌<◌, ◌≤◌, List, [], ◌∷◌, ◌++◌, IfErr, IsOk, IsSome, MatchOption, None, OnErr, OnOk, OnSome, drop, if◌then◌else◌, length, take};
+//! How the items of an iterator go between those of a list: a hole is filled, and room is made for
+//! what is beyond it.
+ghost use Rattle.std.specs.Prelude.{true, false, ◌≡◌, ℕ, ◌+◌, ◌-◌, ◌*◌, ◌==◌, ◌<◌, ◌≤◌, ◌↔◌, List, [], ◌∷◌, ◌++◌, IfErr, IsOk, IsSome, MatchOption, None, OnErr, OnOk, OnSome, drop, if◌then◌else◌, length, take};
 ghost use Rattle.std.specs.Iterator.{Drains, IsFinite, Yields, YieldsThen, size};
+ghost use Rattle.std.specs.Option.{option_len};
 ghost use Rattle.thin_block.specs.Cost.{moving};
 ghost use Rattle.thin_vec.specs.Cheap.{IsCheap};
 ghost use Rattle.thin_vec.specs.Extend.{GaveUp, Gives, IsExtendCost, IsExtended, IsLoose, IsNamed, Overflows};
 ghost use Rattle.thin_vec.specs.Open.{IsOf, reach};
-ghost use Rattle.thin_vec.specs.Filling.{IsSpliced, OverflowsBy, Stopped, left_of, with_between};
+ghost use Rattle.thin_vec.specs.Filling.{IsSpliced, IsStopCause, Stopped, left_of, with_between};
 ghost use Rattle.thin_vec.specs.ThinVec.{HasRoomFor, capacity_for};
 
 use crate::errors::{ExtendRefused, SpliceRefused};
@@ -17,7 +19,8 @@ use std::iter::Iterator;
 use thin_block::{Growth, ThinVecError};
 
 impl<T, A: Allocator> Hole<T, A> {
-    // Puts what `iter` gives behind the front. Hands back the iterator, and whether it ended before the hole was full.
+    // Puts what `iter` gives after the front. Returns the iterator, and whether it ended before the
+    // hole was full.
     fn fill<I: Iterator<Item = T>>(&mut self, iter: I) -> (I, bool)
         requires can_next { I.can_next iter }
         requires finite { IsFinite (I.remaining iter) }
@@ -37,7 +40,7 @@ impl<T, A: Allocator> Hole<T, A> {
         (rest, ended)
     }
 
-    // Puts the items of `items` behind the front.
+    // Puts the items of `items` after the front.
     fn fill_from_vec<B: Allocator>(&mut self, items: Vec<T, B>)
         requires room { length items.items ≤ self.old.before }
         ensures { self.new ≡ record self.old {
@@ -68,8 +71,8 @@ impl<T, A: Allocator> Hole<T, A> {
 }
 
 impl<T, A: Allocator, G: Growth> ThinVec<T, A, G> {
-    // Fills the hole and closes it. Answers where the items end that were placed, and hands back the iterator, and whether it
-    // ended before the hole was full.
+    // Fills the hole and closes it. Returns where the items end that were placed, the iterator, and
+    // whether it ended before the hole was full.
     fn close_filled<I: Iterator<Item = T>>(
         &mut self,
         mut hole: Hole<T, A>,
@@ -96,8 +99,8 @@ impl<T, A: Allocator, G: Growth> ThinVec<T, A, G> {
         (end, rest, ended)
     }
 
-    // The list's block with `count` empty slots before the item at `at`: the items from there on move up, as one run. The list is
-    // left empty and without a block.
+    // The list's block with `count` empty slots before the item at `at`: the items from there on
+    // move up, as one run. The list is left empty and without a block.
     fn open_wide(&mut self, at: usize, count: usize) -> Hole<T, A>
         requires in_bounds { at ≤ length self.old.items }
         requires room { HasRoomFor self.old count }
@@ -121,8 +124,9 @@ impl<T, A: Allocator, G: Growth> ThinVec<T, A, G> {
         hole
     }
 
-    // Up to `count` items of `iter` go before the item at `at`, into spare room: the items from there on move up by as many
-    // places, as one run, and down again where the iterator ends sooner.
+    // Up to `count` items of `iter` go before the item at `at`, into spare room: the items from
+    // there on move up by as many places, as one run, and down again where the iterator ends
+    // sooner.
     fn insert_run<I: Iterator<Item = T>>(
         &mut self,
         at: usize,
@@ -140,6 +144,7 @@ impl<T, A: Allocator, G: Growth> ThinVec<T, A, G> {
         ensures full { result.2 ≡ false → result.0 ≡ at + count }
         ensures short { result.2 ≡ true → result.0 < at + count }
         ensures asked { result.2 ≡ false → I.can_next result.1 × IsFinite (I.remaining result.1) }
+        ensures nearer { result.2 ≡ false → count + size (I.remaining result.1) ≤ size (I.remaining iter) }
     {
         let hole = self.open_wide(at, count);
         self.close_filled(hole, iter)
@@ -147,8 +152,8 @@ impl<T, A: Allocator, G: Growth> ThinVec<T, A, G> {
 }
 
 impl<T: Drop, A: Allocator, G: Growth> ThinVec<T, A, G> {
-    // What `iter` still gives goes before the item at `at`. Room is made for what its hint says, and once more for what it gives
-    // beyond that.
+    // What `iter` still gives goes before the item at `at`. Room is made for what its hint says,
+    // and once more for what it gives beyond that.
     fn insert_all<I: Iterator<Item = T>>(
         &mut self,
         at: usize,
@@ -158,12 +163,13 @@ impl<T: Drop, A: Allocator, G: Growth> ThinVec<T, A, G> {
         requires in_bounds { at ≤ length self.old.items }
         requires can_next { I.can_next iter }
         requires finite { IsFinite (I.remaining iter) }
+        ensures succeeds { size (I.remaining iter) ≡ 0 → IsOk result }
         ensures items { OnOk result ((xs : List T) × Drains I.next_gives iter xs × (self.new.items ≡ (take at self.old.items ++ xs) ++ drop at self.old.items)) }
         ensures placed { IfErr result (λ refused. (xs : List T) × (self.new.items ≡ (take at self.old.items ++ xs) ++ drop at self.old.items) × Stopped I.next_gives I.can_next I.remaining iter xs refused.held.items refused.in_hand refused.rest) }
-        ensures overflow { IfErr result (λ refused. 0 < length refused.held.items → refused.in_hand ≡ None → capacity_for G.rule T.row self.new (length refused.held.items) ≡ None → refused.cause ≡ ThinVecError.CapacityOverflow) }
-        ensures cause { IfErr result (λ refused. refused.cause ≡ ThinVecError.CapacityOverflow → (refused.in_hand ≡ None) × OverflowsBy G.rule T.row self.new refused.held.items refused.in_hand (I.remaining refused.rest)) }
+        ensures cause { IfErr result (λ refused. (tail : List T) → 0 < length tail → IsStopCause G.rule T.row self.new tail refused.held.items refused.in_hand (I.remaining refused.rest) refused.cause) }
         ensures capacity { IsLoose G.rule T.row self.old.capacity self.new.capacity }
         ensures named { IsExtended G.rule T.row self.old self.new.capacity (length self.new.items) (I.remaining iter) }
+        ensures had_room { HasRoomFor self.old (size (I.remaining iter)) → self.new.capacity ≡ self.old.capacity }
         ensures cost { IsSpliced self.old self.new (2 * (length self.old.items - at)) }
         ensures alloc { self.new.alloc ≡ self.old.alloc }
         ensures cheap { IsCheap self.old → IsCheap self.new }
@@ -194,12 +200,15 @@ impl<T: Drop, A: Allocator, G: Growth> ThinVec<T, A, G> {
         requires in_bounds { at ≤ length self.old.items }
         requires can_next { I.can_next iter }
         requires finite { IsFinite (I.remaining iter) }
+        ensures succeeds { size (I.remaining iter) ≡ 0 → IsOk result }
         ensures items { OnOk result ((xs : List T) × Drains I.next_gives iter xs × (self.new.items ≡ (take at self.old.items ++ xs) ++ drop at self.old.items)) }
         ensures placed { IfErr result (λ refused. Stopped I.next_gives I.can_next I.remaining iter [] refused.held.items refused.in_hand refused.rest) }
-        ensures overflow { IfErr result (λ refused. refused.in_hand ≡ None → capacity_for G.rule T.row self.new (length refused.held.items) ≡ None → refused.cause ≡ ThinVecError.CapacityOverflow) }
-        ensures cause { IfErr result (λ refused. refused.cause ≡ ThinVecError.CapacityOverflow → (refused.in_hand ≡ None) × (0 < length refused.held.items) × (capacity_for G.rule T.row self.new (length refused.held.items) ≡ None)) }
+        ensures held { IfErr result (λ refused. refused.in_hand ≡ None → 0 < length refused.held.items) }
+        ensures cause { IfErr result (λ refused. refused.in_hand ≡ None → (refused.cause ≡ ThinVecError.CapacityOverflow) ↔ (capacity_for G.rule T.row self.new (length refused.held.items) ≡ None)) }
+        ensures in_hand { IfErr result (λ refused. IsSome refused.in_hand → refused.cause ≡ ThinVecError.OutOfMemory) }
         ensures capacity { IsLoose G.rule T.row self.old.capacity self.new.capacity }
         ensures named { IsNamed G.rule T.row self.old.capacity self.new.capacity (length self.new.items) }
+        ensures had_room { HasRoomFor self.old (size (I.remaining iter)) → self.new.capacity ≡ self.old.capacity }
         ensures cost { IsSpliced self.old self.new (length self.old.items - at) }
         ensures alloc { self.new.alloc ≡ self.old.alloc }
         ensures cheap { IsCheap self.old → IsCheap self.new }
@@ -226,8 +235,8 @@ impl<T: Drop, A: Allocator, G: Growth> ThinVec<T, A, G> {
         Ok(())
     }
 
-    // The items of `held` go before the item at `at`, into spare room. Where the hint was exact there are none, and the block is
-    // not opened.
+    // The items of `held` go before the item at `at`, into spare room. Where the hint was exact
+    // there are none, and the block is not opened.
     fn insert_vec(&mut self, at: usize, held: Vec<T, A>)
         requires in_bounds { at ≤ length self.old.items }
         requires room { HasRoomFor self.old (length held.items) }
@@ -247,7 +256,8 @@ impl<T: Drop, A: Allocator, G: Growth> ThinVec<T, A, G> {
 }
 
 impl<T: Drop, A: Allocator, G: Growth> ThinVec<T, A, G> {
-    // Puts what `iter` gives into the hole, and what it gives beyond that behind those, and makes the block the list's again.
+    // Puts what `iter` gives into the hole, and what it gives beyond that after those, and makes
+    // the block the list's again.
     pub(crate) fn fill_hole<I: Iterator<Item = T>>(
         &mut self,
         hole: Hole<T, A>,
@@ -260,23 +270,18 @@ impl<T: Drop, A: Allocator, G: Growth> ThinVec<T, A, G> {
         requires from { IsOf hole.alloc self.old.alloc }
         requires can_next { I.can_next iter }
         requires finite { IsFinite (I.remaining iter) }
-        ensures succeeds { 0 < length hole.tail → size (I.remaining iter) < hole.before → IsOk result }
+        ensures succeeds { size (I.remaining iter) ≤ hole.before → IsOk result }
         ensures succeeds_behind { hole.tail ≡ [] → HasRoomFor (left_of hole self.old.alloc) (size (I.remaining iter)) → IsOk result }
-        ensures succeeds_empty { hole.tail ≡ [] → size (I.remaining iter) ≡ 0 → IsOk result }
         ensures items { OnOk result ((xs : List T) × Drains I.next_gives iter xs × (self.new.items ≡ with_between hole xs)) }
         ensures capacity { IsLoose G.rule T.row hole.capacity self.new.capacity }
         ensures named { IsExtended G.rule T.row (left_of hole self.old.alloc) self.new.capacity (length self.new.items) (I.remaining iter) }
-        ensures had_room { 0 < length hole.tail → size (I.remaining iter) < hole.before → self.new.capacity ≡ hole.capacity }
-        ensures had_room_behind { hole.tail ≡ [] → HasRoomFor (left_of hole self.old.alloc) (size (I.remaining iter)) → self.new.capacity ≡ hole.capacity }
+        ensures had_room { HasRoomFor (left_of hole self.old.alloc) (size (I.remaining iter)) → self.new.capacity ≡ hole.capacity }
         ensures cost { IsSpliced (left_of hole self.old.alloc) self.new (2 * length hole.tail) }
         ensures alloc { self.new.alloc ≡ self.old.alloc }
         ensures cheap { IsCheap (left_of hole self.old.alloc) → IsCheap self.new }
         ensures placed { IfErr result (λ refused. (xs : List T) × (self.new.items ≡ with_between hole xs) × Stopped I.next_gives I.can_next I.remaining iter xs refused.held.items refused.in_hand refused.rest) }
         ensures range { OnErr result (0 < length hole.tail → length hole.front + length hole.tail + hole.before ≤ length self.new.items) }
-        ensures overflow { IfErr result (λ refused. 0 < length refused.held.items → refused.in_hand ≡ None → capacity_for G.rule T.row self.new (length refused.held.items) ≡ None → refused.cause ≡ ThinVecError.CapacityOverflow) }
-        ensures cause { IfErr result (λ refused. refused.cause ≡ ThinVecError.CapacityOverflow → OverflowsBy G.rule T.row self.new refused.held.items refused.in_hand (I.remaining refused.rest)) }
-        ensures cause_in_hand { IfErr result (λ refused. 0 < length hole.tail → refused.cause ≡ ThinVecError.CapacityOverflow → refused.in_hand ≡ None) }
-        ensures overflow_behind { IfErr result (λ refused. hole.tail ≡ [] → IsSome refused.in_hand → capacity_for G.rule T.row self.new 1 ≡ None → refused.cause ≡ ThinVecError.CapacityOverflow) }
+        ensures cause { IfErr result (λ refused. IsStopCause G.rule T.row self.new hole.tail refused.held.items refused.in_hand (I.remaining refused.rest) refused.cause) }
         ensures held { IfErr result (λ refused. hole.tail ≡ [] → refused.held.items ≡ []) }
         ensures full { IfErr result (λ refused. hole.tail ≡ [] → IsSome refused.in_hand → length self.new.items ≡ self.new.capacity) }
         ensures err { IfErr result (λ refused. hole.tail ≡ [] → refused.in_hand ≡ None → (self.new ≡ left_of hole self.old.alloc) × (refused.rest ≡ iter)) }
@@ -287,8 +292,8 @@ impl<T: Drop, A: Allocator, G: Growth> ThinVec<T, A, G> {
         self.fill_behind(hole, iter, alloc)
     }
 
-    // Fills the hole with what `iter` gives, which has items behind it, and then makes room before those for what it gives beyond
-    // that. Room is made for what its hint says, and once more for the rest.
+    // Fills the hole with what `iter` gives, and then makes room before the tail for what it gives
+    // beyond that: room for what its hint says, and once more for the rest.
     fn fill_between<I: Iterator<Item = T>>(
         &mut self,
         hole: Hole<T, A>,
@@ -301,15 +306,14 @@ impl<T: Drop, A: Allocator, G: Growth> ThinVec<T, A, G> {
         requires from { IsOf hole.alloc self.old.alloc }
         requires can_next { I.can_next iter }
         requires finite { IsFinite (I.remaining iter) }
-        ensures succeeds { size (I.remaining iter) < hole.before → IsOk result }
+        ensures succeeds { size (I.remaining iter) ≤ hole.before → IsOk result }
         ensures items { OnOk result ((xs : List T) × Drains I.next_gives iter xs × (self.new.items ≡ with_between hole xs)) }
         ensures placed { IfErr result (λ refused. (xs : List T) × (self.new.items ≡ with_between hole xs) × Stopped I.next_gives I.can_next I.remaining iter xs refused.held.items refused.in_hand refused.rest) }
         ensures range { OnErr result (length hole.front + length hole.tail + hole.before ≤ length self.new.items) }
-        ensures overflow { IfErr result (λ refused. 0 < length refused.held.items → refused.in_hand ≡ None → capacity_for G.rule T.row self.new (length refused.held.items) ≡ None → refused.cause ≡ ThinVecError.CapacityOverflow) }
-        ensures cause { IfErr result (λ refused. refused.cause ≡ ThinVecError.CapacityOverflow → (refused.in_hand ≡ None) × OverflowsBy G.rule T.row self.new refused.held.items refused.in_hand (I.remaining refused.rest)) }
+        ensures cause { IfErr result (λ refused. 0 < length hole.tail → IsStopCause G.rule T.row self.new hole.tail refused.held.items refused.in_hand (I.remaining refused.rest) refused.cause) }
         ensures capacity { IsLoose G.rule T.row hole.capacity self.new.capacity }
         ensures named { IsExtended G.rule T.row (left_of hole self.old.alloc) self.new.capacity (length self.new.items) (I.remaining iter) }
-        ensures had_room { size (I.remaining iter) < hole.before → self.new.capacity ≡ hole.capacity }
+        ensures had_room { HasRoomFor (left_of hole self.old.alloc) (size (I.remaining iter)) → self.new.capacity ≡ hole.capacity }
         ensures cost { IsSpliced (left_of hole self.old.alloc) self.new (2 * length hole.tail) }
         ensures alloc { self.new.alloc ≡ self.old.alloc }
         ensures cheap { IsCheap (left_of hole self.old.alloc) → IsCheap self.new }
@@ -321,7 +325,8 @@ impl<T: Drop, A: Allocator, G: Growth> ThinVec<T, A, G> {
         self.insert_all(end, rest, alloc)
     }
 
-    // What `iter` gives goes behind the items in front, as by `extend`: there are none behind the hole.
+    // What `iter` gives goes after the items in front, as by `extend`: there are none after the
+    // hole.
     fn fill_behind<I: Iterator<Item = T>>(
         &mut self,
         hole: Hole<T, A>,
@@ -336,7 +341,6 @@ impl<T: Drop, A: Allocator, G: Growth> ThinVec<T, A, G> {
         requires can_next { I.can_next iter }
         requires finite { IsFinite (I.remaining iter) }
         ensures succeeds { HasRoomFor (left_of hole self.old.alloc) (size (I.remaining iter)) → IsOk result }
-        ensures succeeds_empty { size (I.remaining iter) ≡ 0 → IsOk result }
         ensures items { OnOk result ((xs : List T) × Drains I.next_gives iter xs × (self.new.items ≡ with_between hole xs)) }
         ensures placed { IfErr result (λ refused. (xs : List T) × (self.new.items ≡ with_between hole xs) × GaveUp I.next_gives iter xs refused.in_hand refused.rest) }
         ensures rest { IfErr result (λ refused. I.can_next refused.rest × IsFinite (I.remaining refused.rest)) }
@@ -372,12 +376,13 @@ impl<T: Drop, A: Allocator, G: Growth> ThinVec<T, A, G> {
     }
 }
 
-// Draws the items of `iter` into a vector on `alloc`, until the iterator ends, or memory is refused for an item that was
-// drawn. Hands back the vector, that item, and the iterator.
+// Draws the items of `iter` into a vector on `alloc`, until the iterator ends, or there is no
+// memory for an item that was drawn. Returns the vector, that item, and the iterator.
 fn hold<T, A: Allocator, I: Iterator<Item = T>>(iter: I, alloc: A) -> (Vec<T, A>, Option<T>, I)
     requires can_next { I.can_next iter }
     requires finite { IsFinite (I.remaining iter) }
     ensures gave { MatchOption result.1 (YieldsThen I.next_gives iter result.0.items None result.2) (λ x. Yields I.next_gives iter (result.0.items ++ x ∷ []) result.2) }
+    ensures fewer { length result.0.items + option_len result.1 ≤ size (I.remaining iter) }
     ensures asked { IsSome result.1 → I.can_next result.2 × IsFinite (I.remaining result.2) }
 {
     let mut held = Vec::new(alloc);
@@ -399,8 +404,9 @@ fn hold<T, A: Allocator, I: Iterator<Item = T>>(iter: I, alloc: A) -> (Vec<T, A>
     }
 }
 
-// Draws items into the spare room of `held`, and one item more. Hands back the vector, the item that found no room, and the
-// iterator. It has the vector by value, so that its length can stay in a register.
+// Draws items into the spare room of `held`, and one item more. Returns the vector, the item that
+// found no room, and the iterator. It has the vector by value, so that its length can stay in a
+// register.
 fn hold_spare<T, A: Allocator, I: Iterator<Item = T>>(
     held: Vec<T, A>,
     iter: I,
@@ -409,7 +415,8 @@ fn hold_spare<T, A: Allocator, I: Iterator<Item = T>>(
     requires finite { IsFinite (I.remaining iter) }
     ensures items { (xs : List T) × (result.0.items ≡ held.items ++ xs) × YieldsThen I.next_gives iter xs result.1 result.2 }
     ensures rest { OnSome result.1 (I.can_next result.2 × IsFinite (I.remaining result.2)) }
-    ensures nearer { OnSome result.1 (size (I.remaining result.2) < size (I.remaining iter)) }
+    ensures fewer { length result.0.items ≤ length held.items + size (I.remaining iter) }
+    ensures nearer { OnSome result.1 (length result.0.items + size (I.remaining result.2) < length held.items + size (I.remaining iter)) }
 {
     let mut filled = held;
     let mut rest = iter;

@@ -2,7 +2,7 @@
 ghost use Rattle.std.specs.Prelude.{◌≡◌, ◌↔◌, ◌+◌, ◌-◌, ◌<◌, ◌≤◌, ◌∷◌, ◌++◌, [], IsTrue, drop, length, slice_range, take};
 ghost use Rattle.thin_block.specs.Cost.{no_cost};
 ghost use Rattle.thin_block.specs.Slots.{front};
-ghost use Rattle.thin_vec.specs.Open.{IsOf, cost_closed, items_of, tail_start};
+ghost use Rattle.thin_vec.specs.Open.{IsOf, cost_closed, items_of, reach, tail_start};
 
 use crate::list::ThinVec;
 use std::alloc::Allocator;
@@ -142,6 +142,7 @@ impl<T, A: Allocator> Hole<T, A> {
     // Whether there is a tail.
     pub(crate) fn has_tail(&self) -> bool
         ensures value { IsTrue result ↔ (0 < length self.now.tail) }
+        ensures in_bounds { reach self.now ≤ self.now.capacity }
     {
         self.stop < self.len
     }

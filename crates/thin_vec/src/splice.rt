@@ -1,4 +1,4 @@
-//! `splice`: the items of a range go out of a list, one by one, from either end, and those of an iterator take their place.
+//! `splice`: a range's items go out of a list, from either end, and an iterator's take their place.
 ghost use Rattle.std.specs.Prelude.{◌≡◌, ◌+◌, ◌-◌, ◌*◌, ◌<◌, ◌≤◌, ◌++◌, ◌↔◌, List, [], IfErr, IsOk, IsSome, IsTrue, None, OnErr, OnOk, Some, drop, length, slice_range, take};
 ghost use Rattle.std.specs.Iterator.{Drains, IsFinite, size};
 ghost use Rattle.std.specs.Iterator.Runs.{SomeRun, WholeRun};
@@ -6,7 +6,7 @@ ghost use Rattle.std.specs.Option.{option_to_list};
 ghost use Rattle.thin_vec.specs.Cheap.{IsCheap};
 ghost use Rattle.thin_vec.specs.Extend.{IsExtended, IsLoose};
 ghost use Rattle.thin_vec.specs.Open.{IsOf};
-ghost use Rattle.thin_vec.specs.Filling.{IsSpliced, OverflowsBy, Stopped};
+ghost use Rattle.thin_vec.specs.Filling.{IsSpliced, IsStopCause, Stopped};
 ghost use Rattle.thin_vec.specs.ThinVec.{HasRoomFor, IsWithin, capacity_for};
 
 use crate::errors::SpliceRefused;
@@ -17,10 +17,11 @@ use std::alloc::{Allocator, Global};
 use std::iter::Iterator;
 use thin_block::{Doubling, Growth, ThinVecError};
 
-/// The items of a range of a list, handed out from either end, and an iterator whose items are to take their place.
+/// The items of a range of a list, yielded from either end, and an iterator whose items are to take
+/// their place.
 ///
-/// It is ended by `finish` alone: a program that lets one go is refused. While it lives it owns the list's block, and the list is
-/// empty and without one.
+/// It ends by `finish` alone: a program that lets one go does not compile. While it lives it owns
+/// the list's block, and the list is empty and without one.
 pub struct Splice<
     'a,
     I,
@@ -38,8 +39,8 @@ pub struct Splice<
 impl<T, A: Allocator, G: Growth> ThinVec<T, A, G> {
     ghost use Rattle.thin_vec.specs.Splice.{splice_alloc, splice_hole, splice_iter, splice_lender, splice_range};
 
-    /// Takes the items from `start` up to `end` out of the list, and puts those of `iter` in their place: the answer hands the
-    /// former out from either end, and its `finish` draws the latter.
+    /// Takes the items from `start` up to `end` out of the list, and puts those of `iter` in their
+    /// place: the `Splice` yields the former from either end, and its `finish` draws the latter.
     ///
     /// It takes no memory, and draws no item of `iter`. `bounds` is the test for the range.
     pub fn splice<I: Iterator<Item = T>>(
@@ -87,7 +88,7 @@ impl<'a, T, I, A: Allocator, G: Growth> Splice<'a, I, T, A, G> {
         (len, Some(len))
     }
 
-    /// Hands out the first item of those of the range that remain, or answers `None` where none does.
+    /// Yields the first item of those of the range that remain, or returns `None` where none does.
     pub fn next(&mut self) -> Option<T>
         ensures steps { SpliceSteps self.old result self.new }
     {
@@ -97,7 +98,7 @@ impl<'a, T, I, A: Allocator, G: Growth> Splice<'a, I, T, A, G> {
         Some(self.held.value.take_first())
     }
 
-    /// Hands out the last item of those of the range that remain, or answers `None` where none does.
+    /// Yields the last item of those of the range that remain, or returns `None` where none does.
     pub fn next_back(&mut self) -> Option<T>
         ensures steps { SpliceStepsBack self.old result self.new }
     {
@@ -118,42 +119,41 @@ impl<
 > Splice<'a, I, T, A, G, H> {
     ghost use Rattle.thin_vec.specs.Splice.{splice_alloc, splice_hole, splice_iter, splice_left, splice_range, splice_replaced};
 
-    /// Drops what is left of the range, and puts the items in its place that the iterator gives before its first `None`. After
-    /// that it is not asked again.
+    /// Drops what is left of the range, and puts the items in its place that the iterator gives
+    /// before its first `None`. After that it is not asked again.
     ///
-    /// With no item behind the range this is an `extend`. With some, the range's places are filled first, and where the iterator
-    /// ends by then, no memory is taken. Then its hint is asked, once, and room is made for its lower bound. What it gives beyond
-    /// that is held in a vector on `alloc`, and goes in as one run. Refused, the list has what was placed, and the rest is handed
-    /// back.
+    /// With no item after the range this is an `extend`. With some, the range's places are filled
+    /// first. Then the iterator's hint is asked, once, and room is made for its lower bound. What
+    /// it gives beyond that is held in a vector on `alloc`, and goes in as one run. Where the
+    /// iterator gives at most as many items as the range has, no memory is taken, and nothing can
+    /// fail.
+    ///
+    /// When it fails, the list has what was placed, and the error has the rest.
     pub fn finish(self, alloc: A) -> Result<(), SpliceRefused<T, I, A>>
         requires can_next { I.can_next (splice_iter self) }
         requires finite { IsFinite (I.remaining (splice_iter self)) }
-        ensures succeeds { 0 < length (splice_hole self.entry).tail → size (I.remaining (splice_iter self.entry)) < splice_range self.entry → IsOk result }
+        ensures succeeds { size (I.remaining (splice_iter self.entry)) ≤ splice_range self.entry → IsOk result }
         ensures succeeds_behind { (splice_hole self.entry).tail ≡ [] → HasRoomFor (splice_left self.entry) (size (I.remaining (splice_iter self.entry))) → IsOk result }
-        ensures succeeds_empty { (splice_hole self.entry).tail ≡ [] → size (I.remaining (splice_iter self.entry)) ≡ 0 → IsOk result }
         ensures items { OnOk result ((xs : List T) × Drains I.next_gives (splice_iter self.entry) xs × (self.exit.0.now.items ≡ splice_replaced self.entry xs)) }
         ensures runs { OnOk result (WholeRun I.next_gives (splice_iter self.entry) (λ p. self.exit.0.now.items ≡ splice_replaced self.entry p.items)) }
 
-        // Accepted or refused, each item that came in has moved once, and each of those behind the range at most twice.
+        // On success and failure, each item that came in has moved once, and each after the range
+        // at most twice.
         ensures capacity { IsLoose G.rule T.row (splice_hole self.entry).capacity self.exit.0.now.capacity }
         ensures named { IsExtended G.rule T.row (splice_left self.entry) self.exit.0.now.capacity (length self.exit.0.now.items) (I.remaining (splice_iter self.entry)) }
-        ensures had_room { 0 < length (splice_hole self.entry).tail → size (I.remaining (splice_iter self.entry)) < splice_range self.entry → self.exit.0.now.capacity ≡ (splice_hole self.entry).capacity }
-        ensures had_room_behind { (splice_hole self.entry).tail ≡ [] → HasRoomFor (splice_left self.entry) (size (I.remaining (splice_iter self.entry))) → self.exit.0.now.capacity ≡ (splice_hole self.entry).capacity }
+        ensures had_room { HasRoomFor (splice_left self.entry) (size (I.remaining (splice_iter self.entry))) → self.exit.0.now.capacity ≡ (splice_hole self.entry).capacity }
         ensures never_less { (splice_hole self.entry).capacity ≤ self.exit.0.now.capacity }
         ensures cost { IsSpliced (splice_left self.entry) self.exit.0.now (2 * length (splice_hole self.entry).tail) }
         ensures alloc { self.exit.0.now.alloc ≡ splice_alloc self.entry }
         ensures cheap { IsCheap (splice_left self.entry) → IsCheap self.exit.0.now }
         ensures within { IsWithin T.row self.exit.0.now }
 
-        // Refused, no item is lost. With items behind the range, its places are filled by then.
+        // On failure no item is lost. With items after the range, its places are filled by then.
         ensures placed { IfErr result (λ refused. (xs : List T) × (self.exit.0.now.items ≡ splice_replaced self.entry xs) × Stopped I.next_gives I.can_next I.remaining (splice_iter self.entry) xs refused.held.items refused.in_hand refused.rest) }
         ensures range { OnErr result (0 < length (splice_hole self.entry).tail → length (splice_left self.entry).items + splice_range self.entry ≤ length self.exit.0.now.items) }
-        ensures overflow { IfErr result (λ refused. 0 < length refused.held.items → refused.in_hand ≡ None → capacity_for G.rule T.row self.exit.0.now (length refused.held.items) ≡ None → refused.cause ≡ ThinVecError.CapacityOverflow) }
-        ensures cause { IfErr result (λ refused. refused.cause ≡ ThinVecError.CapacityOverflow → OverflowsBy G.rule T.row self.exit.0.now refused.held.items refused.in_hand (I.remaining refused.rest)) }
-        ensures cause_in_hand { IfErr result (λ refused. 0 < length (splice_hole self.entry).tail → refused.cause ≡ ThinVecError.CapacityOverflow → refused.in_hand ≡ None) }
+        ensures cause { IfErr result (λ refused. IsStopCause G.rule T.row self.exit.0.now (splice_hole self.entry).tail refused.held.items refused.in_hand (I.remaining refused.rest) refused.cause) }
 
-        // With none behind it, it is refused as an `extend`.
-        ensures overflow_behind { IfErr result (λ refused. (splice_hole self.entry).tail ≡ [] → IsSome refused.in_hand → capacity_for G.rule T.row self.exit.0.now 1 ≡ None → refused.cause ≡ ThinVecError.CapacityOverflow) }
+        // With no item after the range, it fails as `extend` does.
         ensures held { IfErr result (λ refused. (splice_hole self.entry).tail ≡ [] → refused.held.items ≡ []) }
         ensures full { IfErr result (λ refused. (splice_hole self.entry).tail ≡ [] → IsSome refused.in_hand → length self.exit.0.now.items ≡ self.exit.0.now.capacity) }
         ensures err { IfErr result (λ refused. (splice_hole self.entry).tail ≡ [] → refused.in_hand ≡ None → (self.exit.0.now ≡ splice_left self.entry) × (refused.rest ≡ splice_iter self.entry)) }

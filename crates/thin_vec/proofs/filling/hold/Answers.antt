@@ -1,5 +1,6 @@
 -- What the spare room took goes behind what was held, and the item that found none behind that.
-use Rattle.std.proofs.Common.{subst}
+use Rattle.std.proofs.Common.{ap, arith, length, subst}
+use Rattle.std.proofs.lemmas.List.{length_push}
 use Rattle.std.specs.Iterator.{YieldsThen}
 use Rattle.thin_block.proofs.Outcomes.{at-some}
 use Rattle.thin_vec.proofs.FillingLemmas.{yields-drawn, yields-held}
@@ -20,6 +21,13 @@ loop-item-preserved g c =
           (yields-drawn steps c.args.iter c.hold_spare-filled.result.2
           c.hold_spare-filled.result.0.items c.hold_spare-filled.result.1 c.in-Some.item
           c.in-Some.is gave);
+      fewer = omega (
+        arith,
+        c.loop-item.invariant.fewer,
+        at-some c.in-Some.is c.hold_spare-filled.ensures.nearer,
+        ap length c.in-Ok.ensures.items,
+        length_push c.hold_spare-filled.result.0.items c.in-Some.item,
+      );
     }
 
 pub returns-in_default-clause-gave : goal.returns-in_default-clause-gave

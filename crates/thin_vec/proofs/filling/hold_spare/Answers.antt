@@ -1,5 +1,6 @@
 -- One item more goes behind those that were drawn.
-use Rattle.std.proofs.Common.{◌∷◌, ◌++◌, [], ◌∙◌, ap, append_assoc, arith}
+use Rattle.std.proofs.Common.{◌∷◌, ◌++◌, [], ◌∙◌, ap, append_assoc, arith, length}
+use Rattle.std.proofs.lemmas.List.{length_push}
 use Rattle.thin_vec.proofs.ExtendLemmas.{yields-more}
 use Rattle.thin_vec.proofs.filling.hold_spare.Goals as goal
 
@@ -16,7 +17,13 @@ loop-rest-preserved g c =
         yields-more g.I.Iterator.next_gives c.args.iter c.loop-rest.rest c.next.new.self before.0
             c.in-Some.item before.2 c.in-Some.ensures.steps,
       );
-      nearer = omega (arith, c.loop-rest.invariant.nearer, goes.2);
+      nearer = omega (
+        arith,
+        c.loop-rest.invariant.nearer,
+        goes.2,
+        ap length c.push_reserved.ensures.items,
+        length_push c.loop-rest.filled.items c.in-Some.item,
+      );
       can = goes.0;
       finite = goes.1;
     }

@@ -1,5 +1,5 @@
 -- The vector holds what the iterator has given, behind its own items.
-use Rattle.std.proofs.Common.{◌≡◌, ◌≤◌, List, ◌++◌}
+use Rattle.std.proofs.Common.{◌≡◌, ◌+◌, ◌≤◌, List, ◌++◌, length}
 use Rattle.std.specs.Iterator.{IsFinite, Yields, size}
 use Rattle.thin_vec.proofs.filling.hold_spare.Given as goal
 
@@ -7,7 +7,8 @@ abbrev pub invariant-loop-rest : goal.invariant-loop-rest
 invariant-loop-rest g l = record {
   gave : (xs : List g.row.T.Denot) × (l.filled.items ≡ l.fn.held.items ++ xs)
       × Yields g.I.Iterator.next_gives l.fn.iter xs l.rest;
-  nearer : size (g.I.Iterator.remaining l.rest) ≤ size (g.I.Iterator.remaining l.fn.iter);
+  nearer : length l.filled.items + size (g.I.Iterator.remaining l.rest)
+      ≤ length l.fn.held.items + size (g.I.Iterator.remaining l.fn.iter);
   can : g.I.Iterator.can_next l.rest;
   finite : IsFinite (g.I.Iterator.remaining l.rest);
 }

@@ -9,6 +9,35 @@ use Rattle.thin_vec.proofs.FillingLemmas.{between-length, between-more, drains-m
 use Rattle.std.proofs.lemmas.Grind.{common_steps}
 use Rattle.thin_vec.proofs.list.ThinVec.fill_between.Goals as goal
 
+pub returns-then-ended-clause-had_room : goal.returns-then-ended-clause-had_room
+returns-then-ended-clause-had_room g c = λ _. c.close_filled-end.ensures.capacity
+
+pub returns-clause-succeeds : goal.returns-clause-succeeds
+returns-clause-succeeds g c = λ few.
+    c.insert_all.ensures.succeeds
+    (omega (arith, few, c.close_filled-end.ensures.nearer c.if-ended.false))
+
+pub returns-clause-had_room : goal.returns-clause-had_room
+returns-clause-had_room g c = λ fit.
+    let hole = c.args.hole in
+    let gave = c.close_filled-end.ensures.items in
+    c.insert_all.ensures.had_room (omega (
+      arith,
+      fit,
+      ap length gave.1,
+      between-length hole gave.0,
+      length-append hole.front hole.tail,
+      gave.2,
+      c.close_filled-end.ensures.capacity,
+      c.close_filled-end.ensures.full c.if-ended.false,
+      c.close_filled-end.ensures.nearer c.if-ended.false,
+    )) ∙ c.close_filled-end.ensures.capacity
+
+pub returns-clause-cause : goal.returns-clause-cause
+returns-clause-cause g c =
+    if-err c.insert_all.result (λ refused is now some. now c.args.hole.tail some)
+    c.insert_all.ensures.cause
+
 pub returns-then-ended-clause-named : goal.returns-then-ended-clause-named
 returns-then-ended-clause-named g c = inl (inl c.close_filled-end.ensures.capacity)
 
@@ -31,14 +60,6 @@ returns-then-ended-clause-cost g c =
       gave.2,
     ))
     (omega (arith, paid.2))
-
-pub returns-clause-succeeds : goal.returns-clause-succeeds
-returns-clause-succeeds g c =
-    λ few. absurd (omega (arith, few, c.close_filled-end.ensures.nearer c.if-ended.false))
-
-pub returns-clause-had_room : goal.returns-clause-had_room
-returns-clause-had_room g c =
-    λ few. absurd (omega (arith, few, c.close_filled-end.ensures.nearer c.if-ended.false))
 
 pub returns-clause-items : goal.returns-clause-items
 returns-clause-items g c =

@@ -1,24 +1,35 @@
 -- With items behind the hole and with none, in the same words.
-use Rattle.std.proofs.Common.{◌∙◌, ap, arith, length}
+use Rattle.std.proofs.Common.{◌∙◌, ap, arith, length, length-append}
 use denote.Param.{param}
 use Rattle.thin_vec.specs.Filling.{left_of}
-use Rattle.thin_vec.proofs.FillingLemmas.{any-err, if-err, overflows-one, spliced-extended, stopped-now}
+use Rattle.thin_vec.proofs.FillingLemmas.{any-err, if-err, no-tail, spliced-extended, stop-at-end, stopped-now}
 use Rattle.std.proofs.lemmas.Grind.{common_steps}
 use Rattle.thin_vec.proofs.list.ThinVec.fill_hole.Goals as goal
 
 pub returns-then-has_tail-clause-cause : goal.returns-then-has_tail-clause-cause
 returns-then-has_tail-clause-cause g c =
-    if-err c.fill_between.result (λ refused is now over. (now over).1) c.fill_between.ensures.cause
-
-pub returns-then-has_tail-clause-cause_in_hand : goal.returns-then-has_tail-clause-cause_in_hand
-returns-then-has_tail-clause-cause_in_hand g c =
-    if-err c.fill_between.result (λ refused is now _ over. (now over).0)
-    c.fill_between.ensures.cause
-
-pub returns-then-has_tail-clause-overflow_behind : goal.returns-then-has_tail-clause-overflow_behind
-returns-then-has_tail-clause-overflow_behind g c =
     let some = c.has_tail.ensures.value.0 c.if-has_tail.true in
-    any-err c.fill_between.result (λ refused none _ _. absurd (omega (arith, some, ap length none)))
+    if-err c.fill_between.result (λ refused is now. now some) c.fill_between.ensures.cause
+
+pub returns-clause-cause : goal.returns-clause-cause
+returns-clause-cause g c =
+    let none = no-tail c.args.hole.tail c.has_tail.result c.has_tail.ensures.value.1
+    c.if-has_tail.false in
+    if-err c.fill_behind.result
+    (λ refused is now. stop-at-end g.G.Growth.rule (param 0 g.row.T) c.fill_behind.new.self
+    c.args.hole.tail refused.held.items refused.in_hand (g.I.Iterator.remaining refused.rest)
+    refused.cause none (rw is at c.fill_behind.ensures.held)
+    (rw is at c.fill_behind.ensures.overflow) now)
+    c.fill_behind.ensures.cause
+
+pub returns-clause-succeeds : goal.returns-clause-succeeds
+returns-clause-succeeds g c = λ few.
+    c.fill_behind.ensures.succeeds (omega (
+      arith,
+      few,
+      c.has_tail.ensures.in_bounds,
+      length-append c.args.hole.front c.args.hole.tail,
+    ))
 
 pub returns-then-has_tail-clause-held : goal.returns-then-has_tail-clause-held
 returns-then-has_tail-clause-held g c =
@@ -52,24 +63,6 @@ returns-clause-placed g c =
           (rw is at c.fill_behind.ensures.held) now.2 asked.0 asked.1,
     )) c.fill_behind.ensures.placed
 
-pub returns-clause-overflow : goal.returns-clause-overflow
-returns-clause-overflow g c =
-    if-err c.fill_behind.result
-    (λ refused is now some _ _. absurd (omega (arith, some, ap length now)))
-    c.fill_behind.ensures.held
-
-pub returns-clause-cause : goal.returns-clause-cause
-returns-clause-cause g c =
-    if-err c.fill_behind.result
-    (λ refused is now over. overflows-one g.G.Growth.rule (param 0 g.row.T)
-    c.fill_behind.new.self refused.held.items refused.in_hand
-    (g.I.Iterator.remaining refused.rest) (rw is at c.fill_behind.ensures.held) (now over))
-    c.fill_behind.ensures.cause
-
-pub returns-clause-overflow_behind : goal.returns-clause-overflow_behind
-returns-clause-overflow_behind g c =
-    if-err c.fill_behind.result (λ refused is now _. now) c.fill_behind.ensures.overflow
-
 pub returns-clause-held : goal.returns-clause-held
 returns-clause-held g c =
     if-err c.fill_behind.result (λ refused is now _. now) c.fill_behind.ensures.held
@@ -85,26 +78,14 @@ returns-clause-err g c =
 pub fill_behind-requires-clause-no_tail : goal.fill_behind-requires-clause-no_tail
 fill_behind-requires-clause-no_tail g c = grind (arith, common_steps)
 
-pub returns-clause-cause_in_hand : goal.returns-clause-cause_in_hand
-returns-clause-cause_in_hand g c = search (arith, ◌∙◌)
-
 pub returns-clause-cheap : goal.returns-clause-cheap
 returns-clause-cheap g c = search (arith, ◌∙◌)
 
 pub returns-clause-had_room : goal.returns-clause-had_room
 returns-clause-had_room g c = search (arith, ◌∙◌)
 
-pub returns-clause-had_room_behind : goal.returns-clause-had_room_behind
-returns-clause-had_room_behind g c = search (arith, ◌∙◌)
-
 pub returns-clause-range : goal.returns-clause-range
 returns-clause-range g c = search (arith, ◌∙◌)
-
-pub returns-clause-succeeds : goal.returns-clause-succeeds
-returns-clause-succeeds g c = search (arith, ◌∙◌)
-
-pub returns-clause-succeeds_empty : goal.returns-clause-succeeds_empty
-returns-clause-succeeds_empty g c = search (arith, ◌∙◌)
 
 pub returns-then-has_tail-clause-cheap : goal.returns-then-has_tail-clause-cheap
 returns-then-has_tail-clause-cheap g c = search (arith, ◌∙◌)
@@ -115,14 +96,9 @@ returns-then-has_tail-clause-cost g c = search (arith, ◌∙◌)
 pub returns-then-has_tail-clause-had_room : goal.returns-then-has_tail-clause-had_room
 returns-then-has_tail-clause-had_room g c = search (arith, ◌∙◌)
 
-pub returns-then-has_tail-clause-had_room_behind : goal.returns-then-has_tail-clause-had_room_behind
-returns-then-has_tail-clause-had_room_behind g c = search (arith, ◌∙◌)
-
 pub returns-then-has_tail-clause-range : goal.returns-then-has_tail-clause-range
 returns-then-has_tail-clause-range g c = search (arith, ◌∙◌)
 
 pub returns-then-has_tail-clause-succeeds_behind : goal.returns-then-has_tail-clause-succeeds_behind
 returns-then-has_tail-clause-succeeds_behind g c = search (arith, ◌∙◌)
 
-pub returns-then-has_tail-clause-succeeds_empty : goal.returns-then-has_tail-clause-succeeds_empty
-returns-then-has_tail-clause-succeeds_empty g c = search (arith, ◌∙◌)

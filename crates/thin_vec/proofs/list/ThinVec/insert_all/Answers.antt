@@ -1,24 +1,88 @@
 -- One run for the hint, and one for what was held: items, capacity, cost and cause of both.
 use Rattle.std.proofs.lemmas.Grind.{common_steps}
-use Rattle.std.proofs.Common.{Some, inl, inr, ◌++◌, ◌+◌, ◌-◌, ◌*◌, ◌∙◌, ap, arith, drop, length, length-append, refl, subst, sym, take}
-use Rattle.std.proofs.lemmas.List.{length-drop, length-take-le}
+use Rattle.std.proofs.Common.{[], None, Some, inl, inr, ◌++◌, ◌+◌, ◌-◌, ◌*◌, ◌∙◌, ap, arith, drop, length, length-append, refl, subst, sym, take}
+use Rattle.std.proofs.lemmas.List.{append-nil, length-drop, length-take-le, take-append-drop}
 use denote.Param.{param}
 use Rattle.thin_vec.specs.Extend.{Gives, IsLoose, IsNamed}
 use Rattle.thin_vec.specs.ThinVec.{capacity_for}
 use Rattle.thin_vec.proofs.ExtendLemmas.{named-after, loose-join, loose-le, loose-ruled}
-use Rattle.thin_vec.proofs.FillingLemmas.{drains-more, if-err, on-ok, overflows-held, spliced-join, spliced-less, spliced-more, spliced-reserved, spliced-run, stopped-more}
+use Rattle.thin_vec.proofs.FillingLemmas.{drains-more, if-err, on-ok, spliced-join, spliced-less, spliced-more, spliced-reserved, spliced-run, stop-at-held, stop-at-hint, stopped-more, stopped-now}
 use Rattle.thin_vec.proofs.list.ThinVec.insert_all.Goals as goal
 
+pub returns-in-Err-clause-succeeds : goal.returns-in-Err-clause-succeeds
+returns-in-Err-clause-succeeds g c = λ none.
+    c.in-Err.ensures.succeeds_empty
+    (omega (arith, none, c.size_hint-hint.ensures.lower c.requires.finite))
+
+pub returns-in-Err-clause-placed : goal.returns-in-Err-clause-placed
+returns-in-Err-clause-placed g c =
+    let v = c.args.self.now in
+    let whole = ap (λ l. l ++ drop c.args.at v.items) (append-nil (take c.args.at v.items))
+    ∙ take-append-drop c.args.at v.items in (
+      [],
+      ap (λ z. z.items) c.in-Err.ensures.err ∙ sym whole,
+      stopped-now g.I.Iterator.next_gives g.I.Iterator.can_next g.I.Iterator.remaining
+          c.args.iter c.args.iter [] c.new.result.items None c.new.ensures.items refl
+          c.requires.can_next c.requires.finite,
+    )
+
 pub returns-in-Err-clause-cause : goal.returns-in-Err-clause-cause
-returns-in-Err-clause-cause g c = λ over. (
-  refl,
-  rw c.new.ensures.items (
-    c.size_hint-hint.result.0,
-    c.size_hint-hint.ensures.lower,
-    ap (λ v. capacity_for g.G.Growth.rule (param 0 g.row.T) v c.size_hint-hint.result.0)
-        c.in-Err.ensures.err ∙ c.in-Err.ensures.cause over,
-  ),
-)
+returns-in-Err-clause-cause g c = λ tail some.
+    stop-at-hint g.G.Growth.rule (param 0 g.row.T) c.reserve.new.self tail c.new.result.items
+    None (g.I.Iterator.remaining c.args.iter) c.in-Err.cause some c.new.ensures.items refl
+    (λ over. (
+      c.size_hint-hint.result.0,
+      c.size_hint-hint.ensures.lower,
+      ap (λ v. capacity_for g.G.Growth.rule (param 0 g.row.T) v c.size_hint-hint.result.0)
+          c.in-Err.ensures.err ∙ c.in-Err.ensures.cause over,
+    ))
+
+pub returns-in-Err-clause-had_room : goal.returns-in-Err-clause-had_room
+returns-in-Err-clause-had_room g c = λ _. ap (λ v. v.capacity) c.in-Err.ensures.err
+
+pub returns-then-ended-clause-had_room : goal.returns-then-ended-clause-had_room
+returns-then-ended-clause-had_room g c = λ fit.
+    c.insert_run-end.ensures.capacity
+    ∙ c.reserve.ensures.had_room
+    (omega (arith, fit, c.size_hint-hint.ensures.lower c.requires.finite))
+
+pub returns-clause-succeeds : goal.returns-clause-succeeds
+returns-clause-succeeds g c = λ none.
+    c.insert_held.ensures.succeeds
+    (omega (arith, none, c.insert_run-end.ensures.nearer c.if-ended.false))
+
+pub returns-clause-had_room : goal.returns-clause-had_room
+returns-clause-had_room g c = λ fit.
+    let u = c.reserve.new.self in
+    let gave = c.insert_run-end.ensures.items in
+    let same = c.insert_run-end.ensures.capacity
+    ∙ c.reserve.ensures.had_room
+    (omega (arith, fit, c.size_hint-hint.ensures.lower c.requires.finite)) in
+    let old = ap length c.reserve.ensures.items in
+    c.insert_held.ensures.had_room (omega (
+      arith,
+      fit,
+      same,
+      old,
+      ap length gave.1,
+      length-append (take c.args.at u.items ++ gave.0) (drop c.args.at u.items),
+      length-append (take c.args.at u.items) gave.0,
+      length-take-le c.args.at u.items (omega (arith, old, c.requires.in_bounds)),
+      length-drop c.args.at u.items,
+      c.requires.in_bounds,
+      gave.2,
+      c.insert_run-end.ensures.full c.if-ended.false,
+      c.insert_run-end.ensures.nearer c.if-ended.false,
+    )) ∙ same
+
+pub returns-clause-cause : goal.returns-clause-cause
+returns-clause-cause g c =
+    if-err c.insert_held.result
+    (λ refused is now tail some. stop-at-held g.G.Growth.rule (param 0 g.row.T)
+    c.insert_held.new.self tail refused.held.items refused.in_hand
+    (g.I.Iterator.remaining refused.rest) refused.cause some
+    (rw is at c.insert_held.ensures.held) now (rw is at c.insert_held.ensures.in_hand))
+    c.insert_held.ensures.cause
 
 pub returns-then-ended-clause-capacity : goal.returns-then-ended-clause-capacity
 returns-then-ended-clause-capacity g c =
@@ -62,17 +126,6 @@ returns-clause-placed g c =
           c.insert_run-end.result.1 refused.rest gave.0 refused.held.items
           refused.in_hand before now,
     )) c.insert_held.ensures.placed
-
-pub returns-clause-cause : goal.returns-clause-cause
-returns-clause-cause g c =
-    if-err c.insert_held.result
-    (λ refused is now over. let why = now over in (
-      why.0,
-      overflows-held g.G.Growth.rule (param 0 g.row.T) c.insert_held.new.self
-          refused.held.items refused.in_hand
-          (g.I.Iterator.remaining refused.rest) why.0 why.1 why.2,
-    ))
-    c.insert_held.ensures.cause
 
 pub returns-clause-capacity : goal.returns-clause-capacity
 returns-clause-capacity g c =
@@ -144,9 +197,6 @@ returns-clause-alloc g c = search (arith, ◌∙◌)
 pub returns-clause-cheap : goal.returns-clause-cheap
 returns-clause-cheap g c = search (arith, ◌∙◌)
 
-pub returns-clause-overflow : goal.returns-clause-overflow
-returns-clause-overflow g c = search (arith, ◌∙◌)
-
 pub returns-in-Err-clause-cost : goal.returns-in-Err-clause-cost
 returns-in-Err-clause-cost g c = search (arith, ◌∙◌)
 
@@ -158,9 +208,6 @@ returns-then-ended-clause-cheap g c = search (arith, ◌∙◌)
 
 pub returns-then-ended-clause-items : goal.returns-then-ended-clause-items
 returns-then-ended-clause-items g c = search (arith, ◌∙◌)
-
-pub returns-in-Err-clause-placed : goal.returns-in-Err-clause-placed
-returns-in-Err-clause-placed g c = grind (arith, common_steps)
 
 pub returns-then-ended-clause-cost : goal.returns-then-ended-clause-cost
 returns-then-ended-clause-cost g c = grind (arith, common_steps)

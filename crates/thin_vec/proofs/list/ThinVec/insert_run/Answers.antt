@@ -22,3 +22,7 @@ returns-clause-cost g c =
       omega (arith, all.2, paid.2, tail),
       λ full. omega (arith, all.2, paid.3 full),
     )
+
+pub returns-clause-nearer : goal.returns-clause-nearer
+returns-clause-nearer g c =
+    λ full. omega (arith, c.close_filled.ensures.nearer full, c.open_wide-hole.ensures.before)

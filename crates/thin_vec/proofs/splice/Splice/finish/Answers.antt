@@ -2,8 +2,11 @@
 use Rattle.std.proofs.Common.{◌≡◌, [], ◌<◌, ◌+◌, ◌++◌, ◌∙◌, ap, arith, length, length-append, subst, sym}
 use denote.Param.{param}
 use Rattle.thin_vec.specs.Extend.{IsExtended, IsLoose}
+use Rattle.thin_vec.specs.Filling.{IsStopCause}
 use Rattle.thin_vec.specs.Open.{Open}
 use Rattle.thin_vec.specs.Splice.{splice_alloc, splice_hole, splice_iter, splice_replaced}
+use Rattle.thin_vec.specs.ThinVec.{HasRoomFor}
+use Rattle.std.specs.Iterator.{size}
 use Rattle.thin_vec.proofs.ExtendLemmas.{loose-le, run_of_ok}
 use Rattle.thin_vec.proofs.FillingLemmas.{if-err, left-same, on-ok}
 use Rattle.thin_vec.proofs.splice.Splice.finish.Goals as goal
@@ -61,11 +64,35 @@ returns-clause-placed g c =
     (λ refused is now. (now.0, now.1 ∙ (λ i. (front i ++ now.0) ++ tail i), now.2))
     c.fill_hole-answer.ensures.placed
 
-pub returns-clause-overflow_behind : goal.returns-clause-overflow_behind
-returns-clause-overflow_behind g c =
+pub returns-clause-cause : goal.returns-clause-cause
+returns-clause-cause g c =
     let tail = ap (λ v. v.tail) (seen (splice_hole c.args.self) c.into_inner-hole.ensures.value c.drop_rest.ensures) in
-    if-err c.fill_hole-answer.result (λ refused is now none. now (tail ∙ none))
-    c.fill_hole-answer.ensures.overflow_behind
+    if-err c.fill_hole-answer.result
+    (λ refused is now. subst (λ l. IsStopCause g.G.Growth.rule (param 0 g.row.T)
+    c.fill_hole-answer.new.self l refused.held.items refused.in_hand
+    (g.I.Iterator.remaining refused.rest) refused.cause) tail now)
+    c.fill_hole-answer.ensures.cause
+
+pub returns-clause-succeeds : goal.returns-clause-succeeds
+returns-clause-succeeds g c = λ few.
+    let v = splice_hole c.args.self in
+    c.fill_hole-answer.ensures.succeeds (omega (
+      arith,
+      few,
+      ap (λ h. h.before) (seen v c.into_inner-hole.ensures.value c.drop_rest.ensures),
+    ))
+
+pub returns-clause-had_room : goal.returns-clause-had_room
+returns-clause-had_room g c = λ fit.
+    let hole = c.drop_rest.new.self in
+    let v = splice_hole c.args.self in
+    let same = seen v c.into_inner-hole.ensures.value c.drop_rest.ensures in
+    let left = left-same hole v c.clear.new.self.alloc (splice_alloc c.args.self)
+    (ap (λ h. h.front) same) (ap (λ h. h.tail) same) (ap (λ h. h.capacity) same)
+    (ap (λ h. h.cost) same) c.clear.ensures.alloc in
+    c.fill_hole-answer.ensures.had_room
+    (subst (λ z. HasRoomFor z (size (g.I.Iterator.remaining (splice_iter c.args.self)))) (sym left) fit)
+    ∙ ap (λ h. h.capacity) same
 
 pub returns-clause-held : goal.returns-clause-held
 returns-clause-held g c =
@@ -121,26 +148,12 @@ returns-clause-never_less g c =
 pub returns-clause-alloc : goal.returns-clause-alloc
 returns-clause-alloc g c = search (arith, ◌∙◌)
 
-pub returns-clause-cause_in_hand : goal.returns-clause-cause_in_hand
-returns-clause-cause_in_hand g c = search (arith, ◌∙◌)
-
 pub returns-clause-cheap : goal.returns-clause-cheap
 returns-clause-cheap g c = search (arith, ◌∙◌)
 
 pub returns-clause-cost : goal.returns-clause-cost
 returns-clause-cost g c = search (arith, ◌∙◌)
 
-pub returns-clause-had_room : goal.returns-clause-had_room
-returns-clause-had_room g c = search (arith, ◌∙◌)
-
-pub returns-clause-had_room_behind : goal.returns-clause-had_room_behind
-returns-clause-had_room_behind g c = search (arith, ◌∙◌)
-
-pub returns-clause-succeeds : goal.returns-clause-succeeds
-returns-clause-succeeds g c = search (arith, ◌∙◌)
-
 pub returns-clause-succeeds_behind : goal.returns-clause-succeeds_behind
 returns-clause-succeeds_behind g c = search (arith, ◌∙◌)
 
-pub returns-clause-succeeds_empty : goal.returns-clause-succeeds_empty
-returns-clause-succeeds_empty g c = search (arith, ◌∙◌)
