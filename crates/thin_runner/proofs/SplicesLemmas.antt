@@ -2,12 +2,12 @@
 use Rattle.std.proofs.Common.{◌≡◌, ℕ, ◌-◌, ◌*◌, ◌<◌, List, [], ◌∷◌, ◌++◌, None, Option, Some, ap, append_assoc, arith, drop, inl, inr, length, refl, subst, sym, take, ◌∙◌}
 use Rattle.std.proofs.Math.Seq.{drop-length, take-length}
 use Rattle.std.proofs.lemmas.List.{append-nil, length-drop, take-append-drop}
-use Rattle.std.specs.Iterator.{Count}
+use Rattle.std.specs.Iterator.{Count, at_most}
 use Rattle.std.specs.Borrow.{RattleType}
 use Rattle.std.specs.declared.iter.Iterator.{can_next-default}
 use Rattle.std.specs.Option.{option_to_list}
 use Rattle.thin_vec.specs.Cheap.{IsCheap}
-use Rattle.thin_vec.specs.Extend.{IsExtendCost, IsLoose, Overflows}
+use Rattle.thin_vec.specs.Extend.{IsExtendCost, IsExtended, IsLoose, Overflows}
 use Rattle.thin_vec.specs.Filling.{IsSpliced, OverflowsBy, Stopped, left_of}
 use Rattle.thin_vec.specs.Growth.{Rule}
 use Rattle.thin_vec.specs.Open.{Open}
@@ -83,6 +83,16 @@ module _ {T A : Type 0} (old : Thin T A) (a b : ℕ) where
         subst (λ (v : Thin T A). IsSpliced v new (2 * (length old.items - b))) left-is
         (subst (λ (n : ℕ). IsSpliced (left_of hole alloc) new (2 * n)) tail-count cost)
 
+    -- where the capacity comes from, said of what may come
+    pub named : (rule : Rule) (R : RattleType) (new : Thin T A) (most : ℕ) (left : Count)
+        → left ≡ at_most most
+        → IsExtended rule R (left_of hole alloc) new.capacity (length new.items) left
+        → IsExtended rule R (cut old a b) new.capacity (length new.items) (at_most most)
+    named rule R new most left count is_named =
+        let of = λ (v : Thin T A) (n : Count). IsExtended rule R v new.capacity (length new.items) n in
+        subst (λ (n : Count). of (cut old a b) n) count
+        (subst (λ (v : Thin T A). of v left) left-is is_named)
+
     -- where there are places enough, what follows of each of the two cases
     pub with-places : (P : Type 0) (most size range : ℕ) → size ≡ most → range ≡ b - a
         → (0 < length hole.tail → size < range → P)
@@ -114,26 +124,34 @@ module _ {T A : Type 0} (old : Thin T A) where
   cut-end = λ i. record old { items = take-append-drop (length old.items) old.items i }
 
   -- and there are places where there is room
-  pub places-end : (most : ℕ) → HasPlacesFor old (length old.items) (length old.items) most → HasRoomFor old most
+  pub places-end : (most : ℕ) → HasPlacesFor old (length old.items) (length old.items) most
+      → HasRoomFor old most
   places-end most (inl few) = absurd (omega (arith, few.0))
   places-end most (inr room) = subst (λ (v : Thin T A). HasRoomFor v most) cut-end room.1
 
 -- what went in behind the items of a list took the place of none
 module _ {T A : Type 0} (rule : Rule) (R : RattleType) (old new : Thin T A) where
   pub replaces-end : (placed : List T) (most : ℕ) → new.items ≡ old.items ++ placed
-      → IsLoose rule R old.capacity new.capacity → IsWithin R new → (HasRoomFor old most → new.capacity ≡ old.capacity)
+      → IsLoose rule R old.capacity new.capacity
+      → IsExtended rule R old new.capacity (length new.items) (at_most most) → IsWithin R new
+      → (HasRoomFor old most → new.capacity ≡ old.capacity)
       → IsExtendCost old new → (IsCheap old → IsCheap new) → new.alloc ≡ old.alloc
       → Replaces rule R old (length old.items) (length old.items) placed most new
-  replaces-end placed most items capacity within room cost cheap alloc =
-      let same : IsSpliced old new (2 * (length old.items - length old.items)) =
+  replaces-end placed most items capacity named within room cost cheap alloc =
+      let end = length old.items in
+      let same : IsSpliced old new (2 * (end - end)) =
       record { moves = omega (arith, cost.moves); kept = cost.kept; grown = cost.grown } in
+      let around : (take end old.items ++ placed) ++ drop end old.items ≡ old.items ++ placed =
+      (λ i. (take-length old.items i ++ placed) ++ drop-length old.items i)
+      ∙ append-nil (old.items ++ placed) in
       record {
-        items = items
-            ∙ sym ((λ i. (take-length old.items i ++ placed) ++ drop-length old.items i) ∙ append-nil (old.items ++ placed));
+        items = items ∙ sym around;
         capacity = capacity;
+        named = subst (λ (v : Thin T A). IsExtended rule R v new.capacity (length new.items)
+            (at_most most)) (sym (cut-end old)) named;
         within = within;
         had_room = λ places. room (places-end old most places);
-        cost = subst (λ (v : Thin T A). IsSpliced v new (2 * (length old.items - length old.items))) (sym (cut-end old)) same;
+        cost = subst (λ (v : Thin T A). IsSpliced v new (2 * (end - end))) (sym (cut-end old)) same;
         cheap = cheap;
         alloc = alloc;
       }

@@ -1,4 +1,5 @@
--- A range that goes out while the items of an iterator come in for it. (std: `Vec::splice`, `Vec::extend`)
+-- A range that goes out while the items of an iterator come in for it. (std: `Vec::splice`,
+-- `Vec::extend`)
 use Rattle.std.specs.Prelude.{◌≡◌, ◌⊎◌, ℕ, ◌+◌, ◌-◌, ◌*◌, ◌<◌, ◌≤◌, List, [], ◌++◌, IsSome, None, Option, drop, length, take}
 use Rattle.std.specs.Borrow.{RattleType}
 use Rattle.std.specs.Iterator.{at_most}
@@ -6,7 +7,7 @@ use Rattle.std.specs.List.{remove_range}
 use Rattle.std.specs.Option.{option_to_list}
 use Rattle.std.specs.Vec.Iter.{into_iter_items}
 use Rattle.thin_vec.specs.Cheap.{IsCheap}
-use Rattle.thin_vec.specs.Extend.{IsLoose}
+use Rattle.thin_vec.specs.Extend.{IsExtended, IsLoose}
 use Rattle.thin_vec.specs.Filling.{IsSpliced, OverflowsBy}
 use Rattle.thin_vec.specs.Growth.{Rule}
 use Rattle.thin_vec.specs.ThinVec.{HasRoomFor, IsWithin, Thin, capacity_for}
@@ -19,34 +20,43 @@ module _ {T A : Type 0} (old : Thin T A) (a b : ℕ) where
   abbrev pub cut : Thin T A
   cut = record old { items = remove_range old.items a b }
 
-  -- as many items fit with no growth: where some stand behind the range, fewer than it has; where none does, there is room for them
+  -- as many items fit with no growth: where some stand after the range, fewer than it has; where
+  -- none does, there is room for them
   abbrev pub HasPlacesFor : ℕ → Type 0
-  HasPlacesFor most = ((b < length old.items) × (most < b - a)) ⊎ ((b ≡ length old.items) × HasRoomFor cut most)
+  HasPlacesFor most = ((b < length old.items) × (most < b - a))
+      ⊎ ((b ≡ length old.items) × HasRoomFor cut most)
 
 module _ {T A : Type 0} (rule : Rule) (R : RattleType) (old : Thin T A) (a b : ℕ) where
-  -- the items `placed`, of `most` that may come, went in for those from a up to b: each moved once, and each behind the range at
-  -- most twice
+  -- the items `placed`, of `most` that may come, went in for those from a up to b: each moved once,
+  -- and each after the range at most twice. The capacity stays, or is one that is ruled for what
+  -- went in, or for as many as may come
   pub record Replaces (placed : List T) (most : ℕ) (new : Thin T A) : Type 0 where
     pub items : new.items ≡ (take a old.items ++ placed) ++ drop b old.items
     pub capacity : IsLoose rule R old.capacity new.capacity
+    pub named : IsExtended rule R (cut old a b) new.capacity (length new.items) (at_most most)
     pub within : IsWithin R new
     pub had_room : HasPlacesFor old a b most → new.capacity ≡ old.capacity
     pub cost : IsSpliced (cut old a b) new (2 * (length old.items - b))
     pub cheap : IsCheap old → IsCheap new
     pub alloc : new.alloc ≡ old.alloc
 
-  -- some of the items xs went in, and none is lost; with no item behind the range none is held, and one is in hand only where the
-  -- list is full, or else nothing went in
-  pub record StopsBetween (xs held : List T) (lower : ℕ) (cause : ThinVecError) (in_hand : Option T) (rest : Hinted T A) (new : Thin T A) : Type 0 where
+  -- some of the items xs went in, and none is lost; with no item after the range none is held, and
+  -- one is in hand only where the list is full, or else nothing went in
+  pub record StopsBetween (xs held : List T) (lower : ℕ) (cause : ThinVecError)
+      (in_hand : Option T) (rest : Hinted T A) (new : Thin T A) : Type 0 where
     pub placed : List T
     pub all : xs ≡ placed ++ (held ++ (option_to_list in_hand ++ into_iter_items rest.items))
     pub claim : rest.lower ≡ lower
     pub filled : Replaces placed (lower + length xs) new
     pub no_room : ¬ (HasPlacesFor old a b (lower + length xs))
-    pub told : cause ≡ CapacityOverflow → OverflowsBy rule R new held in_hand (at_most (rest.lower + length (into_iter_items rest.items)))
-    pub overflow : 0 < length held → in_hand ≡ None → capacity_for rule R new (length held) ≡ None → cause ≡ CapacityOverflow
+    pub told : cause ≡ CapacityOverflow → OverflowsBy rule R new held in_hand
+        (at_most (rest.lower + length (into_iter_items rest.items)))
+    pub overflow : 0 < length held → in_hand ≡ None
+        → capacity_for rule R new (length held) ≡ None → cause ≡ CapacityOverflow
     pub range : b < length old.items → b - a ≤ length placed
     pub in_vain : b < length old.items → cause ≡ CapacityOverflow → in_hand ≡ None
-    pub overflow_behind : b ≡ length old.items → IsSome in_hand → capacity_for rule R new 1 ≡ None → cause ≡ CapacityOverflow
-    pub behind : b ≡ length old.items → (held ≡ []) × (IsSome in_hand → length new.items ≡ new.capacity)
+    pub overflow_behind : b ≡ length old.items → IsSome in_hand → capacity_for rule R new 1 ≡ None
+        → cause ≡ CapacityOverflow
+    pub behind : b ≡ length old.items → (held ≡ [])
+        × (IsSome in_hand → length new.items ≡ new.capacity)
     pub unchanged : b ≡ length old.items → in_hand ≡ None → new ≡ cut old a b

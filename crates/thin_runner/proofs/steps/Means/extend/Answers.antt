@@ -1,9 +1,12 @@
 -- What was placed, what is in hand and what is left are what there was.
-use Rattle.std.proofs.Common.{rules, ◌++◌, ◌+◌, ap, arith, length, sym, ◌∙◌, append_assoc}
+use Rattle.std.proofs.Common.{rules, ◌≡◌, ◌++◌, ◌+◌, ap, arith, length, subst, sym, ◌∙◌, append_assoc}
+use Rattle.std.specs.Iterator.{Count, at_most}
 use Rattle.std.specs.Option.{option_to_list}
-use Rattle.thin_runner.specs.Hinted.{hinted_count, hinted_items}
+use denote.Param.{param}
+use Rattle.thin_runner.specs.Hinted.{hinted_claim, hinted_count, hinted_items}
 use Rattle.thin_runner.proofs.HintedLemmas.{drains-items, yields-claim, yields-items}
 use Rattle.thin_runner.proofs.SplicesLemmas.{cut-end, overflows-by, places-end, replaces-end}
+use Rattle.thin_vec.specs.Extend.{IsExtended}
 use Rattle.thin_vec.specs.ThinVec.{HasRoomFor}
 use Rattle.thin_runner.proofs.steps.Means.extend.Goals as goal
 
@@ -11,14 +14,19 @@ pub returns-in-Ok : goal.returns-in-Ok
 returns-in-Ok g c =
     let e = c.in-Ok.ensures in
     let old = c.args.list.now in
+    let new = c.extend-filled.new.self in
     let items = drains-items c.new.result e.items.0 e.items.1 ∙ c.new.ensures.items in
+    let count : hinted_count c.new.result ≡ at_most (c.args.lower + length c.args.items.items) =
+    λ i. at_most (c.new.ensures.claim i + length (c.new.ensures.items i)) in
     record {
       allowed = (
         tt,
         (
-          replaces-end _ _ old c.extend-filled.new.self c.args.items.items _
+          replaces-end _ _ old new c.args.items.items _
               (e.items.2 ∙ ap (λ l. old.items ++ l) items)
-              e.capacity e.within.1 (search rules) e.cost e.cheap e.alloc,
+              e.capacity
+              (subst (λ (n : Count). IsExtended g.G.Growth.rule (param 0 g.row.T) old new.capacity
+              (length new.items) n) count e.named) e.within.1 (search rules) e.cost e.cheap e.alloc,
           e.cost.moves,
         ),
       );
@@ -35,17 +43,24 @@ returns-in-Err g c =
     let claim = yields-claim c.new.result rest (e.placed.0 ++ one) e.placed.2 in
     let none = c.new-in-Err-2.ensures.items in
     let full : ¬ (HasRoomFor old (c.args.lower + length c.args.items.items)) = search rules in
+    let count : hinted_count c.new.result ≡ at_most (c.args.lower + length c.args.items.items) =
+    λ i. at_most (c.new.ensures.claim i + length (c.new.ensures.items i)) in
     record {
       allowed = (tt, (
         c.new-in-Err.ensures.items,
         record {
           placed = e.placed.0;
           all = sym c.new.ensures.items
-              ∙ (all ∙ (append_assoc e.placed.0 one (hinted_items rest) ∙ sym (ap (λ h. e.placed.0 ++ (h ++ (one ++ hinted_items rest))) none)));
+              ∙ (all ∙ (append_assoc e.placed.0 one (hinted_items rest)
+              ∙ sym (ap (λ h. e.placed.0 ++ (h ++ (one ++ hinted_items rest))) none)));
           claim = claim ∙ c.new.ensures.claim;
-          filled = replaces-end _ _ old new e.placed.0 _ e.placed.1 e.capacity e.within.1 (search rules) e.cost e.cheap e.alloc;
+          filled = replaces-end _ _ old new e.placed.0 _ e.placed.1 e.capacity
+              (subst (λ (n : Count). IsExtended g.G.Growth.rule (param 0 g.row.T) old new.capacity
+              (length new.items) n) count e.named)
+              e.within.1 (search rules) e.cost e.cheap e.alloc;
           no_room = λ places. full (places-end old _ places);
-          told = λ over. overflows-by _ _ old new _ c.in-Err.refused.in_hand (hinted_count rest) none (e.cause over);
+          told = λ over.
+              overflows-by _ _ old new _ c.in-Err.refused.in_hand (hinted_count rest) none (e.cause over);
           overflow = λ some. absurd (omega (arith, ap length none, some));
           range = λ more. absurd (omega (arith, more));
           in_vain = λ more. absurd (omega (arith, more));

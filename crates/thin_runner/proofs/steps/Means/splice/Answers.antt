@@ -1,10 +1,11 @@
 -- What took the range's place, what is held, in hand and left are what there was.
 use Rattle.std.proofs.Common.{rules, ◌≡◌, ◌+◌, ◌++◌, ◌∙◌, ap, arith, length, length-append, subst, sym}
 use Rattle.std.proofs.lemmas.Bool.{false≢true}
-use Rattle.std.specs.Iterator.{size}
+use Rattle.std.specs.Iterator.{at_most, size}
+use denote.Param.{param}
 use Rattle.thin_runner.specs.Hinted.{hinted_claim, hinted_count, hinted_items}
 use Rattle.thin_runner.proofs.HintedLemmas.{drains-items}
-use Rattle.thin_runner.proofs.SplicesLemmas.{IsOpened, left-is, no-tail, replaces-of, some-tail, spliced, stops-of, stopped-claim, stopped-items, with-places}
+use Rattle.thin_runner.proofs.SplicesLemmas.{IsOpened, left-is, named, no-tail, replaces-of, some-tail, spliced, stops-of, stopped-claim, stopped-items, with-places}
 use Rattle.thin_vec.specs.Cheap.{IsCheap}
 use Rattle.thin_vec.specs.Extend.{IsLoose}
 use Rattle.thin_vec.specs.Splice.{splice_alloc, splice_hole, splice_iter}
@@ -34,6 +35,9 @@ returns-in-Ok-finish g c =
     let width = k.range ∙ s.range in
     let most : size (hinted_count (splice_iter c.walk.new.splice)) ≡ c.args.lower + length c.args.items.items =
     omega (arith, claim, ap length items) in
+    let count : hinted_count (splice_iter c.walk.new.splice)
+    ≡ at_most (c.args.lower + length c.args.items.items) =
+    λ i. at_most (claim i + length (items i)) in
     let left : c.finish.new.self.0 ≡ c.list-1.given.0 = search rules in
     let e = c.in-Ok-finish.ensures in
     let all = drains-items (splice_iter c.walk.new.splice) e.items.0 e.items.1 ∙ items in
@@ -43,6 +47,8 @@ returns-in-Ok-finish g c =
         (search rules, replaces-of left (record {
           items = e.items.2 ∙ (λ i. (is.front i ++ all i) ++ is.tail i);
           capacity = subst (λ n. IsLoose g.G.Growth.rule _ n c.finish.new.self.0.capacity) is.capacity e.capacity;
+          named = named old start end hole alloc is g.G.Growth.rule (param 0 g.row.T)
+              c.finish.new.self.0 _ _ count e.named;
           within = subst (λ list. IsWithin _ list) (sym left) c.capacity-capacity.ensures.within;
           had_room = with-places old start end hole alloc is _ _ _ _ most width
               (λ some few. e.had_room some few ∙ is.capacity)
@@ -77,6 +83,9 @@ returns-in-Err-finish g c =
     let width = k.range ∙ s.range in
     let most : size (hinted_count (splice_iter c.walk.new.splice)) ≡ c.args.lower + length c.args.items.items =
     omega (arith, claim, ap length items) in
+    let count : hinted_count (splice_iter c.walk.new.splice)
+    ≡ at_most (c.args.lower + length c.args.items.items) =
+    λ i. at_most (claim i + length (items i)) in
     let left : c.finish.new.self.0 ≡ c.list-1.given.0 = search rules in
     let e = c.in-Err-finish.ensures in
     let refused = c.in-Err-finish.refused in
@@ -91,6 +100,8 @@ returns-in-Err-finish g c =
           filled = record {
             items = e.placed.1 ∙ (λ i. (is.front i ++ placed) ++ is.tail i);
             capacity = subst (λ n. IsLoose g.G.Growth.rule _ n c.finish.new.self.0.capacity) is.capacity e.capacity;
+            named = named old start end hole alloc is g.G.Growth.rule (param 0 g.row.T)
+                c.finish.new.self.0 _ _ count e.named;
             within = subst (λ list. IsWithin _ list) (sym left) c.capacity-capacity-in-Err-finish.ensures.within;
             had_room = with-places old start end hole alloc is _ _ _ _ most width
                 (λ some few. e.had_room some few ∙ is.capacity)
