@@ -19,24 +19,35 @@ use Rattle.thin_runner.specs.declared.command.Reply.{Reply}
 use Rattle.thin_runner.specs.declared.command.Reply.TheVariants.{Done, Item, Returned, OutOfRange}
 use Rattle.thin_runner.proofs.PaidLemmas.{IsPaid, step-paid}
 
--- after m accepted pushes: the list is cheap, holds at most m items, and its growths have copied fewer than 2m, or none
+-- after m accepted pushes: the list is cheap, holds at most m items, and its growths have copied
+-- fewer than 2m, or none
 pub record IsAmortised {T A : Type 0} (m : ℕ) (v : Thin T A) : Type 0 where
   pub paid : IsPaid v
   pub items : length v.items ≤ m
   pub copied : (v.cost.grown < 2 * m) ⊎ (v.cost.grown ≡ 0)
 
 module _ {T A : Type 0} where
-  pub new-paid : (v : Thin T A) → IsNew v v.alloc → IsPaid v
+  -- a new list is cheap
+  new-paid : (v : Thin T A) → IsNew v v.alloc → IsPaid v
   new-paid v new =
       let blocks : v.cost.blocks ≡ 0 = ap (λ c. c.blocks) new.cost in
       let grown : v.cost.grown ≡ 0 = ap (λ c. c.grown) new.cost in
       record {
-        cheap = record { none = λ _. (blocks, grown); grown = λ some. absurd (omega (arith, new.capacity, some)); blocks = λ some. absurd (omega (arith, new.capacity, some)) };
+        cheap = record {
+          none = λ _. (blocks, grown);
+          grown = λ some. absurd (omega (arith, new.capacity, some));
+          blocks = λ some. absurd (omega (arith, new.capacity, some));
+        };
         room = omega (arith, ap length new.items);
       }
 
+  -- and no push was accepted
   pub new-amortised : (v : Thin T A) → IsNew v v.alloc → IsAmortised 0 v
-  new-amortised v new = record { paid = new-paid v new; items = omega (arith, ap length new.items); copied = inr (ap (λ c. c.grown) new.cost) }
+  new-amortised v new = record {
+    paid = new-paid v new;
+    items = omega (arith, ap length new.items);
+    copied = inr (ap (λ c. c.grown) new.cost);
+  }
 
   -- what the headline says of the copied items
   pub copied-run : (w : Thin T A) (m : ℕ) → IsAmortised (0 + m) w → 0 < m → w.cost.grown < 2 * m
@@ -49,26 +60,42 @@ module _ {T A : Type 0} where
   same-amortised : (m : ℕ) (v w : Thin T A) → IsAmortised m v → w ≡ v → IsAmortised (m + 0) w
   same-amortised m v w a same = let e : m + 0 ≡ m = omega arith in rw (same, e) a
 
-copied-growing : (c n m : ℕ) (k : Cost) (g : ℕ) → IsCheapAt c k → n ≤ c → c ≤ n → n ≤ m → g ≡ k.grown + n → g < 2 * (m + 1)
+-- a growth of n items into a full list of at most m
+copied-growing : (c n m : ℕ) (k : Cost) (g : ℕ) → IsCheapAt c k → n ≤ c → c ≤ n → n ≤ m
+    → g ≡ k.grown + n → g < 2 * (m + 1)
 copied-growing zero n m k g h le ge few e = let z = h.none refl in omega (arith, z.1, e, le)
-copied-growing (suc c) n m k g h le ge few e = let copied : k.grown < suc c = h.grown (omega arith) in omega (arith, copied, e, few, ge)
+copied-growing (suc c) n m k g h le ge few e =
+    let copied : k.grown < suc c = h.grown (omega arith) in omega (arith, copied, e, few, ge)
 
-copied-kept : (m m' g g' : ℕ) → (g < 2 * m) ⊎ (g ≡ 0) → m ≤ m' → g' ≡ g → (g' < 2 * m') ⊎ (g' ≡ 0)
+-- no growth
+copied-kept : (m m' g g' : ℕ) → (g < 2 * m) ⊎ (g ≡ 0) → m ≤ m' → g' ≡ g
+    → (g' < 2 * m') ⊎ (g' ≡ 0)
 copied-kept m m' g g' (inl few) more same = inl (omega arith)
 copied-kept m m' g g' (inr none) more same = inr (same ∙ none)
 
 module _ {T A G J : Type 0} (here : Setting T A J) (law : KeepsLaw here.rule) where
-  step-amortised : (m : ℕ) (v w : Thin T A) (command : Command T A G) (reply : Reply T A G) → IsPushOrPop command → IsAmortised m v → Steps here v command reply w → IsAmortised (m + accepted (command ∷ []) (reply ∷ [])) w
+  -- a push or a pop keeps it so
+  step-amortised : (m : ℕ) (v w : Thin T A) (command : Command T A G) (reply : Reply T A G)
+      → IsPushOrPop command → IsAmortised m v → Steps here v command reply w
+      → IsAmortised (m + accepted (command ∷ []) (reply ∷ [])) w
   step-amortised m v w (Push x) Done only a s =
       let was : length v.items ≤ m = a.items in
       let paid : w.cost.grown ≡ (cost_at v w.capacity).grown = ap (λ z. z.cost.grown) s.1.1 in
+      let next = s.1.0 in
       record {
         paid = step-paid {G = G} here law v w (Push x) Done tt a.paid s;
         items = omega (arith, ap (λ z. length z.items) s.1.1, length_push v.items x, was);
         copied = elim (cases_lt v.capacity (length v.items + 1)) [
-          | inl full ↦ let grown : w.cost.grown ≡ v.cost.grown + length v.items = paid ∙ ap (λ c. c.grown) (cost_at-grown here.rule here.R law v 1 w.capacity full s.1.0) in
-              inl (copied-growing v.capacity (length v.items) m v.cost w.cost.grown a.paid.cheap a.paid.room (omega arith) a.items grown)
-          | inr spare ↦ copied-kept m (m + 1) v.cost.grown w.cost.grown a.copied (omega arith) (paid ∙ ap (λ c. c.grown) (cost_at-kept here.rule here.R law v 1 w.capacity spare s.1.0))
+          | inl full ↦
+              let one = cost_at-grown here.rule here.R law v 1 w.capacity full next in
+              let grown : w.cost.grown ≡ v.cost.grown + length v.items =
+              paid ∙ ap (λ c. c.grown) one in
+              inl (copied-growing v.capacity (length v.items) m v.cost w.cost.grown a.paid.cheap
+              a.paid.room (omega arith) a.items grown)
+          | inr spare ↦
+              let none = cost_at-kept here.rule here.R law v 1 w.capacity spare next in
+              copied-kept m (m + 1) v.cost.grown w.cost.grown a.copied (omega arith)
+              (paid ∙ ap (λ c. c.grown) none)
         ];
       }
   step-amortised m v w Pop (Item o) only a s =
@@ -76,7 +103,8 @@ module _ {T A G J : Type 0} (here : Setting T A J) (law : KeepsLaw here.rule) wh
       record {
         paid = step-paid {G = G} here law v w Pop (Item o) tt a.paid s;
         items = omega (arith, ap length s.1.1, length-append w.items (option_to_list o), was);
-        copied = copied-kept m (m + 0) v.cost.grown w.cost.grown a.copied (omega arith) (ap (λ z. z.cost.grown) s.1.2);
+        copied = copied-kept m (m + 0) v.cost.grown w.cost.grown a.copied (omega arith)
+            (ap (λ z. z.cost.grown) s.1.2);
       }
   step-amortised m v w (Push x) (Returned y cause) only a s = same-amortised m v w a s.1.1.2
   step-amortised m v w (Push x) (OutOfRange back) only a s = same-amortised m v w a s.2
@@ -85,11 +113,18 @@ module _ {T A G J : Type 0} (here : Setting T A J) (law : KeepsLaw here.rule) wh
   step-amortised m v w Pop reply only a s = absurd s.1
   step-amortised m v w command reply only a s = absurd only
 
-  accepted-cons : (command : Command T A G) (reply : Reply T A G) (commands : List (Command T A G)) (replies : List (Reply T A G)) → accepted (command ∷ commands) (reply ∷ replies) ≡ accepted (command ∷ []) (reply ∷ []) + accepted commands replies
+  -- the first command counts alone, and the others after it
+  accepted-cons : (command : Command T A G) (reply : Reply T A G)
+      (commands : List (Command T A G)) (replies : List (Reply T A G))
+      → accepted (command ∷ commands) (reply ∷ replies)
+      ≡ accepted (command ∷ []) (reply ∷ []) + accepted commands replies
   accepted-cons (Push x) Done commands replies = omega arith
   accepted-cons command reply commands replies = omega arith
 
-  pub runs-amortised : (v w : Thin T A) (commands : List (Command T A G)) (replies : List (Reply T A G)) → All IsPushOrPop commands → IsAmortised 0 v → Runs here v commands replies w → IsAmortised (0 + accepted commands replies) w
+  -- and so does a run of them
+  pub runs-amortised : (v w : Thin T A) (commands : List (Command T A G))
+      (replies : List (Reply T A G)) → All IsPushOrPop commands → IsAmortised 0 v
+      → Runs here v commands replies w → IsAmortised (0 + accepted commands replies) w
   runs-amortised v w commands replies only a run =
       runs-keep here IsAmortised IsPushOrPop (λ c r. accepted (c ∷ []) (r ∷ [])) step-amortised
       accepted accepted-cons (omega arith) 0 v w commands replies only a run

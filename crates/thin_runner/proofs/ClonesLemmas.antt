@@ -1,4 +1,5 @@
--- A run may be read with any weaker word for clones: where each clone equals its item, with equality.
+-- A run may be read with any weaker word for clones: where each clone equals its item, with
+-- equality.
 use Rattle.std.proofs.Common.{◌≡◌, ℕ, List, [], ◌∷◌}
 use Rattle.std.specs.List.{AllZip}
 use Rattle.thin_vec.specs.Clones.{ClonesEqual, IsResized}

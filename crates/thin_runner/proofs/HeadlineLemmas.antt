@@ -7,24 +7,30 @@ use Rattle.thin_runner.specs.Headline.{Headline}
 use Rattle.thin_runner.specs.Run.{Runs, accepted}
 use Rattle.thin_runner.specs.declared.command.Command.{Command}
 use Rattle.thin_runner.specs.declared.command.Reply.{Reply}
-use Rattle.thin_runner.proofs.AmortisedLemmas.{copied-run, new-amortised, new-paid, runs-amortised}
+use Rattle.thin_runner.proofs.AmortisedLemmas.{copied-run, new-amortised, runs-amortised}
 use Rattle.thin_runner.proofs.MoveLemmas.{runs-moves}
-use Rattle.thin_runner.proofs.PaidLemmas.{runs-paid}
+use Rattle.thin_runner.proofs.PaidLemmas.{IsPaid, runs-paid}
 
 module _ {T A G J : Type 0} (here : Setting T A J) (law : KeepsLaw here.rule) where
   module _ (old new : Thin T A) where
-    pub headline : (commands done : List (Command T A G)) (replies before after : List (Reply T A G))
+    pub headline : (commands done : List (Command T A G))
+        (replies before after : List (Reply T A G))
         → IsWithin here.R old → IsWithin here.R new → commands ≡ done → after ≡ before ++ replies
         → Runs here old done replies new → Headline here old commands before after new
     headline commands done replies before after was within same appended ran =
-        let run : Runs here old commands replies new = subst (λ c. Runs here old c replies new) (sym same) ran in
+        let run : Runs here old commands replies new =
+        subst (λ c. Runs here old c replies new) (sym same) ran in
         record {
           replies = replies;
           appended = appended;
           allowed = run;
           within = within;
-          new_is_cheap = λ is_new. (new-paid old is_new).cheap;
-          stays_cheap = λ only cheap. (runs-paid here law old new commands replies only (record { cheap = cheap; room = was.room }) run).cheap;
-          amortised = λ only is_new some. copied-run new (accepted commands replies) (runs-amortised here law old new commands replies only (new-amortised old is_new) run) some;
+          stays_cheap = λ only cheap.
+              let paid : IsPaid old = record { cheap = cheap; room = was.room } in
+              (runs-paid here law old new commands replies only paid run).cheap;
+          amortised = λ only is_new some.
+              let none = new-amortised old is_new in
+              copied-run new (accepted commands replies)
+              (runs-amortised here law old new commands replies only none run) some;
           moves = runs-moves here old new commands replies run;
         }

@@ -70,9 +70,8 @@ module _ {T A : Type 0} (v w : Thin T A) where
 shrunk-moves : {T A : Type 0} (v : Thin T A) → (cost_shrunk v).moves ≤ v.cost.moves
 shrunk-moves v = go (length v.items == v.capacity) (length v.items == 0)
   where
-    go : (full none : Bool)
-        → (if full then v.cost else (if none then no_cost else growing (length v.items) v.cost)).moves
-        ≤ v.cost.moves
+    go : (full none : Bool) → (if full then v.cost else
+        (if none then no_cost else growing (length v.items) v.cost)).moves ≤ v.cost.moves
     go true _ = omega arith
     go false true = omega arith
     go false false = omega arith
@@ -126,8 +125,8 @@ module _ {T A G J : Type 0} (here : Setting T A J) where
       omega (arith, few (omega arith))
   step-moves v w (Extend xs lower) (Stopped answers cause held in_hand rest) s =
       let end = length v.items in
-      let few = stopped-moves v w here.rule here.R end end xs.items held.items lower cause in_hand rest in
-      omega (arith, few s.1.1)
+      let few = stopped-moves v w here.rule here.R end end xs.items held.items lower cause in_hand in
+      omega (arith, few rest s.1.1)
   step-moves v w (Append given) (Other back None) s = grown-moves v w _ _ s.1.1.1
   step-moves v w (Append given) (Other back (Some cause)) s = same-moves v w v 0 s.1.1.2 refl
   step-moves v w (SplitOff i) (Made out) s = same-moves v w _ 0 s.1.1 refl

@@ -183,7 +183,8 @@ module _ {T A G J : Type 0} (here : Setting T A J) (law : KeepsLaw here.rule) wh
   step-paid v w (Extend xs lower) Done keeps a s =
       record { cheap = s.1.0.cheap a.cheap; room = s.1.0.within.room }
   step-paid v w (Extend xs lower) (Stopped answers cause held in_hand rest) keeps a s =
-      let filled = s.1.1.filled in record { cheap = filled.cheap a.cheap; room = filled.within.room }
+      let filled = s.1.1.filled in
+      record { cheap = filled.cheap a.cheap; room = filled.within.room }
   step-paid v w (Append given) (Other back None) keeps a s =
       let few = all-more v.items given.items in
       ruled-paid here law v w a _ (length given.items) s.1.1.0 s.1.1.1 refl refl few
@@ -215,7 +216,8 @@ module _ {T A G J : Type 0} (here : Setting T A J) (law : KeepsLaw here.rule) wh
   step-paid v w (Splice i j steps xs lower) (Answers answers) keeps a s =
       record { cheap = s.1.1.cheap a.cheap; room = s.1.1.within.room }
   step-paid v w (Splice i j steps xs lower) (Stopped answers cause held in_hand rest) keeps a s =
-      let filled = s.1.1.filled in record { cheap = filled.cheap a.cheap; room = filled.within.room }
+      let filled = s.1.1.filled in
+      record { cheap = filled.cheap a.cheap; room = filled.within.room }
   step-paid v w (Splice i j steps xs lower) (Refused cause) keeps a s = same-paid v w a s.1.2
   step-paid v w command reply keeps a s = absurd s.1
 

@@ -1,4 +1,5 @@
--- The headline: what is known of every list of commands on a list, for every item type, growth rule and judge.
+-- The headline: what is known of every list of commands on a list, for every item type, growth
+-- rule and judge.
 use Rattle.std.specs.Prelude.{◌≡◌, ◌+◌, ◌*◌, ◌<◌, ◌≤◌, List, ◌++◌, All}
 use Rattle.thin_vec.specs.Cheap.{IsCheap}
 use Rattle.thin_vec.specs.ThinVec.{IsNew, IsWithin, Thin}
@@ -8,18 +9,22 @@ use Rattle.thin_runner.specs.declared.command.Command.{Command}
 use Rattle.thin_runner.specs.declared.command.Reply.{Reply}
 
 module _ {T A G J : Type 0} (here : Setting T A J) where
-  pub record Headline (old : Thin T A) (commands : List (Command T A G)) (before after : List (Reply T A G)) (new : Thin T A) : Type 0 where
+  pub record Headline (old : Thin T A) (commands : List (Command T A G))
+      (before after : List (Reply T A G)) (new : Thin T A) : Type 0 where
     -- the items, the capacity and the replies are those that the short definition of a run allows
     pub replies : List (Reply T A G)
     pub appended : after ≡ before ++ replies
     pub allowed : Runs here old commands replies new
     -- the capacity has room for the items, and its block fits
     pub within : IsWithin here.R new
-    -- without `ReserveExact` and `ShrinkToFit` a list that was cheap stays so, and a new one is cheap: a capacity c other
-    -- than 0 has cost fewer than c copied items and at most as many blocks as c has binary digits
-    pub new_is_cheap : IsNew old old.alloc → IsCheap old
+    -- without `ReserveExact` and `ShrinkToFit` a list that was cheap, as a new one is, stays so: a
+    -- capacity c other than 0 has cost fewer than c copied items and at most as many blocks as c
+    -- has binary digits
     pub stays_cheap : All KeepsCheap commands → IsCheap old → IsCheap new
-    -- from a new list, by pushes and pops alone, m accepted pushes have cost fewer than 2m copied items
-    pub amortised : All IsPushOrPop commands → IsNew old old.alloc → 0 < accepted commands replies → new.cost.grown < 2 * accepted commands replies
-    -- the moves, growth aside, are at most those of the commands
-    pub moves : new.cost.moves ≤ old.cost.moves + run_may_move here old new commands replies allowed
+    -- from a new list, by pushes and pops alone, m accepted pushes have cost fewer than 2m copied
+    -- items
+    pub amortised : All IsPushOrPop commands → IsNew old old.alloc
+        → 0 < accepted commands replies → new.cost.grown < 2 * accepted commands replies
+    -- the moves, growth aside, are at most those of the commands, as they were replied to
+    pub moves : new.cost.moves
+        ≤ old.cost.moves + run_may_move here old new commands replies allowed

@@ -7,6 +7,9 @@ pub returns : goal.returns
 returns g c =
     let e = c.dedup_by.ensures in
     record {
-      allowed = (tt, deduped-by (λ f. f.0) _ g.J.Judge.judging.same
-          (λ f x k b f' x' k' called. search rules) _ c.args.list.now c.dedup_by.new.self e.deduped e.capacity e.alloc);
+      allowed = (
+        tt,
+        deduped-by (λ f. f.0) _ g.J.Judge.judging.same
+            (λ f x k b f' x' k' called. search rules) _ c.args.list.now c.dedup_by.new.self e.deduped e.capacity e.alloc,
+      );
     }

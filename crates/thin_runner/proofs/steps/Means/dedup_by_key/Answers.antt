@@ -7,6 +7,9 @@ pub returns : goal.returns
 returns g c =
     let e = c.dedup_by_key.ensures in
     record {
-      allowed = (tt, deduped-by-keys _ (λ f. f.0) g.J.Judge.judging.key
-          (λ f x k f' x' called. search rules) _ c.args.list.now c.dedup_by_key.new.self e.deduped e.capacity e.alloc);
+      allowed = (
+        tt,
+        deduped-by-keys _ (λ f. f.0) g.J.Judge.judging.key
+            (λ f x k f' x' called. search rules) _ c.args.list.now c.dedup_by_key.new.self e.deduped e.capacity e.alloc,
+      );
     }

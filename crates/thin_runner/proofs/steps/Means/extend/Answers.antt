@@ -46,28 +46,31 @@ returns-in-Err g c =
     let count : hinted_count c.new.result ≡ at_most (c.args.lower + length c.args.items.items) =
     λ i. at_most (c.new.ensures.claim i + length (c.new.ensures.items i)) in
     record {
-      allowed = (tt, (
-        c.new-in-Err.ensures.items,
-        record {
-          placed = e.placed.0;
-          all = sym c.new.ensures.items
-              ∙ (all ∙ (append_assoc e.placed.0 one (hinted_items rest)
-              ∙ sym (ap (λ h. e.placed.0 ++ (h ++ (one ++ hinted_items rest))) none)));
-          claim = claim ∙ c.new.ensures.claim;
-          filled = replaces-end _ _ old new e.placed.0 _ e.placed.1 e.capacity
-              (subst (λ (n : Count). IsExtended g.G.Growth.rule (param 0 g.row.T) old new.capacity
-              (length new.items) n) count e.named)
-              e.within.1 (search rules) e.cost e.cheap e.alloc;
-          no_room = λ places. full (places-end old _ places);
-          told = λ over.
-              overflows-by _ _ old new _ c.in-Err.refused.in_hand (hinted_count rest) none (e.cause over);
-          overflow = λ some. absurd (omega (arith, ap length none, some));
-          range = λ more. absurd (omega (arith, more));
-          in_vain = λ more. absurd (omega (arith, more));
-          overflow_behind = λ end. e.overflow;
-          behind = λ end. (none, e.full);
-          unchanged = λ end empty. (e.err empty).0 ∙ sym (cut-end old);
-        },
-        e.cost.moves,
-      ));
+      allowed = (
+        tt,
+        (
+          c.new-in-Err.ensures.items,
+          record {
+            placed = e.placed.0;
+            all = sym c.new.ensures.items
+                ∙ (all ∙ (append_assoc e.placed.0 one (hinted_items rest)
+                ∙ sym (ap (λ h. e.placed.0 ++ (h ++ (one ++ hinted_items rest))) none)));
+            claim = claim ∙ c.new.ensures.claim;
+            filled = replaces-end _ _ old new e.placed.0 _ e.placed.1 e.capacity
+                (subst (λ (n : Count). IsExtended g.G.Growth.rule (param 0 g.row.T) old new.capacity
+                (length new.items) n) count e.named)
+                e.within.1 (search rules) e.cost e.cheap e.alloc;
+            no_room = λ places. full (places-end old _ places);
+            told = λ over.
+                overflows-by _ _ old new _ c.in-Err.refused.in_hand (hinted_count rest) none (e.cause over);
+            overflow = λ some. absurd (omega (arith, ap length none, some));
+            range = λ more. absurd (omega (arith, more));
+            in_vain = λ more. absurd (omega (arith, more));
+            overflow_behind = λ end. e.overflow;
+            behind = λ end. (none, e.full);
+            unchanged = λ end empty. (e.err empty).0 ∙ sym (cut-end old);
+          },
+          e.cost.moves,
+        ),
+      );
     }

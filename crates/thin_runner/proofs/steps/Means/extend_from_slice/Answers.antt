@@ -13,14 +13,17 @@ returns g c =
     let overflow = rw same at e.overflow in
     let succeeds = rw same at e.succeeds in
     record {
-      allowed = (tt, (
-        some-items c.args.items.items (λ none.
-            let q = rw same at e.succeeds_empty in
-            let wrong = q (ap length none) in cc),
+      allowed = (
+        tt,
         (
-          (λ none. let q = overflow none in cc, rw same at e.cause),
-          λ room all. let q = succeeds room all in cc,
-          rw same at stopped,
+          some-items c.args.items.items (λ none.
+              let q = rw same at e.succeeds_empty in
+              let wrong = q (ap length none) in cc),
+          (
+            (λ none. let q = overflow none in cc, rw same at e.cause),
+            λ room all. let q = succeeds room all in cc,
+            rw same at stopped,
+          ),
         ),
-      ));
+      );
     }

@@ -8,7 +8,10 @@ returns g c =
     let e = c.retain.ensures in
     let look = g.J.Judge.judging.look in
     record {
-      allowed = (tt, retained-by (λ f. f.0) _ _
-          (λ f x b f' y called. looked look f.0 f'.0 x y b (search rules) called.1)
-          _ c.args.list.now c.retain.new.self e.retained e.capacity e.alloc);
+      allowed = (
+        tt,
+        retained-by (λ f. f.0) _ _
+            (λ f x b f' y called. looked look f.0 f'.0 x y b (search rules) called.1)
+            _ c.args.list.now c.retain.new.self e.retained e.capacity e.alloc,
+      );
     }

@@ -7,6 +7,9 @@ pub returns : goal.returns
 returns g c =
     let e = c.retain_mut.ensures in
     record {
-      allowed = (tt, retained-by (λ f. f.0) _ _ (λ f x b f' y called. search rules)
-          _ c.args.list.now c.retain_mut.new.self e.retained e.capacity e.alloc);
+      allowed = (
+        tt,
+        retained-by (λ f. f.0) _ _ (λ f x b f' y called. search rules)
+            _ c.args.list.now c.retain_mut.new.self e.retained e.capacity e.alloc,
+      );
     }

@@ -44,19 +44,22 @@ returns-in-Ok-finish g c =
     record {
       allowed = (
         (c.requires.start_le_end, c.requires.in_bounds),
-        (search rules, replaces-of left (record {
-          items = e.items.2 ∙ (λ i. (is.front i ++ all i) ++ is.tail i);
-          capacity = subst (λ n. IsLoose g.G.Growth.rule _ n c.finish.new.self.0.capacity) is.capacity e.capacity;
-          named = named old start end hole alloc is g.G.Growth.rule (param 0 g.row.T)
-              c.finish.new.self.0 _ _ count e.named;
-          within = subst (λ list. IsWithin _ list) (sym left) c.capacity-capacity.ensures.within;
-          had_room = with-places old start end hole alloc is _ _ _ _ most width
-              (λ some few. e.had_room some few ∙ is.capacity)
-              (λ none room. e.had_room_behind none room ∙ is.capacity);
-          cost = spliced old start end hole alloc is _ e.cost;
-          cheap = λ cheap. e.cheap (subst IsCheap (sym (left-is old start end hole alloc is)) cheap);
-          alloc = e.alloc ∙ is.same;
-        })),
+        (
+          search rules,
+          replaces-of left (record {
+            items = e.items.2 ∙ (λ i. (is.front i ++ all i) ++ is.tail i);
+            capacity = subst (λ n. IsLoose g.G.Growth.rule _ n c.finish.new.self.0.capacity) is.capacity e.capacity;
+            named = named old start end hole alloc is g.G.Growth.rule (param 0 g.row.T)
+                c.finish.new.self.0 _ _ count e.named;
+            within = subst (λ list. IsWithin _ list) (sym left) c.capacity-capacity.ensures.within;
+            had_room = with-places old start end hole alloc is _ _ _ _ most width
+                (λ some few. e.had_room some few ∙ is.capacity)
+                (λ none room. e.had_room_behind none room ∙ is.capacity);
+            cost = spliced old start end hole alloc is _ e.cost;
+            cheap = λ cheap. e.cheap (subst IsCheap (sym (left-is old start end hole alloc is)) cheap);
+            alloc = e.alloc ∙ is.same;
+          }),
+        ),
       );
     }
 
@@ -93,44 +96,47 @@ returns-in-Err-finish g c =
     record {
       allowed = (
         (c.requires.start_le_end, c.requires.in_bounds),
-        (search rules, stops-of left (record {
-          placed = placed;
-          all = sym items ∙ stopped-items (splice_iter c.walk.new.splice) refused.rest placed refused.held.items refused.in_hand e.placed.2;
-          claim = stopped-claim (splice_iter c.walk.new.splice) refused.rest placed refused.held.items refused.in_hand e.placed.2 ∙ claim;
-          filled = record {
-            items = e.placed.1 ∙ (λ i. (is.front i ++ placed) ++ is.tail i);
-            capacity = subst (λ n. IsLoose g.G.Growth.rule _ n c.finish.new.self.0.capacity) is.capacity e.capacity;
-            named = named old start end hole alloc is g.G.Growth.rule (param 0 g.row.T)
-                c.finish.new.self.0 _ _ count e.named;
-            within = subst (λ list. IsWithin _ list) (sym left) c.capacity-capacity-in-Err-finish.ensures.within;
-            had_room = with-places old start end hole alloc is _ _ _ _ most width
-                (λ some few. e.had_room some few ∙ is.capacity)
-                (λ none room. e.had_room_behind none room ∙ is.capacity);
-            cost = spliced old start end hole alloc is _ e.cost;
-            cheap = λ cheap. e.cheap (subst IsCheap (sym (left-is old start end hole alloc is)) cheap);
-            alloc = e.alloc ∙ is.same;
-          };
-          no_room = λ places. false≢true (with-places old start end hole alloc is _ _ _ _ most width
-              (λ some few. e.succeeds some few) (λ none room. e.succeeds_behind none room) places);
-          told = e.cause;
-          overflow = e.overflow;
-          range = λ more. omega (
-            arith,
-            width,
-            e.range (some-tail old start end hole alloc is more),
-            ap length e.placed.1,
-            length-append (hole.front ++ placed) hole.tail,
-            length-append hole.front placed,
-            length-append hole.front hole.tail,
-          );
-          in_vain = λ more cause. e.cause_in_hand (some-tail old start end hole alloc is more) cause;
-          overflow_behind = λ full. e.overflow_behind (no-tail old start end hole alloc is full);
-          behind = λ full. (
-            e.held (no-tail old start end hole alloc is full),
-            e.full (no-tail old start end hole alloc is full),
-          );
-          unchanged = λ full none. (e.err (no-tail old start end hole alloc is full) none).0
-              ∙ left-is old start end hole alloc is;
-        })),
+        (
+          search rules,
+          stops-of left (record {
+            placed = placed;
+            all = sym items ∙ stopped-items (splice_iter c.walk.new.splice) refused.rest placed refused.held.items refused.in_hand e.placed.2;
+            claim = stopped-claim (splice_iter c.walk.new.splice) refused.rest placed refused.held.items refused.in_hand e.placed.2 ∙ claim;
+            filled = record {
+              items = e.placed.1 ∙ (λ i. (is.front i ++ placed) ++ is.tail i);
+              capacity = subst (λ n. IsLoose g.G.Growth.rule _ n c.finish.new.self.0.capacity) is.capacity e.capacity;
+              named = named old start end hole alloc is g.G.Growth.rule (param 0 g.row.T)
+                  c.finish.new.self.0 _ _ count e.named;
+              within = subst (λ list. IsWithin _ list) (sym left) c.capacity-capacity-in-Err-finish.ensures.within;
+              had_room = with-places old start end hole alloc is _ _ _ _ most width
+                  (λ some few. e.had_room some few ∙ is.capacity)
+                  (λ none room. e.had_room_behind none room ∙ is.capacity);
+              cost = spliced old start end hole alloc is _ e.cost;
+              cheap = λ cheap. e.cheap (subst IsCheap (sym (left-is old start end hole alloc is)) cheap);
+              alloc = e.alloc ∙ is.same;
+            };
+            no_room = λ places. false≢true (with-places old start end hole alloc is _ _ _ _ most width
+                (λ some few. e.succeeds some few) (λ none room. e.succeeds_behind none room) places);
+            told = e.cause;
+            overflow = e.overflow;
+            range = λ more. omega (
+              arith,
+              width,
+              e.range (some-tail old start end hole alloc is more),
+              ap length e.placed.1,
+              length-append (hole.front ++ placed) hole.tail,
+              length-append hole.front placed,
+              length-append hole.front hole.tail,
+            );
+            in_vain = λ more cause. e.cause_in_hand (some-tail old start end hole alloc is more) cause;
+            overflow_behind = λ full. e.overflow_behind (no-tail old start end hole alloc is full);
+            behind = λ full. (
+              e.held (no-tail old start end hole alloc is full),
+              e.full (no-tail old start end hole alloc is full),
+            );
+            unchanged = λ full none. (e.err (no-tail old start end hole alloc is full) none).0
+                ∙ left-is old start end hole alloc is;
+          }),
+        ),
       );
     }
