@@ -40,11 +40,9 @@ module _ {T A : Type 0} where
   pub record IsExtendCost (v w : Thin T A) : Type 0 where
     -- one move for each item
     pub moves : w.cost.moves + length v.items ≡ v.cost.moves + length w.items
-
     -- where the capacity stayed, no block and no copied item more
     pub kept : w.capacity ≡ v.capacity → (w.cost.blocks ≡ v.cost.blocks)
         × (w.cost.grown ≡ v.cost.grown)
-
     -- where it grew, at least one block more, into which at least the items of v were copied
     pub grown : v.capacity < w.capacity → (v.cost.blocks < w.cost.blocks)
         × (v.cost.grown + length v.items ≤ w.cost.grown)

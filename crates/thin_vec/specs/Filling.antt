@@ -27,11 +27,9 @@ module _ {T A : Type 0} where
     -- one move for each item, and at most n others
     pub least : v.cost.moves + length w.items ≤ w.cost.moves + length v.items
     pub moves : w.cost.moves + length v.items ≤ v.cost.moves + n + length w.items
-
     -- where the capacity stayed, no block and no copied item more
     pub kept : w.capacity ≡ v.capacity → (w.cost.blocks ≡ v.cost.blocks)
         × (w.cost.grown ≡ v.cost.grown)
-
     -- where it grew, at least one block more, into which at least the items of v were copied
     pub grown : v.capacity < w.capacity → (v.cost.blocks < w.cost.blocks)
         × (v.cost.grown + length v.items ≤ w.cost.grown)
@@ -43,14 +41,11 @@ module _ {T A : Type 0} where
     -- nothing was drawn for which there was no room: no capacity is ruled for some allowed hint
     pub by_hint : held ≡ [] → in_hand ≡ None → cause ≡ CapacityOverflow
         → (h : ℕ) × IsWithinCount h left × (capacity_for rule R v h ≡ None)
-
     -- items are held: exactly where no capacity is ruled for them
     pub by_held : 0 < length held → in_hand ≡ None
         → (cause ≡ CapacityOverflow) ↔ (capacity_for rule R v (length held) ≡ None)
-
     -- an item is in hand before a tail: the memory to hold it was not there
     pub by_in_hand : 0 < length tail → IsSome in_hand → cause ≡ OutOfMemory
-
     -- an item is in hand, and there is no tail: exactly where no capacity is ruled for one more
     pub by_push : tail ≡ [] → IsSome in_hand
         → (cause ≡ CapacityOverflow) ↔ (capacity_for rule R v 1 ≡ None)

@@ -101,4 +101,3 @@ returns-then-has_tail-clause-range g c = search (arith, ◌∙◌)
 
 pub returns-then-has_tail-clause-succeeds_behind : goal.returns-then-has_tail-clause-succeeds_behind
 returns-then-has_tail-clause-succeeds_behind g c = search (arith, ◌∙◌)
-

@@ -55,7 +55,7 @@ returns-in-Err-clause-cause g c = λ _.
     let count = c.len.ensures ∙ c.hold-held.result.0.ok.0 in
     let rule = g.G.Growth.rule in let T = param 0 g.row.T in
     let same : capacity_for rule T c.args.self.now c.len.result
-        ≡ capacity_for rule T c.reserve.new.self (length c.hold-held.result.0.items) =
+    ≡ capacity_for rule T c.reserve.new.self (length c.hold-held.result.0.items) =
     λ i. capacity_for rule T (sym c.in-Err.ensures.err i) (count i) in (
       λ over. sym same ∙ c.in-Err.ensures.cause over,
       λ none. err-same (c.in-Err.ensures.overflow (same ∙ none)),
@@ -126,4 +126,3 @@ returns-in-Err-clause-cost g c = search (arith, ◌∙◌)
 
 pub returns-in-Err-clause-err : goal.returns-in-Err-clause-err
 returns-in-Err-clause-err g c = search (arith, ◌∙◌)
-

@@ -156,4 +156,3 @@ returns-clause-cost g c = search (arith, ◌∙◌)
 
 pub returns-clause-succeeds_behind : goal.returns-clause-succeeds_behind
 returns-clause-succeeds_behind g c = search (arith, ◌∙◌)
-
