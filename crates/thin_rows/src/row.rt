@@ -1,5 +1,5 @@
 //! One row of a table: its entries in a list, by rising columns.
-ghost use Rattle.std.specs.Prelude.{◌≡◌, ◌↔◌, ◌<◌, IfErr, IfOk, IsOk, IsSome, IsTrue, None, OnErr, OnOk, Some, length};
+ghost use Rattle.std.specs.Prelude.{◌≡◌, ◌↔◌, ◌+◌, ◌<◌, IfErr, IfOk, IsOk, IsSome, IsTrue, None, OnErr, OnOk, Some, length};
 ghost use Rattle.std.specs.FinMap as map;
 ghost use Rattle.std.specs.Option.{option_copied};
 ghost use Rattle.thin_rows.specs.Entries.{IsGapFor, IsPlaceOf, IsRising};
@@ -34,6 +34,9 @@ impl<V, A: Allocator> Model for Row<V, A> {
 impl<V, A: Allocator> Row<V, A> {
     ghost use types.Logic.{sem};
     ghost use Rattle.std.specs.Option.{option_copied_mut};
+    ghost use Rattle.thin_vec.specs.Growth.{doubling, ruled_capacity};
+    ghost use Rattle.thin_vec.specs.ThinVec.{IsCause};
+    ghost use Rattle.thin_rows.specs.EntryType.{entry_type};
     ghost use Rattle.thin_rows.specs.Lends.{LendsColumn, LendsIfThere};
 
     // A row without entries. It takes no memory.
@@ -98,12 +101,13 @@ impl<V, A: Allocator> Row<V, A> {
         &mut self.entries[at].1
     }
 
-    // Writes `value` at a column, and answers the value that was there. Only a new entry may take memory: where that is
-    // refused, the value is handed back.
+    // Writes `value` at a column, and returns the value that was there. Only a new entry may take
+    // memory: where that fails, the value is returned.
     pub(crate) fn set(&mut self, column: usize, value: V) -> Result<Option<V>, Rejected<V>>
         ensures succeeds { IsSome (map.get self.old column) → IsOk result }
         ensures value { IfOk result (λ old. old ≡ map.get self.old column) }
         ensures columns { OnOk result (self.new ≡ map.insert self.old column value) }
+        ensures cause { IfErr result (λ refused. IsCause (ruled_capacity doubling (entry_type V.row) (map.len self.old) (map.len self.old + 1)) refused.cause) }
         ensures err { OnErr result (self.new ≡ self.old) }
         ensures value_returned { IfErr result (λ refused. refused.value ≡ value) }
     {

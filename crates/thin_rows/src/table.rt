@@ -1,5 +1,5 @@
 //! The table: its type, what a contract sees of it, and its calls.
-ghost use Rattle.std.specs.Prelude.{◌≡◌, ◌↔◌, ◌-◌, ◌^◌, ◌<◌, IfErr, IfOk, IsErrOf, IsOk, IsSome, IsTrue, None, OnErr, OnOk, length, map, min, replicate, sum};
+ghost use Rattle.std.specs.Prelude.{◌≡◌, ◌↔◌, ◌+◌, ◌-◌, ◌^◌, ◌<◌, IfErr, IfOk, IsErrOf, IsOk, IsSome, IsTrue, None, OnErr, OnOk, length, map, min, replicate, sum};
 ghost use Rattle.std.specs.FinMap as columns;
 ghost use Rattle.std.specs.List.Sorted.{IsStrictlyIncreasing};
 ghost use Rattle.std.specs.Option.{option_copied};
@@ -63,6 +63,9 @@ impl<V, A: Allocator + Copy> Rows<V, A> {
 impl<V, A: Allocator> Rows<V, A> {
     ghost use types.Logic.{sem};
     ghost use Rattle.std.specs.Option.{option_copied_mut};
+    ghost use Rattle.thin_vec.specs.Growth.{doubling, ruled_capacity};
+    ghost use Rattle.thin_vec.specs.ThinVec.{IsCause};
+    ghost use Rattle.thin_rows.specs.EntryType.{entry_type};
     ghost use Rattle.thin_rows.specs.Lends.{LendsValue};
 
     /// The number of rows.
@@ -101,16 +104,18 @@ impl<V, A: Allocator> Rows<V, A> {
         self.rows[row].get_mut(column)
     }
 
-    /// Writes `value` at a row and a column, and answers the value that was there. The table owns `value` afterwards, and the
-    /// caller the one that it answers.
+    /// Writes `value` at a row and a column, and returns the value that was there. The table owns
+    /// `value` afterwards, and the caller the one that it returns.
     ///
-    /// It is refused only where there was no entry, because memory is refused or the row's list overflows. Then the caller
-    /// has `value` back and the table is as it was: a row that owned no block owns none.
+    /// It fails only where there was no entry, because there is no memory or the row's list
+    /// overflows. Then the caller has `value` back and the table is as it was: a row that owned no
+    /// block owns none.
     pub fn set(&mut self, row: usize, column: usize, value: V) -> Result<Option<V>, Rejected<V>>
         requires in_bounds { row < length self.old }
         ensures succeeds { IsSome (value_at self.old row column) → IsOk result }
         ensures value { IfOk result (λ old. old ≡ value_at self.old row column) }
         ensures table { OnOk result (self.new ≡ with_value self.old row column value) }
+        ensures cause { IfErr result (λ refused. IsCause (ruled_capacity doubling (entry_type V.row) (columns.len (row_of self.old row)) (columns.len (row_of self.old row) + 1)) refused.cause) }
         ensures err { OnErr result (self.new ≡ self.old) }
         ensures value_returned { IfErr result (λ refused. refused.value ≡ value) }
     {

@@ -1,8 +1,12 @@
 -- Written over at its place, or put into the gap, the entry makes the map with the value inserted.
-use Rattle.std.proofs.Common.{sym, ap, ◌∙◌, length-set, arith, Some}
+use Rattle.std.proofs.Common.{inl, inr, ◌≡◌, ◌+◌, sym, ap, ◌∙◌, length, length-set, arith, refl, Some}
+use Rattle.std.proofs.lemmas.Bool.{cases_lt, false≢true}
+use Rattle.std.specs.FinMap.{len}
+use Rattle.thin_vec.specs.Growth.{doubling}
 use Rattle.std.proofs.lemmas.Option.{get_or_from_slice_get}
 use Rattle.std.proofs.lemmas.List.Edits.{length-insert}
-use Rattle.thin_rows.proofs.RowLemmas.{get_at, get_gap, insert_is, insert_rises, set_is, set_rises}
+use Rattle.thin_rows.proofs.RowLemmas.{get_at, get_gap, insert_is, insert_rises, len_is, set_is, set_rises}
+use Rattle.thin_rows.proofs.RowTypeLemmas.{ruled_of_same}
 use Rattle.thin_rows.proofs.row.Row.set.Goals as goal
 
 -- the entry was there, and is written over
@@ -57,6 +61,20 @@ returns-in-Err-insert-clause-succeeds g c some =
     let gap = rw c.as_slice.ensures.value at c.in-Err.ensures.gap in
     rw (← c.self.view_is, get_gap row.items c.self.invariant.rising c.args.column c.in-Err.at gap)
     at some
+
+-- the list was full, so that its capacity was the number of entries
+pub returns-in-Err-insert-clause-cause : goal.returns-in-Err-insert-clause-cause
+returns-in-Err-insert-clause-cause g c = λ over.
+    let row = c.self.inside.entries in
+    let many : len c.args.self.now ≡ length row.items =
+    sym (sym (len_is row.items c.self.invariant.rising) ∙ ap len c.self.view_is) in
+    let full : len c.args.self.now ≡ row.capacity = elim (cases_lt row.capacity (length row.items + 1)) [
+      | inl few ↦ omega (arith, few, many, c.insert.ensures.within.0.room)
+      | inr spare ↦ absurd (false≢true (c.in-Err-insert.ensures.succeeds spare))
+    ] in
+    ruled_of_same doubling _ _ (len c.args.self.now) row.capacity (len c.args.self.now + 1)
+    (length row.items + 1) refl refl full (ap (λ k. k + 1) many)
+    ∙ c.in-Err-insert.ensures.cause over
 
 pub returns-in_default-clause-value : goal.returns-in_default-clause-value
 returns-in_default-clause-value g c =

@@ -1,7 +1,14 @@
--- Refused, the row is as it was, and so is the table.
-use Rattle.std.proofs.Common.{◌≡◌, ℕ, List, OnErr, Result, Ok, Err, Some, slice_get, slice_set, sym, ap, ◌∙◌}
+-- On failure the row is as it was, and so is the table; the cause is that of its row.
+use Rattle.std.proofs.Common.{◌≡◌, ◌+◌, subst, ℕ, List, OnErr, Result, Ok, Err, Some, slice_get, slice_set, sym, ap, ◌∙◌}
 use Rattle.std.proofs.lemmas.List.{set-get_or}
 use Rattle.std.proofs.lemmas.Option.{get_or_from_slice_get}
+use denote.Param.{param}
+use Rattle.std.specs.FinMap as map
+use Rattle.std.specs.Prelude.{IfErr}
+use Rattle.thin_vec.specs.Growth.{doubling, ruled_capacity}
+use Rattle.thin_vec.specs.ThinVec.{IsCause}
+use Rattle.thin_rows.specs.EntryType.{entry_type}
+use Rattle.thin_rows.specs.Table.{row_of}
 use Rattle.thin_rows.proofs.table.Rows.set.Goals as goal
 
 -- a refused call left its row as it was, and so the table
@@ -16,3 +23,14 @@ returns-clause-err g c =
     rw (← c.self.view_is)
     (left c.set.result c.self.inside.rows.items c.args.row c.index_mut.result.now
     c.set.new.self c.index_mut.ensures.value c.set.ensures.err)
+
+pub returns-clause-cause : goal.returns-clause-cause
+returns-clause-cause g c =
+    let table = c.self.inside.rows.items in
+    let there : row_of table c.args.row ≡ c.index_mut.result.now =
+    get_or_from_slice_get table c.args.row c.index_mut.result.now map.empty
+    c.index_mut.ensures.value in
+    rw (← c.self.view_is)
+    (subst (λ row. IfErr c.set.result (λ refused. IsCause (ruled_capacity doubling
+    (entry_type (param 0 g.row.V)) (map.len row) (map.len row + 1)) refused.cause))
+    (sym there) c.set.ensures.cause)
