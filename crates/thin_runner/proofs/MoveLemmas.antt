@@ -121,7 +121,7 @@ module _ {T A G J : Type 0} (here : Setting T A J) where
   step-moves v w (Extend xs lower) Done s =
       let end = length v.items in
       let most = lower + length xs.items in
-      let few = spliced-moves v w here.rule here.R end end xs.items most (length xs.items) s.1.0 in
+      let few = spliced-moves v w here.rule here.R end end xs.items most (length xs.items) s.1 in
       omega (arith, few (omega arith))
   step-moves v w (Extend xs lower) (Stopped answers cause held in_hand rest) s =
       let end = length v.items in

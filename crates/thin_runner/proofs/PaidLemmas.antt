@@ -181,7 +181,7 @@ module _ {T A G J : Type 0} (here : Setting T A J) (law : KeepsLaw here.rule) wh
   step-paid v w (ExtendFromSlice xs) (Refused cause) keeps a s =
       refused-paid here law v w a (length xs.items) xs.items cause s.1.1
   step-paid v w (Extend xs lower) Done keeps a s =
-      record { cheap = s.1.0.cheap a.cheap; room = s.1.0.within.room }
+      record { cheap = s.1.cheap a.cheap; room = s.1.within.room }
   step-paid v w (Extend xs lower) (Stopped answers cause held in_hand rest) keeps a s =
       let filled = s.1.1.filled in
       record { cheap = filled.cheap a.cheap; room = filled.within.room }

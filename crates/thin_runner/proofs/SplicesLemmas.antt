@@ -1,22 +1,29 @@
 -- What `finish` gives of the words of a splice that a command makes.
-use Rattle.std.proofs.Common.{◌≡◌, ℕ, ◌-◌, ◌*◌, ◌<◌, List, [], ◌∷◌, ◌++◌, None, Option, Some, ap, append_assoc, arith, drop, inl, inr, length, refl, subst, sym, take, ◌∙◌}
+use Rattle.std.proofs.Common.{◌≡◌, ℕ, ◌-◌, ◌*◌, ◌<◌, ◌≤◌, List, [], ◌∷◌, ◌++◌, None, Option, Some, ap, append_assoc, arith, drop, inl, inr, length, refl, subst, sym, take, ◌∙◌}
+use Rattle.std.proofs.lemmas.Bool.{false≢true}
 use Rattle.std.proofs.Math.Seq.{drop-length, take-length}
 use Rattle.std.proofs.lemmas.List.{append-nil, length-drop, take-append-drop}
 use Rattle.std.specs.Iterator.{Count, at_most}
+use Rattle.std.specs.Prelude.{IsSome}
 use Rattle.std.specs.Borrow.{RattleType}
 use Rattle.std.specs.declared.iter.Iterator.{can_next-default}
 use Rattle.std.specs.Option.{option_to_list}
 use Rattle.thin_vec.specs.Cheap.{IsCheap}
 use Rattle.thin_vec.specs.Extend.{IsExtendCost, IsExtended, IsLoose, Overflows}
-use Rattle.thin_vec.specs.Filling.{IsSpliced, OverflowsBy, Stopped, left_of}
+use Rattle.thin_vec.specs.Filling.{IsSpliced, IsStopCause, Stopped, left_of}
 use Rattle.thin_vec.specs.Growth.{Rule}
 use Rattle.thin_vec.specs.Open.{Open}
-use Rattle.thin_vec.specs.ThinVec.{HasRoomFor, IsWithin, Thin}
+use Rattle.thin_vec.specs.ThinVec.{HasRoomFor, IsWithin, Thin, capacity_for}
 use Rattle.thin_vec.specs.declared.ThinVecError.{ThinVecError}
+use Rattle.thin_vec.specs.declared.ThinVecError.TheVariants.{CapacityOverflow}
 use Rattle.thin_runner.specs.Hinted.{HintedSteps, hinted_claim, hinted_count, hinted_items}
 use Rattle.thin_runner.specs.commands.Splices.{HasPlacesFor, Replaces, StopsBetween, cut}
 use Rattle.thin_runner.specs.declared.hinted.Hinted.{Hinted}
 use Rattle.thin_runner.proofs.HintedLemmas.{yields-claim, yields-items}
+
+-- an item is no lack of one
+some-none : {T : Type 0} {x : T} → Some x ≡ None → ⊥
+some-none e = cc
 
 -- a list of no items
 no-items : {T : Type 0} (xs : List T) → length xs ≡ 0 → xs ≡ []
@@ -38,16 +45,21 @@ module _ {T A : Type 0} (s rest : Hinted T A) (placed held : List T)
       ∙ append_assoc placed held (option_to_list in_hand ++ hinted_items rest))
   stopped-items (inr ended) =
       let left : option_to_list in_hand ++ hinted_items rest ≡ [] =
-      ap (λ (o : Option T). option_to_list o ++ hinted_items rest) ended.0 ∙ ended.1.2.0.1 in
-      yields-items s ended.1.0 (placed ++ held) ended.1.1
-      ∙ (ap (λ (l : List T). (placed ++ held) ++ l) (ended.1.2.0.0 ∙ sym left)
+      ap (λ (o : Option T). option_to_list o ++ hinted_items rest) ended.0 ∙ ended.2.2.0.1 in
+      yields-items s ended.2.0 (placed ++ held) ended.2.1
+      ∙ (ap (λ (l : List T). (placed ++ held) ++ l) (ended.2.2.0.0 ∙ sym left)
       ∙ append_assoc placed held (option_to_list in_hand ++ hinted_items rest))
 
   -- and the rest claims what there was
   pub stopped-claim : Broke → hinted_claim rest ≡ hinted_claim s
   stopped-claim (inl gave) = yields-claim s rest ((placed ++ held) ++ option_to_list in_hand) gave.0
   stopped-claim (inr ended) =
-      ended.1.2.1 ∙ yields-claim s ended.1.0 (placed ++ held) ended.1.1
+      ended.2.2.1 ∙ yields-claim s ended.2.0 (placed ++ held) ended.2.1
+
+  -- with nothing in hand and something held the iterator has ended
+  pub stopped-ended : Broke → in_hand ≡ None → 0 < length held → hinted_items rest ≡ []
+  stopped-ended (inl gave) none some = absurd (omega (arith, ap length (gave.1 none), some))
+  stopped-ended (inr ended) none some = ended.2.2.0.1
 
 module _ {T A : Type 0} (old : Thin T A) (a b : ℕ) where
   -- the open block of a splice of the items from a up to b, and the list's allocator
@@ -93,16 +105,22 @@ module _ {T A : Type 0} (old : Thin T A) (a b : ℕ) where
         subst (λ (n : Count). of (cut old a b) n) count
         (subst (λ (v : Thin T A). of v left) left-is is_named)
 
+    -- where there is room for what may come, there is for what the iterator may give
+    pub room-left : (most size : ℕ) → size ≡ most → HasRoomFor (cut old a b) most
+        → HasRoomFor (left_of hole alloc) size
+    room-left most size count room =
+        subst (λ (n : ℕ). HasRoomFor (left_of hole alloc) n) (sym count)
+        (subst (λ (v : Thin T A). HasRoomFor v most) (sym left-is) room)
+
     -- where there are places enough, what follows of each of the two cases
     pub with-places : (P : Type 0) (most size range : ℕ) → size ≡ most → range ≡ b - a
-        → (0 < length hole.tail → size < range → P)
+        → (size ≤ range → P)
         → (hole.tail ≡ [] → HasRoomFor (left_of hole alloc) size → P)
         → HasPlacesFor old a b most → P
-    with-places P most size range count width between behind (inl few) =
-        between (some-tail few.0) (omega (arith, few.1, count, width))
-    with-places P most size range count width between behind (inr room) =
-        behind (no-tail room.0) (subst (λ (n : ℕ). HasRoomFor (left_of hole alloc) n) (sym count)
-        (subst (λ (v : Thin T A). HasRoomFor v most) (sym left-is) room.1))
+    with-places P most size range count width between after (inl few) =
+        between (omega (arith, few, count, width))
+    with-places P most size range count width between after (inr room) =
+        after (no-tail room.0) (room-left most size count room.1)
 
 -- what is said of a list is said of it under another name
 module _ {T A : Type 0} {rule : Rule} {R : RattleType} {old v w : Thin T A} {a b : ℕ} where
@@ -123,11 +141,16 @@ module _ {T A : Type 0} (old : Thin T A) where
   pub cut-end : cut old (length old.items) (length old.items) ≡ old
   cut-end = λ i. record old { items = take-append-drop (length old.items) old.items i }
 
-  -- and there are places where there is room
-  pub places-end : (most : ℕ) → HasPlacesFor old (length old.items) (length old.items) most
+  -- and there is room where there is room without them
+  room-end : (most : ℕ) → HasRoomFor (cut old (length old.items) (length old.items)) most
       → HasRoomFor old most
-  places-end most (inl few) = absurd (omega (arith, few.0))
-  places-end most (inr room) = subst (λ (v : Thin T A). HasRoomFor v most) cut-end room.1
+  room-end most = subst (λ (v : Thin T A). HasRoomFor v most) cut-end
+
+  -- there are places for none, or where there is room
+  pub places-end : (P : Type 0) (most : ℕ) → (most ≡ 0 → P) → (HasRoomFor old most → P)
+      → HasPlacesFor old (length old.items) (length old.items) most → P
+  places-end P most none fits (inl few) = none (omega (arith, few))
+  places-end P most none fits (inr room) = fits (room-end most room.1)
 
 -- what went in behind the items of a list took the place of none
 module _ {T A : Type 0} (rule : Rule) (R : RattleType) (old new : Thin T A) where
@@ -140,7 +163,12 @@ module _ {T A : Type 0} (rule : Rule) (R : RattleType) (old new : Thin T A) wher
   replaces-end placed most items capacity named within room cost cheap alloc =
       let end = length old.items in
       let same : IsSpliced old new (2 * (end - end)) =
-      record { moves = omega (arith, cost.moves); kept = cost.kept; grown = cost.grown } in
+      record {
+        least = omega (arith, cost.moves);
+        moves = omega (arith, cost.moves);
+        kept = cost.kept;
+        grown = cost.grown;
+      } in
       let around : (take end old.items ++ placed) ++ drop end old.items ≡ old.items ++ placed =
       (λ i. (take-length old.items i ++ placed) ++ drop-length old.items i)
       ∙ append-nil (old.items ++ placed) in
@@ -150,18 +178,27 @@ module _ {T A : Type 0} (rule : Rule) (R : RattleType) (old new : Thin T A) wher
         named = subst (λ (v : Thin T A). IsExtended rule R v new.capacity (length new.items)
             (at_most most)) (sym (cut-end old)) named;
         within = within;
-        had_room = λ places. room (places-end old most places);
+        had_room = λ fits. room (room-end old most fits);
         cost = subst (λ (v : Thin T A). IsSpliced v new (2 * (end - end))) (sym (cut-end old)) same;
         cheap = cheap;
         alloc = alloc;
       }
 
-  -- an overflow with no item held is one of `extend`
-  pub overflows-by : (held : List T) (in_hand : Option T) (left : Count) → held ≡ []
-      → Overflows rule R new in_hand left → OverflowsBy rule R new held in_hand left
-  overflows-by held in_hand left none over =
-      subst (λ (xs : List T). OverflowsBy rule R new xs in_hand left) (sym none) (with_none in_hand over)
-    where
-      with_none : (o : Option T) → Overflows rule R new o left → OverflowsBy rule R new [] o left
-      with_none (Some x) over = over
-      with_none None over = over
+  -- the cause of a refused `extend`, which holds no item and has no tail
+  pub stop-cause-end : (tail held : List T) (in_hand : Option T) (left : Count)
+      (cause : ThinVecError) → length tail ≡ 0 → held ≡ []
+      → (cause ≡ CapacityOverflow → Overflows rule R new in_hand left)
+      → (IsSome in_hand → capacity_for rule R new 1 ≡ None → cause ≡ CapacityOverflow)
+      → IsStopCause rule R new tail held in_hand left cause
+  stop-cause-end tail held None left cause short none over back = record {
+    by_hint = λ _ _. over;
+    by_held = λ some _. absurd (omega (arith, ap length none, some));
+    by_in_hand = λ some _. absurd (omega (arith, short, some));
+    by_push = λ _ some. absurd (false≢true some);
+  }
+  stop-cause-end tail held (Some x) left cause short none over back = record {
+    by_hint = λ _ wrong. absurd (some-none wrong);
+    by_held = λ some _. absurd (omega (arith, ap length none, some));
+    by_in_hand = λ some _. absurd (omega (arith, short, some));
+    by_push = λ _ some. (over, back some);
+  }

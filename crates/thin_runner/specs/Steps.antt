@@ -75,14 +75,12 @@ module _ {T A G J : Type 0} (here : Setting T A J) where
       × Grows here old more new.items more new
   Does old (ExtendFromSlice xs) (Refused cause) new = let more = length xs.items in
       (0 < more) × RefusesClone here old more xs.items cause new
-  -- an `extend` puts items in the place of none, at the end, and moves each once
+  -- an `extend` puts items in the place of none, at the end
   Does old (Extend xs lower) Done new = let end = length old.items in
       Replaces here.rule here.R old end end xs.items (lower + length xs.items) new
-      × (new.cost.moves + end ≡ old.cost.moves + length new.items)
   Does old (Extend xs lower) (Stopped answers cause held in_hand rest) new =
       let end = length old.items in (answers.items ≡ [])
       × StopsBetween here.rule here.R old end end xs.items held.items lower cause in_hand rest new
-      × (new.cost.moves + end ≡ old.cost.moves + length new.items)
   Does old (Append given) (Other back None) new = let more = length given.items in
       (back ≡ record given { items = [] })
       × Grows here old more (old.items ++ given.items) more new

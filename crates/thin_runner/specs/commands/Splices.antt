@@ -8,11 +8,10 @@ use Rattle.std.specs.Option.{option_to_list}
 use Rattle.std.specs.Vec.Iter.{into_iter_items}
 use Rattle.thin_vec.specs.Cheap.{IsCheap}
 use Rattle.thin_vec.specs.Extend.{IsExtended, IsLoose}
-use Rattle.thin_vec.specs.Filling.{IsSpliced, OverflowsBy}
+use Rattle.thin_vec.specs.Filling.{IsSpliced, IsStopCause}
 use Rattle.thin_vec.specs.Growth.{Rule}
-use Rattle.thin_vec.specs.ThinVec.{HasRoomFor, IsWithin, Thin, capacity_for}
+use Rattle.thin_vec.specs.ThinVec.{HasRoomFor, IsWithin, Thin}
 use Rattle.thin_vec.specs.declared.ThinVecError.{ThinVecError}
-use Rattle.thin_vec.specs.declared.ThinVecError.TheVariants.{CapacityOverflow}
 use Rattle.thin_runner.specs.declared.hinted.Hinted.{Hinted}
 
 module _ {T A : Type 0} (old : Thin T A) (a b : ℕ) where
@@ -20,11 +19,10 @@ module _ {T A : Type 0} (old : Thin T A) (a b : ℕ) where
   abbrev pub cut : Thin T A
   cut = record old { items = remove_range old.items a b }
 
-  -- as many items fit with no growth: where some stand after the range, fewer than it has; where
-  -- none does, there is room for them
+  -- no memory is wanted for so many: they are at most those of the range, or, with no item after
+  -- it, there is room for them
   abbrev pub HasPlacesFor : ℕ → Type 0
-  HasPlacesFor most = ((b < length old.items) × (most < b - a))
-      ⊎ ((b ≡ length old.items) × HasRoomFor cut most)
+  HasPlacesFor most = (most ≤ b - a) ⊎ ((b ≡ length old.items) × HasRoomFor cut most)
 
 module _ {T A : Type 0} (rule : Rule) (R : RattleType) (old : Thin T A) (a b : ℕ) where
   -- the items `placed`, of `most` that may come, went in for those from a up to b: each moved once,
@@ -35,13 +33,14 @@ module _ {T A : Type 0} (rule : Rule) (R : RattleType) (old : Thin T A) (a b : �
     pub capacity : IsLoose rule R old.capacity new.capacity
     pub named : IsExtended rule R (cut old a b) new.capacity (length new.items) (at_most most)
     pub within : IsWithin R new
-    pub had_room : HasPlacesFor old a b most → new.capacity ≡ old.capacity
+    pub had_room : HasRoomFor (cut old a b) most → new.capacity ≡ old.capacity
     pub cost : IsSpliced (cut old a b) new (2 * (length old.items - b))
     pub cheap : IsCheap old → IsCheap new
     pub alloc : new.alloc ≡ old.alloc
 
-  -- some of the items xs went in, and none is lost; with no item after the range none is held, and
-  -- one is in hand only where the list is full, or else nothing went in
+  -- some of the items xs went in, and none is lost. Where some are held and none is in hand, the
+  -- iterator has ended. With no item after the range none is held, and one is in hand only where the
+  -- list is full, or else nothing went in
   pub record StopsBetween (xs held : List T) (lower : ℕ) (cause : ThinVecError)
       (in_hand : Option T) (rest : Hinted T A) (new : Thin T A) : Type 0 where
     pub placed : List T
@@ -49,14 +48,10 @@ module _ {T A : Type 0} (rule : Rule) (R : RattleType) (old : Thin T A) (a b : �
     pub claim : rest.lower ≡ lower
     pub filled : Replaces placed (lower + length xs) new
     pub no_room : ¬ (HasPlacesFor old a b (lower + length xs))
-    pub told : cause ≡ CapacityOverflow → OverflowsBy rule R new held in_hand
-        (at_most (rest.lower + length (into_iter_items rest.items)))
-    pub overflow : 0 < length held → in_hand ≡ None
-        → capacity_for rule R new (length held) ≡ None → cause ≡ CapacityOverflow
+    pub told : IsStopCause rule R new (drop b old.items) held in_hand
+        (at_most (rest.lower + length (into_iter_items rest.items))) cause
+    pub ended : in_hand ≡ None → 0 < length held → into_iter_items rest.items ≡ []
     pub range : b < length old.items → b - a ≤ length placed
-    pub in_vain : b < length old.items → cause ≡ CapacityOverflow → in_hand ≡ None
-    pub overflow_behind : b ≡ length old.items → IsSome in_hand → capacity_for rule R new 1 ≡ None
-        → cause ≡ CapacityOverflow
     pub behind : b ≡ length old.items → (held ≡ [])
         × (IsSome in_hand → length new.items ≡ new.capacity)
     pub unchanged : b ≡ length old.items → in_hand ≡ None → new ≡ cut old a b

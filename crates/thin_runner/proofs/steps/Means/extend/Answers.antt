@@ -1,11 +1,13 @@
 -- What was placed, what is in hand and what is left are what there was.
-use Rattle.std.proofs.Common.{rules, ◌≡◌, ◌++◌, ◌+◌, ap, arith, length, subst, sym, ◌∙◌, append_assoc}
-use Rattle.std.specs.Iterator.{Count, at_most}
+use Rattle.std.proofs.Common.{rules, ◌≡◌, ◌++◌, ◌+◌, ap, arith, drop, length, subst, sym, ◌∙◌, append_assoc}
+use Rattle.std.proofs.lemmas.Bool.{false≢true}
+use Rattle.std.proofs.lemmas.List.{length-drop}
+use Rattle.std.specs.Iterator.{Count, at_most, size}
 use Rattle.std.specs.Option.{option_to_list}
 use denote.Param.{param}
 use Rattle.thin_runner.specs.Hinted.{hinted_claim, hinted_count, hinted_items}
 use Rattle.thin_runner.proofs.HintedLemmas.{drains-items, yields-claim, yields-items}
-use Rattle.thin_runner.proofs.SplicesLemmas.{cut-end, overflows-by, places-end, replaces-end}
+use Rattle.thin_runner.proofs.SplicesLemmas.{cut-end, places-end, replaces-end, stop-cause-end}
 use Rattle.thin_vec.specs.Extend.{IsExtended}
 use Rattle.thin_vec.specs.ThinVec.{HasRoomFor}
 use Rattle.thin_runner.proofs.steps.Means.extend.Goals as goal
@@ -21,14 +23,11 @@ returns-in-Ok g c =
     record {
       allowed = (
         tt,
-        (
-          replaces-end _ _ old new c.args.items.items _
-              (e.items.2 ∙ ap (λ l. old.items ++ l) items)
-              e.capacity
-              (subst (λ (n : Count). IsExtended g.G.Growth.rule (param 0 g.row.T) old new.capacity
-              (length new.items) n) count e.named) e.within.1 (search rules) e.cost e.cheap e.alloc,
-          e.cost.moves,
-        ),
+        replaces-end _ _ old new c.args.items.items _
+            (e.items.2 ∙ ap (λ l. old.items ++ l) items)
+            e.capacity
+            (subst (λ (n : Count). IsExtended g.G.Growth.rule (param 0 g.row.T) old new.capacity
+            (length new.items) n) count e.named) e.within.1 (search rules) e.cost e.cheap e.alloc,
       );
     }
 
@@ -42,7 +41,10 @@ returns-in-Err g c =
     let all = yields-items c.new.result rest (e.placed.0 ++ one) e.placed.2 in
     let claim = yields-claim c.new.result rest (e.placed.0 ++ one) e.placed.2 in
     let none = c.new-in-Err-2.ensures.items in
-    let full : ¬ (HasRoomFor old (c.args.lower + length c.args.items.items)) = search rules in
+    let may = c.args.lower + length c.args.items.items in
+    let most : size (hinted_count c.new.result) ≡ may =
+    omega (arith, c.new.ensures.claim, ap length c.new.ensures.items) in
+    let full : ¬ (HasRoomFor old may) = search rules in
     let count : hinted_count c.new.result ≡ at_most (c.args.lower + length c.args.items.items) =
     λ i. at_most (c.new.ensures.claim i + length (c.new.ensures.items i)) in
     record {
@@ -60,17 +62,16 @@ returns-in-Err g c =
                 (subst (λ (n : Count). IsExtended g.G.Growth.rule (param 0 g.row.T) old new.capacity
                 (length new.items) n) count e.named)
                 e.within.1 (search rules) e.cost e.cheap e.alloc;
-            no_room = λ places. full (places-end old _ places);
-            told = λ over.
-                overflows-by _ _ old new _ c.in-Err.refused.in_hand (hinted_count rest) none (e.cause over);
-            overflow = λ some. absurd (omega (arith, ap length none, some));
+            no_room = places-end old ⊥ may
+                (λ nothing. false≢true (e.succeeds_empty (omega (arith, nothing, most)))) full;
+            told = stop-cause-end _ _ old new (drop (length old.items) old.items) _
+                c.in-Err.refused.in_hand (hinted_count rest) c.in-Err.refused.cause
+                (omega (arith, length-drop (length old.items) old.items)) none e.cause e.overflow;
+            ended = λ nothing some. absurd (omega (arith, ap length none, some));
             range = λ more. absurd (omega (arith, more));
-            in_vain = λ more. absurd (omega (arith, more));
-            overflow_behind = λ end. e.overflow;
             behind = λ end. (none, e.full);
             unchanged = λ end empty. (e.err empty).0 ∙ sym (cut-end old);
           },
-          e.cost.moves,
         ),
       );
     }

@@ -1,13 +1,14 @@
 -- What took the range's place, what is held, in hand and left are what there was.
-use Rattle.std.proofs.Common.{rules, ◌≡◌, ◌+◌, ◌++◌, ◌∙◌, ap, arith, length, length-append, subst, sym}
+use Rattle.std.proofs.Common.{rules, List, ◌≡◌, ◌+◌, ◌++◌, ◌∙◌, ap, arith, length, length-append, subst, sym}
 use Rattle.std.proofs.lemmas.Bool.{false≢true}
 use Rattle.std.specs.Iterator.{at_most, size}
 use denote.Param.{param}
 use Rattle.thin_runner.specs.Hinted.{hinted_claim, hinted_count, hinted_items}
 use Rattle.thin_runner.proofs.HintedLemmas.{drains-items}
-use Rattle.thin_runner.proofs.SplicesLemmas.{IsOpened, left-is, named, no-tail, replaces-of, some-tail, spliced, stops-of, stopped-claim, stopped-items, with-places}
+use Rattle.thin_runner.proofs.SplicesLemmas.{IsOpened, left-is, named, no-tail, replaces-of, room-left, some-tail, spliced, stops-of, stopped-claim, stopped-ended, stopped-items, with-places}
 use Rattle.thin_vec.specs.Cheap.{IsCheap}
 use Rattle.thin_vec.specs.Extend.{IsLoose}
+use Rattle.thin_vec.specs.Filling.{IsStopCause}
 use Rattle.thin_vec.specs.Splice.{splice_alloc, splice_hole, splice_iter}
 use Rattle.thin_vec.specs.ThinVec.{IsWithin}
 use Rattle.thin_runner.proofs.steps.Means.splice.Goals as goal
@@ -52,9 +53,8 @@ returns-in-Ok-finish g c =
             named = named old start end hole alloc is g.G.Growth.rule (param 0 g.row.T)
                 c.finish.new.self.0 _ _ count e.named;
             within = subst (λ list. IsWithin _ list) (sym left) c.capacity-capacity.ensures.within;
-            had_room = with-places old start end hole alloc is _ _ _ _ most width
-                (λ some few. e.had_room some few ∙ is.capacity)
-                (λ none room. e.had_room_behind none room ∙ is.capacity);
+            had_room = λ room.
+                e.had_room (room-left old start end hole alloc is _ _ most room) ∙ is.capacity;
             cost = spliced old start end hole alloc is _ e.cost;
             cheap = λ cheap. e.cheap (subst IsCheap (sym (left-is old start end hole alloc is)) cheap);
             alloc = e.alloc ∙ is.same;
@@ -108,17 +108,20 @@ returns-in-Err-finish g c =
               named = named old start end hole alloc is g.G.Growth.rule (param 0 g.row.T)
                   c.finish.new.self.0 _ _ count e.named;
               within = subst (λ list. IsWithin _ list) (sym left) c.capacity-capacity-in-Err-finish.ensures.within;
-              had_room = with-places old start end hole alloc is _ _ _ _ most width
-                  (λ some few. e.had_room some few ∙ is.capacity)
-                  (λ none room. e.had_room_behind none room ∙ is.capacity);
+              had_room = λ room.
+                  e.had_room (room-left old start end hole alloc is _ _ most room) ∙ is.capacity;
               cost = spliced old start end hole alloc is _ e.cost;
               cheap = λ cheap. e.cheap (subst IsCheap (sym (left-is old start end hole alloc is)) cheap);
               alloc = e.alloc ∙ is.same;
             };
-            no_room = λ places. false≢true (with-places old start end hole alloc is _ _ _ _ most width
-                (λ some few. e.succeeds some few) (λ none room. e.succeeds_behind none room) places);
-            told = e.cause;
-            overflow = e.overflow;
+            no_room = λ places.
+                false≢true (with-places old start end hole alloc is _ _ _ _ most width
+                e.succeeds (λ none room. e.succeeds_behind none room) places);
+            told = subst (λ (t : List _). IsStopCause g.G.Growth.rule (param 0 g.row.T)
+                c.finish.new.self.0 t refused.held.items refused.in_hand (hinted_count refused.rest)
+                refused.cause) is.tail e.cause;
+            ended = stopped-ended (splice_iter c.walk.new.splice) refused.rest placed
+                refused.held.items refused.in_hand e.placed.2;
             range = λ more. omega (
               arith,
               width,
@@ -128,8 +131,6 @@ returns-in-Err-finish g c =
               length-append hole.front placed,
               length-append hole.front hole.tail,
             );
-            in_vain = λ more cause. e.cause_in_hand (some-tail old start end hole alloc is more) cause;
-            overflow_behind = λ full. e.overflow_behind (no-tail old start end hole alloc is full);
             behind = λ full. (
               e.held (no-tail old start end hole alloc is full),
               e.full (no-tail old start end hole alloc is full),
