@@ -1,9 +1,12 @@
 //! Runs workloads on lists, one for each line that it reads, and prints a sum for each.
 #![tactic(auto)]
 
-mod thin;
+mod lists;
+mod numbers;
+mod workloads;
 
-use kit_speed::shared::Outcome;
+use crate::lists::{Kit, Thin};
+use crate::numbers::Outcome;
 use std::alloc::Global;
 use std::io;
 
@@ -26,8 +29,8 @@ fn asked(alloc: Global, line: &str) -> Option<Outcome> {
     let size = words.next()?.parse::<usize>().ok()?;
     let times = words.next()?.parse::<usize>().ok()?;
     match list {
-        "thin" => thin::run(alloc, workload, size, times),
-        "kit" => kit_speed::run(alloc, workload, size, times),
+        "thin" => workloads::run::<Thin>(alloc, workload, size, times),
+        "kit" => workloads::run::<Kit>(alloc, workload, size, times),
         _ => None,
     }
 }

@@ -1,6 +1,6 @@
 -- A tree is built by depth: a node that is to have children has some depth left.
 use Rattle.std.proofs.Common.{◌<◌}
-use Rattle.thin_speed.proofs.thin.many.+build.Given as goal
+use Rattle.thin_speed.proofs.lists.thin.+build.Given as goal
 
 abbrev pub decreases-build : goal.decreases-build
 decreases-build l = l.depth

@@ -1,32 +1,32 @@
 //! Workloads in which a list grows, or is read to its end.
-use kit_speed::shared::{Outcome, SIXTEEN, Unhinted, mixed, seen};
+use crate::lists::{Family, List, Numbers};
+use crate::numbers::{Outcome, SIXTEEN, mixed, seen};
 use std::alloc::{AllocError, Global};
 use std::io::Write;
-use thin_vec::ThinVec;
 
 /// Runs the workload of that name, or none where there is no such here.
-pub fn run(alloc: Global, workload: &str, size: usize, times: usize) -> Option<Outcome> {
+pub fn run<F: Family>(alloc: Global, workload: &str, size: usize, times: usize) -> Option<Outcome> {
     Some(match workload {
-        "push" => push(alloc, size, times),
-        "push_few" => push_few(alloc, size, times),
-        "push_reserved" => push_reserved(alloc, size, times),
-        "push_pop" => push_pop(alloc, size, times),
-        "extend_hinted" => extend_hinted(alloc, size, times),
-        "extend_unhinted" => extend_unhinted(alloc, size, times),
-        "extend_slice" => extend_slice(alloc, size, times),
-        "extend_sixteen" => extend_sixteen(alloc, size, times),
-        "resize" => resize(alloc, size, times),
-        "clone" => clone(alloc, size, times),
-        "write_five" => write_five(alloc, size, times),
-        "into_iter" => into_iter(alloc, size, times),
+        "push" => push::<F::Numbers>(alloc, size, times),
+        "push_few" => push_few::<F::Numbers>(alloc, size, times),
+        "push_reserved" => push_reserved::<F::Numbers>(alloc, size, times),
+        "push_pop" => push_pop::<F::Numbers>(alloc, size, times),
+        "extend_hinted" => extend_hinted::<F::Numbers>(alloc, size, times),
+        "extend_unhinted" => extend_unhinted::<F::Numbers>(alloc, size, times),
+        "extend_slice" => extend_slice::<F::Numbers>(alloc, size, times),
+        "extend_sixteen" => extend_sixteen::<F::Numbers>(alloc, size, times),
+        "resize" => resize::<F::Numbers>(alloc, size, times),
+        "clone" => clone::<F::Numbers>(alloc, size, times),
+        "write_five" => write_five::<F::Bytes>(alloc, size, times),
+        "into_iter" => into_iter::<F::Numbers>(alloc, size, times),
         _ => return None,
     })
 }
 
 // The numbers below `size`, in a block of just that size.
 #[inline(never)]
-pub(crate) fn filled(alloc: Global, size: usize) -> Result<ThinVec<u64>, AllocError> {
-    let mut list = ThinVec::with_capacity(alloc, size)?;
+pub(crate) fn filled<L: List<u64>>(alloc: Global, size: usize) -> Result<L, AllocError> {
+    let mut list = L::with_capacity(alloc, size)?;
     for number in 0..size {
         list.push(number as u64)?;
     }
@@ -35,10 +35,10 @@ pub(crate) fn filled(alloc: Global, size: usize) -> Result<ThinVec<u64>, AllocEr
 
 // Pushes onto a new list.
 #[inline(never)]
-fn push(alloc: Global, size: usize, times: usize) -> Outcome {
+fn push<L: List<u64>>(alloc: Global, size: usize, times: usize) -> Outcome {
     let mut sum = 0;
     for _ in 0..times {
-        let mut list = ThinVec::new(alloc);
+        let mut list = L::new(alloc);
         for number in 0..size {
             list.push(number as u64)?;
         }
@@ -49,10 +49,10 @@ fn push(alloc: Global, size: usize, times: usize) -> Outcome {
 
 // Pushes a few, with two bits turned.
 #[inline(never)]
-fn push_few(alloc: Global, size: usize, times: usize) -> Outcome {
+fn push_few<L: List<u64>>(alloc: Global, size: usize, times: usize) -> Outcome {
     let mut sum = 0;
     for _ in 0..times {
-        let mut list = ThinVec::new(alloc);
+        let mut list = L::new(alloc);
         for number in 0..size {
             list.push(number as u64 ^ 5)?;
         }
@@ -63,10 +63,10 @@ fn push_few(alloc: Global, size: usize, times: usize) -> Outcome {
 
 // Pushes into room.
 #[inline(never)]
-fn push_reserved(alloc: Global, size: usize, times: usize) -> Outcome {
+fn push_reserved<L: List<u64>>(alloc: Global, size: usize, times: usize) -> Outcome {
     let mut sum = 0;
     for _ in 0..times {
-        let mut list = ThinVec::with_capacity(alloc, size)?;
+        let mut list = L::with_capacity(alloc, size)?;
         for number in 0..size {
             list.push(number as u64)?;
         }
@@ -77,10 +77,10 @@ fn push_reserved(alloc: Global, size: usize, times: usize) -> Outcome {
 
 // Pushes onto a new list, then pops all.
 #[inline(never)]
-fn push_pop(alloc: Global, size: usize, times: usize) -> Outcome {
+fn push_pop<L: Numbers>(alloc: Global, size: usize, times: usize) -> Outcome {
     let mut sum = 0;
     for _ in 0..times {
-        let mut list = ThinVec::new(alloc);
+        let mut list = L::new(alloc);
         for number in 0..size {
             list.push(number as u64)?;
         }
@@ -95,11 +95,11 @@ fn push_pop(alloc: Global, size: usize, times: usize) -> Outcome {
 
 // Extends a new list by an iterator that knows how many items it has.
 #[inline(never)]
-fn extend_hinted(alloc: Global, size: usize, times: usize) -> Outcome {
+fn extend_hinted<L: Numbers>(alloc: Global, size: usize, times: usize) -> Outcome {
     let mut sum = 0;
     for _ in 0..times {
-        let mut list = ThinVec::new(alloc);
-        list.extend((0..size).map(|number| number as u64))?;
+        let mut list = L::new(alloc);
+        list.extend_hinted(size)?;
         sum = mixed(sum, seen(list.as_slice()));
     }
     Ok(sum)
@@ -107,11 +107,11 @@ fn extend_hinted(alloc: Global, size: usize, times: usize) -> Outcome {
 
 // Extends a new list by an iterator that doesn't.
 #[inline(never)]
-fn extend_unhinted(alloc: Global, size: usize, times: usize) -> Outcome {
+fn extend_unhinted<L: Numbers>(alloc: Global, size: usize, times: usize) -> Outcome {
     let mut sum = 0;
     for _ in 0..times {
-        let mut list = ThinVec::new(alloc);
-        list.extend(Unhinted::below(size))?;
+        let mut list = L::new(alloc);
+        list.extend_unhinted(size)?;
         sum = mixed(sum, seen(list.as_slice()));
     }
     Ok(sum)
@@ -119,11 +119,11 @@ fn extend_unhinted(alloc: Global, size: usize, times: usize) -> Outcome {
 
 // Extends a new list by one slice.
 #[inline(never)]
-fn extend_slice(alloc: Global, size: usize, times: usize) -> Outcome {
-    let source = filled(alloc, size)?;
+fn extend_slice<L: Numbers>(alloc: Global, size: usize, times: usize) -> Outcome {
+    let source: L = filled(alloc, size)?;
     let mut sum = 0;
     for _ in 0..times {
-        let mut list = ThinVec::new(alloc);
+        let mut list = L::new(alloc);
         list.extend_from_copies(source.as_slice())?;
         sum = mixed(sum, seen(list.as_slice()));
     }
@@ -132,10 +132,10 @@ fn extend_slice(alloc: Global, size: usize, times: usize) -> Outcome {
 
 // Extends a new list by slices of sixteen.
 #[inline(never)]
-fn extend_sixteen(alloc: Global, size: usize, times: usize) -> Outcome {
+fn extend_sixteen<L: Numbers>(alloc: Global, size: usize, times: usize) -> Outcome {
     let mut sum = 0;
     for _ in 0..times {
-        let mut list = ThinVec::new(alloc);
+        let mut list = L::new(alloc);
         for _ in 0..size / 16 {
             list.extend_from_copies(&SIXTEEN)?;
         }
@@ -146,11 +146,11 @@ fn extend_sixteen(alloc: Global, size: usize, times: usize) -> Outcome {
 
 // Makes a new list so long.
 #[inline(never)]
-fn resize(alloc: Global, size: usize, times: usize) -> Outcome {
+fn resize<L: Numbers>(alloc: Global, size: usize, times: usize) -> Outcome {
     let mut sum = 0;
     for _ in 0..times {
-        let mut list = ThinVec::new(alloc);
-        list.resize(size, 7u64)?;
+        let mut list = L::new(alloc);
+        list.resize(size, 7)?;
         sum = mixed(sum, seen(list.as_slice()));
     }
     Ok(sum)
@@ -158,11 +158,11 @@ fn resize(alloc: Global, size: usize, times: usize) -> Outcome {
 
 // Copies a list.
 #[inline(never)]
-fn clone(alloc: Global, size: usize, times: usize) -> Outcome {
-    let source = filled(alloc, size)?;
+fn clone<L: Numbers>(alloc: Global, size: usize, times: usize) -> Outcome {
+    let source: L = filled(alloc, size)?;
     let mut sum = 0;
     for _ in 0..times {
-        let list = source.clone_copies(alloc)?;
+        let list = source.copy(alloc)?;
         sum = mixed(sum, seen(list.as_slice()));
     }
     Ok(sum)
@@ -170,28 +170,27 @@ fn clone(alloc: Global, size: usize, times: usize) -> Outcome {
 
 // Writes five bytes at a time.
 #[inline(never)]
-fn write_five(alloc: Global, size: usize, times: usize) -> Outcome {
+fn write_five<L: List<u8> + Write>(alloc: Global, size: usize, times: usize) -> Outcome {
     let mut sum = 0;
     for _ in 0..times {
-        let mut list: ThinVec<u8> = ThinVec::new(alloc);
+        let mut list = L::new(alloc);
         for _ in 0..size {
             if list.write_all(b"hello").is_err() {
                 return Err(AllocError);
             }
         }
-        sum = mixed(sum, list.len() as u64);
+        sum = mixed(sum, list.as_slice().len() as u64);
     }
     Ok(sum)
 }
 
 // Fills a list, and takes each item out of it from the front.
 #[inline(never)]
-fn into_iter(alloc: Global, size: usize, times: usize) -> Outcome {
+fn into_iter<L: Numbers>(alloc: Global, size: usize, times: usize) -> Outcome {
     let mut sum = 0;
     for _ in 0..times {
-        for number in filled(alloc, size)? {
-            sum = mixed(sum, number);
-        }
+        let list: L = filled(alloc, size)?;
+        sum = list.walk(sum);
     }
     Ok(sum)
 }

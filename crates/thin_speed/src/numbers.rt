@@ -1,4 +1,4 @@
-//! What the workloads of both lists share.
+//! The numbers that the workloads put into lists, and what they see of a list.
 ghost use Rattle.std.specs.Prelude.{◌-◌};
 ghost use Rattle.std.specs.Iterator.{at_most};
 
@@ -79,22 +79,48 @@ impl Iterator for Unhinted {
     }
 }
 
-/// Whether a number is even: of numbers in turn, each second one.
-pub fn is_even(number: u64) -> bool {
-    number & 1 == 0
+/// Which numbers are picked.
+pub trait Pick {
+    /// Whether this one is.
+    fn picks(number: u64) -> bool;
 }
 
-/// Whether a bit of the number's hash is 0: of numbers in turn, half in no order.
-pub fn is_random(number: u64) -> bool {
-    number.wrapping_mul(0x9e37_79b9_7f4a_7c15) >> 63 == 0
+/// The even numbers: of numbers in turn, each second one.
+pub struct Even;
+
+impl Pick for Even {
+    #[inline(always)]
+    fn picks(number: u64) -> bool {
+        number & 1 == 0
+    }
 }
 
-/// Whether a number is another than 1: of numbers in turn, all but the second.
-pub fn is_not_one(number: u64) -> bool {
-    number != 1
+/// Those of which a bit of the hash is 0: of numbers in turn, half in no order.
+pub struct Random;
+
+impl Pick for Random {
+    #[inline(always)]
+    fn picks(number: u64) -> bool {
+        number.wrapping_mul(0x9e37_79b9_7f4a_7c15) >> 63 == 0
+    }
 }
 
-/// Whether the last four bits of a number are not all 1: of numbers in turn, runs of fifteen.
-pub fn is_in_a_run(number: u64) -> bool {
-    number & 15 != 15
+/// All but 1: of numbers in turn, all but the second.
+pub struct NotOne;
+
+impl Pick for NotOne {
+    #[inline(always)]
+    fn picks(number: u64) -> bool {
+        number != 1
+    }
+}
+
+/// Those of which the last four bits are not all 1: of numbers in turn, runs of fifteen.
+pub struct InARun;
+
+impl Pick for InARun {
+    #[inline(always)]
+    fn picks(number: u64) -> bool {
+        number & 15 != 15
+    }
 }

@@ -1,6 +1,6 @@
 -- A tree is built by depth: a node that is to have children has some depth left.
 use Rattle.std.proofs.Common.{◌<◌}
-use Rattle.kit_speed.proofs.many.+build.Given as goal
+use Rattle.thin_speed.proofs.lists.kit.+build.Given as goal
 
 abbrev pub decreases-build : goal.decreases-build
 decreases-build l = l.depth

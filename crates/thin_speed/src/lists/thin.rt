@@ -1,0 +1,196 @@
+//! `ThinVec`.
+use crate::lists::{Family, List, Numbers};
+use crate::numbers::{Outcome, Pick, Unhinted, Wide, mixed};
+use std::alloc::{AllocError, Global};
+use thin_vec::ThinVec;
+
+/// `ThinVec`s.
+pub struct Thin;
+
+impl Family for Thin {
+    type Numbers = ThinVec<u64>;
+
+    type Wides = ThinVec<Wide>;
+
+    type Bytes = ThinVec<u8>;
+
+    type Lists = ThinVec<ThinVec<u64>>;
+
+    #[inline(always)]
+    fn tree(alloc: Global, depth: usize) -> Outcome {
+        Ok(depths(&build(alloc, depth)?))
+    }
+}
+
+impl<T: Drop> List<T> for ThinVec<T> {
+    #[inline(always)]
+    fn new(alloc: Global) -> ThinVec<T> {
+        ThinVec::new(alloc)
+    }
+
+    #[inline(always)]
+    fn with_capacity(alloc: Global, capacity: usize) -> Result<ThinVec<T>, AllocError> {
+        Ok(ThinVec::with_capacity(alloc, capacity)?)
+    }
+
+    #[inline(always)]
+    fn push(&mut self, value: T) -> Result<(), AllocError> {
+        Ok(ThinVec::push(self, value)?)
+    }
+
+    #[inline(always)]
+    fn clear(&mut self) {
+        ThinVec::clear(self);
+    }
+
+    #[inline(always)]
+    fn as_slice(&self) -> &[T] {
+        ThinVec::as_slice(self)
+    }
+
+    #[inline(always)]
+    fn retain<F: FnMut(&T) -> bool>(&mut self, keep: F) {
+        ThinVec::retain(self, keep);
+    }
+}
+
+impl Numbers for ThinVec<u64> {
+    #[inline(always)]
+    fn pop(&mut self) -> Option<u64> {
+        ThinVec::pop(self)
+    }
+
+    #[inline(always)]
+    fn insert_first(&mut self, value: u64) -> Result<(), AllocError> {
+        Ok(self.insert(0, value)?)
+    }
+
+    #[inline(always)]
+    fn remove_first(&mut self) -> Option<u64> {
+        if self.is_empty() {
+            return None;
+        }
+        Some(self.remove(0))
+    }
+
+    #[inline(always)]
+    fn remove_middle(&mut self) -> Option<u64> {
+        let len = self.len();
+        if len == 0 {
+            return None;
+        }
+        Some(self.swap_remove(len / 2))
+    }
+
+    #[inline(always)]
+    fn extend_hinted(&mut self, end: usize) -> Result<(), AllocError> {
+        Ok(self.extend((0..end).map(|number| number as u64))?)
+    }
+
+    #[inline(always)]
+    fn extend_unhinted(&mut self, end: usize) -> Result<(), AllocError> {
+        Ok(self.extend(Unhinted::below(end))?)
+    }
+
+    #[inline(always)]
+    fn extend_from_copies(&mut self, items: &[u64]) -> Result<(), AllocError> {
+        Ok(ThinVec::extend_from_copies(self, items)?)
+    }
+
+    #[inline(always)]
+    fn resize(&mut self, len: usize, value: u64) -> Result<(), AllocError> {
+        Ok(ThinVec::resize(self, len, value)?)
+    }
+
+    #[inline(always)]
+    fn copy(&self, alloc: Global) -> Result<ThinVec<u64>, AllocError> {
+        Ok(self.clone_copies(alloc)?)
+    }
+
+    #[inline(always)]
+    fn split_and_append(&mut self, alloc: Global) -> Result<(), AllocError> {
+        let mut tail = self.split_off(alloc, self.len() / 2)?;
+        Ok(self.append(&mut tail)?)
+    }
+
+    #[inline(always)]
+    fn drain_middle(&mut self, sum: u64) -> u64 {
+        let start = self.len() / 4;
+        let end = self.len() - start;
+        let mut sum = sum;
+        for number in self.drain(start, end) {
+            sum = mixed(sum, number);
+        }
+        sum
+    }
+
+    #[inline(always)]
+    fn splice_hinted(&mut self, alloc: Global, end: usize) -> Result<(), AllocError> {
+        let start = self.len() / 4;
+        let stop = self.len() - start;
+        let numbers = (0..end).map(|number| number as u64);
+        Ok(self.splice(start, stop, numbers).finish(alloc)?)
+    }
+
+    #[inline(always)]
+    fn splice_unhinted(&mut self, alloc: Global, end: usize) -> Result<(), AllocError> {
+        let start = self.len() / 4;
+        let stop = self.len() - start;
+        Ok(
+            self.splice(start, stop, Unhinted::below(end))
+                .finish(alloc)?,
+        )
+    }
+
+    #[inline(always)]
+    fn dedup_halves(&mut self) {
+        self.dedup_by_key(|number| *number >> 1);
+    }
+
+    #[inline(always)]
+    fn extract<P: Pick>(&mut self, sum: u64) -> u64 {
+        let end = self.len();
+        let mut sum = sum;
+        for number in self.extract_if(0, end, |number| P::picks(*number)) {
+            sum = mixed(sum, number);
+        }
+        sum
+    }
+
+    #[inline(always)]
+    fn walk(self, sum: u64) -> u64 {
+        let mut sum = sum;
+        for number in self {
+            sum = mixed(sum, number);
+        }
+        sum
+    }
+}
+
+#[derive(Drop)]
+struct Node {
+    depth: u64,
+    children: ThinVec<Node>,
+}
+
+fn build(alloc: Global, depth: usize) -> Result<Node, AllocError> {
+    let mut children = ThinVec::new(alloc);
+    if depth > 0 {
+        for _ in 0..10 {
+            children.push(build(alloc, depth - 1)?)?;
+        }
+    }
+    Ok(Node {
+        depth: depth as u64,
+        children,
+    })
+}
+
+// The sum of the depths of all nodes.
+fn depths(node: &Node) -> u64 {
+    let mut sum = node.depth;
+    for child in &node.children {
+        sum = sum.wrapping_add(depths(child));
+    }
+    sum
+}
