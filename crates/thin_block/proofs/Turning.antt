@@ -42,7 +42,7 @@ use Rattle.std.specs.Int.{next_multiple_of}
 use Rattle.std.specs.Mem.{type_size}
 use Rattle.std.specs.Align.{type_align}
 use Rattle.thin_block.specs.Capacity.{header_items, block_align, block_bytes}
-use Rattle.thin_block.specs.Ownership.{places, parts, frame, fits_block, asked_for, asked}
+use Rattle.thin_block.specs.Ownership.{places, parts, frame, fits_block, bare, in_header, asked_for, asked}
 use Rattle.thin_block.specs.Slots.{full, empty}
 use Rattle.thin_block.proofs.HeaderMemory.{carve, whole_size, whole_align}
 use Rattle.thin_block.proofs.SlotMemory.{cut, glue, to_items, of_items, to_raw, of_raw, of_room, to_room}
@@ -104,13 +104,17 @@ module _ (Rw : RattleType) (c : ℕ) where
   abbrev τ₀ : Ty
   τ₀ = lone Rw.mir
 
+  -- as many items without their names
+  pub same_items : in_header Rw ≡ header_items s₀ a₀
+  same_items = λ i. header_items (size-raw τ₀ i) (align-raw τ₀ i)
+
   -- where the header takes the room of whole items, it is an array
-  asked_as : (h : ℕ) → 0 < h → asked_for h τ₀ c ≡ array_of Rw (h + c)
+  asked_as : (h : ℕ) → 0 < h → asked_for h (bare Rw) c ≡ array_of Rw (h + c)
   asked_as zero some = absurd (omega arith)
   asked_as (suc k) some = refl
 
   pub asked_is : (k : ℕ) → header_items s₀ a₀ ≡ k → 0 < k → asked Rw c ≡ array_of Rw (k + c)
-  asked_is k e some = ap (λ (h : ℕ). asked_for h τ₀ c) e ∙ asked_as k some
+  asked_is k e some = ap (λ (h : ℕ). asked_for h (bare Rw) c) (same_items ∙ e) ∙ asked_as k some
 
   array_size : (k : ℕ) → Headed s₀ a₀ k → size (array_of Rw (k + c)) ≡ block_bytes s₀ a₀ c
   array_size k h =
@@ -124,19 +128,19 @@ module _ (Rw : RattleType) (c : ℕ) where
   array_align : (k : ℕ) → Headed s₀ a₀ k → align (array_of Rw (k + c)) ≡ block_align a₀
   array_align k h = align-raw τ₀ ∙ (h.align ∙ (λ i. max 8 (sym h.align i)))
 
-  size_for : (h : ℕ) → header_items s₀ a₀ ≡ h → size (asked_for h τ₀ c) ≡ block_bytes s₀ a₀ c
+  size_for : (h : ℕ) → header_items s₀ a₀ ≡ h → size (asked_for h (bare Rw) c) ≡ block_bytes s₀ a₀ c
   size_for zero e = whole_size Rw c
   size_for (suc k) e = array_size (suc k) (headed s₀ a₀ (suc k) e (omega arith))
 
-  align_for : (h : ℕ) → header_items s₀ a₀ ≡ h → align (asked_for h τ₀ c) ≡ block_align a₀
+  align_for : (h : ℕ) → header_items s₀ a₀ ≡ h → align (asked_for h (bare Rw) c) ≡ block_align a₀
   align_for zero e = whole_align Rw c
   align_for (suc k) e = array_align (suc k) (headed s₀ a₀ (suc k) e (omega arith))
 
   pub asked_size : size (asked Rw c) ≡ block_bytes s₀ a₀ c
-  asked_size = size_for (header_items s₀ a₀) refl
+  asked_size = size_for (in_header Rw) (sym same_items)
 
   pub asked_align : align (asked Rw c) ≡ block_align a₀
-  asked_align = align_for (header_items s₀ a₀) refl
+  asked_align = align_for (in_header Rw) (sym same_items)
 
 module _ {M : Type 1} {𝓤 : Ura M} (𝓛 : Logic 𝓤) (E : El) (b : ℕ) where
   open 𝓛 use {H}
@@ -216,9 +220,9 @@ module _ {M : Type 1} {𝓤 : Ura M} (𝓛 : Logic 𝓤) (E : El) (b : ℕ) wher
     Back ω = fwand (parts (R E) c b o) (froom ω b o)
 
     carve_for : (h : ℕ) → header_items (type_size (R E)) (type_align (R E)) ≡ h
-        → ent 𝓤 (H.room (asked_for h τ c) b o)
+        → ent 𝓤 (H.room (asked_for h (bare (R E)) c) b o)
         (sep 𝓤 (H.room word b o) (sep 𝓤 (H.room word b (o + 8))
-        (sep 𝓤 (H.room (array_of (R E) c) b (o + 16)) (sem 𝓛 (Back (asked_for h τ c))))))
+        (sep 𝓤 (H.room (array_of (R E) c) b (o + 16)) (sem 𝓛 (Back (asked_for h (bare (R E)) c))))))
     carve_for zero e = carve 𝓛 (R E) c b o
     carve_for (suc k) e =
         let hd = headed (type_size (R E)) (type_align (R E)) (suc k) e (omega arith) in
@@ -233,7 +237,7 @@ module _ {M : Type 1} {𝓤 : Ura M} (𝓛 : Logic 𝓤) (E : El) (b : ℕ) wher
     pub carve_asked : ent 𝓤 (H.room (asked (R E) c) b o)
         (sep 𝓤 (H.room word b o) (sep 𝓤 (H.room word b (o + 8))
         (sep 𝓤 (H.room (array_of (R E) c) b (o + 16)) (sem 𝓛 (Back (asked (R E) c))))))
-    carve_asked = carve_for (header_items (type_size (R E)) (type_align (R E))) refl
+    carve_asked = carve_for (in_header (R E)) (sym (same_items (R E) c))
 
 -- ---- the block as an array of items from its start
 module _ {M : Type 1} {𝓤 : Ura M} (𝓛 : Logic 𝓤) (E : El) (b : ℕ) (k : ℕ)

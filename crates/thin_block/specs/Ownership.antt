@@ -16,6 +16,7 @@ use base.Fraction.{full_share}
 use base.Fml.{Lft, Fml, ftrue, ffalse, fsep, fwand, froom, feq}
 use mir.Syntax.{Ty, w64, ty_int, ty_array, ty_struct, tcons, tnil}
 use mir.Raw.{raw}
+use prog.Memory.{size, align}
 use denote.RattleType.{RattleType}
 use denote.Builtin.{usize}
 use denote.Memory.{lone}
@@ -55,22 +56,30 @@ abbrev pub places : (R : RattleType) → List (Option R.Denot) → ℕ → ℕ �
 places R [] b o = ftrue
 places R (x ∷ xs) b o = fsep (place R x b o) (places R xs b (o + type_size R))
 
--- the type of a whole block of c slots, as it is asked for: the two words, and then the slots
+-- the type of a whole block of c slots of items of τ: the two words, and then the slots
 abbrev pub whole_of : Ty → ℕ → Ty
 whole_of τ c = ty_struct []
-    (tcons (ty_int w64) (tcons (ty_int w64) (tcons (raw (ty_array τ c)) tnil)))
+    (tcons (ty_int w64) (tcons (ty_int w64) (tcons (ty_array τ c) tnil)))
+
+-- an item's type without names: two rows of one layout have the same
+abbrev pub bare : RattleType → Ty
+bare R = raw (lone R.mir)
 
 abbrev pub whole : RattleType → ℕ → Ty
-whole R c = whole_of (lone R.mir) c
+whole R c = whole_of (bare R) c
 
 -- the type that it is asked for as, by how many items the header takes the room of: where it takes
 -- that of whole ones, it is an array of them, which the allocator can make larger in its place
 abbrev pub asked_for : ℕ → Ty → ℕ → Ty
 asked_for zero τ c = whole_of τ c
-asked_for (suc k) τ c = raw (ty_array τ (suc k + c))
+asked_for (suc k) τ c = ty_array τ (suc k + c)
+
+-- how many items that is: it reads the type without names
+abbrev pub in_header : RattleType → ℕ
+in_header R = header_items (size (bare R)) (align (bare R))
 
 abbrev pub asked : RattleType → ℕ → Ty
-asked R c = asked_for (header_items (type_size R) (type_align R)) (lone R.mir) c
+asked R c = asked_for (in_header R) (bare R) c
 
 -- room for its parts
 abbrev pub parts : RattleType → ℕ → ℕ → ℕ → Fml
