@@ -11,26 +11,43 @@ use Rattle.thin_runner.specs.declared.command.Command.{Command}
 use Rattle.thin_runner.specs.declared.command.Reply.{Reply}
 
 module _ {T A G J : Type 0} (here : Setting T A J) where
-  pub runs-push : (old mid new : Thin T A) (commands : List (Command T A G)) (replies : List (Reply T A G)) (command : Command T A G) (reply : Reply T A G)
-      → Runs here old commands replies mid → Steps here mid command reply new → Runs here old (commands ++ command ∷ []) (replies ++ reply ∷ []) new
-  runs-push old mid new [] [] command reply ran stepped = (new, (subst (λ v. Steps here v command reply new) ran stepped, refl))
-  runs-push old mid new (c ∷ commands) (r ∷ replies) command reply ran stepped = (ran.0, (ran.1.0, runs-push ran.0 mid new commands replies command reply ran.1.1 stepped))
+  -- one more command, after those that have run
+  pub runs-push : (old mid new : Thin T A) (commands : List (Command T A G))
+      (replies : List (Reply T A G)) (command : Command T A G) (reply : Reply T A G)
+      → Runs here old commands replies mid → Steps here mid command reply new
+      → Runs here old (commands ++ command ∷ []) (replies ++ reply ∷ []) new
+  runs-push old mid new [] [] command reply ran stepped =
+      (new, (subst (λ v. Steps here v command reply new) ran stepped, refl))
+  runs-push old mid new (c ∷ commands) (r ∷ replies) command reply ran stepped =
+      let rest = runs-push ran.0 mid new commands replies command reply ran.1.1 stepped in
+      (ran.0, (ran.1.0, rest))
   runs-push old mid new commands replies command reply ran stepped = absurd ran
 
-  -- the commands before those that are left have run, and their replies stand behind those from before
-  pub record HasRun (old : Thin T A) (commands left : List (Command T A G)) (before after : List (Reply T A G)) (new : Thin T A) : Type 0 where
+  -- the commands before those that are left have run, and their replies follow those from before
+  pub record HasRun (old : Thin T A) (commands left : List (Command T A G))
+      (before after : List (Reply T A G)) (new : Thin T A) : Type 0 where
     pub done : List (Command T A G)
     pub replies : List (Reply T A G)
     pub split : commands ≡ done ++ left
     pub appended : after ≡ before ++ replies
     pub ran : Runs here old done replies new
 
-  pub HasRun-none : (old : Thin T A) (commands left : List (Command T A G)) (before after : List (Reply T A G)) → left ≡ commands → after ≡ before → HasRun old commands left before after old
-  HasRun-none old commands left before after all same =
-      record { done = []; replies = []; split = sym all; appended = same ∙ sym (append-nil before); ran = refl }
+  -- at the start none has run
+  pub HasRun-none : (old : Thin T A) (commands left : List (Command T A G))
+      (before after : List (Reply T A G)) → left ≡ commands → after ≡ before
+      → HasRun old commands left before after old
+  HasRun-none old commands left before after all same = record {
+    done = [];
+    replies = [];
+    split = sym all;
+    appended = same ∙ sym (append-nil before);
+    ran = refl;
+  }
 
   module _ (old mid new : Thin T A) (commands left left' : List (Command T A G)) where
-    pub HasRun-push : (before after after' : List (Reply T A G)) (command : Command T A G) (reply : Reply T A G)
+    -- and then one more
+    pub HasRun-push : (before after after' : List (Reply T A G)) (command : Command T A G)
+        (reply : Reply T A G)
         → HasRun old commands left before after mid → left ≡ command ∷ left'
         → after' ≡ after ++ reply ∷ [] → Steps here mid command reply new
         → HasRun old commands left' before after' new
@@ -38,21 +55,34 @@ module _ {T A G J : Type 0} (here : Setting T A J) where
         record {
           done = h.done ++ command ∷ [];
           replies = h.replies ++ reply ∷ [];
-          split = h.split ∙ (ap (λ l. h.done ++ l) next ∙ sym (append_assoc h.done (command ∷ []) left'));
-          appended = pushed ∙ (ap (λ l. l ++ reply ∷ []) h.appended ∙ append_assoc before h.replies (reply ∷ []));
+          split = h.split
+              ∙ (ap (λ l. h.done ++ l) next ∙ sym (append_assoc h.done (command ∷ []) left'));
+          appended = pushed
+              ∙ (ap (λ l. l ++ reply ∷ []) h.appended ∙ append_assoc before h.replies (reply ∷ []));
           ran = runs-push old mid new h.done h.replies command reply h.ran stepped;
         }
 
-  -- what each step keeps, a run keeps: Holds n is true of the list once n has been counted, and a step counts `count`
-  pub runs-keep : (Holds : ℕ → Thin T A → Type 0) (Only : Command T A G → Type 0) (count : Command T A G → Reply T A G → ℕ)
-      → ((n : ℕ) (v w : Thin T A) (command : Command T A G) (reply : Reply T A G) → Only command → Holds n v → Steps here v command reply w → Holds (n + count command reply) w)
+  -- what each step keeps, a run keeps: Holds n is true of the list once n has been counted, and a
+  -- step counts `count`
+  pub runs-keep : (Holds : ℕ → Thin T A → Type 0) (Only : Command T A G → Type 0)
+      (count : Command T A G → Reply T A G → ℕ)
+      → ((n : ℕ) (v w : Thin T A) (command : Command T A G) (reply : Reply T A G) → Only command
+      → Holds n v → Steps here v command reply w → Holds (n + count command reply) w)
       → (total : List (Command T A G) → List (Reply T A G) → ℕ)
-      → ((command : Command T A G) (reply : Reply T A G) (commands : List (Command T A G)) (replies : List (Reply T A G)) → total (command ∷ commands) (reply ∷ replies) ≡ count command reply + total commands replies)
+      → ((command : Command T A G) (reply : Reply T A G) (commands : List (Command T A G))
+      (replies : List (Reply T A G)) → total (command ∷ commands) (reply ∷ replies)
+      ≡ count command reply + total commands replies)
       → total [] [] ≡ 0
-      → (n : ℕ) (v w : Thin T A) (commands : List (Command T A G)) (replies : List (Reply T A G)) → All Only commands → Holds n v → Runs here v commands replies w → Holds (n + total commands replies) w
+      → (n : ℕ) (v w : Thin T A) (commands : List (Command T A G)) (replies : List (Reply T A G))
+      → All Only commands → Holds n v → Runs here v commands replies w
+      → Holds (n + total commands replies) w
   runs-keep Holds Only count step total more none n v w [] [] only h r =
       let e : n ≡ n + total [] [] = omega (arith, none) in subst (λ k. Holds k w) e (subst (Holds n) (sym r) h)
   runs-keep Holds Only count step total more none n v w (c ∷ commands) (r ∷ replies) only h ran =
-      let e : n + count c r + total commands replies ≡ n + total (c ∷ commands) (r ∷ replies) = omega (arith, more c r commands replies) in
-      subst (λ k. Holds k w) e (runs-keep Holds Only count step total more none (n + count c r) ran.0 w commands replies (All-tail Only c commands only) (step n v ran.0 c r (All-head Only c commands only) h ran.1.0) ran.1.1)
+      let e : n + count c r + total commands replies ≡ n + total (c ∷ commands) (r ∷ replies) =
+      omega (arith, more c r commands replies) in
+      let first = step n v ran.0 c r (All-head Only c commands only) h ran.1.0 in
+      subst (λ k. Holds k w) e
+      (runs-keep Holds Only count step total more none (n + count c r) ran.0 w commands replies
+      (All-tail Only c commands only) first ran.1.1)
   runs-keep Holds Only count step total more none n v w commands replies only h ran = absurd ran

@@ -10,30 +10,52 @@ use Rattle.thin_runner.proofs.runner.run.Goals as goal
 
 pub loop-command-init : goal.loop-command-init
 loop-command-init g c =
-    let items : into_iter_items c.into_iter-command-iterator.result ≡ c.args.commands.items = search rules in
+    let items : into_iter_items c.into_iter-command-iterator.result ≡ c.args.commands.items =
+    search rules in
     record {
-      room = omega (arith, c.in-Ok.ensures.ok, c.reserve.ensures.len, ap length items, c.len.ensures, c.args.commands.ok.0);
-      ran = HasRun-none (setting g.T.Clone.is_clone g.T.Clone.is_infallible g.T.PartialEq.eq g.J.Judge.judging g.G.Growth.rule (param 0 g.row.T) c.args.alloc c.args.judge.now)
+      room = omega (
+        arith,
+        c.in-Ok.ensures.ok,
+        c.reserve.ensures.len,
+        ap length items,
+        c.len.ensures,
+        c.args.commands.ok.0,
+      );
+      ran = HasRun-none (setting g.T.Clone.is_clone g.T.Clone.is_infallible g.T.PartialEq.eq
+          g.J.Judge.judging g.G.Growth.rule (param 0 g.row.T) c.args.alloc c.args.judge.now)
           c.args.list.now _ _ _ _ items c.reserve.ensures.items;
     }
 
 pub loop-command-preserved : goal.loop-command-preserved
 loop-command-preserved g c =
-    let next : into_iter_items c.loop-command.command-iterator ≡ c.in-Some.command ∷ into_iter_items c.next.new.self = search rules in
+    let next : into_iter_items c.loop-command.command-iterator
+    ≡ c.in-Some.command ∷ into_iter_items c.next.new.self = search rules in
     record {
-      room = omega (arith, c.in-Ok-push.ensures.len, c.in-Ok-push.ensures.capacity, ap length next, c.loop-command.invariant.room);
-      ran = HasRun-push (setting g.T.Clone.is_clone g.T.Clone.is_infallible g.T.PartialEq.eq g.J.Judge.judging g.G.Growth.rule (param 0 g.row.T) c.args.alloc c.args.judge.now)
-          _ _ _ _ _ _ _ _ _ c.in-Some.command c.step-reply.result c.loop-command.invariant.ran next c.in-Ok-push.ensures.items c.step-reply.ensures.allowed;
+      room = omega (
+        arith,
+        c.in-Ok-push.ensures.len,
+        c.in-Ok-push.ensures.capacity,
+        ap length next,
+        c.loop-command.invariant.room,
+      );
+      ran = HasRun-push (setting g.T.Clone.is_clone g.T.Clone.is_infallible g.T.PartialEq.eq
+          g.J.Judge.judging g.G.Growth.rule (param 0 g.row.T) c.args.alloc c.args.judge.now)
+          _ _ _ _ _ _ _ _ _ c.in-Some.command c.step-reply.result c.loop-command.invariant.ran
+          next c.in-Ok-push.ensures.items c.step-reply.ensures.allowed;
     }
 
 pub returns-clause-ok : goal.returns-clause-ok
 returns-clause-ok g c =
     let ran = c.loop-command.invariant.ran in
     let left = into_iter_items c.loop-command.command-iterator in
-    let none : left ≡ [] = nil_from_length left (omega (arith, c.in-None.ensures.steps, c.loop-command.command-iterator.rest.ok)) in
-    let all : c.args.commands.items ≡ ran.done = ran.split ∙ (ap (λ l. ran.done ++ l) none ∙ append-nil ran.done) in
-    headline (setting g.T.Clone.is_clone g.T.Clone.is_infallible g.T.PartialEq.eq g.J.Judge.judging g.G.Growth.rule (param 0 g.row.T) c.args.alloc c.args.judge.now) g.met.G.Growth.law
-    _ _ _ _ _ _ _ c.capacity-capacity.ensures.within c.capacity-end.ensures.within all ran.appended ran.ran
+    let none : left ≡ [] = nil_from_length left
+    (omega (arith, c.in-None.ensures.steps, c.loop-command.command-iterator.rest.ok)) in
+    let all : c.args.commands.items ≡ ran.done =
+    ran.split ∙ (ap (λ l. ran.done ++ l) none ∙ append-nil ran.done) in
+    headline (setting g.T.Clone.is_clone g.T.Clone.is_infallible g.T.PartialEq.eq
+    g.J.Judge.judging g.G.Growth.rule (param 0 g.row.T) c.args.alloc c.args.judge.now)
+    g.met.G.Growth.law _ _ _ _ _ _ _ c.capacity-capacity.ensures.within
+    c.capacity-end.ensures.within all ran.appended ran.ran
 
 pub returns-clause-succeeds : goal.returns-clause-succeeds
 returns-clause-succeeds g c = search rules

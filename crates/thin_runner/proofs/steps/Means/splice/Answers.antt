@@ -23,25 +23,25 @@ returns-in-Ok-finish g c =
     let iter = k.iter ∙ s.iter in
     let items = ap hinted_items iter ∙ c.new.ensures.items in
     let claim = ap hinted_claim iter ∙ c.new.ensures.claim in
-    let is : IsOpened old start end (splice_hole c.walk.new.splice) (splice_alloc c.walk.new.splice) =
-    record {
+    let drawn = splice_iter c.walk.new.splice in
+    let hole = splice_hole c.walk.new.splice in
+    let alloc = splice_alloc c.walk.new.splice in
+    let is : IsOpened old start end hole alloc = record {
       front = k.front ∙ s.front;
       tail = k.tail ∙ s.tail;
       capacity = k.capacity ∙ s.capacity;
       same = k.alloc ∙ s.alloc;
       cost = k.cost ∙ s.cost;
     } in
-    let hole = splice_hole c.walk.new.splice in
-    let alloc = splice_alloc c.walk.new.splice in
     let width = k.range ∙ s.range in
-    let most : size (hinted_count (splice_iter c.walk.new.splice)) ≡ c.args.lower + length c.args.items.items =
-    omega (arith, claim, ap length items) in
-    let count : hinted_count (splice_iter c.walk.new.splice)
-    ≡ at_most (c.args.lower + length c.args.items.items) =
+    let may = c.args.lower + length c.args.items.items in
+    let most : size (hinted_count drawn) ≡ may = omega (arith, claim, ap length items) in
+    let count : hinted_count drawn ≡ at_most may =
     λ i. at_most (claim i + length (items i)) in
-    let left : c.finish.new.self.0 ≡ c.list-1.given.0 = search rules in
+    let now = c.finish.new.self.0 in
+    let left : now ≡ c.list-1.given.0 = search rules in
     let e = c.in-Ok-finish.ensures in
-    let all = drains-items (splice_iter c.walk.new.splice) e.items.0 e.items.1 ∙ items in
+    let all = drains-items drawn e.items.0 e.items.1 ∙ items in
     record {
       allowed = (
         (c.requires.start_le_end, c.requires.in_bounds),
@@ -49,14 +49,15 @@ returns-in-Ok-finish g c =
           search rules,
           replaces-of left (record {
             items = e.items.2 ∙ (λ i. (is.front i ++ all i) ++ is.tail i);
-            capacity = subst (λ n. IsLoose g.G.Growth.rule _ n c.finish.new.self.0.capacity) is.capacity e.capacity;
+            capacity = subst (λ n. IsLoose g.G.Growth.rule _ n now.capacity) is.capacity e.capacity;
             named = named old start end hole alloc is g.G.Growth.rule (param 0 g.row.T)
-                c.finish.new.self.0 _ _ count e.named;
+                now _ _ count e.named;
             within = subst (λ list. IsWithin _ list) (sym left) c.capacity-capacity.ensures.within;
             had_room = λ room.
                 e.had_room (room-left old start end hole alloc is _ _ most room) ∙ is.capacity;
             cost = spliced old start end hole alloc is _ e.cost;
-            cheap = λ cheap. e.cheap (subst IsCheap (sym (left-is old start end hole alloc is)) cheap);
+            cheap = λ cheap.
+                e.cheap (subst IsCheap (sym (left-is old start end hole alloc is)) cheap);
             alloc = e.alloc ∙ is.same;
           }),
         ),
@@ -73,26 +74,27 @@ returns-in-Err-finish g c =
     let iter = k.iter ∙ s.iter in
     let items = ap hinted_items iter ∙ c.new.ensures.items in
     let claim = ap hinted_claim iter ∙ c.new.ensures.claim in
-    let is : IsOpened old start end (splice_hole c.walk.new.splice) (splice_alloc c.walk.new.splice) =
-    record {
+    let drawn = splice_iter c.walk.new.splice in
+    let hole = splice_hole c.walk.new.splice in
+    let alloc = splice_alloc c.walk.new.splice in
+    let is : IsOpened old start end hole alloc = record {
       front = k.front ∙ s.front;
       tail = k.tail ∙ s.tail;
       capacity = k.capacity ∙ s.capacity;
       same = k.alloc ∙ s.alloc;
       cost = k.cost ∙ s.cost;
     } in
-    let hole = splice_hole c.walk.new.splice in
-    let alloc = splice_alloc c.walk.new.splice in
     let width = k.range ∙ s.range in
-    let most : size (hinted_count (splice_iter c.walk.new.splice)) ≡ c.args.lower + length c.args.items.items =
-    omega (arith, claim, ap length items) in
-    let count : hinted_count (splice_iter c.walk.new.splice)
-    ≡ at_most (c.args.lower + length c.args.items.items) =
+    let may = c.args.lower + length c.args.items.items in
+    let most : size (hinted_count drawn) ≡ may = omega (arith, claim, ap length items) in
+    let count : hinted_count drawn ≡ at_most may =
     λ i. at_most (claim i + length (items i)) in
-    let left : c.finish.new.self.0 ≡ c.list-1.given.0 = search rules in
+    let now = c.finish.new.self.0 in
+    let left : now ≡ c.list-1.given.0 = search rules in
     let e = c.in-Err-finish.ensures in
     let refused = c.in-Err-finish.refused in
     let placed = e.placed.0 in
+    let held = refused.held.items in
     record {
       allowed = (
         (c.requires.start_le_end, c.requires.in_bounds),
@@ -100,28 +102,32 @@ returns-in-Err-finish g c =
           search rules,
           stops-of left (record {
             placed = placed;
-            all = sym items ∙ stopped-items (splice_iter c.walk.new.splice) refused.rest placed refused.held.items refused.in_hand e.placed.2;
-            claim = stopped-claim (splice_iter c.walk.new.splice) refused.rest placed refused.held.items refused.in_hand e.placed.2 ∙ claim;
+            all = sym items
+                ∙ stopped-items drawn refused.rest placed held refused.in_hand e.placed.2;
+            claim = stopped-claim drawn refused.rest placed held refused.in_hand e.placed.2
+                ∙ claim;
             filled = record {
               items = e.placed.1 ∙ (λ i. (is.front i ++ placed) ++ is.tail i);
-              capacity = subst (λ n. IsLoose g.G.Growth.rule _ n c.finish.new.self.0.capacity) is.capacity e.capacity;
+              capacity = subst (λ n. IsLoose g.G.Growth.rule _ n now.capacity) is.capacity
+                  e.capacity;
               named = named old start end hole alloc is g.G.Growth.rule (param 0 g.row.T)
-                  c.finish.new.self.0 _ _ count e.named;
-              within = subst (λ list. IsWithin _ list) (sym left) c.capacity-capacity-in-Err-finish.ensures.within;
+                  now _ _ count e.named;
+              within = subst (λ list. IsWithin _ list) (sym left)
+                  c.capacity-capacity-in-Err-finish.ensures.within;
               had_room = λ room.
                   e.had_room (room-left old start end hole alloc is _ _ most room) ∙ is.capacity;
               cost = spliced old start end hole alloc is _ e.cost;
-              cheap = λ cheap. e.cheap (subst IsCheap (sym (left-is old start end hole alloc is)) cheap);
+              cheap = λ cheap.
+                  e.cheap (subst IsCheap (sym (left-is old start end hole alloc is)) cheap);
               alloc = e.alloc ∙ is.same;
             };
             no_room = λ places.
                 false≢true (with-places old start end hole alloc is _ _ _ _ most width
                 e.succeeds (λ none room. e.succeeds_behind none room) places);
             told = subst (λ (t : List _). IsStopCause g.G.Growth.rule (param 0 g.row.T)
-                c.finish.new.self.0 t refused.held.items refused.in_hand (hinted_count refused.rest)
-                refused.cause) is.tail e.cause;
-            ended = stopped-ended (splice_iter c.walk.new.splice) refused.rest placed
-                refused.held.items refused.in_hand e.placed.2;
+                now t held refused.in_hand (hinted_count refused.rest) refused.cause)
+                is.tail e.cause;
+            ended = stopped-ended drawn refused.rest placed held refused.in_hand e.placed.2;
             range = λ more. omega (
               arith,
               width,
