@@ -9,7 +9,8 @@ use std::process::Abort;
 /// How many patterns of answers about k items there are.
 pub const PATTERNS: Cases = [1, 2, 4, 8, 16, 32, 64];
 
-/// Whether the item at `index` of `count` stays, by the pattern of that number: of few items, its binary digits say which go.
+/// Whether the item at `index` of `count` stays, by the pattern of that number: of few items, its
+/// binary digits say which go.
 pub fn stays(count: usize, pattern: usize, index: usize) -> bool {
     if count < PATTERNS.len() {
         return pattern >> (index % 64) & 1 == 0;

@@ -1,4 +1,5 @@
-//! One case: a list of some shape, and beside it the reference, which is made of std's `Vec` and a number.
+//! One case: a list of some shape, and beside it the reference, which is made of std's `Vec` and a
+//! number.
 use crate::ledger::Ledger;
 use crate::samples::Sample;
 use crate::shapes::Shape;
@@ -138,7 +139,8 @@ impl<T: Sample, G: Ruled> Case<T, G> {
         fitting::<T>(G::named(T::SIZE, self.capacity, want))
     }
 
-    /// The capacity that has room for exactly `additional` more items, or `None` where it overflows.
+    /// The capacity that has room for exactly `additional` more items, or `None` where it
+    /// overflows.
     pub fn exact(&self, additional: usize) -> Option<usize> {
         let want = self.items.len().checked_add(additional)?;
         fitting::<T>(want.max(self.capacity))
@@ -175,7 +177,8 @@ impl<T: Sample, G: Ruled> Case<T, G> {
         self.requests != self.at.refused
     }
 
-    /// What a growth among several of a call ends as, that gives the list this capacity. There is none where it has it.
+    /// What a growth among several of a call ends as, that gives the list this capacity. There is
+    /// none where it has it.
     pub fn further_growth(&mut self, capacity: Option<usize>) -> Verdict {
         let Some(wanted) = capacity else {
             return Verdict::Overflow;
@@ -187,7 +190,8 @@ impl<T: Sample, G: Ruled> Case<T, G> {
         }
     }
 
-    /// What a call ends as that makes another list, or a `Vec`, of this capacity and with so many clones.
+    /// What a call ends as that makes another list, or a `Vec`, of this capacity and with so many
+    /// clones.
     pub fn fresh(&mut self, capacity: Option<usize>, clones: usize) -> Verdict {
         match capacity {
             Some(capacity) => self.verdict(u64::from(capacity != 0), clones),
@@ -195,7 +199,8 @@ impl<T: Sample, G: Ruled> Case<T, G> {
         }
     }
 
-    // What a call ends as that asks for so many blocks, and then makes so many clones. What is due is told the case.
+    // What a call ends as that asks for so many blocks, and then makes so many clones. What is due
+    // is told the case.
     fn verdict(&mut self, blocks: u64, clones: usize) -> Verdict {
         let refused = self.at.refused;
         let clones = clones as u64;
@@ -252,7 +257,8 @@ impl<T: Sample, G: Ruled> Case<T, G> {
         same_item(rt, &self.at, item, number);
     }
 
-    /// So many items, numbered from `first` on, have come in behind the others, where the call was not refused.
+    /// So many items, numbered from `first` on, have come in behind the others, where the call was
+    /// not refused.
     pub fn add<R: Abort>(&mut self, rt: &R, first: u64, count: usize, verdict: Verdict) {
         if verdict == Verdict::Done {
             let mut new = numbers(rt, self.ledger, first, count);
@@ -283,7 +289,8 @@ impl<T: Sample, G: Ruled> Case<T, G> {
         );
     }
 
-    /// What a call answered that makes a second list: it has the items of these numbers, and this capacity.
+    /// What a call answered that makes a second list: it has the items of these numbers, and this
+    /// capacity.
     pub fn second<H: Growth, R: Abort>(
         &self,
         rt: &R,
@@ -301,7 +308,8 @@ impl<T: Sample, G: Ruled> Case<T, G> {
         }
     }
 
-    /// Takes the list out of the case, and the numbers of its items. The case has an empty one afterwards.
+    /// Takes the list out of the case, and the numbers of its items. The case has an empty one
+    /// afterwards.
     pub fn take(&mut self) -> (List<T, G>, Vec<u64, Global>) {
         self.capacity = 0;
         let list = mem::replace(&mut self.list, ThinVec::ruled(&self.ledger.alloc));

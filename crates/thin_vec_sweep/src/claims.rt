@@ -3,13 +3,16 @@ ghost use Rattle.std.specs.Prelude.{◌+◌, length};
 ghost use Rattle.std.specs.Iterator.{at_most};
 
 use crate::ledger::{Ledger, count};
+use crate::samples::Counted;
 
-/// Gives its items from the last on, and then `None` for good. Its lower bound is the same at each turn, whatever is left.
+/// Gives its items from the last on, and then `None` for good. Its lower bound is the same at each
+/// turn, whatever is left. It is counted itself, until it is dropped.
 #[derive(Drop)]
 pub struct Claims<T> {
     items: Vec<T>,
     lower: usize,
     ledger: &'static Ledger,
+    itself: Counted,
 }
 
 impl<T> Claims<T> {
@@ -19,6 +22,7 @@ impl<T> Claims<T> {
             items,
             lower,
             ledger,
+            itself: Counted::new(ledger, 0),
         }
     }
 
@@ -28,6 +32,7 @@ impl<T> Claims<T> {
             items,
             lower: _,
             ledger: _,
+            itself: _,
         } = self;
         items
     }

@@ -34,7 +34,8 @@ impl Ledger {
         Box::leak(Box::new(alloc, ledger).ok().expect(rt, "memory"))
     }
 
-    /// Counts requests, clones and questions anew, and refuses the request of that number; none at 0.
+    /// Counts requests, clones and questions anew, and refuses the request of that number; none at
+    /// 0.
     pub fn begin(&self, refused: u64) {
         self.alloc.refuse(refused);
         self.clones.set(0);

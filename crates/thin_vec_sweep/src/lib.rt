@@ -1,21 +1,26 @@
-//! The calls that `calls.rt` lists, swept over lists of a small scope, against a reference made of std's `Vec` and a number.
+//! The calls that `calls.rt` lists, swept over lists of a small scope, against a reference made of
+//! std's `Vec` and a number.
 //!
-//! A sweep makes the call on each shape of a list (`shapes.rt`), with each argument, with memory in plenty and with its
-//! first request refused, its second, and so on until none is. After each it compares what the call answered and handed
-//! back, the items, the capacity, how many requests and clones were made, how many items stand, and how many blocks are out:
-//! then, and once the list is gone. With memory in plenty no call may be refused but by an overflow.
+//! A sweep makes the call on each shape of a list (`shapes.rt`), with each argument, with memory in
+//! plenty and with its first request refused, its second, and so on until none is. After each it
+//! compares what the call answered and handed back, the items, the capacity, how many requests and
+//! clones were made, how many items stand, and how many blocks are out: then, and once the list is
+//! gone. With memory in plenty no call may be refused but by an overflow.
 //!
-//! How a call joins: a struct in a file of `calls/`, with an impl of `Call` (`sweep.rt`), and a line in `calls.rt`. Its
-//! `arguments` says how many arguments are tried on a list of a shape; `run` makes the call. In `run`, in this order: make
-//! what the call is given; ask the reference how it has to end (`growth` where the list's capacity may change, `fresh`
-//! where another list is made, `further_growth` and `granted` one by one where it makes several requests; no question where
-//! it takes no memory); `begin`, from where on requests are counted and refused; the call, behind a test of what it
-//! requires; `answered`, and the same edit of `case.items`. What a closure answers is in `answers.rt`, steps from both ends
-//! are in `walks.rt`: on lists and ranges of up to 6 items all there are. An iterator that a call is given is one of
-//! `claims.rt`, which counts how often it is asked.
+//! How a call joins: a struct in a file of `calls/`, with an impl of `Call` (`sweep.rt`), and a
+//! line in `calls.rt`. Its `arguments` says how many arguments are tried on a list of a shape;
+//! `run` makes the call. In `run`, in this order: make what the call is given; ask the reference
+//! how it has to end (`growth` where the list's capacity may change, `fresh` where another list is
+//! made, `further_growth` and `granted` one by one where it makes several requests; no question
+//! where it takes no memory); `begin`, from where on requests are counted and refused; the call,
+//! behind a test of what it requires; `answered`, and the same edit of `case.items`. What a closure
+//! answers is in `answers.rt`, steps from both ends are in `walks.rt`: on lists and ranges of up to
+//! 6 items all there are. An iterator that a call is given is one of `claims.rt`, which counts how
+//! often it is asked.
 //!
-//! A growth rule joins by an impl of `Ruled` (`other_rules`) and a line in `calls.rt`, and an item type by an impl of
-//! `Sample` (`samples.rt`) and a test.
+//! A growth rule joins by an impl of `Ruled` (`other_rules`) and a test, and an item type by an
+//! impl of `Sample` (`samples.rt`) and tests. A `Scope` (`sweep.rt`) says which shapes a test
+//! sweeps: so few calls a test that each ends within seconds.
 #![tactic(auto)]
 
 #[cfg(test)]

@@ -1,4 +1,4 @@
-//! The items of the swept lists: of no size, of 1 to 320 bytes, counted, and lists themselves.
+//! The items of the swept lists: of no size, of 1 to 512 bytes, counted, and lists themselves.
 ghost use Rattle.std.proofs.Common.{rules};
 ghost use Rattle.std.specs.Cmp.Rules.{comparing};
 ghost use Rattle.std.specs.Prelude.{◌==◌};
@@ -20,8 +20,9 @@ pub trait Sample: Clone + Drop + PartialEq {
     /// How many bytes an item takes.
     const SIZE: usize;
 
-    /// The greatest capacity that fits, worked out by hand: a block is 16 bytes and the items, rounded up to its
-    /// alignment, which is 8 or that of an item, and has to be at most `isize::MAX`.
+    /// The greatest capacity that fits, worked out by hand: a block is 16 bytes and the items,
+    /// rounded up to its alignment, which is 8 or that of an item, and has to be at most
+    /// `isize::MAX`.
     const LIMIT: usize;
 
     /// The item of that number.
@@ -76,7 +77,7 @@ impl Sample for u8 {
     }
 }
 
-impl Sample for u32 {
+impl Sample for i32 {
     const IS_COUNTED: bool = false;
 
     const OWNS_BLOCK: bool = false;
@@ -85,16 +86,22 @@ impl Sample for u32 {
 
     const LIMIT: usize = 2_305_843_009_213_693_946;
 
-    fn nth<R: Abort>(_rt: &R, _ledger: &'static Ledger, number: u64) -> u32 {
-        (number % 4_294_967_291) as u32
+    // Every other number is below 0.
+    fn nth<R: Abort>(_rt: &R, _ledger: &'static Ledger, number: u64) -> i32 {
+        let magnitude = (number % 2_147_483_647) as i32;
+        if number % 2 == 0 {
+            magnitude
+        } else {
+            -magnitude
+        }
     }
 
     fn told(&self) -> u64 {
-        u64::from(*self)
+        u64::from(self.unsigned_abs())
     }
 
     fn telling(number: u64) -> u64 {
-        number % 4_294_967_291
+        number % 2_147_483_647
     }
 }
 
@@ -142,25 +149,25 @@ impl Sample for u128 {
     }
 }
 
-impl Sample for [u64; 40] {
+impl Sample for [u64; 64] {
     const IS_COUNTED: bool = false;
 
     const OWNS_BLOCK: bool = false;
 
-    const SIZE: usize = 320;
+    const SIZE: usize = 512;
 
-    const LIMIT: usize = 28_823_037_615_171_174;
+    const LIMIT: usize = 18_014_398_509_481_983;
 
-    fn nth<R: Abort>(_rt: &R, _ledger: &'static Ledger, number: u64) -> [u64; 40] {
-        let mut words = [0; 40];
+    fn nth<R: Abort>(_rt: &R, _ledger: &'static Ledger, number: u64) -> [u64; 64] {
+        let mut words = [0; 64];
         words[0] = number;
-        words[39] = number;
+        words[63] = number;
         words
     }
 
     // The first word and the last have to agree.
     fn told(&self) -> u64 {
-        if self[0] == self[39] {
+        if self[0] == self[63] {
             self[0]
         } else {
             u64::MAX
@@ -179,7 +186,8 @@ pub struct Counted {
 }
 
 impl Counted {
-    fn new(ledger: &'static Ledger, number: u64) -> Counted {
+    /// It is counted from here until it is dropped.
+    pub fn new(ledger: &'static Ledger, number: u64) -> Counted {
         count(&ledger.standing);
         Counted { ledger, number }
     }

@@ -7,17 +7,27 @@ pub struct Shape {
     pub spare: usize,
 }
 
-/// How many shapes there are.
+/// How many shapes each call is swept over.
 pub const SHAPES: usize = 110;
 
-// How many further items: for a short list, for one of up to 40 items, and for a long one.
+/// How many of them are of at most 40 items.
+pub const SHORT: usize = 107;
+
+/// The number of one shape more: of 50,000 items.
+pub const LONGEST: usize = SHAPES;
+
+// How many further items: for a short list, for one of up to 40 items, for a long one, and for the
+// longest.
 const FEW: [usize; 12] = [0, 1, 2, 3, 4, 5, 6, 7, 8, 9, 17, 100];
 
 const SOME: [usize; 4] = [0, 1, 9, 50];
 
 const MANY: [usize; 2] = [1, 300];
 
-/// How many cases of a call on k items there are, by k, where each is tried: that is on at most 6 items.
+const MOST: [usize; 2] = [1, 50_000];
+
+/// How many cases of a call on k items there are, by k, where each is tried: that is on at most 6
+/// items.
 pub type Cases = [usize; 7];
 
 // How many ranges of a list of more items are tried.
@@ -39,8 +49,8 @@ impl Ranged {
 }
 
 impl Shape {
-    /// The shape of that number: 0 to 4 items with 0 to 4 places beside them, then 0 to 40 items with 0 and 1, and then some
-    /// thousands.
+    /// The shape of that number: 0 to 4 items with 0 to 4 places beside them, then 0 to 40 items
+    /// with 0 and 1, then some thousands, and then the longest.
     pub fn nth(number: usize) -> Shape {
         if number < 25 {
             return Shape {
@@ -64,8 +74,12 @@ impl Shape {
                 length: 5000,
                 spare: 0,
             },
-            _ => Shape {
+            84 => Shape {
                 length: 10000,
+                spare: 0,
+            },
+            _ => Shape {
+                length: 50_000,
                 spare: 0,
             },
         }
@@ -81,7 +95,8 @@ impl Shape {
         self.length < 5
     }
 
-    /// How many requests are refused at most, one after another: all, but where items own blocks and there are many.
+    /// How many requests are refused at most, one after another: all, but where items own blocks
+    /// and there are many.
     pub fn rounds(self) -> u64 {
         if self.is_long() { 2 } else { 50 }
     }
@@ -113,12 +128,13 @@ impl Shape {
         cases.get(self.length).copied().unwrap_or(self.some())
     }
 
-    // How many are tried on more than 6 items.
+    // How many are tried on more than 6 items, where there is no spare room.
     fn some(self) -> usize {
-        if self.is_long() { 2 } else { 20 }
+        self.alone(if self.is_long() { 2 } else { 20 })
     }
 
-    /// How many cases of a call on the items of a range are tried: each on each range, where there are at most 6 items.
+    /// How many cases of a call on the items of a range are tried: each on each range, where there
+    /// are at most 6 items.
     pub fn ranged_cases(self, cases: &Cases) -> usize {
         if self.length >= cases.len() {
             return self.some().saturating_mul(RANGES);
@@ -188,6 +204,8 @@ impl Shape {
     pub fn count(self, number: usize) -> usize {
         let count = if self.is_small() {
             FEW.get(number)
+        } else if self.length > 10000 {
+            MOST.get(number)
         } else if self.is_long() {
             MANY.get(number)
         } else {

@@ -2,9 +2,19 @@
 use crate::case::{At, Case};
 use crate::ledger::Ledger;
 use crate::samples::Sample;
-use crate::shapes::{SHAPES, Shape};
+use crate::shapes::Shape;
 use other_rules::ruled::Ruled;
+use std::ops::Range;
 use std::process::Abort;
+
+/// What a test sweeps over.
+#[derive(Drop)]
+pub struct Scope {
+    /// What the test counts.
+    pub ledger: &'static Ledger,
+    /// The numbers of the shapes that the lists have.
+    pub shapes: Range<usize>,
+}
 
 /// A call that is swept, on lists of `T` under the rule `G`.
 pub trait Call<T: Sample, G: Ruled> {
@@ -16,24 +26,25 @@ pub trait Call<T: Sample, G: Ruled> {
         1
     }
 
-    /// Makes the call on the list of the case and on its reference, and compares what it answers. What stands afterwards
-    /// is compared by whoever calls this.
+    /// Makes the call on the list of the case and on its reference, and compares what it answers.
+    /// What stands afterwards is compared by whoever calls this.
     fn run<R: Abort>(rt: &R, case: &mut Case<T, G>, argument: usize);
 }
 
-/// Sweeps a call. It stays a function of its own, as does `case`: inlined, all calls of an item type would be one function,
-/// and the compiler takes far longer over that.
+/// Sweeps a call. It stays a function of its own, as does `case`: inlined, all calls of an item
+/// type would be one function, and the compiler takes far longer over that.
 #[inline(never)]
-pub fn sweep<C: Call<T, G>, T: Sample, G: Ruled, R: Abort>(rt: &R, ledger: &'static Ledger) {
-    for number in 0..SHAPES {
+pub fn sweep<C: Call<T, G>, T: Sample, G: Ruled, R: Abort>(rt: &R, scope: &Scope) {
+    for number in scope.shapes.start..scope.shapes.end {
         let shape = Shape::nth(number);
         for argument in 0..C::arguments(shape) {
-            until_granted::<C, T, G, R>(rt, ledger, shape, argument);
+            until_granted::<C, T, G, R>(rt, scope.ledger, shape, argument);
         }
     }
 }
 
-// With memory in plenty, and then with the first request refused, the second, and so on until none is.
+// With memory in plenty, and then with the first request refused, the second, and so on until none
+// is.
 fn until_granted<C: Call<T, G>, T: Sample, G: Ruled, R: Abort>(
     rt: &R,
     ledger: &'static Ledger,

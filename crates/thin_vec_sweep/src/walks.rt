@@ -17,7 +17,8 @@ pub struct Walk {
 }
 
 impl Walk {
-    /// The walk of that number over `count` items. Few have each: the binary digits of the number say the steps.
+    /// The walk of that number over `count` items. Few have each: the binary digits of the number
+    /// say the steps.
     pub fn nth(count: usize, number: usize) -> Walk {
         if count >= WALKS.len() {
             return Walk {
@@ -68,7 +69,8 @@ impl Remaining {
         }
     }
 
-    /// The number of the item that has to come now, from the back or the front, of the items of these numbers.
+    /// The number of the item that has to come now, from the back or the front, of the items of
+    /// these numbers.
     pub fn take(&mut self, is_back: bool, numbers: &[u64]) -> Option<u64> {
         if self.start >= self.end {
             return None;

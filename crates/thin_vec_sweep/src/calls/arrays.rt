@@ -7,7 +7,7 @@ use crate::case::{At, Case, Verdict, numbers, same, same_items};
 use crate::ledger::Ledger;
 use crate::samples::Sample;
 use crate::shapes::{SHAPES, Shape};
-use crate::sweep::Call;
+use crate::sweep::{Call, Scope};
 use std::alloc::Allocator;
 use std::process::Abort;
 use thin_vec::{Doubling, ThinVec, ThinVecError, thin_vec};
@@ -44,14 +44,14 @@ impl<T: Sample> Call<T, Doubling> for Listed {
 }
 
 /// Sweeps `into_array` and `from_array`, at arrays of several lengths.
-pub fn every_array<T: Sample, R: Abort>(rt: &R, ledger: &'static Ledger)
+pub fn every_array<T: Sample, R: Abort>(rt: &R, scope: &Scope)
     requires small { 6 * type_size T.row < 2 ^ 63 }
 {
-    arrays::<T, 0, R>(rt, ledger);
-    arrays::<T, 1, R>(rt, ledger);
-    arrays::<T, 2, R>(rt, ledger);
-    arrays::<T, 3, R>(rt, ledger);
-    arrays::<T, 6, R>(rt, ledger);
+    arrays::<T, 0, R>(rt, scope.ledger);
+    arrays::<T, 1, R>(rt, scope.ledger);
+    arrays::<T, 2, R>(rt, scope.ledger);
+    arrays::<T, 3, R>(rt, scope.ledger);
+    arrays::<T, 6, R>(rt, scope.ledger);
 }
 
 // At arrays of N items, on each list of up to 6 items.
@@ -100,7 +100,8 @@ fn array<T: Sample, const N: usize, R: Abort>(rt: &R, ledger: &'static Ledger, a
     case.end(rt);
 }
 
-// The list that an array was made from and turned into, whether there was one, and why the way back was refused.
+// The list that an array was made from and turned into, whether there was one, and why the way back
+// was refused.
 fn there_and_back<T: Sample, A: Allocator, const N: usize, R: Abort>(
     rt: &R,
     at: &At,

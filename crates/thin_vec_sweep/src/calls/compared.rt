@@ -8,7 +8,8 @@ use std::fmt::Debug;
 use std::hash::{DefaultHasher, Hash, Hasher};
 use std::process::Abort;
 
-/// With a list of the same items, of one less or one more, or of another last item, and of other spare room.
+/// With a list of the same items, of one less or one more, or of another last item, and of other
+/// spare room.
 pub struct Compare {}
 
 impl<T: Sample + Ord + Hash + Debug, G: Ruled> Call<T, G> for Compare {

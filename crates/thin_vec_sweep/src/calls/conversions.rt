@@ -48,7 +48,8 @@ impl<T: Sample, G: Ruled> Call<T, G> for IntoOthers {
     }
 }
 
-// The list's items in a `Vec` of the same allocator, which has so many places more. The case has an empty list then.
+// The list's items in a `Vec` of the same allocator, which has so many places more. The case has an
+// empty list then.
 fn vec_of<T: Sample, R: Abort>(
     rt: &R,
     case: &mut Case<T, Doubling>,

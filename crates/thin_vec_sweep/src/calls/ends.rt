@@ -1,5 +1,5 @@
-//! An item, or the rest of a list, comes in or goes out: `push`, `push_reserved`, `pop`, `insert`, `insert_reserved`,
-//! `remove`, `swap_remove`, `truncate`, `clear`.
+//! An item, or the rest of a list, comes in or goes out: `push`, `push_reserved`, `pop`, `insert`,
+//! `insert_reserved`, `remove`, `swap_remove`, `truncate`, `clear`.
 use crate::case::{Case, same};
 use crate::samples::Sample;
 use crate::shapes::Shape;

@@ -12,7 +12,7 @@ use std::process::Abort;
 use thin_vec::{Doubling, ThinVec};
 
 // The number of the last item that comes in: they come from it down.
-const FRESH: u64 = 80_000;
+const FRESH: u64 = 800_000;
 
 // How many hints are tried.
 const HINTS: usize = 10;
@@ -82,8 +82,8 @@ impl Ending {
     }
 }
 
-/// What a list has to come to that is filled behind its items with `count` more: room is made once for the hint, and then
-/// one at a time where there is none left.
+/// What a list has to come to that is filled behind its items with `count` more: room is made once
+/// for the hint, and then one at a time where there is none left.
 pub fn fill<T: Sample, G: Ruled, R: Abort>(
     rt: &R,
     case: &mut Case<T, G>,
@@ -135,7 +135,8 @@ pub fn asked<T: Sample, G: Ruled, R: Abort>(rt: &R, case: &Case<T, G>, ending: &
     );
 }
 
-/// What a refusal hands back: the item in hand, and the items that were not drawn. No item of `count` is lost.
+/// What a refusal hands back: the item in hand, and the items that were not drawn. No item of
+/// `count` is lost.
 pub fn back<T: Sample, G: Ruled, R: Abort>(
     rt: &R,
     case: &Case<T, G>,

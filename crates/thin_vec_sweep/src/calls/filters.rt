@@ -1,7 +1,8 @@
-//! Calls that keep some items, by what a closure answers of them: each is asked in turn, and may write.
+//! Calls that keep some items, by what a closure answers of them: each is asked in turn, and may
+//! write.
 use crate::answers::{PATTERNS, Questions, number_at, stays};
 use crate::case::Case;
-use crate::samples::Sample;
+use crate::samples::{Counted, Sample};
 use crate::shapes::Shape;
 use crate::sweep::Call;
 use other_rules::ruled::Ruled;
@@ -108,7 +109,8 @@ impl<T: Sample, G: Ruled> Call<T, G> for DedupBy {
     }
 }
 
-// What is left where each later item changes places with the last one kept: that one comes last, if the later item stays.
+// What is left where each later item changes places with the last one kept: that one comes last, if
+// the later item stays.
 fn exchanged<R: Abort>(rt: &R, global: Global, count: usize, pattern: usize) -> Vec<u64, Global> {
     let mut left = Vec::new(global);
     let mut last = number_at(0);
@@ -125,7 +127,8 @@ fn exchanged<R: Abort>(rt: &R, global: Global, count: usize, pattern: usize) -> 
     left
 }
 
-/// The key of a later item is 1, and that of the last one kept, which is asked next, is 1 where the later one goes.
+/// The key of a later item is 1, and that of the last one kept, which is asked next, is 1 where the
+/// later one goes. Keys are counted.
 pub struct DedupByKey {}
 
 impl<T: Sample, G: Ruled> Call<T, G> for DedupByKey {
@@ -139,20 +142,21 @@ impl<T: Sample, G: Ruled> Call<T, G> for DedupByKey {
         let count = case.at.shape.length;
         let questions = Questions::new();
         let last = Cell::new(number_at(0));
+        let ledger = case.ledger;
         case.begin();
         case.list.dedup_by_key(|item| {
             let question = questions.next();
             let index = (question / 2).saturating_add(1);
             if question % 2 == 0 {
                 questions.about(&*item, number_at(index));
-                return 1u8;
+                return Counted::new(ledger, 1);
             }
             questions.about(&*item, last.get());
             if stays(count, argument, index) {
                 last.set(number_at(index));
-                return 0;
+                return Counted::new(ledger, 0);
             }
-            1
+            Counted::new(ledger, 1)
         });
         let due = count.saturating_sub(1).saturating_mul(2);
         questions.end(rt, &case.at, due);

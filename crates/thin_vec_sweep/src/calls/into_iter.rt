@@ -63,24 +63,31 @@ impl<T: Sample, G: Ruled> Call<T, G> for IntoIter {
     }
 }
 
-/// `clone`, after some steps from the front.
+/// `clone`, after some steps from the front, or from the back.
 pub struct IntoIterClone {}
 
 impl<T: Sample, G: Ruled> Call<T, G> for IntoIterClone {
     const NAME: &'static str = "clone of into_iter";
 
     fn arguments(shape: Shape) -> usize {
-        steps(shape)
+        steps(shape).saturating_mul(2)
     }
 
     fn run<R: Abort>(rt: &R, case: &mut Case<T, G>, argument: usize) {
-        let steps = step(case.at.shape, argument);
+        let steps = step(case.at.shape, argument / 2);
+        let is_back = argument % 2 == 1;
         let (list, numbers) = case.take();
         let mut rest = list.into_iter();
+        let mut remaining = Remaining::new(numbers.len());
         for _ in 0..steps {
-            drop(rest.next());
+            drop(if is_back {
+                rest.next_back()
+            } else {
+                rest.next()
+            });
+            remaining.take(is_back, numbers.as_slice());
         }
-        let numbers = numbers.as_slice().get(steps..).unwrap_or(&[]);
+        let numbers = remaining.of(numbers.as_slice());
         let count = numbers.len();
         let verdict = case.fresh(Some(count), count);
         case.begin();

@@ -146,7 +146,8 @@ fn calls_and_pattern(width: usize, number: usize) -> (usize, usize) {
     (number % calls, number / calls)
 }
 
-// Extracts by some calls of `next`, and gives up. An item whose turn it is not stays, whatever the pattern says.
+// Extracts by some calls of `next`, and gives up. An item whose turn it is not stays, whatever the
+// pattern says.
 fn extract<T: Sample, A: Allocator, G: Growth, R: Abort>(
     rt: &R,
     at: &At,
@@ -185,6 +186,9 @@ impl<T: Sample, G: Ruled> Call<T, G> for Bounds {
     const NAME: &'static str = "bounds";
 
     fn arguments(shape: Shape) -> usize {
+        if shape.length > 40 {
+            return 0;
+        }
         shape.alone(BOUNDS.saturating_mul(BOUNDS))
     }
 

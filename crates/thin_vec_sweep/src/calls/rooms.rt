@@ -69,8 +69,8 @@ impl<T: Sample, G: Ruled> Call<T, G> for ShrinkToFit {
 // How many great numbers are tried.
 const GREAT: usize = 6;
 
-// How many more items. The great numbers come last: those by which the capacity becomes the greatest that fits, one
-// beyond, and more.
+// How many more items. The great numbers come last: those by which the capacity becomes the
+// greatest that fits, one beyond, and more.
 fn additional<T: Sample>(shape: Shape, argument: usize) -> usize {
     let most = T::LIMIT.saturating_sub(shape.length);
     match argument.checked_sub(shape.counts()) {
@@ -84,7 +84,8 @@ fn additional<T: Sample>(shape: Shape, argument: usize) -> usize {
     }
 }
 
-/// Whether the capacity fits, but would take more memory than there is: then it is only tried where memory is refused.
+/// Whether the capacity fits, but would take more memory than there is: then it is only tried where
+/// memory is refused.
 pub fn is_too_much<T: Sample>(capacity: Option<usize>, refused: u64) -> bool {
     match capacity {
         Some(capacity) => capacity > 1_000_000 && refused != 1 && T::LIMIT < isize::MAX as usize,

@@ -1,4 +1,5 @@
-//! `splice`, finished after any steps, with a hint that is short, true, too great, or past every capacity.
+//! `splice`, finished after any steps, with a hint that is short, true, too great, or past every
+//! capacity.
 ghost use Rattle.std.specs.Iterator.{IsFinite};
 ghost use Rattle.std.specs.Prelude.{◌≤◌, length};
 ghost use Rattle.thin_vec.specs.Splice.{SpliceKeeps};
@@ -25,7 +26,8 @@ const FILLS: usize = 30;
 // How many walks over a range are tried with each fill: no step, and one from either end.
 const SHORT_WALKS: usize = 3;
 
-// Each fill after each short walk, and then each further walk with one fill. On a range of no items a step is tried with few.
+// Each fill after each short walk, and then each further walk with one fill. On a range of no items
+// a step is tried with few.
 const AFTER_STEPS: Cases = [33, 94, 102, 118, 150, 214, 342];
 
 // Each fill, with no step before.
@@ -55,7 +57,8 @@ struct Plan {
 }
 
 impl Plan {
-    // That of the argument, on the list of a case. The hint is due once the places of the range are filled.
+    // That of the argument, on the list of a case. The hint is due once the places of the range are
+    // filled.
     fn new<T: Sample, G: Ruled, R: Abort>(rt: &R, case: &Case<T, G>, argument: usize) -> Plan {
         let shape = case.at.shape;
         let range = shape.ranged_case(&cases(shape), argument);
@@ -75,7 +78,7 @@ impl Plan {
             numbers: numbers(rt, case.ledger, number_at(range.start), width),
             walk: Walk::nth(width, walk),
             count,
-            hint: hint(range.number % HINTS, left),
+            hint: hint(range.number % HINTS, left, count),
         }
     }
 }
@@ -89,28 +92,30 @@ fn few_steps(number: usize) -> usize {
     }
 }
 
-// How many items are given in the place of many: more than the range has, as many, one less, or none.
+// How many items are given in the place of many: far more than the range has, as many, one less, or
+// none.
 fn many(width: usize, number: usize) -> usize {
     match number {
-        0 => width.saturating_add(9),
+        0 => width.saturating_mul(2).saturating_add(9),
         1 => width,
         2 => width.saturating_sub(1),
         _ => 0,
     }
 }
 
-// The lower bound of that number, where so many items are left once it is asked for.
-fn hint(number: usize, left: usize) -> usize {
+// The lower bound of that number, where so many items are left of all, once it is asked for.
+fn hint(number: usize, left: usize, all: usize) -> usize {
     match number {
         0 => 0,
         1 => 1,
         2 => left,
-        3 => 1000,
+        3 => all,
         _ => usize::MAX,
     }
 }
 
-// How `finish` has to end, and what it leaves in the list: with nothing behind the range it is an `extend`.
+// How `finish` has to end, and what it leaves in the list: with nothing behind the range it is an
+// `extend`.
 fn finish<T: Sample, G: Ruled, R: Abort>(rt: &R, case: &mut Case<T, G>, plan: &Plan) -> Ending {
     let range = plan.range;
     let length = case.items.len();
@@ -161,8 +166,8 @@ fn fill_between<T: Sample, G: Ruled>(case: &mut Case<T, G>, width: usize, plan: 
     ending
 }
 
-// How many of `count` items a `Vec` holds that begins empty. It asks for 4 places, or 8 where an item has one byte at most, and
-// then for twice as many as it has.
+// How many of `count` items a `Vec` holds that begins empty. It asks for 4 places, or 8 where an
+// item has one byte at most, and then for twice as many as it has.
 fn hold<T: Sample, G: Ruled>(case: &mut Case<T, G>, count: usize) -> usize {
     let first = if T::SIZE <= 1 { 8 } else { 4 };
     let mut room: usize = 0;
@@ -183,11 +188,7 @@ impl<T: Sample, G: Ruled> Call<T, G> for Spliced {
     const NAME: &'static str = "splice";
 
     fn arguments(shape: Shape) -> usize {
-        if shape.length < AT_ONCE.len() {
-            shape.ranged_cases(&cases(shape))
-        } else {
-            shape.alone(shape.ranged_cases(&AT_ONCE))
-        }
+        shape.ranged_cases(&cases(shape))
     }
 
     fn run<R: Abort>(rt: &R, case: &mut Case<T, G>, argument: usize) {
