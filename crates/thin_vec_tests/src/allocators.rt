@@ -1,86 +1,69 @@
-//! What a call makes is on the allocator that it was passed, and not on the list's own; also what it makes of nothing.
-use crate::items::push_all;
-use crate::standing::{assert_counts, assert_len};
+//! What a call makes is on the allocator that it was passed, and not on the list's own; also what
+//! it makes of nothing.
+use crate::items::list_of;
+use crate::standing::{assert_counts, assert_same};
 use refusing::Refusing;
-use std::alloc::Global;
+use std::alloc::{Allocator, Global};
 use std::process::Abort;
 use thin_vec::ThinVec;
 
-// A list on `one` of so many items, after which requests are counted anew on both.
-fn list_on<'a>(
-    rt: &impl Abort,
-    one: &'a Refusing<Global>,
-    other: &Refusing<Global>,
-    items: i32,
-) -> ThinVec<i32, &'a Refusing<Global>> {
-    let mut list = ThinVec::new(one);
-    push_all(rt, &mut list, 0..items);
-    one.refuse(0);
-    other.refuse(0);
-    list
-}
-
-// Pushes to a `Vec` of so many items, and asserts that it is on `other`, and that `one` has no block.
-fn assert_moved<'a>(
-    rt: &impl Abort,
-    mut vec: Vec<i32, &'a Refusing<Global>>,
-    one: &Refusing<Global>,
-    other: &'a Refusing<Global>,
-    items: i32,
-) {
+// Pushes an item to a `Vec`, which has then one more.
+fn pushed<A: Allocator>(rt: &impl Abort, mut vec: Vec<i32, A>, len: usize) -> Vec<i32, A> {
     vec.push(9).ok().expect(rt, "memory");
-    assert_counts(rt, one, 0, 0);
-    assert_counts(rt, other, if items == 0 { 1 } else { 2 }, 1);
+    assert_same(rt, vec.len(), len.saturating_add(1));
+    vec
 }
 
-#[test]
-fn a_vec_is_on_the_allocator_passed(rt: HostRuntime) {
-    for items in [0, 3] {
-        let one = Refusing::new(rt.alloc(), 0);
-        let other = Refusing::new(rt.alloc(), 0);
-        let list = list_on(&rt, &one, &other, items);
-        let vec = list.into_vec(&other).ok().expect(&rt, "memory");
-        assert_moved(&rt, vec, &one, &other, items);
-    }
+// The list in a `Vec` on `alloc`, and one item more.
+fn in_vec<A: Allocator>(rt: &impl Abort, list: ThinVec<i32, A>, alloc: A) -> Vec<i32, A> {
+    let len = list.len();
+    let vec = list.into_vec(alloc).ok().expect(rt, "memory");
+    pushed(rt, vec, len)
 }
 
-#[test]
-fn a_boxed_slice_is_on_the_allocator_passed(rt: HostRuntime) {
-    for items in [0, 3] {
-        let one = Refusing::new(rt.alloc(), 0);
-        let other = Refusing::new(rt.alloc(), 0);
-        let list = list_on(&rt, &one, &other, items);
-        let boxed = list.into_boxed_slice(&other).ok().expect(&rt, "memory");
-        assert_moved(&rt, boxed.into_vec(), &one, &other, items);
-    }
+// The same, but by a boxed slice.
+fn in_boxed_slice<A: Allocator>(rt: &impl Abort, list: ThinVec<i32, A>, alloc: A) -> Vec<i32, A> {
+    let len = list.len();
+    let boxed = list.into_boxed_slice(alloc).ok().expect(rt, "memory");
+    pushed(rt, boxed.into_vec(), len)
 }
 
-// Clones what remains of a walk over the list, and asserts what is out on either allocator then.
-fn assert_clone_counts<'a>(
+// The same, but by a list that is split off, its clone, and a clone of what that becomes. They are
+// all on `alloc`.
+fn in_second_list<A: Allocator + Copy>(
     rt: &impl Abort,
-    list: ThinVec<i32, &'a Refusing<Global>>,
-    one: &Refusing<Global>,
-    other: &'a Refusing<Global>,
-    items: i32,
-) {
-    let rest = list.into_iter();
-    let again = rest.clone(other).expect(rt, "memory");
-    assert_counts(rt, one, 0, if items == 0 { 0 } else { 1 });
-    assert_counts(rt, other, if items == 0 { 3 } else { 5 }, 3);
-    drop(again);
+    mut list: ThinVec<i32, A>,
+    alloc: A,
+) -> Vec<i32, A> {
+    let tail = list.split_off(alloc, 0).expect(rt, "memory");
+    drop(list);
+    let clone = tail.clone(alloc).expect(rt, "memory");
+    drop(tail);
+    let items = clone.into_iter().clone(alloc).expect(rt, "memory");
+    let mut list = ThinVec::new(alloc);
+    list.extend(items).ok().expect(rt, "memory");
+    in_vec(rt, list, alloc)
+}
+
+// Each way for a list of these items: nothing of it stays on its own allocator, and one block comes
+// from the other.
+fn assert_moved(rt: &impl Abort, alloc: Global, items: &[i32]) {
+    let own = Refusing::new(alloc, 0);
+    let other = Refusing::new(alloc, 0);
+    let first = in_vec(rt, list_of(rt, &own, items), &other);
+    assert_same(rt, (own.blocks(), other.blocks()), (0, 1));
+    drop(first);
+    let second = in_boxed_slice(rt, list_of(rt, &own, items), &other);
+    assert_same(rt, (own.blocks(), other.blocks()), (0, 1));
+    drop(second);
+    let third = in_second_list(rt, list_of(rt, &own, items), &other);
+    assert_same(rt, (own.blocks(), other.blocks()), (0, 1));
+    drop(third);
+    assert_counts(rt, &own, if items.is_empty() { 0 } else { 3 }, 0);
 }
 
 #[test]
-fn a_second_list_is_on_the_allocator_passed(rt: HostRuntime) {
-    for items in [0, 3] {
-        let one = Refusing::new(rt.alloc(), 0);
-        let other = Refusing::new(rt.alloc(), 0);
-        let mut list = list_on(&rt, &one, &other, items);
-        assert_len(&rt, &list, items as usize);
-        let mut tail = list.split_off(&other, 0).expect(&rt, "memory");
-        let mut clone = tail.clone(&other).expect(&rt, "memory");
-        push_all(&rt, &mut tail, 9..10);
-        push_all(&rt, &mut clone, 9..10);
-        assert_clone_counts(&rt, clone, &one, &other, items);
-    }
+fn what_a_call_makes_is_on_the_allocator_passed(rt: HostRuntime) {
+    assert_moved(&rt, rt.alloc(), &[]);
+    assert_moved(&rt, rt.alloc(), &[1, 2, 3]);
 }

@@ -1,4 +1,5 @@
-//! The arguments of `thin_vec!`: each is evaluated once, and in the order in which they are written.
+//! The arguments of `thin_vec!`: each is evaluated once, and in the order in which they are
+//! written.
 use crate::standing::{assert_list, assert_same};
 use std::alloc::Global;
 use std::cell::Cell;

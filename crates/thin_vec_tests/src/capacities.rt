@@ -1,25 +1,11 @@
 //! Which capacity a list has after each call, against numbers worked out by hand.
 use crate::items::push_all;
-use crate::standing::{assert_items, assert_list, assert_same};
+use crate::standing::{assert_list, assert_same};
 use refusing::Refusing;
 use std::alloc::Global;
 use std::ops::Range;
 use std::process::Abort;
 use thin_vec::{ThinVec, ThinVecError};
-
-#[test]
-fn a_list_without_items_owns_no_block(rt: HostRuntime) {
-    let alloc = rt.alloc();
-    for list in [
-        ThinVec::<u64, Global>::new(alloc),
-        ThinVec::default_in(alloc),
-        ThinVec::ruled(alloc),
-        ThinVec::with_capacity(alloc, 0).expect(&rt, "memory"),
-    ] {
-        assert_same(&rt, (list.has_capacity(), list.capacity()), (false, 0));
-        assert_items(&rt, list.as_slice(), &[]);
-    }
-}
 
 #[test]
 fn test_clear(rt: HostRuntime) {

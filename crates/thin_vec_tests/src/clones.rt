@@ -30,19 +30,6 @@ fn test_clone(rt: HostRuntime) {
 }
 
 #[test]
-fn copies_come_in_as_they_are(rt: HostRuntime) {
-    let alloc = rt.alloc();
-    let mut list = ThinVec::from_copies(alloc, &[1, 2]).expect(&rt, "memory");
-    assert_list(&rt, &list, &[1, 2], 2);
-    list.extend_from_copies(&[3, 4, 5]).expect(&rt, "memory");
-    assert_list(&rt, &list, &[1, 2, 3, 4, 5], 5);
-    list.extend_from_copies(&[6]).expect(&rt, "memory");
-    assert_list(&rt, &list, &[1, 2, 3, 4, 5, 6], 10);
-    let copy = list.clone_copies(alloc).expect(&rt, "memory");
-    assert_list(&rt, &copy, &[1, 2, 3, 4, 5, 6], 6);
-}
-
-#[test]
 fn test_clone_from(rt: HostRuntime) {
     let alloc = rt.alloc();
     let three = boxes_of(alloc, &[1, 2, 3]).expect(&rt, "memory");

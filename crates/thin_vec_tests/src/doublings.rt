@@ -1,11 +1,13 @@
-//! How the capacity of a list of numbers grows push by push, and what its blocks have cost: proved, with the numbers.
+//! How the capacity of a list of numbers grows push by push, and what its blocks have cost: proved,
+//! with the numbers.
 ghost use Rattle.std.specs.Prelude.{◌≡◌, ◌+◌, ◌*◌, ◌<◌, ◌≤◌, ◌^◌, [], ◌∷◌, IfOk, OnOk, length};
 ghost use Rattle.thin_vec.specs.ThinVec.{HasRoomFor};
 
 use std::alloc::Allocator;
 use thin_vec::{Rejected, ThinVec, ThinVecError};
 
-/// Five pushes into a new list, and the capacity after each. The one block of 4 places was copied into one of 8.
+/// Five pushes into a new list, and the capacity after each. The one block of 4 places was copied
+/// into one of 8.
 pub fn five_pushes<A: Allocator>(alloc: A) -> Result<(ThinVec<u32, A>, [usize; 5]), ThinVecError>
     ensures capacities { IfOk result (λ made. made.1 ≡ 4 ∷ 4 ∷ 4 ∷ 4 ∷ 8 ∷ []) }
     ensures grown { IfOk result (λ made. made.0.cost.grown ≡ 4) }
@@ -25,7 +27,8 @@ pub fn five_pushes<A: Allocator>(alloc: A) -> Result<(ThinVec<u32, A>, [usize; 5
     Ok((list, [first, second, third, fourth, fifth]))
 }
 
-/// Seventeen pushes into a new list: 28 items were copied into four blocks, of 4, 8, 16 and 32 places.
+/// Seventeen pushes into a new list: 28 items were copied into four blocks, of 4, 8, 16 and 32
+/// places.
 pub fn seventeen_pushes<A: Allocator>(alloc: A) -> Result<ThinVec<u32, A>, ThinVecError>
     ensures len { IfOk result (λ list. length list.items ≡ 17) }
     ensures capacity { IfOk result (λ list. list.capacity ≡ 32) }
@@ -63,7 +66,8 @@ fn push_full<A: Allocator>(list: &mut ThinVec<u32, A>) -> Result<(), ThinVecErro
     requires few { list.old.capacity < 100 }
     ensures len { OnOk result (length list.new.items ≡ length list.old.items + 1) }
     ensures first { list.old.capacity ≡ 0 → OnOk result (list.new.capacity ≡ 4) }
-    ensures twice { 0 < list.old.capacity → OnOk result (list.new.capacity ≡ 2 * list.old.capacity) }
+    ensures twice { 0 < list.old.capacity
+        → OnOk result (list.new.capacity ≡ 2 * list.old.capacity) }
     ensures grown { OnOk result (list.new.cost.grown ≡ list.old.cost.grown + list.old.capacity) }
     ensures blocks { OnOk result (list.new.cost.blocks ≡ list.old.cost.blocks + 1) }
 {

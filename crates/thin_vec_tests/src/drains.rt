@@ -4,14 +4,10 @@ ghost use Rattle.std.specs.List.{fold, remove_range};
 ghost use Rattle.thin_vec.specs.Drain.{drain_lender};
 
 #[cfg(test)]
-use crate::counted::counted_list;
-#[cfg(test)]
 use crate::items::{list_of, push};
 #[cfg(test)]
-use crate::standing::{assert_items, assert_len, assert_list, assert_same, assert_text};
+use crate::standing::{assert_items, assert_len, assert_same};
 use std::alloc::{AllocError, Allocator, Global};
-#[cfg(test)]
-use std::cell::Cell;
 #[cfg(test)]
 use std::mem;
 use std::ops::Bound;
@@ -19,7 +15,8 @@ use std::ops::Bound;
 use std::process::Abort;
 use thin_vec::{Drain, Growth, ThinVec, ThinVecError, bounds};
 
-/// Takes the items from `start` up to `end` out of the list, and answers the greatest of them, or `least` where that is more.
+/// Takes the items from `start` up to `end` out of the list, and answers the greatest of them, or
+/// `least` where that is more.
 pub fn greatest_out(list: &mut ThinVec<u32, Global>, start: usize, end: usize, least: u32) -> u32
     requires start_le_end { start ≤ end }
     requires in_bounds { end ≤ length list.old.items }
@@ -34,7 +31,8 @@ pub fn greatest_out(list: &mut ThinVec<u32, Global>, start: usize, end: usize, l
     greatest
 }
 
-/// Takes the items from `start` up to `end` out, and gives up after one of them. Those before and behind them stay.
+/// Takes the items from `start` up to `end` out, and gives up after one of them. Those before and
+/// behind them stay.
 pub fn without<T: Drop, A: Allocator, G: Growth>(
     list: &mut ThinVec<T, A, G>,
     start: usize,
@@ -49,29 +47,8 @@ pub fn without<T: Drop, A: Allocator, G: Growth>(
     drain.next()
 }
 
-/// Moves the items from `start` up to `end` behind those of `other`, or moves none.
-pub fn move_range<T: Drop, A: Allocator, G: Growth>(
-    list: &mut ThinVec<T, A, G>,
-    start: usize,
-    end: usize,
-    other: &mut ThinVec<T, A, G>,
-) -> Result<(), ThinVecError>
-    requires start_le_end { start ≤ end }
-    requires in_bounds { end ≤ length list.old.items }
-    ensures items { OnOk result (list.new.items ≡ remove_range list.old.items start end) }
-    ensures other_items { OnOk result (other.new.items ≡ other.old.items ++ slice_range list.old.items start end) }
-    ensures err { OnErr result (list.new ≡ list.old) }
-    ensures other_err { OnErr result (other.new ≡ other.old) }
-{
-    other.reserve(end - start)?;
-    for item in list.drain(start, end) {
-        other.push_reserved(item);
-    }
-    Ok(())
-}
-
-/// Appends the items from `start` up to `end` of `list` to `other`, by one call. It uses the `Drain` up: what `list` has then is
-/// seen by a test alone.
+/// Appends the items from `start` up to `end` of `list` to `other`, by one call. It uses the
+/// `Drain` up: what `list` has then is seen by a test alone.
 pub fn extend_by_range(
     list: &mut ThinVec<u32, Global>,
     start: usize,
@@ -80,7 +57,8 @@ pub fn extend_by_range(
 ) -> Result<(), ThinVecError>
     requires start_le_end { start ≤ end }
     requires in_bounds { end ≤ length list.old.items }
-    ensures other_items { OnOk result (other.new.items ≡ other.old.items ++ slice_range list.old.items start end) }
+    ensures other_items { OnOk result
+        (other.new.items ≡ other.old.items ++ slice_range list.old.items start end) }
 {
     match other.extend(list.drain(start, end)) {
         Ok(()) => Ok(()),
@@ -111,7 +89,8 @@ pub fn reversed(
 ) -> Result<Vec<u32>, AllocError>
     requires start_le_end { start ≤ end }
     requires in_bounds { end ≤ length list.old.items }
-    ensures items { IfOk result (λ vec. vec.items ≡ reverse (slice_range list.old.items start end)) }
+    ensures items { IfOk result
+        (λ vec. vec.items ≡ reverse (slice_range list.old.items start end)) }
 {
     list.drain(start, end).rev().collect(alloc)
 }
@@ -249,18 +228,13 @@ fn test_drain_inclusive_range_of_texts(rt: HostRuntime) {
 }
 
 #[test]
-fn a_range_that_is_not_there_has_no_drain(rt: HostRuntime) {
-    let mut list = list_of(&rt, rt.alloc(), &[1, 2, 3]);
-    for &(start, end) in &[
-        (Bound::Included(3), Bound::Excluded(2)),
-        (Bound::Unbounded, Bound::Included(3)),
-        (Bound::Excluded(usize::MAX), Bound::Unbounded),
-        (Bound::Unbounded, Bound::Included(usize::MAX)),
-    ] {
-        let drain = drain_between(&mut list, start, end);
-        assert_same(&rt, drain.is_none(), true);
-    }
-    assert_list(&rt, &list, &[1, 2, 3], 3);
+fn what_an_extend_by_a_drain_leaves(rt: HostRuntime) {
+    let mut list = list_of(&rt, rt.alloc(), &[1, 2, 3, 4]);
+    let mut other = list_of(&rt, rt.alloc(), &[9]);
+    assert_len(&rt, &list, 4);
+    extend_by_range(&mut list, 1, 3, &mut other).expect(&rt, "memory");
+    assert_items(&rt, list.as_slice(), &[1, 4]);
+    assert_items(&rt, other.as_slice(), &[9, 2, 3]);
 }
 
 #[test]
@@ -287,131 +261,10 @@ fn assert_emptied(rt: &impl Abort, list: &mut ThinVec<u32>) {
 }
 
 #[test]
-fn moves_a_range_to_another_list(rt: HostRuntime) {
-    let alloc = rt.alloc();
-    let mut list = list_of(&rt, alloc, &[1u32, 2, 3, 4, 5]);
-    let mut other = list_of(&rt, alloc, &[9u32]);
-    assert_len(&rt, &list, 5);
-    move_range(&mut list, 1, 3, &mut other).expect(&rt, "memory");
-    assert_items(&rt, list.as_slice(), &[1, 4, 5]);
-    assert_items(&rt, other.as_slice(), &[9, 2, 3]);
-    assert_len(&rt, &list, 3);
-    extend_by_range(&mut list, 0, 2, &mut other).expect(&rt, "memory");
-    assert_items(&rt, list.as_slice(), &[5]);
-    assert_items(&rt, other.as_slice(), &[9, 2, 3, 1, 4]);
-    assert_emptied(&rt, &mut list);
-}
-
-// Drains the items 1 to 4 of six by `steps` steps and gives up. The bits of `back`, the lowest first, say which step takes from
-// the back.
-#[cfg(test)]
-fn give_up_after<A: Allocator>(rt: &impl Abort, mut list: ThinVec<i32, A>, steps: u32, back: u32) {
-    assert_len(rt, &list, 6);
-    {
-        let mut drain = list.drain(1, 5);
-        let mut left = [2, 3, 4, 5].as_slice();
-        let mut bits = back;
-        for _ in 0..steps {
-            if bits % 2 == 1 {
-                assert_same(rt, drain.next_back(), left.last().copied());
-                left = but_last(left);
-            } else {
-                assert_same(rt, drain.next(), left.first().copied());
-                left = but_first(left);
-            }
-            bits /= 2;
-        }
-    }
-    assert_list(rt, &list, &[1, 6], 6);
-}
-
-#[cfg(test)]
-fn but_first(items: &[i32]) -> &[i32] {
-    if items.is_empty() {
-        return items;
-    }
-    &items[1..]
-}
-
-#[cfg(test)]
-fn but_last(items: &[i32]) -> &[i32] {
-    if items.is_empty() {
-        return items;
-    }
-    &items[..items.len() - 1]
-}
-
-#[test]
-fn a_drain_may_be_given_up_after_any_steps(rt: HostRuntime) {
-    for steps in 0..6 {
-        for back in 0..32 {
-            let list = list_of(&rt, rt.alloc(), &[1, 2, 3, 4, 5, 6]);
-            give_up_after(&rt, list, steps, back);
-        }
-    }
-}
-
-// Takes steps as these in any list, and drops what is handed out at once: at a concrete type of item that holds a `&` no drain
-// is proved.
-#[cfg(test)]
-fn drop_after<T: Drop>(rt: &impl Abort, list: &mut ThinVec<T>, steps: u32, back: u32) {
-    assert_len(rt, list, 6);
-    let mut drain = list.drain(1, 5);
-    let mut bits = back;
-    for _ in 0..steps {
-        if bits % 2 == 1 {
-            let _last = drain.next_back();
-        } else {
-            let _first = drain.next();
-        }
-        bits /= 2;
-    }
-}
-
-#[test]
-fn a_drain_drops_each_item_once(rt: HostRuntime) {
-    for steps in 0..6 {
-        for back in 0..32 {
-            let drops = Cell::new(0);
-            {
-                let mut list = counted_list(&rt, rt.alloc(), &drops, 6);
-                drop_after(&rt, &mut list, steps, back);
-                assert_same(&rt, (drops.get(), list.len()), (4, 2));
-            }
-            assert_same(&rt, drops.get(), 6);
-        }
-    }
-}
-
-#[test]
-fn drains_nothing(rt: HostRuntime) {
-    let mut list = list_of(&rt, rt.alloc(), &[1, 2, 3, 4, 5, 6]);
-    assert_len(&rt, &list, 6);
-    assert_same(&rt, list.drain(6, 6).next(), None);
-    assert_list(&rt, &list, &[1, 2, 3, 4, 5, 6], 6);
-}
-
-#[test]
-fn drains_all_at_once(rt: HostRuntime) {
-    let mut list = list_of(&rt, rt.alloc(), &[1, 2, 3, 4, 5, 6]);
-    assert_len(&rt, &list, 6);
-    drop(list.drain(0, 6));
-    assert_list(&rt, &list, &[], 6);
-}
-
-#[test]
 fn a_forgotten_drain_leaves_a_list(rt: HostRuntime) {
     let mut list = list_of(&rt, rt.alloc(), &[1, 2, 3]);
     assert_len(&rt, &list, 3);
     mem::forget(list.drain(1, 2));
     push(&rt, &mut list, 9);
     assert_same(&rt, list.as_slice().last(), Some(&9));
-}
-
-#[test]
-fn test_drain_debug(rt: HostRuntime) {
-    let mut list = list_of(&rt, rt.alloc(), &[1, 2, 3]);
-    assert_len(&rt, &list, 3);
-    let drain = list.drain(1, 3);
-    assert_text(&rt, rt.alloc(), &drain, "Drain([2, 3])");
 }

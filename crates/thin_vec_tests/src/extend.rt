@@ -1,13 +1,14 @@
-//! `extend` and `from_iter`: how often the iterator is asked, and what a refusal hands back.
-use crate::answers::Answers;
+//! `extend` and `from_iter`: the Rust crate's own cases, and what a refusal hands back.
+use crate::claims::Claims;
 use crate::counted::Counted;
+use crate::items::list_of;
 use crate::standing::{assert_counts, assert_list, assert_same};
 use refusing::Refusing;
-use std::alloc::{Allocator, Global};
+use std::alloc::Global;
 use std::cell::Cell;
 use std::iter::once;
 use std::process::Abort;
-use thin_vec::{CollectRefused, ExtendRefused, ThinVec, ThinVecError};
+use thin_vec::{ExtendRefused, ThinVec, ThinVecError};
 
 // Extends a list by an item that counts its drop.
 fn extend_counted(rt: &impl Abort, alloc: Global, drops: &Cell<u32>) {
@@ -55,54 +56,12 @@ fn test_collect_capacity(rt: HostRuntime) {
     }
 }
 
-// Asserts that no item was drawn, as the lower bound alone was too great.
-fn assert_nothing_collected<A: Allocator>(
-    rt: &impl Abort,
-    refused: CollectRefused<i32, Answers<'_>, A>,
-) {
-    assert_list(rt, &refused.list, &[], 0);
-    let wanted = (ThinVecError::CapacityOverflow, None);
-    assert_same(rt, (refused.cause, refused.in_hand), wanted);
-}
-
-#[test]
-fn a_from_iter_that_overflows_asks_for_nothing(rt: HostRuntime) {
-    let refusing = Refusing::new(rt.alloc(), 0);
-    let asked = Cell::new(0);
-    let refused = ThinVec::from_iter(&refusing, Answers::new(&[Some(1)], usize::MAX, &asked))
-        .err()
-        .expect(&rt, "accepted");
-    assert_nothing_collected(&rt, refused);
-    assert_same(&rt, (asked.get(), refusing.requests()), (0, 0));
-}
-
-#[test]
-fn asks_no_more_after_the_first_none(rt: HostRuntime) {
-    let alloc = rt.alloc();
-    let asked = Cell::new(0);
-    let answers = [Some(1), None, Some(2)];
-    let mut list = ThinVec::new(alloc);
-    list.extend(Answers::new(&answers, 3, &asked))
-        .ok()
-        .expect(&rt, "memory");
-    assert_list(&rt, &list, &[1], 4);
-    assert_same(&rt, asked.get(), 2);
-
-    let list = ThinVec::from_iter(alloc, Answers::new(&answers, 3, &asked))
-        .ok()
-        .expect(&rt, "memory");
-    assert_list(&rt, &list, &[1], 3);
-    assert_same(&rt, asked.get(), 4);
-}
-
 #[test]
 fn row_26_extend_refused(rt: HostRuntime) {
     let refusing = Refusing::new(rt.alloc(), 2);
-    let asked = Cell::new(0);
-    let answers = [Some(1), Some(2), Some(3), Some(4), Some(5)];
     let mut list = ThinVec::new(&refusing);
     let refused = list
-        .extend(Answers::new(&answers, 0, &asked))
+        .extend(Claims::new(&[1, 2, 3, 4, 5], 0))
         .err()
         .expect(&rt, "accepted");
     assert_list(&rt, &list, &[1, 2, 3, 4], 4);
@@ -117,4 +76,22 @@ fn row_26_extend_refused(rt: HostRuntime) {
         (cause, in_hand, rest.next()),
         (ThinVecError::OutOfMemory, Some(5), None),
     );
+}
+
+// Three items, and then so many more, of which the hint says nothing.
+fn extended_blindly(rt: &impl Abort, alloc: Global, count: i32) -> ThinVec<i32> {
+    let mut list = list_of(rt, alloc, &[1, 2, 3]);
+    let more = (0..count).filter(|_| true);
+    list.extend(more).ok().expect(rt, "memory");
+    list
+}
+
+#[test]
+fn a_long_extend_is_not_refused(rt: HostRuntime) {
+    for count in 0..301 {
+        let list = extended_blindly(&rt, rt.alloc(), count);
+        let len = usize::try_from(count).unwrap_or(0).saturating_add(3);
+        let last = (0..count).last().unwrap_or(3);
+        assert_same(&rt, (list.len(), list.last()), (len, Some(&last)));
+    }
 }

@@ -23,29 +23,3 @@ pub fn untouched<T: Drop, A: Allocator, G: Growth>(
 {
     drop(list.extract_if(start, end, |_item: &mut T| true));
 }
-
-#[test]
-fn an_extraction_asks_in_order_and_only_as_far_as_it_is_walked(rt: HostRuntime) {
-    let mut list = list_of(&rt, rt.alloc(), &[1, 2, 3, 4, 5, 6]);
-    assert_len(&rt, &list, 6);
-    {
-        let mut calls = 0u32;
-        let mut extract = list.extract_if(0, 6, move |_item: &mut i32| {
-            calls = calls.wrapping_add(1);
-            calls % 2 == 1
-        });
-        assert_same(&rt, extract.size_hint(), (0, Some(6)));
-        assert_same(&rt, extract.next(), Some(1));
-        assert_same(&rt, extract.next(), Some(3));
-        assert_same(&rt, extract.size_hint(), (0, Some(3)));
-    }
-    assert_list(&rt, &list, &[2, 4, 5, 6], 6);
-}
-
-#[test]
-fn an_extraction_that_is_not_walked_changes_nothing(rt: HostRuntime) {
-    let mut list = list_of(&rt, rt.alloc(), &[1, 2, 3]);
-    assert_len(&rt, &list, 3);
-    untouched(&mut list, 0, 3);
-    assert_list(&rt, &list, &[1, 2, 3], 3);
-}

@@ -1,6 +1,6 @@
 //! Walks over a list that is used up: what remains, and how they end.
 use crate::items::list_of;
-use crate::standing::{assert_items, assert_list, assert_same, assert_text};
+use crate::standing::{assert_items, assert_list, assert_same};
 use refusing::Refusing;
 use std::alloc::{Allocator, Global};
 use std::process::Abort;
@@ -90,16 +90,6 @@ fn test_move_items(rt: HostRuntime) {
     assert_list(&rt, &moved, &[1, 2, 3, 3, 2, 1], 8);
     let units = moved_twice(&rt, rt.alloc(), &[(), (), ()]);
     assert_same(&rt, units.len(), 6);
-}
-
-#[test]
-fn test_into_iter_debug(rt: HostRuntime) {
-    let alloc = rt.alloc();
-    let letters = list_of(&rt, alloc, &['a', 'b', 'c']).into_iter();
-    assert_text(&rt, alloc, &letters, "IntoIter(['a', 'b', 'c'])");
-    let mut numbers = list_of(&rt, alloc, &[1, 2, 3]).into_iter();
-    assert_same(&rt, numbers.next(), Some(1));
-    assert_text(&rt, alloc, &numbers, "IntoIter([2, 3])");
 }
 
 fn three(rt: &impl Abort, alloc: Global) -> ThinVec<u32, Global> {

@@ -1,21 +1,21 @@
-//! The tests of the list, the block, the table, the uses and the allocator `refusing`, in a crate of their own: one that has
-//! tests is proved twice, and those are proved once.
+//! The tests of the list, the block, the table, the uses and the allocator `refusing`, in a crate
+//! of their own: one that has tests is proved twice, and those are proved once.
 #![tactic(auto)]
 
 #[cfg(test)]
 mod allocators;
 #[cfg(test)]
-mod answers;
-#[cfg(test)]
 mod arguments;
 #[cfg(test)]
 mod capacities;
 #[cfg(test)]
+mod claims;
+#[cfg(test)]
 mod clones;
 #[cfg(test)]
-mod comparisons;
+mod closures;
 #[cfg(test)]
-mod conversions;
+mod comparisons;
 #[cfg(test)]
 mod counted;
 #[cfg(test)]
@@ -38,8 +38,6 @@ mod growth_rules;
 mod into_iter;
 #[cfg(test)]
 mod items;
-#[cfg(test)]
-mod iterating;
 #[cfg(test)]
 mod limits;
 #[cfg(test)]
@@ -66,6 +64,8 @@ mod slices;
 pub mod splices;
 #[cfg(test)]
 mod standing;
+#[cfg(test)]
+mod std_traits;
 #[cfg(test)]
 mod tables;
 #[cfg(test)]

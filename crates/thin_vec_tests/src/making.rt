@@ -6,20 +6,6 @@ use std::cell::Cell;
 use thin_vec::{ThinVec, ThinVecError, thin_vec};
 
 #[test]
-fn a_list_written_out_has_no_spare_room(rt: HostRuntime) {
-    let alloc = rt.alloc();
-    for list in [
-        thin_vec![alloc => 1, 2, 3].expect(&rt, "memory"),
-        thin_vec![alloc => 1, 2, 3,].expect(&rt, "memory"),
-        ThinVec::from_array(alloc, [1, 2, 3])
-            .ok()
-            .expect(&rt, "memory"),
-    ] {
-        assert_list(&rt, &list, &[1, 2, 3], 3);
-    }
-}
-
-#[test]
 fn a_refused_list_written_out_makes_no_item(rt: HostRuntime) {
     let refusing = Refusing::new(rt.alloc(), 1);
     let drops = Cell::new(0);

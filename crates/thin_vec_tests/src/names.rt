@@ -1,4 +1,5 @@
-//! The names that a program takes from the crate, and the traits that it relies on: of each is one use.
+//! The names that a program takes from the crate, and the traits that it relies on: of each is one
+//! use.
 use crate::standing::assert_same;
 use std::alloc::{AllocError, Allocator, Global};
 use std::convert::AsSlice;
@@ -8,10 +9,7 @@ use std::hash::Hash;
 use std::io::Write;
 use std::iter::{ExactSizeIterator, FusedIterator};
 use std::ops::{DerefSlice, DerefSliceMut, Index, IndexMut};
-use thin_vec::{
-    CollectRefused, Doubling, ExtendRefused, Growth, IntoIter, Rejected, ThinVec, ThinVecError,
-    fits, thin_vec,
-};
+use thin_vec::{Doubling, Growth, IntoIter, Rejected, ThinVec, ThinVecError, fits, thin_vec};
 
 // What a list of items that are cloned, compared, hashed and printed is.
 fn is_a_list<L>(_list: &L)
@@ -21,7 +19,7 @@ where
     L: Index<usize, Output = u8> + IndexMut<usize> + IntoIterator<Item = u8> + Write,
 {}
 
-// What the iterator is that it becomes.
+// What the iterator that it becomes is, and a `Drain`.
 fn is_an_iterator<I>(_items: &I)
 where
     I: DoubleEndedIterator + ExactSizeIterator + FusedIterator + Iterator<Item = u8> + Debug + Drop,
@@ -32,9 +30,6 @@ fn is_a_cause<E>(_cause: &E)
 where
     E: Error + Copy + Eq + From<AllocError> + From<Rejected<u8>>,
 {}
-
-// What a refusal is.
-fn is_let_go<S: Drop>(_refused: &S) {}
 
 fn of_a_rule<G: Growth, A: Allocator>(list: &ThinVec<u8, A, G>) -> usize {
     list.capacity()
@@ -48,25 +43,8 @@ fn names_and_traits_are_there(rt: HostRuntime) {
     assert_same(&rt, of_a_rule::<Doubling, Global>(&list), 2);
     let items: IntoIter<u8, Global, Doubling> = list.into_iter();
     is_an_iterator(&items);
+    let mut bytes = ThinVec::new(alloc);
+    is_an_iterator(&bytes.drain(0, 0));
     is_a_cause(&ThinVecError::OutOfMemory);
     assert_same(&rt, fits::<u8>(3), true);
-}
-
-#[test]
-fn refusals_may_be_let_go(rt: HostRuntime) {
-    is_let_go(&Rejected {
-        value: 1,
-        cause: ThinVecError::CapacityOverflow,
-    });
-    is_let_go(&ExtendRefused {
-        cause: ThinVecError::CapacityOverflow,
-        in_hand: Some(1),
-        rest: 0..2,
-    });
-    is_let_go(&CollectRefused {
-        list: ThinVec::<u8, Global>::new(rt.alloc()),
-        cause: ThinVecError::CapacityOverflow,
-        in_hand: Some(1),
-        rest: 0..2,
-    });
 }

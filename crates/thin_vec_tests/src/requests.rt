@@ -47,27 +47,8 @@ fn only_the_second_request_is_refused(rt: HostRuntime) {
     assert_requests(&rt, &refusing, 3);
 }
 
-#[test]
-fn a_refused_growth_changes_nothing(rt: HostRuntime) {
-    let refusing = Refusing::new(rt.alloc(), 0);
-    let mut one = Vec::new(&refusing);
-    assert_push(&rt, &mut one, 1, true);
-    assert_requests(&rt, &refusing, 1);
-
-    refusing.refuse(1);
-    assert_requests(&rt, &refusing, 0);
-    let capacity = one.capacity();
-    assert_reserve(&rt, &mut one, false);
-    assert_holds(&rt, &one, &[1]);
-    assert_same(&rt, one.capacity(), capacity);
-
-    assert_reserve(&rt, &mut one, true);
-    assert_holds(&rt, &one, &[1]);
-    assert_same(&rt, one.capacity() >= 1001, true);
-    assert_requests(&rt, &refusing, 2);
-}
-
-// Pushes to a `Vec` of its own, and asserts how many blocks are out by the refusal, and by the push after it.
+// Pushes to a `Vec` of its own, and asserts how many blocks are out by the refusal, and by the push
+// after it.
 fn assert_blocks_by_pushes(rt: &impl Abort, refusing: &Refusing<Global>) {
     let mut other = Vec::new(refusing);
     assert_push(rt, &mut other, 2, false);
@@ -91,28 +72,6 @@ fn counts_the_blocks_that_are_out(rt: HostRuntime) {
         assert_blocks_by_pushes(&rt, &refusing);
     }
     assert_blocks(&rt, &refusing, 0);
-}
-
-// Asserts how many requests `outer` has had, and how many blocks are out of it and of `inner`.
-fn assert_both(
-    rt: &impl Abort,
-    outer: &Refusing<&Refusing<Global>>,
-    inner: &Refusing<Global>,
-    wanted: (u64, u64, u64),
-) {
-    let counts = (outer.requests(), outer.blocks(), inner.blocks());
-    assert_same(rt, counts, wanted);
-}
-
-#[test]
-fn a_block_that_inner_refuses_is_not_counted(rt: HostRuntime) {
-    let inner = Refusing::new(rt.alloc(), 1);
-    let outer = Refusing::new(&inner, 0);
-    let mut items = Vec::new(&outer);
-    assert_push(&rt, &mut items, 1, false);
-    assert_both(&rt, &outer, &inner, (1, 0, 0));
-    assert_push(&rt, &mut items, 1, true);
-    assert_both(&rt, &outer, &inner, (2, 1, 1));
 }
 
 #[test]

@@ -1,11 +1,12 @@
-//! Callers that count on a list's length being at most its capacity, and on its capacity being small. None has a proof
-//! file, and none asks a list for its length to learn that.
+//! Callers that count on a list's length being at most its capacity, and on its capacity being
+//! small. None has a proof file, and none asks a list for its length to learn that.
 ghost use Rattle.std.specs.Prelude.{◌≡◌, ◌+◌, ◌<◌, ◌≤◌, ◌++◌, IsTrue, OnErr, OnOk, drop, length, take};
 
 use std::alloc::Allocator;
 use thin_vec::{Growth, ThinVec, ThinVecError};
 
-/// Puts another item in the place of the last one, and answers whether there was one. It asks for no memory.
+/// Puts another item in the place of the last one, and answers whether there was one. It asks for
+/// no memory.
 pub fn replace_last<T: Drop, A: Allocator, G: Growth>(list: &mut ThinVec<T, A, G>, value: T) -> bool
     ensures succeeds { 0 < length list.old.items → IsTrue result }
     ensures capacity { list.new.capacity ≡ list.old.capacity }
@@ -16,7 +17,8 @@ pub fn replace_last<T: Drop, A: Allocator, G: Growth>(list: &mut ThinVec<T, A, G
     }
 }
 
-/// Keeps one item alone, that was not in the list, and answers whether it could. It asks for no memory where there was one.
+/// Keeps one item alone, that was not in the list, and answers whether it could. It asks for no
+/// memory where there was one.
 pub fn only<T: Drop, A: Allocator, G: Growth>(list: &mut ThinVec<T, A, G>, value: T) -> bool
     ensures succeeds { 0 < length list.old.items → IsTrue result }
 {
@@ -24,8 +26,8 @@ pub fn only<T: Drop, A: Allocator, G: Growth>(list: &mut ThinVec<T, A, G>, value
     list.push(value).is_ok()
 }
 
-/// Takes out the items from `from` up to `to`, as a list. For putting the rest back no memory is asked: where a cut is
-/// refused, the list has its old items.
+/// Takes out the items from `from` up to `to`, as a list. For putting the rest back no memory is
+/// asked: where a cut is refused, the list has its old items.
 pub fn take_out<T: Drop, A: Allocator + Copy, G: Growth>(
     list: &mut ThinVec<T, A, G>,
     from: usize,
@@ -33,7 +35,8 @@ pub fn take_out<T: Drop, A: Allocator + Copy, G: Growth>(
 ) -> Result<ThinVec<T, A, G>, ThinVecError>
     requires in_order { from ≤ to }
     requires in_bounds { to ≤ length list.old.items }
-    ensures items { OnOk result (list.new.items ≡ take from list.old.items ++ drop to list.old.items) }
+    ensures items { OnOk result
+        (list.new.items ≡ take from list.old.items ++ drop to list.old.items) }
     ensures capacity { list.new.capacity ≡ list.old.capacity }
     ensures err { OnErr result (list.new.items ≡ list.old.items) }
 {

@@ -3,7 +3,8 @@ use crate::counted::Counted;
 use std::alloc::AllocError;
 use std::cell::Cell;
 
-/// It counts its drops in the one cell. Each of its clones takes 1 from the other, and is refused at 0.
+/// It counts its drops in the one cell. Each of its clones takes 1 from the other, and is refused
+/// at 0.
 #[derive(Drop)]
 pub struct Scarce<'a> {
     drops: &'a Cell<u32>,

@@ -1,5 +1,5 @@
-//! What many tests assert. An assertion that is written out takes a second or two to prove in each test, and a call of one of
-//! these hardly any time.
+//! What many tests assert. An assertion that is written out takes a second or two to prove in each
+//! test, and a call of one of these hardly any time.
 ghost use Rattle.std.specs.Prelude.{◌≡◌, length};
 
 use refusing::Refusing;

@@ -1,18 +1,14 @@
-//! What no clause says of the table of `thin_rows`: when memory is asked for and given back, and texts. And many random
-//! calls, beside a map of std's that takes the same calls.
+//! What no clause says of the table of `thin_rows`: when memory is asked for and given back, and
+//! texts. And many random calls, beside a map of std's that takes the same calls.
 ghost use Rattle.std.specs.Prelude.{◌<◌, length};
 
+use crate::standing::{assert_counts, assert_same};
+use crate::texts::assert_texts;
 use refusing::Refusing;
 use std::alloc::{Allocator, Global};
 use std::collections::BTreeMap;
-use std::fmt::Debug;
 use std::process::Abort;
 use thin_rows::{Rows, ThinVecError};
-
-// Asserts that both are the same. Nothing is known of them afterwards.
-fn assert_same<T: PartialEq + Debug + Drop>(rt: &impl Abort, value: T, wanted: T) {
-    assert_eq!(rt; value, wanted);
-}
 
 // Asserts that the table has the row, which its calls ask for.
 fn assert_row<V, A: Allocator>(rt: &impl Abort, table: &Rows<V, A>, row: usize)
@@ -66,24 +62,6 @@ fn assert_value<A: Allocator>(
 ) {
     assert_row(rt, table, place.0);
     assert_same(rt, table.get(place.0, place.1).copied(), value);
-}
-
-// Asserts how many requests were made, and how many blocks are out.
-fn assert_counts(rt: &impl Abort, refusing: &Refusing<Global>, requests: u64, blocks: u64) {
-    assert_same(
-        rt,
-        (refusing.requests(), refusing.blocks()),
-        (requests, blocks),
-    );
-}
-
-#[test]
-fn a_table_without_rows(rt: HostRuntime) {
-    let refusing = Refusing::new(rt.alloc(), 1);
-    let table: Rows<u32, &Refusing<Global>> = Rows::with_rows(&refusing, 0).expect(&rt, "memory");
-    assert_same(&rt, table.rows(), 0);
-    assert_same(&rt, table.len(), 0);
-    assert_counts(&rt, &refusing, 0, 0);
 }
 
 #[test]
@@ -185,7 +163,8 @@ fn drops_each_value_once(rt: HostRuntime) {
     {
         let mut table = Rows::with_rows(alloc, 2).expect(&rt, "memory");
         set_boxes(&rt, &mut table, alloc, &[3, 1, 2, 1]);
-        // Two blocks of the table, and a box for each of three values: the fourth took the place of one.
+        // Two blocks of the table, and a box for each of three values: the fourth took the place of
+        // one.
         assert_same(&rt, refusing.blocks(), 5);
         assert_row(&rt, &table, 0);
         drop(table.remove(0, 3));
@@ -222,11 +201,47 @@ fn a_value_may_have_no_size(rt: HostRuntime) {
 #[test]
 fn prints_each_row_as_a_map(rt: HostRuntime) {
     let alloc = rt.alloc();
-    let mut table = Rows::with_rows(alloc, 3).expect(&rt, "memory");
+    let mut table = Rows::with_rows(alloc, 2).expect(&rt, "memory");
     assert_set(&rt, &mut table, (1, 7), 10, None);
     assert_set(&rt, &mut table, (1, 2), 20, None);
-    let text = format!(in alloc; "{table:?}").expect(&rt, "memory");
-    assert_same(&rt, text.as_str(), "[{}, {2: 20, 7: 10}, {}]");
+    let lines = "[\n    {},\n    {\n        2: 20,\n        7: 10,\n    },\n]";
+    let texts = [
+        "[{}, {2: 20, 7: 10}]",
+        lines,
+        "[{}, {0002: 0020, 0007: 0010}]",
+    ];
+    assert_texts(&rt, alloc, &table, texts);
+}
+
+// Sets an entry in each of so many columns of the row 0, the last column first.
+fn fill_columns<A: Allocator>(rt: &impl Abort, table: &mut Rows<u32, A>, columns: usize) {
+    for column in (0..columns).rev() {
+        assert_set(rt, table, (0, column), 7, None);
+    }
+}
+
+// Beside the table's own block, one for each capacity from 4 up to 4096.
+#[test]
+fn a_row_takes_thousands_of_columns(rt: HostRuntime) {
+    let refusing = Refusing::new(rt.alloc(), 0);
+    let mut table = Rows::with_rows(&refusing, 1).expect(&rt, "memory");
+    fill_columns(&rt, &mut table, 4000);
+    assert_counts(&rt, &refusing, 12, 2);
+    assert_same(&rt, table.len(), 4000);
+    assert_value(&rt, &table, (0, 3999), Some(7));
+}
+
+#[test]
+fn a_full_row_makes_no_request_for_an_entry_that_is_there(rt: HostRuntime) {
+    let refusing = Refusing::new(rt.alloc(), 0);
+    let mut table = Rows::with_rows(&refusing, 1).expect(&rt, "memory");
+    fill_columns(&rt, &mut table, 4);
+    refusing.refuse(1);
+    assert_set(&rt, &mut table, (0, 3), 8, Some(7));
+    assert_removed(&rt, &mut table, (0, 0), Some(7));
+    assert_removed(&rt, &mut table, (0, 9), None);
+    assert_counts(&rt, &refusing, 0, 2);
+    assert_entries(&rt, &table, 0, &[(1, 7), (2, 7), (3, 8)]);
 }
 
 // Numbers that are the same in each run.
@@ -248,7 +263,8 @@ impl Numbers {
 
 type Reference = BTreeMap<(usize, usize), u32>;
 
-// One random call of a table and of the reference, whose answers are the same. A refused call changes neither.
+// One random call of a table and of the reference, whose answers are the same. A refused call
+// changes neither.
 fn call_both<A: Allocator>(
     rt: &impl Abort,
     table: &mut Rows<u32, A>,
@@ -326,15 +342,6 @@ fn run_both(rt: &impl Abort, refusing: &Refusing<Global>, alloc: Global, rows: u
         }
     }
     assert_both(rt, &table, &reference);
-}
-
-#[test]
-fn holds_what_a_map_of_std_holds(rt: HostRuntime) {
-    let refusing = Refusing::new(rt.alloc(), 0);
-    for rows in 0..51 {
-        run_both(&rt, &refusing, rt.alloc(), rows, 2000);
-    }
-    assert_same(&rt, refusing.blocks(), 0);
 }
 
 #[test]

@@ -1,4 +1,5 @@
-//! Lists written out in generic code, whose items nothing is known of, not even their size or that they may be dropped.
+//! Lists written out in generic code, whose items nothing is known of, not even their size or that
+//! they may be dropped.
 ghost use Rattle.std.specs.Mem.{type_size};
 ghost use Rattle.std.specs.Prelude.{◌≡◌, ◌*◌, ◌^◌, ◌<◌, [], ◌∷◌, IfOk, IfSome};
 
