@@ -11,6 +11,7 @@ mod ExtendLemmas
 mod IntoIterLemmas
 mod HoleLemmas
 mod FillingLemmas
+mod ReplacingLemmas
 mod DrainLemmas
 mod SiftingLemmas
 mod PairsLemmas

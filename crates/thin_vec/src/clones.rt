@@ -64,20 +64,21 @@ impl<T: Copy, A: Allocator, G: Growth> ThinVec<T, A, G> {
         Ok(list)
     }
 
-    // Copies `items` into the spare room, as one run.
-    pub(crate) fn extend_from_copies_reserved(&mut self, items: &[T])
+    /// `extend_from_copies` into room that the caller has shown to be there: it returns no `Result`.
+    /// (own)
+    pub fn extend_from_copies_reserved(&mut self, items: &[T])
         requires room { HasRoomFor self.old (length items.now) }
-        requires within { IsWithin T.row self.old }
         ensures items { self.new.items ≡ self.old.items ++ items.now }
         ensures capacity { self.new.capacity ≡ self.old.capacity }
         ensures alloc { self.new.alloc ≡ self.old.alloc }
         ensures cost { self.new.cost ≡ moving (length items.now) self.old.cost }
-        ensures within { IsWithin T.row self.new }
+        ensures cheap { IsCheap self.old → IsCheap self.new }
+        ensures within { IsWithin T.row self.old × IsWithin T.row self.new }
     {
+        let len = self.block.len();
         if items.is_empty() {
             return;
         }
-        let len = self.block.len();
         self.block.copy_in(len, items);
         self.block.store_len(len + items.len());
     }
@@ -203,8 +204,9 @@ impl<T: Clone, A: Allocator, G: Growth> ThinVec<T, A, G> {
         Ok(list)
     }
 
-    // Clones of `items` go into the spare room. Where one fails, those made before it are dropped.
-    pub(crate) fn extend_from_slice_reserved(&mut self, items: &[T]) -> Result<(), ThinVecError>
+    /// `extend_from_slice` into room that the caller has shown to be there: it fails only where a
+    /// clone does, as `OutOfMemory`. The clones made until then are dropped. (own)
+    pub fn extend_from_slice_reserved(&mut self, items: &[T]) -> Result<(), ThinVecError>
         requires room { HasRoomFor self.old (length items.now) }
         ensures succeeds { All T.is_infallible items.now → IsOk result }
         ensures items { OnOk result

@@ -101,7 +101,7 @@ impl<T, A: Allocator, G: Growth> ThinVec<T, A, G> {
 
     // The list's block with `count` empty slots before the item at `at`: the items from there on
     // move up, as one run. The list is left empty and without a block.
-    fn open_wide(&mut self, at: usize, count: usize) -> Hole<T, A>
+    pub(crate) fn open_wide(&mut self, at: usize, count: usize) -> Hole<T, A>
         requires in_bounds { at ≤ length self.old.items }
         requires room { HasRoomFor self.old count }
         ensures front { result.front ≡ take at self.old.items }

@@ -24,6 +24,7 @@ mod pairs;
 mod placing;
 mod ranges;
 mod replacing;
+mod replacing_clones;
 mod sifting;
 mod splice;
 mod traits;

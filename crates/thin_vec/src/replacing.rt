@@ -13,9 +13,11 @@ use std::alloc::Allocator;
 use thin_block::{Growth, ThinVecError};
 
 impl<T: Copy, A: Allocator, G: Growth> ThinVec<T, A, G> {
-    /// Puts copies of `items` in the place of the items from `start` up to `end`, which are dropped. (own)
+    /// Puts copies of `items` in the place of the items from `start` up to `end`, which are
+    /// dropped. (own)
     ///
-    /// It fails as `reserve` does for the items that come in beyond the range, and then nothing changes.
+    /// It fails as `reserve` does for the items that come in beyond the range, and then nothing
+    /// changes.
     pub fn replace_range_from_copies(
         &mut self,
         start: usize,
@@ -26,14 +28,21 @@ impl<T: Copy, A: Allocator, G: Growth> ThinVec<T, A, G> {
         requires in_bounds { end ≤ length self.old.items }
         ensures succeeds { HasRoomFor self.old (length items.now - (end - start)) → IsOk result }
         ensures succeeds_shorter { length items.now ≤ end - start → IsOk result }
-        ensures overflow { capacity_for G.rule T.row self.old (length items.now - (end - start)) ≡ None → IsErrOf result ThinVecError.CapacityOverflow }
-        ensures cause { IfErr result (IsCause (capacity_for G.rule T.row self.old (length items.now - (end - start)))) }
+        ensures overflow { capacity_for G.rule T.row self.old (length items.now - (end - start))
+            ≡ None → IsErrOf result ThinVecError.CapacityOverflow }
+        ensures cause { IfErr result (IsCause (capacity_for G.rule T.row self.old
+            (length items.now - (end - start)))) }
 
         // The capacity is the ruled one.
-        ensures items { OnOk result (self.new.items ≡ replace_range self.old.items start end items.now) }
-        ensures capacity { OnOk result (capacity_for G.rule T.row self.old (length items.now - (end - start)) ≡ Some self.new.capacity) }
-        ensures had_room { HasRoomFor self.old (length items.now - (end - start)) → self.new.capacity ≡ self.old.capacity }
-        ensures cost { OnOk result (self.new.cost ≡ moving (moves_replacing self.old start end (length items.now)) (cost_at self.old self.new.capacity)) }
+        ensures items { OnOk result (self.new.items
+            ≡ replace_range self.old.items start end items.now) }
+        ensures capacity { OnOk result (capacity_for G.rule T.row self.old (length items.now -
+            (end - start)) ≡ Some self.new.capacity) }
+        ensures had_room { HasRoomFor self.old (length items.now - (end - start))
+            → self.new.capacity ≡ self.old.capacity }
+        ensures cost { OnOk result (self.new.cost
+            ≡ moving (moves_replacing self.old start end (length items.now))
+            (cost_at self.old self.new.capacity)) }
         ensures alloc { self.new.alloc ≡ self.old.alloc }
         ensures cheap { IsCheap self.old → IsCheap self.new }
         ensures err { OnErr result (self.new ≡ self.old) }
@@ -57,7 +66,8 @@ impl<T: Copy, A: Allocator, G: Growth> ThinVec<T, A, G> {
         ensures items { self.new.items ≡ replace_range self.old.items start end items.now }
         ensures capacity { self.new.capacity ≡ self.old.capacity }
         ensures alloc { self.new.alloc ≡ self.old.alloc }
-        ensures cost { self.new.cost ≡ moving (moves_replacing self.old start end (length items.now)) self.old.cost }
+        ensures cost { self.new.cost ≡ moving (moves_replacing self.old start end
+            (length items.now)) self.old.cost }
         ensures within { IsWithin T.row self.new }
     {
         let mut hole = self.open_range(start, end, items.len());
@@ -67,10 +77,11 @@ impl<T: Copy, A: Allocator, G: Growth> ThinVec<T, A, G> {
 }
 
 impl<T: Drop, A: Allocator, G: Growth> ThinVec<T, A, G> {
-    /// Moves all items of `other` to the place of the items from `start` up to `end`, which are dropped. `other` is left empty,
-    /// with its capacity. (own)
+    /// Moves all items of `other` to the place of the items from `start` up to `end`, which are
+    /// dropped. `other` is left empty, with its capacity. (own)
     ///
-    /// It fails as `reserve` does for the items that come in beyond the range, and then neither list changes.
+    /// It fails as `reserve` does for the items that come in beyond the range, and then neither
+    /// list changes.
     pub fn replace_range_from_list(
         &mut self,
         start: usize,
@@ -79,16 +90,24 @@ impl<T: Drop, A: Allocator, G: Growth> ThinVec<T, A, G> {
     ) -> Result<(), ThinVecError>
         requires start_le_end { start ≤ end }
         requires in_bounds { end ≤ length self.old.items }
-        ensures succeeds { HasRoomFor self.old (length other.old.items - (end - start)) → IsOk result }
+        ensures succeeds { HasRoomFor self.old (length other.old.items - (end - start))
+            → IsOk result }
         ensures succeeds_shorter { length other.old.items ≤ end - start → IsOk result }
-        ensures overflow { capacity_for G.rule T.row self.old (length other.old.items - (end - start)) ≡ None → IsErrOf result ThinVecError.CapacityOverflow }
-        ensures cause { IfErr result (IsCause (capacity_for G.rule T.row self.old (length other.old.items - (end - start)))) }
+        ensures overflow { capacity_for G.rule T.row self.old (length other.old.items -
+            (end - start)) ≡ None → IsErrOf result ThinVecError.CapacityOverflow }
+        ensures cause { IfErr result (IsCause (capacity_for G.rule T.row self.old
+            (length other.old.items - (end - start)))) }
 
         // The capacity is the ruled one.
-        ensures items { OnOk result (self.new.items ≡ replace_range self.old.items start end other.old.items) }
-        ensures capacity { OnOk result (capacity_for G.rule T.row self.old (length other.old.items - (end - start)) ≡ Some self.new.capacity) }
-        ensures had_room { HasRoomFor self.old (length other.old.items - (end - start)) → self.new.capacity ≡ self.old.capacity }
-        ensures cost { OnOk result (self.new.cost ≡ moving (moves_replacing self.old start end (length other.old.items)) (cost_at self.old self.new.capacity)) }
+        ensures items { OnOk result (self.new.items
+            ≡ replace_range self.old.items start end other.old.items) }
+        ensures capacity { OnOk result (capacity_for G.rule T.row self.old
+            (length other.old.items - (end - start)) ≡ Some self.new.capacity) }
+        ensures had_room { HasRoomFor self.old (length other.old.items - (end - start))
+            → self.new.capacity ≡ self.old.capacity }
+        ensures cost { OnOk result (self.new.cost
+            ≡ moving (moves_replacing self.old start end (length other.old.items))
+            (cost_at self.old self.new.capacity)) }
         ensures alloc { self.new.alloc ≡ self.old.alloc }
         ensures cheap { IsCheap self.old → IsCheap self.new }
 
@@ -123,7 +142,8 @@ impl<T: Drop, A: Allocator, G: Growth> ThinVec<T, A, G> {
         ensures items { self.new.items ≡ replace_range self.old.items start end other.old.items }
         ensures capacity { self.new.capacity ≡ self.old.capacity }
         ensures alloc { self.new.alloc ≡ self.old.alloc }
-        ensures cost { self.new.cost ≡ moving (moves_replacing self.old start end (length other.old.items)) self.old.cost }
+        ensures cost { self.new.cost ≡ moving (moves_replacing self.old start end
+            (length other.old.items)) self.old.cost }
         ensures within { IsWithin T.row self.new }
         ensures other_items { other.new.items ≡ [] }
         ensures other_capacity { other.new.capacity ≡ other.old.capacity }
@@ -136,8 +156,9 @@ impl<T: Drop, A: Allocator, G: Growth> ThinVec<T, A, G> {
         self.close(hole);
     }
 
-    // Drops the items from `start` up to `end`. Answers the list's block, open where they were, with room there for `count`
-    // items: those behind the range move up, as one run, where that is more. The list is left empty and without a block.
+    // Drops the items from `start` up to `end`. Returns the list's block, open where they were,
+    // with room there for `count` items: those after the range move up, as one run, where that is
+    // more. The list is left empty and without a block.
     fn open_range(&mut self, start: usize, end: usize, count: usize) -> Hole<T, A>
         requires start_le_end { start ≤ end }
         requires in_bounds { end ≤ length self.old.items }
@@ -149,7 +170,9 @@ impl<T: Drop, A: Allocator, G: Growth> ThinVec<T, A, G> {
         ensures tail { result.tail ≡ drop end self.old.items }
         ensures other_capacity { result.capacity ≡ self.old.capacity }
         ensures from { IsOf result.alloc self.old.alloc }
-        ensures other_cost { result.cost ≡ (if count - (end - start) == 0 then self.old.cost else moving (length self.old.items - end) self.old.cost) }
+        ensures other_cost { result.cost ≡ (if count -
+            (end - start) == 0 then self.old.cost else moving
+            (length self.old.items - end) self.old.cost) }
         ensures items { self.new.items ≡ [] }
         ensures alloc { self.new.alloc ≡ self.old.alloc }
     {
@@ -164,7 +187,8 @@ impl<T: Drop, A: Allocator, G: Growth> ThinVec<T, A, G> {
 }
 
 impl<T, A: Allocator> Hole<T, A> {
-    // Moves the items of `other` behind the front, as one run. `other` is left empty, with its block.
+    // Moves the items of `other` after the front, as one run. `other` is left empty, with its
+    // block.
     fn fill_from_list<G: Growth>(&mut self, other: &mut ThinVec<T, A, G>)
         requires room { length other.old.items ≤ self.old.before }
         ensures same { self.new ≡ record self.old {
@@ -187,7 +211,7 @@ impl<T, A: Allocator> Hole<T, A> {
 }
 
 impl<T: Copy, A: Allocator> Hole<T, A> {
-    // Copies `items` behind the front, as one run.
+    // Copies `items` after the front, as one run.
     fn fill_from_copies(&mut self, items: &[T])
         requires room { length items.now ≤ self.old.before }
         ensures { self.new ≡ record self.old {

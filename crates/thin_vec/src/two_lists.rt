@@ -50,7 +50,7 @@ impl<T, A: Allocator, G: Growth> ThinVec<T, A, G> {
             Ok(()) => (),
             Err(cause) => return Err(cause),
         }
-        self.append_reserved(other, 0);
+        self.append_reserved(other);
         Ok(())
     }
 
@@ -80,13 +80,31 @@ impl<T, A: Allocator, G: Growth> ThinVec<T, A, G> {
         ensures other_within { IfOk result (λ tail. IsWithin T.row tail) }
     {
         let mut tail = ThinVec::with_fitting_capacity(alloc, self.len() - at)?;
-        tail.append_reserved(self, at);
+        tail.append_from(self, at);
         Ok(tail)
+    }
+
+    /// `append` into room that the caller has shown to be there: it returns no `Result`. (own)
+    pub fn append_reserved(&mut self, other: &mut ThinVec<T, A, G>)
+        requires room { HasRoomFor self.old (length other.old.items) }
+        ensures items { self.new.items ≡ self.old.items ++ other.old.items }
+        ensures capacity { self.new.capacity ≡ self.old.capacity }
+        ensures alloc { self.new.alloc ≡ self.old.alloc }
+        ensures cost { self.new.cost ≡ moving (length other.old.items) self.old.cost }
+        ensures cheap { IsCheap self.old → IsCheap self.new }
+        ensures other_items { other.new.items ≡ [] }
+        ensures other_capacity { other.new.capacity ≡ other.old.capacity }
+        ensures other_cost { other.new.cost ≡ other.old.cost }
+        ensures other_alloc { other.new.alloc ≡ other.old.alloc }
+        ensures within { IsWithin T.row self.old × IsWithin T.row self.new }
+        ensures other_within { IsWithin T.row other.old × IsWithin T.row other.new }
+    {
+        self.append_from(other, 0);
     }
 
     // Moves the items of `other` from `start` on to the end of this list, into spare room, as one
     // run.
-    fn append_reserved(&mut self, other: &mut ThinVec<T, A, G>, start: usize)
+    fn append_from(&mut self, other: &mut ThinVec<T, A, G>, start: usize)
         requires in_bounds { start ≤ length other.old.items }
         requires room { HasRoomFor self.old (length other.old.items - start) }
         ensures items { self.new.items ≡ self.old.items ++ drop start other.old.items }

@@ -1,4 +1,4 @@
--- The copies lie behind the front.
+-- The copies lie after the front.
 use Rattle.thin_block.specs.Cost.{moving}
 use Rattle.std.proofs.Common.{◌≡◌, ◌+◌, ◌-◌, ◌++◌, ◌∙◌, ap, arith, length, refl}
 use Rattle.thin_vec.specs.Hole.{open_of}

@@ -1,4 +1,4 @@
--- The items of the other list lie behind the front, and its own slots are empty.
+-- The items of the other list lie after the front, and its own slots are empty.
 use Rattle.thin_block.specs.Cost.{moving}
 use Rattle.thin_block.specs.Slots.{full, items_in, laid, run}
 use Rattle.std.proofs.Common.{◌≡◌, ◌+◌, ◌-◌, ◌++◌, ◌∙◌, List, Option, ap, arith, length, take}

@@ -4,7 +4,7 @@ use Rattle.std.proofs.Common.{◌++◌, ◌∙◌, ap, arith, length}
 use Rattle.thin_block.specs.Slots.{items_in}
 use Rattle.thin_vec.proofs.TwoListsLemmas.{settle-more}
 use Rattle.thin_vec.proofs.ListLemmas.{Settled}
-use Rattle.thin_vec.proofs.ThinVecLemmas.{within-settled}
+use Rattle.thin_vec.proofs.ThinVecLemmas.{within-kept, within-of}
 use Rattle.thin_vec.proofs.list.ThinVec.extend_from_copies_reserved.Goals as goal
 
 facts : (g : _) (c : goal.After-store_len g) → Settled c.store_len.new.self c.self.inside.alloc
@@ -31,7 +31,7 @@ returns-clause-items g c = (facts g c).items ∙ ap (λ v. v.items ++ c.args.ite
 
 pub returns-clause-within : goal.returns-clause-within
 returns-clause-within g c =
-    within-settled _ _ _ _ _ c.len-len.ensures.slots_fit (facts g c)
+    within-kept _ _ _ _ _ _ c.self.invariant c.self.view_is c.len-len.ensures.slots_fit (facts g c)
 
 pub returns-clause-alloc : goal.returns-clause-alloc
 returns-clause-alloc g c = search (arith, ◌∙◌)
@@ -41,3 +41,8 @@ returns-clause-capacity g c = grind (arith, common_steps)
 
 pub returns-then-is_empty-clause-items : goal.returns-then-is_empty-clause-items
 returns-then-is_empty-clause-items g c = grind (arith, common_steps)
+
+pub returns-then-is_empty-clause-within : goal.returns-then-is_empty-clause-within
+returns-then-is_empty-clause-within g c =
+    let same = within-of _ _ _ _ c.self.invariant c.self.view_is c.len-len.ensures.slots_fit in
+    (same, same)

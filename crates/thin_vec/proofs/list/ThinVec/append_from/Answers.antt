@@ -4,7 +4,7 @@ use Rattle.thin_block.specs.Slots.{items_in}
 use Rattle.thin_vec.proofs.TwoListsLemmas.{settle-cut, settle-joined}
 use Rattle.thin_vec.proofs.ListLemmas.{Settled, thin-filled}
 use Rattle.thin_vec.proofs.ThinVecLemmas.{within-kept}
-use Rattle.thin_vec.proofs.list.ThinVec.append_reserved.Goals as goal
+use Rattle.thin_vec.proofs.list.ThinVec.append_from.Goals as goal
 
 pub move_run_to-requires-clause-filled : goal.move_run_to-requires-clause-filled
 move_run_to-requires-clause-filled g c = λ i low high.

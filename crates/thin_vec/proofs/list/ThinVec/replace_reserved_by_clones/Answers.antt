@@ -1,0 +1,145 @@
+-- The clones lie after the range and after the list until all are made.
+use Rattle.std.proofs.Common.{if◌then◌else◌, ◌≡◌, ◌+◌, ◌-◌, ◌≤◌, ◌++◌, ◌∙◌, ap, arith, eqb, length, length-append, min, subst, sym}
+use Rattle.std.proofs.lemmas.List.Elements.{length_all_zip}
+use Rattle.std.specs.List.{AllZip, replace_range}
+use Rattle.thin_block.specs.Cost.{moving}
+use Rattle.thin_vec.specs.Replacing.{MovesAtMost, ReplacesByClones}
+use Rattle.thin_vec.proofs.FillingLemmas.{any-err, moving-add}
+use Rattle.thin_vec.proofs.ReplacingLemmas.{all_zip-append, at-most-le, at-most-more, brought-in, cloning-moves, if-le, put-and-gone, replaced-length}
+use Rattle.thin_vec.proofs.list.ThinVec.replace_reserved_by_clones.Goals as goal
+
+pub returns-in_err-insert_clones_reserved-clause-refused :
+    goal.returns-in_err-insert_clones_reserved-clause-refused
+returns-in_err-insert_clones_reserved-clause-refused g c =
+    any-err c.from_residual.result (λ _. at-most-le c.in_err-insert_clones_reserved.ensures.refused
+    (omega (arith, c.split_at.ensures.back_len)))
+
+pub extend_from_slice_reserved-requires : goal.extend_from_slice_reserved-requires
+extend_from_slice_reserved-requires g c =
+    record {
+      room =
+          omega (
+            arith,
+            replaced-length g.T.Clone.is_clone c.args.self.now.items c.args.end
+                c.split_at.result.1.now c.insert_clones_reserved.new.self.items c.requires.in_bounds
+                c.in_ok-insert_clones_reserved.ensures.items,
+            c.split_at.ensures.back_len,
+            c.split_at.ensures.front_len,
+            c.in_ok-insert_clones_reserved.ensures.capacity,
+            c.requires.room,
+          );
+    }
+
+pub drop_range-requires-clause-in_bounds : goal.drop_range-requires-clause-in_bounds
+drop_range-requires-clause-in_bounds g c =
+    omega (
+      arith,
+      ap length c.in-Err.ensures.err_items,
+      replaced-length g.T.Clone.is_clone c.args.self.now.items c.args.end
+          c.split_at.result.1.now c.insert_clones_reserved.new.self.items c.requires.in_bounds
+          c.in_ok-insert_clones_reserved.ensures.items,
+      c.requires.in_bounds,
+    )
+
+pub returns-in-Err-clause-err_items : goal.returns-in-Err-clause-err_items
+returns-in-Err-clause-err_items g c =
+    let put = c.in_ok-insert_clones_reserved.ensures.items in
+    c.drop_range.ensures.items
+    ∙ put-and-gone c.args.self.now.items put.copies c.extend_from_slice_reserved.new.self.items
+    c.args.end (length c.split_at.result.1.now) c.requires.in_bounds
+    (sym (length_all_zip g.T.Clone.is_clone c.split_at.result.1.now put.copies put.cloned))
+    (c.in-Err.ensures.err_items ∙ put.items)
+
+pub returns-in-Err-clause-refused : goal.returns-in-Err-clause-refused
+returns-in-Err-clause-refused g c =
+    let n = length c.args.self.now.items in
+    let k2 = length c.split_at.result.1.now in
+    let stopped = c.in-Err.ensures.refused in
+    let long = replaced-length g.T.Clone.is_clone c.args.self.now.items c.args.end
+    c.split_at.result.1.now c.insert_clones_reserved.new.self.items c.requires.in_bounds
+    c.in_ok-insert_clones_reserved.ensures.items in
+    let inserted : MovesAtMost (k2 + (n - c.args.end)) c.args.self.now.cost
+    c.insert_clones_reserved.new.self.cost =
+    record {
+      moves = _;
+      few = if-le (eqb k2 (c.args.end - c.args.end)) k2 (n - c.args.end);
+      cost = c.in_ok-insert_clones_reserved.ensures.cost;
+    } in
+    let within : stopped.at ≤ length c.split_at.result.0.now = omega (arith, stopped.in_bounds) in
+    let tried = at-most-more inserted within stopped.cost in
+    let gone = at-most-more tried
+    (if-le (eqb 0 (c.args.end + k2 - c.args.end)) 0
+    (length c.extend_from_slice_reserved.new.self.items - (c.args.end + k2)))
+    c.drop_range.ensures.cost in
+    at-most-le gone
+    (omega (
+      arith,
+      long,
+      ap length c.in-Err.ensures.err_items,
+      c.split_at.ensures.back_len,
+      c.split_at.ensures.front_len,
+    ))
+
+pub replace_by_last-requires-clause-in_bounds : goal.replace_by_last-requires-clause-in_bounds
+replace_by_last-requires-clause-in_bounds g c =
+    let more = c.in_default.ensures.items in
+    omega (
+      arith,
+      ap length more.1,
+      length-append c.insert_clones_reserved.new.self.items more.0,
+      length_all_zip g.T.Clone.is_clone c.split_at.result.0.now more.0 more.2,
+      replaced-length g.T.Clone.is_clone c.args.self.now.items c.args.end
+          c.split_at.result.1.now c.insert_clones_reserved.new.self.items c.requires.in_bounds
+          c.in_ok-insert_clones_reserved.ensures.items,
+      c.requires.in_bounds,
+    )
+
+pub returns-clause-items : goal.returns-clause-items
+returns-clause-items g c =
+    let put = c.in_ok-insert_clones_reserved.ensures.items in
+    let more = c.in_default.ensures.items in
+    record {
+      copies = more.0 ++ put.copies;
+      cloned =
+          subst (λ l. AllZip g.T.Clone.is_clone l (more.0 ++ put.copies))
+          (sym c.split_at.ensures.by_index.0)
+          (all_zip-append g.T.Clone.is_clone c.split_at.result.0.now c.split_at.result.1.now
+          more.0 put.copies more.2 put.cloned);
+      items =
+          c.replace_by_last.ensures.items
+          ∙ brought-in c.args.self.now.items more.0 put.copies
+          c.extend_from_slice_reserved.new.self.items c.args.start c.args.end
+          (length c.split_at.result.0.now) c.requires.start_le_end c.requires.in_bounds
+          (sym (length_all_zip g.T.Clone.is_clone c.split_at.result.0.now more.0 more.2))
+          (more.1 ∙ ap (λ l. l ++ more.0) put.items);
+    }
+
+pub returns-clause-cost : goal.returns-clause-cost
+returns-clause-cost g c =
+    let more = c.in_default.ensures.items in
+    let n = length c.args.self.now.items in
+    let k1 = length c.split_at.result.0.now in
+    let k2 = length c.split_at.result.1.now in
+    let w = length c.extend_from_slice_reserved.new.self.items in
+    let all : w ≡ n + k2 + k1 =
+    omega (
+      arith,
+      ap length more.1,
+      length-append c.insert_clones_reserved.new.self.items more.0,
+      length_all_zip g.T.Clone.is_clone c.split_at.result.0.now more.0 more.2,
+      replaced-length g.T.Clone.is_clone c.args.self.now.items c.args.end
+          c.split_at.result.1.now c.insert_clones_reserved.new.self.items c.requires.in_bounds
+          c.in_ok-insert_clones_reserved.ensures.items,
+    ) in
+    let first : k1 ≡ min (length c.args.items.now) (c.args.end - c.args.start) =
+    omega (arith, c.split_at.ensures.front_len, c.min.ensures) in
+    let sum = cloning-moves (length c.args.items.now) (c.args.end - c.args.start)
+    (n - c.args.end) k1 k2 (w - k1 - c.args.end) (c.args.end - c.args.end) (omega arith) first
+    (omega (arith, c.split_at.ensures.back_len, c.split_at.ensures.front_len))
+    (omega (arith, all, c.requires.in_bounds)) in
+    c.replace_by_last.ensures.cost
+    ∙ (ap (λ q. moving (k1 + (if eqb k1 (c.args.end - c.args.start) then 0
+    else w - k1 - c.args.end)) q)
+    (c.in_default.ensures.cost ∙ (ap (λ q. moving k1 q)
+    c.in_ok-insert_clones_reserved.ensures.cost ∙ moving-add _ _ _))
+    ∙ (moving-add _ _ _ ∙ ap (λ m. moving m c.args.self.now.cost) sum))
