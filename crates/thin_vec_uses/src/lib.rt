@@ -2,11 +2,14 @@
 #![tactic(auto)]
 
 pub mod first_list;
+pub mod indices;
 pub mod moved_range;
 pub mod moves;
 pub mod own_error;
 pub mod refused_push;
+pub mod replaced_range;
 pub mod reserved_room;
+pub mod shown_room;
 pub mod sorting;
 pub mod sparse_counts;
 pub mod std_errors;
