@@ -12,7 +12,9 @@ pub mod into_iter;
 pub mod joins;
 pub mod ranges;
 pub mod reads;
+pub mod replaced;
 pub mod rooms;
+pub mod shown;
 pub mod splices;
 
 use crate::calls::arrays::Listed;
@@ -30,7 +32,9 @@ use crate::calls::into_iter::{IntoIter, IntoIterClone};
 use crate::calls::joins::{Append, SplitOff};
 use crate::calls::ranges::{Bounds, Drained, Extracted};
 use crate::calls::reads::{AsMutSlice, Index, IndexMut, Iterate, IterateMut, Read};
+use crate::calls::replaced::{ReplaceRange, ReplaceRangeFromCopies, ReplaceRangeFromList};
 use crate::calls::rooms::{Reserve, ReserveExact, ShrinkToFit};
+use crate::calls::shown::{AppendReserved, ExtendFromCopiesReserved, ExtendFromSliceReserved};
 use crate::calls::splices::Spliced;
 use crate::samples::Sample;
 use crate::sweep::{Scope, sweep};
@@ -67,6 +71,20 @@ pub fn every_edit<T: Sample, G: Ruled, R: Abort>(rt: &R, scope: &Scope) {
     sweep::<SplitOff, T, G, R>(rt, scope);
     sweep::<IntoIter, T, G, R>(rt, scope);
     sweep::<IntoOthers, T, G, R>(rt, scope);
+}
+
+/// Sweeps the calls that put items in the place of a range, and those that fill room that was shown.
+pub fn every_replacing<T: Sample, G: Ruled, R: Abort>(rt: &R, scope: &Scope) {
+    sweep::<ReplaceRange, T, G, R>(rt, scope);
+    sweep::<ReplaceRangeFromList, T, G, R>(rt, scope);
+    sweep::<AppendReserved, T, G, R>(rt, scope);
+    sweep::<ExtendFromSliceReserved, T, G, R>(rt, scope);
+}
+
+/// Sweeps those of them that copy the items.
+pub fn every_replacing_by_copies<T: Sample + Copy, G: Ruled, R: Abort>(rt: &R, scope: &Scope) {
+    sweep::<ReplaceRangeFromCopies, T, G, R>(rt, scope);
+    sweep::<ExtendFromCopiesReserved, T, G, R>(rt, scope);
 }
 
 /// Sweeps the calls that ask a closure which items stay, and those by which the items of a range go

@@ -2,7 +2,7 @@
 use crate::calls::arrays::every_array;
 use crate::calls::{
     every_bound, every_call_of_bytes, every_comparing, every_copying, every_edit, every_filter,
-    every_growth, every_making, every_reading,
+    every_growth, every_making, every_reading, every_replacing, every_replacing_by_copies,
 };
 use crate::ledger::Ledger;
 use crate::samples::{Counted, Inner};
@@ -252,6 +252,26 @@ fn sweeps_edits_of_i32_by_powers(rt: HostRuntime) {
 fn sweeps_readings_of_i32_by_powers(rt: HostRuntime) {
     let scope = all(&rt, rt.alloc());
     every_reading::<i32, PowerBytes, _>(&rt, &scope);
+}
+
+#[test]
+fn sweeps_replaced_ranges_of_units(rt: HostRuntime) {
+    let scope = short(&rt, rt.alloc());
+    every_replacing::<(), Doubling, _>(&rt, &scope);
+    every_replacing_by_copies::<(), Doubling, _>(&rt, &scope);
+}
+
+#[test]
+fn sweeps_replaced_ranges_of_i32(rt: HostRuntime) {
+    let scope = short(&rt, rt.alloc());
+    every_replacing::<i32, PowerBytes, _>(&rt, &scope);
+    every_replacing_by_copies::<i32, Doubling, _>(&rt, &scope);
+}
+
+#[test]
+fn sweeps_replaced_ranges_of_counted_items(rt: HostRuntime) {
+    let scope = short(&rt, rt.alloc());
+    every_replacing::<Counted, Doubling, _>(&rt, &scope);
 }
 
 #[test]

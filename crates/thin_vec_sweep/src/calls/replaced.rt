@@ -1,0 +1,140 @@
+//! Ranges that give way to other items: `replace_range` and its kin.
+use crate::case::{Case, Verdict, filled, numbers, source};
+use crate::samples::Sample;
+use crate::shapes::{Cases, Ranged, Shape};
+use crate::sweep::Call;
+use other_rules::ruled::Ruled;
+use std::process::Abort;
+
+// The number of the first item that comes in.
+const FRESH: u64 = 80_000;
+
+// How many counts of items are tried for each range.
+const COUNTS: usize = 7;
+
+// Each count for each range.
+const EACH_COUNT: Cases = [COUNTS; 7];
+
+// How many items come in: none, one, about as many as the range has, and many.
+fn count_for(range: Ranged) -> usize {
+    let width = range.width();
+    match range.number % COUNTS {
+        0 => 0,
+        1 => 1,
+        2 => width.saturating_sub(1),
+        3 => width,
+        4 => width.saturating_add(1),
+        5 => width.saturating_add(2),
+        _ => width.saturating_add(9),
+    }
+}
+
+// So many items, numbered from `FRESH` on, have come in for the range, where the call did not fail.
+fn replaced<T: Sample, G: Ruled, R: Abort>(
+    rt: &R,
+    case: &mut Case<T, G>,
+    range: Ranged,
+    count: usize,
+    verdict: Verdict,
+) {
+    if verdict != Verdict::Done {
+        return;
+    }
+    let mut left = numbers(rt, case.ledger, FRESH, count);
+    let before = case.items.get(..range.start).unwrap_or(&[]);
+    let after = case.items.get(range.end..).unwrap_or(&[]);
+    let mut items = Vec::new(case.ledger.global);
+    items.extend_from_slice(before).expect(rt, "memory");
+    items.append(&mut left).expect(rt, "memory");
+    items.extend_from_slice(after).expect(rt, "memory");
+    case.items = items;
+}
+
+/// By clones.
+pub struct ReplaceRange {}
+
+impl<T: Sample, G: Ruled> Call<T, G> for ReplaceRange {
+    const NAME: &'static str = "replace_range";
+
+    fn arguments(shape: Shape) -> usize {
+        shape.ranged_cases(&EACH_COUNT)
+    }
+
+    fn run<R: Abort>(rt: &R, case: &mut Case<T, G>, argument: usize) {
+        let range = case.at.shape.ranged_case(&EACH_COUNT, argument);
+        let count = count_for(range);
+        let new: Vec<T> = source(rt, case.ledger, FRESH, count);
+        let capacity = case.ruled(count);
+        let verdict = case.growth(capacity, count);
+        case.begin();
+        if range.start > range.end || range.end > case.list.len() {
+            return;
+        }
+        let answer = case
+            .list
+            .replace_range(range.start, range.end, new.as_slice());
+        case.answered(rt, answer, verdict);
+        replaced(rt, case, range, count, verdict);
+    }
+}
+
+/// By copies.
+pub struct ReplaceRangeFromCopies {}
+
+impl<T: Sample + Copy, G: Ruled> Call<T, G> for ReplaceRangeFromCopies {
+    const NAME: &'static str = "replace_range_from_copies";
+
+    fn arguments(shape: Shape) -> usize {
+        shape.ranged_cases(&EACH_COUNT)
+    }
+
+    fn run<R: Abort>(rt: &R, case: &mut Case<T, G>, argument: usize) {
+        let range = case.at.shape.ranged_case(&EACH_COUNT, argument);
+        let count = count_for(range);
+        let new: Vec<T> = source(rt, case.ledger, FRESH, count);
+        let capacity = case.ruled(count.saturating_sub(range.width()));
+        let verdict = case.growth(capacity, 0);
+        case.begin();
+        if range.start > range.end || range.end > case.list.len() {
+            return;
+        }
+        let answer = case
+            .list
+            .replace_range_from_copies(range.start, range.end, new.as_slice());
+        case.answered(rt, answer, verdict);
+        replaced(rt, case, range, count, verdict);
+    }
+}
+
+/// By the items of another list, with no spare room.
+pub struct ReplaceRangeFromList {}
+
+impl<T: Sample, G: Ruled> Call<T, G> for ReplaceRangeFromList {
+    const NAME: &'static str = "replace_range_from_list";
+
+    fn arguments(shape: Shape) -> usize {
+        shape.ranged_cases(&EACH_COUNT)
+    }
+
+    fn run<R: Abort>(rt: &R, case: &mut Case<T, G>, argument: usize) {
+        let range = case.at.shape.ranged_case(&EACH_COUNT, argument);
+        let length = count_for(range);
+        let mut other = filled(rt, case.ledger, Shape { length, spare: 0 }, FRESH);
+        let capacity = case.ruled(length.saturating_sub(range.width()));
+        let verdict = case.growth(capacity, 0);
+        case.begin();
+        if range.start > range.end || range.end > case.list.len() {
+            return;
+        }
+        let answer = case
+            .list
+            .replace_range_from_list(range.start, range.end, &mut other);
+        case.answered(rt, answer, verdict);
+        replaced(rt, case, range, length, verdict);
+
+        // The other list is empty now, or as it was, and has its block.
+        let left = if verdict == Verdict::Done { 0 } else { length };
+        let numbers = numbers(rt, case.ledger, FRESH, left);
+        case.stands(rt, &other, numbers.as_slice(), length);
+    }
+}
