@@ -18,8 +18,9 @@ use thin_runner::command::{Command, Reply};
 use thin_runner::judge::Judge;
 use thin_runner::runner::{run, step};
 use thin_vec::{Doubling, Growth, PowerBytes, ThinVec, ThinVecError, thin_vec};
+use worked_rows::checks::Checks;
 use worked_rows::reporting::{Status, report, report_rows, write_row};
-use worked_rows::rows::{Outcome, row};
+use worked_rows::rows::{Outcome, ROWS, row};
 
 // These commands, in a list of their own.
 fn commands_of<A: Allocator, G: Growth, R: Abort, const N: usize>(
@@ -112,18 +113,25 @@ fn runs_under_each_growth_rule(rt: HostRuntime) {
     assert_capacity::<Fourfold, _>(&rt, alloc, 16);
 }
 
-// Asserts that a run whose first request is refused is refused, and gives no reply.
+// Asserts that a run whose first request is refused is refused, and leaves the reply that was there alone.
 fn assert_refused<'a, T: Clone + Eq, R: Abort>(
     rt: &R,
     alloc: Lender<'a>,
     list: &mut ThinVec<T, Lender<'a>>,
     commands: Vec<Command<T, Lender<'a>>, Lender<'a>>,
 ) {
-    let mut replies = Vec::new(alloc);
+    let mut replies = Vec::with_capacity(alloc, 1).expect(rt, "memory");
+    let earlier = Reply::Refused(ThinVecError::CapacityOverflow);
+    put(&mut replies, earlier).ok().expect(rt, "memory");
     alloc.refuse(1);
     let refused = run(alloc, list, commands, &mut replies, &Agrees);
     assert!(rt; refused == Err(ThinVecError::OutOfMemory));
-    assert!(rt; replies.is_empty());
+    assert!(rt;
+        matches!(
+            replies.as_slice(),
+            [Reply::Refused(ThinVecError::CapacityOverflow)]
+        )
+    );
 }
 
 #[test]
@@ -297,11 +305,19 @@ fn assert_row<R: Abort>(rt: &R, alloc: Global, outcome: Outcome, line: &str, sta
     assert_eq!(rt; text.as_str(), line);
 }
 
+// One value is compared, which is right or not.
+fn compared(right: bool) -> Checks {
+    let mut checks = Checks::new();
+    checks.is(right);
+    checks
+}
+
 #[test]
-fn a_row_that_overflows_has_failed(rt: HostRuntime) {
+fn a_row_that_overflows_or_compares_nothing_has_failed(rt: HostRuntime) {
     for (outcome, line, status) in [
-        (Ok(true), "row 7 ok\n", Status::EveryRowOk),
-        (Ok(false), "row 7 failed\n", Status::RowFailed),
+        (Ok(compared(true)), "row 7 ok\n", Status::EveryRowOk),
+        (Ok(compared(false)), "row 7 failed\n", Status::RowFailed),
+        (Ok(Checks::new()), "row 7 failed\n", Status::RowFailed),
         (
             Err(ThinVecError::CapacityOverflow),
             "row 7 failed\n",
@@ -317,48 +333,93 @@ fn a_row_that_overflows_has_failed(rt: HostRuntime) {
     }
 }
 
-// How many requests each row makes, counted by hand: a row that does another's work makes others.
-const REQUESTS: [(u32, u64); 23] = [
-    (1, 2),
-    (2, 2),
-    (3, 2),
-    (4, 6),
-    (5, 2),
-    (6, 1),
-    (10, 5),
-    (11, 2),
-    (15, 2),
-    (17, 1),
-    (19, 1),
-    (20, 2),
-    (22, 0),
-    (23, 2),
-    (24, 10),
-    (25, 2),
-    (27, 19),
-    (28, 3),
-    (29, 2),
-    (30, 5),
-    (31, 3),
-    (32, 4),
-    (36, 3),
+// How many values each row compares, and how many requests it makes, counted by hand: a row that compares less, or does another's
+// work, has other numbers.
+const COUNTS: [(u32, u32, Option<u64>); 35] = [
+    (1, 5, Some(0)),
+    (2, 12, Some(2)),
+    (3, 11, Some(2)),
+    (4, 3, Some(6)),
+    (5, 7, Some(2)),
+    (6, 11, Some(1)),
+    (7, 7, Some(1)),
+    (8, 10, Some(1)),
+    (9, 6, Some(1)),
+    (10, 16, Some(5)),
+    (11, 13, Some(2)),
+    (13, 5, Some(1)),
+    (14, 9, Some(2)),
+    (15, 22, Some(2)),
+    (17, 6, Some(1)),
+    (18, 7, Some(0)),
+    (19, 11, Some(1)),
+    (20, 18, Some(2)),
+    (21, 29, Some(3)),
+    (22, 13, Some(0)),
+    (23, 13, Some(2)),
+    (24, 28, Some(10)),
+    (25, 9, Some(2)),
+    (27, 20, Some(19)),
+    (28, 13, Some(3)),
+    (29, 10, Some(2)),
+    (30, 5, Some(6)),
+    (31, 17, Some(3)),
+    (32, 33, Some(4)),
+    (33, 15, Some(1)),
+    (34, 12, Some(2)),
+    (35, 4, None),
+    (36, 10, Some(3)),
+    (40, 11, Some(2)),
+    (41, 6, Some(5)),
 ];
 
-// Asserts that a row is ok, makes so many requests, and leaves no block.
-fn assert_requests<R: Abort>(rt: &R, alloc: Global, number: u32, requests: u64) {
+// Asserts that a row is ok, compares so many values, makes so many requests, where that is told, and leaves no block.
+fn assert_counts(rt: &impl Abort, alloc: Global, number: u32, values: u32, requests: Option<u64>) {
     let refusing = Refusing::new(alloc, 0);
-    assert!(rt; matches!(row(&refusing, number), Ok(true)), "row {number}");
+    let checks = row(&refusing, number).ok().expect(rt, "no refusal");
+    assert!(rt; checks.is_ok(), "row {number}");
+    assert_eq!(rt; (number, checks.compared()), (number, values));
+    let made = refusing.requests();
     assert_eq!(rt;
-        (number, refusing.requests(), refusing.blocks()),
-        (number, requests, 0)
+        (number, made, refusing.blocks()),
+        (number, requests.unwrap_or(made), 0)
     );
 }
 
 #[test]
-fn each_row_makes_its_own_requests(rt: HostRuntime) {
-    for (number, requests) in REQUESTS {
-        assert_requests(&rt, rt.alloc(), number, requests);
+fn each_row_compares_its_values_and_makes_its_requests(rt: HostRuntime) {
+    let mut numbers = ROWS.iter();
+    for (number, values, requests) in COUNTS {
+        assert_eq!(rt; numbers.next(), Some(&number));
+        assert_counts(&rt, rt.alloc(), number, values, requests);
     }
+}
+
+// Asserts that one value more was found wrong.
+fn assert_wrong(rt: &impl Abort, checks: Checks, values: u32) {
+    assert_eq!(rt; (checks.compared(), checks.is_ok()), (values, false));
+}
+
+// The list 1, 2 is compared with these items and this capacity.
+fn held(rt: &impl Abort, alloc: Global, items: &[u32], capacity: usize) -> Checks {
+    let list = thin_vec![alloc => 1, 2].expect(rt, "memory");
+    let mut checks = Checks::new();
+    checks.holds(&list, items, capacity);
+    checks
+}
+
+#[test]
+fn each_comparison_sees_a_wrong_value(rt: HostRuntime) {
+    let alloc = rt.alloc();
+    assert!(rt; held(&rt, alloc, &[1, 2], 2).is_ok());
+    assert_wrong(&rt, held(&rt, alloc, &[1, 3], 2), 4);
+    assert_wrong(&rt, held(&rt, alloc, &[1, 2, 3], 2), 4);
+    assert_wrong(&rt, held(&rt, alloc, &[1], 2), 3);
+    assert_wrong(&rt, held(&rt, alloc, &[1, 2], 3), 4);
+    let mut checks = Checks::new();
+    checks.same(1, 2);
+    checks.is(true);
+    assert_wrong(&rt, checks, 2);
 }
 
 // Three pushes of lists of one item.

@@ -2,5 +2,6 @@
 //! the tests of the program that runs them.
 #![tactic(auto)]
 
+pub mod checks;
 pub mod reporting;
 pub mod rows;

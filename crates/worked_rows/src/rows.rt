@@ -11,13 +11,14 @@ mod others;
 mod plain;
 mod splices;
 
+use crate::checks::Checks;
 use crate::rows::bulk::{row_15, row_24, row_25, row_27, row_28};
-use crate::rows::commands::{row_1, row_41};
+use crate::rows::commands::row_41;
 use crate::rows::edits::{row_7, row_8, row_9, row_18, row_33, row_35};
 use crate::rows::filters::{row_13, row_14, row_34};
 use crate::rows::forms::{row_3, row_20, row_29, row_30, row_31, row_36};
 use crate::rows::others::{row_21, row_40};
-use crate::rows::plain::{row_2, row_4, row_5, row_6, row_17, row_19, row_23};
+use crate::rows::plain::{row_1, row_2, row_4, row_5, row_6, row_17, row_19, row_23};
 use crate::rows::splices::{row_10, row_11, row_22, row_32};
 use std::alloc::Allocator;
 use thin_vec::{ThinVec, ThinVecError};
@@ -28,10 +29,10 @@ pub const ROWS: [u32; 35] = [
     30, 31, 32, 33, 34, 35, 36, 40, 41,
 ];
 
-/// Whether a row gave what it is to give, or why a call of it was refused that is not to be.
-pub type Outcome = Result<bool, ThinVecError>;
+/// What a row compared, or why a call of it was refused that is not to be.
+pub type Outcome = Result<Checks, ThinVecError>;
 
-/// Does the row of that number.
+/// Does the row of that number. Where there is none, nothing is compared.
 pub fn row<A: Allocator + Copy>(alloc: A, number: u32) -> Outcome {
     match number {
         1 => row_1(alloc),
@@ -69,21 +70,16 @@ pub fn row<A: Allocator + Copy>(alloc: A, number: u32) -> Outcome {
         36 => row_36(alloc),
         40 => row_40(alloc),
         41 => row_41(alloc),
-        _ => Ok(false),
+        _ => Ok(Checks::new()),
     }
 }
 
-// A list of these numbers, without room to spare.
-fn listed<A: Allocator, const N: usize>(
+// A list of these items, without room to spare.
+fn listed<T: Drop, A: Allocator, const N: usize>(
     alloc: A,
-    items: [i32; N],
-) -> Result<ThinVec<i32, A>, ThinVecError>
-    ensures items { IfOk result (λ list. list.items ≡ items.entry) }
+    items: [T; N],
+) -> Result<ThinVec<T, A>, ThinVecError>
+    ensures items { IfOk result (λ list. list.items ≡ items) }
 {
     Ok(ThinVec::from_array(alloc, items)?)
-}
-
-// Whether the list has these items and this capacity.
-fn holds<T: PartialEq, A: Allocator>(list: &ThinVec<T, A>, items: &[T], capacity: usize) -> bool {
-    list.as_slice() == items && list.capacity() == capacity
 }

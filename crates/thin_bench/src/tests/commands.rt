@@ -1,7 +1,7 @@
 //! Each command with each of its replies, and worked runs, with each of their requests refused in turn.
 use crate::tests::model::{Model, both};
 use crate::tests::orders::{Form, KINDS, Kind, Order, Shown, command_of, show};
-use crate::tests::samples::{Evens, Lender, Sample, Wavers, put};
+use crate::tests::samples::{Evens, Lender, Odd, Sample, Wavers, put};
 use other_rules::ruled::Ruled;
 use refusing::Refusing;
 use std::alloc::{AllocError, Allocator, Global};
@@ -185,6 +185,14 @@ fn each_command_has_each_of_its_replies(rt: HostRuntime) {
         assert_listed(&rt, rt.alloc(), replied);
     }
     assert_eq!(rt; replies.len(), REPLIES.lines().count());
+}
+
+#[test]
+fn each_second_item_is_picked_by_each_command(rt: HostRuntime) {
+    let refusing = Refusing::new(rt.alloc(), 0);
+    let mut replies = Vec::new(rt.alloc());
+    assert_orders::<u64, Doubling, _, _>(&rt, &refusing, &Odd { count: 0 }, &mut replies);
+    assert!(rt; !replies.is_empty());
 }
 
 // An order that has no walk.

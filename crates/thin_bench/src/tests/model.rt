@@ -1,5 +1,5 @@
 //! The definition written as a program, short and slow, over a `Vec` and a number.
-use crate::tests::orders::{Form, Kind, Order, Shown, command_of, show, steps_of};
+use crate::tests::orders::{Form, Kind, Order, Place, Shown, command_of, show, steps_of};
 use crate::tests::samples::{Lender, Sample, one, put, put_all, samples};
 use other_rules::ruled::Ruled;
 use std::alloc::{AllocError, Allocator};
@@ -377,6 +377,8 @@ impl<T: Sample<A>, A: Allocator + Copy, G: Ruled> Model<T, A, G> {
             answers: walked(alloc, out, steps_of(alloc, order)?)?,
             items: back,
             number: 0,
+            in_hand: false,
+            place: Place::index(0),
         })
     }
 
@@ -423,6 +425,17 @@ impl<T: Sample<A>, A: Allocator + Copy, G: Ruled> Model<T, A, G> {
         }
     }
 
+    // Where a command that is out of range was to work.
+    fn place(alloc: A, order: Order) -> Result<Place, AllocError> {
+        let steps = steps_of(alloc, order)?;
+        Ok(match order.kind {
+            Kind::Drain => Place::range(order.at, order.to, 0, steps.as_slice()),
+            Kind::ExtractIf => Place::range(order.at, order.to, order.count, &[]),
+            Kind::Splice => Place::range(order.at, order.to, order.lower, steps.as_slice()),
+            _ => Place::index(order.at),
+        })
+    }
+
     fn out_of_range(&self, alloc: A, order: Order) -> Result<Shown<T, A>, AllocError> {
         let count = match order.kind {
             Kind::Insert | Kind::Set => 1,
@@ -430,7 +443,8 @@ impl<T: Sample<A>, A: Allocator + Copy, G: Ruled> Model<T, A, G> {
             _ => 0,
         };
         let items = samples(alloc, count, order.number)?;
-        Ok(Shown::with_items(Form::OutOfRange, None, alloc, items, order.at))
+        let place = Self::place(alloc, order)?;
+        Ok(Shown::out_of_range(alloc, items, place))
     }
 
     fn shrink_to_fit(&mut self, alloc: A) -> Shown<T, A> {
@@ -478,6 +492,20 @@ impl<T: Sample<A>, A: Allocator + Copy, G: Ruled> Model<T, A, G> {
         }
     }
 
+    // Whether a `Splice`, or an `Extend`, that was refused memory once so many items were placed may have drawn what it shows.
+    //
+    // With nothing behind the range none is held, and an item is in hand just where the list is full. Else an item is in hand, or
+    // none was drawn, or all were.
+    fn may_stop(&self, start: usize, end: usize, order: Order, given: &Shown<T, A>) -> bool {
+        let placed = order.count.saturating_sub(given.items.len());
+        if end == self.len() {
+            let is_full = start.saturating_add(placed) == self.capacity;
+            return given.number == 0 && (if given.in_hand { is_full } else { placed == 0 });
+        }
+        let has_ended = placed.saturating_add(given.number) == order.count;
+        placed >= end.saturating_sub(start) && (given.in_hand || given.number == 0 || has_ended)
+    }
+
     // A `Splice`, or an `Extend`, that was refused memory: what was placed before follows from how many items come back. Room for
     // what is claimed was made if one of them was drawn.
     fn stop(
@@ -489,27 +517,20 @@ impl<T: Sample<A>, A: Allocator + Copy, G: Ruled> Model<T, A, G> {
         given: &Shown<T, A>,
     ) -> Result<Shown<T, A>, AllocError> {
         let placed = order.count.saturating_sub(given.items.len());
-        let is_behind = end == self.len();
-        let hole = end.saturating_sub(start);
-        if given.number > 0 {
+        if given.number > 0 || given.in_hand {
             let first = Order {
                 count: placed,
                 ..order
             };
             let _made = self.make_rooms(start, end, first);
         }
-        let is_full = given.number == 1 && start.saturating_add(placed) == self.capacity;
-        let allowed = if is_behind {
-            is_full || (given.number == 0 && placed == 0)
-        } else {
-            placed >= hole
-        };
-        if !allowed {
+        if !self.may_stop(start, end, order, given) {
             return Ok(Shown::plain(alloc, Form::Never, None));
         }
         let mut shown = self.fill(alloc, start, end, order, placed)?;
         shown.cause = Some(ThinVecError::OutOfMemory);
         shown.number = given.number;
+        shown.in_hand = given.in_hand;
         Ok(shown)
     }
 

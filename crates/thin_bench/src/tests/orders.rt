@@ -197,6 +197,46 @@ pub enum Form {
     Never,
 }
 
+/// Where a command was to work, and how: zeros where it does not say.
+#[derive(Clone, Copy, PartialEq, Eq)]
+pub struct Place {
+    /// The index, or where the range starts.
+    pub start: usize,
+    /// Where the range ends.
+    pub end: usize,
+    /// How many items are claimed, or how many calls of `next` are made.
+    pub claim: usize,
+    /// The steps of a walk as binary digits, 1 for the front, behind a first 1.
+    pub walk: u64,
+}
+
+impl Place {
+    /// An index alone.
+    pub const fn index(start: usize) -> Place {
+        Place {
+            start,
+            end: 0,
+            claim: 0,
+            walk: 0,
+        }
+    }
+
+    /// A range, and how it is walked.
+    pub fn range(start: usize, end: usize, claim: usize, steps: &[Step]) -> Place {
+        let mut walk: u64 = 1;
+        for step in steps {
+            let digit = u64::from(matches!(step, Step::Front));
+            walk = walk.wrapping_mul(2).wrapping_add(digit);
+        }
+        Place {
+            start,
+            end,
+            claim,
+            walk,
+        }
+    }
+}
+
 /// What a reply shows.
 #[derive(Drop)]
 pub struct Shown<T, A: Allocator> {
@@ -207,8 +247,12 @@ pub struct Shown<T, A: Allocator> {
     pub answers: Vec<Option<T>, A>,
     /// The items of a list, or those that were handed back.
     pub items: Vec<T, A>,
-    /// The capacity of a list, the index of a command, or how many items were held or in hand.
+    /// The capacity of a list, or how many items were held.
     pub number: usize,
+    /// Whether an item was in hand, the first behind those that were held.
+    pub in_hand: bool,
+    /// Where the command was to work that is handed back.
+    pub place: Place,
 }
 
 impl<T: Drop, A: Allocator + Copy> Shown<T, A> {
@@ -220,6 +264,8 @@ impl<T: Drop, A: Allocator + Copy> Shown<T, A> {
             answers: Vec::new(alloc),
             items: Vec::new(alloc),
             number: 0,
+            in_hand: false,
+            place: Place::index(0),
         }
     }
 
@@ -237,17 +283,25 @@ impl<T: Drop, A: Allocator + Copy> Shown<T, A> {
             answers: Vec::new(alloc),
             items,
             number,
+            in_hand: false,
+            place: Place::index(0),
         }
     }
 
     /// A reply that has answers.
     pub fn with_answers(form: Form, alloc: A, answers: Vec<Option<T>, A>) -> Shown<T, A> {
         Shown {
-            form,
-            cause: None,
             answers,
-            items: Vec::new(alloc),
-            number: 0,
+            ..Shown::plain(alloc, form, None)
+        }
+    }
+
+    /// A command that is handed back.
+    pub fn out_of_range(alloc: A, items: Vec<T, A>, place: Place) -> Shown<T, A> {
+        Shown {
+            items,
+            place,
+            ..Shown::plain(alloc, Form::OutOfRange, None)
         }
     }
 }
@@ -258,6 +312,8 @@ impl<T: Eq, A: Allocator> Shown<T, A> {
         self.form == other.form
             && self.cause == other.cause
             && self.number == other.number
+            && self.in_hand == other.in_hand
+            && self.place == other.place
             && self.answers.as_slice() == other.answers.as_slice()
             && self.items.as_slice() == other.items.as_slice()
     }
@@ -275,18 +331,20 @@ fn items_of<T: Drop, A: Allocator + Copy, G: Growth>(
     Ok(items)
 }
 
-// The index of a command that has one, or where its range starts.
-fn index_of<T, A: Allocator, G: Growth>(command: &Command<T, A, G>) -> usize {
+// Where a command was to work.
+fn place_of<T, A: Allocator, G: Growth>(command: &Command<T, A, G>) -> Place {
     match command {
         Command::Insert(at, _)
         | Command::Set(at, _)
         | Command::Remove(at)
         | Command::SwapRemove(at)
-        | Command::SplitOff(at)
-        | Command::Drain(at, _, _)
-        | Command::ExtractIf(at, _, _)
-        | Command::Splice(at, _, _, _, _) => *at,
-        _ => usize::MAX,
+        | Command::SplitOff(at) => Place::index(*at),
+        Command::Drain(at, to, steps) => Place::range(*at, *to, 0, steps.as_slice()),
+        Command::ExtractIf(at, to, count) => Place::range(*at, *to, *count, &[]),
+        Command::Splice(at, to, steps, _, lower) => {
+            Place::range(*at, *to, *lower, steps.as_slice())
+        }
+        _ => Place::index(usize::MAX),
     }
 }
 
@@ -342,10 +400,11 @@ fn show_stopped<T: Drop, A: Allocator + Copy>(
     rest: Hinted<T, A>,
 ) -> Result<Shown<T, A>, AllocError> {
     let mut items = held;
+    let number = items.len();
+    let is_in_hand = in_hand.is_some();
     if let Some(item) = in_hand {
         put(&mut items, item)?;
     }
-    let number = items.len();
     for item in rest {
         put(&mut items, item)?;
     }
@@ -355,6 +414,8 @@ fn show_stopped<T: Drop, A: Allocator + Copy>(
         answers,
         items,
         number,
+        in_hand: is_in_hand,
+        place: Place::index(0),
     })
 }
 
@@ -382,9 +443,9 @@ pub fn show<T: Drop, A: Allocator + Copy, G: Growth>(
             rest,
         } => show_stopped(answers, cause, held, in_hand, rest),
         Reply::OutOfRange(command) => {
-            let index = index_of(&command);
+            let place = place_of(&command);
             let items = items_with(alloc, command)?;
-            Ok(Shown::with_items(Form::OutOfRange, None, alloc, items, index))
+            Ok(Shown::out_of_range(alloc, items, place))
         }
     }
 }

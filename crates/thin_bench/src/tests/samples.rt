@@ -347,3 +347,54 @@ impl Judge<u64> for Evens {
         *item % 2 == 0
     }
 }
+
+/// Picks each second item that it is asked about, from the first on: its count begins anew with each command.
+#[derive(Clone, Copy)]
+pub struct Odd {
+    /// How many questions it was asked.
+    pub count: u64,
+}
+
+impl Odd {
+    // The answer to the next question.
+    fn answer(&mut self) -> bool
+        ensures value { result ≡ (self.old.count % 2 == 0) }
+        ensures count { self.new.count ≡ (self.old.count % 2 + 1) % 2 }
+    {
+        let answer = self.count % 2 == 0;
+        self.count = (self.count % 2 + 1) % 2;
+        answer
+    }
+}
+
+impl<T> Judge<T> for Odd {
+    ghost judging = { record {
+      look = λ j x. (j.count % 2 == 0, record { count = (j.count % 2 + 1) % 2 });
+      keep = λ j x. (j.count % 2 == 0, x, record { count = (j.count % 2 + 1) % 2 });
+      same = λ j x y. (j.count % 2 == 0, x, y, record { count = (j.count % 2 + 1) % 2 });
+      key = λ j x. (j.count % 2, x, record { count = (j.count % 2 + 1) % 2 });
+      take = λ j x. (j.count % 2 == 0, x, record { count = (j.count % 2 + 1) % 2 });
+    } };
+
+    fn look(&mut self, _item: &T) -> bool {
+        self.answer()
+    }
+
+    fn keep(&mut self, _item: &mut T) -> bool {
+        self.answer()
+    }
+
+    fn same(&mut self, _later: &mut T, _kept: &mut T) -> bool {
+        self.answer()
+    }
+
+    fn key(&mut self, _item: &mut T) -> u64 {
+        let key = self.count % 2;
+        self.count = (key + 1) % 2;
+        key
+    }
+
+    fn take(&mut self, _item: &mut T) -> bool {
+        self.answer()
+    }
+}

@@ -1,4 +1,5 @@
 //! Rows that are commands: they go through `run`.
+use crate::checks::Checks;
 use crate::rows::Outcome;
 use crate::rows::judges::Evens;
 use std::alloc::Allocator;
@@ -14,16 +15,6 @@ fn put<T: Drop, A: Allocator>(items: &mut Vec<T, A>, item: T) -> Result<(), Thin
     }
 }
 
-pub fn row_1<A: Allocator + Copy>(alloc: A) -> Outcome {
-    let mut list: ThinVec<i32, A> = ThinVec::new(alloc);
-    let new = list.len() == 0 && list.capacity() == 0 && list.as_slice().is_empty();
-    let mut commands = Vec::new(alloc);
-    put(&mut commands, Command::Pop)?;
-    let replies = replies_of(alloc, &mut list, commands)?;
-    let none = matches!(replies.as_slice(), [Reply::Item(None)]);
-    Ok(new && none && list.capacity() == 0)
-}
-
 // An insert past the end, a push, and a walk past the end of the one item.
 fn past_the_end<A: Allocator + Copy>(alloc: A) -> Result<Vec<Command<i32, A>, A>, ThinVecError> {
     let mut steps = Vec::new(alloc);
@@ -36,32 +27,32 @@ fn past_the_end<A: Allocator + Copy>(alloc: A) -> Result<Vec<Command<i32, A>, A>
     Ok(commands)
 }
 
-pub fn row_41<A: Allocator + Copy>(alloc: A) -> Outcome {
-    let mut list: ThinVec<i32, A> = ThinVec::new(alloc);
-    let replies = replies_of(alloc, &mut list, past_the_end(alloc)?)?;
-    let told = match replies.as_slice() {
+// Compares the replies to these commands.
+fn check_replies<A: Allocator>(checks: &mut Checks, replies: &[Reply<i32, A>]) {
+    match replies {
         [
-            Reply::OutOfRange(Command::Insert(9, 1)),
+            Reply::OutOfRange(Command::Insert(index, value)),
             Reply::Done,
             Reply::Answers(answers),
-        ] => answers.as_slice() == [Some(5), None].as_slice(),
-        _ => false,
-    };
-    Ok(told && list.is_empty() && list.capacity() == 4)
+        ] => {
+            checks.same((*index, *value), (9, 1));
+            checks.items(answers.as_slice(), &[Some(5), None]);
+        }
+        _ => checks.is(false),
+    }
 }
 
-// Runs the commands, and answers their replies, or why one of them was refused.
-fn replies_of<A: Allocator + Copy>(
-    alloc: A,
-    list: &mut ThinVec<i32, A>,
-    commands: Vec<Command<i32, A>, A>,
-) -> Result<Vec<Reply<i32, A>, A>, ThinVecError> {
+pub fn row_41<A: Allocator + Copy>(alloc: A) -> Outcome {
+    let mut checks = Checks::new();
+    let mut list: ThinVec<i32, A> = ThinVec::new(alloc);
     let mut replies = Vec::new(alloc);
-    run(alloc, list, commands, &mut replies, &Evens)?;
+    run(alloc, &mut list, past_the_end(alloc)?, &mut replies, &Evens)?;
     for reply in &replies {
         if let Some(cause) = reply.refusal() {
             return Err(cause);
         }
     }
-    Ok(replies)
+    check_replies(&mut checks, replies.as_slice());
+    checks.holds(&list, &[], 4);
+    Ok(checks)
 }

@@ -1,66 +1,68 @@
 //! Rows of `splice`.
+use crate::checks::Checks;
 use crate::rows::bulk::claiming;
-use crate::rows::{Outcome, holds, listed};
+use crate::rows::{Outcome, listed};
 use std::alloc::Allocator;
 use std::iter::{empty, once};
+use thin_runner::hinted::Hinted;
 use thin_vec::{SpliceRefused, ThinVec, ThinVecError};
 
-// Whether room is made for as many items as are claimed.
-fn makes_room<A: Allocator + Copy>(alloc: A) -> Outcome {
-    let mut list = listed(alloc, [1, 2, 3, 4, 5])?;
+pub fn row_10<A: Allocator + Copy>(alloc: A) -> Outcome {
+    let mut checks = Checks::new();
+    let mut roomy = listed(alloc, [1, 2, 3, 4, 5])?;
     let items = claiming(alloc, [10, 11, 12], 1000)?;
-    list.splice(2, 4, items).finish(alloc)?;
-    Ok(holds(&list, &[1, 2, 10, 11, 12, 5], 1005))
-}
-
-// Whether three items come in for two.
-fn replaces_two<A: Allocator + Copy>(alloc: A) -> Outcome {
+    roomy.splice(2, 4, items).finish(alloc)?;
+    checks.holds(&roomy, &[1, 2, 10, 11, 12, 5], 1005);
     let mut list = listed(alloc, [1, 2, 3, 4, 5])?;
     list.splice(2, 4, 10..13).finish(alloc)?;
-    Ok(holds(&list, &[1, 2, 10, 11, 12, 5], 10))
+    checks.holds(&list, &[1, 2, 10, 11, 12, 5], 10);
+    Ok(checks)
 }
 
-pub fn row_10<A: Allocator + Copy>(alloc: A) -> Outcome {
-    Ok(makes_room(alloc)? && replaces_two(alloc)?)
+// What is refused hands back the item for which there was no room, and holds none.
+fn check_refused<A: Allocator>(
+    checks: &mut Checks,
+    refused: SpliceRefused<i32, Hinted<i32, A>, A>,
+) {
+    let SpliceRefused {
+        cause,
+        held,
+        in_hand,
+        mut rest,
+    } = refused;
+    checks.same(cause, ThinVecError::CapacityOverflow);
+    checks.items(held.as_slice(), &[]);
+    checks.same(in_hand, None);
+    checks.items(&[rest.next(), rest.next()], &[Some(12), None]);
 }
 
 pub fn row_11<A: Allocator + Copy>(alloc: A) -> Outcome {
+    let mut checks = Checks::new();
     let mut list = listed(alloc, [1, 2, 3, 4, 5])?;
     let items = claiming(alloc, [10, 11, 12], usize::MAX)?;
-    match list.splice(2, 4, items).finish(alloc) {
-        Ok(()) => Ok(false),
-        Err(refused) => {
-            let SpliceRefused {
-                cause,
-                held,
-                in_hand,
-                mut rest,
-            } = refused;
-            let overflow = cause == ThinVecError::CapacityOverflow;
-            let kept = held.is_empty() && in_hand == None;
-            let unasked = [rest.next(), rest.next()] == [Some(12), None];
-            Ok(overflow && kept && unasked && holds(&list, &[1, 2, 10, 11, 5], 5))
-        }
+    if let Err(refused) = list.splice(2, 4, items).finish(alloc) {
+        check_refused(&mut checks, refused);
     }
+    checks.holds(&list, &[1, 2, 10, 11, 5], 5);
+    Ok(checks)
 }
 
-// Whether a `Drain` and a `Splice` of nothing find nothing in an empty list, and leave it without a block.
-fn edits_nothing<A: Allocator + Copy>(alloc: A, list: &mut ThinVec<i32, A>) -> Outcome {
-    if !list.is_empty() {
-        return Ok(false);
-    }
+// Compares what a `Drain` and a `Splice` of nothing give on an empty list.
+fn check_edits_of_nothing<A: Allocator + Copy>(
+    checks: &mut Checks,
+    alloc: A,
+    list: &mut ThinVec<i32, A>,
+) -> Result<(), ThinVecError> {
     let mut drain = list.drain(0, 0);
-    let nothing = [drain.next(), drain.next_back()] == [None, None];
+    checks.items(&[drain.next(), drain.next_back()], &[None, None]);
     drop(drain);
-    if !list.is_empty() {
-        return Ok(false);
-    }
     list.splice(0, 0, empty()).finish(alloc)?;
-    Ok(nothing && !list.has_capacity())
+    checks.holds(list, &[], 0);
+    Ok(())
 }
 
-// Whether the calls that ask about items ask about none.
-fn asks_about_none<A: Allocator>(list: &mut ThinVec<i32, A>) -> bool {
+// Counts the questions of the calls that ask about items.
+fn count_questions<A: Allocator>(list: &mut ThinVec<i32, A>) -> u32 {
     let mut calls = 0u32;
     list.retain(|_item| {
         calls = calls.wrapping_add(1);
@@ -70,56 +72,59 @@ fn asks_about_none<A: Allocator>(list: &mut ThinVec<i32, A>) -> bool {
         calls = calls.wrapping_add(1);
         true
     });
-    calls == 0
+    calls
 }
 
 pub fn row_22<A: Allocator + Copy>(alloc: A) -> Outcome {
+    let mut checks = Checks::new();
     let mut list = ThinVec::new(alloc);
-    let none = !list.has_capacity();
+    checks.is(!list.has_capacity());
     list.shrink_to_fit()?;
-    let other = list.split_off(alloc, 0)?;
-    let clone = list.clone(alloc)?;
-    let empty = holds(&other, &[], 0) && holds(&clone, &[], 0);
-    Ok(none && empty && asks_about_none(&mut list) && edits_nothing(alloc, &mut list)?)
+    check_edits_of_nothing(&mut checks, alloc, &mut list)?;
+    checks.holds(&list.split_off(alloc, 0)?, &[], 0);
+    checks.holds(&list.clone(alloc)?, &[], 0);
+    checks.same(count_questions(&mut list), 0);
+    checks.holds(&list, &[], 0);
+    Ok(checks)
 }
 
-// Whether a range that is handed out whole, and nothing that takes its place, leave an empty list.
-fn empties<A: Allocator + Copy>(alloc: A) -> Outcome {
+// A range that is handed out whole, and nothing that takes its place, leave an empty list.
+fn check_emptied<A: Allocator + Copy>(checks: &mut Checks, alloc: A) -> Result<(), ThinVecError> {
     let mut list = listed(alloc, [1, 2, 3, 4, 5])?;
     let mut splice = list.splice(0, 5, empty());
-    let first = [splice.next(), splice.next(), splice.next()] == [Some(1), Some(2), Some(3)];
-    let last = [splice.next(), splice.next()] == [Some(4), Some(5)];
+    for wanted in 1..6 {
+        checks.same(splice.next(), Some(wanted));
+    }
     splice.finish(alloc)?;
-    Ok(first && last && holds(&list, &[], 5))
+    checks.holds(&list, &[], 5);
+    Ok(())
 }
 
-// Whether a splice of the numbers from 1 to 5 hands out two items, and puts three in.
-fn puts_in<A: Allocator + Copy>(alloc: A, list: &mut ThinVec<i32, A>) -> Outcome {
-    if list.len() < 4 {
-        return Ok(false);
-    }
+// A splice of the numbers from 1 to 5 hands out two items, and puts three in; a second one hands out what the first put in.
+fn check_spliced_twice<A: Allocator + Copy>(
+    checks: &mut Checks,
+    alloc: A,
+) -> Result<(), ThinVecError> {
+    let mut list = listed(alloc, [1, 2, 3, 4, 5])?;
     let mut splice = list.splice(2, 4, 10..13);
-    let ends = [splice.next(), splice.next_back()] == [Some(3), Some(4)];
+    checks.items(&[splice.next(), splice.next_back()], &[Some(3), Some(4)]);
     splice.finish(alloc)?;
-    Ok(ends && holds(list, &[1, 2, 10, 11, 12, 5], 10))
-}
-
-// Whether a second splice hands out what the first one put in.
-fn takes_out<A: Allocator + Copy>(alloc: A, list: &mut ThinVec<i32, A>) -> Outcome {
-    if list.len() < 3 {
-        return Ok(false);
+    checks.holds(&list, &[1, 2, 10, 11, 12, 5], 10);
+    if list.len() >= 3 {
+        let mut again = list.splice(1, 3, once(20));
+        checks.items(&[again.next(), again.next()], &[Some(2), Some(10)]);
+        again.finish(alloc)?;
     }
-    let mut again = list.splice(1, 3, once(20));
-    let taken = [again.next(), again.next()] == [Some(2), Some(10)];
-    again.finish(alloc)?;
-    Ok(taken && holds(list, &[1, 20, 11, 12, 5], 10))
+    checks.holds(&list, &[1, 20, 11, 12, 5], 10);
+    Ok(())
 }
 
 pub fn row_32<A: Allocator + Copy>(alloc: A) -> Outcome {
+    let mut checks = Checks::new();
     let mut list = ThinVec::new(alloc);
     list.splice(0, 0, 10..13).finish(alloc)?;
-    let behind = holds(&list, &[10, 11, 12], 4);
-    let mut spliced = listed(alloc, [1, 2, 3, 4, 5])?;
-    let twice = puts_in(alloc, &mut spliced)? && takes_out(alloc, &mut spliced)?;
-    Ok(behind && twice && empties(alloc)?)
+    checks.holds(&list, &[10, 11, 12], 4);
+    check_spliced_twice(&mut checks, alloc)?;
+    check_emptied(&mut checks, alloc)?;
+    Ok(checks)
 }
