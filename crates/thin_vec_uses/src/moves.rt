@@ -1,9 +1,31 @@
 //! Callers that promise how many items an edit moves.
-ghost use Rattle.std.specs.Prelude.{◌≡◌, ◌+◌, ◌≤◌, [], ◌∷◌, ◌++◌, IfOk, OnOk, drop, length, take};
+ghost use Rattle.std.specs.Prelude.{◌≡◌, ◌+◌, ◌≤◌, [], ◌∷◌, ◌++◌, IfOk, OnOk, drop, insert, length, remove, take};
 
 use std::alloc::{AllocError, Allocator};
 use std::iter::once;
 use thin_vec::{Growth, ThinVec, thin_vec};
+
+/// Inserts after the first of three items: the new one moves, and the two after it.
+pub fn inserted_second<T: Drop, A: Allocator, G: Growth>(
+    list: &mut ThinVec<T, A, G>,
+    value: T,
+) -> Result<(), AllocError>
+    requires three { length list.old.items ≡ 3 }
+    ensures items { OnOk result (list.new.items ≡ insert list.old.items 1 value) }
+    ensures three_moves { OnOk result (list.new.cost.moves ≡ list.old.cost.moves + 3) }
+{
+    list.insert(1, value)?;
+    Ok(())
+}
+
+/// Removes the first of five items: the four after it move.
+pub fn removed_first<T, A: Allocator, G: Growth>(list: &mut ThinVec<T, A, G>) -> T
+    requires five { length list.old.items ≡ 5 }
+    ensures items { list.new.items ≡ remove list.old.items 0 }
+    ensures four_moves { list.new.cost.moves ≡ list.old.cost.moves + 4 }
+{
+    list.remove(0)
+}
 
 /// Takes four of six items out, two of them step by step: the last one moves, and no other.
 pub fn drained_middle<T: Drop, A: Allocator, G: Growth>(list: &mut ThinVec<T, A, G>)
