@@ -40,8 +40,9 @@ pub fn row_11<A: Allocator + Copy>(alloc: A) -> Outcome {
     let mut checks = Checks::new();
     let mut list = listed(alloc, [1, 2, 3, 4, 5])?;
     let items = claiming(alloc, [10, 11, 12], usize::MAX)?;
-    if let Err(refused) = list.splice(2, 4, items).finish(alloc) {
-        check_refused(&mut checks, refused);
+    match list.splice(2, 4, items).finish(alloc) {
+        Ok(()) => checks.is(false),
+        Err(refused) => check_refused(&mut checks, refused),
     }
     checks.holds(&list, &[1, 2, 10, 11, 5], 5);
     Ok(checks)
