@@ -26,11 +26,15 @@ fn asked(alloc: Global, line: &str) -> Option<Outcome> {
     let mut words = line.split_whitespace();
     let list = words.next()?;
     let workload = words.next()?;
-    let size = words.next()?.parse::<usize>().ok()?;
-    let times = words.next()?.parse::<usize>().ok()?;
+    let size = number(words.next())?;
+    let times = number(words.next())?;
     match list {
         "thin" => workloads::run::<Thin>(alloc, workload, size, times),
         "kit" => workloads::run::<Kit>(alloc, workload, size, times),
         _ => None,
     }
+}
+
+fn number(word: Option<&str>) -> Option<usize> {
+    word?.parse::<usize>().ok()
 }

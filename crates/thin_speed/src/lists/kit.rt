@@ -29,7 +29,7 @@ impl<T: Drop> List<T> for Vec<T> {
 
     #[inline(always)]
     fn with_capacity(alloc: Global, capacity: usize) -> Result<Vec<T>, AllocError> {
-        Ok(Vec::with_capacity(alloc, capacity)?)
+        Vec::with_capacity(alloc, capacity)
     }
 
     #[inline(always)]
@@ -93,23 +93,23 @@ impl Numbers for Vec<u64> {
 
     #[inline(always)]
     fn extend_from_copies(&mut self, items: &[u64]) -> Result<(), AllocError> {
-        Ok(self.extend_from_slice(items)?)
+        self.extend_from_slice(items)
     }
 
     #[inline(always)]
     fn resize(&mut self, len: usize, value: u64) -> Result<(), AllocError> {
-        Ok(Vec::resize(self, len, value)?)
+        Vec::resize(self, len, value)
     }
 
     #[inline(always)]
     fn copy(&self, _alloc: Global) -> Result<Vec<u64>, AllocError> {
-        Ok(self.clone()?)
+        self.clone()
     }
 
     #[inline(always)]
     fn split_and_append(&mut self, _alloc: Global) -> Result<(), AllocError> {
         let mut tail = self.split_off(self.len() / 2)?;
-        Ok(self.append(&mut tail)?)
+        self.append(&mut tail)
     }
 
     #[inline(always)]
