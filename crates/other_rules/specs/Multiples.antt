@@ -1,5 +1,5 @@
--- Growth rules by which a capacity is multiplied, and that they keep the law of rules. (The law is here and not in proofs/,
--- since impls of `Growth` name it.)
+-- Growth rules by which a capacity is multiplied, and that they keep the law of rules. (The law is
+-- here and not in proofs/, since impls of `Growth` name it.)
 use Rattle.std.specs.Prelude.{◌≡◌, ℕ, ◌*◌, ◌≤◌, Bool, true, false, IsTrue, if◌then◌else◌, max, refl}
 use Rattle.std.specs.declared.option.Option.TheVariants.{Some, None}
 use Rattle.std.proofs.Common.{mul-le-mul_right, subst, arith}

@@ -1,5 +1,5 @@
-//! Two more growth rules, for tests: under any rule a list's calls, and a run of commands, do what they promise.
-//! And each rule once more, for what tests compare with.
+//! Two more growth rules, for tests: under any rule a list's calls, and a run of commands, do what
+//! they promise. And each rule once more, for what tests compare with.
 #![tactic(auto)]
 
 pub mod ruled;

@@ -4,7 +4,8 @@ use thin_vec::{Doubling, Growth, PowerBytes};
 
 /// A growth rule that a reference can follow.
 pub trait Ruled: Growth {
-    /// The capacity after `capacity` that has room for `want` items of `size` bytes, which are more.
+    /// The capacity after `capacity` that has room for `want` items of `size` bytes, which are
+    /// more.
     fn named(size: usize, capacity: usize, want: usize) -> usize;
 }
 

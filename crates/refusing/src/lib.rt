@@ -1,19 +1,21 @@
 //! An allocator for tests, which refuses the request that the test names.
 //!
-//! Take it by reference, as `&Refusing<Global>`: a `&` to an allocator is one too, and `Copy`. A growth asks for a new block,
-//! so each growth of a list is one request.
+//! Take it by reference, as `&Refusing<Global>`: a `&` to an allocator is one too, and `Copy`. A
+//! growth asks for a new block, so each growth of a list is one request.
 //!
-//! `blocks` counts the blocks that are out, so that a test sees a leak: no contract says that a list gives its block back.
+//! `blocks` counts the blocks that are out, so that a test sees a leak: no contract says that a
+//! list gives its block back.
 //!
-//! A contract can't say what a cell holds, so none says which request is refused, or what `requests` and `blocks` answer: the
-//! tests show it. What is proved is that the blocks are those of `inner`, and go back to it.
+//! A contract can't say what a cell holds, so none says which request is refused, or what
+//! `requests` and `blocks` answer: the tests show it. What is proved is that the blocks are those
+//! of `inner`, and go back to it.
 #![tactic(auto)]
 
 use std::alloc::{AllocError, Allocator};
 use std::cell::Cell;
 
-// How many requests were made, the number of the one that is refused, counting from 1 (at 0 none is), and how many blocks
-// are out.
+// How many requests were made, the number of the one that is refused, counting from 1 (at 0 none
+// is), and how many blocks are out.
 #[derive(Drop)]
 struct Counts {
     requests: Cell<u64>,
@@ -65,7 +67,8 @@ impl<B: Allocator> Refusing<B> {
         self.counts.refused.set(refused);
     }
 
-    /// How many requests were made since this was made, or since the last `refuse`. A refused one counts too.
+    /// How many requests were made since this was made, or since the last `refuse`. A refused one
+    /// counts too.
     pub fn requests(&self) -> u64 {
         self.counts.requests.get()
     }

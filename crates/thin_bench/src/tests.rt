@@ -113,7 +113,8 @@ fn runs_under_each_growth_rule(rt: HostRuntime) {
     assert_capacity::<Fourfold, _>(&rt, alloc, 16);
 }
 
-// Asserts that a run whose first request is refused is refused, and leaves the reply that was there alone.
+// Asserts that a run whose first request is refused is refused, and leaves the reply that was there
+// alone.
 fn assert_refused<'a, T: Clone + Eq, R: Abort>(
     rt: &R,
     alloc: Lender<'a>,
@@ -180,15 +181,16 @@ const REPORT: &str =
     row 36 ok\nrow 40 ok\nrow 41 ok\n\
     35 rows ok\n";
 
-// Asserts that the program ends with that status. It is read from the text of the code, which has no other reader.
+// Asserts that the program ends with that status. It is read from the text of the code, which has
+// no other reader.
 fn assert_end(rt: &impl Abort, alloc: Global, end: ExitCode, status: u8) {
     let text = format!(in alloc; "{end:?}").expect(rt, "memory");
     let wanted = format!(in alloc; "ExitCode(unix_exit_status({status}))").expect(rt, "memory");
     assert_eq!(rt; text.as_str(), wanted.as_str());
 }
 
-// Reports into `text`, of which the call of that number is refused, or none at 0. Asserts that the report ends with that status,
-// and answers how many calls it made.
+// Reports into `text`, of which the call of that number is refused, or none at 0. Asserts that the
+// report ends with that status, and answers how many calls it made.
 fn report_into<A: Allocator + Copy, R: Abort>(
     rt: &R,
     alloc: A,
@@ -225,7 +227,8 @@ fn reports_until_a_line_is_refused(rt: HostRuntime) {
     }
 }
 
-// Asserts that a report whose request of that number is refused wrote the whole report up to there, and why it ends.
+// Asserts that a report whose request of that number is refused wrote the whole report up to there,
+// and why it ends.
 fn assert_reported_until<R: Abort>(rt: &R, alloc: Global, nth: u64) {
     let refusing = Refusing::new(alloc, nth);
     let mut text = String::new(alloc);
@@ -333,8 +336,8 @@ fn a_row_that_overflows_or_compares_nothing_has_failed(rt: HostRuntime) {
     }
 }
 
-// How many values each row compares, and how many requests it makes, counted by hand: a row that compares less, or does another's
-// work, has other numbers.
+// How many values each row compares, and how many requests it makes, counted by hand: a row that
+// compares less, or does another's work, has other numbers.
 const COUNTS: [(u32, u32, Option<u64>); 35] = [
     (1, 5, Some(0)),
     (2, 12, Some(2)),
@@ -373,7 +376,8 @@ const COUNTS: [(u32, u32, Option<u64>); 35] = [
     (41, 6, Some(5)),
 ];
 
-// Asserts that a row is ok, compares so many values, makes so many requests, where that is told, and leaves no block.
+// Asserts that a row is ok, compares so many values, makes so many requests, where that is told,
+// and leaves no block.
 fn assert_counts(rt: &impl Abort, alloc: Global, number: u32, values: u32, requests: Option<u64>) {
     let refusing = Refusing::new(alloc, 0);
     let checks = row(&refusing, number).ok().expect(rt, "no refusal");

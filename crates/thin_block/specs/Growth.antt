@@ -31,7 +31,8 @@ KeepsLaw rule = (s a c w n : ℕ) → c < w → w < 2 ^ 64 → rule s a c w ≡ 
 unfoldable pub fitting : ℕ → ℕ → ℕ → Option ℕ
 fitting s a n = if fits s a n then Some n else None
 
--- twice the capacity, or the want where that is more, and at least the first capacity (thin-vec: `reserve`)
+-- twice the capacity, or the want where that is more, and at least the first capacity (thin-vec:
+-- `reserve`)
 unfoldable pub doubling : Rule
 doubling s a c w = fitting s a (max w (if c == 0 then first s else 2 * c))
 
@@ -46,8 +47,7 @@ unfoldable pub least_power : ℕ → ℕ
 least_power n = doubled_to n n 1
 
 -- as many items as fit, behind the header, into the least power of two bytes that has room for the
--- want and for twice the
--- capacity; where items take no bytes, as by doubling
+-- want and for twice the capacity; where items take no bytes, as by doubling
 unfoldable pub power_bytes : Rule
 power_bytes s a c w = if s == 0 then doubling s a c w else fitting s a
     ((least_power (items_offset a + max w (2 * c) * s) - items_offset a) / s)

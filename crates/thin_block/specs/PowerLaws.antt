@@ -1,6 +1,5 @@
 -- That the rule of powers of two keeps the law of rules, and fills its powers. (Here and not in
--- proofs/, since the impl of
--- `Growth` names it.)
+-- proofs/, since the impl of `Growth` names it.)
 use Rattle.std.specs.Prelude.{◌≡◌, ℕ, zero, suc, ◌+◌, ◌-◌, ◌*◌, ◌/◌, ◌^◌, ◌<◌, ◌≤◌, ◌==◌, nat_le, Bool, true, false, IsTrue, if◌then◌else◌, max, refl}
 use Rattle.std.specs.declared.option.Option.TheVariants.{Some}
 use Rattle.std.specs.Int.{IsPowerOfTwo, IsNextPowerOfTwo}

@@ -37,7 +37,8 @@ impl<T, A: Allocator> Block<T, A> {
         requires packed { IsPacked self.old.slots self.old.len }
         requires len { len ≡ self.old.len }
         requires room { K ≤ len }
-        ensures slots { OnOk result (self.new.slots ≡ self.old.slots ++ empty (cap - length self.old.slots)) }
+        ensures slots { OnOk result
+            (self.new.slots ≡ self.old.slots ++ empty (cap - length self.old.slots)) }
         ensures len { self.new.len ≡ self.old.len }
         ensures alloc { OnOk result (self.new.alloc ≡ Some alloc.now) }
         ensures cost { OnOk result (self.new.cost ≡ growing self.old.len self.old.cost) }

@@ -41,7 +41,8 @@ impl<T, A: Allocator> Block<T, A> {
         requires larger { length self.old.slots < cap }
         requires fits { Fits T.row cap }
         requires packed { IsPacked self.old.slots self.old.len }
-        ensures slots { OnOk result (self.new.slots ≡ self.old.slots ++ empty (cap - length self.old.slots)) }
+        ensures slots { OnOk result
+            (self.new.slots ≡ self.old.slots ++ empty (cap - length self.old.slots)) }
         ensures len { self.new.len ≡ self.old.len }
         ensures alloc { OnOk result (self.new.alloc ≡ Some alloc.now) }
         ensures cost { OnOk result (self.new.cost ≡ growing self.old.len self.old.cost) }
@@ -83,7 +84,8 @@ impl<T, A: Allocator> Block<T, A> {
         requires fits { Fits T.row cap }
         requires packed { IsPacked self.old.slots self.old.len }
         requires room { self.old.len ≤ cap }
-        ensures slots { OnOk result (self.new.slots ≡ laid 0 (run 0 self.old.len self.old.slots) (empty cap)) }
+        ensures slots { OnOk result (self.new.slots ≡ laid 0 (run 0 self.old.len self.old.slots)
+            (empty cap)) }
         ensures len { self.new.len ≡ self.old.len }
         ensures alloc { OnOk result (self.new.alloc ≡ Some alloc.now) }
         ensures cost { OnOk result (self.new.cost ≡ growing self.old.len self.old.cost) }
@@ -153,7 +155,8 @@ impl<T, A: Allocator> Block<T, A> {
     fn free_block(self, alloc: &A, bytes: usize, align: usize)
         requires from { self.alloc ≡ Some alloc.now }
         requires empty { self.slots ≡ empty (length self.slots) }
-        requires bytes { bytes ≡ block_bytes (type_size T.row) (type_align T.row) (length self.slots) }
+        requires bytes { bytes ≡ block_bytes (type_size T.row) (type_align T.row)
+            (length self.slots) }
         requires align { align ≡ block_align (type_align T.row) }
     {
         let Block {

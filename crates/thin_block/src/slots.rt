@@ -72,7 +72,8 @@ impl<T, A: Allocator> Block<T, A> {
     pub fn swap(&mut self, i: usize, j: usize)
         requires first { IsSome (slot self.old.slots i) }
         requires second { IsSome (slot self.old.slots j) }
-        ensures slots { self.new.slots ≡ slice_set (slice_set self.old.slots i (slot self.old.slots j)) j (slot self.old.slots i) }
+        ensures slots { self.new.slots ≡ slice_set
+            (slice_set self.old.slots i (slot self.old.slots j)) j (slot self.old.slots i) }
         ensures len { self.new.len ≡ self.old.len }
         ensures alloc { self.new.alloc ≡ self.old.alloc }
         ensures cost { self.new.cost ≡ moving 1 self.old.cost }
@@ -93,7 +94,8 @@ impl<T, A: Allocator> Block<T, A> {
         requires first { IsSome (slot self.old.slots i) }
         requires second { IsSome (slot self.old.slots j) }
         ensures value { slot self.old.slots i ≡ Some result }
-        ensures slots { self.new.slots ≡ slice_set (slice_set self.old.slots i (slot self.old.slots j)) j None }
+        ensures slots { self.new.slots ≡ slice_set
+            (slice_set self.old.slots i (slot self.old.slots j)) j None }
         ensures len { self.new.len ≡ self.old.len }
         ensures alloc { self.new.alloc ≡ self.old.alloc }
         ensures cost { self.new.cost ≡ moving (if i == j then 0 else 1) self.old.cost }
@@ -141,7 +143,8 @@ impl<T, A: Allocator> Block<T, A> {
         requires source { from + k ≤ length self.old.slots }
         requires target { to + k ≤ length self.old.slots }
         requires filled { AreFilled self.old.slots from k }
-        requires empty { (i : ℕ) → to ≤ i → i < to + k → (i < from) ⊎ (from + k ≤ i) → slot self.old.slots i ≡ None }
+        requires empty { (i : ℕ) → to ≤ i → i < to + k → (i < from) ⊎ (from + k ≤ i)
+            → slot self.old.slots i ≡ None }
         ensures slots { self.new.slots ≡ moved from to k self.old.slots }
         ensures cap { length self.new.slots ≡ length self.old.slots }
         ensures len { self.new.len ≡ self.old.len }
@@ -160,7 +163,8 @@ impl<T, A: Allocator> Block<T, A> {
         requires source { from + k ≤ length self.old.slots }
         requires target { to + k ≤ length self.old.slots }
         requires filled { AreFilled self.old.slots from k }
-        requires empty { (i : ℕ) → to ≤ i → i < to + k → (i < from) ⊎ (from + k ≤ i) → slot self.old.slots i ≡ None }
+        requires empty { (i : ℕ) → to ≤ i → i < to + k → (i < from) ⊎ (from + k ≤ i)
+            → slot self.old.slots i ≡ None }
         requires above { to < from + k }
         requires below { from < to + k }
         ensures slots { self.new.slots ≡ moved from to k self.old.slots }
@@ -180,7 +184,8 @@ impl<T, A: Allocator> Block<T, A> {
         requires source { from + k ≤ length self.old.slots }
         requires target { to + k ≤ length self.old.slots }
         requires filled { AreFilled self.old.slots from k }
-        requires empty { (i : ℕ) → to ≤ i → i < to + k → (i < from) ⊎ (from + k ≤ i) → slot self.old.slots i ≡ None }
+        requires empty { (i : ℕ) → to ≤ i → i < to + k → (i < from) ⊎ (from + k ≤ i)
+            → slot self.old.slots i ≡ None }
         requires apart { (from + k ≤ to) ⊎ (to + k ≤ from) }
         ensures slots { self.new.slots ≡ moved from to k self.old.slots }
         ensures len { self.new.len ≡ self.old.len }
@@ -208,7 +213,8 @@ impl<T, A: Allocator> Block<T, A> {
         ensures cost { self.new.cost ≡ self.old.cost }
 
         // The other block holds the run.
-        ensures other_slots { other.new.slots ≡ laid to (run from k self.old.slots) other.old.slots }
+        ensures other_slots { other.new.slots ≡ laid to
+            (run from k self.old.slots) other.old.slots }
         ensures other_len { other.new.len ≡ other.old.len }
         ensures other_alloc { other.new.alloc ≡ other.old.alloc }
         ensures other_cost { other.new.cost ≡ moving k other.old.cost }
@@ -234,7 +240,8 @@ impl<T, A: Allocator> Block<T, A> {
         ensures len { self.new.len ≡ self.old.len }
         ensures alloc { self.new.alloc ≡ self.old.alloc }
         ensures own_cost { self.new.cost ≡ self.old.cost }
-        ensures to_slots { to_block.new.slots ≡ laid to (run from k self.old.slots) to_block.old.slots }
+        ensures to_slots { to_block.new.slots ≡ laid to
+            (run from k self.old.slots) to_block.old.slots }
         ensures to_len { to_block.new.len ≡ to_block.old.len }
         ensures to_alloc { to_block.new.alloc ≡ to_block.old.alloc }
         ensures to_cost { to_block.new.cost ≡ cost }

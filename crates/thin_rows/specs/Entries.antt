@@ -1,4 +1,5 @@
--- How a row is stored: its entries in a list, by rising columns, which owns a block only where there is an entry.
+-- How a row is stored: its entries in a list, by rising columns, which owns a block only where
+-- there is an entry.
 use Rattle.std.specs.Prelude.{◌≡◌, ◌↔◌, ℕ, ◌<◌, ◌≤◌, List, T, length, slice_index_or}
 use Rattle.std.specs.Ordering.{nat_cmp}
 use Rattle.std.specs.FinMap.{from_sorted, is_sorted}

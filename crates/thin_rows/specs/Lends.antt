@@ -17,7 +17,8 @@ module _ (V A : RattleType) (allocator : AllocatorGhosts A.Denot) where
   LendsIfThere row column r = LendsIf (the_row V A allocator) V row r
       (insert row.now column) row.now
 
-  -- r is the value of the table at row i and a column, or there is no entry, and the table stays as it is
+  -- r is the value of the table at row i and a column, or there is no entry, and the table stays as
+  -- it is
   abbrev pub LendsValue : MutBor (Table V.Denot) → ℕ → ℕ → Option (MutBor V.Denot) → Fml
   LendsValue table i column r = LendsIf (table_row V A allocator) V table r
       (with_value table.now i column) table.now

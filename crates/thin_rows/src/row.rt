@@ -83,7 +83,8 @@ impl<V, A: Allocator> Row<V, A> {
 
     // The value at a column, to be written, if there is an entry.
     pub(crate) fn get_mut(&mut self, column: usize) -> Option<&mut V>
-        ensures* writes_back { sem 𝓛 (LendsIfThere V.row A.row A.Allocator self.entry column result) }
+        ensures* writes_back { sem 𝓛
+            (LendsIfThere V.row A.row A.Allocator self.entry column result) }
         ensures value { option_copied_mut result ≡ map.get self.old column }
     {
         match place(self.entries.as_slice(), column) {
@@ -95,7 +96,8 @@ impl<V, A: Allocator> Row<V, A> {
     // The value at the place of its column, to be written.
     fn value_mut(&mut self, column: usize, at: usize) -> &mut V
         requires place { IsPlaceOf (map.entries self.old) column at }
-        ensures* writes_back { sem 𝓛 (LendsColumn V.row A.row A.Allocator self.entry column result) }
+        ensures* writes_back { sem 𝓛
+            (LendsColumn V.row A.row A.Allocator self.entry column result) }
         ensures value { map.get self.old column ≡ Some result.now }
     {
         &mut self.entries[at].1
@@ -107,7 +109,9 @@ impl<V, A: Allocator> Row<V, A> {
         ensures succeeds { IsSome (map.get self.old column) → IsOk result }
         ensures value { IfOk result (λ old. old ≡ map.get self.old column) }
         ensures columns { OnOk result (self.new ≡ map.insert self.old column value) }
-        ensures cause { IfErr result (λ refused. IsCause (ruled_capacity doubling (entry_type V.row) (map.len self.old) (map.len self.old + 1)) refused.cause) }
+        ensures cause { IfErr result
+            (λ refused. IsCause (ruled_capacity doubling (entry_type V.row) (map.len self.old)
+            (map.len self.old + 1)) refused.cause) }
         ensures err { OnErr result (self.new ≡ self.old) }
         ensures value_returned { IfErr result (λ refused. refused.value ≡ value) }
     {
@@ -154,7 +158,8 @@ impl<V: fmt::Debug, A: Allocator> fmt::Debug for Row<V, A> {
     }
 }
 
-// A list that is empty by now gives its block back. No memory is asked for, so this can't be refused.
+// A list that is empty by now gives its block back. No memory is asked for, so this can't be
+// refused.
 fn give_block_back<T, A: Allocator>(list: &mut ThinVec<T, A>)
     ensures items { list.new.items ≡ list.old.items }
     ensures block { (0 < list.new.capacity) ↔ (0 < length list.new.items) }

@@ -13,8 +13,9 @@ use thin_vec::{Rejected, ThinVec, ThinVecError};
 
 /// A sparse table: a finite map from row and column to value, whose number of rows is fixed.
 ///
-/// A row keeps its entries by rising columns, in one block, and a row without entries owns none: it costs a pointer, beside
-/// its allocator. A call that names a row past the end is no refusal: it is a condition on the caller.
+/// A row keeps its entries by rising columns, in one block, and a row without entries owns none: it
+/// costs a pointer, beside its allocator. A call that names a row past the end is no refusal: it is
+/// a condition on the caller.
 #[derive(Drop)]
 pub struct Rows<V, A: Allocator = Global> {
     rows: ThinVec<Row<V, A>, A>,
@@ -42,8 +43,10 @@ impl<V, A: Allocator + Copy> Rows<V, A> {
     /// It is refused where so many rows don't fit into a block, or where memory is refused.
     pub fn with_rows(alloc: A, rows: usize) -> Result<Rows<V, A>, ThinVecError>
         ensures succeeds { rows ≡ 0 → IsOk result }
-        ensures overflow { exact_capacity (row_type V.row A.row A.Allocator) 0 rows ≡ None → IsErrOf result ThinVecError.CapacityOverflow }
-        ensures cause { IfErr result (IsCause (exact_capacity (row_type V.row A.row A.Allocator) 0 rows)) }
+        ensures overflow { exact_capacity (row_type V.row A.row A.Allocator) 0 rows ≡ None
+            → IsErrOf result ThinVecError.CapacityOverflow }
+        ensures cause { IfErr result
+            (IsCause (exact_capacity (row_type V.row A.row A.Allocator) 0 rows)) }
         ensures table { IfOk result (λ table. table ≡ replicate rows columns.empty) }
     {
         let mut empty_rows = match ThinVec::with_capacity(alloc, rows) {
@@ -75,8 +78,8 @@ impl<V, A: Allocator> Rows<V, A> {
         self.rows.len()
     }
 
-    /// The number of entries in all rows, or `usize::MAX` where there are more, for which no memory has room. It visits
-    /// each row.
+    /// The number of entries in all rows, or `usize::MAX` where there are more, for which no memory
+    /// has room. It visits each row.
     pub fn len(&self) -> usize
         ensures value { result ≡ min (sum (map (λ row. columns.len row) self.now)) (2 ^ 64 - 1) }
     {
@@ -95,10 +98,12 @@ impl<V, A: Allocator> Rows<V, A> {
         self.rows[row].get(column)
     }
 
-    /// The value at a row and a column, to be written, if there is an entry. What is written is what the table then holds.
+    /// The value at a row and a column, to be written, if there is an entry. What is written is
+    /// what the table then holds.
     pub fn get_mut(&mut self, row: usize, column: usize) -> Option<&mut V>
         requires in_bounds { row < length self.old }
-        ensures* writes_back { sem 𝓛 (LendsValue V.row A.row A.Allocator self.entry row column result) }
+        ensures* writes_back { sem 𝓛
+            (LendsValue V.row A.row A.Allocator self.entry row column result) }
         ensures value { option_copied_mut result ≡ value_at self.old row column }
     {
         self.rows[row].get_mut(column)
@@ -115,15 +120,18 @@ impl<V, A: Allocator> Rows<V, A> {
         ensures succeeds { IsSome (value_at self.old row column) → IsOk result }
         ensures value { IfOk result (λ old. old ≡ value_at self.old row column) }
         ensures table { OnOk result (self.new ≡ with_value self.old row column value) }
-        ensures cause { IfErr result (λ refused. IsCause (ruled_capacity doubling (entry_type V.row) (columns.len (row_of self.old row)) (columns.len (row_of self.old row) + 1)) refused.cause) }
+        ensures cause { IfErr result
+            (λ refused. IsCause
+            (ruled_capacity doubling (entry_type V.row) (columns.len (row_of self.old row))
+            (columns.len (row_of self.old row) + 1)) refused.cause) }
         ensures err { OnErr result (self.new ≡ self.old) }
         ensures value_returned { IfErr result (λ refused. refused.value ≡ value) }
     {
         self.rows[row].set(column, value)
     }
 
-    /// Removes the entry at a row and a column, if there is one, and hands its value out. It takes no memory. The last entry
-    /// of a row gives the row's block back.
+    /// Removes the entry at a row and a column, if there is one, and hands its value out. It takes
+    /// no memory. The last entry of a row gives the row's block back.
     pub fn remove(&mut self, row: usize, column: usize) -> Option<V>
         requires in_bounds { row < length self.old }
         ensures value { result ≡ value_at self.old row column }

@@ -61,13 +61,15 @@ pub enum Command<T, A: Allocator = Global, G: Growth = Doubling> {
     DedupBy,
     /// `dedup_by_key`, by its `key`: `Done`.
     DedupByKey,
-    /// `drain` of the items from the first number up to the second, walked by these steps and dropped: `Answers`, or `Refused`.
+    /// `drain` of the items from the first number up to the second, walked by these steps and
+    /// dropped: `Answers`, or `Refused`.
     Drain(usize, usize, Vec<Step, A>),
-    /// `extract_if` of the items from the first number up to the second, by the judge's `take`; after as many calls of `next` as
-    /// the third number says it is dropped: `Answers`, or `Refused`.
+    /// `extract_if` of the items from the first number up to the second, by the judge's `take`;
+    /// after as many calls of `next` as the third number says it is dropped: `Answers`, or
+    /// `Refused`.
     ExtractIf(usize, usize, usize),
-    /// `splice` of the items from the first number up to the second, walked by these steps, and finished by these items, of which
-    /// so many are claimed: `Answers`, `Refused`, or `Stopped`.
+    /// `splice` of the items from the first number up to the second, walked by these steps, and
+    /// finished by these items, of which so many are claimed: `Answers`, `Refused`, or `Stopped`.
     Splice(usize, usize, Vec<Step, A>, Vec<T, A>, usize),
 }
 
@@ -108,7 +110,8 @@ pub enum Reply<T, A: Allocator = Global, G: Growth = Doubling> {
 impl<T, A: Allocator, G: Growth> Reply<T, A, G> {
     ghost use Rattle.thin_runner.specs.Replies.{refusal_of};
 
-    /// Why the call was refused, if it was. A command that is out of range is none that was refused.
+    /// Why the call was refused, if it was. A command that is out of range is none that was
+    /// refused.
     pub fn refusal(&self) -> Option<ThinVecError>
         ensures value { result ≡ refusal_of self.now }
     {

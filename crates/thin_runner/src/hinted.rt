@@ -9,8 +9,8 @@ use std::vec::IntoIter;
 
 /// Gives its items in order and then `None` for good, and claims the same lower bound at each turn.
 ///
-/// The claim may be past the truth. So that it keeps the rule of `size_hint`, it says that as many items may come as are left
-/// and as it claims.
+/// The claim may be past the truth. So that it keeps the rule of `size_hint`, it says that as many
+/// items may come as are left and as it claims.
 #[derive(Drop)]
 pub struct Hinted<T, A: Allocator = Global> {
     items: IntoIter<T, A>,

@@ -1,7 +1,8 @@
 //! Who answers what a command asks about the items.
 ghost use Rattle.std.specs.Prelude.{◌≡◌};
 
-/// Answers questions about items. Each command that asks begins with a copy of the judge as it was handed in.
+/// Answers questions about items. Each command that asks begins with a copy of the judge as it was
+/// handed in.
 pub trait Judge<T>: Copy {
     ghost use Rattle.thin_runner.specs.Judge.{Judging};
 

@@ -1,4 +1,5 @@
-//! Commands on a `ThinVec`, as values: `run` does a list of them, and its contract is the main theorem.
+//! Commands on a `ThinVec`, as values: `run` does a list of them, and its contract is the main
+//! theorem.
 #![tactic(auto)]
 
 pub mod command;

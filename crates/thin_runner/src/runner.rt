@@ -33,14 +33,17 @@ fn is_in_range<T, A: Allocator, G: Growth>(
 
 /// Does one command. The reply owns what the call handed out or back.
 ///
-/// What the command makes is made on `alloc`. A command that asks about items begins with a copy of `judge`.
+/// What the command makes is made on `alloc`. A command that asks about items begins with a copy of
+/// `judge`.
 pub fn step<T: Clone + Eq, A: Allocator + Copy, G: Growth, J: Judge<T>>(
     alloc: A,
     list: &mut ThinVec<T, A, G>,
     command: Command<T, A, G>,
     judge: &J,
 ) -> Reply<T, A, G>
-    ensures allowed { Steps (setting T.is_clone T.is_infallible T.eq J.judging G.rule T.row alloc judge.now) list.old command result list.new }
+    ensures allowed { Steps
+        (setting T.is_clone T.is_infallible T.eq J.judging G.rule T.row alloc judge.now) list.old
+        command result list.new }
 {
     if !is_in_range(list, &command) {
         return Reply::OutOfRange(command);
@@ -83,8 +86,8 @@ pub fn step<T: Clone + Eq, A: Allocator + Copy, G: Growth, J: Judge<T>>(
 
 /// Does the commands in order, and appends a reply for each.
 ///
-/// Room for all replies is taken first. Where that is refused, which is the one refusal, no command is done and the
-/// commands are dropped.
+/// Room for all replies is taken first. Where that is refused, which is the one refusal, no command
+/// is done and the commands are dropped.
 pub fn run<T: Clone + Eq, A: Allocator + Copy, G: Growth, J: Judge<T>>(
     alloc: A,
     list: &mut ThinVec<T, A, G>,
@@ -92,9 +95,13 @@ pub fn run<T: Clone + Eq, A: Allocator + Copy, G: Growth, J: Judge<T>>(
     replies: &mut Vec<Reply<T, A, G>, A>,
     judge: &J,
 ) -> Result<(), ThinVecError>
-    ensures succeeds { vec_len replies.old + vec_len commands ≤ vec_capacity replies.old → IsOk result }
-    ensures ok { OnOk result (Headline (setting T.is_clone T.is_infallible T.eq J.judging G.rule T.row alloc judge.now) list.old commands.items replies.old.items replies.new.items list.new) }
-    ensures err { OnErr result ((list.new ≡ list.old) × (replies.new.items ≡ replies.old.items) × (vec_capacity replies.new ≡ vec_capacity replies.old)) }
+    ensures succeeds { vec_len replies.old + vec_len commands ≤ vec_capacity replies.old
+        → IsOk result }
+    ensures ok { OnOk result
+        (Headline (setting T.is_clone T.is_infallible T.eq J.judging G.rule T.row alloc judge.now)
+        list.old commands.items replies.old.items replies.new.items list.new) }
+    ensures err { OnErr result ((list.new ≡ list.old) × (replies.new.items ≡ replies.old.items)
+        × (vec_capacity replies.new ≡ vec_capacity replies.old)) }
     ensures cause { IfErr result (λ cause. cause ≡ ThinVecError.OutOfMemory) }
 {
     let _capacity = list.capacity();

@@ -8,7 +8,8 @@ mod splices;
 
 use std::marker::PhantomData;
 
-/// What a command may need beside its list: the allocator for what it makes, and the judge as it was handed in.
+/// What a command may need beside its list: the allocator for what it makes, and the judge as it
+/// was handed in.
 #[derive(Drop)]
 pub(crate) struct Means<T, A, G, J> {
     pub(crate) alloc: A,

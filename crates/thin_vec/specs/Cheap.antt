@@ -4,8 +4,7 @@ use Rattle.thin_block.specs.Cost.{Cost}
 use Rattle.thin_vec.specs.ThinVec.{Thin}
 
 -- a capacity of 0 has cost no block and no copied item; any other has copied fewer items than it
--- has room for, and has had
--- at most as many blocks as it has binary digits
+-- has room for, and has had at most as many blocks as it has binary digits
 pub record IsCheapAt (cap : ℕ) (cost : Cost) : Type 0 where
   pub none : cap ≡ 0 → (cost.blocks ≡ 0) × (cost.grown ≡ 0)
   pub grown : 0 < cap → cost.grown < cap

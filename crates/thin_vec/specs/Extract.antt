@@ -7,8 +7,8 @@ use Rattle.thin_vec.specs.declared.extract_if.Extracting.{Extracting}
 
 module _ {T F A : Type 0} (R : F → T → Bool → F → T → Type 0) where
   -- items were asked about up to the first that goes, which is the item, or up to the end. `kept`
-  -- are those that stay, as they were
-  -- left: they stand in front, for a move each where there was a hole
+  -- are those that stay, as they were left: they stand in front, for a move each where there was a
+  -- hole
   pub record Extracts (old : Extracting T F A) (item : Option T)
       (new : Extracting T F A) : Type 0 where
     pub kept : List T

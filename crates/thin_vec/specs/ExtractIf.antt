@@ -40,8 +40,8 @@ module _ {T F A G : Type 0} {g : Ghosts G}
   extract_cost e = e.held.value.hole.cost
 
   -- what the list has once the `ExtractIf` is dropped: its items, its capacity, its allocator, and
-  -- what it has cost, a move more
-  -- for each item that was not asked about or stands behind the range, where an item was handed out
+  -- what it has cost, a move more for each item that was not asked about or stands behind the
+  -- range, where an item was handed out
   abbrev pub extract_kept : ExtractIf T F A G (Holder (Extracting T F A)) g h → List T
   extract_kept e = items_of e.held.value.hole
 
@@ -59,10 +59,8 @@ module _ {T F A G : Type 0} {g : Ghosts G}
   extract_lender e = e.list.ghost_name
 
   -- `next` took old to new, and gave the item. It asked about items up to the first that goes,
-  -- which is that item, or up to the
-  -- end. `kept` are those that stay, as the closure left them: they stand in front, for a move each
-  -- where items were handed out
-  -- before
+  -- which is that item, or up to the end. `kept` are those that stay, as the closure left them:
+  -- they stand in front, for a move each where items were handed out before
   pub record ExtractSteps (R : F → T → Bool → F → T → Type 0)
       (old : ExtractIf T F A G (Holder (Extracting T F A)) g h) (item : Option T)
       (new : ExtractIf T F A G (Holder (Extracting T F A)) g h) : Type 0 where

@@ -48,8 +48,7 @@ module _ {S T : Type 0} (R : S → T → Bool → S → T → Type 0) where
       × (answers ≡ (b, y) ∷ rest)
 
   -- w is what is left of the list v: the items whose answer was true, as they were left, for one
-  -- move each that has changed its
-  -- place; t is the last state
+  -- move each that has changed its place; t is the last state
   pub record IsRetainedTo {A : Type 0} (s : S) (v w : Thin T A) (t : S) : Type 0 where
     pub answers : Answers T
     pub asked : Asked s v.items answers t
@@ -65,13 +64,11 @@ abbrev pub Looks : {S T : Type 0} → (S → T → Bool → S → Type 0) → S 
 Looks R s x b t y = R s x b t × (y ≡ x)
 
 -- R relates a state, a later item, the last item kept, whether the later one goes, the state
--- afterwards and both items as they
--- were left
+-- afterwards and both items as they were left
 module _ {S T : Type 0} (R : S → T → T → Bool → S → T → T → Type 0) where
   -- k is the last item kept; from the state s on, each later item was asked about once beside the
-  -- last item kept by then. The
-  -- flags say which of them stay, ys is k and those, as they were left, and t is the state
-  -- afterwards
+  -- last item kept by then. The flags say which of them stay, ys is k and those, as they were left,
+  -- and t is the state afterwards
   abbrev pub AskedLast : S → T → List T → List Bool → List T → S → Type 0
   AskedLast s k [] stays ys t = (stays ≡ []) × (ys ≡ k ∷ []) × (t ≡ s)
   AskedLast s k (x ∷ xs) stays ys t =

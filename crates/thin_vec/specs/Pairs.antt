@@ -7,12 +7,10 @@ use Rattle.thin_vec.specs.Filters.{AskedLast, AskedPairs, moved_up, trues}
 use Rattle.thin_vec.specs.Open.{Open}
 
 -- R relates a state, a later item, the last item kept, whether the later one goes, the state
--- afterwards and both items as they
--- were left
+-- afterwards and both items as they were left
 module _ {S T : Type 0} (R : S → T → T → Bool → S → T → T → Type 0) where
   -- the item at k was asked about beside the one before it, in the state s: the answer is b, the
-  -- state afterwards t, and ys is xs
-  -- with both as they were left
+  -- state afterwards t, and ys is xs with both as they were left
   pub record IsPairAskedAt (k : ℕ) (s : S) (xs : List T) (b : Bool) (t : S)
       (ys : List T) : Type 0 where
     pub before : List T
@@ -62,8 +60,8 @@ module _ {S T : Type 0} (R : S → T → T → Bool → S → T → T → Type 0
     pub now : slots' ≡ slice_set (slice_set slots i (Some kept_left)) (suc i) (Some later_left)
 
   -- from the first item of xs on, which stays, each item was asked about beside the last one kept,
-  -- up to one that goes or to the
-  -- end: m items stay, and ys is xs with all of them as they were left
+  -- up to one that goes or to the end: m items stay, and ys is xs with all of them as they were
+  -- left
   pub record PairRuns (m : ℕ) (s : S) (xs : List T) (t : S) (ys : List T) : Type 0 where
     pub first : T
     pub done : List T
@@ -81,8 +79,7 @@ module _ {S T : Type 0} (R : S → T → T → Bool → S → T → T → Type 0
         ⊎ ((over ≡ []) × ((behind ≡ []) × (stays ≡ replicate more true)))
 
   -- some first items of the middle run of v were asked about beside the last one kept, which was
-  -- the last in front: w is what is
-  -- open then. Those that stay went to the front, for a move each
+  -- the last in front: w is what is open then. Those that stay went to the front, for a move each
   pub record Thins {A : Type 0} (s : S) (v : Open T A) (t : S) (w : Open T A) : Type 0 where
     pub before : List T
     pub first : T

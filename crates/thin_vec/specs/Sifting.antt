@@ -7,8 +7,7 @@ use Rattle.thin_vec.specs.Open.{Open}
 
 module _ {S T : Type 0} (R : S → T → Bool → S → T → Type 0) where
   -- the item at k was asked about, in the state s: the answer is b, the state afterwards t, and ys
-  -- is xs with the item as it was
-  -- left
+  -- is xs with the item as it was left
   pub record IsAskedAt (k : ℕ) (s : S) (xs : List T) (b : Bool) (t : S) (ys : List T) : Type 0 where
     pub before : List T
     pub item : T
@@ -25,8 +24,7 @@ module _ {S T : Type 0} (R : S → T → Bool → S → T → Type 0) where
   Stops s (x ∷ xs) t ys = (y : T) × R s x false t y × (ys ≡ y ∷ xs)
 
   -- the items from k up to m were asked about, and each stays; then nothing was left to ask about,
-  -- or the item at m was asked about
-  -- and goes. ys is xs with all of them as they were left
+  -- or the item at m was asked about and goes. ys is xs with all of them as they were left
   pub record Runs (k m : ℕ) (s : S) (xs : List T) (t : S) (ys : List T) : Type 0 where
     pub before : List T
     pub run : List T
@@ -55,8 +53,7 @@ module _ {S T : Type 0} (R : S → T → Bool → S → T → Type 0) where
     }
 
   -- some first items of the middle run of v were asked about, from the state s on: w is what is
-  -- open then, and t the state. Those
-  -- that stay went to the front, for a move each
+  -- open then, and t the state. Those that stay went to the front, for a move each
   pub record Sifts {A : Type 0} (s : S) (v : Open T A) (t : S) (w : Open T A) : Type 0 where
     pub done : List T
     pub answers : Answers T

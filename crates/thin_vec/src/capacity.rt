@@ -1,4 +1,5 @@
-//! How a list's capacity changes: the one function that computes a ruled capacity, and the one that makes a growth.
+//! How a list's capacity changes: the one function that computes a ruled capacity, and the one that
+//! makes a growth.
 ghost use Rattle.std.specs.Prelude.{◌≡◌, ◌+◌, ◌<◌, ◌≤◌, [], IfErr, IfOk, IfSome, IsErrOf, IsFalse, IsOk, IsTrue, None, OnErr, OnOk, Some, length};
 ghost use Rattle.thin_block.specs.Capacity.{Fits};
 ghost use Rattle.thin_block.specs.Cost.{growing, no_cost};
@@ -14,16 +15,20 @@ impl<T, A: Allocator, G: Growth> ThinVec<T, A, G> {
     ghost use Rattle.thin_vec.specs.Cheap.{IsCheap};
     ghost use Rattle.thin_vec.specs.ThinVec.{HasRoomFor, IsCause, IsWithin, capacity_for, cost_at, cost_new, cost_shrunk, exact_for};
 
-    /// Makes room for `additional` more items: where there is not room enough, the capacity becomes the ruled one.
+    /// Makes room for `additional` more items: where there is not room enough, the capacity becomes
+    /// the ruled one.
     ///
-    /// It is refused where that capacity overflows, or where memory is refused, and then nothing changes.
+    /// It is refused where that capacity overflows, or where memory is refused, and then nothing
+    /// changes.
     pub fn reserve(&mut self, additional: usize) -> Result<(), ThinVecError>
         ensures succeeds { HasRoomFor self.old additional → IsOk result }
         ensures succeeds_empty { additional ≡ 0 → IsOk result }
-        ensures overflow { capacity_for G.rule T.row self.old additional ≡ None → IsErrOf result ThinVecError.CapacityOverflow }
+        ensures overflow { capacity_for G.rule T.row self.old additional ≡ None
+            → IsErrOf result ThinVecError.CapacityOverflow }
         ensures cause { IfErr result (IsCause (capacity_for G.rule T.row self.old additional)) }
         ensures items { self.new.items ≡ self.old.items }
-        ensures capacity { OnOk result (capacity_for G.rule T.row self.old additional ≡ Some self.new.capacity) }
+        ensures capacity { OnOk result
+            (capacity_for G.rule T.row self.old additional ≡ Some self.new.capacity) }
         ensures had_room { HasRoomFor self.old additional → self.new.capacity ≡ self.old.capacity }
         ensures room { OnOk result (HasRoomFor self.new additional) }
         ensures never_less { self.old.capacity ≤ self.new.capacity }
@@ -39,19 +44,21 @@ impl<T, A: Allocator, G: Growth> ThinVec<T, A, G> {
         self.grow_for(additional)
     }
 
-    /// Makes room for `additional` more items and no further one: where there is not room enough, the capacity becomes the
-    /// length and `additional`.
+    /// Makes room for `additional` more items and no further one: where there is not room enough,
+    /// the capacity becomes the length and `additional`.
     ///
-    /// It is refused where that capacity does not fit, or where memory is refused, and then nothing changes. A list that
-    /// grows by this call alone copies its items each time: see `reserve`.
+    /// It is refused where that capacity does not fit, or where memory is refused, and then nothing
+    /// changes. A list that grows by this call alone copies its items each time: see `reserve`.
     #[tactic(auto, using(thin_block::proofs::CapacityLemmas::exact))]
     pub fn reserve_exact(&mut self, additional: usize) -> Result<(), ThinVecError>
         ensures succeeds { HasRoomFor self.old additional → IsOk result }
         ensures succeeds_empty { additional ≡ 0 → IsOk result }
-        ensures overflow { exact_for T.row self.old additional ≡ None → IsErrOf result ThinVecError.CapacityOverflow }
+        ensures overflow { exact_for T.row self.old additional ≡ None
+            → IsErrOf result ThinVecError.CapacityOverflow }
         ensures cause { IfErr result (IsCause (exact_for T.row self.old additional)) }
         ensures items { self.new.items ≡ self.old.items }
-        ensures capacity { OnOk result (exact_for T.row self.old additional ≡ Some self.new.capacity) }
+        ensures capacity { OnOk result
+            (exact_for T.row self.old additional ≡ Some self.new.capacity) }
         ensures had_room { HasRoomFor self.old additional → self.new.capacity ≡ self.old.capacity }
         ensures room { OnOk result (HasRoomFor self.new additional) }
         ensures alloc { self.new.alloc ≡ self.old.alloc }
@@ -71,8 +78,8 @@ impl<T, A: Allocator, G: Growth> ThinVec<T, A, G> {
 
     /// Makes the capacity the length: a full list stays, and an empty one gives its block back.
     ///
-    /// It is refused only where memory is, and then nothing changes. An empty list that gives its block back begins its
-    /// counters again.
+    /// It is refused only where memory is, and then nothing changes. An empty list that gives its
+    /// block back begins its counters again.
     pub fn shrink_to_fit(&mut self) -> Result<(), ThinVecError>
         ensures succeeds_empty { length self.old.items ≡ 0 → IsOk result }
         ensures succeeds_full { length self.old.items ≡ self.old.capacity → IsOk result }
@@ -95,16 +102,19 @@ impl<T, A: Allocator, G: Growth> ThinVec<T, A, G> {
         self.shrink_to(len)
     }
 
-    // `reserve` for a run of items. Its test is one comparison where the run's length is known when this is compiled, as
-    // that of a literal is; for the one item of a push, the test of `reserve` is.
+    // `reserve` for a run of items. Its test is one comparison where the run's length is known when
+    // this is compiled, as that of a literal is; for the one item of a push, the test of `reserve`
+    // is.
     #[tactic(auto, using(thin_block::proofs::CapacityLemmas::ruled))]
     pub(crate) fn reserve_run(&mut self, additional: usize) -> Result<(), ThinVecError>
         ensures succeeds { HasRoomFor self.old additional → IsOk result }
         ensures succeeds_empty { additional ≡ 0 → IsOk result }
-        ensures overflow { capacity_for G.rule T.row self.old additional ≡ None → IsErrOf result ThinVecError.CapacityOverflow }
+        ensures overflow { capacity_for G.rule T.row self.old additional ≡ None
+            → IsErrOf result ThinVecError.CapacityOverflow }
         ensures cause { IfErr result (IsCause (capacity_for G.rule T.row self.old additional)) }
         ensures items { self.new.items ≡ self.old.items }
-        ensures capacity { OnOk result (capacity_for G.rule T.row self.old additional ≡ Some self.new.capacity) }
+        ensures capacity { OnOk result
+            (capacity_for G.rule T.row self.old additional ≡ Some self.new.capacity) }
         ensures had_room { HasRoomFor self.old additional → self.new.capacity ≡ self.old.capacity }
         ensures room { OnOk result (HasRoomFor self.new additional) }
         ensures alloc { self.new.alloc ≡ self.old.alloc }
@@ -120,7 +130,8 @@ impl<T, A: Allocator, G: Growth> ThinVec<T, A, G> {
         Ok(())
     }
 
-    // Whether `additional` more items fit with no growth. No length is past `isize::MAX`, so the sum can't overflow.
+    // Whether `additional` more items fit with no growth. No length is past `isize::MAX`, so the
+    // sum can't overflow.
     fn has_room_for(&self, additional: usize) -> bool
         ensures within { IsWithin T.row self.now }
         ensures room { IsTrue result → HasRoomFor self.now additional }
@@ -138,11 +149,14 @@ impl<T, A: Allocator, G: Growth> ThinVec<T, A, G> {
     #[cold]
     fn grow_for(&mut self, additional: usize) -> Result<(), ThinVecError>
         requires more { self.old.capacity < length self.old.items + additional }
-        ensures overflow { capacity_for G.rule T.row self.old additional ≡ None → IsErrOf result ThinVecError.CapacityOverflow }
+        ensures overflow { capacity_for G.rule T.row self.old additional ≡ None
+            → IsErrOf result ThinVecError.CapacityOverflow }
         ensures cause { IfErr result (IsCause (capacity_for G.rule T.row self.old additional)) }
         ensures items { self.new.items ≡ self.old.items }
-        ensures capacity { OnOk result (capacity_for G.rule T.row self.old additional ≡ Some self.new.capacity) }
-        ensures grown { OnOk result (Grows T.row self.old.capacity (length self.old.items + additional) self.new.capacity) }
+        ensures capacity { OnOk result
+            (capacity_for G.rule T.row self.old additional ≡ Some self.new.capacity) }
+        ensures grown { OnOk result
+            (Grows T.row self.old.capacity (length self.old.items + additional) self.new.capacity) }
         ensures alloc { self.new.alloc ≡ self.old.alloc }
         ensures cost { OnOk result (self.new.cost ≡ growing (length self.old.items) self.old.cost) }
         ensures err { OnErr result (self.new ≡ self.old) }
@@ -159,7 +173,8 @@ impl<T, A: Allocator, G: Growth> ThinVec<T, A, G> {
     fn ruled_capacity(&self, additional: usize) -> Option<usize>
         requires more { self.now.capacity < length self.now.items + additional }
         ensures value { result ≡ capacity_for G.rule T.row self.now additional }
-        ensures grown { IfSome result (λ next. Grows T.row self.now.capacity (length self.now.items + additional) next) }
+        ensures grown { IfSome result
+            (λ next. Grows T.row self.now.capacity (length self.now.items + additional) next) }
         ensures within { IsWithin T.row self.now }
     {
         match self.len().checked_add(additional) {
@@ -216,7 +231,8 @@ impl<T, A: Allocator, G: Growth> ThinVec<T, A, G> {
         block.release(&self.alloc);
     }
 
-    // An empty list of a capacity that fits, which owns no block at 0. Every list of an exact capacity begins here.
+    // An empty list of a capacity that fits, which owns no block at 0. Every list of an exact
+    // capacity begins here.
     pub(crate) fn with_fitting_capacity(
         alloc: A,
         capacity: usize,
@@ -253,7 +269,8 @@ impl<T, A: Allocator> ThinVec<T, A> {
     #[tactic(auto, using(thin_block::proofs::CapacityLemmas::exact))]
     pub fn with_capacity(alloc: A, capacity: usize) -> Result<ThinVec<T, A>, ThinVecError>
         ensures succeeds { capacity ≡ 0 → IsOk result }
-        ensures overflow { exact_capacity T.row 0 capacity ≡ None → IsErrOf result ThinVecError.CapacityOverflow }
+        ensures overflow { exact_capacity T.row 0 capacity ≡ None
+            → IsErrOf result ThinVecError.CapacityOverflow }
         ensures cause { IfErr result (IsCause (exact_capacity T.row 0 capacity)) }
         ensures items { IfOk result (λ list. list.items ≡ []) }
         ensures capacity { IfOk result (λ list. list.capacity ≡ capacity) }

@@ -64,8 +64,8 @@ impl<T: Copy, A: Allocator, G: Growth> ThinVec<T, A, G> {
         Ok(list)
     }
 
-    /// `extend_from_copies` into room that the caller has shown to be there: it returns no `Result`.
-    /// (own)
+    /// `extend_from_copies` into room that the caller has shown to be there: it returns no
+    /// `Result`. (own)
     pub fn extend_from_copies_reserved(&mut self, items: &[T])
         requires room { HasRoomFor self.old (length items.now) }
         ensures items { self.new.items ≡ self.old.items ++ items.now }

@@ -12,20 +12,25 @@ impl<T, A: Allocator, G: Growth> ThinVec<T, A, G> {
     ghost use Rattle.thin_vec.specs.Cheap.{IsCheap};
     ghost use Rattle.thin_vec.specs.ThinVec.{HasRoomFor, IsCause, IsWithin, capacity_for, cost_at};
 
-    /// Puts `value` at `index`, and moves the items from there on one place back. The list owns it afterwards.
+    /// Puts `value` at `index`, and moves the items from there on one place back. The list owns it
+    /// afterwards.
     ///
     /// It is refused as `push` is.
     pub fn insert(&mut self, index: usize, value: T) -> Result<(), Rejected<T>>
         requires in_bounds { index ≤ length self.old.items }
         ensures succeeds { HasRoomFor self.old 1 → IsOk result }
-        ensures overflow { capacity_for G.rule T.row self.old 1 ≡ None → IsErrAnd result (λ refused. refused.cause ≡ ThinVecError.CapacityOverflow) }
-        ensures cause { IfErr result (λ refused. IsCause (capacity_for G.rule T.row self.old 1) refused.cause) }
+        ensures overflow { capacity_for G.rule T.row self.old 1 ≡ None
+            → IsErrAnd result (λ refused. refused.cause ≡ ThinVecError.CapacityOverflow) }
+        ensures cause { IfErr result
+            (λ refused. IsCause (capacity_for G.rule T.row self.old 1) refused.cause) }
 
         // The capacity is the ruled one.
         ensures items { OnOk result (self.new.items ≡ insert self.old.items index value) }
-        ensures capacity { OnOk result (capacity_for G.rule T.row self.old 1 ≡ Some self.new.capacity) }
+        ensures capacity { OnOk result
+            (capacity_for G.rule T.row self.old 1 ≡ Some self.new.capacity) }
         ensures had_room { HasRoomFor self.old 1 → self.new.capacity ≡ self.old.capacity }
-        ensures cost { OnOk result (self.new.cost ≡ moving (length self.old.items - index + 1) (cost_at self.old self.new.capacity)) }
+        ensures cost { OnOk result (self.new.cost ≡ moving (length self.old.items - index + 1)
+            (cost_at self.old self.new.capacity)) }
         ensures alloc { self.new.alloc ≡ self.old.alloc }
         ensures cheap { IsCheap self.old → IsCheap self.new }
 
@@ -75,14 +80,16 @@ impl<T, A: Allocator, G: Growth> ThinVec<T, A, G> {
         value
     }
 
-    /// Removes the item at `index` and hands it out. The last item takes its place: none moves but this one.
+    /// Removes the item at `index` and hands it out. The last item takes its place: none moves but
+    /// this one.
     pub fn swap_remove(&mut self, index: usize) -> T
         requires in_bounds { index < length self.old.items }
         ensures value { slice_get self.old.items index ≡ Some result }
         ensures items { self.new.items ≡ swap_remove self.old.items index result }
         ensures capacity { self.new.capacity ≡ self.old.capacity }
         ensures alloc { self.new.alloc ≡ self.old.alloc }
-        ensures cost { self.new.cost ≡ moving (if index + 1 == length self.old.items then 0 else 1) self.old.cost }
+        ensures cost { self.new.cost ≡ moving (if index + 1 == length self.old.items then 0 else 1)
+            self.old.cost }
         ensures within { IsWithin T.row self.old × IsWithin T.row self.new }
     {
         let last = self.block.len() - 1;

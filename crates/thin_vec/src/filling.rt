@@ -24,7 +24,9 @@ impl<T, A: Allocator> Hole<T, A> {
     fn fill<I: Iterator<Item = T>>(&mut self, iter: I) -> (I, bool)
         requires can_next { I.can_next iter }
         requires finite { IsFinite (I.remaining iter) }
-        ensures front { (xs : List T) × (self.new.front ≡ self.old.front ++ xs) × (self.new.before + length xs ≡ self.old.before) × Gives I.next_gives iter xs result.1 result.0 }
+        ensures front { (xs : List T) × (self.new.front ≡ self.old.front ++ xs)
+            × (self.new.before + length xs ≡ self.old.before)
+            × Gives I.next_gives iter xs result.1 result.0 }
         ensures same { self.new ≡ record self.old {
           front = self.new.front;
           before = self.new.before;
@@ -33,7 +35,8 @@ impl<T, A: Allocator> Hole<T, A> {
         ensures full { result.1 ≡ false → self.new.before ≡ 0 }
         ensures short { result.1 ≡ true → 0 < self.new.before }
         ensures asked { result.1 ≡ false → I.can_next result.0 × IsFinite (I.remaining result.0) }
-        ensures nearer { result.1 ≡ false → self.old.before + size (I.remaining result.0) ≤ size (I.remaining iter) }
+        ensures nearer { result.1 ≡ false → self.old.before + size (I.remaining result.0) ≤ size
+            (I.remaining iter) }
     {
         let (rest, end, ended) = put_iter(&mut self.block, self.kept, self.at, iter);
         self.kept = end;
@@ -84,14 +87,19 @@ impl<T, A: Allocator, G: Growth> ThinVec<T, A, G> {
         requires from { IsOf hole.alloc self.old.alloc }
         requires can_next { I.can_next iter }
         requires finite { IsFinite (I.remaining iter) }
-        ensures items { (xs : List T) × (self.new.items ≡ (hole.front ++ xs) ++ hole.tail) × (result.0 ≡ length hole.front + length xs) × Gives I.next_gives iter xs result.2 result.1 }
+        ensures items { (xs : List T) × (self.new.items ≡ (hole.front ++ xs) ++ hole.tail)
+            × (result.0 ≡ length hole.front + length xs)
+            × Gives I.next_gives iter xs result.2 result.1 }
         ensures capacity { self.new.capacity ≡ hole.capacity }
         ensures alloc { self.new.alloc ≡ self.old.alloc }
-        ensures cost { (m : ℕ) × (self.new.cost ≡ moving (result.0 - length hole.front + m) hole.cost) × (m ≤ length hole.tail) × (result.2 ≡ false → m ≡ 0) }
+        ensures cost { (m : ℕ)
+            × (self.new.cost ≡ moving (result.0 - length hole.front + m) hole.cost)
+            × (m ≤ length hole.tail) × (result.2 ≡ false → m ≡ 0) }
         ensures full { result.2 ≡ false → result.0 ≡ length hole.front + hole.before }
         ensures short { result.2 ≡ true → result.0 < length hole.front + hole.before }
         ensures asked { result.2 ≡ false → I.can_next result.1 × IsFinite (I.remaining result.1) }
-        ensures nearer { result.2 ≡ false → hole.before + size (I.remaining result.1) ≤ size (I.remaining iter) }
+        ensures nearer { result.2 ≡ false → hole.before + size (I.remaining result.1) ≤ size
+            (I.remaining iter) }
     {
         let (rest, ended) = hole.fill(iter);
         let end = hole.front_end();
@@ -111,7 +119,8 @@ impl<T, A: Allocator, G: Growth> ThinVec<T, A, G> {
         ensures tail { result.tail ≡ drop at self.old.items }
         ensures other_capacity { result.capacity ≡ self.old.capacity }
         ensures from { IsOf result.alloc self.old.alloc }
-        ensures other_cost { result.cost ≡ (if count == 0 then self.old.cost else moving (length self.old.items - at) self.old.cost) }
+        ensures other_cost { result.cost ≡ (if count == 0 then self.old.cost else moving
+            (length self.old.items - at) self.old.cost) }
         ensures items { self.new.items ≡ [] }
         ensures alloc { self.new.alloc ≡ self.old.alloc }
     {
@@ -137,14 +146,19 @@ impl<T, A: Allocator, G: Growth> ThinVec<T, A, G> {
         requires room { HasRoomFor self.old count }
         requires can_next { I.can_next iter }
         requires finite { IsFinite (I.remaining iter) }
-        ensures items { (xs : List T) × (self.new.items ≡ (take at self.old.items ++ xs) ++ drop at self.old.items) × (result.0 ≡ at + length xs) × Gives I.next_gives iter xs result.2 result.1 }
+        ensures items { (xs : List T)
+            × (self.new.items ≡ (take at self.old.items ++ xs) ++ drop at self.old.items)
+            × (result.0 ≡ at + length xs) × Gives I.next_gives iter xs result.2 result.1 }
         ensures capacity { self.new.capacity ≡ self.old.capacity }
         ensures alloc { self.new.alloc ≡ self.old.alloc }
-        ensures cost { (m : ℕ) × (self.new.cost ≡ moving (result.0 - at + m) self.old.cost) × (m ≤ 2 * (length self.old.items - at)) × (result.2 ≡ false → m ≤ length self.old.items - at) }
+        ensures cost { (m : ℕ) × (self.new.cost ≡ moving (result.0 - at + m) self.old.cost)
+            × (m ≤ 2 * (length self.old.items - at))
+            × (result.2 ≡ false → m ≤ length self.old.items - at) }
         ensures full { result.2 ≡ false → result.0 ≡ at + count }
         ensures short { result.2 ≡ true → result.0 < at + count }
         ensures asked { result.2 ≡ false → I.can_next result.1 × IsFinite (I.remaining result.1) }
-        ensures nearer { result.2 ≡ false → count + size (I.remaining result.1) ≤ size (I.remaining iter) }
+        ensures nearer { result.2 ≡ false → count + size (I.remaining result.1) ≤ size
+            (I.remaining iter) }
     {
         let hole = self.open_wide(at, count);
         self.close_filled(hole, iter)
@@ -164,12 +178,20 @@ impl<T: Drop, A: Allocator, G: Growth> ThinVec<T, A, G> {
         requires can_next { I.can_next iter }
         requires finite { IsFinite (I.remaining iter) }
         ensures succeeds { size (I.remaining iter) ≡ 0 → IsOk result }
-        ensures items { OnOk result ((xs : List T) × Drains I.next_gives iter xs × (self.new.items ≡ (take at self.old.items ++ xs) ++ drop at self.old.items)) }
-        ensures placed { IfErr result (λ refused. (xs : List T) × (self.new.items ≡ (take at self.old.items ++ xs) ++ drop at self.old.items) × Stopped I.next_gives I.can_next I.remaining iter xs refused.held.items refused.in_hand refused.rest) }
-        ensures cause { IfErr result (λ refused. (tail : List T) → 0 < length tail → IsStopCause G.rule T.row self.new tail refused.held.items refused.in_hand (I.remaining refused.rest) refused.cause) }
+        ensures items { OnOk result ((xs : List T) × Drains I.next_gives iter xs
+            × (self.new.items ≡ (take at self.old.items ++ xs) ++ drop at self.old.items)) }
+        ensures placed { IfErr result (λ refused. (xs : List T)
+            × (self.new.items ≡ (take at self.old.items ++ xs) ++ drop at self.old.items)
+            × Stopped I.next_gives I.can_next I.remaining iter xs refused.held.items refused.in_hand
+            refused.rest) }
+        ensures cause { IfErr result (λ refused. (tail : List T) → 0 < length tail
+            → IsStopCause G.rule T.row self.new tail refused.held.items refused.in_hand
+            (I.remaining refused.rest) refused.cause) }
         ensures capacity { IsLoose G.rule T.row self.old.capacity self.new.capacity }
-        ensures named { IsExtended G.rule T.row self.old self.new.capacity (length self.new.items) (I.remaining iter) }
-        ensures had_room { HasRoomFor self.old (size (I.remaining iter)) → self.new.capacity ≡ self.old.capacity }
+        ensures named { IsExtended G.rule T.row self.old self.new.capacity (length self.new.items)
+            (I.remaining iter) }
+        ensures had_room { HasRoomFor self.old (size (I.remaining iter))
+            → self.new.capacity ≡ self.old.capacity }
         ensures cost { IsSpliced self.old self.new (2 * (length self.old.items - at)) }
         ensures alloc { self.new.alloc ≡ self.old.alloc }
         ensures cheap { IsCheap self.old → IsCheap self.new }
@@ -201,14 +223,23 @@ impl<T: Drop, A: Allocator, G: Growth> ThinVec<T, A, G> {
         requires can_next { I.can_next iter }
         requires finite { IsFinite (I.remaining iter) }
         ensures succeeds { size (I.remaining iter) ≡ 0 → IsOk result }
-        ensures items { OnOk result ((xs : List T) × Drains I.next_gives iter xs × (self.new.items ≡ (take at self.old.items ++ xs) ++ drop at self.old.items)) }
-        ensures placed { IfErr result (λ refused. Stopped I.next_gives I.can_next I.remaining iter [] refused.held.items refused.in_hand refused.rest) }
-        ensures held { IfErr result (λ refused. refused.in_hand ≡ None → 0 < length refused.held.items) }
-        ensures cause { IfErr result (λ refused. refused.in_hand ≡ None → (refused.cause ≡ ThinVecError.CapacityOverflow) ↔ (capacity_for G.rule T.row self.new (length refused.held.items) ≡ None)) }
-        ensures in_hand { IfErr result (λ refused. IsSome refused.in_hand → refused.cause ≡ ThinVecError.OutOfMemory) }
+        ensures items { OnOk result ((xs : List T) × Drains I.next_gives iter xs
+            × (self.new.items ≡ (take at self.old.items ++ xs) ++ drop at self.old.items)) }
+        ensures placed { IfErr result
+            (λ refused. Stopped I.next_gives I.can_next I.remaining iter [] refused.held.items
+            refused.in_hand refused.rest) }
+        ensures held { IfErr result (λ refused. refused.in_hand ≡ None
+            → 0 < length refused.held.items) }
+        ensures cause { IfErr result (λ refused. refused.in_hand ≡ None
+            → (refused.cause ≡ ThinVecError.CapacityOverflow)
+            ↔ (capacity_for G.rule T.row self.new (length refused.held.items) ≡ None)) }
+        ensures in_hand { IfErr result (λ refused. IsSome refused.in_hand
+            → refused.cause ≡ ThinVecError.OutOfMemory) }
         ensures capacity { IsLoose G.rule T.row self.old.capacity self.new.capacity }
-        ensures named { IsNamed G.rule T.row self.old.capacity self.new.capacity (length self.new.items) }
-        ensures had_room { HasRoomFor self.old (size (I.remaining iter)) → self.new.capacity ≡ self.old.capacity }
+        ensures named { IsNamed G.rule T.row self.old.capacity self.new.capacity
+            (length self.new.items) }
+        ensures had_room { HasRoomFor self.old (size (I.remaining iter))
+            → self.new.capacity ≡ self.old.capacity }
         ensures cost { IsSpliced self.old self.new (length self.old.items - at) }
         ensures alloc { self.new.alloc ≡ self.old.alloc }
         ensures cheap { IsCheap self.old → IsCheap self.new }
@@ -240,10 +271,12 @@ impl<T: Drop, A: Allocator, G: Growth> ThinVec<T, A, G> {
     fn insert_vec(&mut self, at: usize, held: Vec<T, A>)
         requires in_bounds { at ≤ length self.old.items }
         requires room { HasRoomFor self.old (length held.items) }
-        ensures items { self.new.items ≡ (take at self.old.items ++ held.items) ++ drop at self.old.items }
+        ensures items { self.new.items ≡ (take at self.old.items ++ held.items)
+            ++ drop at self.old.items }
         ensures capacity { self.new.capacity ≡ self.old.capacity }
         ensures alloc { self.new.alloc ≡ self.old.alloc }
-        ensures cost { (m : ℕ) × (self.new.cost ≡ moving (length held.items + m) self.old.cost) × (m ≤ length self.old.items - at) }
+        ensures cost { (m : ℕ) × (self.new.cost ≡ moving (length held.items + m) self.old.cost)
+            × (m ≤ length self.old.items - at) }
     {
         if held.is_empty() {
             held.destroy_empty();
@@ -271,20 +304,32 @@ impl<T: Drop, A: Allocator, G: Growth> ThinVec<T, A, G> {
         requires can_next { I.can_next iter }
         requires finite { IsFinite (I.remaining iter) }
         ensures succeeds { size (I.remaining iter) ≤ hole.before → IsOk result }
-        ensures succeeds_behind { hole.tail ≡ [] → HasRoomFor (left_of hole self.old.alloc) (size (I.remaining iter)) → IsOk result }
-        ensures items { OnOk result ((xs : List T) × Drains I.next_gives iter xs × (self.new.items ≡ with_between hole xs)) }
+        ensures succeeds_behind { hole.tail ≡ [] → HasRoomFor (left_of hole self.old.alloc)
+            (size (I.remaining iter)) → IsOk result }
+        ensures items { OnOk result ((xs : List T) × Drains I.next_gives iter xs
+            × (self.new.items ≡ with_between hole xs)) }
         ensures capacity { IsLoose G.rule T.row hole.capacity self.new.capacity }
-        ensures named { IsExtended G.rule T.row (left_of hole self.old.alloc) self.new.capacity (length self.new.items) (I.remaining iter) }
-        ensures had_room { HasRoomFor (left_of hole self.old.alloc) (size (I.remaining iter)) → self.new.capacity ≡ hole.capacity }
+        ensures named { IsExtended G.rule T.row (left_of hole self.old.alloc) self.new.capacity
+            (length self.new.items) (I.remaining iter) }
+        ensures had_room { HasRoomFor (left_of hole self.old.alloc) (size (I.remaining iter))
+            → self.new.capacity ≡ hole.capacity }
         ensures cost { IsSpliced (left_of hole self.old.alloc) self.new (2 * length hole.tail) }
         ensures alloc { self.new.alloc ≡ self.old.alloc }
         ensures cheap { IsCheap (left_of hole self.old.alloc) → IsCheap self.new }
-        ensures placed { IfErr result (λ refused. (xs : List T) × (self.new.items ≡ with_between hole xs) × Stopped I.next_gives I.can_next I.remaining iter xs refused.held.items refused.in_hand refused.rest) }
-        ensures range { OnErr result (0 < length hole.tail → length hole.front + length hole.tail + hole.before ≤ length self.new.items) }
-        ensures cause { IfErr result (λ refused. IsStopCause G.rule T.row self.new hole.tail refused.held.items refused.in_hand (I.remaining refused.rest) refused.cause) }
+        ensures placed { IfErr result (λ refused. (xs : List T)
+            × (self.new.items ≡ with_between hole xs)
+            × Stopped I.next_gives I.can_next I.remaining iter xs refused.held.items refused.in_hand
+            refused.rest) }
+        ensures range { OnErr result (0 < length hole.tail → length hole.front + length hole.tail
+            + hole.before ≤ length self.new.items) }
+        ensures cause { IfErr result
+            (λ refused. IsStopCause G.rule T.row self.new hole.tail refused.held.items
+            refused.in_hand (I.remaining refused.rest) refused.cause) }
         ensures held { IfErr result (λ refused. hole.tail ≡ [] → refused.held.items ≡ []) }
-        ensures full { IfErr result (λ refused. hole.tail ≡ [] → IsSome refused.in_hand → length self.new.items ≡ self.new.capacity) }
-        ensures err { IfErr result (λ refused. hole.tail ≡ [] → refused.in_hand ≡ None → (self.new ≡ left_of hole self.old.alloc) × (refused.rest ≡ iter)) }
+        ensures full { IfErr result (λ refused. hole.tail ≡ [] → IsSome refused.in_hand
+            → length self.new.items ≡ self.new.capacity) }
+        ensures err { IfErr result (λ refused. hole.tail ≡ [] → refused.in_hand ≡ None
+            → (self.new ≡ left_of hole self.old.alloc) × (refused.rest ≡ iter)) }
     {
         if hole.has_tail() {
             return self.fill_between(hole, iter, alloc);
@@ -307,13 +352,22 @@ impl<T: Drop, A: Allocator, G: Growth> ThinVec<T, A, G> {
         requires can_next { I.can_next iter }
         requires finite { IsFinite (I.remaining iter) }
         ensures succeeds { size (I.remaining iter) ≤ hole.before → IsOk result }
-        ensures items { OnOk result ((xs : List T) × Drains I.next_gives iter xs × (self.new.items ≡ with_between hole xs)) }
-        ensures placed { IfErr result (λ refused. (xs : List T) × (self.new.items ≡ with_between hole xs) × Stopped I.next_gives I.can_next I.remaining iter xs refused.held.items refused.in_hand refused.rest) }
-        ensures range { OnErr result (length hole.front + length hole.tail + hole.before ≤ length self.new.items) }
-        ensures cause { IfErr result (λ refused. 0 < length hole.tail → IsStopCause G.rule T.row self.new hole.tail refused.held.items refused.in_hand (I.remaining refused.rest) refused.cause) }
+        ensures items { OnOk result ((xs : List T) × Drains I.next_gives iter xs
+            × (self.new.items ≡ with_between hole xs)) }
+        ensures placed { IfErr result (λ refused. (xs : List T)
+            × (self.new.items ≡ with_between hole xs)
+            × Stopped I.next_gives I.can_next I.remaining iter xs refused.held.items refused.in_hand
+            refused.rest) }
+        ensures range { OnErr result
+            (length hole.front + length hole.tail + hole.before ≤ length self.new.items) }
+        ensures cause { IfErr result (λ refused. 0 < length hole.tail
+            → IsStopCause G.rule T.row self.new hole.tail refused.held.items refused.in_hand
+            (I.remaining refused.rest) refused.cause) }
         ensures capacity { IsLoose G.rule T.row hole.capacity self.new.capacity }
-        ensures named { IsExtended G.rule T.row (left_of hole self.old.alloc) self.new.capacity (length self.new.items) (I.remaining iter) }
-        ensures had_room { HasRoomFor (left_of hole self.old.alloc) (size (I.remaining iter)) → self.new.capacity ≡ hole.capacity }
+        ensures named { IsExtended G.rule T.row (left_of hole self.old.alloc) self.new.capacity
+            (length self.new.items) (I.remaining iter) }
+        ensures had_room { HasRoomFor (left_of hole self.old.alloc) (size (I.remaining iter))
+            → self.new.capacity ≡ hole.capacity }
         ensures cost { IsSpliced (left_of hole self.old.alloc) self.new (2 * length hole.tail) }
         ensures alloc { self.new.alloc ≡ self.old.alloc }
         ensures cheap { IsCheap (left_of hole self.old.alloc) → IsCheap self.new }
@@ -340,21 +394,33 @@ impl<T: Drop, A: Allocator, G: Growth> ThinVec<T, A, G> {
         requires from { IsOf hole.alloc self.old.alloc }
         requires can_next { I.can_next iter }
         requires finite { IsFinite (I.remaining iter) }
-        ensures succeeds { HasRoomFor (left_of hole self.old.alloc) (size (I.remaining iter)) → IsOk result }
-        ensures items { OnOk result ((xs : List T) × Drains I.next_gives iter xs × (self.new.items ≡ with_between hole xs)) }
-        ensures placed { IfErr result (λ refused. (xs : List T) × (self.new.items ≡ with_between hole xs) × GaveUp I.next_gives iter xs refused.in_hand refused.rest) }
-        ensures rest { IfErr result (λ refused. I.can_next refused.rest × IsFinite (I.remaining refused.rest)) }
+        ensures succeeds { HasRoomFor (left_of hole self.old.alloc) (size (I.remaining iter))
+            → IsOk result }
+        ensures items { OnOk result ((xs : List T) × Drains I.next_gives iter xs
+            × (self.new.items ≡ with_between hole xs)) }
+        ensures placed { IfErr result (λ refused. (xs : List T)
+            × (self.new.items ≡ with_between hole xs)
+            × GaveUp I.next_gives iter xs refused.in_hand refused.rest) }
+        ensures rest { IfErr result (λ refused. I.can_next refused.rest
+            × IsFinite (I.remaining refused.rest)) }
         ensures held { IfErr result (λ refused. refused.held.items ≡ []) }
-        ensures overflow { IfErr result (λ refused. IsSome refused.in_hand → capacity_for G.rule T.row self.new 1 ≡ None → refused.cause ≡ ThinVecError.CapacityOverflow) }
-        ensures cause { IfErr result (λ refused. refused.cause ≡ ThinVecError.CapacityOverflow → Overflows G.rule T.row self.new refused.in_hand (I.remaining refused.rest)) }
+        ensures overflow { IfErr result (λ refused. IsSome refused.in_hand
+            → capacity_for G.rule T.row self.new 1 ≡ None
+            → refused.cause ≡ ThinVecError.CapacityOverflow) }
+        ensures cause { IfErr result (λ refused. refused.cause ≡ ThinVecError.CapacityOverflow
+            → Overflows G.rule T.row self.new refused.in_hand (I.remaining refused.rest)) }
         ensures capacity { IsLoose G.rule T.row hole.capacity self.new.capacity }
-        ensures named { IsExtended G.rule T.row (left_of hole self.old.alloc) self.new.capacity (length self.new.items) (I.remaining iter) }
-        ensures had_room { HasRoomFor (left_of hole self.old.alloc) (size (I.remaining iter)) → self.new.capacity ≡ hole.capacity }
+        ensures named { IsExtended G.rule T.row (left_of hole self.old.alloc) self.new.capacity
+            (length self.new.items) (I.remaining iter) }
+        ensures had_room { HasRoomFor (left_of hole self.old.alloc) (size (I.remaining iter))
+            → self.new.capacity ≡ hole.capacity }
         ensures cost { IsExtendCost (left_of hole self.old.alloc) self.new }
         ensures alloc { self.new.alloc ≡ self.old.alloc }
         ensures cheap { IsCheap (left_of hole self.old.alloc) → IsCheap self.new }
-        ensures full { IfErr result (λ refused. IsSome refused.in_hand → length self.new.items ≡ self.new.capacity) }
-        ensures err { IfErr result (λ refused. refused.in_hand ≡ None → (self.new ≡ left_of hole self.old.alloc) × (refused.rest ≡ iter)) }
+        ensures full { IfErr result (λ refused. IsSome refused.in_hand
+            → length self.new.items ≡ self.new.capacity) }
+        ensures err { IfErr result (λ refused. refused.in_hand ≡ None
+            → (self.new ≡ left_of hole self.old.alloc) × (refused.rest ≡ iter)) }
     {
         self.close(hole);
         match self.extend(iter) {
@@ -381,7 +447,8 @@ impl<T: Drop, A: Allocator, G: Growth> ThinVec<T, A, G> {
 fn hold<T, A: Allocator, I: Iterator<Item = T>>(iter: I, alloc: A) -> (Vec<T, A>, Option<T>, I)
     requires can_next { I.can_next iter }
     requires finite { IsFinite (I.remaining iter) }
-    ensures gave { MatchOption result.1 (YieldsThen I.next_gives iter result.0.items None result.2) (λ x. Yields I.next_gives iter (result.0.items ++ x ∷ []) result.2) }
+    ensures gave { MatchOption result.1 (YieldsThen I.next_gives iter result.0.items None result.2)
+        (λ x. Yields I.next_gives iter (result.0.items ++ x ∷ []) result.2) }
     ensures fewer { length result.0.items + option_len result.1 ≤ size (I.remaining iter) }
     ensures asked { IsSome result.1 → I.can_next result.2 × IsFinite (I.remaining result.2) }
 {
@@ -413,10 +480,13 @@ fn hold_spare<T, A: Allocator, I: Iterator<Item = T>>(
 ) -> (Vec<T, A>, Option<T>, I)
     requires can_next { I.can_next iter }
     requires finite { IsFinite (I.remaining iter) }
-    ensures items { (xs : List T) × (result.0.items ≡ held.items ++ xs) × YieldsThen I.next_gives iter xs result.1 result.2 }
+    ensures items { (xs : List T) × (result.0.items ≡ held.items ++ xs)
+        × YieldsThen I.next_gives iter xs result.1 result.2 }
     ensures rest { OnSome result.1 (I.can_next result.2 × IsFinite (I.remaining result.2)) }
     ensures fewer { length result.0.items ≤ length held.items + size (I.remaining iter) }
-    ensures nearer { OnSome result.1 (length result.0.items + size (I.remaining result.2) < length held.items + size (I.remaining iter)) }
+    ensures nearer { OnSome result.1
+        (length result.0.items + size (I.remaining result.2) < length held.items + size
+        (I.remaining iter)) }
 {
     let mut filled = held;
     let mut rest = iter;

@@ -10,10 +10,11 @@ use std::marker::Model;
 use std::mem;
 use thin_block::{Block, Growth};
 
-/// A block that is open: the items in front stay, and behind them lie empty slots, the items of the middle run, empty slots
-/// again, and the items that the edit has not reached.
+/// A block that is open: the items in front stay, and behind them lie empty slots, the items of the
+/// middle run, empty slots again, and the items that the edit has not reached.
 ///
-/// It owns the block and its items, and is no owner that drops: `close` puts the block back into the list.
+/// It owns the block and its items, and is no owner that drops: `close` puts the block back into
+/// the list.
 pub struct Hole<T, A: Allocator> {
     pub(crate) block: Block<T, A>,
     // The first slot behind the front.
@@ -41,8 +42,8 @@ impl<T, A: Allocator> Model for Hole<T, A> {
 }
 
 impl<T, A: Allocator, G: Growth> ThinVec<T, A, G> {
-    // The list's block, in which the items from `start` up to `stop` are the middle run. The list is left empty and without a
-    // block.
+    // The list's block, in which the items from `start` up to `stop` are the middle run. The list
+    // is left empty and without a block.
     pub(crate) fn open(&mut self, start: usize, stop: usize) -> Hole<T, A>
         requires start_le_end { start ≤ stop }
         requires in_bounds { stop ≤ length self.old.items }
@@ -115,7 +116,11 @@ impl<T, A: Allocator> Hole<T, A> {
     pub(crate) fn take_first(&mut self) -> T
         requires some { 0 < length self.old.rest }
         ensures rest { self.old.rest ≡ result ∷ self.new.rest }
-        ensures same { self.new ≡ record self.old { rest = self.new.rest; before = self.old.before + 1 } }
+        ensures same { self.new ≡ record self.old {
+          rest = self.new.rest;
+          before = self.old.before
+              + 1;
+        } }
     {
         let first = self.at;
         self.at += 1;
@@ -126,7 +131,11 @@ impl<T, A: Allocator> Hole<T, A> {
     pub(crate) fn take_last(&mut self) -> T
         requires some { 0 < length self.old.rest }
         ensures rest { self.old.rest ≡ self.new.rest ++ result ∷ [] }
-        ensures same { self.new ≡ record self.old { rest = self.new.rest; behind = self.old.behind + 1 } }
+        ensures same { self.new ≡ record self.old {
+          rest = self.new.rest;
+          behind = self.old.behind
+              + 1;
+        } }
     {
         self.end -= 1;
         self.block.take(self.end)
@@ -157,7 +166,8 @@ impl<T, A: Allocator> Hole<T, A> {
     // Counts all empty slots as one hole. The middle run is empty.
     pub(crate) fn join(&mut self)
         requires none { self.old.rest ≡ [] }
-        ensures { self.new ≡ record self.old { before = self.old.before + self.old.behind; behind = 0 } }
+        ensures { self.new
+            ≡ record self.old { before = self.old.before + self.old.behind; behind = 0 } }
     {
         self.at = self.stop;
         self.end = self.stop;

@@ -1,4 +1,5 @@
-//! Steps on a block that is open: each item of its middle run is asked about beside the last one that stays.
+//! Steps on a block that is open: each item of its middle run is asked about beside the last one
+//! that stays.
 ghost use Rattle.std.specs.Prelude.{◌≡◌, ◌+◌, ◌-◌, ◌^◌, ◌<◌, ◌≤◌, ◌∷◌, ◌++◌, [], Bool, length};
 ghost use Rattle.thin_block.specs.Cost.{moving};
 ghost use Rattle.thin_block.specs.Slots.{AreFilled};
@@ -10,7 +11,8 @@ use thin_block::Block;
 
 /// What says of two items whether the later one goes, and may write to both.
 pub(crate) trait AsksPairs<T> {
-    /// From one state to the next: a later item, the last one kept, the answer, and both as they are left.
+    /// From one state to the next: a later item, the last one kept, the answer, and both as they
+    /// are left.
     ghost asks: { Self → T → T → Bool → Self → T → T → Type 0 };
 
     /// It can be asked about any two items, and again after each answer.
@@ -30,7 +32,8 @@ impl<T, A: Allocator> Hole<T, A> {
         requires some { 0 < k }
         requires in_bounds { k < length self.old.rest }
         requires ready { J.ready judge.old }
-        ensures asked { IsPairAskedAt J.asks k judge.old self.old.rest result judge.new self.new.rest }
+        ensures asked { IsPairAskedAt J.asks k judge.old self.old.rest result judge.new
+            self.new.rest }
         ensures ready { J.ready judge.new }
         ensures same { self.new ≡ record self.old { rest = self.new.rest } }
     {
@@ -42,7 +45,8 @@ impl<T, A: Allocator> Hole<T, A> {
     pub(crate) fn ask_last<J: AsksPairs<T>>(&mut self, later: &mut T, judge: &mut J) -> bool
         requires some { 0 < length self.old.front }
         requires ready { J.ready judge.old }
-        ensures asked { IsLastAsked J.asks judge.old later.old self.old.front result judge.new later.new self.new.front }
+        ensures asked { IsLastAsked J.asks judge.old later.old self.old.front result judge.new
+            later.new self.new.front }
         ensures ready { J.ready judge.new }
         ensures same { self.new ≡ record self.old { front = self.new.front } }
     {
@@ -53,7 +57,8 @@ impl<T, A: Allocator> Hole<T, A> {
     pub(crate) fn ask_next<J: AsksPairs<T>>(&mut self, kept: &mut T, judge: &mut J) -> bool
         requires some { 0 < length self.old.rest }
         requires ready { J.ready judge.old }
-        ensures asked { IsNextAsked J.asks judge.old kept.old self.old.rest result judge.new kept.new self.new.rest }
+        ensures asked { IsNextAsked J.asks judge.old kept.old self.old.rest result judge.new
+            kept.new self.new.rest }
         ensures ready { J.ready judge.new }
         ensures same { self.new ≡ record self.old { rest = self.new.rest } }
     {
@@ -77,8 +82,8 @@ impl<T, A: Allocator> Hole<T, A> {
 impl<T, A: Allocator> Hole<T, A> {
     ghost use Rattle.thin_vec.specs.Pairs.{PairRuns};
 
-    // The first item of the middle run stays: asks about those behind it, in place, up to the first that goes or to the end, and
-    // answers how many stay.
+    // The first item of the middle run stays: asks about those behind it, in place, up to the first
+    // that goes or to the end, and answers how many stay.
     fn ask_pairs<J: AsksPairs<T>>(&mut self, judge: &mut J) -> usize
         requires some { 0 < length self.old.rest }
         requires ready { J.ready judge.old }
@@ -100,8 +105,8 @@ impl<T, A: Allocator> Hole<T, A> {
 impl<T: Drop, A: Allocator> Hole<T, A> {
     ghost use Rattle.thin_vec.specs.Pairs.{IsThinned, Thins};
 
-    // Keeps the first item of the middle run, asks about each other one beside the last one kept, and drops those that go. None
-    // is left in the middle.
+    // Keeps the first item of the middle run, asks about each other one beside the last one kept,
+    // and drops those that go. None is left in the middle.
     pub(crate) fn thin_out<J: AsksPairs<T>>(&mut self, judge: &mut J)
         requires some { 0 < length self.old.rest }
         requires front { self.old.front ≡ [] }
@@ -130,8 +135,9 @@ impl<T: Drop, A: Allocator> Hole<T, A> {
         }
     }
 
-    // Asks about the next item, and where it stays, about those behind it up to the first that goes. The first of them moves by
-    // itself: two items with empty slots between them can't both be lent.
+    // Asks about the next item, and where it stays, about those behind it up to the first that
+    // goes. The first of them moves by itself: two items with empty slots between them can't both
+    // be lent.
     fn thin_round<J: AsksPairs<T>>(&mut self, judge: &mut J)
         requires some { 0 < length self.old.front }
         requires more { 0 < length self.old.rest }

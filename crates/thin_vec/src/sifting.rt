@@ -1,4 +1,5 @@
-//! Steps on a block that is open: its items are asked about in place, and those that stay go to the front.
+//! Steps on a block that is open: its items are asked about in place, and those that stay go to the
+//! front.
 ghost use Rattle.std.specs.Prelude.{◌≡◌, ◌↔◌, ◌+◌, ◌<◌, ◌≤◌, ◌==◌, ◌++◌, [], Bool, IsTrue, drop, if◌then◌else◌, length, take};
 ghost use Rattle.thin_block.specs.Cost.{moving};
 
@@ -36,11 +37,17 @@ impl<T, A: Allocator> Hole<T, A> {
         judge.ask(self.block.slot_mut(self.at + k))
     }
 
-    // The first `k` items of the middle run join the front, where they are: no empty slot lies between.
+    // The first `k` items of the middle run join the front, where they are: no empty slot lies
+    // between.
     pub(crate) fn pass(&mut self, k: usize)
         requires none { self.old.before ≡ 0 }
         requires in_bounds { k ≤ length self.old.rest }
-        ensures { self.new ≡ record self.old { front = self.old.front ++ take k self.old.rest; rest = drop k self.old.rest } }
+        ensures { self.new
+            ≡ record self.old {
+              front = self.old.front ++ take k self.old.rest;
+              rest = drop k
+                  self.old.rest;
+            } }
     {
         self.kept += k;
         self.at += k;
@@ -62,7 +69,8 @@ impl<T, A: Allocator> Hole<T, A> {
         self.at += 1;
     }
 
-    // The first `k` items of the middle run move to the front: two or a few in line, and more as one run.
+    // The first `k` items of the middle run move to the front: two or a few in line, and more as
+    // one run.
     #[inline(always)]
     pub(crate) fn lower(&mut self, k: usize)
         requires in_bounds { k ≤ length self.old.rest }
@@ -103,7 +111,8 @@ impl<T, A: Allocator> Hole<T, A> {
         self.at += k;
     }
 
-    // Whether the middle run has more than one item, behind a hole. (The last place of the run stays in a register.)
+    // Whether the middle run has more than one item, behind a hole. (The last place of the run
+    // stays in a register.)
     fn has_two(&self) -> bool
         requires hole { 0 < self.now.before }
         ensures value { IsTrue result ↔ (1 < length self.now.rest) }
@@ -111,7 +120,8 @@ impl<T, A: Allocator> Hole<T, A> {
         self.at < self.end - 1
     }
 
-    // Asks about the items of the middle run from `k` on, up to the first that goes or to the end, and answers where that is.
+    // Asks about the items of the middle run from `k` on, up to the first that goes or to the end,
+    // and answers where that is.
     pub(crate) fn ask_run<J: Asks<T>>(&mut self, k: usize, judge: &mut J) -> usize
         requires in_bounds { k ≤ length self.old.rest }
         requires ready { J.ready judge.old }
@@ -133,8 +143,8 @@ impl<T, A: Allocator> Hole<T, A> {
 impl<T, A: Allocator> Hole<T, A> {
     ghost use Rattle.thin_vec.specs.Sifting.{Advances};
 
-    // Asks about the items of the middle run up to the first that goes, and answers whether there is one. Those before it join
-    // the front: they move there where there is a hole.
+    // Asks about the items of the middle run up to the first that goes, and answers whether there
+    // is one. Those before it join the front: they move there where there is a hole.
     pub(crate) fn advance<J: Asks<T>>(&mut self, judge: &mut J) -> bool
         requires ready { J.ready judge.old }
         ensures advances { Advances J.asks judge.old self.old judge.new self.new }
@@ -164,7 +174,8 @@ impl<T, A: Allocator> Hole<T, A> {
         }
     }
 
-    // The same of two items and more, behind a hole. A run of none or of one is found with nothing counted.
+    // The same of two items and more, behind a hole. A run of none or of one is found with nothing
+    // counted.
     fn advance_two<J: Asks<T>>(&mut self, judge: &mut J) -> bool
         requires two { 1 < length self.old.rest }
         requires hole { 0 < self.old.before }
@@ -208,7 +219,8 @@ impl<T, A: Allocator> Hole<T, A> {
 impl<T: Drop, A: Allocator> Hole<T, A> {
     ghost use Rattle.thin_vec.specs.Sifting.{IsSifted, Sifts};
 
-    // Asks about all items of the middle run, keeps those that stay and drops the others. None is left in the middle.
+    // Asks about all items of the middle run, keeps those that stay and drops the others. None is
+    // left in the middle.
     pub(crate) fn sift<J: Asks<T>>(&mut self, judge: &mut J)
         requires none { self.old.before ≡ 0 }
         requires ready { J.ready judge.old }

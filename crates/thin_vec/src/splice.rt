@@ -82,7 +82,11 @@ impl<'a, T, I, A: Allocator, G: Growth> Splice<'a, I, T, A, G> {
 
     /// How many items of the range remain, as the least and the greatest number that may come.
     pub fn size_hint(&self) -> (usize, Option<usize>)
-        ensures value { result ≡ (length (splice_hole self.now).rest, Some (length (splice_hole self.now).rest)) }
+        ensures value { result ≡ (
+          length (splice_hole self.now).rest,
+          Some
+              (length (splice_hole self.now).rest),
+        ) }
     {
         let len = self.len();
         (len, Some(len))
@@ -132,31 +136,52 @@ impl<
     pub fn finish(self, alloc: A) -> Result<(), SpliceRefused<T, I, A>>
         requires can_next { I.can_next (splice_iter self) }
         requires finite { IsFinite (I.remaining (splice_iter self)) }
-        ensures succeeds { size (I.remaining (splice_iter self.entry)) ≤ splice_range self.entry → IsOk result }
-        ensures succeeds_behind { (splice_hole self.entry).tail ≡ [] → HasRoomFor (splice_left self.entry) (size (I.remaining (splice_iter self.entry))) → IsOk result }
-        ensures items { OnOk result ((xs : List T) × Drains I.next_gives (splice_iter self.entry) xs × (self.exit.0.now.items ≡ splice_replaced self.entry xs)) }
-        ensures runs { OnOk result (WholeRun I.next_gives (splice_iter self.entry) (λ p. self.exit.0.now.items ≡ splice_replaced self.entry p.items)) }
+        ensures succeeds { size (I.remaining (splice_iter self.entry)) ≤ splice_range self.entry
+            → IsOk result }
+        ensures succeeds_behind { (splice_hole self.entry).tail ≡ []
+            → HasRoomFor (splice_left self.entry) (size (I.remaining (splice_iter self.entry)))
+            → IsOk result }
+        ensures items { OnOk result ((xs : List T) × Drains I.next_gives (splice_iter self.entry) xs
+            × (self.exit.0.now.items ≡ splice_replaced self.entry xs)) }
+        ensures runs { OnOk result (WholeRun I.next_gives (splice_iter self.entry)
+            (λ p. self.exit.0.now.items ≡ splice_replaced self.entry p.items)) }
 
         // On success and failure, each item that came in has moved once, and each after the range
         // at most twice.
-        ensures capacity { IsLoose G.rule T.row (splice_hole self.entry).capacity self.exit.0.now.capacity }
-        ensures named { IsExtended G.rule T.row (splice_left self.entry) self.exit.0.now.capacity (length self.exit.0.now.items) (I.remaining (splice_iter self.entry)) }
-        ensures had_room { HasRoomFor (splice_left self.entry) (size (I.remaining (splice_iter self.entry))) → self.exit.0.now.capacity ≡ (splice_hole self.entry).capacity }
+        ensures capacity { IsLoose G.rule T.row (splice_hole self.entry).capacity
+            self.exit.0.now.capacity }
+        ensures named { IsExtended G.rule T.row (splice_left self.entry) self.exit.0.now.capacity
+            (length self.exit.0.now.items) (I.remaining (splice_iter self.entry)) }
+        ensures had_room { HasRoomFor (splice_left self.entry)
+            (size (I.remaining (splice_iter self.entry)))
+            → self.exit.0.now.capacity ≡ (splice_hole self.entry).capacity }
         ensures never_less { (splice_hole self.entry).capacity ≤ self.exit.0.now.capacity }
-        ensures cost { IsSpliced (splice_left self.entry) self.exit.0.now (2 * length (splice_hole self.entry).tail) }
+        ensures cost { IsSpliced (splice_left self.entry) self.exit.0.now
+            (2 * length (splice_hole self.entry).tail) }
         ensures alloc { self.exit.0.now.alloc ≡ splice_alloc self.entry }
         ensures cheap { IsCheap (splice_left self.entry) → IsCheap self.exit.0.now }
         ensures within { IsWithin T.row self.exit.0.now }
 
         // On failure no item is lost. With items after the range, its places are filled by then.
-        ensures placed { IfErr result (λ refused. (xs : List T) × (self.exit.0.now.items ≡ splice_replaced self.entry xs) × Stopped I.next_gives I.can_next I.remaining (splice_iter self.entry) xs refused.held.items refused.in_hand refused.rest) }
-        ensures range { OnErr result (0 < length (splice_hole self.entry).tail → length (splice_left self.entry).items + splice_range self.entry ≤ length self.exit.0.now.items) }
-        ensures cause { IfErr result (λ refused. IsStopCause G.rule T.row self.exit.0.now (splice_hole self.entry).tail refused.held.items refused.in_hand (I.remaining refused.rest) refused.cause) }
+        ensures placed { IfErr result (λ refused. (xs : List T)
+            × (self.exit.0.now.items ≡ splice_replaced self.entry xs)
+            × Stopped I.next_gives I.can_next I.remaining
+            (splice_iter self.entry) xs refused.held.items refused.in_hand refused.rest) }
+        ensures range { OnErr result (0 < length (splice_hole self.entry).tail
+            → length (splice_left self.entry).items + splice_range self.entry
+            ≤ length self.exit.0.now.items) }
+        ensures cause { IfErr result (λ refused. IsStopCause G.rule T.row self.exit.0.now
+            (splice_hole self.entry).tail refused.held.items refused.in_hand
+            (I.remaining refused.rest) refused.cause) }
 
         // With no item after the range, it fails as `extend` does.
-        ensures held { IfErr result (λ refused. (splice_hole self.entry).tail ≡ [] → refused.held.items ≡ []) }
-        ensures full { IfErr result (λ refused. (splice_hole self.entry).tail ≡ [] → IsSome refused.in_hand → length self.exit.0.now.items ≡ self.exit.0.now.capacity) }
-        ensures err { IfErr result (λ refused. (splice_hole self.entry).tail ≡ [] → refused.in_hand ≡ None → (self.exit.0.now ≡ splice_left self.entry) × (refused.rest ≡ splice_iter self.entry)) }
+        ensures held { IfErr result (λ refused. (splice_hole self.entry).tail ≡ []
+            → refused.held.items ≡ []) }
+        ensures full { IfErr result (λ refused. (splice_hole self.entry).tail ≡ []
+            → IsSome refused.in_hand → length self.exit.0.now.items ≡ self.exit.0.now.capacity) }
+        ensures err { IfErr result (λ refused. (splice_hole self.entry).tail ≡ []
+            → refused.in_hand ≡ None → (self.exit.0.now ≡ splice_left self.entry)
+            × (refused.rest ≡ splice_iter self.entry)) }
     {
         let Splice { list, held, iter } = self;
         let mut hole = held.into_inner();

@@ -16,7 +16,8 @@ pub fn keep_even<A: Allocator, G: Growth>(list: &mut ThinVec<u32, A, G>)
     list.retain(|number| number % 2 == 0);
 }
 
-/// Keeps each number of a sorted list once: then each is below the next, and no two neighbours are equal.
+/// Keeps each number of a sorted list once: then each is below the next, and no two neighbours are
+/// equal.
 pub fn keep_distinct<A: Allocator, G: Growth>(list: &mut ThinVec<u32, A, G>)
     requires sorted { IsSorted nat_cmp list.old.items }
     ensures distinct { IsStrictlyIncreasing list.new.items }

@@ -16,15 +16,18 @@ pub fn halves<A: Allocator>(alloc: A, numbers: &[u32]) -> Option<ThinVec<u32, A>
     }
 }
 
-/// Appends the numbers that are below `limit`, in order, and answers whether all went in. The old items stay in any case.
+/// Appends the numbers that are below `limit`, in order, and answers whether all went in. The old
+/// items stay in any case.
 pub fn extend_below<A: Allocator, G: Growth>(
     list: &mut ThinVec<u32, A, G>,
     numbers: &[u32],
     limit: u32,
 ) -> bool
-    ensures succeeds { length list.old.items + length numbers.now ≤ list.old.capacity → IsTrue result }
+    ensures succeeds { length list.old.items + length numbers.now ≤ list.old.capacity
+        → IsTrue result }
     ensures succeeds_empty { length numbers.now ≡ 0 → IsTrue result }
-    ensures items { IsTrue result → list.new.items ≡ list.old.items ++ filter (λ number. nat_lt number limit) numbers.now }
+    ensures items { IsTrue result → list.new.items ≡ list.old.items ++ filter
+        (λ number. nat_lt number limit) numbers.now }
     ensures kept { take (length list.old.items) list.new.items ≡ list.old.items }
 {
     match list.extend(numbers.iter().copied().filter(|number| *number < limit)) {
@@ -61,7 +64,8 @@ pub fn continued<A: Allocator, G: Growth>(
     Ok(copy)
 }
 
-/// Appends the numbers, and answers how many went in behind the old items: all, or those before the one that was refused.
+/// Appends the numbers, and answers how many went in behind the old items: all, or those before the
+/// one that was refused.
 pub fn extend_by_number<A: Allocator, G: Growth>(
     list: &mut ThinVec<u32, A, G>,
     numbers: &[u32],
@@ -69,7 +73,8 @@ pub fn extend_by_number<A: Allocator, G: Growth>(
     ensures grown { length list.new.items ≡ length list.old.items + result }
     ensures kept { take (length list.old.items) list.new.items ≡ list.old.items }
     ensures in_bounds { result ≤ length numbers.now }
-    ensures all { length list.old.items + length numbers.now ≤ list.old.capacity → result ≡ length numbers.now }
+    ensures all { length list.old.items + length numbers.now ≤ list.old.capacity
+        → result ≡ length numbers.now }
 {
     let before = list.len();
     match list.extend(numbers.iter().copied()) {
@@ -78,13 +83,15 @@ pub fn extend_by_number<A: Allocator, G: Growth>(
     }
 }
 
-/// Makes the text `len` bytes long, by spaces behind it. Refused, it is as it was, and so is its capacity.
+/// Makes the text `len` bytes long, by spaces behind it. Refused, it is as it was, and so is its
+/// capacity.
 pub fn pad<A: Allocator, G: Growth>(
     text: &mut ThinVec<u8, A, G>,
     len: usize,
 ) -> Result<(), AllocError>
     ensures succeeds { len ≤ text.old.capacity → IsOk result }
-    ensures items { OnOk result (text.new.items ≡ take len text.old.items ++ replicate (len - length text.old.items) 32) }
+    ensures items { OnOk result (text.new.items ≡ take len text.old.items ++ replicate
+        (len - length text.old.items) 32) }
     ensures err { OnErr result (text.new ≡ text.old) }
 {
     text.resize(len, b' ')?;
@@ -105,15 +112,18 @@ pub fn append_line<A: Allocator, G: Growth>(
     Ok(())
 }
 
-/// Takes all items of `other`. Where it has none, no memory is asked for. Refused, both are as they were.
+/// Takes all items of `other`. Where it has none, no memory is asked for. Refused, both are as they
+/// were.
 pub fn take_all<T, A: Allocator, G: Growth>(
     list: &mut ThinVec<T, A, G>,
     other: &mut ThinVec<T, A, G>,
 ) -> Result<(), ThinVecError>
     ensures succeeds { HasRoomFor list.old (length other.old.items) → IsOk result }
     ensures succeeds_empty { other.old.items ≡ [] → IsOk result }
-    ensures overflow { capacity_for G.rule T.row list.old (length other.old.items) ≡ None → IsErrOf result ThinVecError.CapacityOverflow }
-    ensures cause { IfErr result (IsCause (capacity_for G.rule T.row list.old (length other.old.items))) }
+    ensures overflow { capacity_for G.rule T.row list.old (length other.old.items) ≡ None
+        → IsErrOf result ThinVecError.CapacityOverflow }
+    ensures cause { IfErr result
+        (IsCause (capacity_for G.rule T.row list.old (length other.old.items))) }
     ensures items { OnOk result (list.new.items ≡ list.old.items ++ other.old.items) }
     ensures other_items { OnOk result (other.new.items ≡ []) }
     ensures err { OnErr result (list.new ≡ list.old) }
@@ -127,7 +137,8 @@ pub fn lower_first<A: Allocator, G: Growth>(list: &mut ThinVec<u32, A, G>, less:
     requires some { 0 < length list.old.items }
     requires enough { less ≤ slice_index list.old.items 0 }
     ensures value { result ≡ slice_index list.old.items 0 }
-    ensures items { list.new.items ≡ slice_set list.old.items 0 (slice_index list.old.items 0 - less) }
+    ensures items { list.new.items ≡ slice_set list.old.items 0
+        (slice_index list.old.items 0 - less) }
 {
     let first = list[0];
     list[0] = first - less;

@@ -73,7 +73,8 @@ pub fn every_edit<T: Sample, G: Ruled, R: Abort>(rt: &R, scope: &Scope) {
     sweep::<IntoOthers, T, G, R>(rt, scope);
 }
 
-/// Sweeps the calls that put items in the place of a range, and those that fill room that was shown.
+/// Sweeps the calls that put items in the place of a range, and those that fill room that was
+/// shown.
 pub fn every_replacing<T: Sample, G: Ruled, R: Abort>(rt: &R, scope: &Scope) {
     sweep::<ReplaceRange, T, G, R>(rt, scope);
     sweep::<ReplaceRangeFromList, T, G, R>(rt, scope);

@@ -8,7 +8,8 @@ use thin_vec::{Growth, ThinVec};
 
 /// Moves the numbers from `start` up to `end` behind those of `other`, or moves none.
 ///
-/// The `Drain` stays here, and only its numbers go into the call: of one that another call uses up no contract says what it leaves.
+/// The `Drain` stays here, and only its numbers go into the call: of one that another call uses up
+/// no contract says what it leaves.
 pub fn move_range<A: Allocator, G: Growth>(
     list: &mut ThinVec<u32, A, G>,
     start: usize,
@@ -18,8 +19,10 @@ pub fn move_range<A: Allocator, G: Growth>(
     requires start_le_end { start ≤ end }
     requires in_bounds { end ≤ length list.old.items }
     ensures succeeds { HasRoomFor other.old (end - start) → IsOk result }
-    ensures items { OnOk result (list.new.items ≡ take start list.old.items ++ drop end list.old.items) }
-    ensures other_items { OnOk result (other.new.items ≡ other.old.items ++ slice_range list.old.items start end) }
+    ensures items { OnOk result
+        (list.new.items ≡ take start list.old.items ++ drop end list.old.items) }
+    ensures other_items { OnOk result
+        (other.new.items ≡ other.old.items ++ slice_range list.old.items start end) }
     ensures err { OnErr result (list.new ≡ list.old) }
     ensures other_err { OnErr result (other.new ≡ other.old) }
 {

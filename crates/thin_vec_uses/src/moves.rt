@@ -56,7 +56,8 @@ pub fn kept_all<T: Drop, A: Allocator, G: Growth>(list: &mut ThinVec<T, A, G>)
     list.retain(|_item: &T| true);
 }
 
-/// Takes the first even one of the items from 2 to 5 out, and asks about no other: the four behind it move.
+/// Takes the first even one of the items from 2 to 5 out, and asks about no other: the four behind
+/// it move.
 pub fn extracted_first<A: Allocator, G: Growth>(list: &mut ThinVec<u32, A, G>) -> Option<u32>
     requires to_six { list.old.items ≡ 1 ∷ 2 ∷ 3 ∷ 4 ∷ 5 ∷ 6 ∷ [] }
     ensures value { result ≡ Some 2 }
@@ -68,14 +69,15 @@ pub fn extracted_first<A: Allocator, G: Growth>(list: &mut ThinVec<u32, A, G>) -
         .next()
 }
 
-/// Puts three items in the place of two, with one behind them: at most five moves, one for each that comes in, and two for the
-/// one behind.
+/// Puts three items in the place of two, with one behind them: at most five moves, one for each
+/// that comes in, and two for the one behind.
 pub fn spliced_middle<A: Allocator + Copy, G: Growth>(
     list: &mut ThinVec<u32, A, G>,
     alloc: A,
 ) -> Result<(), AllocError>
     requires five { length list.old.items ≡ 5 }
-    ensures items { OnOk result (list.new.items ≡ (take 2 list.old.items ++ 10 ∷ 11 ∷ 12 ∷ []) ++ drop 4 list.old.items) }
+    ensures items { OnOk result (list.new.items ≡ (take 2 list.old.items ++ 10 ∷ 11 ∷ 12 ∷ [])
+        ++ drop 4 list.old.items) }
     ensures five_moves { OnOk result (list.new.cost.moves ≤ list.old.cost.moves + 5) }
 {
     let numbers = thin_vec![alloc => 10, 11, 12]?;
@@ -83,8 +85,8 @@ pub fn spliced_middle<A: Allocator + Copy, G: Growth>(
     Ok(())
 }
 
-/// A new list, filled and edited: six items come in behind, one between others, and five go out again. Two stay, after at most
-/// 14 moves.
+/// A new list, filled and edited: six items come in behind, one between others, and five go out
+/// again. Two stay, after at most 14 moves.
 pub fn edited<A: Allocator + Copy>(alloc: A) -> Result<ThinVec<u32, A>, AllocError>
     ensures len { IfOk result (λ list. length list.items ≡ 2) }
     ensures moves { IfOk result (λ list. list.cost.moves ≤ 14) }

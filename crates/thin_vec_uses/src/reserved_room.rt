@@ -12,7 +12,8 @@ pub fn push_both<T: Drop, A: Allocator, G: Growth>(
     second: T,
 ) -> Result<(), ThinVecError>
     ensures succeeds { HasRoomFor list.old 2 → IsOk result }
-    ensures overflow { capacity_for G.rule T.row list.old 2 ≡ None → IsErrOf result ThinVecError.CapacityOverflow }
+    ensures overflow { capacity_for G.rule T.row list.old 2 ≡ None
+        → IsErrOf result ThinVecError.CapacityOverflow }
     ensures cause { IfErr result (IsCause (capacity_for G.rule T.row list.old 2)) }
     ensures items { OnOk result (list.new.items ≡ list.old.items ++ first ∷ second ∷ []) }
     ensures err { OnErr result (list.new ≡ list.old) }

@@ -1,4 +1,5 @@
-//! Counts in a sparse table: a count that is 0 has no entry, and a row without counts owns no block.
+//! Counts in a sparse table: a count that is 0 has no entry, and a row without counts owns no
+//! block.
 ghost use Rattle.std.specs.FinMap as columns;
 ghost use Rattle.std.specs.Option.{unwrap_or};
 ghost use Rattle.std.specs.Prelude.{◌≡◌, ◌↔◌, ◌+◌, ◌-◌, ◌^◌, ◌<◌, ◌/◌, IfSome, IsNone, IsOk, IsSome, IsTrue, None, OnErr, OnOk, length, min};
@@ -16,7 +17,9 @@ pub fn add<A: Allocator>(
 ) -> Result<(), AllocError>
     requires in_bounds { row < length counts.old }
     ensures succeeds { IsSome (value_at counts.old row column) → IsOk result }
-    ensures table { OnOk result (counts.new ≡ with_value counts.old row column (min (unwrap_or (value_at counts.old row column) 0 + more) (2 ^ 32 - 1))) }
+    ensures table { OnOk result
+        (counts.new ≡ with_value counts.old row column
+        (min (unwrap_or (value_at counts.old row column) 0 + more) (2 ^ 32 - 1))) }
     ensures err { OnErr result (counts.new ≡ counts.old) }
 {
     let count = counts.get(row, column).copied().unwrap_or(0);
@@ -37,7 +40,8 @@ pub fn take<A: Allocator>(counts: &mut Rows<u32, A>, row: usize, column: usize) 
 pub fn halve<A: Allocator>(counts: &mut Rows<u32, A>, row: usize, column: usize)
     requires in_bounds { row < length counts.old }
     ensures none { IsNone (value_at counts.old row column) → counts.new ≡ counts.old }
-    ensures some { IfSome (value_at counts.old row column) (λ count. counts.new ≡ with_value counts.old row column (count / 2)) }
+    ensures some { IfSome (value_at counts.old row column)
+        (λ count. counts.new ≡ with_value counts.old row column (count / 2)) }
 {
     if let Some(count) = counts.get_mut(row, column) {
         *count /= 2;

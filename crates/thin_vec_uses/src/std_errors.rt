@@ -1,4 +1,5 @@
-//! The list where std's traits and errors are asked for: `collect`, and `?` in functions that answer them.
+//! The list where std's traits and errors are asked for: `collect`, and `?` in functions that
+//! answer them.
 ghost use Rattle.std.specs.Prelude.{◌≡◌, ◌+◌, ◌*◌, ◌++◌, [], ◌∷◌, IfErr, IfOk, IsOk, OnOk, length, map, take};
 ghost use Rattle.std.specs.IoError.{error_kind};
 ghost use Rattle.thin_vec.specs.ThinVec.{HasRoomFor};
@@ -18,7 +19,8 @@ pub fn doubled<A: Allocator>(alloc: A, numbers: &[u32]) -> Result<ThinVec<u64, A
         .collect(alloc)
 }
 
-/// Appends a line of text and its end. Refused, the old bytes stay, and the line may stand behind them without its end.
+/// Appends a line of text and its end. Refused, the old bytes stay, and the line may stand behind
+/// them without its end.
 pub fn write_line<A: Allocator, G: Growth>(
     bytes: &mut ThinVec<u8, A, G>,
     line: &[u8],
@@ -33,7 +35,8 @@ pub fn write_line<A: Allocator, G: Growth>(
     Ok(())
 }
 
-/// The numbers of `list`, and then `more`. What was placed is dropped with the rest where it is refused.
+/// The numbers of `list`, and then `more`. What was placed is dropped with the rest where it is
+/// refused.
 pub fn with_numbers<A: Allocator, G: Growth>(
     mut list: ThinVec<u32, A, G>,
     more: &[u32],

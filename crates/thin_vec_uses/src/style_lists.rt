@@ -7,7 +7,8 @@ use std::alloc::Allocator;
 use std::hash::{DefaultHasher, Hash, Hasher};
 use thin_vec::{Growth, ThinVec};
 
-/// Whether both styles are the same rules, each named by its number, in the same order. No capacity is compared.
+/// Whether both styles are the same rules, each named by its number, in the same order. No capacity
+/// is compared.
 pub fn same_style<A: Allocator, G: Growth>(
     one: &ThinVec<u32, A, G>,
     other: &ThinVec<u32, A, G>,
@@ -17,9 +18,11 @@ pub fn same_style<A: Allocator, G: Growth>(
     one == other
 }
 
-/// The hash of a style by std's hasher. It is told by the rules: styles that are the same hash alike.
+/// The hash of a style by std's hasher. It is told by the rules: styles that are the same hash
+/// alike.
 pub fn style_hash<A: Allocator, G: Growth>(style: &ThinVec<u32, A, G>) -> u64
-    ensures value { result ≡ sip.finish (fold sip.write sip.initial (fed.slice fed.u32 style.now.items)) }
+    ensures value { result ≡ sip.finish
+        (fold sip.write sip.initial (fed.slice fed.u32 style.now.items)) }
 {
     let mut hasher = DefaultHasher::new();
     style.hash(&mut hasher);

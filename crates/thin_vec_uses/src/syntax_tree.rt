@@ -27,11 +27,13 @@ impl Node {
         }
     }
 
-    /// Appends `child`, which this node owns afterwards. Refused, it is handed back with all that is below it.
+    /// Appends `child`, which this node owns afterwards. Refused, it is handed back with all that
+    /// is below it.
     pub fn add_child(&mut self, child: Node) -> Result<(), Rejected<Node>>
         ensures succeeds { HasRoomFor (children_of self.old) 1 → IsOk result }
         ensures kind { kind_of self.new ≡ kind_of self.old }
-        ensures children { OnOk result ((children_of self.new).items ≡ (children_of self.old).items ++ child ∷ []) }
+        ensures children { OnOk result ((children_of self.new).items ≡ (children_of self.old).items
+            ++ child ∷ []) }
         ensures count { OnOk result (node_count self.new ≡ node_count self.old + node_count child) }
         ensures err { OnErr result (self.new ≡ self.old) }
         ensures value_returned { IfErr result (λ refused. refused.value ≡ child) }

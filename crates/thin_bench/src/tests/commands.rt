@@ -1,4 +1,5 @@
-//! Each command with each of its replies, and worked runs, with each of their requests refused in turn.
+//! Each command with each of its replies, and worked runs, with each of their requests refused in
+//! turn.
 use crate::tests::model::{Model, both};
 use crate::tests::orders::{Form, KINDS, Kind, Order, Shown, command_of, show};
 use crate::tests::samples::{Evens, Lender, Odd, Sample, Wavers, put};
@@ -90,8 +91,9 @@ fn put_new(replies: &mut Vec<Replied, Global>, one: Replied) -> Result<(), Alloc
     }
 }
 
-// The digits of a number as a command on a list of six items: in, at and past its end, of few items and of more than there is room
-// for, claiming none, some, or more than any block holds, unwalked and walked past the end.
+// The digits of a number as a command on a list of six items: in, at and past its end, of few items
+// and of more than there is room for, claiming none, some, or more than any block holds, unwalked
+// and walked past the end.
 fn order_of(number: usize) -> Order {
     Order {
         kind: KINDS.get(number % 25).copied().unwrap_or(Kind::Pop),
@@ -122,7 +124,8 @@ const SIX: Order = Order {
     number: 1,
 };
 
-// A command on a list of six items, by the runner and by the definition: the reply, `Never` where they differ.
+// A command on a list of six items, by the runner and by the definition: the reply, `Never` where
+// they differ.
 fn replied<'a, T: Sample<Lender<'a>>, G: Ruled, J: Judge<T>>(
     alloc: Lender<'a>,
     order: Order,
@@ -138,8 +141,8 @@ fn replied<'a, T: Sample<Lender<'a>>, G: Ruled, J: Judge<T>>(
     both(alloc, &mut list, &mut model, order, judge, nth)
 }
 
-// Asserts that each command is done as the definition says, also with its 1st, 2nd, .. request refused until none is, and that
-// no block is out then. The replies are put into `replies`.
+// Asserts that each command is done as the definition says, also with its 1st, 2nd, .. request
+// refused until none is, and that no block is out then. The replies are put into `replies`.
 fn assert_orders<'a, T: Sample<Lender<'a>>, G: Ruled, J: Judge<T>, R: Abort>(
     rt: &R,
     alloc: Lender<'a>,
@@ -247,7 +250,8 @@ fn worked_run() -> [Worked<'static>; 6] {
     ]
 }
 
-// Under `PowerBytes`: a block of 32, 64 or 128 bytes has room for 4, 12 or 28 items of 4 bytes behind its header.
+// Under `PowerBytes`: a block of 32, 64 or 128 bytes has room for 4, 12 or 28 items of 4 bytes
+// behind its header.
 fn worked_powers() -> [Worked<'static>; 9] {
     [
         (plain(Kind::Push, 0, 0, 0, 0, 1), "Done [] []", "[1] 4"),
@@ -404,7 +408,8 @@ fn assert_worked<'a, 's, T: Sample<Lender<'a>> + Debug, G: Ruled, J: Judge<T>, R
     }
 }
 
-// Does a command of a run as the definition says, and asserts that the reply is one of its. Answers whether a request was refused.
+// Does a command of a run as the definition says, and asserts that the reply is one of its. Answers
+// whether a request was refused.
 fn is_refused<'a, T: Sample<Lender<'a>>, G: Ruled, J: Judge<T>, R: Abort>(
     rt: &R,
     alloc: Lender<'a>,
@@ -422,7 +427,8 @@ fn is_refused<'a, T: Sample<Lender<'a>>, G: Ruled, J: Judge<T>, R: Abort>(
     cause == Some(ThinVecError::OutOfMemory)
 }
 
-// Does the commands of a run as the definition says. Answers to how many of them a request was refused.
+// Does the commands of a run as the definition says. Answers to how many of them a request was
+// refused.
 fn refusals_of<'a, 's, T: Sample<Lender<'a>>, G: Ruled, J: Judge<T>, R: Abort>(
     rt: &R,
     alloc: Lender<'a>,
@@ -443,7 +449,8 @@ fn refusals_of<'a, 's, T: Sample<Lender<'a>>, G: Ruled, J: Judge<T>, R: Abort>(
     refusals
 }
 
-// Asserts that a run, with its request of that number refused, does what the definition says. Answers whether one was refused.
+// Asserts that a run, with its request of that number refused, does what the definition says.
+// Answers whether one was refused.
 fn refused_run<'a, 's, T: Sample<Lender<'a>>, G: Ruled, J: Judge<T>, R: Abort>(
     rt: &R,
     alloc: Lender<'a>,
@@ -470,7 +477,8 @@ fn refused_run<'a, 's, T: Sample<Lender<'a>>, G: Ruled, J: Judge<T>, R: Abort>(
     refused
 }
 
-// Asserts that a worked run does what the definition says with its 1st, 2nd, .. request refused, until it has no refusal.
+// Asserts that a worked run does what the definition says with its 1st, 2nd, .. request refused,
+// until it has no refusal.
 fn assert_refused<'a, 's, T: Sample<Lender<'a>>, G: Ruled, J: Judge<T>, R: Abort>(
     rt: &R,
     alloc: Lender<'a>,

@@ -10,7 +10,8 @@ use thin_runner::judge::Judge;
 use thin_runner::runner::step;
 use thin_vec::{ThinVec, ThinVecError};
 
-// Past so many items a capacity overflows: no test asks for a number between this one and what a block may hold.
+// Past so many items a capacity overflows: no test asks for a number between this one and what a
+// block may hold.
 const LIMIT: usize = 1_000_000_000_000;
 
 /// A list as the definition has it.
@@ -167,7 +168,8 @@ impl<T: Sample<A>, A: Allocator + Copy, G: Ruled> Model<T, A, G> {
         Ok(shown)
     }
 
-    // The items from `start` up to `end` go out, the last of them as the reply, and `new` comes in for them.
+    // The items from `start` up to `end` go out, the last of them as the reply, and `new` comes in
+    // for them.
     fn change(
         &mut self,
         alloc: A,
@@ -307,7 +309,8 @@ impl<T: Sample<A>, A: Allocator + Copy, G: Ruled> Model<T, A, G> {
         Ok(Shown::with_answers(Form::Answers, alloc, answers))
     }
 
-    // An item goes out into `answers` if it is asked about and picked, and otherwise comes in at the end.
+    // An item goes out into `answers` if it is asked about and picked, and otherwise comes in at
+    // the end.
     fn pick<J: Judge<T>>(
         &mut self,
         is_asked: bool,
@@ -342,8 +345,9 @@ impl<T: Sample<A>, A: Allocator + Copy, G: Ruled> Model<T, A, G> {
         Ok(Shown::with_answers(Form::Answers, alloc, answers))
     }
 
-    // Whether there is, or could be made, room for the items of an order in the place of a range: with items behind it, once for
-    // what is claimed and once for the rest, and else for each item that comes.
+    // Whether there is, or could be made, room for the items of an order in the place of a range:
+    // with items behind it, once for what is claimed and once for the rest, and else for each item
+    // that comes.
     fn make_rooms(&mut self, start: usize, end: usize, order: Order) -> bool {
         let len = self.len();
         let hole = end.saturating_sub(start);
@@ -492,10 +496,11 @@ impl<T: Sample<A>, A: Allocator + Copy, G: Ruled> Model<T, A, G> {
         }
     }
 
-    // Whether a `Splice`, or an `Extend`, that was refused memory once so many items were placed may have drawn what it shows.
+    // Whether a `Splice`, or an `Extend`, that was refused memory once so many items were placed
+    // may have drawn what it shows.
     //
-    // With nothing behind the range none is held, and an item is in hand just where the list is full. Else an item is in hand, or
-    // none was drawn, or all were.
+    // With nothing behind the range none is held, and an item is in hand just where the list is
+    // full. Else an item is in hand, or none was drawn, or all were.
     fn may_stop(&self, start: usize, end: usize, order: Order, given: &Shown<T, A>) -> bool {
         let placed = order.count.saturating_sub(given.items.len());
         if end == self.len() {
@@ -506,8 +511,8 @@ impl<T: Sample<A>, A: Allocator + Copy, G: Ruled> Model<T, A, G> {
         placed >= end.saturating_sub(start) && (given.in_hand || given.number == 0 || has_ended)
     }
 
-    // A `Splice`, or an `Extend`, that was refused memory: what was placed before follows from how many items come back. Room for
-    // what is claimed was made if one of them was drawn.
+    // A `Splice`, or an `Extend`, that was refused memory: what was placed before follows from how
+    // many items come back. Room for what is claimed was made if one of them was drawn.
     fn stop(
         &mut self,
         alloc: A,
@@ -579,8 +584,8 @@ impl<T: Sample<A>, A: Allocator + Copy, G: Ruled> Model<T, A, G> {
         }
     }
 
-    /// Does a command, of which what its reply shows tells whether a request was refused to it, and which one that was if items
-    /// are cloned. Answers what the reply is, or `Never`.
+    /// Does a command, of which what its reply shows tells whether a request was refused to it, and
+    /// which one that was if items are cloned. Answers what the reply is, or `Never`.
     pub fn follow<J: Judge<T>>(
         &mut self,
         alloc: A,
@@ -626,7 +631,8 @@ fn has_its_blocks<'a, T: Sample<Lender<'a>>, G: Ruled>(
     blocks == alloc.blocks()
 }
 
-// What the runner's reply shows to a command of which the request of that number is refused, and whether that request was reached.
+// What the runner's reply shows to a command of which the request of that number is refused, and
+// whether that request was reached.
 fn shown_by_runner<'a, T: Sample<Lender<'a>>, G: Ruled, J: Judge<T>>(
     alloc: Lender<'a>,
     list: &mut ThinVec<T, Lender<'a>, G>,
@@ -642,8 +648,8 @@ fn shown_by_runner<'a, T: Sample<Lender<'a>>, G: Ruled, J: Judge<T>>(
     Ok((show(alloc, reply)?, refused))
 }
 
-/// A command by both, of which the request of that number is refused, or none at 0. Answers the reply, `Never` where they differ,
-/// and whether the request was reached.
+/// A command by both, of which the request of that number is refused, or none at 0. Answers the
+/// reply, `Never` where they differ, and whether the request was reached.
 pub fn both<'a, T: Sample<Lender<'a>>, G: Ruled, J: Judge<T>>(
     alloc: Lender<'a>,
     list: &mut ThinVec<T, Lender<'a>, G>,

@@ -57,8 +57,8 @@ impl Dice {
     }
 }
 
-// A run of up to 30 commands. Answers whether both did the same, and no block is out. The commands are put into `orders`, each
-// with its request that is refused.
+// A run of up to 30 commands. Answers whether both did the same, and no block is out. The commands
+// are put into `orders`, each with its request that is refused.
 fn runs_alike<'a, T: Sample<Lender<'a>>, G: Ruled>(
     alloc: Lender<'a>,
     seed: u64,
@@ -86,7 +86,8 @@ fn runs_alike<'a, T: Sample<Lender<'a>>, G: Ruled>(
     Ok(alloc.blocks() == 0)
 }
 
-// How many runs there are at each type of items under a growth rule: with ten types and two rules 100,000.
+// How many runs there are at each type of items under a growth rule: with ten types and two rules
+// 100,000.
 const RUNS: u64 = 5_000;
 
 // Asserts that all runs from a seed on are alike.

@@ -254,8 +254,8 @@ pub fn samples<T: Sample<A>, A: Allocator + Copy>(
     Ok(items)
 }
 
-/// Answers by its state, which moves on at each question, and by the number that it sees. It exchanges two items that it is asked
-/// about together.
+/// Answers by its state, which moves on at each question, and by the number that it sees. It
+/// exchanges two items that it is asked about together.
 #[derive(Clone, Copy)]
 pub struct Wavers {
     /// It decides the next answer.
@@ -308,8 +308,8 @@ impl<T: Seen> Judge<T> for Wavers {
     }
 }
 
-/// Picks the even numbers, and writes: it halves what it is asked to keep or to give the key of, and of two that it compares the
-/// one that was kept becomes 0.
+/// Picks the even numbers, and writes: it halves what it is asked to keep or to give the key of,
+/// and of two that it compares the one that was kept becomes 0.
 #[derive(Clone, Copy)]
 pub struct Evens;
 
@@ -348,7 +348,8 @@ impl Judge<u64> for Evens {
     }
 }
 
-/// Picks each second item that it is asked about, from the first on: its count begins anew with each command.
+/// Picks each second item that it is asked about, from the first on: its count begins anew with
+/// each command.
 #[derive(Clone, Copy)]
 pub struct Odd {
     /// How many questions it was asked.

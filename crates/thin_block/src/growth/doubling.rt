@@ -29,8 +29,7 @@ impl Growth for Doubling {
     ghost law = { doubling_law };
 }
 
-/// The least capacity that a growth by doubling makes: 4, or 1 for items of more than `usize::MAX /
-/// 8` bytes.
+/// The least capacity by doubling: 4, or 1 for items of more than `usize::MAX / 8` bytes.
 pub fn first_capacity<T>() -> usize
     ensures value { result ≡ first (type_size T.row) }
 {

@@ -26,7 +26,8 @@ impl Growth for PowerBytes {
     fn next_capacity<T>(cap: usize, want: usize) -> Option<usize>
         requires { cap < want }
         ensures value { result ≡ power_bytes (type_size T.row) (type_align T.row) cap want }
-        ensures fills { 0 < type_size T.row → IfSome result (FillsPower (type_size T.row) (type_align T.row)) }
+        ensures fills { 0 < type_size T.row
+            → IfSome result (FillsPower (type_size T.row) (type_align T.row)) }
     {
         let size = item_size::<T>();
         if size == 0 {

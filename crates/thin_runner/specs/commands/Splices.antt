@@ -39,8 +39,8 @@ module _ {T A : Type 0} (rule : Rule) (R : RattleType) (old : Thin T A) (a b : �
     pub alloc : new.alloc ≡ old.alloc
 
   -- some of the items xs went in, and none is lost. Where some are held and none is in hand, the
-  -- iterator has ended. With no item after the range none is held, and one is in hand only where the
-  -- list is full, or else nothing went in
+  -- iterator has ended. With no item after the range none is held, and one is in hand only where
+  -- the list is full, or else nothing went in
   pub record StopsBetween (xs held : List T) (lower : ℕ) (cause : ThinVecError)
       (in_hand : Option T) (rest : Hinted T A) (new : Thin T A) : Type 0 where
     pub placed : List T

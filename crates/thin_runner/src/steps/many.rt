@@ -12,7 +12,9 @@ use thin_vec::{ExtendRefused, Growth, ThinVec};
 
 impl<T: Clone + Eq, A: Allocator + Copy, G: Growth, J: Judge<T>> Means<T, A, G, J> {
     pub(crate) fn resize(self, list: &mut ThinVec<T, A, G>, len: usize, value: T) -> Reply<T, A, G>
-        ensures allowed { Steps (setting T.is_clone T.is_infallible T.eq J.judging G.rule T.row self.alloc self.judge) list.old (Resize len value) result list.new }
+        ensures allowed { Steps
+            (setting T.is_clone T.is_infallible T.eq J.judging G.rule T.row self.alloc self.judge)
+            list.old (Resize len value) result list.new }
     {
         match list.resize(len, value) {
             Ok(()) => Reply::Done,
@@ -25,7 +27,9 @@ impl<T: Clone + Eq, A: Allocator + Copy, G: Growth, J: Judge<T>> Means<T, A, G, 
         list: &mut ThinVec<T, A, G>,
         items: Vec<T, A>,
     ) -> Reply<T, A, G>
-        ensures allowed { Steps (setting T.is_clone T.is_infallible T.eq J.judging G.rule T.row self.alloc self.judge) list.old (ExtendFromSlice items) result list.new }
+        ensures allowed { Steps
+            (setting T.is_clone T.is_infallible T.eq J.judging G.rule T.row self.alloc self.judge)
+            list.old (ExtendFromSlice items) result list.new }
     {
         match list.extend_from_slice(items.as_slice()) {
             Ok(()) => Reply::Done,
@@ -39,7 +43,9 @@ impl<T: Clone + Eq, A: Allocator + Copy, G: Growth, J: Judge<T>> Means<T, A, G, 
         items: Vec<T, A>,
         lower: usize,
     ) -> Reply<T, A, G>
-        ensures allowed { Steps (setting T.is_clone T.is_infallible T.eq J.judging G.rule T.row self.alloc self.judge) list.old (Extend items lower) result list.new }
+        ensures allowed { Steps
+            (setting T.is_clone T.is_infallible T.eq J.judging G.rule T.row self.alloc self.judge)
+            list.old (Extend items lower) result list.new }
     {
         let filled = list.extend(Hinted::new(items, lower));
         match filled {
@@ -66,7 +72,9 @@ impl<T: Clone + Eq, A: Allocator + Copy, G: Growth, J: Judge<T>> Means<T, A, G, 
         list: &mut ThinVec<T, A, G>,
         mut other: ThinVec<T, A, G>,
     ) -> Reply<T, A, G>
-        ensures allowed { Steps (setting T.is_clone T.is_infallible T.eq J.judging G.rule T.row self.alloc self.judge) list.old (Append other) result list.new }
+        ensures allowed { Steps
+            (setting T.is_clone T.is_infallible T.eq J.judging G.rule T.row self.alloc self.judge)
+            list.old (Append other) result list.new }
     {
         match list.append(&mut other) {
             Ok(()) => Reply::Other(other, None),

@@ -23,7 +23,9 @@ impl<T: Clone + Eq, A: Allocator + Copy, G: Growth, J: Judge<T>> Means<T, A, G, 
     ) -> Reply<T, A, G>
         requires start_le_end { start ≤ end }
         requires in_bounds { end ≤ length list.old.items }
-        ensures allowed { Steps (setting T.is_clone T.is_infallible T.eq J.judging G.rule T.row self.alloc self.judge) list.old (Drained start end steps) result list.new }
+        ensures allowed { Steps
+            (setting T.is_clone T.is_infallible T.eq J.judging G.rule T.row self.alloc self.judge)
+            list.old (Drained start end steps) result list.new }
     {
         let mut answers = Vec::new(self.alloc);
         match answers.reserve(steps.len()) {
@@ -46,7 +48,9 @@ impl<T: Clone + Eq, A: Allocator + Copy, G: Growth, J: Judge<T>> Means<T, A, G, 
     ) -> Reply<T, A, G>
         requires start_le_end { start ≤ end }
         requires in_bounds { end ≤ length list.old.items }
-        ensures allowed { Steps (setting T.is_clone T.is_infallible T.eq J.judging G.rule T.row self.alloc self.judge) list.old (Extracted start end count) result list.new }
+        ensures allowed { Steps
+            (setting T.is_clone T.is_infallible T.eq J.judging G.rule T.row self.alloc self.judge)
+            list.old (Extracted start end count) result list.new }
     {
         let mut answers = Vec::new(self.alloc);
         match answers.reserve(count) {
@@ -58,7 +62,8 @@ impl<T: Clone + Eq, A: Allocator + Copy, G: Growth, J: Judge<T>> Means<T, A, G, 
             start,
             end,
             move |item: &mut T|
-                ensures value { (result, item.new, judge.exit) ≡ J.judging.take judge.entry item.old }
+                ensures value { (result, item.new, judge.exit) ≡ J.judging.take judge.entry
+                    item.old }
             { judge.take(item) },
         );
         for _ in 0..count {
@@ -79,7 +84,8 @@ fn walk<T: Drop, A: Allocator, G: Growth>(
     answers: &mut Vec<Option<T>, A>,
 )
     requires room { vec_len answers.old + vec_len steps ≤ vec_capacity answers.old }
-    ensures answers { answers.new.items ≡ answers.old.items ++ walked (drain_rest drain.old) steps.items }
+    ensures answers { answers.new.items ≡ answers.old.items ++ walked
+        (drain_rest drain.old) steps.items }
     ensures keeps { DrainKeeps drain.old drain.new }
 {
     for step in steps {
@@ -92,7 +98,8 @@ fn walk<T: Drop, A: Allocator, G: Growth>(
 
 // One step of a walk.
 fn take<T, A: Allocator, G: Growth>(drain: &mut Drain<'_, T, A, G>, step: Step) -> Option<T>
-    ensures value { (steps : List Step) → walked (drain_rest drain.old) (step ∷ steps) ≡ result ∷ walked (drain_rest drain.new) steps }
+    ensures value { (steps : List Step) → walked (drain_rest drain.old) (step ∷ steps)
+        ≡ result ∷ walked (drain_rest drain.new) steps }
     ensures keeps { DrainKeeps drain.old drain.new }
 {
     match step {

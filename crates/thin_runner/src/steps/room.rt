@@ -12,7 +12,9 @@ use thin_vec::{Growth, ThinVec};
 
 impl<T: Clone + Eq, A: Allocator + Copy, G: Growth, J: Judge<T>> Means<T, A, G, J> {
     pub(crate) fn reserve(self, list: &mut ThinVec<T, A, G>, additional: usize) -> Reply<T, A, G>
-        ensures allowed { Steps (setting T.is_clone T.is_infallible T.eq J.judging G.rule T.row self.alloc self.judge) list.old (Reserve additional) result list.new }
+        ensures allowed { Steps
+            (setting T.is_clone T.is_infallible T.eq J.judging G.rule T.row self.alloc self.judge)
+            list.old (Reserve additional) result list.new }
     {
         match list.reserve(additional) {
             Ok(()) => Reply::Done,
@@ -25,7 +27,9 @@ impl<T: Clone + Eq, A: Allocator + Copy, G: Growth, J: Judge<T>> Means<T, A, G, 
         list: &mut ThinVec<T, A, G>,
         additional: usize,
     ) -> Reply<T, A, G>
-        ensures allowed { Steps (setting T.is_clone T.is_infallible T.eq J.judging G.rule T.row self.alloc self.judge) list.old (ReserveExact additional) result list.new }
+        ensures allowed { Steps
+            (setting T.is_clone T.is_infallible T.eq J.judging G.rule T.row self.alloc self.judge)
+            list.old (ReserveExact additional) result list.new }
     {
         match list.reserve_exact(additional) {
             Ok(()) => Reply::Done,
@@ -34,7 +38,9 @@ impl<T: Clone + Eq, A: Allocator + Copy, G: Growth, J: Judge<T>> Means<T, A, G, 
     }
 
     pub(crate) fn shrink_to_fit(self, list: &mut ThinVec<T, A, G>) -> Reply<T, A, G>
-        ensures allowed { Steps (setting T.is_clone T.is_infallible T.eq J.judging G.rule T.row self.alloc self.judge) list.old ShrinkToFit result list.new }
+        ensures allowed { Steps
+            (setting T.is_clone T.is_infallible T.eq J.judging G.rule T.row self.alloc self.judge)
+            list.old ShrinkToFit result list.new }
     {
         match list.shrink_to_fit() {
             Ok(()) => Reply::Done,
@@ -44,7 +50,9 @@ impl<T: Clone + Eq, A: Allocator + Copy, G: Growth, J: Judge<T>> Means<T, A, G, 
 
     pub(crate) fn split_off(self, list: &mut ThinVec<T, A, G>, at: usize) -> Reply<T, A, G>
         requires in_bounds { at ≤ length list.old.items }
-        ensures allowed { Steps (setting T.is_clone T.is_infallible T.eq J.judging G.rule T.row self.alloc self.judge) list.old (SplitOff at) result list.new }
+        ensures allowed { Steps
+            (setting T.is_clone T.is_infallible T.eq J.judging G.rule T.row self.alloc self.judge)
+            list.old (SplitOff at) result list.new }
     {
         match list.split_off(self.alloc, at) {
             Ok(tail) => Reply::List(tail),
@@ -53,7 +61,9 @@ impl<T: Clone + Eq, A: Allocator + Copy, G: Growth, J: Judge<T>> Means<T, A, G, 
     }
 
     pub(crate) fn clone(self, list: &mut ThinVec<T, A, G>) -> Reply<T, A, G>
-        ensures allowed { Steps (setting T.is_clone T.is_infallible T.eq J.judging G.rule T.row self.alloc self.judge) list.old Clone result list.new }
+        ensures allowed { Steps
+            (setting T.is_clone T.is_infallible T.eq J.judging G.rule T.row self.alloc self.judge)
+            list.old Clone result list.new }
     {
         match list.clone(self.alloc) {
             Ok(copy) => Reply::List(copy),

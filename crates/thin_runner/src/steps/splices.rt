@@ -26,7 +26,9 @@ impl<T: Clone + Eq, A: Allocator + Copy, G: Growth, J: Judge<T>> Means<T, A, G, 
     ) -> Reply<T, A, G>
         requires start_le_end { start ≤ end }
         requires in_bounds { end ≤ length list.old.items }
-        ensures allowed { Steps (setting T.is_clone T.is_infallible T.eq J.judging G.rule T.row self.alloc self.judge) list.old (Spliced start end steps items lower) result list.new }
+        ensures allowed { Steps
+            (setting T.is_clone T.is_infallible T.eq J.judging G.rule T.row self.alloc self.judge)
+            list.old (Spliced start end steps items lower) result list.new }
     {
         let mut answers = Vec::new(self.alloc);
         match answers.reserve(steps.len()) {
@@ -67,7 +69,8 @@ fn walk<T: Drop, A: Allocator, G: Growth>(
     answers: &mut Vec<Option<T>, A>,
 )
     requires room { vec_len answers.old + vec_len steps ≤ vec_capacity answers.old }
-    ensures answers { answers.new.items ≡ answers.old.items ++ walked (splice_hole splice.old).rest steps.items }
+    ensures answers { answers.new.items ≡ answers.old.items ++ walked
+        (splice_hole splice.old).rest steps.items }
     ensures keeps { SpliceKeeps splice.old splice.new }
 {
     for step in steps {
@@ -83,7 +86,8 @@ fn take<T, A: Allocator, G: Growth>(
     splice: &mut Splice<'_, Hinted<T, A>, T, A, G>,
     step: Step,
 ) -> Option<T>
-    ensures value { (steps : List Step) → walked (splice_hole splice.old).rest (step ∷ steps) ≡ result ∷ walked (splice_hole splice.new).rest steps }
+    ensures value { (steps : List Step) → walked (splice_hole splice.old).rest (step ∷ steps)
+        ≡ result ∷ walked (splice_hole splice.new).rest steps }
     ensures keeps { SpliceKeeps splice.old splice.new }
 {
     match step {

@@ -1,4 +1,5 @@
-//! Several items that go into room that was shown to be there: at least one, and as many as there is room for.
+//! Several items that go into room that was shown to be there: at least one, and as many as there
+//! is room for.
 use crate::case::{Case, Verdict, filled, source};
 use crate::samples::Sample;
 use crate::shapes::Shape;

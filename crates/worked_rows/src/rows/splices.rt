@@ -101,7 +101,8 @@ fn check_emptied<A: Allocator + Copy>(checks: &mut Checks, alloc: A) -> Result<(
     Ok(())
 }
 
-// A splice of the numbers from 1 to 5 hands out two items, and puts three in; a second one hands out what the first put in.
+// A splice of the numbers from 1 to 5 hands out two items, and puts three in; a second one hands
+// out what the first put in.
 fn check_spliced_twice<A: Allocator + Copy>(
     checks: &mut Checks,
     alloc: A,
