@@ -1,4 +1,5 @@
 //! Ranges that give way to other items: `replace_range` and its kin.
+use crate::answers::number_at;
 use crate::case::{Case, Verdict, filled, numbers, source};
 use crate::samples::Sample;
 use crate::shapes::{Cases, Ranged, Shape};
@@ -40,14 +41,16 @@ fn replaced<T: Sample, G: Ruled, R: Abort>(
     if verdict != Verdict::Done {
         return;
     }
-    let mut left = numbers(rt, case.ledger, FRESH, count);
-    let before = case.items.get(..range.start).unwrap_or(&[]);
-    let after = case.items.get(range.end..).unwrap_or(&[]);
-    let mut items = Vec::new(case.ledger.global);
-    items.extend_from_slice(before).expect(rt, "memory");
-    items.append(&mut left).expect(rt, "memory");
-    items.extend_from_slice(after).expect(rt, "memory");
-    case.items = items;
+    let mut left = Vec::new(case.ledger.global);
+    for index in 0..range.start {
+        left.push(number_at(index)).ok().expect(rt, "memory");
+    }
+    let mut new = numbers(rt, case.ledger, FRESH, count);
+    left.append(&mut new).expect(rt, "memory");
+    for index in range.end..case.items.len() {
+        left.push(number_at(index)).ok().expect(rt, "memory");
+    }
+    case.items = left;
 }
 
 /// By clones.
