@@ -1,5 +1,5 @@
 //! `?` in functions that return an error type of their own.
-ghost use Rattle.std.specs.Prelude.{◌≡◌, ◌↔◌, [], ◌∷◌, ◌++◌, IsErrOf, IsOk, OnErr, OnOk, length};
+ghost use Rattle.std.specs.Prelude.{◌≡◌, ◌↔◌, [], ◌∷◌, ◌++◌, ◌<◌, IsErrOf, IsOk, OnErr, OnOk, length};
 ghost use Rattle.thin_vec.specs.ThinVec.{HasRoomFor};
 
 use std::alloc::Allocator;
@@ -33,6 +33,7 @@ pub fn take_order<A: Allocator, G: Growth>(
     orders: &mut ThinVec<u32, A, G>,
     pieces: u32,
 ) -> Result<(), OrderError>
+    ensures succeeds { HasRoomFor orders.old 1 → 0 < pieces → IsOk result }
     ensures no_piece { IsErrOf result OrderError.NoPiece ↔ (pieces ≡ 0) }
     ensures items { OnOk result (orders.new.items ≡ orders.old.items ++ pieces ∷ []) }
     ensures err { OnErr result (orders.new ≡ orders.old) }
