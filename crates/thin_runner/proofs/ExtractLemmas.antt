@@ -9,7 +9,7 @@ use Rattle.thin_vec.proofs.FiltersLemmas.{left_at-append, left_at-stay, moved_up
 use Rattle.thin_vec.specs.Cost.{Cost, moving}
 use Rattle.thin_vec.specs.Filters.{Answers, flags_of, left_at, moved_up, stay, trues}
 use Rattle.thin_vec.specs.ThinVec.{Thin}
-use Rattle.thin_runner.proofs.FilterLemmas.{few-left}
+use Rattle.thin_runner.proofs.JudgedLemmas.{few-left}
 use Rattle.thin_runner.specs.commands.Filters.{around, extracting, sifted}
 use Rattle.thin_runner.specs.commands.Ranges.{walked}
 use Rattle.thin_runner.specs.declared.command.Step.TheVariants.{Front}

@@ -3,7 +3,7 @@ pub mod HintedLemmas
 mod CommandLemmas
 mod RunLemmas
 mod SplicesLemmas
-mod FilterLemmas
+mod JudgedLemmas
 mod WalkLemmas
 mod ExtractLemmas
 mod MoveLemmas

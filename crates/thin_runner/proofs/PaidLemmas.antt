@@ -7,7 +7,7 @@ use Rattle.std.specs.List.{AllZip, AppendsClones, remove_range, swap_remove, sli
 use Rattle.thin_vec.specs.Clones.{IsResized}
 use Rattle.thin_runner.specs.commands.Filters.{same_key}
 use Rattle.thin_runner.proofs.ExtractLemmas.{few-extracted}
-use Rattle.thin_runner.proofs.FilterLemmas.{few-asked, few-pairs, looks, tells}
+use Rattle.thin_runner.proofs.JudgedLemmas.{few-asked, few-pairs, looks, tells}
 use Rattle.thin_runner.proofs.RunLemmas.{runs-keep}
 use Rattle.std.specs.Prelude.{◌⊎◌, All, HoldsAt, drop, remove, slice_get, slice_set, take}
 use Rattle.std.specs.Borrow.{RattleType}

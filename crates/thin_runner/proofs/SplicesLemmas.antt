@@ -63,16 +63,16 @@ module _ {T A : Type 0} (s rest : Hinted T A) (placed held : List T)
 
 module _ {T A : Type 0} (old : Thin T A) (a b : ℕ) where
   -- the open block of a splice of the items from a up to b, and the list's allocator
-  pub record IsOpened (hole : Open T A) (alloc : A) : Type 0 where
-    pub front : hole.front ≡ take a old.items
-    pub tail : hole.tail ≡ drop b old.items
-    pub capacity : hole.capacity ≡ old.capacity
+  pub record IsOpened (block : Open T A) (alloc : A) : Type 0 where
+    pub front : block.front ≡ take a old.items
+    pub tail : block.tail ≡ drop b old.items
+    pub capacity : block.capacity ≡ old.capacity
     pub same : alloc ≡ old.alloc
-    pub cost : hole.cost ≡ old.cost
+    pub cost : block.cost ≡ old.cost
 
-  module _ (hole : Open T A) (alloc : A) (is : IsOpened hole alloc) where
+  module _ (block : Open T A) (alloc : A) (is : IsOpened block alloc) where
     -- what is left of the list
-    pub left-is : left_of hole alloc ≡ cut old a b
+    pub left-is : left_of block alloc ≡ cut old a b
     left-is = λ i. record {
       items = is.front i ++ is.tail i;
       capacity = is.capacity i;
@@ -80,25 +80,25 @@ module _ {T A : Type 0} (old : Thin T A) (a b : ℕ) where
       cost = is.cost i;
     }
 
-    pub tail-count : length hole.tail ≡ length old.items - b
+    pub tail-count : length block.tail ≡ length old.items - b
     tail-count = ap length is.tail ∙ length-drop b old.items
 
-    pub some-tail : b < length old.items → 0 < length hole.tail
+    pub some-tail : b < length old.items → 0 < length block.tail
     some-tail more = omega (arith, tail-count, more)
 
-    pub no-tail : b ≡ length old.items → hole.tail ≡ []
-    no-tail all = no-items hole.tail (omega (arith, tail-count, all))
+    pub no-tail : b ≡ length old.items → block.tail ≡ []
+    no-tail all = no-items block.tail (omega (arith, tail-count, all))
 
-    pub spliced : (new : Thin T A) → IsSpliced (left_of hole alloc) new (2 * length hole.tail)
+    pub spliced : (new : Thin T A) → IsSpliced (left_of block alloc) new (2 * length block.tail)
         → IsSpliced (cut old a b) new (2 * (length old.items - b))
     spliced new cost =
         subst (λ (v : Thin T A). IsSpliced v new (2 * (length old.items - b))) left-is
-        (subst (λ (n : ℕ). IsSpliced (left_of hole alloc) new (2 * n)) tail-count cost)
+        (subst (λ (n : ℕ). IsSpliced (left_of block alloc) new (2 * n)) tail-count cost)
 
     -- where the capacity comes from, said of what may come
     pub named : (rule : Rule) (R : RattleType) (new : Thin T A) (most : ℕ) (left : Count)
         → left ≡ at_most most
-        → IsExtended rule R (left_of hole alloc) new.capacity (length new.items) left
+        → IsExtended rule R (left_of block alloc) new.capacity (length new.items) left
         → IsExtended rule R (cut old a b) new.capacity (length new.items) (at_most most)
     named rule R new most left count is_named =
         let of = λ (v : Thin T A) (n : Count). IsExtended rule R v new.capacity (length new.items) n in
@@ -107,15 +107,15 @@ module _ {T A : Type 0} (old : Thin T A) (a b : ℕ) where
 
     -- where there is room for what may come, there is for what the iterator may give
     pub room-left : (most size : ℕ) → size ≡ most → HasRoomFor (cut old a b) most
-        → HasRoomFor (left_of hole alloc) size
+        → HasRoomFor (left_of block alloc) size
     room-left most size count room =
-        subst (λ (n : ℕ). HasRoomFor (left_of hole alloc) n) (sym count)
+        subst (λ (n : ℕ). HasRoomFor (left_of block alloc) n) (sym count)
         (subst (λ (v : Thin T A). HasRoomFor v most) (sym left-is) room)
 
     -- where there are places enough, what follows of each of the two cases
     pub with-places : (P : Type 0) (most size range : ℕ) → size ≡ most → range ≡ b - a
         → (size ≤ range → P)
-        → (hole.tail ≡ [] → HasRoomFor (left_of hole alloc) size → P)
+        → (block.tail ≡ [] → HasRoomFor (left_of block alloc) size → P)
         → HasPlacesFor old a b most → P
     with-places P most size range count width between after (inl few) =
         between (omega (arith, few, count, width))

@@ -10,7 +10,7 @@ use Rattle.thin_vec.specs.Open.{Open}
 use Rattle.thin_vec.specs.Pairs.{IsLastAsked, IsNextAsked, IsPairAskedAt, IsThinned, PairRuns, Thins}
 use Rattle.thin_vec.specs.ThinVec.{Thin}
 use Rattle.thin_vec.proofs.FiltersLemmas.{cons-head, cons-not-nil, cons-tail, moving-more, moving-none, nothing}
-use Rattle.thin_vec.proofs.HoleLemmas.{last-of}
+use Rattle.thin_vec.proofs.OpenBlockLemmas.{last-of}
 
 -- two ends of one list
 last-same : {X : Type 0} (a b : List X) (x y : X) → a ++ x ∷ [] ≡ b ++ y ∷ [] → (a ≡ b) × (x ≡ y)
@@ -284,7 +284,7 @@ module _ {S T : Type 0} (R : S → T → T → Bool → S → T → T → Type 0
   -- ---- on blocks that are open
 
   module _ {A : Type 0} (v w : Open T A) where
-    -- w is v with another front, hole and middle run, at this cost
+    -- w is v with another front, gap and middle run, at this cost
     abbrev Moved : List T → Cost → Type 0
     Moved front cost = w ≡ record v
         { front = front; before = w.before; rest = w.rest; cost = cost }
@@ -299,7 +299,7 @@ module _ {S T : Type 0} (R : S → T → T → Bool → S → T → T → Type 0
           → v.front ≡ before ++ first ∷ [] → v.rest ≡ done ++ w.rest
           → AskedLast R s first done stays kept t → 0 < w.before
           → Moved (before ++ kept) (moving (trues stays) v.cost) → Thins R s v t w
-      thins-of before first done stays kept was rest asked hole now =
+      thins-of before first done stays kept was rest asked gap now =
           record {
             before = before;
             first = first;
@@ -309,25 +309,25 @@ module _ {S T : Type 0} (R : S → T → T → Bool → S → T → T → Type 0
             was = was;
             rest = rest;
             asked = asked;
-            hole = hole;
+            gap = gap;
             now = now;
           }
 
     -- the next item goes
     pub thins-goes : (s t : S) (x y : T) (front : List T) → IsLastAsked R s x v.front true t y front
         → v.rest ≡ x ∷ w.rest → 0 < w.before → Moved front v.cost → Thins R s v t w
-    thins-goes s t x y front a rest hole now =
+    thins-goes s t x y front a rest gap now =
         thins-of s t a.before a.kept (x ∷ []) (false ∷ []) (a.kept_left ∷ []) a.was rest
-        (last-goes s t a.kept x y a.kept_left a.asked) hole
+        (last-goes s t a.kept x y a.kept_left a.asked) gap
         (now ∙ moved (λ i. a.now i) (sym (moving-none v.cost)))
 
     -- it stays
     pub thins-stays : (s t : S) (x y : T) (front : List T)
         → IsLastAsked R s x v.front false t y front → v.rest ≡ x ∷ w.rest
         → 0 < w.before → Moved (front ++ y ∷ []) (moving 1 v.cost) → Thins R s v t w
-    thins-stays s t x y front a rest hole now =
+    thins-stays s t x y front a rest gap now =
         thins-of s t a.before a.kept (x ∷ []) (true ∷ []) (a.kept_left ∷ y ∷ []) a.was rest
-        (last-stays s t a.kept x y a.kept_left a.asked) hole
+        (last-stays s t a.kept x y a.kept_left a.asked) gap
         (now ∙ moved (ap (λ (l : List T). l ++ y ∷ []) a.now
         ∙ append_assoc a.before (a.kept_left ∷ []) (y ∷ [])) refl)
 
@@ -342,7 +342,7 @@ module _ {S T : Type 0} (R : S → T → T → Bool → S → T → T → Type 0
       -- and the one behind it goes
       pub thins-two : b ≡ true → (value : T) → zs ≡ value ∷ w.rest → 0 < w.before
           → Moved (front ++ z ∷ []) (moving 1 v.cost) → Thins R s v u w
-      thins-two e value rest hole now =
+      thins-two e value rest gap now =
           let asked = last-append (x ∷ []) s t u a.kept y (true ∷ []) (false ∷ [])
           (a.kept_left ∷ []) (z ∷ []) (n.later ∷ [])
           (last-stays s t a.kept x y a.kept_left a.asked)
@@ -351,14 +351,14 @@ module _ {S T : Type 0} (R : S → T → T → Bool → S → T → T → Type 0
           let same : n.behind ≡ w.rest = cons-tail (sym n.now ∙ rest) in
           thins-of s u a.before a.kept (x ∷ n.later ∷ []) (true ∷ false ∷ []) (a.kept_left ∷ z ∷ [])
           a.was (whole ∙ ap (λ (l : List T). x ∷ l)
-          (n.was ∙ ap (λ (l : List T). n.later ∷ l) same)) asked hole (now ∙ moved two-front refl)
+          (n.was ∙ ap (λ (l : List T). n.later ∷ l) same)) asked gap (now ∙ moved two-front refl)
 
       -- and so does the one behind it, with a run
       pub thins-run : b ≡ false → (m : ℕ) (q : S) (ws : List T) (r : PairRuns R m u zs q ws)
           → r.behind ≡ w.rest → suc (trues r.stays) ≡ m
           → 0 < w.before → Moved ((front ++ z ∷ []) ++ take m ws) (moving m (moving 1 v.cost))
           → Thins R s v q w
-      thins-run e m q ws r rest count hole now =
+      thins-run e m q ws r rest count gap now =
           let pair = last-append (x ∷ []) s t u a.kept y (true ∷ []) (true ∷ []) (a.kept_left ∷ [])
           (z ∷ n.later_left ∷ []) (n.later ∷ []) (last-stays s t a.kept x y a.kept_left a.asked)
           (last-stays t u y n.later n.later_left z
@@ -376,7 +376,7 @@ module _ {S T : Type 0} (R : S → T → T → Bool → S → T → T → Type 0
           (cons-tail heads ∙ ap (λ (l : List T). r.done ++ l) rest)) in
           let paid : 1 + m ≡ suc (suc (trues r.stays)) = omega (arith, count) in
           thins-of s q a.before a.kept (x ∷ n.later ∷ r.done) (true ∷ true ∷ r.stays)
-          (a.kept_left ∷ z ∷ r.left) a.was all asked hole
+          (a.kept_left ∷ z ∷ r.left) a.was all asked gap
           (now ∙ moved ((λ i. two-front i ++ run-left m u zs q ws r i)
           ∙ append_assoc a.before (a.kept_left ∷ z ∷ []) r.left)
           (moving-more m 1 v.cost ∙ ap (λ (k : ℕ). moving k v.cost) paid))
@@ -384,7 +384,7 @@ module _ {S T : Type 0} (R : S → T → T → Bool → S → T → T → Type 0
   -- nothing was asked yet; and one stretch after another
   pub thins-start : {A : Type 0} (s : S) (v : Open T A) → 0 < length v.front
       → 0 < v.before → Thins R s v s v
-  thins-start s v some hole =
+  thins-start s v some gap =
       let p = last-of v.front some in
       record {
         before = p.0;
@@ -395,7 +395,7 @@ module _ {S T : Type 0} (R : S → T → T → Bool → S → T → T → Type 0
         was = p.2;
         rest = refl;
         asked = (refl, refl, refl);
-        hole = hole;
+        gap = gap;
         now = λ i. record v { front = p.2 i; cost = sym (moving-none v.cost) i };
       }
 
@@ -420,7 +420,7 @@ module _ {S T : Type 0} (R : S → T → T → Bool → S → T → T → Type 0
         asked = last-append h.done s t u h.first p.1 h.stays k.stays p.0 k.kept k.done
             (subst (λ (l : List T). AskedLast R s h.first h.done h.stays l t) p.2 h.asked)
             (subst (λ (l : T). AskedLast R t l k.done k.stays k.kept u) (sym ends.1) k.asked);
-        hole = k.hole;
+        gap = k.gap;
         now = k.now ∙ ((λ i. let u = h.now i in record u {
           front = k.before ++ k.kept;
           before = z.before;

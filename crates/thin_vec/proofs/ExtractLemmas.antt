@@ -144,7 +144,7 @@ module _ {F T : Type 0} (R : F → T → Bool → F → T → Type 0) where
           whole (Some v) zs (stops-at-item h.between t h.behind h.end v zs
           h.stops (sym end-is ∙ some))
 
--- what some first items cost where there is a hole, by how many they are
+-- what some first items cost where there is a gap, by how many they are
 pub cost-of : {T : Type 0} (before : ℕ) (cost : Cost) (k : ℕ) (xs : List T) → k ≤ length xs
     → (if before == 0 then cost else moving k cost)
     ≡ (if before == 0 then cost else moving (length (take k xs)) cost)

@@ -29,7 +29,7 @@ pub moving-zero : (c : Cost) → c ≡ moving 0 c
 moving-zero c = ap (λ m. let d : Cost = record c { moves = m } in d)
     (let e : c.moves ≡ c.moves + 0 = omega arith in e)
 
--- the moves of a filled hole that is closed, beside those of its items
+-- the moves of a filled gap that is closed, beside those of its items
 pub closed-moves : {T A : Type 0} (v w : Open T A) (n : ℕ) → w.cost ≡ moving (v.before - w.before)
     v.cost → w.rest ≡ [] → w.tail ≡ v.tail → n ≡ v.before - w.before
     → (m : ℕ) × (cost_closed w ≡ moving (n + m) v.cost) × (m ≤ length v.tail)

@@ -21,7 +21,7 @@ pub moving-none : (c : Cost) → moving 0 c ≡ c
 moving-none c = let e : c.moves + 0 ≡ c.moves = omega arith in
     λ i. record { blocks = c.blocks; grown = c.grown; moves = e i }
 
--- what moves cost behind a hole; where there is none; and for no item
+-- what moves cost behind a gap; where there is none; and for no item
 pub moving-behind : (gap k : ℕ) (c : Cost) → 0 < gap
     → (if gap == 0 then c else moving k c) ≡ moving k c
 moving-behind gap k c some =
@@ -407,13 +407,13 @@ module _ {S T : Type 0} (R : S → T → Bool → S → T → Type 0) where
           rest = w.rest;
           cost = moving m v.cost;
         } → Sifts R s v t w
-    sifts-of m s t kept p hole now =
+    sifts-of m s t kept p gap now =
         record {
           done = p.done;
           answers = p.answers;
           rest = p.was;
           asked = p.asked;
-          hole = hole;
+          gap = gap;
           now = now ∙ (λ i. record v {
             front = v.front ++ sym p.left i;
             before = w.before;
@@ -422,14 +422,14 @@ module _ {S T : Type 0} (R : S → T → Bool → S → T → Type 0) where
           });
         }
 
-  -- the middle run up to the first item that goes, behind a hole
-  module _ {A : Type 0} (s t : S) (v w : Open T A) (hole : 0 < v.before)
+  -- the middle run up to the first item that goes, behind a gap
+  module _ {A : Type 0} (s t : S) (v w : Open T A) (gap : 0 < v.before)
       (h : Advances R s v t w) where
     abbrev kept : List T
     kept = take h.count h.left
 
     moved : w.cost ≡ moving h.count v.cost
-    moved = ap (λ u. u.cost) h.now ∙ moving-behind v.before h.count v.cost hole
+    moved = ap (λ u. u.cost) h.now ∙ moving-behind v.before h.count v.cost gap
 
     -- that item left w, and nothing else did: z is what is open then
     pub advanced-goes : (value : T) (z : Open T A) → w.rest ≡ value ∷ z.rest
@@ -448,7 +448,7 @@ module _ {S T : Type 0} (R : S → T → Bool → S → T → Type 0) where
         sifts-of v w h.count s t kept
         (subst (λ (l : List T). Part h.count s v.rest t kept l) (sym none)
         (part-ends h.count s v.rest t h.left h.run (sym (ap (λ u. u.rest) h.now) ∙ none)))
-        (omega (arith, ap (λ u. u.before) h.now, hole))
+        (omega (arith, ap (λ u. u.before) h.now, gap))
         (λ i. record (h.now i) { before = w.before; rest = w.rest; cost = moved i })
 
     -- no more items are left to ask about
@@ -462,13 +462,13 @@ module _ {S T : Type 0} (R : S → T → Bool → S → T → Type 0) where
 
   -- nothing was asked yet; and one stretch after another
   pub sifts-start : {A : Type 0} (s : S) (v : Open T A) → 0 < v.before → Sifts R s v s v
-  sifts-start s v hole =
+  sifts-start s v gap =
       record {
         done = [];
         answers = [];
         rest = refl;
         asked = (refl, refl);
-        hole = hole;
+        gap = gap;
         now = λ i. record v
             { front = sym (append-nil v.front) i; cost = sym (moving-none v.cost) i };
       }
@@ -482,7 +482,7 @@ module _ {S T : Type 0} (R : S → T → Bool → S → T → Type 0) where
         rest = h.rest ∙ (ap (λ (l : List T). h.done ++ l) k.rest
             ∙ sym (append_assoc h.done k.done z.rest));
         asked = asked-append h.done s t u k.done h.answers k.answers h.asked k.asked;
-        hole = k.hole;
+        gap = k.gap;
         now = k.now ∙ ((λ i. let u = h.now i in record u {
           front = u.front ++ left_at true k.answers;
           before = z.before;

@@ -9,7 +9,7 @@ mod TwoListsLemmas
 mod FromOthersLemmas
 mod ExtendLemmas
 mod IntoIterLemmas
-mod HoleLemmas
+mod OpenBlockLemmas
 mod FillingLemmas
 mod ReplacingLemmas
 mod DrainLemmas

@@ -6,11 +6,11 @@ use lib.ListN.{set}
 use Rattle.thin_block.specs.Lends.{over, with_item}
 use Rattle.thin_block.specs.Slots.{empty, full, slot}
 use Rattle.thin_block.specs.declared.block.Block.{Block}
-use Rattle.thin_vec.specs.Hole.{IsOpen, Shows, open_of}
+use Rattle.thin_vec.specs.OpenBlock.{IsOpen, Shows, open_of}
 use Rattle.thin_vec.specs.Open.{Open, reach, row_of}
-use Rattle.thin_vec.specs.declared.hole.Hole.TheInside.{Inside}
+use Rattle.thin_vec.specs.declared.open_block.OpenBlock.TheInside.{Inside}
 use Rattle.thin_vec.proofs.FiltersLemmas.{cons-head, cons-not-nil, cons-tail}
-use Rattle.thin_vec.proofs.HoleLemmas.{Found, found, last-of, past_rest, slot-in-full, some-same}
+use Rattle.thin_vec.proofs.OpenBlockLemmas.{Found, found, last-of, past_rest, slot-in-full, some-same}
 use Rattle.thin_vec.proofs.ListLemmas.{length-full}
 use Rattle.thin_vec.proofs.SiftingLemmas.{row-at, same-past, write-step, written}
 
@@ -94,25 +94,28 @@ module _ {T A : Type 0} where
     pub was : (open_of h).rest ≡ pre ++ x ∷ y ∷ post
     pub shown : Found (record {
       block = b;
-      kept = h.kept;
-      at = h.at;
-      end = h.end;
-      stop = h.stop;
+      front_end = h.front_end;
+      rest_start = h.rest_start;
+      rest_end = h.rest_end;
+      tail_start = h.tail_start;
       len = h.len;
     }) (record (open_of h) { rest = pre ++ x' ∷ y' ∷ post })
 
   module _ (h : Inside T A) (o : IsOpen h) where
     pub write-two-step : (k : ℕ) (b : Block T A) (x y x' y' : T) → b.alloc ≡ h.block.alloc
         → b.cost ≡ h.block.cost → suc k < length (open_of h).rest
-        → slot h.block.slots (h.at + k) ≡ Some x → slot h.block.slots (suc (h.at + k)) ≡ Some y
-        → b.slots ≡ set (set h.block.slots (h.at + k) (Some x')) (suc (h.at + k)) (Some y')
+        → slot h.block.slots (h.rest_start + k) ≡ Some x
+        → slot h.block.slots (suc (h.rest_start + k)) ≡ Some y
+        → b.slots ≡ set (set h.block.slots (h.rest_start + k) (Some x')) (suc (h.rest_start + k))
+        (Some y')
         → WrittenTwo h o k b x y x' y'
     write-two-step k b x y x' y' alloc cost low first second now =
-        let c : Block T A = with_item h.block (h.at + k) x' in
+        let c : Block T A = with_item h.block (h.rest_start + k) x' in
         let one = write-step h o c refl refl k (omega arith) x x' first refl in
         let m : Inside T A = written h o c refl refl k (omega arith) in
-        let next : suc (h.at + k) ≡ h.at + suc k = omega arith in
-        let apart : suc (h.at + k) ≢ h.at + k = λ e. let n : suc (h.at + k) ≡ h.at + k =
+        let next : suc (h.rest_start + k) ≡ h.rest_start + suc k = omega arith in
+        let apart : suc (h.rest_start + k) ≢ h.rest_start + k = λ e. let n : suc (h.rest_start + k)
+        ≡ h.rest_start + k =
         e in omega (arith, n) in
         let seen : (open_of m).rest ≡ one.pre ++ x' ∷ one.post = ap (λ v. v.rest) one.shown.view in
         let count : length (one.pre ++ x' ∷ one.post) ≡ length (open_of h).rest =
@@ -122,9 +125,9 @@ module _ {T A : Type 0} where
           length-append one.pre (x ∷ one.post),
           length-append one.pre (x' ∷ one.post),
         ) in
-        let there : slot c.slots (h.at + suc k) ≡ Some y =
+        let there : slot c.slots (h.rest_start + suc k) ≡ Some y =
         ap (slot c.slots) (sym next)
-        ∙ (get_or-set_other h.block.slots (h.at + k) (suc (h.at + k)) (Some x')
+        ∙ (get_or-set_other h.block.slots (h.rest_start + k) (suc (h.rest_start + k)) (Some x')
         None apart ∙ second) in
         let two = write-step m one.shown.lies b alloc cost (suc k)
         (omega (arith, low, ap length seen, count)) y y' there
@@ -161,16 +164,17 @@ module _ {T A : Type 0} where
     pub was : (open_of h).front ≡ pre ++ x ∷ []
     pub shown : Found (record {
       block = b;
-      kept = h.kept;
-      at = h.at;
-      end = h.end;
-      stop = h.stop;
+      front_end = h.front_end;
+      rest_start = h.rest_start;
+      rest_end = h.rest_end;
+      tail_start = h.tail_start;
       len = h.len;
     }) (record (open_of h) { front = pre ++ y ∷ [] })
 
   pub write-last-step : (h : Inside T A) (o : IsOpen h) (b : Block T A) (x y : T)
       → b.alloc ≡ h.block.alloc → b.cost ≡ h.block.cost → 0 < length (open_of h).front
-      → slot h.block.slots (h.kept - 1) ≡ Some x → b.slots ≡ set h.block.slots (h.kept - 1)
+      → slot h.block.slots (h.front_end - 1) ≡ Some x → b.slots
+      ≡ set h.block.slots (h.front_end - 1)
       (Some y) → WrittenLast h b x y
   write-last-step h o b x y alloc cost some is now =
       let v : Open T A = open_of h in
@@ -179,22 +183,30 @@ module _ {T A : Type 0} where
       let z : List (Option T) = empty v.before ++ (full v.rest ++ past_rest v) in
       let row : h.block.slots ≡ full pre ++ (Some p.1 ∷ z) = o.row
       ∙ (ap (λ (l : List T). full l ++ z) p.2 ∙ row-at [] pre p.1 [] z) in
-      let here : length (full pre) ≡ h.kept - 1 =
+      let here : length (full pre) ≡ h.front_end - 1 =
       omega (arith, length-full pre, o.front, ap length p.2, length_push pre p.1) in
-      let same : p.1 ≡ x = some-same (sym (get_or_at (full pre) (Some p.1) z None (h.kept - 1) here)
-      ∙ (ap (λ (r : List (Option T)). slot r (h.kept - 1)) (sym row) ∙ is)) in
+      let same : p.1 ≡ x = some-same
+      (sym (get_or_at (full pre) (Some p.1) z None (h.front_end - 1) here)
+      ∙ (ap (λ (r : List (Option T)). slot r (h.front_end - 1)) (sym row) ∙ is)) in
       let w : Open T A = record v { front = pre ++ y ∷ [] } in
       let count : length (pre ++ y ∷ []) ≡ length v.front =
       omega (arith, length_push pre y, ap length p.2, length_push pre p.1) in
       let left : v.capacity - reach v ≡ w.capacity - reach w = omega (arith, count) in
       let after : b.slots ≡ row_of w =
-      now ∙ (ap (λ (r : List (Option T)). set r (h.kept - 1) (Some y)) row
-      ∙ (set_at (full pre) (Some p.1) z (Some y) (h.kept - 1) here
+      now ∙ (ap (λ (r : List (Option T)). set r (h.front_end - 1) (Some y)) row
+      ∙ (set_at (full pre) (Some p.1) z (Some y) (h.front_end - 1) here
       ∙ (sym (row-at [] pre y [] z)
       ∙ ap (λ (r : List (Option T)). full (pre ++ y ∷ [])
       ++ (empty v.before ++ (full v.rest ++ r))) (same-past v w refl refl left)))) in
       let i : Inside T A =
-      record { block = b; kept = h.kept; at = h.at; end = h.end; stop = h.stop; len = h.len } in
+      record {
+        block = b;
+        front_end = h.front_end;
+        rest_start = h.rest_start;
+        rest_end = h.rest_end;
+        tail_start = h.tail_start;
+        len = h.len;
+      } in
       let shows : Shows i w = record {
         row = after;
         front = count ∙ o.front;
@@ -212,13 +224,13 @@ module _ {T A : Type 0} where
 
   -- an item goes behind the front
   pub put-step : (h : Inside T A) (o : IsOpen h) (b : Block T A) (x : T) → b.alloc ≡ h.block.alloc
-      → 0 < (open_of h).before → b.slots ≡ set h.block.slots h.kept (Some x)
+      → 0 < (open_of h).before → b.slots ≡ set h.block.slots h.front_end (Some x)
       → Found (record {
         block = b;
-        kept = h.kept + 1;
-        at = h.at;
-        end = h.end;
-        stop = h.stop;
+        front_end = h.front_end + 1;
+        rest_start = h.rest_start;
+        rest_end = h.rest_end;
+        tail_start = h.tail_start;
         len = h.len;
       }) (record (open_of h) {
         front = (open_of h).front ++ x ∷ [];
@@ -226,7 +238,7 @@ module _ {T A : Type 0} where
             (open_of h).before - 1;
         cost = b.cost;
       })
-  put-step h o b x alloc hole now =
+  put-step h o b x alloc gap now =
       let v : Open T A = open_of h in
       let g : ℕ = v.before - 1 in
       let wide : v.before ≡ suc g = omega arith in
@@ -235,19 +247,20 @@ module _ {T A : Type 0} where
       let longer : length w.front ≡ length v.front + 1 = length_push v.front x in
       let left : v.capacity - reach v ≡ w.capacity - reach w = omega (arith, longer, wide) in
       let after : b.slots ≡ row_of w =
-      now ∙ (ap (λ (r : List (Option T)). set r h.kept (Some x))
+      now ∙ (ap (λ (r : List (Option T)). set r h.front_end (Some x))
       (o.row ∙ ap (λ (n : ℕ). full v.front ++ (empty n ++ z)) wide)
-      ∙ (set_at (full v.front) None (empty g ++ z) (Some x) h.kept (length-full v.front ∙ o.front)
+      ∙ (set_at (full v.front) None (empty g ++ z) (Some x) h.front_end
+      (length-full v.front ∙ o.front)
       ∙ (sym (row-at [] v.front x [] (empty g ++ z))
       ∙ ap (λ (r : List (Option T)). full w.front ++ (empty g ++ (full v.rest ++ r)))
       (same-past v w refl refl left)))) in
       let i : Inside T A =
       record {
         block = b;
-        kept = h.kept + 1;
-        at = h.at;
-        end = h.end;
-        stop = h.stop;
+        front_end = h.front_end + 1;
+        rest_start = h.rest_start;
+        rest_end = h.rest_end;
+        tail_start = h.tail_start;
         len = h.len;
       } in
       let shows : Shows i w =
@@ -265,9 +278,9 @@ module _ {T A : Type 0} where
 
   -- which slots those are
   pub last-filled : (h : Inside T A) (o : IsOpen h) → 0 < length (open_of h).front
-      → IsSome (slot h.block.slots (h.kept - 1))
+      → IsSome (slot h.block.slots (h.front_end - 1))
   last-filled h o some =
       let v : Open T A = open_of h in
-      rw (ap (λ (r : List (Option T)). slot r (h.kept - 1)) o.row)
-      (slot-in-full [] v.front (empty v.before ++ (full v.rest ++ past_rest v)) (h.kept - 1)
+      rw (ap (λ (r : List (Option T)). slot r (h.front_end - 1)) o.row)
+      (slot-in-full [] v.front (empty v.before ++ (full v.rest ++ past_rest v)) (h.front_end - 1)
       (omega arith) (omega (arith, o.front, some)))

@@ -10,13 +10,13 @@ use Rattle.thin_block.specs.Cost.{Cost, moving}
 use Rattle.thin_block.specs.Slots.{empty, full, moved}
 use Rattle.thin_block.specs.declared.block.Block.{Block}
 use Rattle.thin_block.proofs.SlotsLemmas.{moved_back}
-use Rattle.thin_vec.specs.Hole.{IsOpen, Shows, open_of}
+use Rattle.thin_vec.specs.OpenBlock.{IsOpen, Shows, open_of}
 use Rattle.thin_vec.specs.Open.{Open, reach, row_of}
-use Rattle.thin_vec.specs.declared.hole.Hole.TheInside.{Inside}
+use Rattle.thin_vec.specs.declared.open_block.OpenBlock.TheInside.{Inside}
 use Rattle.thin_vec.specs.Replacing.{MovesAtMost, ReplacesByClones}
 use Rattle.thin_vec.proofs.EditsLemmas.{full-append}
 use Rattle.thin_vec.proofs.FillingLemmas.{moving-add, moving-zero}
-use Rattle.thin_vec.proofs.HoleLemmas.{Found, found, past_tail, reached}
+use Rattle.thin_vec.proofs.OpenBlockLemmas.{Found, found, past_tail, reached}
 use Rattle.thin_vec.proofs.ListLemmas.{length-full}
 
 -- the clones of two lists of sources are those of the two as one
@@ -98,10 +98,10 @@ module _ {T A : Type 0} (h : Inside T A) (o : IsOpen h) (b : Block T A) (k : ℕ
   abbrev pub brought : Inside T A
   brought = record {
     block = b;
-    kept = h.kept + k;
-    at = h.at;
-    end = h.end;
-    stop = h.stop;
+    front_end = h.front_end + k;
+    rest_start = h.rest_start;
+    rest_end = h.rest_end;
+    tail_start = h.tail_start;
     len = h.len - k;
   }
 
@@ -117,7 +117,8 @@ module _ {T A : Type 0} (h : Inside T A) (o : IsOpen h) (b : Block T A) (k : ℕ
     cost = b.cost;
   }
 
-  pub bring-step : b.slots ≡ moved (h.len - k) h.kept k h.block.slots → Found brought brought-seen
+  pub bring-step : b.slots ≡ moved (h.len - k) h.front_end k h.block.slots
+      → Found brought brought-seen
   bring-step now =
       let m : ℕ = length v.tail - k in
       let zs : List T = take m v.tail in
@@ -125,7 +126,7 @@ module _ {T A : Type 0} (h : Inside T A) (o : IsOpen h) (b : Block T A) (k : ℕ
       let past : List (Option T) = past_tail v in
       let lz : length zs ≡ m = length-take-le m v.tail (omega arith) in
       let ly : length ys ≡ k = omega (arith, length-drop m v.tail, few) in
-      let more : length (v.front ++ ys) ≡ h.kept + k =
+      let more : length (v.front ++ ys) ≡ h.front_end + k =
       omega (arith, length-append v.front ys, o.front, ly) in
       let mid : List (Option T) =
       empty (v.before - k) ++ (full v.rest ++ (empty v.behind ++ full zs)) in
@@ -155,7 +156,7 @@ module _ {T A : Type 0} (h : Inside T A) (o : IsOpen h) (b : Block T A) (k : ℕ
       (apart (full v.rest ++ (empty v.behind ++ (full zs ++ (full ys ++ past)))))
       ∙ ap (λ (l : List (Option T)). full v.front ++ (empty k ++ l))
       (sym (spread (full ys ++ past))))) in
-      let from : h.len - k ≡ h.kept + k + length mid =
+      let from : h.len - k ≡ h.front_end + k + length mid =
       omega (
         arith,
         length-append (empty {T = T} (v.before - k)) (full v.rest ++ (empty v.behind ++ full zs)),
@@ -175,8 +176,8 @@ module _ {T A : Type 0} (h : Inside T A) (o : IsOpen h) (b : Block T A) (k : ℕ
         room,
       ) in
       let after : b.slots ≡ full v.front ++ (full ys ++ (mid ++ (empty k ++ past))) =
-      now ∙ (ap (moved (h.len - k) h.kept k) row
-      ∙ moved_back (h.len - k) h.kept k (full v.front) (full ys) mid past
+      now ∙ (ap (moved (h.len - k) h.front_end k) row
+      ∙ moved_back (h.len - k) h.front_end k (full v.front) (full ys) mid past
       (sym (length-full v.front ∙ o.front)) from (sym (length-full ys ∙ ly))) in
       let left : k + (v.capacity - reach v) ≡ v.capacity - reach brought-seen =
       omega (
@@ -200,7 +201,8 @@ module _ {T A : Type 0} (h : Inside T A) (o : IsOpen h) (b : Block T A) (k : ℕ
       (sym (full-append v.front ys))
       ∙ ap (λ (l : List (Option T)). full (v.front ++ ys)
       ++ (empty (v.before - k) ++ (full v.rest ++ (empty v.behind ++ (full zs ++ l)))))
-      (replicate-append-replicate k (v.capacity - reach v) None ∙ ap (λ (n : ℕ). empty n) left)))) in
+      (replicate-append-replicate k (v.capacity - reach v) None ∙ ap (λ (n : ℕ). empty n) left))))
+      in
       found brought brought-seen
       (record {
         row = lies;

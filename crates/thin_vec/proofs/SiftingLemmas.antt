@@ -6,11 +6,11 @@ use lib.ListN.{set}
 use Rattle.thin_block.specs.Slots.{empty, full, moved, slot}
 use Rattle.thin_block.specs.declared.block.Block.{Block}
 use Rattle.thin_block.proofs.SlotsLemmas.{moved_left}
-use Rattle.thin_vec.specs.Hole.{IsOpen, Shows, open_of}
+use Rattle.thin_vec.specs.OpenBlock.{IsOpen, Shows, open_of}
 use Rattle.thin_vec.specs.Open.{Open, reach, row_of}
-use Rattle.thin_vec.specs.declared.hole.Hole.TheInside.{Inside}
+use Rattle.thin_vec.specs.declared.open_block.OpenBlock.TheInside.{Inside}
 use Rattle.thin_vec.proofs.EditsLemmas.{full-append}
-use Rattle.thin_vec.proofs.HoleLemmas.{Found, at_rest, by_rest, empty-more, first-of, found, past_rest, some-same, to_rest}
+use Rattle.thin_vec.proofs.OpenBlockLemmas.{Found, at_rest, by_rest, empty-more, first-of, found, past_rest, some-same, to_rest}
 use Rattle.thin_vec.proofs.ListLemmas.{length-full}
 
 -- a list, by the item at k
@@ -47,10 +47,10 @@ module _ {T A : Type 0} where
     abbrev pub written : Inside T A
     written = record {
       block = b;
-      kept = h.kept;
-      at = h.at;
-      end = h.end;
-      stop = h.stop;
+      front_end = h.front_end;
+      rest_start = h.rest_start;
+      rest_end = h.rest_end;
+      tail_start = h.tail_start;
       len = h.len;
     }
 
@@ -65,8 +65,8 @@ module _ {T A : Type 0} where
       pub was : v.rest ≡ pre ++ x ∷ post
       pub shown : Found written (written-seen (pre ++ y ∷ post))
 
-    pub write-step : (x y : T) → slot h.block.slots (h.at + k) ≡ Some x
-        → b.slots ≡ set h.block.slots (h.at + k) (Some y) → Written x y
+    pub write-step : (x y : T) → slot h.block.slots (h.rest_start + k) ≡ Some x
+        → b.slots ≡ set h.block.slots (h.rest_start + k) (Some y) → Written x y
     write-step x y is now =
         let p = split-at v.rest k low in
         let pre : List T = p.0 in
@@ -75,12 +75,13 @@ module _ {T A : Type 0} where
         =
         by_rest h v o ∙ (ap (λ (r : List T). to_rest v ++ (full r ++ past_rest v)) p.4
         ∙ row-at (to_rest v) pre p.1 post (past_rest v)) in
-        let here : length (to_rest v ++ full pre) ≡ h.at + k =
+        let here : length (to_rest v ++ full pre) ≡ h.rest_start + k =
         omega (arith, length-append (to_rest v) (full pre), at_rest h v o, length-full pre, p.3)
         in
         let same : p.1 ≡ x =
         some-same (sym (get_or_at (to_rest v ++ full pre) (Some p.1) (full post ++ past_rest v) None
-        (h.at + k) here) ∙ (ap (λ (r : List (Option T)). slot r (h.at + k)) (sym row) ∙ is)) in
+        (h.rest_start + k) here) ∙ (ap (λ (r : List (Option T)). slot r (h.rest_start + k))
+        (sym row) ∙ is)) in
         let count : length (pre ++ y ∷ post) ≡ length v.rest =
         omega (
           arith,
@@ -91,9 +92,9 @@ module _ {T A : Type 0} where
         let w : Open T A = written-seen (pre ++ y ∷ post) in
         let left : v.capacity - reach v ≡ w.capacity - reach w = omega (arith, count) in
         let after : b.slots ≡ row_of w =
-        now ∙ (ap (λ (r : List (Option T)). set r (h.at + k) (Some y)) row
+        now ∙ (ap (λ (r : List (Option T)). set r (h.rest_start + k) (Some y)) row
         ∙ (set_at (to_rest v ++ full pre) (Some p.1) (full post ++ past_rest v)
-        (Some y) (h.at + k) here
+        (Some y) (h.rest_start + k) here
         ∙ (sym (row-at (to_rest v) pre y post (past_rest v))
         ∙ (append_assoc (full v.front) (empty v.before) (full (pre ++ y ∷ post) ++ past_rest v)
         ∙ ap (λ (r : List (Option T)). full v.front
@@ -127,10 +128,10 @@ module _ {T A : Type 0} where
     abbrev pub lowered : Block T A → Inside T A
     lowered b = record {
       block = b;
-      kept = h.kept + k;
-      at = h.at + k;
-      end = h.end;
-      stop = h.stop;
+      front_end = h.front_end + k;
+      rest_start = h.rest_start + k;
+      rest_end = h.rest_end;
+      tail_start = h.tail_start;
       len = h.len;
     }
 
@@ -193,43 +194,45 @@ module _ {T A : Type 0} where
         (sym none))) refl
 
     -- they move as a run
-    pub lower-step : (b : Block T A) → b.slots ≡ moved h.at h.kept k h.block.slots
+    pub lower-step : (b : Block T A) → b.slots ≡ moved h.rest_start h.front_end k h.block.slots
         → b.alloc ≡ h.block.alloc → Found (lowered b) (lowered-seen b)
     lower-step b now alloc =
         let few : length (full (take k u.rest)) ≡ k = length-full (take k u.rest)
         ∙ length-take-le k u.rest low in
         lowered-shows b
-        (now ∙ (ap (moved h.at h.kept k) parted
-        ∙ moved_left h.at h.kept k u.before (full u.front) (full (take k u.rest))
+        (now ∙ (ap (moved h.rest_start h.front_end k) parted
+        ∙ moved_left h.rest_start h.front_end k u.before (full u.front) (full (take k u.rest))
         (full (drop k u.rest) ++ past_rest u) (sym (length-full u.front ∙ o.front))
         (sym o.before) (sym few))) alloc
 
   -- one item moves to the front, in line
   pub lower-one-step : (h : Inside T A) (o : IsOpen h) (some : 1 ≤ length (open_of h).rest)
       → 0 < (open_of h).before → (b : Block T A) (x : T) (s : List (Option T))
-      → slot h.block.slots h.at ≡ Some x → s ≡ set h.block.slots h.at None
-      → b.slots ≡ set s h.kept (Some x) → b.alloc ≡ h.block.alloc → Found (lowered h o 1 some b)
+      → slot h.block.slots h.rest_start ≡ Some x → s ≡ set h.block.slots h.rest_start None
+      → b.slots ≡ set s h.front_end (Some x) → b.alloc ≡ h.block.alloc
+      → Found (lowered h o 1 some b)
       (lowered-seen h o 1 some b)
-  lower-one-step h o some hole b x s is taken now alloc =
+  lower-one-step h o some gap b x s is taken now alloc =
       let w : Open T A = open_of h in
       let parts = first-of w.rest some in
       let y : T = parts.0 in
       let z : List (Option T) = full parts.1 ++ past_rest w in
       let row : h.block.slots ≡ to_rest w ++ (Some y ∷ z) = by_rest h w o
       ∙ ap (λ (r : List T). to_rest w ++ (full r ++ past_rest w)) parts.2 in
-      let same : y ≡ x = some-same (sym (get_or_at (to_rest w) (Some y) z None h.at (at_rest h w o))
-      ∙ (ap (λ (r : List (Option T)). slot r h.at) (sym row) ∙ is)) in
+      let same : y ≡ x = some-same
+      (sym (get_or_at (to_rest w) (Some y) z None h.rest_start (at_rest h w o))
+      ∙ (ap (λ (r : List (Option T)). slot r h.rest_start) (sym row) ∙ is)) in
       let g : ℕ = w.before - 1 in
       let wide : w.before ≡ suc g = omega arith in
       let wide' : g + 1 ≡ w.before = omega arith in
       let opened : s ≡ full w.front ++ (None ∷ (empty g ++ (None ∷ z))) =
-      taken ∙ (ap (λ (r : List (Option T)). set r h.at None) row
-      ∙ (set_at (to_rest w) (Some y) z None h.at (at_rest h w o)
+      taken ∙ (ap (λ (r : List (Option T)). set r h.rest_start None) row
+      ∙ (set_at (to_rest w) (Some y) z None h.rest_start (at_rest h w o)
       ∙ (append_assoc (full w.front) (empty w.before) (None ∷ z)
       ∙ ap (λ (n : ℕ). full w.front ++ (empty n ++ (None ∷ z))) wide))) in
       lowered-shows h o 1 some b
-      (now ∙ (ap (λ (r : List (Option T)). set r h.kept (Some x)) opened
-      ∙ (set_at (full w.front) None (empty g ++ (None ∷ z)) (Some x) h.kept
+      (now ∙ (ap (λ (r : List (Option T)). set r h.front_end (Some x)) opened
+      ∙ (set_at (full w.front) None (empty g ++ (None ∷ z)) (Some x) h.front_end
       (length-full w.front ∙ o.front)
       ∙ (ap (λ (r : List (Option T)). full w.front ++ (Some x ∷ r))
       (empty-more g z ∙ ap (λ (n : ℕ). empty n ++ z) wide')

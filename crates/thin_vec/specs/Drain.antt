@@ -14,21 +14,21 @@ use Rattle.thin_vec.specs.declared.holds.Holds.{Ghosts as HoldsGhosts}
 module _ {T A G : Type 0} {g : Ghosts G} {h : HoldsGhosts (Holder (Open T A)) (Open T A)} where
   -- the items that are still to come
   abbrev pub drain_rest : Drain T A G (Holder (Open T A)) g h → List T
-  drain_rest d = d.held.value.rest
+  drain_rest d = d.holder.value.rest
 
   -- the items that the list has once the `Drain` is dropped
   abbrev pub drain_kept : Drain T A G (Holder (Open T A)) g h → List T
-  drain_kept d = d.held.value.front ++ d.held.value.tail
+  drain_kept d = d.holder.value.front ++ d.holder.value.tail
 
   -- its capacity then, its allocator, and what it has cost
   abbrev pub drain_capacity : Drain T A G (Holder (Open T A)) g h → ℕ
-  drain_capacity d = d.held.value.capacity
+  drain_capacity d = d.holder.value.capacity
 
   abbrev pub drain_alloc : Drain T A G (Holder (Open T A)) g h → A
   drain_alloc d = d.list.now.alloc
 
   abbrev pub drain_cost : Drain T A G (Holder (Open T A)) g h → Cost
-  drain_cost d = cost_drained d.held.value
+  drain_cost d = cost_drained d.holder.value
 
   -- the ghost name of the reference to the list
   abbrev pub drain_lender : Drain T A G (Holder (Open T A)) g h → GName

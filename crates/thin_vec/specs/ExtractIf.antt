@@ -17,42 +17,42 @@ module _ {T F A G : Type 0} {g : Ghosts G}
   -- the items that stay in front: those before the range, and those that were asked about and stay,
   -- as the closure left them
   abbrev pub extract_front : ExtractIf T F A G (Holder (Extracting T F A)) g h → List T
-  extract_front e = e.held.value.hole.front
+  extract_front e = e.holder.value.block.front
 
   -- the items that are still to be asked about
   abbrev pub extract_rest : ExtractIf T F A G (Holder (Extracting T F A)) g h → List T
-  extract_rest e = e.held.value.hole.rest
+  extract_rest e = e.holder.value.block.rest
 
   -- the items behind the range
   abbrev pub extract_tail : ExtractIf T F A G (Holder (Extracting T F A)) g h → List T
-  extract_tail e = e.held.value.hole.tail
+  extract_tail e = e.holder.value.block.tail
 
   -- how many items were handed out
   abbrev pub extract_gone : ExtractIf T F A G (Holder (Extracting T F A)) g h → ℕ
-  extract_gone e = e.held.value.hole.before
+  extract_gone e = e.holder.value.block.before
 
   -- the closure
   abbrev pub extract_callee : ExtractIf T F A G (Holder (Extracting T F A)) g h → F
-  extract_callee e = e.held.value.picks.pick
+  extract_callee e = e.holder.value.picks.pick
 
   -- what the list's blocks have cost so far
   abbrev pub extract_cost : ExtractIf T F A G (Holder (Extracting T F A)) g h → Cost
-  extract_cost e = e.held.value.hole.cost
+  extract_cost e = e.holder.value.block.cost
 
   -- what the list has once the `ExtractIf` is dropped: its items, its capacity, its allocator, and
   -- what it has cost, a move more for each item that was not asked about or stands behind the
   -- range, where an item was handed out
   abbrev pub extract_kept : ExtractIf T F A G (Holder (Extracting T F A)) g h → List T
-  extract_kept e = items_of e.held.value.hole
+  extract_kept e = items_of e.holder.value.block
 
   abbrev pub extract_capacity : ExtractIf T F A G (Holder (Extracting T F A)) g h → ℕ
-  extract_capacity e = e.held.value.hole.capacity
+  extract_capacity e = e.holder.value.block.capacity
 
   abbrev pub extract_alloc : ExtractIf T F A G (Holder (Extracting T F A)) g h → A
   extract_alloc e = e.list.now.alloc
 
   abbrev pub extract_cost_left : ExtractIf T F A G (Holder (Extracting T F A)) g h → Cost
-  extract_cost_left e = cost_closed e.held.value.hole
+  extract_cost_left e = cost_closed e.holder.value.block
 
   -- the ghost name of the reference to the list
   abbrev pub extract_lender : ExtractIf T F A G (Holder (Extracting T F A)) g h → GName

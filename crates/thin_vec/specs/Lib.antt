@@ -7,7 +7,7 @@ pub mod Filters
 pub mod Sifting
 pub mod Pairs
 pub mod Open
-pub mod Hole
+pub mod OpenBlock
 pub mod Filling
 pub mod Replacing
 pub mod Lends

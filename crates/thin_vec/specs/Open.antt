@@ -63,8 +63,8 @@ module _ {T A : Type 0} where
   abbrev pub cost_closed : Open T A → Cost
   cost_closed v = if v.before == 0 then v.cost else moving (length v.rest + length v.tail) v.cost
 
-  -- what it has cost once the middle run is gone and the hole is closed: a move for each item of
-  -- the tail, where there is a hole
+  -- what it has cost once the middle run is gone and the gap is closed: a move for each item of
+  -- the tail, where there is a gap
   abbrev pub cost_drained : Open T A → Cost
   cost_drained v = if v.before + length v.rest + v.behind == 0 then v.cost else
       moving (length v.tail) v.cost

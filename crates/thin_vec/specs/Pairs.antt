@@ -89,7 +89,7 @@ module _ {S T : Type 0} (R : S → T → T → Bool → S → T → T → Type 0
     pub was : v.front ≡ before ++ first ∷ []
     pub rest : v.rest ≡ done ++ w.rest
     pub asked : AskedLast R s first done stays kept t
-    pub hole : 0 < w.before
+    pub gap : 0 < w.before
     pub now : w ≡ record v {
       front = before ++ kept;
       before = w.before;

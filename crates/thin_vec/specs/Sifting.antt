@@ -41,7 +41,7 @@ module _ {S T : Type 0} (R : S → T → Bool → S → T → Type 0) where
 
   -- items of the middle run of v were asked about, from the state s on, up to the first that goes
   -- or to the end: w is what is open then, and t the state. Those before it joined the front, for a
-  -- move each where there was a hole
+  -- move each where there was a gap
   pub record Advances {A : Type 0} (s : S) (v : Open T A) (t : S) (w : Open T A) : Type 0 where
     pub count : ℕ
     pub left : List T
@@ -59,7 +59,7 @@ module _ {S T : Type 0} (R : S → T → Bool → S → T → Type 0) where
     pub answers : Answers T
     pub rest : v.rest ≡ done ++ w.rest
     pub asked : Asked R s done answers t
-    pub hole : 0 < w.before
+    pub gap : 0 < w.before
     pub now : w ≡ record v {
       front = v.front ++ left_at true answers;
       before = w.before;

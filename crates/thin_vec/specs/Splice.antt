@@ -11,8 +11,8 @@ use Rattle.thin_vec.specs.declared.holds.Holds.{Ghosts as HoldsGhosts}
 module _ {I T A G H : Type 0} {g : Ghosts G} {h : HoldsGhosts H (Open T A)} where
   -- the list's block: in front the items before the range, in the middle what is still to come of
   -- it, and then the items behind it
-  abbrev pub splice_hole : Splice I T A G H g h → Open T A
-  splice_hole s = h.inner s.held
+  abbrev pub splice_block : Splice I T A G H g h → Open T A
+  splice_block s = h.inner s.holder
 
   -- the iterator whose items are to take the range's place
   abbrev pub splice_iter : Splice I T A G H g h → I
@@ -28,40 +28,40 @@ module _ {I T A G H : Type 0} {g : Ghosts G} {h : HoldsGhosts H (Open T A)} wher
 
   -- the list without the range: what it has where no item takes its place, and what it has cost
   abbrev pub splice_left : Splice I T A G H g h → Thin T A
-  splice_left s = left_of (splice_hole s) (splice_alloc s)
+  splice_left s = left_of (splice_block s) (splice_alloc s)
 
   -- how many places the range has
   abbrev pub splice_range : Splice I T A G H g h → ℕ
-  splice_range s = range_len (splice_hole s)
+  splice_range s = range_len (splice_block s)
 
   -- the items with xs in the place of the range
   abbrev pub splice_replaced : Splice I T A G H g h → List T → List T
-  splice_replaced s xs = with_between (splice_hole s) xs
+  splice_replaced s xs = with_between (splice_block s) xs
 
   -- both borrow the same list, and have the same iterator, and the same items before and behind the
   -- range
   pub record SpliceKeeps (old new : Splice I T A G H g h) : Type 0 where
     pub lender : splice_lender new ≡ splice_lender old
     pub iter : splice_iter new ≡ splice_iter old
-    pub front : (splice_hole new).front ≡ (splice_hole old).front
-    pub tail : (splice_hole new).tail ≡ (splice_hole old).tail
+    pub front : (splice_block new).front ≡ (splice_block old).front
+    pub tail : (splice_block new).tail ≡ (splice_block old).tail
     pub range : splice_range new ≡ splice_range old
-    pub capacity : (splice_hole new).capacity ≡ (splice_hole old).capacity
+    pub capacity : (splice_block new).capacity ≡ (splice_block old).capacity
     pub alloc : splice_alloc new ≡ splice_alloc old
-    pub cost : (splice_hole new).cost ≡ (splice_hole old).cost
+    pub cost : (splice_block new).cost ≡ (splice_block old).cost
 
   -- `next` took old to new, and gave the first item, or `None` where there is none
   pub record SpliceSteps (old : Splice I T A G H g h) (item : Option T)
       (new : Splice I T A G H g h) : Type 0 where
     pub gave : MatchOption item
-        (((splice_hole old).rest ≡ []) × ((splice_hole new).rest ≡ []))
-        (λ x. (splice_hole old).rest ≡ x ∷ (splice_hole new).rest)
+        (((splice_block old).rest ≡ []) × ((splice_block new).rest ≡ []))
+        (λ x. (splice_block old).rest ≡ x ∷ (splice_block new).rest)
     pub keeps : SpliceKeeps old new
 
   -- `next_back` did, and gave the last one
   pub record SpliceStepsBack (old : Splice I T A G H g h) (item : Option T)
       (new : Splice I T A G H g h) : Type 0 where
     pub gave : MatchOption item
-        (((splice_hole old).rest ≡ []) × ((splice_hole new).rest ≡ []))
-        (λ x. (splice_hole old).rest ≡ (splice_hole new).rest ++ x ∷ [])
+        (((splice_block old).rest ≡ []) × ((splice_block new).rest ≡ []))
+        (λ x. (splice_block old).rest ≡ (splice_block new).rest ++ x ∷ [])
     pub keeps : SpliceKeeps old new

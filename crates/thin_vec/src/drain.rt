@@ -7,8 +7,8 @@ ghost use Rattle.thin_block.specs.Cost.{moving};
 ghost use Rattle.thin_vec.specs.Open.{IsOf, cost_drained};
 
 use crate::holds::{Holder, Holds};
-use crate::hole::Hole;
 use crate::list::ThinVec;
+use crate::open_block::OpenBlock;
 use std::alloc::{Allocator, Global};
 use std::fmt;
 use std::iter::FusedIterator;
@@ -24,28 +24,28 @@ pub struct Drain<
     T,
     A: Allocator = Global,
     G: Growth = Doubling,
-    H: Holds<Inner = Hole<T, A>> = Holder<Hole<T, A>>,
+    H: Holds<Inner = OpenBlock<T, A>> = Holder<OpenBlock<T, A>>,
 > {
     list: &'a mut ThinVec<T, A, G>,
-    held: H,
-    ghost from: { IsOf (H.inner held).alloc list.now.alloc },
+    holder: H,
+    ghost from: { IsOf (H.inner holder).alloc list.now.alloc },
 }
 
-impl<'a, T: Drop, A: Allocator, G: Growth, H: Holds<Inner = Hole<T, A>>> Drop
+impl<'a, T: Drop, A: Allocator, G: Growth, H: Holds<Inner = OpenBlock<T, A>>> Drop
     for Drain<'a, T, A, G, H> {
     // Each item that remains is dropped, and those after the range move to its start, as one run.
     fn drop(self)
-        ensures items { self.exit.0.now.items ≡ (H.inner self.entry.held).front
-            ++ (H.inner self.entry.held).tail }
-        ensures capacity { self.exit.0.now.capacity ≡ (H.inner self.entry.held).capacity }
+        ensures items { self.exit.0.now.items ≡ (H.inner self.entry.holder).front
+            ++ (H.inner self.entry.holder).tail }
+        ensures capacity { self.exit.0.now.capacity ≡ (H.inner self.entry.holder).capacity }
         ensures alloc { self.exit.0.now.alloc ≡ self.entry.list.now.alloc }
-        ensures cost { self.exit.0.now.cost ≡ cost_drained (H.inner self.entry.held) }
+        ensures cost { self.exit.0.now.cost ≡ cost_drained (H.inner self.entry.holder) }
     {
-        let Drain { list, held } = self;
-        let mut hole = held.into_inner();
-        hole.drop_rest();
+        let Drain { list, holder } = self;
+        let mut block = holder.into_inner();
+        block.drop_rest();
         list.clear();
-        list.close(hole);
+        list.close(block);
     }
 }
 
@@ -73,10 +73,10 @@ impl<T: Drop, A: Allocator, G: Growth> ThinVec<T, A, G> {
             (length self.old.items - end) self.old.cost) }
         ensures stays { DrainKeepsAlong result }
     {
-        let hole = self.open(start, end);
+        let block = self.open(start, end);
         Drain {
             list: self,
-            held: Holder { value: hole },
+            holder: Holder { value: block },
         }
     }
 }
@@ -88,7 +88,7 @@ impl<'a, T, A: Allocator, G: Growth> Drain<'a, T, A, G> {
     pub fn len(&self) -> usize
         ensures value { result ≡ length (drain_rest self.now) }
     {
-        self.held.value.rest_len()
+        self.holder.value.rest_len()
     }
 
     /// How many items remain, as the least and the greatest number that may come.
@@ -104,27 +104,27 @@ impl<'a, T, A: Allocator, G: Growth> Drain<'a, T, A, G> {
     pub fn next(&mut self) -> Option<T>
         ensures steps { DrainSteps self.old result self.new }
     {
-        if self.held.value.rest_len() == 0 {
+        if self.holder.value.rest_len() == 0 {
             return None;
         }
-        Some(self.held.value.take_first())
+        Some(self.holder.value.take_first())
     }
 
     /// Returns the last item of those that remain, or `None` where none does.
     pub fn next_back(&mut self) -> Option<T>
         ensures steps { DrainStepsBack self.old result self.new }
     {
-        if self.held.value.rest_len() == 0 {
+        if self.holder.value.rest_len() == 0 {
             return None;
         }
-        Some(self.held.value.take_last())
+        Some(self.holder.value.take_last())
     }
 
     /// The items that remain, in order.
     pub fn as_slice(&self) -> &[T]
         ensures value { result.now ≡ drain_rest self.now }
     {
-        self.held.value.rest_slice()
+        self.holder.value.rest_slice()
     }
 }
 

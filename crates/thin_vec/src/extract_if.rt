@@ -1,9 +1,9 @@
 //! `extract_if`: the items of a range for which a closure returns true go out of a list, one by
 //! one.
 //!
-//! Up to the first item that goes nothing moves. From then on the list has a hole, and the items
+//! Up to the first item that goes nothing moves. From then on the list has a gap, and the items
 //! that stay wait where they are until the next one goes or the range ends: then they go to the
-//! start of the hole as one run.
+//! start of the gap as one run.
 ghost use Rattle.std.specs.Prelude.{◌≡◌, ◌≤◌, ◌==◌, IfSome, Some, drop, length, not, slice_range, take};
 ghost use Rattle.std.specs.Fn.{CalledAtMut};
 ghost use Rattle.std.specs.Iterator.{UpTo, at_most};
@@ -11,8 +11,8 @@ ghost use Rattle.std.specs.Iterator.SizeHint.{IsWithinCount};
 ghost use Rattle.thin_vec.specs.Open.{IsOf, cost_closed, items_of};
 
 use crate::holds::{Holder, Holds};
-use crate::hole::Hole;
 use crate::list::ThinVec;
+use crate::open_block::OpenBlock;
 use crate::sifting::Asks;
 use std::alloc::{Allocator, Global};
 use thin_block::{Doubling, Growth};
@@ -31,16 +31,16 @@ pub struct ExtractIf<
     H: Holds<Inner = Extracting<T, F, A>> = Holder<Extracting<T, F, A>>,
 > {
     list: &'a mut ThinVec<T, A, G>,
-    held: H,
-    ghost from: { IsOf (H.inner held).hole.alloc list.now.alloc },
+    holder: H,
+    ghost from: { IsOf (H.inner holder).block.alloc list.now.alloc },
 }
 
 /// What an `ExtractIf` owns: the open block, of which the middle run is still to be asked about,
 /// and the closure.
 pub struct Extracting<T, F, A: Allocator> {
-    hole: Hole<T, A>,
+    block: OpenBlock<T, A>,
     picks: Picks<F>,
-    ghost adjacent: { hole.behind ≡ 0 },
+    ghost adjacent: { block.behind ≡ 0 },
 }
 
 /// A closure that returns true for an item that goes.
@@ -63,18 +63,18 @@ impl<T, F: FnMut(&mut T) -> bool> Asks<T> for Picks<F> {
 
 impl<'a, T: Drop, F: Drop, A: Allocator, G: Growth, H: Holds<Inner = Extracting<T, F, A>>> Drop
     for ExtractIf<'a, T, F, A, G, H> {
-    // What was not asked about and what comes after the range close the hole, as one run.
+    // What was not asked about and what comes after the range close the gap, as one run.
     fn drop(self)
-        ensures items { self.exit.0.now.items ≡ items_of (H.inner self.entry.held).hole }
-        ensures capacity { self.exit.0.now.capacity ≡ (H.inner self.entry.held).hole.capacity }
+        ensures items { self.exit.0.now.items ≡ items_of (H.inner self.entry.holder).block }
+        ensures capacity { self.exit.0.now.capacity ≡ (H.inner self.entry.holder).block.capacity }
         ensures alloc { self.exit.0.now.alloc ≡ self.entry.list.now.alloc }
-        ensures cost { self.exit.0.now.cost ≡ cost_closed (H.inner self.entry.held).hole }
+        ensures cost { self.exit.0.now.cost ≡ cost_closed (H.inner self.entry.holder).block }
     {
-        let ExtractIf { list, held } = self;
-        let Extracting { hole, picks } = held.into_inner();
+        let ExtractIf { list, holder } = self;
+        let Extracting { block, picks } = holder.into_inner();
         let Picks { pick } = picks;
         list.clear();
-        list.close(hole);
+        list.close(block);
         drop(pick);
     }
 }
@@ -82,15 +82,15 @@ impl<'a, T: Drop, F: Drop, A: Allocator, G: Growth, H: Holds<Inner = Extracting<
 impl<T, F: FnMut(&mut T) -> bool, A: Allocator> Extracting<T, F, A> {
     ghost use Rattle.thin_vec.specs.Extract.{Extracts};
 
-    // Asks about items up to the first that goes, and returns it. Where there is a hole, those
+    // Asks about items up to the first that goes, and returns it. Where there is a gap, those
     // before it move to the front.
     fn next_picked(&mut self) -> Option<T>
         requires callable { F.IsAlwaysCallable self.old.picks.pick }
         ensures extracts { Extracts (CalledAtMut F.FnMut) self.old result self.new }
         ensures callable { F.IsAlwaysCallable self.new.picks.pick }
     {
-        if self.hole.advance(&mut self.picks) {
-            Some(self.hole.take_first())
+        if self.block.advance(&mut self.picks) {
+            Some(self.block.take_first())
         } else {
             None
         }
@@ -124,12 +124,12 @@ impl<T: Drop, A: Allocator, G: Growth> ThinVec<T, A, G> {
         ensures alloc { extract_alloc result ≡ self.old.alloc }
         ensures cost { extract_cost result ≡ self.old.cost }
     {
-        let hole = self.open(start, end);
+        let block = self.open(start, end);
         let picks = Picks { pick };
         ExtractIf {
             list: self,
-            held: Holder {
-                value: Extracting { hole, picks },
+            holder: Holder {
+                value: Extracting { block, picks },
             },
         }
     }
@@ -142,7 +142,7 @@ impl<'a, T, F, A: Allocator, G: Growth> ExtractIf<'a, T, F, A, G> {
     pub fn size_hint(&self) -> (usize, Option<usize>)
         ensures value { result ≡ (0, Some (length (extract_rest self.now))) }
     {
-        (0, Some(self.held.value.hole.rest_len()))
+        (0, Some(self.holder.value.block.rest_len()))
     }
 }
 
@@ -156,7 +156,7 @@ impl<'a, T, F: FnMut(&mut T) -> bool, A: Allocator, G: Growth> ExtractIf<'a, T, 
         ensures steps { ExtractSteps (CalledAtMut F.FnMut) self.old result self.new }
         ensures callable { F.IsAlwaysCallable (extract_callee self.new) }
     {
-        self.held.value.next_picked()
+        self.holder.value.next_picked()
     }
 }
 

@@ -1,4 +1,4 @@
-//! How the items of an iterator go between those of a list: a hole is filled, and room is made for
+//! How the items of an iterator go between those of a list: a gap is filled, and room is made for
 //! what is beyond it.
 ghost use Rattle.std.specs.Prelude.{true, false, ◌≡◌, ℕ, ◌+◌, ◌-◌, ◌*◌, ◌==◌, ◌<◌, ◌≤◌, ◌↔◌, List, [], ◌∷◌, ◌++◌, IfErr, IsOk, IsSome, MatchOption, None, OnErr, OnOk, OnSome, drop, if◌then◌else◌, length, take};
 ghost use Rattle.std.specs.Iterator.{Drains, IsFinite, Yields, YieldsThen, size};
@@ -11,16 +11,16 @@ ghost use Rattle.thin_vec.specs.Filling.{IsSpliced, IsStopCause, Stopped, left_o
 ghost use Rattle.thin_vec.specs.ThinVec.{HasRoomFor, capacity_for};
 
 use crate::errors::{ExtendRefused, SpliceRefused};
-use crate::hole::Hole;
 use crate::list::ThinVec;
+use crate::open_block::OpenBlock;
 use crate::placing::{put_iter, put_vec};
 use std::alloc::{AllocFailed, Allocator};
 use std::iter::Iterator;
 use thin_block::{Growth, ThinVecError};
 
-impl<T, A: Allocator> Hole<T, A> {
+impl<T, A: Allocator> OpenBlock<T, A> {
     // Puts what `iter` gives after the front. Returns the iterator, and whether it ended before the
-    // hole was full.
+    // gap was full.
     fn fill<I: Iterator<Item = T>>(&mut self, iter: I) -> (I, bool)
         requires can_next { I.can_next iter }
         requires finite { IsFinite (I.remaining iter) }
@@ -38,8 +38,8 @@ impl<T, A: Allocator> Hole<T, A> {
         ensures nearer { result.1 ≡ false → self.old.before + size (I.remaining result.0) ≤ size
             (I.remaining iter) }
     {
-        let (rest, end, ended) = put_iter(&mut self.block, self.kept, self.at, iter);
-        self.kept = end;
+        let (rest, end, ended) = put_iter(&mut self.block, self.front_end, self.rest_start, iter);
+        self.front_end = end;
         (rest, ended)
     }
 
@@ -53,8 +53,8 @@ impl<T, A: Allocator> Hole<T, A> {
         } }
     {
         let count = items.len();
-        put_vec(&mut self.block, self.kept, items);
-        self.kept += count;
+        put_vec(&mut self.block, self.front_end, items);
+        self.front_end += count;
     }
 
     // Moves the tail up by `count` slots, as one run.
@@ -66,50 +66,50 @@ impl<T, A: Allocator> Hole<T, A> {
           cost = moving (length self.old.tail) self.old.cost;
         } }
     {
-        self.block
-            .move_run(self.stop, self.stop + count, self.len - self.stop);
-        self.stop += count;
+        let from = self.tail_start;
+        self.block.move_run(from, from + count, self.len - from);
+        self.tail_start += count;
         self.len += count;
     }
 }
 
 impl<T, A: Allocator, G: Growth> ThinVec<T, A, G> {
-    // Fills the hole and closes it. Returns where the items end that were placed, the iterator, and
-    // whether it ended before the hole was full.
+    // Fills the gap and closes it. Returns where the items end that were placed, the iterator, and
+    // whether it ended before the gap was full.
     fn close_filled<I: Iterator<Item = T>>(
         &mut self,
-        mut hole: Hole<T, A>,
+        mut block: OpenBlock<T, A>,
         iter: I,
     ) -> (usize, I, bool)
         requires empty { self.old.items ≡ [] }
-        requires none { hole.rest ≡ [] }
-        requires behind { hole.behind ≡ 0 }
-        requires from { IsOf hole.alloc self.old.alloc }
+        requires none { block.rest ≡ [] }
+        requires behind { block.behind ≡ 0 }
+        requires from { IsOf block.alloc self.old.alloc }
         requires can_next { I.can_next iter }
         requires finite { IsFinite (I.remaining iter) }
-        ensures items { (xs : List T) × (self.new.items ≡ (hole.front ++ xs) ++ hole.tail)
-            × (result.0 ≡ length hole.front + length xs)
+        ensures items { (xs : List T) × (self.new.items ≡ (block.front ++ xs) ++ block.tail)
+            × (result.0 ≡ length block.front + length xs)
             × Gives I.next_gives iter xs result.2 result.1 }
-        ensures capacity { self.new.capacity ≡ hole.capacity }
+        ensures capacity { self.new.capacity ≡ block.capacity }
         ensures alloc { self.new.alloc ≡ self.old.alloc }
         ensures cost { (m : ℕ)
-            × (self.new.cost ≡ moving (result.0 - length hole.front + m) hole.cost)
-            × (m ≤ length hole.tail) × (result.2 ≡ false → m ≡ 0) }
-        ensures full { result.2 ≡ false → result.0 ≡ length hole.front + hole.before }
-        ensures short { result.2 ≡ true → result.0 < length hole.front + hole.before }
+            × (self.new.cost ≡ moving (result.0 - length block.front + m) block.cost)
+            × (m ≤ length block.tail) × (result.2 ≡ false → m ≡ 0) }
+        ensures full { result.2 ≡ false → result.0 ≡ length block.front + block.before }
+        ensures short { result.2 ≡ true → result.0 < length block.front + block.before }
         ensures asked { result.2 ≡ false → I.can_next result.1 × IsFinite (I.remaining result.1) }
-        ensures nearer { result.2 ≡ false → hole.before + size (I.remaining result.1) ≤ size
+        ensures nearer { result.2 ≡ false → block.before + size (I.remaining result.1) ≤ size
             (I.remaining iter) }
     {
-        let (rest, ended) = hole.fill(iter);
-        let end = hole.front_end();
-        self.close(hole);
+        let (rest, ended) = block.fill(iter);
+        let end = block.front_len();
+        self.close(block);
         (end, rest, ended)
     }
 
     // The list's block with `count` empty slots before the item at `at`: the items from there on
     // move up, as one run. The list is left empty and without a block.
-    pub(crate) fn open_wide(&mut self, at: usize, count: usize) -> Hole<T, A>
+    pub(crate) fn open_wide(&mut self, at: usize, count: usize) -> OpenBlock<T, A>
         requires in_bounds { at ≤ length self.old.items }
         requires room { HasRoomFor self.old count }
         ensures front { result.front ≡ take at self.old.items }
@@ -124,13 +124,13 @@ impl<T, A: Allocator, G: Growth> ThinVec<T, A, G> {
         ensures items { self.new.items ≡ [] }
         ensures alloc { self.new.alloc ≡ self.old.alloc }
     {
-        let mut hole = self.open(at, at);
+        let mut block = self.open(at, at);
         if count == 0 {
-            return hole;
+            return block;
         }
-        hole.widen(count);
-        hole.join();
-        hole
+        block.widen(count);
+        block.join();
+        block
     }
 
     // Up to `count` items of `iter` go before the item at `at`, into spare room: the items from
@@ -160,8 +160,8 @@ impl<T, A: Allocator, G: Growth> ThinVec<T, A, G> {
         ensures nearer { result.2 ≡ false → count + size (I.remaining result.1) ≤ size
             (I.remaining iter) }
     {
-        let hole = self.open_wide(at, count);
-        self.close_filled(hole, iter)
+        let block = self.open_wide(at, count);
+        self.close_filled(block, iter)
     }
 }
 
@@ -282,97 +282,97 @@ impl<T: Drop, A: Allocator, G: Growth> ThinVec<T, A, G> {
             held.destroy_empty();
             return;
         }
-        let mut hole = self.open_wide(at, held.len());
-        hole.fill_from_vec(held);
-        self.close(hole);
+        let mut block = self.open_wide(at, held.len());
+        block.fill_from_vec(held);
+        self.close(block);
     }
 }
 
 impl<T: Drop, A: Allocator, G: Growth> ThinVec<T, A, G> {
-    // Puts what `iter` gives into the hole, and what it gives beyond that after those, and makes
+    // Puts what `iter` gives into the gap, and what it gives beyond that after those, and makes
     // the block the list's again.
-    pub(crate) fn fill_hole<I: Iterator<Item = T>>(
+    pub(crate) fn fill_gap<I: Iterator<Item = T>>(
         &mut self,
-        hole: Hole<T, A>,
+        block: OpenBlock<T, A>,
         iter: I,
         alloc: A,
     ) -> Result<(), SpliceRefused<T, I, A>>
         requires empty { self.old.items ≡ [] }
-        requires none { hole.rest ≡ [] }
-        requires behind { hole.behind ≡ 0 }
-        requires from { IsOf hole.alloc self.old.alloc }
+        requires none { block.rest ≡ [] }
+        requires behind { block.behind ≡ 0 }
+        requires from { IsOf block.alloc self.old.alloc }
         requires can_next { I.can_next iter }
         requires finite { IsFinite (I.remaining iter) }
-        ensures succeeds { size (I.remaining iter) ≤ hole.before → IsOk result }
-        ensures succeeds_behind { hole.tail ≡ [] → HasRoomFor (left_of hole self.old.alloc)
+        ensures succeeds { size (I.remaining iter) ≤ block.before → IsOk result }
+        ensures succeeds_behind { block.tail ≡ [] → HasRoomFor (left_of block self.old.alloc)
             (size (I.remaining iter)) → IsOk result }
         ensures items { OnOk result ((xs : List T) × Drains I.next_gives iter xs
-            × (self.new.items ≡ with_between hole xs)) }
-        ensures capacity { IsLoose G.rule T.row hole.capacity self.new.capacity }
-        ensures named { IsExtended G.rule T.row (left_of hole self.old.alloc) self.new.capacity
+            × (self.new.items ≡ with_between block xs)) }
+        ensures capacity { IsLoose G.rule T.row block.capacity self.new.capacity }
+        ensures named { IsExtended G.rule T.row (left_of block self.old.alloc) self.new.capacity
             (length self.new.items) (I.remaining iter) }
-        ensures had_room { HasRoomFor (left_of hole self.old.alloc) (size (I.remaining iter))
-            → self.new.capacity ≡ hole.capacity }
-        ensures cost { IsSpliced (left_of hole self.old.alloc) self.new (2 * length hole.tail) }
+        ensures had_room { HasRoomFor (left_of block self.old.alloc) (size (I.remaining iter))
+            → self.new.capacity ≡ block.capacity }
+        ensures cost { IsSpliced (left_of block self.old.alloc) self.new (2 * length block.tail) }
         ensures alloc { self.new.alloc ≡ self.old.alloc }
-        ensures cheap { IsCheap (left_of hole self.old.alloc) → IsCheap self.new }
+        ensures cheap { IsCheap (left_of block self.old.alloc) → IsCheap self.new }
         ensures placed { IfErr result (λ refused. (xs : List T)
-            × (self.new.items ≡ with_between hole xs)
+            × (self.new.items ≡ with_between block xs)
             × Stopped I.next_gives I.can_next I.remaining iter xs refused.held.items refused.in_hand
             refused.rest) }
-        ensures range { OnErr result (0 < length hole.tail → length hole.front + length hole.tail
-            + hole.before ≤ length self.new.items) }
+        ensures range { OnErr result (0 < length block.tail → length block.front + length block.tail
+            + block.before ≤ length self.new.items) }
         ensures cause { IfErr result
-            (λ refused. IsStopCause G.rule T.row self.new hole.tail refused.held.items
+            (λ refused. IsStopCause G.rule T.row self.new block.tail refused.held.items
             refused.in_hand (I.remaining refused.rest) refused.cause) }
-        ensures held { IfErr result (λ refused. hole.tail ≡ [] → refused.held.items ≡ []) }
-        ensures full { IfErr result (λ refused. hole.tail ≡ [] → IsSome refused.in_hand
+        ensures held { IfErr result (λ refused. block.tail ≡ [] → refused.held.items ≡ []) }
+        ensures full { IfErr result (λ refused. block.tail ≡ [] → IsSome refused.in_hand
             → length self.new.items ≡ self.new.capacity) }
-        ensures err { IfErr result (λ refused. hole.tail ≡ [] → refused.in_hand ≡ None
-            → (self.new ≡ left_of hole self.old.alloc) × (refused.rest ≡ iter)) }
+        ensures err { IfErr result (λ refused. block.tail ≡ [] → refused.in_hand ≡ None
+            → (self.new ≡ left_of block self.old.alloc) × (refused.rest ≡ iter)) }
     {
-        if hole.has_tail() {
-            return self.fill_between(hole, iter, alloc);
+        if block.has_tail() {
+            return self.fill_between(block, iter, alloc);
         }
-        self.fill_behind(hole, iter, alloc)
+        self.fill_behind(block, iter, alloc)
     }
 
-    // Fills the hole with what `iter` gives, and then makes room before the tail for what it gives
+    // Fills the gap with what `iter` gives, and then makes room before the tail for what it gives
     // beyond that: room for what its hint says, and once more for the rest.
     fn fill_between<I: Iterator<Item = T>>(
         &mut self,
-        hole: Hole<T, A>,
+        block: OpenBlock<T, A>,
         iter: I,
         alloc: A,
     ) -> Result<(), SpliceRefused<T, I, A>>
         requires empty { self.old.items ≡ [] }
-        requires none { hole.rest ≡ [] }
-        requires behind { hole.behind ≡ 0 }
-        requires from { IsOf hole.alloc self.old.alloc }
+        requires none { block.rest ≡ [] }
+        requires behind { block.behind ≡ 0 }
+        requires from { IsOf block.alloc self.old.alloc }
         requires can_next { I.can_next iter }
         requires finite { IsFinite (I.remaining iter) }
-        ensures succeeds { size (I.remaining iter) ≤ hole.before → IsOk result }
+        ensures succeeds { size (I.remaining iter) ≤ block.before → IsOk result }
         ensures items { OnOk result ((xs : List T) × Drains I.next_gives iter xs
-            × (self.new.items ≡ with_between hole xs)) }
+            × (self.new.items ≡ with_between block xs)) }
         ensures placed { IfErr result (λ refused. (xs : List T)
-            × (self.new.items ≡ with_between hole xs)
+            × (self.new.items ≡ with_between block xs)
             × Stopped I.next_gives I.can_next I.remaining iter xs refused.held.items refused.in_hand
             refused.rest) }
         ensures range { OnErr result
-            (length hole.front + length hole.tail + hole.before ≤ length self.new.items) }
-        ensures cause { IfErr result (λ refused. 0 < length hole.tail
-            → IsStopCause G.rule T.row self.new hole.tail refused.held.items refused.in_hand
+            (length block.front + length block.tail + block.before ≤ length self.new.items) }
+        ensures cause { IfErr result (λ refused. 0 < length block.tail
+            → IsStopCause G.rule T.row self.new block.tail refused.held.items refused.in_hand
             (I.remaining refused.rest) refused.cause) }
-        ensures capacity { IsLoose G.rule T.row hole.capacity self.new.capacity }
-        ensures named { IsExtended G.rule T.row (left_of hole self.old.alloc) self.new.capacity
+        ensures capacity { IsLoose G.rule T.row block.capacity self.new.capacity }
+        ensures named { IsExtended G.rule T.row (left_of block self.old.alloc) self.new.capacity
             (length self.new.items) (I.remaining iter) }
-        ensures had_room { HasRoomFor (left_of hole self.old.alloc) (size (I.remaining iter))
-            → self.new.capacity ≡ hole.capacity }
-        ensures cost { IsSpliced (left_of hole self.old.alloc) self.new (2 * length hole.tail) }
+        ensures had_room { HasRoomFor (left_of block self.old.alloc) (size (I.remaining iter))
+            → self.new.capacity ≡ block.capacity }
+        ensures cost { IsSpliced (left_of block self.old.alloc) self.new (2 * length block.tail) }
         ensures alloc { self.new.alloc ≡ self.old.alloc }
-        ensures cheap { IsCheap (left_of hole self.old.alloc) → IsCheap self.new }
+        ensures cheap { IsCheap (left_of block self.old.alloc) → IsCheap self.new }
     {
-        let (end, rest, ended) = self.close_filled(hole, iter);
+        let (end, rest, ended) = self.close_filled(block, iter);
         if ended {
             return Ok(());
         }
@@ -380,26 +380,26 @@ impl<T: Drop, A: Allocator, G: Growth> ThinVec<T, A, G> {
     }
 
     // What `iter` gives goes after the items in front, as by `extend`: there are none after the
-    // hole.
+    // gap.
     fn fill_behind<I: Iterator<Item = T>>(
         &mut self,
-        hole: Hole<T, A>,
+        block: OpenBlock<T, A>,
         iter: I,
         alloc: A,
     ) -> Result<(), SpliceRefused<T, I, A>>
         requires empty { self.old.items ≡ [] }
-        requires none { hole.rest ≡ [] }
-        requires no_tail { hole.tail ≡ [] }
-        requires behind { hole.behind ≡ 0 }
-        requires from { IsOf hole.alloc self.old.alloc }
+        requires none { block.rest ≡ [] }
+        requires no_tail { block.tail ≡ [] }
+        requires behind { block.behind ≡ 0 }
+        requires from { IsOf block.alloc self.old.alloc }
         requires can_next { I.can_next iter }
         requires finite { IsFinite (I.remaining iter) }
-        ensures succeeds { HasRoomFor (left_of hole self.old.alloc) (size (I.remaining iter))
+        ensures succeeds { HasRoomFor (left_of block self.old.alloc) (size (I.remaining iter))
             → IsOk result }
         ensures items { OnOk result ((xs : List T) × Drains I.next_gives iter xs
-            × (self.new.items ≡ with_between hole xs)) }
+            × (self.new.items ≡ with_between block xs)) }
         ensures placed { IfErr result (λ refused. (xs : List T)
-            × (self.new.items ≡ with_between hole xs)
+            × (self.new.items ≡ with_between block xs)
             × GaveUp I.next_gives iter xs refused.in_hand refused.rest) }
         ensures rest { IfErr result (λ refused. I.can_next refused.rest
             × IsFinite (I.remaining refused.rest)) }
@@ -409,20 +409,20 @@ impl<T: Drop, A: Allocator, G: Growth> ThinVec<T, A, G> {
             → refused.cause ≡ ThinVecError.CapacityOverflow) }
         ensures cause { IfErr result (λ refused. refused.cause ≡ ThinVecError.CapacityOverflow
             → Overflows G.rule T.row self.new refused.in_hand (I.remaining refused.rest)) }
-        ensures capacity { IsLoose G.rule T.row hole.capacity self.new.capacity }
-        ensures named { IsExtended G.rule T.row (left_of hole self.old.alloc) self.new.capacity
+        ensures capacity { IsLoose G.rule T.row block.capacity self.new.capacity }
+        ensures named { IsExtended G.rule T.row (left_of block self.old.alloc) self.new.capacity
             (length self.new.items) (I.remaining iter) }
-        ensures had_room { HasRoomFor (left_of hole self.old.alloc) (size (I.remaining iter))
-            → self.new.capacity ≡ hole.capacity }
-        ensures cost { IsExtendCost (left_of hole self.old.alloc) self.new }
+        ensures had_room { HasRoomFor (left_of block self.old.alloc) (size (I.remaining iter))
+            → self.new.capacity ≡ block.capacity }
+        ensures cost { IsExtendCost (left_of block self.old.alloc) self.new }
         ensures alloc { self.new.alloc ≡ self.old.alloc }
-        ensures cheap { IsCheap (left_of hole self.old.alloc) → IsCheap self.new }
+        ensures cheap { IsCheap (left_of block self.old.alloc) → IsCheap self.new }
         ensures full { IfErr result (λ refused. IsSome refused.in_hand
             → length self.new.items ≡ self.new.capacity) }
         ensures err { IfErr result (λ refused. refused.in_hand ≡ None
-            → (self.new ≡ left_of hole self.old.alloc) × (refused.rest ≡ iter)) }
+            → (self.new ≡ left_of block self.old.alloc) × (refused.rest ≡ iter)) }
     {
-        self.close(hole);
+        self.close(block);
         match self.extend(iter) {
             Ok(()) => Ok(()),
             Err(refused) => {

@@ -1,8 +1,8 @@
 //! Items go by what a closure says of them: `retain` and `dedup`, in their forms.
 //!
-//! Up to the first item that goes nothing moves. From then on the list has a hole, and adjacent
+//! Up to the first item that goes nothing moves. From then on the list has a gap, and adjacent
 //! items that stay wait where they are until a later one goes or the walk ends: then they go to the
-//! start of the hole as one run.
+//! start of the gap as one run.
 ghost use Rattle.std.specs.Prelude.{◌≡◌, ◌+◌, ◌<◌};
 ghost use Rattle.std.specs.Fn.{CalledAt, CalledAtMut, CalledAtPairMut, ComparesKeys};
 ghost use Rattle.std.specs.List.{dedup};
@@ -61,9 +61,9 @@ impl<T: Drop, A: Allocator, G: Growth> ThinVec<T, A, G> {
         ensures within { IsWithin T.row self.old × IsWithin T.row self.new }
     {
         let len = self.len();
-        let mut hole = self.open(0, len);
-        hole.sift(judge);
-        self.close(hole);
+        let mut block = self.open(0, len);
+        block.sift(judge);
+        self.close(block);
     }
 
     /// Keeps the first of each run of adjacent items for which `same` returns true, and drops the
@@ -99,9 +99,9 @@ impl<T: Drop, A: Allocator, G: Growth> ThinVec<T, A, G> {
         if len < 2 {
             return;
         }
-        let mut hole = self.open(0, len);
-        hole.thin_out(judge);
-        self.close(hole);
+        let mut block = self.open(0, len);
+        block.thin_out(judge);
+        self.close(block);
     }
 
     /// `dedup_by` for items whose keys are equal. Of each two the key of the later item is taken

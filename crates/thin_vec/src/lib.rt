@@ -14,12 +14,12 @@ mod filling;
 mod filters;
 mod from_others;
 mod holds;
-mod hole;
 mod indexing;
 mod into_iter;
 mod into_others;
 mod list;
 mod macros;
+mod open_block;
 mod pairs;
 mod placing;
 mod ranges;
@@ -37,11 +37,11 @@ pub use extract_if::ExtractIf;
 pub use extract_if::{Extracting, Picks};
 #[doc(hidden)]
 pub use holds::{Holder, Holds};
-#[doc(hidden)]
-pub use hole::Hole;
 pub use into_iter::IntoIter;
 pub use list::ThinVec;
 pub use macros::{place, repeated};
+#[doc(hidden)]
+pub use open_block::OpenBlock;
 pub use ranges::bounds;
 pub use splice::Splice;
 pub use thin_block::{Doubling, Growth, PowerBytes, ThinVecError, fits};

@@ -5,7 +5,7 @@ ghost use Rattle.thin_block.specs.Cost.{moving};
 ghost use Rattle.thin_block.specs.Slots.{AreFilled};
 ghost use Rattle.thin_vec.specs.Pairs.{AreAskedIn};
 
-use crate::hole::Hole;
+use crate::open_block::OpenBlock;
 use std::alloc::Allocator;
 use thin_block::Block;
 
@@ -24,7 +24,7 @@ pub(crate) trait AsksPairs<T> {
         ensures ready { ready self.new };
 }
 
-impl<T, A: Allocator> Hole<T, A> {
+impl<T, A: Allocator> OpenBlock<T, A> {
     ghost use Rattle.thin_vec.specs.Pairs.{IsPairAskedAt, IsLastAsked, IsNextAsked};
 
     // Asks about the item at `k` of the middle run beside the one before it, both in place.
@@ -37,7 +37,7 @@ impl<T, A: Allocator> Hole<T, A> {
         ensures ready { J.ready judge.new }
         ensures same { self.new ≡ record self.old { rest = self.new.rest } }
     {
-        let kept = self.at + (k - 1);
+        let kept = self.rest_start + (k - 1);
         ask_neighbours(&mut self.block, kept, judge)
     }
 
@@ -50,7 +50,7 @@ impl<T, A: Allocator> Hole<T, A> {
         ensures ready { J.ready judge.new }
         ensures same { self.new ≡ record self.old { front = self.new.front } }
     {
-        judge.ask(later, self.block.slot_mut(self.kept - 1))
+        judge.ask(later, self.block.slot_mut(self.front_end - 1))
     }
 
     // Asks about the first item of the middle run, in place, beside `kept`.
@@ -62,24 +62,24 @@ impl<T, A: Allocator> Hole<T, A> {
         ensures ready { J.ready judge.new }
         ensures same { self.new ≡ record self.old { rest = self.new.rest } }
     {
-        judge.ask(self.block.slot_mut(self.at), kept)
+        judge.ask(self.block.slot_mut(self.rest_start), kept)
     }
 
     // `value` goes behind the front.
     pub(crate) fn put_front(&mut self, value: T)
-        requires hole { 0 < self.old.before }
+        requires gap { 0 < self.old.before }
         ensures { self.new ≡ record self.old {
           front = self.old.front ++ value ∷ [];
           before = self.old.before - 1;
           cost = moving 1 self.old.cost;
         } }
     {
-        self.block.put(self.kept, value);
-        self.kept += 1;
+        self.block.put(self.front_end, value);
+        self.front_end += 1;
     }
 }
 
-impl<T, A: Allocator> Hole<T, A> {
+impl<T, A: Allocator> OpenBlock<T, A> {
     ghost use Rattle.thin_vec.specs.Pairs.{PairRuns};
 
     // The first item of the middle run stays: asks about those behind it, in place, up to the first
@@ -102,7 +102,7 @@ impl<T, A: Allocator> Hole<T, A> {
     }
 }
 
-impl<T: Drop, A: Allocator> Hole<T, A> {
+impl<T: Drop, A: Allocator> OpenBlock<T, A> {
     ghost use Rattle.thin_vec.specs.Pairs.{IsThinned, Thins};
 
     // Keeps the first item of the middle run, asks about each other one beside the last one kept,
@@ -125,7 +125,7 @@ impl<T: Drop, A: Allocator> Hole<T, A> {
     // The same behind the first item that goes.
     fn thin_behind<J: AsksPairs<T>>(&mut self, judge: &mut J)
         requires some { 0 < length self.old.front }
-        requires hole { 0 < self.old.before }
+        requires gap { 0 < self.old.before }
         requires ready { J.ready judge.old }
         ensures thins { Thins J.asks judge.old self.old judge.new self.new }
         ensures rest { self.new.rest ≡ [] }
@@ -141,7 +141,7 @@ impl<T: Drop, A: Allocator> Hole<T, A> {
     fn thin_round<J: AsksPairs<T>>(&mut self, judge: &mut J)
         requires some { 0 < length self.old.front }
         requires more { 0 < length self.old.rest }
-        requires hole { 0 < self.old.before }
+        requires gap { 0 < self.old.before }
         requires ready { J.ready judge.old }
         ensures thins { Thins J.asks judge.old self.old judge.new self.new }
         ensures some { 0 < length self.new.front }

@@ -7,8 +7,8 @@ ghost use Rattle.thin_vec.specs.Open.{IsOf};
 ghost use Rattle.thin_vec.specs.Replacing.{moves_replacing};
 ghost use Rattle.thin_vec.specs.ThinVec.{HasRoomFor, IsCause, IsWithin, capacity_for, cost_at};
 
-use crate::hole::Hole;
 use crate::list::ThinVec;
+use crate::open_block::OpenBlock;
 use std::alloc::Allocator;
 use thin_block::{Growth, ThinVecError};
 
@@ -70,9 +70,9 @@ impl<T: Copy, A: Allocator, G: Growth> ThinVec<T, A, G> {
             (length items.now)) self.old.cost }
         ensures within { IsWithin T.row self.new }
     {
-        let mut hole = self.open_range(start, end, items.len());
-        hole.fill_from_copies(items);
-        self.close(hole);
+        let mut block = self.open_range(start, end, items.len());
+        block.fill_from_copies(items);
+        self.close(block);
     }
 }
 
@@ -151,15 +151,15 @@ impl<T: Drop, A: Allocator, G: Growth> ThinVec<T, A, G> {
         ensures other_alloc { other.new.alloc ≡ other.old.alloc }
         ensures other_within { IsWithin T.row other.new }
     {
-        let mut hole = self.open_range(start, end, other.len());
-        hole.fill_from_list(other);
-        self.close(hole);
+        let mut block = self.open_range(start, end, other.len());
+        block.fill_from_list(other);
+        self.close(block);
     }
 
     // Drops the items from `start` up to `end`. Returns the list's block, open where they were,
     // with room there for `count` items: those after the range move up, as one run, where that is
     // more. The list is left empty and without a block.
-    fn open_range(&mut self, start: usize, end: usize, count: usize) -> Hole<T, A>
+    fn open_range(&mut self, start: usize, end: usize, count: usize) -> OpenBlock<T, A>
         requires start_le_end { start ≤ end }
         requires in_bounds { end ≤ length self.old.items }
         requires room { HasRoomFor self.old (count - (end - start)) }
@@ -176,17 +176,17 @@ impl<T: Drop, A: Allocator, G: Growth> ThinVec<T, A, G> {
         ensures items { self.new.items ≡ [] }
         ensures alloc { self.new.alloc ≡ self.old.alloc }
     {
-        let mut hole = self.open(start, end);
-        hole.drop_rest();
+        let mut block = self.open(start, end);
+        block.drop_rest();
         if count > end - start {
-            hole.widen(count - (end - start));
-            hole.join();
+            block.widen(count - (end - start));
+            block.join();
         }
-        hole
+        block
     }
 }
 
-impl<T, A: Allocator> Hole<T, A> {
+impl<T, A: Allocator> OpenBlock<T, A> {
     // Moves the items of `other` after the front, as one run. `other` is left empty, with its
     // block.
     fn fill_from_list<G: Growth>(&mut self, other: &mut ThinVec<T, A, G>)
@@ -204,13 +204,13 @@ impl<T, A: Allocator> Hole<T, A> {
         let count = other.block.len();
         other
             .block
-            .move_run_to(0, count, &mut self.block, self.kept);
+            .move_run_to(0, count, &mut self.block, self.front_end);
         other.block.set_len(0);
-        self.kept += count;
+        self.front_end += count;
     }
 }
 
-impl<T: Copy, A: Allocator> Hole<T, A> {
+impl<T: Copy, A: Allocator> OpenBlock<T, A> {
     // Copies `items` after the front, as one run.
     fn fill_from_copies(&mut self, items: &[T])
         requires room { length items.now ≤ self.old.before }
@@ -220,7 +220,7 @@ impl<T: Copy, A: Allocator> Hole<T, A> {
           cost = moving (length items.now) self.old.cost;
         } }
     {
-        self.block.copy_in(self.kept, items);
-        self.kept += items.len();
+        self.block.copy_in(self.front_end, items);
+        self.front_end += items.len();
     }
 }

@@ -7,8 +7,8 @@ ghost use Rattle.thin_vec.specs.Clones.{ClonesEqual};
 ghost use Rattle.thin_vec.specs.Replacing.{IsReplaceStopped, MovesAtMost, ReplacesByClones, moves_cloning, moves_replacing};
 ghost use Rattle.thin_vec.specs.ThinVec.{HasRoomFor, IsCause, IsWithin, capacity_for, cost_at};
 
-use crate::hole::Hole;
 use crate::list::ThinVec;
+use crate::open_block::OpenBlock;
 use crate::placing::put_clones;
 use std::alloc::Allocator;
 use thin_block::{Growth, ThinVecError};
@@ -118,9 +118,9 @@ impl<T: Clone, A: Allocator, G: Growth> ThinVec<T, A, G> {
         ensures cause { IfErr result (λ cause. cause ≡ ThinVecError.OutOfMemory) }
         ensures within { IsWithin T.row self.new }
     {
-        let mut hole = self.open_wide(at, items.len());
-        let placed = hole.fill_from_clones(items);
-        self.close(hole);
+        let mut block = self.open_wide(at, items.len());
+        let placed = block.fill_from_clones(items);
+        self.close(block);
         if placed < items.len() {
             self.drop_range(at, at + placed);
             return Err(ThinVecError::OutOfMemory);
@@ -141,9 +141,9 @@ impl<T: Drop, A: Allocator, G: Growth> ThinVec<T, A, G> {
         ensures cost { self.new.cost ≡ moving (moves_replacing self.old start end 0) self.old.cost }
         ensures within { IsWithin T.row self.new }
     {
-        let mut hole = self.open(start, end);
-        hole.drop_rest();
-        self.close(hole);
+        let mut block = self.open(start, end);
+        block.drop_rest();
+        self.close(block);
     }
 
     // The last `count` items take the place of those from `start` up to `end`, which are dropped.
@@ -162,14 +162,14 @@ impl<T: Drop, A: Allocator, G: Growth> ThinVec<T, A, G> {
             self.old.cost }
         ensures within { IsWithin T.row self.new }
     {
-        let mut hole = self.open(start, end);
-        hole.drop_rest();
-        hole.lower_last(count);
-        self.close(hole);
+        let mut block = self.open(start, end);
+        block.drop_rest();
+        block.lower_last(count);
+        self.close(block);
     }
 }
 
-impl<T: Clone, A: Allocator> Hole<T, A> {
+impl<T: Clone, A: Allocator> OpenBlock<T, A> {
     // Puts clones of `items` after the front, and returns how many: it ends before a clone that
     // fails.
     fn fill_from_clones(&mut self, items: &[T]) -> usize
@@ -185,13 +185,13 @@ impl<T: Clone, A: Allocator> Hole<T, A> {
         ensures refused { result < length items.now
             → HoldsAt (λ x. ¬ (T.is_infallible x)) items.now result }
     {
-        let placed = put_clones(&mut self.block, self.kept, items);
-        self.kept += placed;
+        let placed = put_clones(&mut self.block, self.front_end, items);
+        self.front_end += placed;
         placed
     }
 }
 
-impl<T, A: Allocator> Hole<T, A> {
+impl<T, A: Allocator> OpenBlock<T, A> {
     // The last `count` items of the tail move after the front, as one run.
     fn lower_last(&mut self, count: usize)
         requires room { count ≤ self.old.before }
@@ -203,8 +203,8 @@ impl<T, A: Allocator> Hole<T, A> {
           cost = moving count self.old.cost;
         } }
     {
-        self.block.move_run(self.len - count, self.kept, count);
-        self.kept += count;
+        self.block.move_run(self.len - count, self.front_end, count);
+        self.front_end += count;
         self.len -= count;
     }
 }

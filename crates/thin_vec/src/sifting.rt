@@ -3,7 +3,7 @@
 ghost use Rattle.std.specs.Prelude.{◌≡◌, ◌↔◌, ◌+◌, ◌<◌, ◌≤◌, ◌==◌, ◌++◌, [], Bool, IsTrue, drop, if◌then◌else◌, length, take};
 ghost use Rattle.thin_block.specs.Cost.{moving};
 
-use crate::hole::Hole;
+use crate::open_block::OpenBlock;
 use std::alloc::Allocator;
 
 // How many items are worth a call that moves them as one run.
@@ -23,7 +23,7 @@ pub(crate) trait Asks<T> {
         ensures ready { ready self.new };
 }
 
-impl<T, A: Allocator> Hole<T, A> {
+impl<T, A: Allocator> OpenBlock<T, A> {
     ghost use Rattle.thin_vec.specs.Sifting.{IsAskedAt, Runs};
 
     // Asks about the item at `k` of the middle run, in place.
@@ -34,7 +34,7 @@ impl<T, A: Allocator> Hole<T, A> {
         ensures ready { J.ready judge.new }
         ensures same { self.new ≡ record self.old { rest = self.new.rest } }
     {
-        judge.ask(self.block.slot_mut(self.at + k))
+        judge.ask(self.block.slot_mut(self.rest_start + k))
     }
 
     // The first `k` items of the middle run join the front, where they are: no empty slot lies
@@ -49,24 +49,24 @@ impl<T, A: Allocator> Hole<T, A> {
                   self.old.rest;
             } }
     {
-        self.kept += k;
-        self.at += k;
+        self.front_end += k;
+        self.rest_start += k;
     }
 
     // The first item of the middle run moves to the front.
     pub(crate) fn lower_one(&mut self)
         requires some { 0 < length self.old.rest }
-        requires hole { 0 < self.old.before }
+        requires gap { 0 < self.old.before }
         ensures { self.new ≡ record self.old {
           front = self.old.front ++ take 1 self.old.rest;
           rest = drop 1 self.old.rest;
           cost = moving 1 self.old.cost;
         } }
     {
-        let value = self.block.take(self.at);
-        self.block.put(self.kept, value);
-        self.kept += 1;
-        self.at += 1;
+        let value = self.block.take(self.rest_start);
+        self.block.put(self.front_end, value);
+        self.front_end += 1;
+        self.rest_start += 1;
     }
 
     // The first `k` items of the middle run move to the front: two or a few in line, and more as
@@ -74,7 +74,7 @@ impl<T, A: Allocator> Hole<T, A> {
     #[inline(always)]
     pub(crate) fn lower(&mut self, k: usize)
         requires in_bounds { k ≤ length self.old.rest }
-        requires hole { 0 < self.old.before }
+        requires gap { 0 < self.old.before }
         ensures { self.new ≡ record self.old {
           front = self.old.front ++ take k self.old.rest;
           rest = drop k self.old.rest;
@@ -99,25 +99,25 @@ impl<T, A: Allocator> Hole<T, A> {
     #[inline(always)]
     fn lower_run(&mut self, k: usize)
         requires in_bounds { k ≤ length self.old.rest }
-        requires hole { 0 < self.old.before }
+        requires gap { 0 < self.old.before }
         ensures { self.new ≡ record self.old {
           front = self.old.front ++ take k self.old.rest;
           rest = drop k self.old.rest;
           cost = moving k self.old.cost;
         } }
     {
-        self.block.move_run(self.at, self.kept, k);
-        self.kept += k;
-        self.at += k;
+        self.block.move_run(self.rest_start, self.front_end, k);
+        self.front_end += k;
+        self.rest_start += k;
     }
 
-    // Whether the middle run has more than one item, behind a hole. (The last place of the run
+    // Whether the middle run has more than one item, behind a gap. (The last place of the run
     // stays in a register.)
     fn has_two(&self) -> bool
-        requires hole { 0 < self.now.before }
+        requires gap { 0 < self.now.before }
         ensures value { IsTrue result ↔ (1 < length self.now.rest) }
     {
-        self.at < self.end - 1
+        self.rest_start < self.rest_end - 1
     }
 
     // Asks about the items of the middle run from `k` on, up to the first that goes or to the end,
@@ -140,18 +140,18 @@ impl<T, A: Allocator> Hole<T, A> {
     }
 }
 
-impl<T, A: Allocator> Hole<T, A> {
+impl<T, A: Allocator> OpenBlock<T, A> {
     ghost use Rattle.thin_vec.specs.Sifting.{Advances};
 
     // Asks about the items of the middle run up to the first that goes, and answers whether there
-    // is one. Those before it join the front: they move there where there is a hole.
+    // is one. Those before it join the front: they move there where there is a gap.
     pub(crate) fn advance<J: Asks<T>>(&mut self, judge: &mut J) -> bool
         requires ready { J.ready judge.old }
         ensures advances { Advances J.asks judge.old self.old judge.new self.new }
         ensures goes { IsTrue result ↔ (0 < length self.new.rest) }
         ensures ready { J.ready judge.new }
     {
-        if self.has_hole() {
+        if self.has_gap() {
             return self.advance_behind(judge);
         }
         let count = self.ask_run(0, judge);
@@ -159,9 +159,9 @@ impl<T, A: Allocator> Hole<T, A> {
         self.rest_len() > 0
     }
 
-    // The same behind a hole.
+    // The same behind a gap.
     fn advance_behind<J: Asks<T>>(&mut self, judge: &mut J) -> bool
-        requires hole { 0 < self.old.before }
+        requires gap { 0 < self.old.before }
         requires ready { J.ready judge.old }
         ensures advances { Advances J.asks judge.old self.old judge.new self.new }
         ensures goes { IsTrue result ↔ (0 < length self.new.rest) }
@@ -174,11 +174,11 @@ impl<T, A: Allocator> Hole<T, A> {
         }
     }
 
-    // The same of two items and more, behind a hole. A run of none or of one is found with nothing
+    // The same of two items and more, behind a gap. A run of none or of one is found with nothing
     // counted.
     fn advance_two<J: Asks<T>>(&mut self, judge: &mut J) -> bool
         requires two { 1 < length self.old.rest }
-        requires hole { 0 < self.old.before }
+        requires gap { 0 < self.old.before }
         requires ready { J.ready judge.old }
         ensures advances { Advances J.asks judge.old self.old judge.new self.new }
         ensures goes { IsTrue result ↔ (0 < length self.new.rest) }
@@ -196,10 +196,10 @@ impl<T, A: Allocator> Hole<T, A> {
         self.rest_len() > 0
     }
 
-    // The same of one item or none, behind a hole.
+    // The same of one item or none, behind a gap.
     fn advance_last<J: Asks<T>>(&mut self, judge: &mut J) -> bool
         requires short { length self.old.rest ≤ 1 }
-        requires hole { 0 < self.old.before }
+        requires gap { 0 < self.old.before }
         requires ready { J.ready judge.old }
         ensures advances { Advances J.asks judge.old self.old judge.new self.new }
         ensures goes { IsTrue result ↔ (0 < length self.new.rest) }
@@ -216,7 +216,7 @@ impl<T, A: Allocator> Hole<T, A> {
     }
 }
 
-impl<T: Drop, A: Allocator> Hole<T, A> {
+impl<T: Drop, A: Allocator> OpenBlock<T, A> {
     ghost use Rattle.thin_vec.specs.Sifting.{IsSifted, Sifts};
 
     // Asks about all items of the middle run, keeps those that stay and drops the others. None is
@@ -236,7 +236,7 @@ impl<T: Drop, A: Allocator> Hole<T, A> {
 
     // The same behind the first item that goes.
     fn sift_behind<J: Asks<T>>(&mut self, judge: &mut J)
-        requires hole { 0 < self.old.before }
+        requires gap { 0 < self.old.before }
         requires ready { J.ready judge.old }
         ensures sifts { Sifts J.asks judge.old self.old judge.new self.new }
         ensures rest { self.new.rest ≡ [] }
@@ -250,7 +250,7 @@ impl<T: Drop, A: Allocator> Hole<T, A> {
     // Asks about two items and more up to the first that goes, which is dropped.
     fn sift_two<J: Asks<T>>(&mut self, judge: &mut J)
         requires two { 1 < length self.old.rest }
-        requires hole { 0 < self.old.before }
+        requires gap { 0 < self.old.before }
         requires ready { J.ready judge.old }
         ensures sifts { Sifts J.asks judge.old self.old judge.new self.new }
         ensures less { length self.new.rest < length self.old.rest }
@@ -264,7 +264,7 @@ impl<T: Drop, A: Allocator> Hole<T, A> {
     // Asks about the last item, where there is one.
     fn sift_last<J: Asks<T>>(&mut self, judge: &mut J)
         requires short { length self.old.rest ≤ 1 }
-        requires hole { 0 < self.old.before }
+        requires gap { 0 < self.old.before }
         requires ready { J.ready judge.old }
         ensures sifts { Sifts J.asks judge.old self.old judge.new self.new }
         ensures rest { self.new.rest ≡ [] }

@@ -11,8 +11,8 @@ ghost use Rattle.thin_vec.specs.ThinVec.{HasRoomFor, IsWithin, capacity_for};
 
 use crate::errors::SpliceRefused;
 use crate::holds::{Holder, Holds};
-use crate::hole::Hole;
 use crate::list::ThinVec;
+use crate::open_block::OpenBlock;
 use std::alloc::{Allocator, Global};
 use std::iter::Iterator;
 use thin_block::{Doubling, Growth, ThinVecError};
@@ -28,16 +28,16 @@ pub struct Splice<
     T,
     A: Allocator = Global,
     G: Growth = Doubling,
-    H: Holds<Inner = Hole<T, A>> = Holder<Hole<T, A>>,
+    H: Holds<Inner = OpenBlock<T, A>> = Holder<OpenBlock<T, A>>,
 > {
     list: &'a mut ThinVec<T, A, G>,
-    held: H,
+    holder: H,
     iter: I,
-    ghost from: { IsOf (H.inner held).alloc list.now.alloc },
+    ghost from: { IsOf (H.inner holder).alloc list.now.alloc },
 }
 
 impl<T, A: Allocator, G: Growth> ThinVec<T, A, G> {
-    ghost use Rattle.thin_vec.specs.Splice.{splice_alloc, splice_hole, splice_iter, splice_lender, splice_range};
+    ghost use Rattle.thin_vec.specs.Splice.{splice_alloc, splice_block, splice_iter, splice_lender, splice_range};
 
     /// Takes the items from `start` up to `end` out of the list, and puts those of `iter` in their
     /// place: the `Splice` yields the former from either end, and its `finish` draws the latter.
@@ -51,41 +51,41 @@ impl<T, A: Allocator, G: Growth> ThinVec<T, A, G> {
     ) -> Splice<'_, I, T, A, G>
         requires start_le_end { start ≤ end }
         requires in_bounds { end ≤ length self.old.items }
-        ensures front { (splice_hole result).front ≡ take start self.old.items }
-        ensures rest { (splice_hole result).rest ≡ slice_range self.old.items start end }
-        ensures tail { (splice_hole result).tail ≡ drop end self.old.items }
+        ensures front { (splice_block result).front ≡ take start self.old.items }
+        ensures rest { (splice_block result).rest ≡ slice_range self.old.items start end }
+        ensures tail { (splice_block result).tail ≡ drop end self.old.items }
         ensures range { splice_range result ≡ end - start }
         ensures iter { splice_iter result ≡ iter }
         ensures same_reference { splice_lender result ≡ self.entry.ghost_name }
-        ensures capacity { (splice_hole result).capacity ≡ self.old.capacity }
+        ensures capacity { (splice_block result).capacity ≡ self.old.capacity }
         ensures alloc { splice_alloc result ≡ self.old.alloc }
-        ensures cost { (splice_hole result).cost ≡ self.old.cost }
+        ensures cost { (splice_block result).cost ≡ self.old.cost }
     {
-        let hole = self.open(start, end);
+        let block = self.open(start, end);
         Splice {
             list: self,
-            held: Holder { value: hole },
+            holder: Holder { value: block },
             iter,
         }
     }
 }
 
 impl<'a, T, I, A: Allocator, G: Growth> Splice<'a, I, T, A, G> {
-    ghost use Rattle.thin_vec.specs.Splice.{SpliceSteps, SpliceStepsBack, splice_hole};
+    ghost use Rattle.thin_vec.specs.Splice.{SpliceSteps, SpliceStepsBack, splice_block};
 
     /// How many items of the range remain.
     pub fn len(&self) -> usize
-        ensures value { result ≡ length (splice_hole self.now).rest }
+        ensures value { result ≡ length (splice_block self.now).rest }
     {
-        self.held.value.rest_len()
+        self.holder.value.rest_len()
     }
 
     /// How many items of the range remain, as the least and the greatest number that may come.
     pub fn size_hint(&self) -> (usize, Option<usize>)
         ensures value { result ≡ (
-          length (splice_hole self.now).rest,
+          length (splice_block self.now).rest,
           Some
-              (length (splice_hole self.now).rest),
+              (length (splice_block self.now).rest),
         ) }
     {
         let len = self.len();
@@ -96,20 +96,20 @@ impl<'a, T, I, A: Allocator, G: Growth> Splice<'a, I, T, A, G> {
     pub fn next(&mut self) -> Option<T>
         ensures steps { SpliceSteps self.old result self.new }
     {
-        if self.held.value.rest_len() == 0 {
+        if self.holder.value.rest_len() == 0 {
             return None;
         }
-        Some(self.held.value.take_first())
+        Some(self.holder.value.take_first())
     }
 
     /// Yields the last item of those of the range that remain, or returns `None` where none does.
     pub fn next_back(&mut self) -> Option<T>
         ensures steps { SpliceStepsBack self.old result self.new }
     {
-        if self.held.value.rest_len() == 0 {
+        if self.holder.value.rest_len() == 0 {
             return None;
         }
-        Some(self.held.value.take_last())
+        Some(self.holder.value.take_last())
     }
 }
 
@@ -119,9 +119,9 @@ impl<
     I: Iterator<Item = T>,
     A: Allocator,
     G: Growth,
-    H: Holds<Inner = Hole<T, A>>,
+    H: Holds<Inner = OpenBlock<T, A>>,
 > Splice<'a, I, T, A, G, H> {
-    ghost use Rattle.thin_vec.specs.Splice.{splice_alloc, splice_hole, splice_iter, splice_left, splice_range, splice_replaced};
+    ghost use Rattle.thin_vec.specs.Splice.{splice_alloc, splice_block, splice_iter, splice_left, splice_range, splice_replaced};
 
     /// Drops what is left of the range, and puts the items in its place that the iterator gives
     /// before its first `None`. After that it is not asked again.
@@ -138,7 +138,7 @@ impl<
         requires finite { IsFinite (I.remaining (splice_iter self)) }
         ensures succeeds { size (I.remaining (splice_iter self.entry)) ≤ splice_range self.entry
             → IsOk result }
-        ensures succeeds_behind { (splice_hole self.entry).tail ≡ []
+        ensures succeeds_behind { (splice_block self.entry).tail ≡ []
             → HasRoomFor (splice_left self.entry) (size (I.remaining (splice_iter self.entry)))
             → IsOk result }
         ensures items { OnOk result ((xs : List T) × Drains I.next_gives (splice_iter self.entry) xs
@@ -148,16 +148,16 @@ impl<
 
         // On success and failure, each item that came in has moved once, and each after the range
         // at most twice.
-        ensures capacity { IsLoose G.rule T.row (splice_hole self.entry).capacity
+        ensures capacity { IsLoose G.rule T.row (splice_block self.entry).capacity
             self.exit.0.now.capacity }
         ensures named { IsExtended G.rule T.row (splice_left self.entry) self.exit.0.now.capacity
             (length self.exit.0.now.items) (I.remaining (splice_iter self.entry)) }
         ensures had_room { HasRoomFor (splice_left self.entry)
             (size (I.remaining (splice_iter self.entry)))
-            → self.exit.0.now.capacity ≡ (splice_hole self.entry).capacity }
-        ensures never_less { (splice_hole self.entry).capacity ≤ self.exit.0.now.capacity }
+            → self.exit.0.now.capacity ≡ (splice_block self.entry).capacity }
+        ensures never_less { (splice_block self.entry).capacity ≤ self.exit.0.now.capacity }
         ensures cost { IsSpliced (splice_left self.entry) self.exit.0.now
-            (2 * length (splice_hole self.entry).tail) }
+            (2 * length (splice_block self.entry).tail) }
         ensures alloc { self.exit.0.now.alloc ≡ splice_alloc self.entry }
         ensures cheap { IsCheap (splice_left self.entry) → IsCheap self.exit.0.now }
         ensures within { IsWithin T.row self.exit.0.now }
@@ -167,27 +167,27 @@ impl<
             × (self.exit.0.now.items ≡ splice_replaced self.entry xs)
             × Stopped I.next_gives I.can_next I.remaining
             (splice_iter self.entry) xs refused.held.items refused.in_hand refused.rest) }
-        ensures range { OnErr result (0 < length (splice_hole self.entry).tail
+        ensures range { OnErr result (0 < length (splice_block self.entry).tail
             → length (splice_left self.entry).items + splice_range self.entry
             ≤ length self.exit.0.now.items) }
         ensures cause { IfErr result (λ refused. IsStopCause G.rule T.row self.exit.0.now
-            (splice_hole self.entry).tail refused.held.items refused.in_hand
+            (splice_block self.entry).tail refused.held.items refused.in_hand
             (I.remaining refused.rest) refused.cause) }
 
         // With no item after the range, it fails as `extend` does.
-        ensures held { IfErr result (λ refused. (splice_hole self.entry).tail ≡ []
+        ensures held { IfErr result (λ refused. (splice_block self.entry).tail ≡ []
             → refused.held.items ≡ []) }
-        ensures full { IfErr result (λ refused. (splice_hole self.entry).tail ≡ []
+        ensures full { IfErr result (λ refused. (splice_block self.entry).tail ≡ []
             → IsSome refused.in_hand → length self.exit.0.now.items ≡ self.exit.0.now.capacity) }
-        ensures err { IfErr result (λ refused. (splice_hole self.entry).tail ≡ []
+        ensures err { IfErr result (λ refused. (splice_block self.entry).tail ≡ []
             → refused.in_hand ≡ None → (self.exit.0.now ≡ splice_left self.entry)
             × (refused.rest ≡ splice_iter self.entry)) }
     {
-        let Splice { list, held, iter } = self;
-        let mut hole = held.into_inner();
-        hole.drop_rest();
+        let Splice { list, holder, iter } = self;
+        let mut block = holder.into_inner();
+        block.drop_rest();
         list.clear();
-        let answer = list.fill_hole(hole, iter, alloc);
+        let answer = list.fill_gap(block, iter, alloc);
         // A list knows of itself that its items are within its capacity, and that this fits.
         let _len = list.len();
         answer

@@ -4,7 +4,7 @@ ghost use Rattle.thin_runner.specs.Setting.{setting};
 ghost use Rattle.thin_runner.specs.Steps.{Steps};
 ghost use Rattle.thin_runner.specs.commands.Ranges.{walked};
 ghost use Rattle.thin_runner.specs.declared.command.Command.TheVariants.{Splice as Spliced};
-ghost use Rattle.thin_vec.specs.Splice.{SpliceKeeps, splice_hole};
+ghost use Rattle.thin_vec.specs.Splice.{SpliceKeeps, splice_block};
 
 use crate::command::{Reply, Step};
 use crate::hinted::Hinted;
@@ -70,7 +70,7 @@ fn walk<T: Drop, A: Allocator, G: Growth>(
 )
     requires room { vec_len answers.old + vec_len steps ≤ vec_capacity answers.old }
     ensures answers { answers.new.items ≡ answers.old.items ++ walked
-        (splice_hole splice.old).rest steps.items }
+        (splice_block splice.old).rest steps.items }
     ensures keeps { SpliceKeeps splice.old splice.new }
 {
     for step in steps {
@@ -86,8 +86,8 @@ fn take<T, A: Allocator, G: Growth>(
     splice: &mut Splice<'_, Hinted<T, A>, T, A, G>,
     step: Step,
 ) -> Option<T>
-    ensures value { (steps : List Step) → walked (splice_hole splice.old).rest (step ∷ steps)
-        ≡ result ∷ walked (splice_hole splice.new).rest steps }
+    ensures value { (steps : List Step) → walked (splice_block splice.old).rest (step ∷ steps)
+        ≡ result ∷ walked (splice_block splice.new).rest steps }
     ensures keeps { SpliceKeeps splice.old splice.new }
 {
     match step {

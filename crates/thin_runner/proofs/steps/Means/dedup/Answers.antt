@@ -1,6 +1,6 @@
 -- What `dedup` leaves is what a test of the items leaves.
 use Rattle.std.proofs.Common.{rules}
-use Rattle.thin_runner.proofs.FilterLemmas.{deduped-alike}
+use Rattle.thin_runner.proofs.JudgedLemmas.{deduped-alike}
 use Rattle.thin_runner.proofs.steps.Means.dedup.Goals as goal
 
 pub returns : goal.returns

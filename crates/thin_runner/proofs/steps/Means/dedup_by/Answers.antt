@@ -1,6 +1,6 @@
 -- Each call of the closure is a question to the judge that it holds.
 use Rattle.std.proofs.Common.{rules}
-use Rattle.thin_runner.proofs.FilterLemmas.{deduped-by}
+use Rattle.thin_runner.proofs.JudgedLemmas.{deduped-by}
 use Rattle.thin_runner.proofs.steps.Means.dedup_by.Goals as goal
 
 pub returns : goal.returns

@@ -1,6 +1,6 @@
 -- Each call of the closure is a look of the judge that it holds.
 use Rattle.std.proofs.Common.{rules}
-use Rattle.thin_runner.proofs.FilterLemmas.{looked, retained-by}
+use Rattle.thin_runner.proofs.JudgedLemmas.{looked, retained-by}
 use Rattle.thin_runner.proofs.steps.Means.retain.Goals as goal
 
 pub returns : goal.returns

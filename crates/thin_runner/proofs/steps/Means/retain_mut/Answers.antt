@@ -1,6 +1,6 @@
 -- Each call of the closure is a question to the judge that it holds.
 use Rattle.std.proofs.Common.{rules}
-use Rattle.thin_runner.proofs.FilterLemmas.{retained-by}
+use Rattle.thin_runner.proofs.JudgedLemmas.{retained-by}
 use Rattle.thin_runner.proofs.steps.Means.retain_mut.Goals as goal
 
 pub returns : goal.returns

@@ -9,7 +9,7 @@ use Rattle.thin_runner.proofs.SplicesLemmas.{IsOpened, left-is, named, no-tail, 
 use Rattle.thin_vec.specs.Cheap.{IsCheap}
 use Rattle.thin_vec.specs.Extend.{IsLoose}
 use Rattle.thin_vec.specs.Filling.{IsStopCause}
-use Rattle.thin_vec.specs.Splice.{splice_alloc, splice_hole, splice_iter}
+use Rattle.thin_vec.specs.Splice.{splice_alloc, splice_block, splice_iter}
 use Rattle.thin_vec.specs.ThinVec.{IsWithin}
 use Rattle.thin_runner.proofs.steps.Means.splice.Goals as goal
 
@@ -24,9 +24,9 @@ returns-in-Ok-finish g c =
     let items = ap hinted_items iter ∙ c.new.ensures.items in
     let claim = ap hinted_claim iter ∙ c.new.ensures.claim in
     let drawn = splice_iter c.walk.new.splice in
-    let hole = splice_hole c.walk.new.splice in
+    let block = splice_block c.walk.new.splice in
     let alloc = splice_alloc c.walk.new.splice in
-    let is : IsOpened old start end hole alloc = record {
+    let is : IsOpened old start end block alloc = record {
       front = k.front ∙ s.front;
       tail = k.tail ∙ s.tail;
       capacity = k.capacity ∙ s.capacity;
@@ -50,14 +50,14 @@ returns-in-Ok-finish g c =
           replaces-of left (record {
             items = e.items.2 ∙ (λ i. (is.front i ++ all i) ++ is.tail i);
             capacity = subst (λ n. IsLoose g.G.Growth.rule _ n now.capacity) is.capacity e.capacity;
-            named = named old start end hole alloc is g.G.Growth.rule (param 0 g.row.T)
+            named = named old start end block alloc is g.G.Growth.rule (param 0 g.row.T)
                 now _ _ count e.named;
             within = subst (λ list. IsWithin _ list) (sym left) c.capacity-capacity.ensures.within;
             had_room = λ room.
-                e.had_room (room-left old start end hole alloc is _ _ most room) ∙ is.capacity;
-            cost = spliced old start end hole alloc is _ e.cost;
+                e.had_room (room-left old start end block alloc is _ _ most room) ∙ is.capacity;
+            cost = spliced old start end block alloc is _ e.cost;
             cheap = λ cheap.
-                e.cheap (subst IsCheap (sym (left-is old start end hole alloc is)) cheap);
+                e.cheap (subst IsCheap (sym (left-is old start end block alloc is)) cheap);
             alloc = e.alloc ∙ is.same;
           }),
         ),
@@ -75,9 +75,9 @@ returns-in-Err-finish g c =
     let items = ap hinted_items iter ∙ c.new.ensures.items in
     let claim = ap hinted_claim iter ∙ c.new.ensures.claim in
     let drawn = splice_iter c.walk.new.splice in
-    let hole = splice_hole c.walk.new.splice in
+    let block = splice_block c.walk.new.splice in
     let alloc = splice_alloc c.walk.new.splice in
-    let is : IsOpened old start end hole alloc = record {
+    let is : IsOpened old start end block alloc = record {
       front = k.front ∙ s.front;
       tail = k.tail ∙ s.tail;
       capacity = k.capacity ∙ s.capacity;
@@ -110,19 +110,19 @@ returns-in-Err-finish g c =
               items = e.placed.1 ∙ (λ i. (is.front i ++ placed) ++ is.tail i);
               capacity = subst (λ n. IsLoose g.G.Growth.rule _ n now.capacity) is.capacity
                   e.capacity;
-              named = named old start end hole alloc is g.G.Growth.rule (param 0 g.row.T)
+              named = named old start end block alloc is g.G.Growth.rule (param 0 g.row.T)
                   now _ _ count e.named;
               within = subst (λ list. IsWithin _ list) (sym left)
                   c.capacity-capacity-in-Err-finish.ensures.within;
               had_room = λ room.
-                  e.had_room (room-left old start end hole alloc is _ _ most room) ∙ is.capacity;
-              cost = spliced old start end hole alloc is _ e.cost;
+                  e.had_room (room-left old start end block alloc is _ _ most room) ∙ is.capacity;
+              cost = spliced old start end block alloc is _ e.cost;
               cheap = λ cheap.
-                  e.cheap (subst IsCheap (sym (left-is old start end hole alloc is)) cheap);
+                  e.cheap (subst IsCheap (sym (left-is old start end block alloc is)) cheap);
               alloc = e.alloc ∙ is.same;
             };
             no_room = λ places.
-                false≢true (with-places old start end hole alloc is _ _ _ _ most width
+                false≢true (with-places old start end block alloc is _ _ _ _ most width
                 e.succeeds (λ none room. e.succeeds_behind none room) places);
             told = subst (λ (t : List _). IsStopCause g.G.Growth.rule (param 0 g.row.T)
                 now t held refused.in_hand (hinted_count refused.rest) refused.cause)
@@ -131,18 +131,18 @@ returns-in-Err-finish g c =
             range = λ more. omega (
               arith,
               width,
-              e.range (some-tail old start end hole alloc is more),
+              e.range (some-tail old start end block alloc is more),
               ap length e.placed.1,
-              length-append (hole.front ++ placed) hole.tail,
-              length-append hole.front placed,
-              length-append hole.front hole.tail,
+              length-append (block.front ++ placed) block.tail,
+              length-append block.front placed,
+              length-append block.front block.tail,
             );
             behind = λ full. (
-              e.held (no-tail old start end hole alloc is full),
-              e.full (no-tail old start end hole alloc is full),
+              e.held (no-tail old start end block alloc is full),
+              e.full (no-tail old start end block alloc is full),
             );
-            unchanged = λ full none. (e.err (no-tail old start end hole alloc is full) none).0
-                ∙ left-is old start end hole alloc is;
+            unchanged = λ full none. (e.err (no-tail old start end block alloc is full) none).0
+                ∙ left-is old start end block alloc is;
           }),
         ),
       );

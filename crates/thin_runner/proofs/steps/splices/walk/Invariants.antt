@@ -3,12 +3,12 @@ use Rattle.std.proofs.Common.{◌≡◌, ◌++◌, ◌≤◌, ◌+◌, length, v
 use Rattle.std.specs.Vec.{vec_capacity}
 use Rattle.std.specs.Vec.Iter.{into_iter_items}
 use Rattle.thin_runner.specs.commands.Ranges.{walked}
-use Rattle.thin_vec.specs.Splice.{SpliceKeeps, splice_hole}
+use Rattle.thin_vec.specs.Splice.{SpliceKeeps, splice_block}
 use Rattle.thin_runner.proofs.steps.splices.walk.Given as goal
 
 abbrev pub invariant-loop-step : goal.invariant-loop-step
 invariant-loop-step g l = record {
   room : vec_len l.answers + length (into_iter_items l.step-iterator) ≤ vec_capacity l.answers;
-  answers : l.answers.items ++ walked (splice_hole l.splice).rest (into_iter_items l.step-iterator) ≡ l.fn.answers.items ++ walked (splice_hole l.fn.splice).rest l.fn.steps.items;
+  answers : l.answers.items ++ walked (splice_block l.splice).rest (into_iter_items l.step-iterator) ≡ l.fn.answers.items ++ walked (splice_block l.fn.splice).rest l.fn.steps.items;
   keeps : SpliceKeeps l.fn.splice l.splice;
 }

@@ -15,20 +15,20 @@ returns-then-advance-clause-extracts g c =
     let t = c.advance.new.judge in
     let z = c.take_first.new.self in
     let x = c.take_first.result in
-    let asked = picked-some R (λ s. s.pick) a.count v.picks v.hole.rest t a.left a.run x z.rest
+    let asked = picked-some R (λ s. s.pick) a.count v.picks v.block.rest t a.left a.run x z.rest
     (sym (ap (λ w. w.rest) a.now) ∙ c.take_first.ensures.rest) in
     record {
       kept = take a.count a.left;
       asked = asked;
-      count = picked-count R v.picks.pick v.hole.rest _ t.pick (take a.count a.left) z.rest asked;
+      count = picked-count R v.picks.pick v.block.rest _ t.pick (take a.count a.left) z.rest asked;
       front = search rules;
       before = search rules;
       tail = search rules;
       capacity = search rules;
       alloc = search rules;
       cost = ap (λ w. w.cost) c.take_first.ensures.same
-          ∙ (ap (λ w. w.cost) a.now ∙ cost-of v.hole.before v.hole.cost a.count a.left
-          (picked-room R (λ s. s.pick) a.count v.picks v.hole.rest t a.left a.run));
+          ∙ (ap (λ w. w.cost) a.now ∙ cost-of v.block.before v.block.cost a.count a.left
+          (picked-room R (λ s. s.pick) a.count v.picks v.block.rest t a.left a.run));
     }
 
 -- no item goes any more
@@ -43,18 +43,18 @@ returns-else-advance-clause-extracts g c =
     let none : w.rest ≡ [] =
     none-left w.rest
     (λ some. false≢true (sym c.if-advance.false ∙ c.advance.ensures.goes.1 some)) in
-    let asked = picked-none R (λ s. s.pick) a.count v.picks v.hole.rest t a.left a.run
+    let asked = picked-none R (λ s. s.pick) a.count v.picks v.block.rest t a.left a.run
     (sym rest ∙ none) in
     record {
       kept = take a.count a.left;
       asked = rw rest asked;
       count = rw rest
-          (picked-count R v.picks.pick v.hole.rest _ t.pick (take a.count a.left) _ asked);
+          (picked-count R v.picks.pick v.block.rest _ t.pick (take a.count a.left) _ asked);
       front = ap (λ u. u.front) a.now;
       before = omega (arith, ap (λ u. u.before) a.now);
       tail = ap (λ u. u.tail) a.now;
       capacity = ap (λ u. u.capacity) a.now;
       alloc = ap (λ u. u.alloc) a.now;
-      cost = ap (λ u. u.cost) a.now ∙ cost-of v.hole.before v.hole.cost a.count a.left
-          (picked-room R (λ s. s.pick) a.count v.picks v.hole.rest t a.left a.run);
+      cost = ap (λ u. u.cost) a.now ∙ cost-of v.block.before v.block.cost a.count a.left
+          (picked-room R (λ s. s.pick) a.count v.picks v.block.rest t a.left a.run);
     }

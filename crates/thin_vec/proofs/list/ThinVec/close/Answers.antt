@@ -6,10 +6,11 @@ use Rattle.thin_vec.proofs.ListLemmas.{Settled, settled, thin-room}
 use Rattle.thin_vec.proofs.list.ThinVec.close.Goals as goal
 
 facts : (g : _) (c : goal.After-release g) → Settled c.replace-none.new.dest c.self.inside.alloc
-    (items_of c.args.hole) c.args.hole.capacity
+    (items_of c.args.block) c.args.block.capacity
 facts g c =
     let is = c.replace-none.ensures.after in
-    settled c.replace-none.new.dest c.self.inside.alloc (items_of c.args.hole) c.args.hole.capacity
+    settled c.replace-none.new.dest c.self.inside.alloc (items_of c.args.block)
+    c.args.block.capacity
     (ap (λ b. b.slots) is ∙ c.into_closed.ensures.slots)
     (ap (λ b. b.len) is ∙ c.into_closed.ensures.len) c.into_closed.ensures.in_bounds
     (λ x e. c.requires.from x (sym c.into_closed.ensures.alloc ∙ (sym (ap (λ b. b.alloc) is) ∙ e))

@@ -1,4 +1,4 @@
--- The moves of what went in, and of the tail where the hole was not full by then.
+-- The moves of what went in, and of the tail where the gap was not full by then.
 use Rattle.std.proofs.Common.{◌∙◌, ◌-◌, ap, arith, length, length-append}
 use Rattle.thin_vec.proofs.FillingLemmas.{closed-moves}
 use Rattle.std.proofs.lemmas.Grind.{common_steps}
@@ -7,16 +7,16 @@ use Rattle.thin_vec.proofs.list.ThinVec.close_filled.Goals as goal
 pub returns-clause-cost : goal.returns-clause-cost
 returns-clause-cost g c =
     let gave = c.fill-rest.ensures.front in
-    let hole = c.fill-rest.new.self in
-    let put = closed-moves c.args.hole hole (c.front_end-end.result - length c.args.hole.front)
+    let block = c.fill-rest.new.self in
+    let put = closed-moves c.args.block block (c.front_len-end.result - length c.args.block.front)
     (ap (λ v. v.cost) c.fill-rest.ensures.same)
     (ap (λ v. v.rest) c.fill-rest.ensures.same ∙ c.requires.none)
     (ap (λ v. v.tail) c.fill-rest.ensures.same)
     (omega (
       arith,
-      c.front_end-end.ensures.value,
+      c.front_len-end.ensures.value,
       ap length gave.1,
-      length-append c.args.hole.front gave.0,
+      length-append c.args.block.front gave.0,
       gave.2,
     )) in (
       put.0,

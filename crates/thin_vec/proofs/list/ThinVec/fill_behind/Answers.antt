@@ -1,4 +1,4 @@
--- With no item behind the hole, the closed list is what is left, and `extend` says the rest.
+-- With no item behind the gap, the closed list is what is left, and `extend` says the rest.
 use Rattle.std.proofs.Common.{arith, ◌∙◌, length, subst, sym}
 use Rattle.std.specs.Iterator.{size}
 use Rattle.thin_vec.specs.ThinVec.{HasRoomFor}
@@ -16,7 +16,7 @@ returns-in-Ok-clause-capacity g c =
 pub returns-in-Ok-clause-named : goal.returns-in-Ok-clause-named
 returns-in-Ok-clause-named g c =
     let w = c.extend.new.self in
-    let left = closed-left c.args.hole c.close.new.self c.args.self.now.alloc c.requires.none
+    let left = closed-left c.args.block c.close.new.self c.args.self.now.alloc c.requires.none
     c.requires.no_tail c.close.ensures.items c.close.ensures.capacity c.close.ensures.alloc
     c.close.ensures.cost in
     subst (λ z. IsExtended g.G.Growth.rule (param 0 g.row.T) z w.capacity (length w.items)
@@ -30,7 +30,7 @@ returns-in-Err-clause-capacity g c =
 pub returns-in-Err-clause-named : goal.returns-in-Err-clause-named
 returns-in-Err-clause-named g c =
     let w = c.extend.new.self in
-    let left = closed-left c.args.hole c.close.new.self c.args.self.now.alloc c.requires.none
+    let left = closed-left c.args.block c.close.new.self c.args.self.now.alloc c.requires.none
     c.requires.no_tail c.close.ensures.items c.close.ensures.capacity c.close.ensures.alloc
     c.close.ensures.cost in
     subst (λ z. IsExtended g.G.Growth.rule (param 0 g.row.T) z w.capacity (length w.items)
@@ -38,7 +38,7 @@ returns-in-Err-clause-named g c =
 
 pub returns-in-Ok-clause-had_room : goal.returns-in-Ok-clause-had_room
 returns-in-Ok-clause-had_room g c = λ fit.
-    let left = closed-left c.args.hole c.close.new.self c.args.self.now.alloc c.requires.none
+    let left = closed-left c.args.block c.close.new.self c.args.self.now.alloc c.requires.none
     c.requires.no_tail c.close.ensures.items c.close.ensures.capacity c.close.ensures.alloc
     c.close.ensures.cost in
     c.extend.ensures.had_room
@@ -47,7 +47,7 @@ returns-in-Ok-clause-had_room g c = λ fit.
 
 pub returns-in-Err-clause-had_room : goal.returns-in-Err-clause-had_room
 returns-in-Err-clause-had_room g c = λ fit.
-    let left = closed-left c.args.hole c.close.new.self c.args.self.now.alloc c.requires.none
+    let left = closed-left c.args.block c.close.new.self c.args.self.now.alloc c.requires.none
     c.requires.no_tail c.close.ensures.items c.close.ensures.capacity c.close.ensures.alloc
     c.close.ensures.cost in
     c.extend.ensures.had_room

@@ -14,13 +14,13 @@ closed : (g : _) (c : goal.After-drop_range g) → c.close.new.self.items
     c.fill_from_clones-placed.ensures.front.0
 closed g c =
     let put = c.fill_from_clones-placed.ensures in
-    let hole = c.fill_from_clones-placed.new.self in
+    let block = c.fill_from_clones-placed.new.self in
     let xs = c.args.self.now.items in
-    let front : hole.front ≡ take c.args.at xs ++ put.front.0 =
-    put.front.2 ∙ ap (λ l. l ++ put.front.0) c.open_wide-hole.ensures.front in
-    let rest : hole.rest ≡ [] = ap (λ v. v.rest) put.same ∙ c.open_wide-hole.ensures.rest in
-    let tail : hole.tail ≡ drop c.args.at xs =
-    ap (λ v. v.tail) put.same ∙ c.open_wide-hole.ensures.tail in
+    let front : block.front ≡ take c.args.at xs ++ put.front.0 =
+    put.front.2 ∙ ap (λ l. l ++ put.front.0) c.open_wide-block.ensures.front in
+    let rest : block.rest ≡ [] = ap (λ v. v.rest) put.same ∙ c.open_wide-block.ensures.rest in
+    let tail : block.tail ≡ drop c.args.at xs =
+    ap (λ v. v.tail) put.same ∙ c.open_wide-block.ensures.tail in
     c.close.ensures.items ∙ (λ i. front i ++ (rest i ++ tail i))
 
 count : (g : _) (c : goal.After-drop_range g)
@@ -47,20 +47,20 @@ pub returns-then-placed-items-clause-refused : goal.returns-then-placed-items-cl
 returns-then-placed-items-clause-refused g c =
     let xs = c.args.self.now.items in
     let put = c.fill_from_clones-placed.ensures in
-    let hole = c.fill_from_clones-placed.new.self in
+    let block = c.fill_from_clones-placed.new.self in
     let opened = at-most-if (eqb (length c.args.items.now) 0) (length xs - c.args.at)
-    c.args.self.now.cost c.open_wide-hole.result.cost c.open_wide-hole.ensures.other_cost in
+    c.args.self.now.cost c.open_wide-block.result.cost c.open_wide-block.ensures.other_cost in
     let filled = at-most-more opened put.in_bounds (ap (λ v. v.cost) put.same) in
-    let behind : length hole.rest + length hole.tail ≡ length xs - c.args.at =
+    let behind : length block.rest + length block.tail ≡ length xs - c.args.at =
     omega (
       arith,
       ap (λ v. length v.rest) put.same,
-      ap length c.open_wide-hole.ensures.rest,
+      ap length c.open_wide-block.ensures.rest,
       ap (λ v. length v.tail) put.same,
-      ap length c.open_wide-hole.ensures.tail,
+      ap length c.open_wide-block.ensures.tail,
       length-drop c.args.at xs,
     ) in
-    let shut = at-most-if (eqb hole.before 0) (length hole.rest + length hole.tail) hole.cost
+    let shut = at-most-if (eqb block.before 0) (length block.rest + length block.tail) block.cost
     c.close.new.self.cost c.close.ensures.cost in
     let joined = at-most-more filled shut.few shut.cost in
     let long : length c.close.new.self.items ≡ length xs + c.fill_from_clones-placed.result =

@@ -3,7 +3,7 @@ use Rattle.std.proofs.Common.{◌≡◌, ◌≤◌, ap, sym, ◌∙◌, subst, a
 use Rattle.std.specs.Prelude.{slice_range}
 use Rattle.thin_block.specs.Slots.{items_in}
 use Rattle.thin_vec.specs.ThinVec.{IsThin}
-use Rattle.thin_vec.proofs.HoleLemmas.{Found, open-step, opened, opened-seen}
+use Rattle.thin_vec.proofs.OpenBlockLemmas.{Found, open-step, opened, opened-seen}
 use Rattle.thin_vec.proofs.list.ThinVec.open.Goals as goal
 
 -- the block that the list gave up is the one that it had
@@ -17,16 +17,16 @@ same g c = ap (λ b. items_in b.slots) c.replace-block.ensures.value
     ∙ ap (λ v. v.items) c.self.view_is
 
 facts : (g : _) (c : goal.After-replace-block g)
-    → let within : c.args.stop ≤ length (items_in c.replace-block.result.slots) =
+    → let within : c.args.end ≤ length (items_in c.replace-block.result.slots) =
     omega (arith, c.requires.in_bounds, ap length (same g c)) in
-    Found (opened c.replace-block.result c.self.inside.alloc c.args.start c.args.stop (was g c)
+    Found (opened c.replace-block.result c.self.inside.alloc c.args.start c.args.end (was g c)
     c.requires.start_le_end within c.len-len.result)
-    (opened-seen c.replace-block.result c.self.inside.alloc c.args.start c.args.stop (was g c)
+    (opened-seen c.replace-block.result c.self.inside.alloc c.args.start c.args.end (was g c)
     c.requires.start_le_end within)
 facts g c =
-    let within : c.args.stop ≤ length (items_in c.replace-block.result.slots) =
+    let within : c.args.end ≤ length (items_in c.replace-block.result.slots) =
     omega (arith, c.requires.in_bounds, ap length (same g c)) in
-    open-step c.replace-block.result c.self.inside.alloc c.args.start c.args.stop (was g c)
+    open-step c.replace-block.result c.self.inside.alloc c.args.start c.args.end (was g c)
     c.requires.start_le_end within c.len-len.result
     (c.len-len.ensures.value
     ∙ (c.self.invariant.packed.len
@@ -41,8 +41,8 @@ returns-clause-front g c = ap (λ v. v.front) (facts g c).view
 
 pub returns-clause-rest : goal.returns-clause-rest
 returns-clause-rest g c = ap (λ v. v.rest) (facts g c).view
-    ∙ ap (λ xs. slice_range xs c.args.start c.args.stop) (same g c)
+    ∙ ap (λ xs. slice_range xs c.args.start c.args.end) (same g c)
 
 pub returns-clause-tail : goal.returns-clause-tail
 returns-clause-tail g c = ap (λ v. v.tail) (facts g c).view
-    ∙ ap (λ xs. drop c.args.stop xs) (same g c)
+    ∙ ap (λ xs. drop c.args.end xs) (same g c)

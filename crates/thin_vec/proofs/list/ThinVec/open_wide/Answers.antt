@@ -1,4 +1,4 @@
--- The hole is opened, and made wide where it has to be.
+-- The gap is opened, and made wide where it has to be.
 use Rattle.std.proofs.lemmas.Grind.{common_steps}
 use Rattle.std.proofs.Common.{◌∙◌, arith}
 use Rattle.thin_vec.proofs.list.ThinVec.open_wide.Goals as goal

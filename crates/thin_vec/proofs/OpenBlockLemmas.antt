@@ -1,0 +1,746 @@
+-- What a block that is open shows, after each step on it.
+use Rattle.std.proofs.Common.{◌≡◌, ℕ, suc, ◌+◌, ◌-◌, ◌<◌, ◌≤◌, List, [], ◌∷◌, ◌++◌, Option, Some, None, length, take, drop, refl, sym, ap, ◌∙◌, subst, arith, length-append, append_assoc}
+use Rattle.std.proofs.lemmas.List.{append-nil, drop_at, get_or-append_right, get_or-replicate, get_or_append_left, get_or_at, length-drop, length-replicate, length-take, length-take-le, length_push, map_push, replicate-append-replicate, set_at, take_at}
+use Rattle.std.proofs.lemmas.List.Edits.{split_between}
+use Rattle.std.specs.Prelude.{IsSome, slice_range}
+use lib.ListN.{set}
+use Rattle.thin_block.specs.Slots.{empty, front, full, items_in, laid, moved, slot}
+use Rattle.thin_block.specs.declared.block.Block.{Block}
+use Rattle.thin_block.proofs.SlotsLemmas.{laid-at, moved_left, moved_right}
+use Rattle.thin_vec.specs.OpenBlock.{IsOpen, Shows, open_of}
+use Rattle.thin_vec.specs.Open.{Open, items_of, reach, row_of}
+use Rattle.thin_vec.specs.ThinVec.{IsThin}
+use Rattle.thin_vec.specs.declared.open_block.OpenBlock.TheInside.{Inside}
+use Rattle.thin_vec.proofs.EditsLemmas.{full-append}
+use Rattle.thin_vec.proofs.ListLemmas.{get-some, items-front, items-full, length-full, slot-get, thin-room}
+
+length-empty : (T : Type 0) (k : ℕ) → length (empty {T = T} k) ≡ k
+length-empty T k = length-replicate {A = Option T} k None
+
+pub some-same : {X : Type 0} {x y : X} → Some x ≡ Some y → x ≡ y
+some-same e = cc
+
+-- a list that is not empty, by its first item and by its last
+pub first-of : {X : Type 0} (xs : List X) → 0 < length xs → (x : X) × (ys : List X) × (xs ≡ x ∷ ys)
+first-of [] h = absurd (omega arith)
+first-of (x ∷ ys) h = (x, ys, refl)
+
+pub last-of : {X : Type 0} (xs : List X) → 0 < length xs → (ys : List X)
+    × (x : X) × (xs ≡ ys ++ x ∷ [])
+last-of [] h = absurd (omega arith)
+last-of (x ∷ []) h = ([], x, refl)
+last-of (x ∷ z ∷ zs) h = let p = last-of (z ∷ zs) (omega arith) in
+    (x ∷ p.0, p.1, ap (λ q. x ∷ q) p.2)
+
+module _ {T : Type 0} where
+  items-full-alone : (xs : List T) → items_in (full xs) ≡ xs
+  items-full-alone xs = ap items_in (sym (append-nil (full xs)))
+      ∙ (items-full xs [] ∙ append-nil xs)
+
+  -- a slot of a filled run, and of an empty one
+  pub slot-in-full : (pre : List (Option T)) (xs : List T) (post : List (Option T)) (j : ℕ)
+      → length pre ≤ j → j < length pre + length xs → IsSome (slot (pre ++ (full xs ++ post)) j)
+  slot-in-full pre xs post j low high =
+      rw (get_or-append_right pre (full xs ++ post) (length pre) j None refl low
+      ∙ slot-get xs post (j - length pre) (omega arith))
+      (get-some xs (j - length pre) (omega arith))
+
+  slot-in-empty : (pre : List (Option T)) (k : ℕ) (post : List (Option T)) (j : ℕ) → length pre ≤ j
+      → j < length pre + k → slot (pre ++ (empty k ++ post)) j ≡ None
+  slot-in-empty pre k post j low high =
+      let n : j - length pre < k = omega arith in
+      get_or-append_right pre (empty k ++ post) (length pre) j None refl low
+      ∙ (get_or_append_left (empty k) post None (j - length pre) (omega (arith, length-empty T k))
+      ∙ get_or-replicate k (j - length pre) None None n)
+
+  -- one more empty slot behind a run of them
+  pub empty-more : (g : ℕ) (z : List (Option T)) → empty g ++ (None ∷ z) ≡ empty (g + 1) ++ z
+  empty-more g z = sym (append_assoc (empty g) (None ∷ []) z) ∙ ap (λ (e : List (Option T)). e ++ z)
+      (replicate-append-replicate g 1 None)
+
+module _ {T A : Type 0} where
+  -- how an open block is seen
+  pub record Found (h : Inside T A) (v : Open T A) : Type 0 where
+    pub lies : IsOpen h
+    pub view : open_of h ≡ v
+
+  -- the row up to each run
+  abbrev pub to_rest : Open T A → List (Option T)
+  to_rest v = full v.front ++ empty v.before
+
+  abbrev to_behind : Open T A → List (Option T)
+  to_behind v = to_rest v ++ full v.rest
+
+  abbrev to_tail : Open T A → List (Option T)
+  to_tail v = to_behind v ++ empty v.behind
+
+  -- and from there on
+  abbrev pub past_tail : Open T A → List (Option T)
+  past_tail v = empty (v.capacity - reach v)
+
+  abbrev pub past_behind : Open T A → List (Option T)
+  past_behind v = full v.tail ++ past_tail v
+
+  abbrev pub past_rest : Open T A → List (Option T)
+  past_rest v = empty v.behind ++ past_behind v
+
+  module _ (h : Inside T A) (v : Open T A) (s : Shows h v) where
+    pub by_rest : h.block.slots ≡ to_rest v ++ (full v.rest ++ past_rest v)
+    by_rest = s.row ∙ sym
+        (append_assoc (full v.front) (empty v.before) (full v.rest ++ past_rest v))
+
+    by_behind : h.block.slots ≡ to_behind v ++ past_rest v
+    by_behind = by_rest ∙ sym (append_assoc (to_rest v) (full v.rest) (past_rest v))
+
+    by_tail : h.block.slots ≡ to_tail v ++ past_behind v
+    by_tail = by_behind ∙ sym (append_assoc (to_behind v) (empty v.behind) (past_behind v))
+
+    -- where each begins
+    pub at_rest : length (to_rest v) ≡ h.rest_start
+    at_rest = omega (
+      arith,
+      length-append (full v.front) (empty v.before),
+      length-full v.front,
+      length-empty T v.before,
+      s.front,
+      s.before,
+    )
+
+    at_behind : length (to_behind v) ≡ h.rest_end
+    at_behind = omega (
+      arith,
+      length-append (to_rest v) (full v.rest),
+      at_rest,
+      length-full v.rest,
+      s.rest,
+    )
+
+    at_tail : length (to_tail v) ≡ h.tail_start
+    at_tail = omega (
+      arith,
+      length-append (to_behind v) (empty v.behind),
+      at_behind,
+      length-empty T v.behind,
+      s.behind,
+    )
+
+    pub reached : reach v ≡ h.len
+    reached = omega (arith, s.front, s.before, s.rest, s.behind, s.tail)
+
+    -- how many slots there are
+    shown-cap : length h.block.slots ≡ v.capacity
+    shown-cap =
+        omega (
+          arith,
+          ap length by_tail,
+          length-append (to_tail v) (past_behind v),
+          at_tail,
+          length-append (full v.tail) (past_tail v),
+          length-full v.tail,
+          length-empty T (v.capacity - reach v),
+          reached,
+          s.tail,
+          s.room,
+        )
+
+    shown-front : items_in (take h.front_end h.block.slots) ≡ v.front
+    shown-front =
+        ap items_in (ap (take h.front_end) s.row
+        ∙ take_at (full v.front) (empty v.before ++ (full v.rest ++ past_rest v)) h.front_end
+        (length-full v.front ∙ s.front))
+        ∙ items-full-alone v.front
+
+    shown-rest : items_in (slice_range h.block.slots h.rest_start h.rest_end) ≡ v.rest
+    shown-rest =
+        let count : length (full v.rest) ≡ h.rest_end - h.rest_start =
+        omega (arith, length-full v.rest, s.rest) in
+        ap items_in (ap (λ (r : List (Option T)). take (h.rest_end - h.rest_start)
+        (drop h.rest_start r)) by_rest
+        ∙ (ap (take (h.rest_end - h.rest_start))
+        (drop_at (to_rest v) (full v.rest ++ past_rest v) h.rest_start at_rest)
+        ∙ take_at (full v.rest) (past_rest v) (h.rest_end - h.rest_start) count))
+        ∙ items-full-alone v.rest
+
+    shown-tail : items_in (drop h.tail_start h.block.slots) ≡ v.tail
+    shown-tail =
+        let some : length v.tail + (v.capacity - reach v) - length v.tail ≡ v.capacity - reach v =
+        omega arith in
+        ap items_in (ap (drop h.tail_start) by_tail
+        ∙ (drop_at (to_tail v) (past_behind v) h.tail_start at_tail
+        ∙ ap (λ (k : ℕ). full v.tail ++ empty k) (sym some)))
+        ∙ items-front v.tail (length v.tail + (v.capacity - reach v))
+
+    -- a block that shows v is seen as v
+    pub found : h.block.alloc ≡ v.alloc → h.block.cost ≡ v.cost → Found h v
+    found alloc cost =
+        let before : h.rest_start - h.front_end ≡ v.before = omega (arith, s.before) in
+        let behind : h.tail_start - h.rest_end ≡ v.behind = omega (arith, s.behind) in
+        let view : open_of h ≡ v =
+        λ i. record {
+          front = shown-front i;
+          before = before i;
+          rest = shown-rest i;
+          behind = behind i;
+          tail = shown-tail i;
+          capacity = shown-cap i;
+          alloc =
+              alloc i;
+          cost = cost i;
+        } in
+        record { lies = subst (Shows h) (sym view) s; view = view }
+
+    -- which slots are filled, and which are empty
+    pub rest-filled : (j : ℕ) → h.rest_start ≤ j → j < h.rest_end → IsSome (slot h.block.slots j)
+    rest-filled j low high =
+        rw (ap (λ (r : List (Option T)). slot r j) by_rest)
+        (slot-in-full (to_rest v) v.rest (past_rest v) j (omega (arith, at_rest))
+        (omega (arith, at_rest, s.rest)))
+
+    pub tail-filled : (j : ℕ) → h.tail_start ≤ j → j < h.len → IsSome (slot h.block.slots j)
+    tail-filled j low high =
+        rw (ap (λ (r : List (Option T)). slot r j) by_tail)
+        (slot-in-full (to_tail v) v.tail (past_tail v) j (omega (arith, at_tail))
+        (omega (arith, at_tail, s.tail)))
+
+    pub before-empty : (j : ℕ) → h.front_end ≤ j → j < h.rest_start → slot h.block.slots j ≡ None
+    before-empty j low high =
+        ap (λ (r : List (Option T)). slot r j) s.row
+        ∙ slot-in-empty (full v.front) v.before (full v.rest ++ past_rest v) j
+        (omega (arith, length-full v.front, s.front))
+        (omega (arith, length-full v.front, s.front, s.before))
+
+    pub behind-empty : (j : ℕ) → h.rest_end ≤ j → j < h.tail_start → slot h.block.slots j ≡ None
+    behind-empty j low high =
+        ap (λ (r : List (Option T)). slot r j) by_behind ∙ slot-in-empty (to_behind v) v.behind
+        (past_behind v) j (omega (arith, at_behind)) (omega (arith, at_behind, s.behind))
+
+  -- the slots of the middle run, as a run
+  pub rest-run : (h : Inside T A) (xs : List T) → full xs
+      ≡ slice_range h.block.slots h.rest_start h.rest_end
+      → xs ≡ (open_of h).rest
+  rest-run h xs e = sym (items-full-alone xs) ∙ ap items_in e
+
+  -- ---- the steps
+
+  module _ (h : Inside T A) (o : IsOpen h) (b : Block T A) (alloc : b.alloc ≡ h.block.alloc)
+      (cost : b.cost ≡ h.block.cost) (some : 0 < length (open_of h).rest) where
+    abbrev v : Open T A
+    v = open_of h
+
+    -- the first item of the middle run leaves
+    abbrev pub first-left : Inside T A
+    first-left = record {
+      block = b;
+      front_end = h.front_end;
+      rest_start = h.rest_start + 1;
+      rest_end = h.rest_end;
+      tail_start = h.tail_start;
+      len = h.len;
+    }
+
+    abbrev pub first-seen : List T → Open T A
+    first-seen ys = record {
+      front = v.front;
+      before = v.before + 1;
+      rest = ys;
+      behind = v.behind;
+      tail = v.tail;
+      capacity = v.capacity;
+      alloc = v.alloc;
+      cost = v.cost;
+    }
+
+    pub first-step : (x : T) → slot h.block.slots h.rest_start ≡ Some x
+        → b.slots ≡ set h.block.slots h.rest_start None → (ys : List T) × (v.rest ≡ x ∷ ys)
+        × Found first-left (first-seen ys)
+    first-step x is now =
+        let parts = first-of v.rest some in
+        let y : T = parts.0 in
+        let ys : List T = parts.1 in
+        let row : h.block.slots ≡ to_rest v ++ (Some y ∷ (full ys ++ past_rest v)) =
+        by_rest h v o ∙ ap (λ (r : List T). to_rest v ++ (full r ++ past_rest v)) parts.2 in
+        let same : y ≡ x =
+        some-same (sym (get_or_at (to_rest v) (Some y) (full ys ++ past_rest v) None h.rest_start
+        (at_rest h v o)) ∙ (ap (λ (r : List (Option T)). slot r h.rest_start) (sym row) ∙ is)) in
+        let reached' : v.capacity - reach v ≡ v.capacity - reach (first-seen ys) =
+        omega (arith, ap length parts.2) in
+        let after : b.slots ≡ row_of (first-seen ys) =
+        now ∙ (ap (λ (r : List (Option T)). set r h.rest_start None) row
+        ∙ (set_at (to_rest v) (Some y) (full ys ++ past_rest v) None h.rest_start (at_rest h v o)
+        ∙ (append_assoc (full v.front) (empty v.before) (None ∷ (full ys ++ past_rest v))
+        ∙ (ap (λ (r : List (Option T)). full v.front ++ r)
+        (empty-more v.before (full ys ++ past_rest v))
+        ∙ ap (λ (k : ℕ). full v.front
+        ++ (empty (v.before + 1) ++ (full ys ++ (empty v.behind ++ (full v.tail ++ empty k)))))
+        reached')))) in
+        let shows : Shows first-left (first-seen ys) =
+        record {
+          row = after;
+          front = o.front;
+          before = omega (arith, o.before);
+          rest = omega (arith, o.rest, ap length parts.2);
+          behind = o.behind;
+          tail =
+              o.tail;
+          room = o.room;
+        } in (
+          ys,
+          parts.2 ∙ ap (λ (z : T). z ∷ ys) same,
+          found first-left (first-seen ys) shows alloc cost,
+        )
+
+    -- the last one leaves
+    abbrev pub last-left : Inside T A
+    last-left = record {
+      block = b;
+      front_end = h.front_end;
+      rest_start = h.rest_start;
+      rest_end = h.rest_end - 1;
+      tail_start = h.tail_start;
+      len = h.len;
+    }
+
+    abbrev pub last-seen : List T → Open T A
+    last-seen ys = record {
+      front = v.front;
+      before = v.before;
+      rest = ys;
+      behind = v.behind + 1;
+      tail = v.tail;
+      capacity = v.capacity;
+      alloc = v.alloc;
+      cost = v.cost;
+    }
+
+    pub last-step : (x : T) → slot h.block.slots (h.rest_end - 1) ≡ Some x → b.slots
+        ≡ set h.block.slots
+        (h.rest_end - 1) None → (ys : List T) × (v.rest ≡ ys ++ x ∷ [])
+        × Found last-left (last-seen ys)
+    last-step x is now =
+        let parts = last-of v.rest some in
+        let ys : List T = parts.0 in
+        let y : T = parts.1 in
+        let longer : length v.rest ≡ length ys + 1 = ap length parts.2 ∙ length_push ys y in
+        let pre : List (Option T) = to_rest v ++ full ys in
+        let before : length pre ≡ h.rest_end - 1 =
+        omega (
+          arith,
+          length-append (to_rest v) (full ys),
+          at_rest h v o,
+          length-full ys,
+          o.rest,
+          longer,
+        ) in
+        let row : h.block.slots ≡ pre ++ (Some y ∷ past_rest v) =
+        by_rest h v o ∙ (ap (λ (r : List T). to_rest v ++ (full r ++ past_rest v)) parts.2
+        ∙ (ap (λ (r : List (Option T)). to_rest v ++ (r ++ past_rest v)) (map_push Some ys y)
+        ∙ (ap (λ (r : List (Option T)). to_rest v ++ r)
+        (append_assoc (full ys) (Some y ∷ []) (past_rest v))
+        ∙ sym (append_assoc (to_rest v) (full ys) (Some y ∷ past_rest v))))) in
+        let same : y ≡ x =
+        some-same (sym (get_or_at pre (Some y) (past_rest v) None (h.rest_end - 1) before)
+        ∙ (ap (λ (r : List (Option T)). slot r (h.rest_end - 1)) (sym row) ∙ is)) in
+        let reached' : v.capacity - reach v ≡ v.capacity - reach (last-seen ys) =
+        omega (arith, longer) in
+        let more : suc v.behind ≡ v.behind + 1 = omega arith in
+        let after : b.slots ≡ row_of (last-seen ys) =
+        now ∙ (ap (λ (r : List (Option T)). set r (h.rest_end - 1) None) row
+        ∙ (set_at pre (Some y) (past_rest v) None (h.rest_end - 1) before
+        ∙ (append_assoc (to_rest v) (full ys) (None ∷ past_rest v)
+        ∙ (append_assoc (full v.front) (empty v.before) (full ys ++ (None ∷ past_rest v))
+        ∙ (ap (λ (k : ℕ). full v.front
+        ++ (empty v.before ++ (full ys ++ (empty k ++ past_behind v)))) more
+        ∙ ap (λ (k : ℕ). full v.front
+        ++ (empty v.before ++ (full ys ++ (empty (v.behind + 1) ++ (full v.tail ++ empty k)))))
+        reached'))))) in
+        let shows : Shows last-left (last-seen ys) =
+        record {
+          row = after;
+          front = o.front;
+          before = o.before;
+          rest = omega (arith, o.rest, longer);
+          behind = omega (arith, o.behind, o.rest, longer);
+          tail = o.tail;
+          room = o.room;
+        } in (
+          ys,
+          parts.2 ∙ ap (λ (z : T). ys ++ z ∷ []) same,
+          found last-left (last-seen ys) shows alloc cost,
+        )
+
+  -- the empty slots, as one run behind the front
+  module _ (h : Inside T A) (o : IsOpen h) where
+    abbrev pub joined : Inside T A
+    joined = record {
+      block = h.block;
+      front_end = h.front_end;
+      rest_start = h.tail_start;
+      rest_end = h.tail_start;
+      tail_start = h.tail_start;
+      len = h.len;
+    }
+
+    abbrev pub joined-seen : Open T A
+    joined-seen = let w : Open T A = open_of h in
+        record {
+          front = w.front;
+          before = w.before + w.behind;
+          rest = [];
+          behind = 0;
+          tail = w.tail;
+          capacity = w.capacity;
+          alloc = w.alloc;
+          cost = w.cost;
+        }
+
+    pub join-step : (open_of h).rest ≡ [] → Found joined joined-seen
+    join-step none =
+        let w : Open T A = open_of h in
+        let past : w.capacity - reach w ≡ w.capacity - reach joined-seen =
+        omega (arith, ap length none) in
+        let after : h.block.slots ≡ row_of joined-seen =
+        o.row ∙ (ap (λ (r : List T). full w.front ++ (empty w.before ++ (full r ++ past_rest w)))
+        none
+        ∙ (ap (λ (r : List (Option T)). full w.front ++ r)
+        (sym (append_assoc (empty w.before) (empty w.behind) (past_behind w))
+        ∙ ap (λ (r : List (Option T)). r ++ past_behind w)
+        (replicate-append-replicate w.before w.behind None))
+        ∙ ap (λ (k : ℕ). full w.front ++ (empty (w.before + w.behind) ++ (full w.tail ++ empty k)))
+        past)) in
+        let shows : Shows joined joined-seen =
+        record {
+          row = after;
+          front = o.front;
+          before = omega (arith, o.before, o.rest, o.behind, ap length none);
+          rest = omega arith;
+          behind = omega arith;
+          tail = o.tail;
+          room = o.room;
+        } in
+        found joined joined-seen shows refl refl
+
+    -- the middle run and the tail as one run, where they lie side by side
+    abbrev all-behind : List T
+    all-behind = (open_of h).rest ++ (open_of h).tail
+
+    side-by-side : (open_of h).behind ≡ 0 → h.block.slots ≡ full (open_of h).front
+        ++ (empty (open_of h).before ++ (full all-behind ++ past_tail (open_of h)))
+    side-by-side none =
+        let w : Open T A = open_of h in
+        o.row ∙ (ap (λ (k : ℕ). full w.front
+        ++ (empty w.before ++ (full w.rest ++ (empty k ++ past_behind w)))) none
+        ∙ ap (λ (r : List (Option T)). full w.front ++ (empty w.before ++ r))
+        (sym (append_assoc (full w.rest) (full w.tail) (past_tail w))
+        ∙ ap (λ (r : List (Option T)). r ++ past_tail w) (sym (full-append w.rest w.tail))))
+
+    count-behind : (open_of h).behind ≡ 0 → length all-behind ≡ h.len - h.rest_start
+    count-behind none =
+        omega (arith, length-append (open_of h).rest (open_of h).tail, o.rest, o.behind, o.tail)
+
+    pub behind-filled : (open_of h).behind ≡ 0 → (j : ℕ) → h.rest_start ≤ j → j < h.len
+        → IsSome (slot h.block.slots j)
+    behind-filled none j low high =
+        let w : Open T A = open_of h in
+        let pre : List (Option T) = full w.front ++ empty w.before in
+        let start : length pre ≡ h.rest_start = at_rest h w o in
+        rw (ap (λ (r : List (Option T)). slot r j)
+        (side-by-side none
+        ∙ sym (append_assoc (full w.front) (empty w.before) (full all-behind ++ past_tail w))))
+        (slot-in-full pre all-behind (past_tail w) j (omega (arith, start))
+        (omega (arith, start, count-behind none)))
+
+    count-all : length (items_of (open_of h)) ≡ h.front_end + length all-behind
+    count-all = omega (arith, length-append (open_of h).front all-behind, o.front)
+
+    pub all-room : length (items_of (open_of h)) ≤ length h.block.slots
+    all-room = omega (
+      arith,
+      count-all,
+      length-append (open_of h).rest (open_of h).tail,
+      o.before,
+      o.rest,
+      o.behind,
+      o.tail,
+      o.room,
+    )
+
+    -- they go to the front
+    pub close-row : (open_of h).behind ≡ 0
+        → moved h.rest_start h.front_end (h.len - h.rest_start) h.block.slots ≡ front
+        (items_of (open_of h)) (length h.block.slots)
+    close-row none =
+        let w : Open T A = open_of h in
+        let left : w.before + (w.capacity - reach w) ≡ w.capacity - length (items_of w) =
+        omega (
+          arith,
+          count-all,
+          reached h w o,
+          count-behind none,
+          o.before,
+          o.rest,
+          o.behind,
+          o.tail,
+          o.room,
+        ) in
+        ap (moved h.rest_start h.front_end (h.len - h.rest_start)) (side-by-side none)
+        ∙ (moved_left h.rest_start h.front_end (h.len - h.rest_start) w.before (full w.front)
+        (full all-behind)
+        (past_tail w) (sym (length-full w.front ∙ o.front)) (sym o.before)
+        (omega (arith, length-full all-behind, count-behind none))
+        ∙ (sym (append_assoc (full w.front) (full all-behind) (empty w.before ++ past_tail w))
+        ∙ (ap (λ (r : List (Option T)). r ++ (empty w.before ++ past_tail w))
+        (sym (full-append w.front all-behind))
+        ∙ ap (λ (r : List (Option T)). full (items_of w) ++ r)
+        (replicate-append-replicate w.before (w.capacity - reach w) None
+        ∙ ap (λ (k : ℕ). empty k) left))))
+
+    -- where there is no empty slot before them, they are there already
+    pub closed-row : (open_of h).behind ≡ 0 → h.front_end ≡ h.rest_start
+        → h.block.slots ≡ front (items_of (open_of h)) (length h.block.slots)
+    closed-row none here =
+        let w : Open T A = open_of h in
+        let no : w.before ≡ 0 = omega (arith, o.before) in
+        let left : w.capacity - reach w ≡ w.capacity - length (items_of w) =
+        omega (
+          arith,
+          count-all,
+          reached h w o,
+          count-behind none,
+          o.before,
+          o.rest,
+          o.behind,
+          o.tail,
+          o.room,
+        ) in
+        side-by-side none ∙ (ap
+        (λ (k : ℕ). full w.front ++ (empty k ++ (full all-behind ++ past_tail w))) no
+        ∙ (sym (append_assoc (full w.front) (full all-behind) (past_tail w))
+        ∙ (ap (λ (r : List (Option T)). r ++ past_tail w) (sym (full-append w.front all-behind))
+        ∙ ap (λ (k : ℕ). full (items_of w) ++ empty k) left)))
+
+  -- a list's block, before anything is done to it
+  module _ (b : Block T A) (a : A) (start end : ℕ) (t : IsThin b a) (order : start ≤ end)
+      (within : end ≤ length (items_in b.slots)) where
+    abbrev pub opened : ℕ → Inside T A
+    opened len =
+        record {
+          block = b;
+          front_end = start;
+          rest_start = start;
+          rest_end = end;
+          tail_start = end;
+          len = len;
+        }
+
+    abbrev pub opened-seen : Open T A
+    opened-seen = let xs : List T = items_in b.slots in
+        record {
+          front = take start xs;
+          before = 0;
+          rest = slice_range xs start end;
+          behind = 0;
+          tail = drop end xs;
+          capacity = length b.slots;
+          alloc = b.alloc;
+          cost = b.cost;
+        }
+
+    pub open-step : (len : ℕ) → len ≡ length (items_in b.slots) → Found (opened len) opened-seen
+    open-step len all =
+        let xs : List T = items_in b.slots in
+        let f : List T = take start xs in
+        let r : List T = slice_range xs start end in
+        let z : List T = drop end xs in
+        let cut : xs ≡ f ++ (r ++ z) = split_between xs start end order in
+        let lf : length f ≡ start = length-take-le start xs (omega arith) in
+        let lr : length r ≡ end - start =
+        omega (arith, length-take (end - start) (drop start xs), length-drop start xs) in
+        let lz : length z ≡ len - end = omega (arith, length-drop end xs) in
+        let past : length b.slots - length xs ≡ length b.slots - reach opened-seen =
+        omega (arith, lf, lr, lz) in
+        let after : b.slots ≡ row_of opened-seen =
+        t.packed.row ∙ (ap (λ (l : List T). full l ++ empty (length b.slots - length xs)) cut
+        ∙ (ap (λ (l : List (Option T)). l ++ empty (length b.slots - length xs))
+        (full-append f (r ++ z) ∙ ap (λ (l : List (Option T)). full f ++ l) (full-append r z))
+        ∙ (append_assoc (full f) (full r ++ full z) (empty (length b.slots - length xs))
+        ∙ ap (λ (l : List (Option T)). full f ++ l)
+        (append_assoc (full r) (full z) (empty (length b.slots - length xs))
+        ∙ ap (λ (k : ℕ). full r ++ (full z ++ empty k)) past)))) in
+        found (opened len) opened-seen
+        (record {
+          row = after;
+          front = lf;
+          before = omega arith;
+          rest = omega (arith, lr);
+          behind = omega arith;
+          tail = omega (arith, lz, all);
+          room =
+              omega (arith, all, thin-room b a t);
+        }) refl refl
+
+  -- items go into the empty slots behind the front
+  module _ (h : Inside T A) (o : IsOpen h) (b : Block T A) (xs : List T) (end : ℕ)
+      (ends : end ≡ h.front_end + length xs) (fits : end ≤ h.rest_start) where
+    abbrev pub filled : Inside T A
+    filled =
+        record {
+          block = b;
+          front_end = end;
+          rest_start = h.rest_start;
+          rest_end = h.rest_end;
+          tail_start = h.tail_start;
+          len = h.len;
+        }
+
+    abbrev pub filled-seen : Open T A
+    filled-seen =
+        let v : Open T A = open_of h in
+        record {
+          front = v.front ++ xs;
+          before = h.rest_start - end;
+          rest = v.rest;
+          behind = v.behind;
+          tail = v.tail;
+          capacity = v.capacity;
+          alloc = b.alloc;
+          cost = b.cost;
+        }
+
+    pub fill-step : b.slots ≡ laid h.front_end (full xs) h.block.slots → Found filled filled-seen
+    fill-step now =
+        let v : Open T A = open_of h in
+        let parts : length xs + (h.rest_start - end) ≡ v.before =
+        omega (arith, ends, fits, o.before) in
+        let more : length (v.front ++ xs) ≡ end =
+        omega (arith, length-append v.front xs, o.front, ends) in
+        let past : v.capacity - reach v ≡ v.capacity - reach filled-seen =
+        omega (arith, length-append v.front xs, parts) in
+        let long : length (full xs) ≡ length (empty {T = T} (length xs)) =
+        omega (arith, length-full xs, length-empty T (length xs)) in
+        let left : List (Option T) = full v.rest ++ past_rest v in
+        let split : empty v.before ++ left ≡ empty (length xs)
+        ++ (empty (h.rest_start - end) ++ left) =
+        ap (λ (k : ℕ). empty k ++ left) (sym parts)
+        ∙ (ap (λ (r : List (Option T)). r ++ left)
+        (sym (replicate-append-replicate (length xs) (h.rest_start - end) None))
+        ∙ append_assoc (empty (length xs)) (empty (h.rest_start - end)) left) in
+        let after : b.slots ≡ row_of filled-seen =
+        now ∙ (ap (laid h.front_end (full xs))
+        (o.row ∙ ap (λ (r : List (Option T)). full v.front ++ r) split)
+        ∙ (laid-at h.front_end (full v.front) (full xs) (empty (length xs))
+        (empty (h.rest_start - end) ++ left)
+        (sym (length-full v.front ∙ o.front)) long
+        ∙ (sym (append_assoc (full v.front) (full xs) (empty (h.rest_start - end) ++ left))
+        ∙ (ap (λ (r : List (Option T)). r ++ (empty (h.rest_start - end) ++ left))
+        (sym (full-append v.front xs))
+        ∙ ap (λ (k : ℕ). full (v.front ++ xs)
+        ++ (empty (h.rest_start - end)
+        ++ (full v.rest ++ (empty v.behind ++ (full v.tail ++ empty k))))) past)))) in
+        let shows : Shows filled filled-seen =
+        record {
+          row = after;
+          front = more;
+          before = omega (arith, fits);
+          rest = o.rest;
+          behind = o.behind;
+          tail = o.tail;
+          room = o.room;
+        } in
+        found filled filled-seen shows refl refl
+
+  -- the tail goes up, and leaves empty slots before it
+  module _ (h : Inside T A) (o : IsOpen h) (b : Block T A) (count : ℕ)
+      (room : h.len + count ≤ (open_of h).capacity) where
+    abbrev pub widened : Inside T A
+    widened = record {
+      block = b;
+      front_end = h.front_end;
+      rest_start = h.rest_start;
+      rest_end = h.rest_end;
+      tail_start = h.tail_start + count;
+      len = h.len + count;
+    }
+
+    abbrev pub widened-seen : Open T A
+    widened-seen =
+        let v : Open T A = open_of h in
+        record {
+          front = v.front;
+          before = v.before;
+          rest = v.rest;
+          behind = v.behind + count;
+          tail = v.tail;
+          capacity = v.capacity;
+          alloc = b.alloc;
+          cost = b.cost;
+        }
+
+    -- the slots behind the tail
+    spare : h.block.slots ≡ to_tail (open_of h)
+        ++ (full (open_of h).tail
+        ++ (empty count ++ empty ((open_of h).capacity - reach (open_of h) - count)))
+    spare =
+        let v : Open T A = open_of h in
+        let all : count + (v.capacity - reach v - count) ≡ v.capacity - reach v =
+        omega (arith, room, reached h v o) in
+        by_tail h v o ∙ ap (λ (r : List (Option T)). to_tail v ++ (full v.tail ++ r))
+        (ap (λ (k : ℕ). empty k) (sym all)
+        ∙ sym (replicate-append-replicate count (v.capacity - reach v - count) None))
+
+    pub widen-step : b.slots ≡ moved h.tail_start (h.tail_start + count)
+        (h.len - h.tail_start) h.block.slots
+        → Found widened widened-seen
+    widen-step now =
+        let v : Open T A = open_of h in
+        let end : List (Option T) = empty (v.capacity - reach v - count) in
+        let k : length (full v.tail) ≡ h.len - h.tail_start =
+        omega (arith, length-full v.tail, o.tail) in
+        let past : v.capacity - reach v - count ≡ v.capacity - reach widened-seen =
+        omega (arith, room, reached h v o) in
+        let turned : to_tail v ++ (empty count ++ (full v.tail ++ end)) ≡ full v.front
+        ++ (empty v.before
+        ++ (full v.rest ++ (empty (v.behind + count) ++ (full v.tail ++ end)))) =
+        let tail : List (Option T) = empty count ++ (full v.tail ++ end) in
+        append_assoc (to_behind v) (empty v.behind) tail
+        ∙ (append_assoc (to_rest v) (full v.rest) (empty v.behind ++ tail)
+        ∙ (append_assoc (full v.front) (empty v.before) (full v.rest ++ (empty v.behind ++ tail))
+        ∙ ap (λ (r : List (Option T)). full v.front ++ (empty v.before ++ (full v.rest ++ r)))
+        (sym (append_assoc (empty v.behind) (empty count) (full v.tail ++ end))
+        ∙ ap (λ (r : List (Option T)). r ++ (full v.tail ++ end))
+        (replicate-append-replicate v.behind count None)))) in
+        let after : b.slots ≡ row_of widened-seen =
+        now ∙ (ap (moved h.tail_start (h.tail_start + count) (h.len - h.tail_start)) spare
+        ∙ (moved_right h.tail_start (h.tail_start + count) (h.len - h.tail_start) count
+        (to_tail v) (full v.tail) end
+        (sym (at_tail h v o)) refl (sym k)
+        ∙ (turned ∙ ap (λ (n : ℕ). full v.front
+        ++ (empty v.before
+        ++ (full v.rest ++ (empty (v.behind + count) ++ (full v.tail ++ empty n))))) past))) in
+        let shows : Shows widened widened-seen =
+        record {
+          row = after;
+          front = o.front;
+          before = o.before;
+          rest = o.rest;
+          behind = omega (arith, o.behind);
+          tail = omega (arith, o.tail);
+          room = room;
+        } in
+        found widened widened-seen shows refl refl
+
+    pub past-empty : (j : ℕ) → h.len ≤ j → j < h.len + count → slot h.block.slots j ≡ None
+    past-empty j low high =
+        let v : Open T A = open_of h in
+        let pre : List (Option T) = to_tail v ++ full v.tail in
+        let end : List (Option T) = empty (v.capacity - reach v - count) in
+        let start : length pre ≡ h.len =
+        omega (
+          arith,
+          length-append (to_tail v) (full v.tail),
+          at_tail h v o,
+          length-full v.tail,
+          o.tail,
+        ) in
+        ap (λ (r : List (Option T)). slot r j)
+        (spare ∙ sym (append_assoc (to_tail v) (full v.tail) (empty count ++ end)))
+        ∙ slot-in-empty pre count end j (omega (arith, start)) (omega (arith, start))

@@ -1,0 +1,24 @@
+-- Where there is no gap, the run that stays joins the front without a move.
+use Rattle.std.proofs.Common.{◌≡◌, ◌<◌, ◌++◌, ◌∙◌, ap, drop, sym, take}
+use Rattle.std.proofs.lemmas.Bool.{false≢true}
+use Rattle.thin_vec.proofs.FiltersLemmas.{moving-before}
+use Rattle.thin_vec.proofs.open_block.OpenBlock.advance.Goals as goal
+
+-- there is no gap
+pub returns-clause-advances : goal.returns-clause-advances
+returns-clause-advances g c =
+    let v = c.args.self.now in
+    let run = c.ask_run-count in
+    let none : 0 < v.before → ⊥ =
+    λ some. false≢true (sym c.if-has_gap.false ∙ c.has_gap.ensures.value.1 some) in
+    let run-cost : run.new.self.cost ≡ v.cost = ap (λ u. u.cost) run.ensures.same in
+    record {
+      count = run.result;
+      left = run.new.self.rest;
+      run = run.ensures.asked;
+      now = c.pass.ensures ∙ (λ i. let u = run.ensures.same i in record u {
+        front = u.front ++ take run.result run.new.self.rest;
+        rest = drop run.result run.new.self.rest;
+        cost = (run-cost ∙ sym (moving-before v.before run.result v.cost none)) i;
+      });
+    }

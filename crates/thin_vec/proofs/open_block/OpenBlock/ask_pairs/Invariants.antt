@@ -1,0 +1,14 @@
+-- Each item so far stays, and nothing else of the block has changed.
+use Rattle.std.proofs.Common.{◌≡◌, ◌-◌, length}
+use Rattle.thin_vec.proofs.DedupLemmas.{PairStays}
+use Rattle.thin_vec.proofs.open_block.OpenBlock.ask_pairs.Given as goal
+
+abbrev pub invariant-loop-kept : goal.invariant-loop-kept
+invariant-loop-kept g l = record {
+  stays : PairStays g.J.AsksPairs.asks l.kept l.fn.judge l.fn.self.rest l.judge l.self.rest;
+  ready : g.J.AsksPairs.ready l.judge;
+  same : l.self ≡ record l.fn.self { rest = l.self.rest };
+}
+
+abbrev pub decreases-loop-kept : goal.decreases-loop-kept
+decreases-loop-kept g l = length l.self.rest - l.kept

@@ -1,0 +1,14 @@
+-- Each item so far stays, and nothing else of the block has changed.
+use Rattle.std.proofs.Common.{◌≡◌, ◌-◌, length}
+use Rattle.thin_vec.proofs.FiltersLemmas.{Stays}
+use Rattle.thin_vec.proofs.open_block.OpenBlock.ask_run.Given as goal
+
+abbrev pub invariant-loop-at : goal.invariant-loop-at
+invariant-loop-at g l = record {
+  stays : Stays g.J.Asks.asks l.fn.k l.at l.fn.judge l.fn.self.rest l.judge l.self.rest;
+  ready : g.J.Asks.ready l.judge;
+  same : l.self ≡ record l.fn.self { rest = l.self.rest };
+}
+
+abbrev pub decreases-loop-at : goal.decreases-loop-at
+decreases-loop-at g l = length l.self.rest - l.at

@@ -1,0 +1,12 @@
+-- Each item that was dropped has left an empty slot behind the front.
+use Rattle.std.proofs.Common.{◌≡◌, ◌+◌, length}
+use Rattle.thin_vec.proofs.open_block.OpenBlock.drop_rest.Given as goal
+
+abbrev pub invariant-loop-self : goal.invariant-loop-self
+invariant-loop-self g l = record {
+  before : l.self.before + length l.self.rest ≡ l.fn.self.before + length l.fn.self.rest;
+  same : l.self ≡ record l.fn.self { before = l.self.before; rest = l.self.rest };
+}
+
+abbrev pub decreases-loop-self : goal.decreases-loop-self
+decreases-loop-self g l = length l.self.rest

@@ -1,0 +1,16 @@
+-- With no item between them, the two runs of empty slots are one.
+use Rattle.std.proofs.Common.{◌+◌, ap, sym, ◌∙◌}
+use Rattle.thin_vec.proofs.OpenBlockLemmas.{Found, join-step, joined, joined-seen}
+use Rattle.thin_vec.proofs.open_block.OpenBlock.join.Goals as goal
+
+facts : (g : _) (c : goal.After-self-2-1 g)
+    → Found (joined c.self.inside c.self.invariant) (joined-seen c.self.inside c.self.invariant)
+facts g c = join-step c.self.inside c.self.invariant
+    (ap (λ v. v.rest) c.self.view_is ∙ c.requires.none)
+
+pub invariant_of-self : goal.invariant_of-self
+invariant_of-self g c = (facts g c).lies
+
+pub returns : goal.returns
+returns g c = (facts g c).view ∙ (λ i. let v = c.self.view_is i in record v
+    { before = v.before + v.behind; rest = sym c.requires.none i; behind = 0 })

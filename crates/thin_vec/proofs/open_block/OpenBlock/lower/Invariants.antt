@@ -1,0 +1,11 @@
+-- So far as many items went to the front as there were turns.
+use Rattle.std.proofs.Common.{◌≡◌, ◌++◌, drop, take}
+use Rattle.thin_block.specs.Cost.{moving}
+use Rattle.thin_vec.proofs.open_block.OpenBlock.lower.Given as goal
+
+abbrev pub invariant-loop-done : goal.invariant-loop-done
+invariant-loop-done g l = l.self ≡ record l.fn.self {
+  front = l.fn.self.front ++ take l.done l.fn.self.rest;
+  rest = drop l.done l.fn.self.rest;
+  cost = moving l.done l.fn.self.cost;
+}

@@ -1,0 +1,45 @@
+-- The last slots of the tail are filled, and their items then lie after the front.
+use Rattle.std.proofs.Common.{◌≡◌, ◌-◌, ◌≤◌, ◌++◌, ◌∙◌, ap, arith, drop, length, rules, take}
+use Rattle.thin_block.specs.Cost.{moving}
+use Rattle.thin_vec.specs.OpenBlock.{open_of}
+use Rattle.thin_vec.proofs.OpenBlockLemmas.{Found, before-empty, tail-filled}
+use Rattle.thin_vec.proofs.ReplacingLemmas.{bring-step, brought, brought-seen}
+use Rattle.thin_vec.proofs.open_block.OpenBlock.lower_last.Goals as goal
+
+pub move_run-requires-clause-filled : goal.move_run-requires-clause-filled
+move_run-requires-clause-filled g c = λ j low high.
+    let o = c.self.invariant in
+    tail-filled c.self.inside (open_of c.self.inside) o j
+    (omega (arith, low, o.tail, c.requires.in_bounds, ap (λ v. length v.tail) c.self.view_is))
+    (omega (arith, high, o.tail, c.requires.in_bounds, ap (λ v. length v.tail) c.self.view_is))
+
+facts : (g : _) (c : goal.After-self-2-1 g)
+    → let few : c.args.count ≤ length (open_of c.self.inside).tail =
+    omega (arith, c.requires.in_bounds, ap (λ v. length v.tail) c.self.view_is) in
+    let room : c.args.count ≤ (open_of c.self.inside).before =
+    omega (arith, c.requires.room, ap (λ v. v.before) c.self.view_is) in
+    Found (brought c.self.inside c.self.invariant c.move_run.new.self c.args.count few room)
+    (brought-seen c.self.inside c.self.invariant c.move_run.new.self c.args.count few room)
+facts g c =
+    let few : c.args.count ≤ length (open_of c.self.inside).tail =
+    omega (arith, c.requires.in_bounds, ap (λ v. length v.tail) c.self.view_is) in
+    let room : c.args.count ≤ (open_of c.self.inside).before =
+    omega (arith, c.requires.room, ap (λ v. v.before) c.self.view_is) in
+    bring-step c.self.inside c.self.invariant c.move_run.new.self c.args.count few room
+    c.move_run.ensures.slots
+
+pub invariant_of-self : goal.invariant_of-self
+invariant_of-self g c = (facts g c).lies
+
+pub returns : goal.returns
+returns g c =
+    let alloc : c.move_run.new.self.alloc ≡ c.args.self.now.alloc = search (arith, ◌∙◌) in
+    let spent : c.move_run.new.self.cost ≡ moving c.args.count c.args.self.now.cost =
+    search (arith, ◌∙◌) in
+    (facts g c).view ∙ (λ i. let v = c.self.view_is i in record v {
+      front = v.front ++ drop (length v.tail - c.args.count) v.tail;
+      before = v.before - c.args.count;
+      tail = take (length v.tail - c.args.count) v.tail;
+      alloc = alloc i;
+      cost = spent i;
+    })

@@ -1,0 +1,31 @@
+-- Some first items stay; then none is left, or one goes and all behind it were asked about.
+use Rattle.std.proofs.Common.{◌≡◌, [], ap, sym, ◌∙◌, arith, rules}
+use Rattle.thin_vec.proofs.FiltersLemmas.{nothing, sifted-ends, sifted-goes}
+use Rattle.thin_vec.proofs.open_block.OpenBlock.sift.Goals as goal
+
+pub returns-then-rest_len-gt0 : goal.returns-then-rest_len-gt0
+returns-then-rest_len-gt0 g c =
+    let R = g.J.Asks.asks in
+    let run = c.ask_run-first in
+    record {
+      sifted = sifted-goes R c.args.self.now c.take_first.new.self run.result c.args.judge.now
+          run.new.judge run.new.self.rest run.ensures.asked c.take_first.result
+          c.sift_behind.new.judge c.sift_behind.new.self
+          (search rules)
+          (sym (ap (λ v. v.rest) c.pass.ensures) ∙ c.take_first.ensures.rest)
+          c.sift_behind.ensures.sifts
+          c.sift_behind.ensures.rest;
+    }
+
+pub returns-else-rest_len-gt0 : goal.returns-else-rest_len-gt0
+returns-else-rest_len-gt0 g c =
+    let R = g.J.Asks.asks in
+    let run = c.ask_run-first in
+    let none : c.pass.new.self.rest ≡ [] = nothing c.pass.new.self.rest
+    (omega (arith, c.rest_len.ensures.value, c.if-rest_len-gt0.false)) in
+    record {
+      sifted = sifted-ends R c.args.self.now c.pass.new.self run.result c.args.judge.now
+          run.new.judge run.new.self.rest run.ensures.asked
+          (search rules)
+          (sym (ap (λ v. v.rest) c.pass.ensures) ∙ none) none;
+    }

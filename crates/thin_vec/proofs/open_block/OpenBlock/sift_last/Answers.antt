@@ -1,0 +1,28 @@
+-- The last item goes, or stays, or there was none: nothing is left to ask about.
+use Rattle.std.proofs.Common.{◌∙◌, ap, arith, length, sym}
+use Rattle.std.proofs.lemmas.Bool.{false≢true}
+use Rattle.thin_vec.proofs.FiltersLemmas.{advanced-count, advanced-ends, advanced-goes, none-left, nothing}
+use Rattle.thin_vec.proofs.open_block.OpenBlock.sift_last.Goals as goal
+
+-- an item goes
+pub returns-then-advance_last-clause-sifts : goal.returns-then-advance_last-clause-sifts
+returns-then-advance_last-clause-sifts g c =
+    advanced-goes g.J.Asks.asks c.args.judge.now c.advance_last.new.judge c.args.self.now
+    c.advance_last.new.self c.requires.gap c.advance_last.ensures.advances c.take_first.result
+    c.take_first.new.self c.take_first.ensures.rest c.take_first.ensures.same
+
+-- none goes
+pub returns-else-advance_last-clause-sifts : goal.returns-else-advance_last-clause-sifts
+returns-else-advance_last-clause-sifts g c =
+    advanced-ends g.J.Asks.asks c.args.judge.now c.advance_last.new.judge c.args.self.now
+    c.advance_last.new.self c.requires.gap c.advance_last.ensures.advances
+    (none-left c.advance_last.new.self.rest
+    (λ some. false≢true (sym c.if-advance_last.false ∙ c.advance_last.ensures.goes.1 some)))
+
+-- it was the last one
+pub returns-then-advance_last-clause-rest : goal.returns-then-advance_last-clause-rest
+returns-then-advance_last-clause-rest g c =
+    let few = advanced-count g.J.Asks.asks c.args.judge.now c.advance_last.new.judge c.args.self.now
+    c.advance_last.new.self c.requires.gap c.advance_last.ensures.advances in
+    nothing c.take_first.new.self.rest
+    (omega (arith, few, c.requires.short, ap length c.take_first.ensures.rest))

@@ -1,0 +1,33 @@
+-- An item goes, or none does: either way fewer are left to ask about.
+use Rattle.std.proofs.Common.{◌∙◌, ap, arith, length, sym}
+use Rattle.std.proofs.lemmas.Bool.{false≢true}
+use Rattle.thin_vec.proofs.FiltersLemmas.{advanced-count, advanced-ends, advanced-goes, none-left}
+use Rattle.thin_vec.proofs.open_block.OpenBlock.sift_two.Goals as goal
+
+-- an item goes
+pub returns-then-advance_two-clause-sifts : goal.returns-then-advance_two-clause-sifts
+returns-then-advance_two-clause-sifts g c =
+    advanced-goes g.J.Asks.asks c.args.judge.now c.advance_two.new.judge c.args.self.now
+    c.advance_two.new.self c.requires.gap c.advance_two.ensures.advances c.take_first.result
+    c.take_first.new.self c.take_first.ensures.rest c.take_first.ensures.same
+
+-- none goes
+pub returns-else-advance_two-clause-sifts : goal.returns-else-advance_two-clause-sifts
+returns-else-advance_two-clause-sifts g c =
+    advanced-ends g.J.Asks.asks c.args.judge.now c.advance_two.new.judge c.args.self.now
+    c.advance_two.new.self c.requires.gap c.advance_two.ensures.advances
+    (none-left c.advance_two.new.self.rest
+    (λ some. false≢true (sym c.if-advance_two.false ∙ c.advance_two.ensures.goes.1 some)))
+
+-- fewer are left to ask about
+pub returns-then-advance_two-clause-less : goal.returns-then-advance_two-clause-less
+returns-then-advance_two-clause-less g c =
+    let few = advanced-count g.J.Asks.asks c.args.judge.now c.advance_two.new.judge c.args.self.now
+    c.advance_two.new.self c.requires.gap c.advance_two.ensures.advances in
+    omega (arith, few, ap length c.take_first.ensures.rest)
+
+pub returns-else-advance_two-clause-less : goal.returns-else-advance_two-clause-less
+returns-else-advance_two-clause-less g c =
+    let none = none-left c.advance_two.new.self.rest
+    (λ some. false≢true (sym c.if-advance_two.false ∙ c.advance_two.ensures.goes.1 some)) in
+    omega (arith, c.requires.two, ap length none)

@@ -1,0 +1,41 @@
+-- The first slot of the middle run is filled, and then empty.
+use Rattle.std.proofs.Common.{◌≡◌, ◌<◌, ◌+◌, ◌∷◌, List, ap, sym, ◌∙◌, arith, length}
+use Rattle.thin_vec.specs.OpenBlock.{open_of}
+use Rattle.thin_vec.proofs.OpenBlockLemmas.{Found, first-left, first-seen, first-step, rest-filled}
+use Rattle.thin_vec.proofs.open_block.OpenBlock.take_first.Goals as goal
+
+pub take-requires : goal.take-requires
+take-requires g c =
+    let h = c.self.inside in
+    let o = c.self.invariant in
+    record {
+      filled = rest-filled h (open_of h) o h.rest_start (omega arith)
+          (omega (arith, o.rest, c.requires.some, ap (λ v. length v.rest) c.self.view_is));
+    }
+
+some : (g : _) (c : goal.After-take g) → 0 < length (open_of c.self.inside).rest
+some g c = omega (arith, c.requires.some, ap (λ v. length v.rest) c.self.view_is)
+
+-- the block afterwards, and what was taken
+facts : (g : _) (c : goal.After-take g) → (ys : List g.row.T.Denot)
+    × ((open_of c.self.inside).rest ≡ c.take.result ∷ ys)
+    × Found (first-left c.self.inside c.self.invariant c.take.new.self c.take.ensures.alloc
+    c.take.ensures.cost (some g c))
+    (first-seen c.self.inside c.self.invariant c.take.new.self c.take.ensures.alloc
+    c.take.ensures.cost (some g c) ys)
+facts g c = first-step c.self.inside c.self.invariant c.take.new.self c.take.ensures.alloc
+    c.take.ensures.cost (some g c) c.take.result c.take.ensures.value c.take.ensures.slots
+
+pub invariant_of-self : goal.invariant_of-self
+invariant_of-self g c = (facts g c).2.lies
+
+pub returns-clause-rest : goal.returns-clause-rest
+returns-clause-rest g c =
+    sym (ap (λ v. v.rest) c.self.view_is)
+    ∙ ((facts g c).1 ∙ ap (λ xs. c.take.result ∷ xs)
+    (sym (ap (λ v. v.rest) (facts g c).2.view)))
+
+pub returns-clause-same : goal.returns-clause-same
+returns-clause-same g c = let seen = (facts g c).2.view in
+    seen ∙ (λ i. let v = c.self.view_is i in
+    record v { rest = (sym seen i).rest; before = v.before + 1 })

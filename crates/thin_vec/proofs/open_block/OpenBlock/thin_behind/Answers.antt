@@ -1,0 +1,22 @@
+-- Each round joins those before it, and leaves an item in front to ask beside.
+use Rattle.thin_vec.proofs.DedupLemmas.{thins-start, thins-then}
+use Rattle.thin_vec.proofs.open_block.OpenBlock.thin_behind.Goals as goal
+
+pub loop-self-init : goal.loop-self-init
+loop-self-init g c =
+    record {
+      thins = thins-start g.J.AsksPairs.asks c.args.judge.now c.args.self.now c.requires.some
+          c.requires.gap;
+      some = c.requires.some;
+      ready = c.requires.ready;
+    }
+
+pub loop-self-preserved : goal.loop-self-preserved
+loop-self-preserved g c =
+    let l = c.loop-self in
+    record {
+      thins = thins-then g.J.AsksPairs.asks c.args.judge.now l.judge c.thin_round.new.judge
+          c.args.self.now l.self c.thin_round.new.self l.invariant.thins c.thin_round.ensures.thins;
+      some = c.thin_round.ensures.some;
+      ready = c.thin_round.ensures.ready;
+    }

@@ -1,0 +1,33 @@
+-- How the slots of an open block lie; a contract sees it as an `Open`.
+use Rattle.std.specs.Prelude.{◌≡◌, ◌+◌, ◌-◌, ◌≤◌, drop, length, slice_range, take}
+use Rattle.thin_block.specs.Slots.{items_in}
+use Rattle.thin_vec.specs.Open.{Open, row_of}
+use Rattle.thin_vec.specs.declared.open_block.OpenBlock.TheInside.{Inside}
+
+module _ {T A : Type 0} where
+  abbrev pub open_of : Inside T A → Open T A
+  open_of h =
+      record {
+        front = items_in (take h.front_end h.block.slots);
+        before = h.rest_start - h.front_end;
+        rest = items_in (slice_range h.block.slots h.rest_start h.rest_end);
+        behind = h.tail_start - h.rest_end;
+        tail = items_in (drop h.tail_start h.block.slots);
+        capacity = length h.block.slots;
+        alloc = h.block.alloc;
+        cost = h.block.cost;
+      }
+
+  -- the slots of h are those of v, and its numbers say where each run of items begins and ends
+  pub record Shows (h : Inside T A) (v : Open T A) : Type 0 where
+    pub row : h.block.slots ≡ row_of v
+    pub front : length v.front ≡ h.front_end
+    pub before : h.front_end + v.before ≡ h.rest_start
+    pub rest : h.rest_start + length v.rest ≡ h.rest_end
+    pub behind : h.rest_end + v.behind ≡ h.tail_start
+    pub tail : h.tail_start + length v.tail ≡ h.len
+    pub room : h.len ≤ v.capacity
+
+  -- no other slot holds an item
+  abbrev pub IsOpen : Inside T A → Type 0
+  IsOpen h = Shows h (open_of h)

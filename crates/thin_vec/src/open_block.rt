@@ -1,0 +1,208 @@
+//! A list's block while an edit works on it, with empty slots between its items.
+ghost use Rattle.std.specs.Prelude.{◌≡◌, ◌↔◌, ◌+◌, ◌-◌, ◌<◌, ◌≤◌, ◌∷◌, ◌++◌, [], IsTrue, drop, length, slice_range, take};
+ghost use Rattle.thin_block.specs.Cost.{no_cost};
+ghost use Rattle.thin_block.specs.Slots.{front};
+ghost use Rattle.thin_vec.specs.Open.{IsOf, cost_closed, items_of, reach};
+
+use crate::list::ThinVec;
+use std::alloc::Allocator;
+use std::marker::Model;
+use std::mem;
+use thin_block::{Block, Growth};
+
+/// A block that is open: the items in front stay, and after them lie a gap, the items of the
+/// middle run, a gap again, and the items that the edit has not reached. A contract sees it as an
+/// `Open`.
+///
+/// It owns the block and its items, and is no owner that drops: `close` puts the block back into
+/// the list.
+pub struct OpenBlock<T, A: Allocator> {
+    pub(crate) block: Block<T, A>,
+    // The front lies in the slots up to `front_end`.
+    pub(crate) front_end: usize,
+    // The middle run lies in the slots from `rest_start` up to `rest_end`.
+    pub(crate) rest_start: usize,
+    pub(crate) rest_end: usize,
+    // The tail lies in the slots from `tail_start` up to `len`.
+    pub(crate) tail_start: usize,
+    pub(crate) len: usize,
+}
+
+impl<T, A: Allocator> Model for OpenBlock<T, A> {
+    ghost use Rattle.thin_vec.specs.Open.{Open, open_code};
+
+    ghost Value = { Open T A };
+
+    ghost coded = { open_code T.code A.code };
+
+    ghost use Rattle.thin_vec.specs.OpenBlock.{IsOpen, open_of};
+
+    ghost view = { open_of };
+
+    ghost invariant = { IsOpen };
+}
+
+impl<T, A: Allocator, G: Growth> ThinVec<T, A, G> {
+    // The list's block, in which the items from `start` up to `end` are the middle run. The list
+    // is left empty and without a block.
+    pub(crate) fn open(&mut self, start: usize, end: usize) -> OpenBlock<T, A>
+        requires start_le_end { start ≤ end }
+        requires in_bounds { end ≤ length self.old.items }
+        ensures front { result.front ≡ take start self.old.items }
+        ensures rest { result.rest ≡ slice_range self.old.items start end }
+        ensures tail { result.tail ≡ drop end self.old.items }
+        ensures before { result.before ≡ 0 }
+        ensures behind { result.behind ≡ 0 }
+        ensures other_capacity { result.capacity ≡ self.old.capacity }
+        ensures from { IsOf result.alloc self.old.alloc }
+        ensures other_cost { result.cost ≡ self.old.cost }
+        ensures items { self.new.items ≡ [] }
+        ensures capacity { self.new.capacity ≡ 0 }
+        ensures alloc { self.new.alloc ≡ self.old.alloc }
+        ensures cost { self.new.cost ≡ no_cost }
+    {
+        let len = self.block.len();
+        let block = mem::replace(&mut self.block, Block::none());
+        OpenBlock {
+            block,
+            front_end: start,
+            rest_start: start,
+            rest_end: end,
+            tail_start: end,
+            len,
+        }
+    }
+
+    // Closes the gap by one move of all items behind it, and makes the block the list's again.
+    pub(crate) fn close(&mut self, block: OpenBlock<T, A>)
+        requires empty { self.old.items ≡ [] }
+        requires behind { block.behind ≡ 0 }
+        requires from { IsOf block.alloc self.old.alloc }
+        ensures items { self.new.items ≡ items_of block }
+        ensures capacity { self.new.capacity ≡ block.capacity }
+        ensures alloc { self.new.alloc ≡ self.old.alloc }
+        ensures cost { self.new.cost ≡ cost_closed block }
+        ensures room { length self.new.items ≤ self.new.capacity }
+    {
+        let none = mem::replace(&mut self.block, block.into_closed());
+        none.release(&self.alloc);
+    }
+}
+
+impl<T, A: Allocator> OpenBlock<T, A> {
+    // How many items the front has.
+    pub(crate) fn front_len(&self) -> usize
+        ensures value { result ≡ length self.now.front }
+        ensures in_bounds { result ≤ self.now.capacity }
+    {
+        self.front_end
+    }
+
+    // How many items the middle run has.
+    pub(crate) fn rest_len(&self) -> usize
+        ensures value { result ≡ length self.now.rest }
+    {
+        self.rest_end - self.rest_start
+    }
+
+    // The first item of the middle run leaves.
+    pub(crate) fn take_first(&mut self) -> T
+        requires some { 0 < length self.old.rest }
+        ensures rest { self.old.rest ≡ result ∷ self.new.rest }
+        ensures same { self.new ≡ record self.old {
+          rest = self.new.rest;
+          before = self.old.before
+              + 1;
+        } }
+    {
+        let first = self.rest_start;
+        self.rest_start += 1;
+        self.block.take(first)
+    }
+
+    // The last item of the middle run leaves.
+    pub(crate) fn take_last(&mut self) -> T
+        requires some { 0 < length self.old.rest }
+        ensures rest { self.old.rest ≡ self.new.rest ++ result ∷ [] }
+        ensures same { self.new ≡ record self.old {
+          rest = self.new.rest;
+          behind = self.old.behind
+              + 1;
+        } }
+    {
+        self.rest_end -= 1;
+        self.block.take(self.rest_end)
+    }
+
+    // The items of the middle run, in order.
+    pub(crate) fn rest_slice(&self) -> &[T]
+        ensures value { result.now ≡ self.now.rest }
+    {
+        self.block.slice(self.rest_start, self.rest_end)
+    }
+
+    // Whether there is a tail.
+    pub(crate) fn has_tail(&self) -> bool
+        ensures value { IsTrue result ↔ (0 < length self.now.tail) }
+        ensures in_bounds { reach self.now ≤ self.now.capacity }
+    {
+        self.tail_start < self.len
+    }
+
+    // Whether there is a gap behind the front.
+    pub(crate) fn has_gap(&self) -> bool
+        ensures value { IsTrue result ↔ (0 < self.now.before) }
+    {
+        self.front_end < self.rest_start
+    }
+
+    // Counts all empty slots as one gap. The middle run is empty.
+    pub(crate) fn join(&mut self)
+        requires none { self.old.rest ≡ [] }
+        ensures { self.new
+            ≡ record self.old { before = self.old.before + self.old.behind; behind = 0 } }
+    {
+        self.rest_start = self.tail_start;
+        self.rest_end = self.tail_start;
+    }
+
+    // The block once its items lie in front.
+    fn into_closed(self) -> Block<T, A>
+        requires behind { self.behind ≡ 0 }
+        ensures slots { result.slots ≡ front (items_of self) self.capacity }
+        ensures len { result.len ≡ length (items_of self) }
+        ensures in_bounds { length (items_of self) ≤ self.capacity }
+        ensures alloc { result.alloc ≡ self.alloc }
+        ensures cost { result.cost ≡ cost_closed self }
+    {
+        let OpenBlock {
+            mut block,
+            front_end,
+            rest_start,
+            rest_end: _,
+            tail_start: _,
+            len,
+        } = self;
+        if front_end != rest_start {
+            block.move_run(rest_start, front_end, len - rest_start);
+        }
+        block.set_len(len - (rest_start - front_end));
+        block
+    }
+}
+
+impl<T: Drop, A: Allocator> OpenBlock<T, A> {
+    // Drops what is left of the middle run, and counts all empty slots as one gap. Nothing moves.
+    pub(crate) fn drop_rest(&mut self)
+        ensures { self.new ≡ record self.old {
+          before = self.old.before + length self.old.rest + self.old.behind;
+          rest = [];
+          behind = 0;
+        } }
+    {
+        while self.rest_len() > 0 {
+            drop(self.take_first());
+        }
+        self.join();
+    }
+}
