@@ -2,6 +2,7 @@
 #![tactic(auto)]
 
 pub mod first_list;
+pub mod handed_over;
 pub mod indices;
 pub mod moved_range;
 pub mod moves;
@@ -12,6 +13,7 @@ pub mod reserved_room;
 pub mod shown_room;
 pub mod sorting;
 pub mod sparse_counts;
+pub mod spliced;
 pub mod std_errors;
 pub mod style_lists;
 pub mod syntax_tree;

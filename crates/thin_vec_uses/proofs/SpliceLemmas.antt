@@ -1,0 +1,14 @@
+-- What a splice leaves, told by the items of its list.
+use Rattle.std.proofs.Common.{Option, subst, ◌≡◌, List, ◌++◌}
+use Rattle.std.specs.Iterator.Runs.{WholeRun}
+use Rattle.std.specs.Prelude.{OnOk}
+use Rattle.std.specs.declared.result.Result.{Result}
+
+-- what a whole run gave stands between the items before and behind a range, under other names
+pub run_between : {S T X E : Type 0} (steps : S → Option T → S → Type 0) (r : Result X E)
+    (items : List T) {s s' : S} {front front' tail tail' : List T} → s ≡ s' → front ≡ front'
+    → tail ≡ tail' → OnOk r (WholeRun steps s (λ p. items ≡ (front ++ p.items) ++ tail))
+    → OnOk r (WholeRun steps s' (λ p. items ≡ (front' ++ p.items) ++ tail'))
+run_between {S} {T} steps r items same first last run =
+    subst (λ (u : S × (List T × List T)). OnOk r (WholeRun steps u.0
+    (λ p. items ≡ (u.1.0 ++ p.items) ++ u.1.1))) (λ i. (same i, (first i, last i))) run

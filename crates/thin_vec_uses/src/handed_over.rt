@@ -1,0 +1,94 @@
+//! Items that go into another list one by one, in loops.
+ghost use Rattle.std.specs.Prelude.{◌≡◌, ◌-◌, ◌*◌, ◌%◌, ◌==◌, ◌≤◌, ◌++◌, IsOk, OnErr, OnOk, drop, filter, length, map, not, slice_range, take};
+ghost use Rattle.thin_vec.specs.ThinVec.{HasRoomFor};
+
+use std::alloc::Allocator;
+use thin_vec::{Growth, ThinVec, ThinVecError};
+
+/// Moves the items from `start` up to `end` after those of `other`, or moves none.
+pub fn hand_over<T: Drop, A: Allocator, G: Growth>(
+    list: &mut ThinVec<T, A, G>,
+    start: usize,
+    end: usize,
+    other: &mut ThinVec<T, A, G>,
+) -> Result<(), ThinVecError>
+    requires start_le_end { start ≤ end }
+    requires in_bounds { end ≤ length list.old.items }
+    ensures succeeds { HasRoomFor other.old (end - start) → IsOk result }
+    ensures items { OnOk result
+        (list.new.items ≡ take start list.old.items ++ drop end list.old.items) }
+    ensures other_items { OnOk result
+        (other.new.items ≡ other.old.items ++ slice_range list.old.items start end) }
+    ensures err { OnErr result (list.new ≡ list.old) }
+    ensures other_err { OnErr result (other.new ≡ other.old) }
+{
+    other.reserve(end - start)?;
+    for item in list.drain(start, end) {
+        other.push_reserved(item);
+    }
+    Ok(())
+}
+
+/// The same with a step at a time.
+pub fn hand_over_stepwise<T: Drop, A: Allocator, G: Growth>(
+    list: &mut ThinVec<T, A, G>,
+    start: usize,
+    end: usize,
+    other: &mut ThinVec<T, A, G>,
+) -> Result<(), ThinVecError>
+    requires start_le_end { start ≤ end }
+    requires in_bounds { end ≤ length list.old.items }
+    ensures succeeds { HasRoomFor other.old (end - start) → IsOk result }
+    ensures items { OnOk result
+        (list.new.items ≡ take start list.old.items ++ drop end list.old.items) }
+    ensures other_items { OnOk result
+        (other.new.items ≡ other.old.items ++ slice_range list.old.items start end) }
+    ensures err { OnErr result (list.new ≡ list.old) }
+    ensures other_err { OnErr result (other.new ≡ other.old) }
+{
+    other.reserve(end - start)?;
+    let mut drain = list.drain(start, end);
+    while let Some(item) = drain.next() {
+        other.push_reserved(item);
+    }
+    Ok(())
+}
+
+/// Moves the odd numbers after those of `other`, or moves none.
+pub fn hand_over_odd<A: Allocator, G: Growth>(
+    list: &mut ThinVec<u32, A, G>,
+    other: &mut ThinVec<u32, A, G>,
+) -> Result<(), ThinVecError>
+    ensures succeeds { HasRoomFor other.old (length list.old.items) → IsOk result }
+    ensures items { OnOk result
+        (list.new.items ≡ filter (λ number. not (number % 2 == 1)) list.old.items) }
+    ensures other_items { OnOk result (other.new.items
+        ≡ other.old.items ++ filter (λ number. number % 2 == 1) list.old.items) }
+    ensures err { OnErr result (list.new ≡ list.old) }
+    ensures other_err { OnErr result (other.new ≡ other.old) }
+{
+    let len = list.len();
+    other.reserve(len)?;
+    let mut odd = list.extract_if(0, len, |number: &mut u32| *number % 2 == 1);
+    while let Some(number) = odd.next() {
+        other.push_reserved(number);
+    }
+    Ok(())
+}
+
+/// Appends twice each number, or nothing: memory is asked for once.
+pub fn append_doubled<A: Allocator, G: Growth>(
+    list: &mut ThinVec<u64, A, G>,
+    numbers: &[u32],
+) -> Result<(), ThinVecError>
+    ensures succeeds { HasRoomFor list.old (length numbers.now) → IsOk result }
+    ensures items { OnOk result (list.new.items
+        ≡ list.old.items ++ map (λ number. 2 * number) numbers.now) }
+    ensures err { OnErr result (list.new ≡ list.old) }
+{
+    list.reserve(numbers.len())?;
+    for number in numbers {
+        list.push_reserved(2 * u64::from(*number));
+    }
+    Ok(())
+}

@@ -1,0 +1,47 @@
+//! A range that gives way to what an iterator yields.
+ghost use Rattle.std.specs.Iterator.Runs.{WholeRun};
+ghost use Rattle.std.specs.Iterator.{IsFinite};
+ghost use Rattle.std.specs.Prelude.{◌≡◌, ◌≤◌, ◌++◌, OnOk, drop, length, take};
+
+use std::alloc::{AllocError, Allocator};
+use thin_vec::{Growth, SpliceRefused, ThinVec};
+
+/// Puts what `iter` yields in the place of the items from `range.0` up to `range.1`. When it fails,
+/// what found no room is in the error.
+///
+/// A splice by an iterator that borrows, as that over a slice, is proved in a function like this
+/// one, which is generic in it.
+pub fn splice_by<T: Drop, A: Allocator, G: Growth, I: Iterator<Item = T>>(
+    list: &mut ThinVec<T, A, G>,
+    range: (usize, usize),
+    iter: I,
+    alloc: A,
+) -> Result<(), SpliceRefused<T, I, A>>
+    requires start_le_end { range.0 ≤ range.1 }
+    requires in_bounds { range.1 ≤ length list.old.items }
+    requires can_next { I.can_next iter }
+    requires finite { IsFinite (I.remaining iter) }
+    ensures runs { OnOk result
+        (WholeRun I.next_gives iter (λ p. list.new.items ≡ (take range.0 list.old.items ++ p.items)
+        ++ drop range.1 list.old.items)) }
+{
+    list.splice(range.0, range.1, iter).finish(alloc)
+}
+
+/// Puts the numbers in the place of the items from `start` up to `end`. When it fails, those that
+/// found no room are dropped.
+pub fn splice_numbers<A: Allocator, G: Growth>(
+    list: &mut ThinVec<u32, A, G>,
+    start: usize,
+    end: usize,
+    numbers: &[u32],
+    alloc: A,
+) -> Result<(), AllocError>
+    requires start_le_end { start ≤ end }
+    requires in_bounds { end ≤ length list.old.items }
+    ensures items { OnOk result (list.new.items ≡ (take start list.old.items ++ numbers.now)
+        ++ drop end list.old.items) }
+{
+    splice_by(list, (start, end), numbers.iter().copied(), alloc)?;
+    Ok(())
+}
