@@ -1,0 +1,134 @@
+-- How a change is taken back, and the texts that a list of changes makes, by its last one.
+use Rattle.std.proofs.Common.{◌≡◌, ℕ, zero, suc, ◌+◌, ◌-◌, ◌<◌, ◌≤◌, List, [], ◌∷◌, ◌++◌, length, take, drop, reverse, slice_range, refl, sym, ap, subst, ◌∙◌, arith, length-append, append_assoc}
+use Rattle.std.proofs.lemmas.List.{drop-drop, drop_at, length-drop, length-reverse, length-take-le, reverse-append, take-append-drop, take_at}
+use Rattle.std.specs.List.{replace_range}
+use Rattle.text_editor.specs.Changes.{AllFit, FitAlong, Fits, changed, texts_along, texts_of}
+use Rattle.text_editor.specs.declared.change.Change.{Change}
+
+-- a change by n characters, the text before and the one after it
+module _ (change : Change) (n : ℕ) (text new : List ℕ) (fits : Fits change text)
+    (count : n ≡ length change.characters.items) (made : new ≡ changed change text) where
+  -- what stands before what came in
+  short : length (take change.start text) ≡ change.start
+  short = length-take-le change.start text (omega (arith, fits.start_le_end, fits.in_bounds))
+
+  -- what came in lies in the new text
+  pub comes_in : change.start + n ≤ length new
+  comes_in =
+      let front : List ℕ = take change.start text in
+      let same : length new ≡ length (changed change text) = ap length made in
+      omega (arith, short, length-append (front ++ change.characters.items) (drop change.end text),
+      length-append front change.characters.items)
+
+  -- the characters that were replaced, in the place of those that replaced them
+  pub takes_back : (old : List ℕ) → old ≡ slice_range text change.start change.end
+      → text ≡ replace_range new change.start (change.start + n) old
+  takes_back old is =
+      let s : ℕ = change.start in
+      let e : ℕ = change.end in
+      let xs : List ℕ = change.characters.items in
+      let front : take s ((take s text ++ xs) ++ drop e text) ≡ take s text =
+          rw append_assoc (take_at (take s text) (xs ++ drop e text) s short) in
+      let behind : drop (s + n) ((take s text ++ xs) ++ drop e text) ≡ drop e text =
+          drop_at (take s text ++ xs) (drop e text) (s + n)
+          (omega (arith, short, length-append (take s text) xs)) in
+      let more : s + (e - s) ≡ e = omega (arith, fits.start_le_end) in
+      let rest : drop (e - s) (drop s text) ≡ drop e text =
+          drop-drop (e - s) s text ∙ ap (λ (k : ℕ). drop k text) more in
+      rw (made, is, front, behind, ← rest)
+      (sym (append_assoc (take s text) (take (e - s) (drop s text)) (drop (e - s) (drop s text))
+      ∙ (ap (λ (l : List ℕ). take s text ++ l) (take-append-drop (e - s) (drop s text))
+      ∙ take-append-drop s text)))
+
+-- changes with a last one, the text, and the text that the last change makes
+module _ (changes rest : List Change) (change : Change) (text after : List ℕ)
+    (is : changes ≡ rest ++ change ∷ []) (made : after ≡ changed change text) where
+  -- the last change comes first
+  turned : reverse changes ≡ change ∷ reverse rest
+  turned = ap (λ (cs : List Change). reverse cs) is ∙ reverse-append rest (change ∷ [])
+
+  -- its text comes first
+  pub texts_of-last : texts_of changes text ≡ after ∷ texts_of rest after
+  texts_of-last =
+      ap (λ (cs : List Change). texts_along cs text) turned
+      ∙ ap (λ (t : List ℕ). t ∷ texts_along (reverse rest) t) (sym made)
+
+  -- it fits
+  pub Fits-last : AllFit changes text → Fits change text
+  Fits-last all = (subst (λ (cs : List Change). FitAlong cs text) turned all).0
+
+  -- and after it the others
+  pub AllFit-rest : AllFit changes text → AllFit rest after
+  AllFit-rest all =
+      subst (λ (t : List ℕ). AllFit rest t) (sym made)
+      (subst (λ (cs : List Change). FitAlong cs text) turned all).1
+
+  -- and the other way round
+  pub AllFit-last : Fits change text → AllFit rest after → AllFit changes text
+  AllFit-last fits all =
+      subst (λ (cs : List Change). FitAlong cs text) (sym turned)
+      (fits, subst (λ (t : List ℕ). AllFit rest t) made all)
+
+nothing : (changes : List Change) → length changes ≡ 0 → changes ≡ []
+nothing [] e = refl
+nothing (change ∷ changes) e = absurd (omega arith)
+
+-- as many texts as changes
+length-texts_along : (changes : List Change) (text : List ℕ)
+    → length (texts_along changes text) ≡ length changes
+length-texts_along [] text = refl
+length-texts_along (change ∷ changes) text =
+    ap (λ (n : ℕ). suc n) (length-texts_along changes (changed change text))
+
+pub length-texts_of : (changes : List Change) (text : List ℕ)
+    → length (texts_of changes text) ≡ length changes
+length-texts_of changes text =
+    length-texts_along (reverse changes) text ∙ length-reverse changes
+
+-- the first changes make the first texts, and fit
+texts_along-take : (k : ℕ) (changes : List Change) (text : List ℕ)
+    → texts_along (take k changes) text ≡ take k (texts_along changes text)
+texts_along-take zero changes text = refl
+texts_along-take (suc k) [] text = refl
+texts_along-take (suc k) (change ∷ changes) text =
+    ap (λ (ts : List (List ℕ)). changed change text ∷ ts)
+    (texts_along-take k changes (changed change text))
+
+FitAlong-take : (k : ℕ) (changes : List Change) (text : List ℕ) → FitAlong changes text
+    → FitAlong (take k changes) text
+FitAlong-take zero changes text all = tt
+FitAlong-take (suc k) [] text all = tt
+FitAlong-take (suc k) (change ∷ changes) text all =
+    (all.0, FitAlong-take k changes (changed change text) all.1)
+
+-- without the first m changes, the first of the others reversed
+reverse-drop : (m : ℕ) (changes : List Change)
+    → reverse (drop m changes) ≡ take (length changes - m) (reverse changes)
+reverse-drop m changes =
+    let left : List Change = reverse (drop m changes) in
+    let whole : reverse changes ≡ left ++ reverse (take m changes) =
+        ap (λ (cs : List Change). reverse cs) (sym (take-append-drop m changes))
+        ∙ reverse-append (take m changes) (drop m changes) in
+    let count : length left ≡ length changes - m =
+        length-reverse (drop m changes) ∙ length-drop m changes in
+    rw whole (sym (take_at left (reverse (take m changes)) (length changes - m) count))
+
+-- changes whose first m are forgotten
+module _ (m : ℕ) (changes : List Change) (text : List ℕ) where
+  pub texts_of-drop : texts_of (drop m changes) text
+      ≡ take (length changes - m) (texts_of changes text)
+  texts_of-drop =
+      ap (λ (cs : List Change). texts_along cs text) (reverse-drop m changes)
+      ∙ texts_along-take (length changes - m) (reverse changes) text
+
+  pub AllFit-drop : AllFit changes text → AllFit (drop m changes) text
+  AllFit-drop all =
+      subst (λ (cs : List Change). FitAlong cs text) (sym (reverse-drop m changes))
+      (FitAlong-take (length changes - m) (reverse changes) text all)
+
+-- where there is no text, there is no change
+pub no_text : (changes : List Change) (text : List ℕ) → texts_of changes text ≡ []
+    → changes ≡ []
+no_text changes text none =
+    let counted : length (texts_of changes text) ≡ 0 = ap (λ (ts : List (List ℕ)). length ts) none in
+    nothing changes (omega (arith, length-texts_of changes text))

@@ -1,0 +1,41 @@
+-- What is put onto `back` takes the change back, and fits.
+use Rattle.std.proofs.Common.{◌≡◌, arith}
+use Rattle.text_editor.proofs.ChangesLemmas.{AllFit-last, comes_in, takes_back, texts_of-last}
+use Rattle.text_editor.specs.Changes.{changed}
+use Rattle.text_editor.proofs.change.Change.make.Goals as goal
+
+pub overflow_add-end : goal.overflow_add-end
+overflow_add-end c =
+    let new = c.in_ok-replace_range_from_copies.ensures in
+    omega (arith, new.within.1.room, new.within.1.small,
+    comes_in c.args.self.now c.len.result c.args.text.now.items _ c.requires.fits c.len.ensures.value
+    (cc (new.items, c.deref-2.ensures)))
+
+pub returns-clause-all_fit : goal.returns-clause-all_fit
+returns-clause-all_fit c =
+    let change = c.args.self.now in
+    let text = c.args.text.now.items in
+    let new = c.replace_range_from_copies.new.self.items in
+    let made : new ≡ changed change text =
+        cc (c.in_ok-replace_range_from_copies.ensures.items, c.deref-2.ensures) in
+    AllFit-last c.push_reserved.new.self.items c.args.back.now.items _ new text
+    (rw c.reserve.ensures.items at c.push_reserved.ensures.items)
+    (takes_back change c.len.result text new c.requires.fits c.len.ensures.value made _
+    (cc (c.in_ok-replaced.ensures.items, c.deref.ensures)))
+    (record {
+      start_le_end = omega arith;
+      in_bounds = comes_in change c.len.result text new c.requires.fits c.len.ensures.value made;
+    })
+    c.requires.all_fit
+
+pub returns-clause-texts : goal.returns-clause-texts
+returns-clause-texts c =
+    let change = c.args.self.now in
+    let text = c.args.text.now.items in
+    let new = c.replace_range_from_copies.new.self.items in
+    let made : new ≡ changed change text =
+        cc (c.in_ok-replace_range_from_copies.ensures.items, c.deref-2.ensures) in
+    texts_of-last c.push_reserved.new.self.items c.args.back.now.items _ new text
+    (rw c.reserve.ensures.items at c.push_reserved.ensures.items)
+    (takes_back change c.len.result text new c.requires.fits c.len.ensures.value made _
+    (cc (c.in_ok-replaced.ensures.items, c.deref.ensures)))

@@ -1,0 +1,31 @@
+-- What is left of the past is its first texts, as many as changes.
+use Rattle.std.proofs.Common.{◌≡◌, ℕ, ◌-◌, List, ap, arith, drop, length, rules, sym, take, ◌∙◌}
+use Rattle.std.proofs.lemmas.List.{take_all}
+use Rattle.text_editor.proofs.ChangesLemmas.{AllFit-drop, length-texts_of, texts_of-drop}
+use Rattle.text_editor.specs.Changes.{texts_of}
+use Rattle.text_editor.specs.History.{History}
+use Rattle.text_editor.proofs.editor.Editor.forget.Goals as goal
+
+pub invariant_of-self : goal.invariant_of-self
+invariant_of-self c =
+    let past = c.self.inside.past.items in
+    let kept : c.drop-drain.new.self.0.items ≡ drop (c.len-then-count-len.result - c.args.count) past = search rules in
+    (rw kept (AllFit-drop _ past _ c.self.invariant.0), c.self.invariant.1)
+
+pub returns-then-count-len-clause-past : goal.returns-then-count-len-clause-past
+returns-then-count-len-clause-past c =
+    let past = c.self.inside.past.items in
+    let text = c.self.inside.text.items in
+    let oldest = c.len-then-count-len.result - c.args.count in
+    let kept : c.drop-drain.new.self.0.items ≡ drop oldest past = search rules in
+    let left : length past - oldest ≡ c.args.count = omega arith in
+    rw kept
+    (texts_of-drop oldest past text
+    ∙ (ap (λ (k : ℕ). take k (texts_of past text)) left
+    ∙ ap (λ (h : History). take c.args.count h.past) c.self.view_is))
+
+pub returns-else-count-len-clause-past : goal.returns-else-count-len-clause-past
+returns-else-count-len-clause-past c =
+    let all = length-texts_of c.self.inside.past.items c.self.inside.text.items in
+    let same = ap (λ (h : History). length h.past) c.self.view_is in
+    sym (take_all c.args.count c.args.self.now.past (omega (arith, all, same)))

@@ -1,0 +1,150 @@
+//! The editor: a text, the changes that undo its edits, and those that redo them.
+ghost use Rattle.std.specs.Prelude.{◌≡◌, ◌↔◌, ◌⊎◌, ◌<◌, [], ◌∷◌, IsErrOf, OnErr, OnOk, length, take};
+ghost use Rattle.std.specs.List.{replace_range};
+ghost use Rattle.text_editor.specs.Changes.{AllFit, texts_of};
+ghost use Rattle.text_editor.specs.History.{IsNew};
+
+use crate::change::Change;
+use crate::edit_error::EditError;
+use std::alloc::Global;
+use std::marker::Model;
+use thin_vec::{ThinVec, ThinVecError};
+
+/// A text with the history of its edits.
+#[derive(Drop)]
+pub struct Editor {
+    text: ThinVec<char>,
+    past: ThinVec<Change>,
+    future: ThinVec<Change>,
+}
+
+impl Model for Editor {
+    ghost use Rattle.text_editor.specs.History.{History};
+
+    ghost Value = { History };
+
+    ghost use Rattle.text_editor.specs.Changes.{AllFit, texts_of};
+
+    ghost view = { λ e. record {
+      past = texts_of e.past.items e.text.items;
+      text = e.text.items;
+      future = texts_of e.future.items e.text.items;
+    } };
+
+    ghost invariant = { λ e. AllFit e.past.items e.text.items × AllFit e.future.items e.text.items };
+}
+
+impl Editor {
+    /// An empty text.
+    pub fn new(alloc: Global) -> Editor
+        ensures new { IsNew result }
+    {
+        Editor {
+            text: ThinVec::new(alloc),
+            past: ThinVec::new(alloc),
+            future: ThinVec::new(alloc),
+        }
+    }
+
+    /// The text's characters.
+    pub fn text(&self) -> &[char]
+        ensures value { result.now ≡ self.now.text }
+    {
+        self.text.as_slice()
+    }
+
+    /// Puts `characters` in the place of those from `start` up to `end`. What was undone can't be
+    /// redone any more.
+    pub fn replace(
+        &mut self,
+        start: usize,
+        end: usize,
+        characters: ThinVec<char>,
+    ) -> Result<(), EditError>
+        ensures out_of_bounds { IsErrOf result EditError.OutOfBounds
+            ↔ ((end < start) ⊎ (length self.old.text < end)) }
+        ensures text { OnOk result
+            (self.new.text ≡ replace_range self.old.text start end characters.items) }
+        ensures past { OnOk result (self.new.past ≡ self.old.text ∷ self.old.past) }
+        ensures future { OnOk result (self.new.future ≡ []) }
+        ensures err { OnErr result (self.new ≡ self.old) }
+    {
+        if end < start || self.text.len() < end {
+            return Err(EditError::OutOfBounds);
+        }
+        let change = Change {
+            start,
+            end,
+            characters,
+        };
+        change.make(&mut self.text, &mut self.past)?;
+        self.future.clear();
+        Ok(())
+    }
+
+    /// Takes the last edit back that was not undone.
+    pub fn undo(&mut self) -> Result<(), EditError>
+        ensures nothing { IsErrOf result EditError.NothingToUndo ↔ (self.old.past ≡ []) }
+        ensures text { OnOk result (self.old.past ≡ self.new.text ∷ self.new.past) }
+        ensures future { OnOk result (self.new.future ≡ self.old.text ∷ self.old.future) }
+        ensures err { OnErr result (self.new ≡ self.old) }
+    {
+        if self.past.is_empty() {
+            return Err(EditError::NothingToUndo);
+        }
+        step(&mut self.text, &mut self.past, &mut self.future)?;
+        Ok(())
+    }
+
+    /// Makes the edit again that was undone last.
+    pub fn redo(&mut self) -> Result<(), EditError>
+        ensures nothing { IsErrOf result EditError.NothingToRedo ↔ (self.old.future ≡ []) }
+        ensures text { OnOk result (self.old.future ≡ self.new.text ∷ self.new.future) }
+        ensures past { OnOk result (self.new.past ≡ self.old.text ∷ self.old.past) }
+        ensures err { OnErr result (self.new ≡ self.old) }
+    {
+        if self.future.is_empty() {
+            return Err(EditError::NothingToRedo);
+        }
+        step(&mut self.text, &mut self.future, &mut self.past)?;
+        Ok(())
+    }
+
+    /// Forgets the oldest edits, so that at most `count` can be undone.
+    pub fn forget(&mut self, count: usize)
+        ensures past { self.new.past ≡ take count self.old.past }
+        ensures text { self.new.text ≡ self.old.text }
+        ensures future { self.new.future ≡ self.old.future }
+    {
+        if count < self.past.len() {
+            self.past.drain(0, self.past.len() - count);
+        }
+    }
+}
+
+// Makes the last change of `from`, and puts the one that takes it back after those of `to`.
+fn step(
+    text: &mut ThinVec<char>,
+    from: &mut ThinVec<Change>,
+    to: &mut ThinVec<Change>,
+) -> Result<(), ThinVecError>
+    requires some { 0 < length from.old.items }
+    requires from_fit { AllFit from.old.items text.old.items }
+    requires to_fit { AllFit to.old.items text.old.items }
+    ensures texts { OnOk result (texts_of from.old.items text.old.items
+        ≡ text.new.items ∷ texts_of from.new.items text.new.items) }
+    ensures back { OnOk result (texts_of to.new.items text.new.items
+        ≡ text.old.items ∷ texts_of to.old.items text.old.items) }
+    ensures from_fit { OnOk result (AllFit from.new.items text.new.items) }
+    ensures to_fit { OnOk result (AllFit to.new.items text.new.items) }
+    ensures err { OnErr result (text.new ≡ text.old) }
+    ensures from_err { OnErr result (from.new.items ≡ from.old.items) }
+    ensures to_err { OnErr result (to.new.items ≡ to.old.items) }
+{
+    let change = from.pop().unwrap();
+    if let Err(cause) = change.make(text, to) {
+        from.push_reserved(change);
+        return Err(cause);
+    }
+    Ok(())
+}
