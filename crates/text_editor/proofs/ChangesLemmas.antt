@@ -53,17 +53,7 @@ module _ (changes rest : List Change) (change : Change) (text after : List ℕ)
       ap (λ (cs : List Change). texts_along cs text) turned
       ∙ ap (λ (t : List ℕ). t ∷ texts_along (reverse rest) t) (sym made)
 
-  -- it fits
-  pub Fits-last : AllFit changes text → Fits change text
-  Fits-last all = (subst (λ (cs : List Change). FitAlong cs text) turned all).0
-
-  -- and after it the others
-  pub AllFit-rest : AllFit changes text → AllFit rest after
-  AllFit-rest all =
-      subst (λ (t : List ℕ). AllFit rest t) (sym made)
-      (subst (λ (cs : List Change). FitAlong cs text) turned all).1
-
-  -- and the other way round
+  -- the changes fit where it fits, and after it the others
   pub AllFit-last : Fits change text → AllFit rest after → AllFit changes text
   AllFit-last fits all =
       subst (λ (cs : List Change). FitAlong cs text) (sym turned)

@@ -6,10 +6,11 @@ use Rattle.text_editor.proofs.change.Change.make.Goals as goal
 
 pub overflow_add-end : goal.overflow_add-end
 overflow_add-end c =
-    let new = c.in_ok-replace_range_from_copies.ensures in
-    omega (arith, new.within.1.room, new.within.1.small,
-    comes_in c.args.self.now c.len.result c.args.text.now.items _ c.requires.fits c.len.ensures.value
-    (cc (new.items, c.deref-2.ensures)))
+    let text = c.replace_range_from_copies.new.self.items in
+    let after = c.in_ok-replace_range_from_copies.ensures in
+    omega (arith, after.within.1.room, after.within.1.small,
+    comes_in c.args.self.now c.len.result c.args.text.now.items text c.requires.fits
+    c.len.ensures.value (cc (after.items, c.deref-2.ensures)))
 
 pub returns-clause-all_fit : goal.returns-clause-all_fit
 returns-clause-all_fit c =
