@@ -26,7 +26,7 @@ use crate::calls::copies::{CloneCopies, ExtendFromCopies, FromCopies};
 use crate::calls::ends::{
     Clear, Insert, InsertReserved, Pop, Push, PushReserved, Remove, SwapRemove, Truncate,
 };
-use crate::calls::filling::{Extend, FromIter};
+use crate::calls::filling::{Collect, Extend, ExtendAsTrait, FromIter};
 use crate::calls::filters::{Dedup, DedupBy, DedupByKey, Retain, RetainMut};
 use crate::calls::into_iter::{IntoIter, IntoIterClone};
 use crate::calls::joins::{Append, SplitOff};
@@ -113,13 +113,16 @@ pub fn every_reading<T: Sample, G: Ruled, R: Abort>(rt: &R, scope: &Scope) {
     sweep::<IntoIterClone, T, G, R>(rt, scope);
 }
 
-/// Sweeps the calls that make a list: under `Doubling` alone.
+/// Sweeps the calls that make a list, and the other of std's two that take an iterator: under
+/// `Doubling` alone.
 pub fn every_making<T: Sample, R: Abort>(rt: &R, scope: &Scope) {
     sweep::<New, T, Doubling, R>(rt, scope);
     sweep::<WithCapacity, T, Doubling, R>(rt, scope);
     sweep::<Repeated, T, Doubling, R>(rt, scope);
     sweep::<Listed, T, Doubling, R>(rt, scope);
     sweep::<FromIter, T, Doubling, R>(rt, scope);
+    sweep::<Collect, T, Doubling, R>(rt, scope);
+    sweep::<ExtendAsTrait, T, Doubling, R>(rt, scope);
     sweep::<FromSlice, T, Doubling, R>(rt, scope);
     sweep::<FromOthers, T, Doubling, R>(rt, scope);
 }

@@ -13,7 +13,7 @@ pub const SHAPES: usize = 110;
 /// How many of them are of at most 40 items.
 pub const SHORT: usize = 107;
 
-/// The number of one shape more: of 20,000 items.
+/// The number of one shape more: of 100,000 items.
 pub const LONGEST: usize = SHAPES;
 
 // How many further items: for a short list, for one of up to 40 items, for a long one, and for the
@@ -24,7 +24,7 @@ const SOME: [usize; 4] = [0, 1, 9, 50];
 
 const MANY: [usize; 2] = [1, 300];
 
-const MOST: [usize; 2] = [1, 20_000];
+const MOST: [usize; 2] = [1, 100_000];
 
 /// How many cases of a call on k items there are, by k, where each is tried: that is on at most 6
 /// items.
@@ -79,7 +79,7 @@ impl Shape {
                 spare: 0,
             },
             _ => Shape {
-                length: 20_000,
+                length: 100_000,
                 spare: 0,
             },
         }

@@ -240,6 +240,7 @@ fn a_full_row_makes_no_request_for_an_entry_that_is_there(rt: HostRuntime) {
     assert_set(&rt, &mut table, (0, 3), 8, Some(7));
     assert_removed(&rt, &mut table, (0, 0), Some(7));
     assert_removed(&rt, &mut table, (0, 9), None);
+    assert_value(&rt, &table, (0, 3), Some(8));
     assert_counts(&rt, &refusing, 0, 2);
     assert_entries(&rt, &table, 0, &[(1, 7), (2, 7), (3, 8)]);
 }

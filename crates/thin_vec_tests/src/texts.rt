@@ -2,9 +2,9 @@
 use crate::items::list_of;
 use crate::standing::{assert_len, assert_same, assert_text};
 use std::alloc::Global;
-use std::fmt::Debug;
+use std::fmt::{Debug, Display};
 use std::process::Abort;
-use thin_vec::ThinVec;
+use thin_vec::{CollectRefused, ExtendRefused, Rejected, SpliceRefused, ThinVec, ThinVecError};
 
 // Asserts the three texts of a value: in one line, in many, and with items of four digits.
 pub fn assert_texts<D: Debug>(rt: &impl Abort, alloc: Global, value: &D, texts: [&str; 3]) {
@@ -52,5 +52,56 @@ fn test_drain_debug(rt: HostRuntime) {
         alloc,
         &drain,
         ["Drain([2, 3])", lines, "Drain([0002, 0003])"],
+    );
+}
+
+// Asserts that a refusal is printed so, and tells its cause.
+fn assert_told<E: Debug + Display>(rt: &impl Abort, alloc: Global, refused: &E, line: &str) {
+    assert_text(rt, alloc, refused, line);
+    let told = format!(in alloc; "{refused}").expect(rt, "memory");
+    assert_same(rt, told.as_str(), "out of memory");
+}
+
+#[test]
+fn a_refusal_tells_its_cause(rt: HostRuntime) {
+    let alloc = rt.alloc();
+    let cause = ThinVecError::OutOfMemory;
+    let (value, in_hand, rest) = (1, Some(1), 2);
+    let rejected = Rejected { value, cause };
+    assert_told(&rt, alloc, &rejected, "Rejected { cause: OutOfMemory, .. }");
+    let extend = ExtendRefused {
+        cause,
+        in_hand,
+        rest,
+    };
+    assert_told(
+        &rt,
+        alloc,
+        &extend,
+        "ExtendRefused { cause: OutOfMemory, .. }",
+    );
+    let collect = CollectRefused {
+        list: list_of(&rt, alloc, &[1]),
+        cause,
+        in_hand,
+        rest,
+    };
+    assert_told(
+        &rt,
+        alloc,
+        &collect,
+        "CollectRefused { cause: OutOfMemory, .. }",
+    );
+    let splice = SpliceRefused {
+        cause,
+        held: Vec::new(alloc),
+        in_hand,
+        rest,
+    };
+    assert_told(
+        &rt,
+        alloc,
+        &splice,
+        "SpliceRefused { cause: OutOfMemory, .. }",
     );
 }

@@ -8,6 +8,7 @@ use crate::shapes::Shape;
 use crate::sweep::Call;
 use other_rules::ruled::Ruled;
 use std::alloc::Global;
+use std::iter;
 use std::process::Abort;
 use thin_vec::{Doubling, ThinVec};
 
@@ -177,15 +178,9 @@ impl<T: Sample, G: Ruled> Call<T, G> for Extend {
     }
 
     fn run<R: Abort>(rt: &R, case: &mut Case<T, G>, argument: usize) {
-        let shape = case.at.shape;
-        let count = shape.count(argument / HINTS);
-        let hint = hint::<T>(argument % HINTS, count, shape.length);
-        let hinted = case.ruled(hint);
-        if is_too_much::<T>(hinted, case.at.refused) {
+        let Some((claims, count, ending)) = extension(rt, case, argument) else {
             return;
-        }
-        let claims = claims(rt, case, count, hint);
-        let ending = fill(rt, case, hinted, count);
+        };
         case.begin();
         let answer = case.list.extend(claims);
         asked(rt, case, &ending);
@@ -199,6 +194,57 @@ impl<T: Sample, G: Ruled> Call<T, G> for Extend {
     }
 }
 
+/// As std's trait has it, which drops what it doesn't place.
+pub struct ExtendAsTrait {}
+
+impl<T: Sample, G: Ruled> Call<T, G> for ExtendAsTrait {
+    const NAME: &'static str = "extend of std";
+
+    fn arguments(shape: Shape) -> usize {
+        shape.counts().saturating_mul(HINTS)
+    }
+
+    fn run<R: Abort>(rt: &R, case: &mut Case<T, G>, argument: usize) {
+        let Some((claims, _count, ending)) = extension(rt, case, argument) else {
+            return;
+        };
+        case.begin();
+        let answer = iter::Extend::extend(&mut case.list, claims);
+        asked(rt, case, &ending);
+        done(rt, case, &ending, answer.is_ok());
+    }
+}
+
+// Asserts that a call of std's traits succeeded, where it had to.
+fn done<T: Sample, G: Ruled, R: Abort>(rt: &R, case: &Case<T, G>, ending: &Ending, is_done: bool) {
+    same(
+        rt,
+        &case.at,
+        "success",
+        is_done,
+        ending.verdict == Verdict::Done,
+    );
+}
+
+// What a list is extended by, how many items that are, and how it has to end: `None` where it would
+// take too much memory.
+fn extension<T: Sample, G: Ruled, R: Abort>(
+    rt: &R,
+    case: &mut Case<T, G>,
+    argument: usize,
+) -> Option<(Claims<T>, usize, Ending)> {
+    let shape = case.at.shape;
+    let count = shape.count(argument / HINTS);
+    let hint = hint::<T>(argument % HINTS, count, shape.length);
+    let hinted = case.ruled(hint);
+    if is_too_much::<T>(hinted, case.at.refused) {
+        return None;
+    }
+    let claims = claims(rt, case, count, hint);
+    let ending = fill(rt, case, hinted, count);
+    Some((claims, count, ending))
+}
+
 /// Of as many items as the shape has.
 pub struct FromIter {}
 
@@ -210,15 +256,9 @@ impl<T: Sample> Call<T, Doubling> for FromIter {
     }
 
     fn run<R: Abort>(rt: &R, case: &mut Case<T, Doubling>, argument: usize) {
-        let count = case.at.shape.length;
-        let hint = hint::<T>(argument, count, 0);
-        drop(case.take());
-        let hinted = case.exact(hint);
-        if is_too_much::<T>(hinted, case.at.refused) {
+        let Some((claims, ending)) = collection(rt, case, argument) else {
             return;
-        }
-        let claims = claims(rt, case, count, hint);
-        let ending = fill(rt, case, hinted, count);
+        };
         case.begin();
         match ThinVec::from_iter(&case.ledger.alloc, claims) {
             Ok(list) => {
@@ -229,9 +269,59 @@ impl<T: Sample> Call<T, Doubling> for FromIter {
             Err(refused) => {
                 asked(rt, case, &ending);
                 case.answered(rt, Err(refused.cause), ending.verdict);
+                let count = case.at.shape.length;
                 back(rt, case, &ending, count, refused.in_hand, refused.rest);
                 case.list = refused.list;
             }
         }
     }
+}
+
+/// `from_iter` by std's `collect`, which drops what it placed.
+pub struct Collect {}
+
+impl<T: Sample> Call<T, Doubling> for Collect {
+    const NAME: &'static str = "collect";
+
+    fn arguments(shape: Shape) -> usize {
+        shape.alone(HINTS)
+    }
+
+    fn run<R: Abort>(rt: &R, case: &mut Case<T, Doubling>, argument: usize) {
+        let Some((claims, ending)) = collection(rt, case, argument) else {
+            return;
+        };
+        case.begin();
+        match claims.collect(&case.ledger.alloc) {
+            Ok(list) => {
+                asked(rt, case, &ending);
+                done(rt, case, &ending, true);
+                case.list = list;
+            }
+            Err(_refused) => {
+                asked(rt, case, &ending);
+                done(rt, case, &ending, false);
+                drop(case.take());
+            }
+        }
+    }
+}
+
+// The items of the shape, as an iterator, and how a list that is made of them has to end: `None`
+// where it would take too much memory. The case has no list until then.
+fn collection<T: Sample, R: Abort>(
+    rt: &R,
+    case: &mut Case<T, Doubling>,
+    argument: usize,
+) -> Option<(Claims<T>, Ending)> {
+    let count = case.at.shape.length;
+    let hint = hint::<T>(argument, count, 0);
+    drop(case.take());
+    let hinted = case.exact(hint);
+    if is_too_much::<T>(hinted, case.at.refused) {
+        return None;
+    }
+    let claims = claims(rt, case, count, hint);
+    let ending = fill(rt, case, hinted, count);
+    Some((claims, ending))
 }

@@ -39,7 +39,9 @@ pub fn row_9<A: Allocator + Copy>(alloc: A) -> Outcome {
         *item = item.wrapping_add(1);
         *item == 3
     });
+    checks.same(extract.size_hint(), (0, Some(4)));
     checks.same(extract.next(), Some(3));
+    checks.same(extract.size_hint(), (0, Some(2)));
     drop(extract);
     checks.holds(&list, &[2, 3, 4], 4);
     Ok(checks)

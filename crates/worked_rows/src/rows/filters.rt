@@ -53,5 +53,7 @@ pub fn row_34<A: Allocator + Copy>(alloc: A) -> Outcome {
     let mut digits = listed(alloc, [1, 2, 2, 3, 2])?;
     digits.dedup();
     checks.holds(&digits, &[1, 2, 3, 2], 5);
+    checks.same(tens.pop(), Some(20));
+    checks.same(digits.pop(), Some(2));
     Ok(checks)
 }

@@ -51,6 +51,8 @@ fn check_entries<A: Allocator>(
     entries: &[(usize, char)],
     owns_block: bool,
 ) {
+    checks.same(table.rows(), 3);
+    checks.same(table.len(), entries.len());
     if table.rows() == 3 {
         checks.items(table.row(1), entries);
         checks.same(table.owns_block(1), owns_block);

@@ -103,6 +103,7 @@ pub fn row_19<A: Allocator + Copy>(alloc: A) -> Outcome {
     checks.holds(&list, &[(), (), ()], 4);
     insert(&mut list, 1, ())?;
     checks.holds(&list, &[(), (), (), ()], 4);
+    checks.same(list.pop(), Some(()));
     Ok(checks)
 }
 
@@ -113,11 +114,14 @@ pub fn row_23<A: Allocator + Copy>(alloc: A) -> Outcome {
         list.push(item)?;
     }
     checks.holds(&list, &[1, 2, 3], 10);
+    checks.is(list.has_capacity());
     list.shrink_to_fit()?;
     checks.holds(&list, &[1, 2, 3], 3);
     list.clear();
     checks.holds(&list, &[], 3);
+    checks.is(list.has_capacity());
     list.shrink_to_fit()?;
     checks.same(list.capacity(), 0);
+    checks.is(!list.has_capacity());
     Ok(checks)
 }
