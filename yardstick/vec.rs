@@ -21,40 +21,58 @@ fn asked(line: &str) -> Option<u64> {
 
 fn named(workload: &str) -> Option<fn(usize, usize) -> u64> {
     Some(match workload {
-        "push" => push,
-        "push_few" => push_few,
+        "push" => |size, times| push(size, times, in_turn),
+        "push_few" => |size, times| push(size, times, |number| number as u64 ^ 5),
+        "push_triples" => |size, times| push(size, times, triple),
+        "push_wide" => |size, times| push(size, times, wide),
+        "push_strings" => |size, times| push(size, times, |_number| String::from("a word of some length")),
         "push_reserved" => push_reserved,
         "push_pop" => push_pop,
         "extend_hinted" => extend_hinted,
         "extend_unhinted" => extend_unhinted,
+        "extend_filter" => extend_filter,
+        "collect_few" => collect,
         "extend_slice" => extend_slice,
         "extend_sixteen" => extend_sixteen,
         "resize" => resize,
         "clone" => clone,
         "write_five" => write_five,
         "into_iter" => into_iter,
-        "refill" => refill_alone,
+        "refill" => |size, times| refill_alone(size, times, in_turn),
+        "refill_pairs" => |size, times| refill_alone(size, times, half),
+        "refill_wide" => |size, times| refill_alone(size, times, wide),
         "insert_front" => insert_front,
-        "remove_front" => remove_front,
+        "remove_front" => |size, times| remove(size, times, |_len| 0),
+        "remove_middle" => |size, times| remove(size, times, |len| len / 2),
         "swap_remove" => swap_remove,
         "split_append" => split_append,
         "drain" => drain,
+        "drain_two" => drain_few::<0, 2>,
+        "drain_ten" => drain_few::<0, 10>,
+        "drain_inner" => drain_few::<3, 5>,
+        "splice_two" => splice_few::<3, 5, 2>,
+        "splice_away" => splice_few::<5, 7, 1>,
         "splice_hinted" => splice_hinted,
         "splice_unhinted" => splice_unhinted,
-        "retain_half" => |size, times| retain(size, times, is_even),
-        "retain_random" => |size, times| retain(size, times, is_random),
-        "retain_but_one" => |size, times| retain(size, times, is_not_one),
-        "retain_runs" => |size, times| retain(size, times, is_in_a_run),
-        "wide_refill" => wide_refill,
-        "wide_half" => |size, times| retain_wide(size, times, is_even),
-        "wide_random" => |size, times| retain_wide(size, times, is_random),
-        "wide_but_one" => |size, times| retain_wide(size, times, is_not_one),
-        "wide_runs" => |size, times| retain_wide(size, times, is_in_a_run),
+        "retain_half" => |size, times| retain(size, times, in_turn, is_even),
+        "retain_random" => |size, times| retain(size, times, in_turn, is_random),
+        "retain_three" => |size, times| retain(size, times, in_turn, |number| number & 3 != 0),
+        "retain_but_one" => |size, times| retain(size, times, in_turn, is_not_one),
+        "retain_runs" => |size, times| retain(size, times, in_turn, is_in_a_run),
+        "retain_all" => |size, times| retain(size, times, in_turn, |number| number < 1_000_000),
+        "retain_none" => |size, times| retain(size, times, in_turn, |number| number > 1_000_000),
+        "wide_half" => |size, times| retain(size, times, wide, is_even),
+        "wide_random" => |size, times| retain(size, times, wide, is_random),
+        "wide_but_one" => |size, times| retain(size, times, wide, is_not_one),
+        "wide_runs" => |size, times| retain(size, times, wide, is_in_a_run),
+        "dedup" => dedup,
         "dedup_by_key" => dedup_by_key,
         "extract_if" => |size, times| extract(size, times, is_even),
         "extract_random" => |size, times| extract(size, times, is_random),
         "empty_lists" => empty_lists,
         "sparse_lists" => sparse_lists,
+        "styles" => styles,
+        "undo" => undo,
         "tree" => tree,
         _ => return None,
     })
@@ -64,23 +82,68 @@ fn mixed(sum: u64, number: u64) -> u64 {
     sum.wrapping_mul(31).wrapping_add(number)
 }
 
-// The item in the middle, or 0, and the length.
-fn seen(items: &[u64]) -> u64 {
-    let middle = items.get(items.len() / 2).copied().unwrap_or(0);
-    middle.wrapping_add(items.len() as u64)
+// What tells an item from others.
+trait Item {
+    fn number(&self) -> u64;
 }
 
-fn seen_wide(items: &[Wide]) -> u64 {
-    items.get(items.len() / 2).map_or(0, |item| item.number.wrapping_add(items.len() as u64))
+// The number of the item in the middle, or 0, and the length.
+fn seen<T: Item>(items: &[T]) -> u64 {
+    let middle = items.get(items.len() / 2).map_or(0, |item| item.number());
+    middle.wrapping_add(items.len() as u64)
 }
 
 const SIXTEEN: [u64; 16] = [7; 16];
 
+// An item of 24 bytes.
+struct Triple(u64, u64, u64);
+
 // An item of 320 bytes.
-#[derive(Clone, Copy)]
 struct Wide {
     number: u64,
     _rest: [u64; 39],
+}
+
+impl Item for u64 {
+    fn number(&self) -> u64 {
+        *self
+    }
+}
+
+impl Item for Triple {
+    fn number(&self) -> u64 {
+        self.0 ^ self.1 ^ self.2
+    }
+}
+
+impl Item for Wide {
+    fn number(&self) -> u64 {
+        self.number
+    }
+}
+
+impl Item for String {
+    fn number(&self) -> u64 {
+        self.len() as u64
+    }
+}
+
+fn in_turn(number: usize) -> u64 {
+    number as u64
+}
+
+fn half(number: usize) -> u64 {
+    number as u64 / 2
+}
+
+fn triple(number: usize) -> Triple {
+    let number = number as u64;
+    Triple(number, number ^ 1, number ^ 2)
+}
+
+fn wide(number: usize) -> Wide {
+    let number = number as u64;
+    Wide { number, _rest: [number; 39] }
 }
 
 // The numbers from `next` up to `end`, of which nothing is known beforehand.
@@ -131,18 +194,10 @@ fn filled(size: usize) -> Vec<u64> {
 }
 
 #[inline(never)]
-fn refill(list: &mut Vec<u64>, size: usize) {
+fn refill<T>(list: &mut Vec<T>, size: usize, item: impl Fn(usize) -> T) {
     list.clear();
     for number in 0..size {
-        list.push(number as u64);
-    }
-}
-
-#[inline(never)]
-fn refill_wide(list: &mut Vec<Wide>, size: usize) {
-    list.clear();
-    for number in 0..size as u64 {
-        list.push(Wide { number, _rest: [number; 39] });
+        list.push(item(number));
     }
 }
 
@@ -152,23 +207,12 @@ fn sum_of(times: usize, mut run: impl FnMut() -> u64) -> u64 {
     (0..times).fold(0, |sum, _| mixed(sum, run()))
 }
 
-#[inline(never)]
-fn push(size: usize, times: usize) -> u64 {
+#[inline(always)]
+fn push<T: Item>(size: usize, times: usize, item: impl Fn(usize) -> T) -> u64 {
     sum_of(times, || {
         let mut list = Vec::new();
         for number in 0..size {
-            list.push(number as u64);
-        }
-        seen(&list)
-    })
-}
-
-#[inline(never)]
-fn push_few(size: usize, times: usize) -> u64 {
-    sum_of(times, || {
-        let mut list = Vec::new();
-        for number in 0..size {
-            list.push(number as u64 ^ 5);
+            list.push(item(number));
         }
         seen(&list)
     })
@@ -218,6 +262,21 @@ fn extend_unhinted(size: usize, times: usize) -> u64 {
         list.extend(unhinted_below(size));
         seen(&list)
     })
+}
+
+#[inline(never)]
+fn extend_filter(size: usize, times: usize) -> u64 {
+    let source = filled(size);
+    sum_of(times, || {
+        let mut list = Vec::new();
+        list.extend(source.iter().copied().filter(|number| *number & 1 == 0));
+        seen(&list)
+    })
+}
+
+#[inline(never)]
+fn collect(size: usize, times: usize) -> u64 {
+    sum_of(times, || seen(&(0..size).map(|number| number as u64).collect::<Vec<u64>>()))
 }
 
 #[inline(never)]
@@ -282,18 +341,23 @@ fn into_iter(size: usize, times: usize) -> u64 {
 
 // The same of a list that is filled anew each time.
 #[inline(always)]
-fn sum_of_refilled(size: usize, times: usize, mut edit: impl FnMut(&mut Vec<u64>)) -> u64 {
-    let mut list = filled(size);
+fn sum_of_refilled<T: Item>(
+    size: usize,
+    times: usize,
+    item: impl Fn(usize) -> T,
+    mut edit: impl FnMut(&mut Vec<T>),
+) -> u64 {
+    let mut list = Vec::with_capacity(size);
     sum_of(times, || {
-        refill(&mut list, size);
+        refill(&mut list, size, &item);
         edit(&mut list);
         seen(&list)
     })
 }
 
-#[inline(never)]
-fn refill_alone(size: usize, times: usize) -> u64 {
-    sum_of_refilled(size, times, |_list| ())
+#[inline(always)]
+fn refill_alone<T: Item>(size: usize, times: usize, item: impl Fn(usize) -> T) -> u64 {
+    sum_of_refilled(size, times, item, |_list| ())
 }
 
 #[inline(never)]
@@ -309,15 +373,16 @@ fn insert_front(size: usize, times: usize) -> u64 {
     mixed(sum, seen(&list))
 }
 
-#[inline(never)]
-fn remove_front(size: usize, times: usize) -> u64 {
+#[inline(always)]
+fn remove(size: usize, times: usize, index: impl Fn(usize) -> usize) -> u64 {
     let mut list = filled(size);
     let mut sum = 0;
     for _ in 0..times {
-        if !list.is_empty() {
-            let first = list.remove(0);
-            sum = mixed(sum, first);
-            list.push(first.wrapping_add(1));
+        let index = index(list.len());
+        if index < list.len() {
+            let number = list.remove(index);
+            sum = mixed(sum, number);
+            list.push(number.wrapping_add(1));
         }
     }
     mixed(sum, seen(&list))
@@ -328,7 +393,7 @@ fn swap_remove(size: usize, times: usize) -> u64 {
     let mut list = filled(size);
     let mut sum = 0;
     for _ in 0..times {
-        refill(&mut list, size);
+        refill(&mut list, size, in_turn);
         for _ in 0..size {
             let len = list.len();
             if len > 0 {
@@ -354,7 +419,7 @@ fn drain(size: usize, times: usize) -> u64 {
     let mut list = filled(size);
     let mut sum = 0;
     for _ in 0..times {
-        refill(&mut list, size);
+        refill(&mut list, size, in_turn);
         let start = list.len() / 4;
         for number in list.drain(start..list.len() - start) {
             sum = mixed(sum, number);
@@ -365,8 +430,39 @@ fn drain(size: usize, times: usize) -> u64 {
 }
 
 #[inline(never)]
+fn drain_few<const START: usize, const END: usize>(size: usize, times: usize) -> u64 {
+    let mut list = filled(size);
+    let mut sum = 0;
+    for number in 0..times {
+        if END <= list.len() {
+            for number in list.drain(START..END) {
+                sum = mixed(sum, number);
+            }
+        }
+        for more in START..END {
+            list.push(number.wrapping_add(more) as u64);
+        }
+    }
+    mixed(sum, seen(&list))
+}
+
+#[inline(never)]
+fn splice_few<const START: usize, const END: usize, const COUNT: usize>(size: usize, times: usize) -> u64 {
+    let mut list = filled(size);
+    for first in 0..times {
+        if END <= list.len() {
+            drop(list.splice(START..END, (0..COUNT).map(|number| number.wrapping_add(first) as u64)));
+        }
+        for _ in COUNT..2 {
+            list.push(3);
+        }
+    }
+    seen(&list)
+}
+
+#[inline(never)]
 fn splice_hinted(size: usize, times: usize) -> u64 {
-    sum_of_refilled(size, times, |list| {
+    sum_of_refilled(size, times, in_turn, |list| {
         let start = list.len() / 4;
         drop(list.splice(start..list.len() - start, (0..size).map(|number| number as u64)));
     })
@@ -374,39 +470,25 @@ fn splice_hinted(size: usize, times: usize) -> u64 {
 
 #[inline(never)]
 fn splice_unhinted(size: usize, times: usize) -> u64 {
-    sum_of_refilled(size, times, |list| {
+    sum_of_refilled(size, times, in_turn, |list| {
         let start = list.len() / 4;
         drop(list.splice(start..list.len() - start, unhinted_below(size)));
     })
 }
 
 #[inline(always)]
-fn retain(size: usize, times: usize, keep: impl Fn(u64) -> bool) -> u64 {
-    sum_of_refilled(size, times, |list| list.retain(|number| keep(*number)))
-}
-
-#[inline(always)]
-fn retain_wide(size: usize, times: usize, keep: impl Fn(u64) -> bool) -> u64 {
-    let mut list = Vec::with_capacity(size);
-    sum_of(times, || {
-        refill_wide(&mut list, size);
-        list.retain(|item| keep(item.number));
-        seen_wide(&list)
-    })
+fn retain<T: Item>(size: usize, times: usize, item: impl Fn(usize) -> T, keep: impl Fn(u64) -> bool) -> u64 {
+    sum_of_refilled(size, times, item, |list| list.retain(|item| keep(item.number())))
 }
 
 #[inline(never)]
-fn wide_refill(size: usize, times: usize) -> u64 {
-    let mut list = Vec::with_capacity(size);
-    sum_of(times, || {
-        refill_wide(&mut list, size);
-        seen_wide(&list)
-    })
+fn dedup(size: usize, times: usize) -> u64 {
+    sum_of_refilled(size, times, half, |list| list.dedup())
 }
 
 #[inline(never)]
 fn dedup_by_key(size: usize, times: usize) -> u64 {
-    sum_of_refilled(size, times, |list| list.dedup_by_key(|number| *number >> 1))
+    sum_of_refilled(size, times, in_turn, |list| list.dedup_by_key(|number| *number >> 1))
 }
 
 #[inline(always)]
@@ -414,7 +496,7 @@ fn extract(size: usize, times: usize, take: impl Fn(u64) -> bool) -> u64 {
     let mut list = filled(size);
     let mut sum = 0;
     for _ in 0..times {
-        refill(&mut list, size);
+        refill(&mut list, size, in_turn);
         for number in list.extract_if(.., |number| take(*number)) {
             sum = mixed(sum, number);
         }
@@ -458,6 +540,60 @@ fn items_of(lists: &Vec<Vec<u64>>) -> u64 {
         for number in list {
             sum = sum.wrapping_add(*number);
         }
+    }
+    sum
+}
+
+#[inline(never)]
+fn styles(size: usize, times: usize) -> u64 {
+    sum_of(times, || {
+        let mut styles = Vec::new();
+        for number in 0..size {
+            styles.push(style(number));
+        }
+        repeated(&styles)
+    })
+}
+
+fn style(number: usize) -> Vec<u32> {
+    let mut style = Vec::new();
+    for rule in 0..number & 3 {
+        style.push(rule as u32);
+    }
+    if number & 7 == 7 {
+        style.insert(0, 9);
+    }
+    style
+}
+
+// How many styles are equal to the one before.
+fn repeated(styles: &[Vec<u32>]) -> u64 {
+    let mut same = 0u64;
+    for at in 1..styles.len() {
+        if styles[at] == styles[at - 1] {
+            same = same.wrapping_add(1);
+        }
+    }
+    same
+}
+
+#[inline(never)]
+fn undo(size: usize, times: usize) -> u64 {
+    let mut steps: Vec<Vec<u8>> = Vec::new();
+    let mut sum = 0;
+    for _ in 0..times {
+        for number in 0..size {
+            let mut step = Vec::new();
+            step.push(number as u8);
+            step.push(1);
+            steps.push(step);
+            if number % 5 == 4
+                && let Some(undone) = steps.pop()
+            {
+                sum = mixed(sum, undone.len() as u64);
+            }
+        }
+        steps.clear();
     }
     sum
 }

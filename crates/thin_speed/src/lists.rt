@@ -4,21 +4,31 @@
 mod kit;
 mod thin;
 
-use crate::numbers::{Outcome, Pick, Wide};
+use crate::numbers::{Outcome, Pick, Triple, Wide};
 pub use kit::Kit;
 use std::alloc::{AllocError, Global};
 use std::io::Write;
 pub use thin::Thin;
 
-/// The lists of one kind: of numbers, of wide items, of bytes and of lists.
+/// The lists of one kind, by what they hold.
 pub trait Family {
     type Numbers: Numbers;
 
+    type Triples: List<Triple>;
+
     type Wides: List<Wide>;
+
+    type Strings: List<String>;
 
     type Bytes: List<u8> + Write;
 
     type Lists: List<Self::Numbers>;
+
+    type Style: List<u32>;
+
+    type Styles: List<Self::Style>;
+
+    type Steps: List<Self::Bytes>;
 
     /// Builds a tree so deep, with ten children a node. Returns the sum of the depths of its nodes.
     fn tree(alloc: Global, depth: usize) -> Outcome;
@@ -32,6 +42,11 @@ pub trait List<T: Drop>: Drop {
 
     fn push(&mut self, value: T) -> Result<(), AllocError>;
 
+    fn pop(&mut self) -> Option<T>;
+
+    /// Inserts at the front.
+    fn insert_first(&mut self, value: T) -> Result<(), AllocError>;
+
     fn clear(&mut self);
 
     fn as_slice(&self) -> &[T];
@@ -42,22 +57,23 @@ pub trait List<T: Drop>: Drop {
 
 /// A list of numbers.
 pub trait Numbers: List<u64> {
-    fn pop(&mut self) -> Option<u64>;
-
-    /// Inserts at the front.
-    fn insert_first(&mut self, value: u64) -> Result<(), AllocError>;
-
-    /// Removes the first item, if there is one.
-    fn remove_first(&mut self) -> Option<u64>;
+    /// Removes the item at `index`, if there is one.
+    fn remove_at(&mut self, index: usize) -> Option<u64>;
 
     /// Removes the item in the middle by `swap_remove`, if there is one.
     fn remove_middle(&mut self) -> Option<u64>;
+
+    /// A list of the numbers below `end`, by `from_iter`.
+    fn collected(alloc: Global, end: usize) -> Result<Self, AllocError>;
 
     /// Extends by the numbers below `end`. The iterator knows how many they are.
     fn extend_hinted(&mut self, end: usize) -> Result<(), AllocError>;
 
     /// The same where the iterator knows nothing.
     fn extend_unhinted(&mut self, end: usize) -> Result<(), AllocError>;
+
+    /// Extends by those of the items that are even, by a filter.
+    fn extend_filtered(&mut self, items: &[u64]) -> Result<(), AllocError>;
 
     /// Extends by copies of the items.
     fn extend_from_copies(&mut self, items: &[u64]) -> Result<(), AllocError>;
@@ -70,15 +86,26 @@ pub trait Numbers: List<u64> {
     /// Splits the second half off, and appends it again.
     fn split_and_append(&mut self, alloc: Global) -> Result<(), AllocError>;
 
-    /// Drains the middle half, and mixes each item into the sum.
-    fn drain_middle(&mut self, sum: u64) -> u64;
+    /// Drains the items from `start` up to `end`, if there are so many, and mixes each into the
+    /// sum.
+    fn drain_range(&mut self, start: usize, end: usize, sum: u64) -> u64;
 
-    /// Splices the numbers below `end` into the place of the middle half. The iterator knows how
-    /// many they are.
-    fn splice_hinted(&mut self, alloc: Global, end: usize) -> Result<(), AllocError>;
+    /// Splices `count` numbers from `first` on into the place of the items from `start` up to
+    /// `end`, if there are so many. The iterator knows how many it has.
+    fn splice_hinted(
+        &mut self,
+        alloc: Global,
+        start: usize,
+        end: usize,
+        first: usize,
+        count: usize,
+    ) -> Result<(), AllocError>;
 
-    /// The same where the iterator knows nothing.
+    /// Splices the numbers below `end` into the place of the middle half. The iterator doesn't
+    /// know how many they are.
     fn splice_unhinted(&mut self, alloc: Global, end: usize) -> Result<(), AllocError>;
+
+    fn dedup(&mut self);
 
     /// Keeps the first of equal halves, by `dedup_by_key`.
     fn dedup_halves(&mut self);

@@ -1,6 +1,6 @@
 //! The kit's `Vec`.
 use crate::lists::{Family, List, Numbers};
-use crate::numbers::{Outcome, Pick, Unhinted, Wide, mixed};
+use crate::numbers::{Outcome, Pick, Triple, Unhinted, Wide, mixed};
 use std::alloc::{AllocError, Global};
 
 /// The kit's `Vec`s.
@@ -9,11 +9,21 @@ pub struct Kit;
 impl Family for Kit {
     type Numbers = Vec<u64>;
 
+    type Triples = Vec<Triple>;
+
     type Wides = Vec<Wide>;
+
+    type Strings = Vec<String>;
 
     type Bytes = Vec<u8>;
 
     type Lists = Vec<Vec<u64>>;
+
+    type Style = Vec<u32>;
+
+    type Styles = Vec<Vec<u32>>;
+
+    type Steps = Vec<Vec<u8>>;
 
     #[inline(always)]
     fn tree(alloc: Global, depth: usize) -> Outcome {
@@ -38,6 +48,16 @@ impl<T: Drop> List<T> for Vec<T> {
     }
 
     #[inline(always)]
+    fn pop(&mut self) -> Option<T> {
+        Vec::pop(self)
+    }
+
+    #[inline(always)]
+    fn insert_first(&mut self, value: T) -> Result<(), AllocError> {
+        Ok(self.insert(0, value)?)
+    }
+
+    #[inline(always)]
     fn clear(&mut self) {
         Vec::clear(self);
     }
@@ -55,21 +75,11 @@ impl<T: Drop> List<T> for Vec<T> {
 
 impl Numbers for Vec<u64> {
     #[inline(always)]
-    fn pop(&mut self) -> Option<u64> {
-        Vec::pop(self)
-    }
-
-    #[inline(always)]
-    fn insert_first(&mut self, value: u64) -> Result<(), AllocError> {
-        Ok(self.insert(0, value)?)
-    }
-
-    #[inline(always)]
-    fn remove_first(&mut self) -> Option<u64> {
-        if self.is_empty() {
+    fn remove_at(&mut self, index: usize) -> Option<u64> {
+        if index >= self.len() {
             return None;
         }
-        Some(self.remove(0))
+        Some(self.remove(index))
     }
 
     #[inline(always)]
@@ -82,6 +92,12 @@ impl Numbers for Vec<u64> {
     }
 
     #[inline(always)]
+    fn collected(alloc: Global, end: usize) -> Result<Vec<u64>, AllocError> {
+        let numbers = (0..end).map(|number| number as u64);
+        numbers.collect::<Vec<u64>>(alloc)
+    }
+
+    #[inline(always)]
     fn extend_hinted(&mut self, end: usize) -> Result<(), AllocError> {
         Ok(self.extend((0..end).map(|number| number as u64))?)
     }
@@ -89,6 +105,12 @@ impl Numbers for Vec<u64> {
     #[inline(always)]
     fn extend_unhinted(&mut self, end: usize) -> Result<(), AllocError> {
         Ok(self.extend(Unhinted::below(end))?)
+    }
+
+    #[inline(always)]
+    fn extend_filtered(&mut self, items: &[u64]) -> Result<(), AllocError> {
+        let even = items.iter().copied().filter(|number| *number & 1 == 0);
+        Ok(self.extend(even)?)
     }
 
     #[inline(always)]
@@ -113,21 +135,30 @@ impl Numbers for Vec<u64> {
     }
 
     #[inline(always)]
-    fn drain_middle(&mut self, sum: u64) -> u64 {
-        let start = self.len() / 4;
-        let end = self.len() - start;
+    fn drain_range(&mut self, start: usize, end: usize, sum: u64) -> u64 {
         let mut sum = sum;
-        for number in self.drain(start..end) {
-            sum = mixed(sum, number);
+        if start <= end && end <= self.len() {
+            for number in self.drain(start..end) {
+                sum = mixed(sum, number);
+            }
         }
         sum
     }
 
     #[inline(always)]
-    fn splice_hinted(&mut self, _alloc: Global, end: usize) -> Result<(), AllocError> {
-        let start = self.len() / 4;
-        let stop = self.len() - start;
-        drop(self.splice(start..stop, (0..end).map(|number| number as u64))?);
+    fn splice_hinted(
+        &mut self,
+        _alloc: Global,
+        start: usize,
+        end: usize,
+        first: usize,
+        count: usize,
+    ) -> Result<(), AllocError> {
+        if start > end || end > self.len() {
+            return Ok(());
+        }
+        let numbers = (0..count).map(move |number| number.wrapping_add(first) as u64);
+        drop(self.splice(start..end, numbers)?);
         Ok(())
     }
 
@@ -137,6 +168,11 @@ impl Numbers for Vec<u64> {
         let stop = self.len() - start;
         drop(self.splice(start..stop, Unhinted::below(end))?);
         Ok(())
+    }
+
+    #[inline(always)]
+    fn dedup(&mut self) {
+        Vec::dedup(self);
     }
 
     #[inline(always)]

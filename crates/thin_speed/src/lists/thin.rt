@@ -1,6 +1,6 @@
 //! `ThinVec`.
 use crate::lists::{Family, List, Numbers};
-use crate::numbers::{Outcome, Pick, Unhinted, Wide, mixed};
+use crate::numbers::{Outcome, Pick, Triple, Unhinted, Wide, mixed};
 use std::alloc::{AllocError, Global};
 use thin_vec::ThinVec;
 
@@ -10,11 +10,21 @@ pub struct Thin;
 impl Family for Thin {
     type Numbers = ThinVec<u64>;
 
+    type Triples = ThinVec<Triple>;
+
     type Wides = ThinVec<Wide>;
+
+    type Strings = ThinVec<String>;
 
     type Bytes = ThinVec<u8>;
 
     type Lists = ThinVec<ThinVec<u64>>;
+
+    type Style = ThinVec<u32>;
+
+    type Styles = ThinVec<ThinVec<u32>>;
+
+    type Steps = ThinVec<ThinVec<u8>>;
 
     #[inline(always)]
     fn tree(alloc: Global, depth: usize) -> Outcome {
@@ -39,6 +49,16 @@ impl<T: Drop> List<T> for ThinVec<T> {
     }
 
     #[inline(always)]
+    fn pop(&mut self) -> Option<T> {
+        ThinVec::pop(self)
+    }
+
+    #[inline(always)]
+    fn insert_first(&mut self, value: T) -> Result<(), AllocError> {
+        Ok(self.insert(0, value)?)
+    }
+
+    #[inline(always)]
     fn clear(&mut self) {
         ThinVec::clear(self);
     }
@@ -56,21 +76,11 @@ impl<T: Drop> List<T> for ThinVec<T> {
 
 impl Numbers for ThinVec<u64> {
     #[inline(always)]
-    fn pop(&mut self) -> Option<u64> {
-        ThinVec::pop(self)
-    }
-
-    #[inline(always)]
-    fn insert_first(&mut self, value: u64) -> Result<(), AllocError> {
-        Ok(self.insert(0, value)?)
-    }
-
-    #[inline(always)]
-    fn remove_first(&mut self) -> Option<u64> {
-        if self.is_empty() {
+    fn remove_at(&mut self, index: usize) -> Option<u64> {
+        if index >= self.len() {
             return None;
         }
-        Some(self.remove(0))
+        Some(self.remove(index))
     }
 
     #[inline(always)]
@@ -83,6 +93,12 @@ impl Numbers for ThinVec<u64> {
     }
 
     #[inline(always)]
+    fn collected(alloc: Global, end: usize) -> Result<ThinVec<u64>, AllocError> {
+        let numbers = (0..end).map(|number| number as u64);
+        Ok(ThinVec::from_iter(alloc, numbers)?)
+    }
+
+    #[inline(always)]
     fn extend_hinted(&mut self, end: usize) -> Result<(), AllocError> {
         Ok(self.extend((0..end).map(|number| number as u64))?)
     }
@@ -90,6 +106,12 @@ impl Numbers for ThinVec<u64> {
     #[inline(always)]
     fn extend_unhinted(&mut self, end: usize) -> Result<(), AllocError> {
         Ok(self.extend(Unhinted::below(end))?)
+    }
+
+    #[inline(always)]
+    fn extend_filtered(&mut self, items: &[u64]) -> Result<(), AllocError> {
+        let even = items.iter().copied().filter(|number| *number & 1 == 0);
+        Ok(self.extend(even)?)
     }
 
     #[inline(always)]
@@ -114,22 +136,30 @@ impl Numbers for ThinVec<u64> {
     }
 
     #[inline(always)]
-    fn drain_middle(&mut self, sum: u64) -> u64 {
-        let start = self.len() / 4;
-        let end = self.len() - start;
+    fn drain_range(&mut self, start: usize, end: usize, sum: u64) -> u64 {
         let mut sum = sum;
-        for number in self.drain(start, end) {
-            sum = mixed(sum, number);
+        if start <= end && end <= self.len() {
+            for number in self.drain(start, end) {
+                sum = mixed(sum, number);
+            }
         }
         sum
     }
 
     #[inline(always)]
-    fn splice_hinted(&mut self, alloc: Global, end: usize) -> Result<(), AllocError> {
-        let start = self.len() / 4;
-        let stop = self.len() - start;
-        let numbers = (0..end).map(|number| number as u64);
-        Ok(self.splice(start, stop, numbers).finish(alloc)?)
+    fn splice_hinted(
+        &mut self,
+        alloc: Global,
+        start: usize,
+        end: usize,
+        first: usize,
+        count: usize,
+    ) -> Result<(), AllocError> {
+        if start > end || end > self.len() {
+            return Ok(());
+        }
+        let numbers = (0..count).map(move |number| number.wrapping_add(first) as u64);
+        Ok(self.splice(start, end, numbers).finish(alloc)?)
     }
 
     #[inline(always)]
@@ -140,6 +170,11 @@ impl Numbers for ThinVec<u64> {
             self.splice(start, stop, Unhinted::below(end))
                 .finish(alloc)?,
         )
+    }
+
+    #[inline(always)]
+    fn dedup(&mut self) {
+        ThinVec::dedup(self);
     }
 
     #[inline(always)]

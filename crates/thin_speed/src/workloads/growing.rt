@@ -1,18 +1,25 @@
 //! Workloads in which a list grows, or is read to its end.
 use crate::lists::{Family, List, Numbers};
-use crate::numbers::{Outcome, SIXTEEN, mixed, seen};
+use crate::numbers::{
+    InTurn, Item, Outcome, SIXTEEN, Source, Triples, Turned, Wides, Words, mixed, seen,
+};
 use std::alloc::{AllocError, Global};
 use std::io::Write;
 
 /// Runs the workload of that name, or none where there is no such here.
 pub fn run<F: Family>(alloc: Global, workload: &str, size: usize, times: usize) -> Option<Outcome> {
     Some(match workload {
-        "push" => push::<F::Numbers>(alloc, size, times),
-        "push_few" => push_few::<F::Numbers>(alloc, size, times),
+        "push" => push::<F::Numbers, _, InTurn>(alloc, size, times),
+        "push_few" => push::<F::Numbers, _, Turned>(alloc, size, times),
+        "push_triples" => push::<F::Triples, _, Triples>(alloc, size, times),
+        "push_wide" => push::<F::Wides, _, Wides>(alloc, size, times),
+        "push_strings" => push::<F::Strings, _, Words>(alloc, size, times),
         "push_reserved" => push_reserved::<F::Numbers>(alloc, size, times),
         "push_pop" => push_pop::<F::Numbers>(alloc, size, times),
         "extend_hinted" => extend_hinted::<F::Numbers>(alloc, size, times),
         "extend_unhinted" => extend_unhinted::<F::Numbers>(alloc, size, times),
+        "extend_filter" => extend_filter::<F::Numbers>(alloc, size, times),
+        "collect_few" => collect::<F::Numbers>(alloc, size, times),
         "extend_slice" => extend_slice::<F::Numbers>(alloc, size, times),
         "extend_sixteen" => extend_sixteen::<F::Numbers>(alloc, size, times),
         "resize" => resize::<F::Numbers>(alloc, size, times),
@@ -35,26 +42,12 @@ pub(crate) fn filled<L: List<u64>>(alloc: Global, size: usize) -> Result<L, Allo
 
 // Pushes onto a new list.
 #[inline(never)]
-fn push<L: List<u64>>(alloc: Global, size: usize, times: usize) -> Outcome {
+fn push<L: List<T>, T: Item, S: Source<T>>(alloc: Global, size: usize, times: usize) -> Outcome {
     let mut sum = 0;
     for _ in 0..times {
         let mut list = L::new(alloc);
         for number in 0..size {
-            list.push(number as u64)?;
-        }
-        sum = mixed(sum, seen(list.as_slice()));
-    }
-    Ok(sum)
-}
-
-// Pushes a few, with two bits turned.
-#[inline(never)]
-fn push_few<L: List<u64>>(alloc: Global, size: usize, times: usize) -> Outcome {
-    let mut sum = 0;
-    for _ in 0..times {
-        let mut list = L::new(alloc);
-        for number in 0..size {
-            list.push(number as u64 ^ 5)?;
+            list.push(S::item(alloc, number)?)?;
         }
         sum = mixed(sum, seen(list.as_slice()));
     }
@@ -112,6 +105,30 @@ fn extend_unhinted<L: Numbers>(alloc: Global, size: usize, times: usize) -> Outc
     for _ in 0..times {
         let mut list = L::new(alloc);
         list.extend_unhinted(size)?;
+        sum = mixed(sum, seen(list.as_slice()));
+    }
+    Ok(sum)
+}
+
+// Extends a new list by the even ones of a slice.
+#[inline(never)]
+fn extend_filter<L: Numbers>(alloc: Global, size: usize, times: usize) -> Outcome {
+    let source: L = filled(alloc, size)?;
+    let mut sum = 0;
+    for _ in 0..times {
+        let mut list = L::new(alloc);
+        list.extend_filtered(source.as_slice())?;
+        sum = mixed(sum, seen(list.as_slice()));
+    }
+    Ok(sum)
+}
+
+// Collects a list.
+#[inline(never)]
+fn collect<L: Numbers>(alloc: Global, size: usize, times: usize) -> Outcome {
+    let mut sum = 0;
+    for _ in 0..times {
+        let list = L::collected(alloc, size)?;
         sum = mixed(sum, seen(list.as_slice()));
     }
     Ok(sum)

@@ -1,13 +1,15 @@
 //! Workloads over many lists.
 use crate::lists::{Family, List};
 use crate::numbers::{Outcome, mixed};
-use std::alloc::Global;
+use std::alloc::{AllocError, Global};
 
 /// Runs the workload of that name, or none where there is no such here.
 pub fn run<F: Family>(alloc: Global, workload: &str, size: usize, times: usize) -> Option<Outcome> {
     Some(match workload {
         "empty_lists" => empty_lists::<F::Lists, F::Numbers>(alloc, size, times),
         "sparse_lists" => sparse_lists::<F::Lists, F::Numbers>(alloc, size, times),
+        "styles" => styles::<F::Styles, F::Style>(alloc, size, times),
+        "undo" => undo::<F::Steps, F::Bytes>(alloc, size, times),
         "tree" => tree::<F>(alloc, size, times),
         _ => return None,
     })
@@ -56,6 +58,65 @@ fn items_of<L: List<u64>>(lists: &[L]) -> u64 {
         }
     }
     sum
+}
+
+// Makes a list of styles, each a few rules, and counts those that are as the one before.
+#[inline(never)]
+fn styles<L: List<S>, S: List<u32>>(alloc: Global, size: usize, times: usize) -> Outcome {
+    let mut sum = 0;
+    for _ in 0..times {
+        let mut styles = L::new(alloc);
+        for number in 0..size {
+            styles.push(style::<S>(alloc, number)?)?;
+        }
+        sum = mixed(sum, repeated(styles.as_slice()));
+    }
+    Ok(sum)
+}
+
+// Up to three rules, and one before them where there are three, in every second such style.
+fn style<S: List<u32>>(alloc: Global, number: usize) -> Result<S, AllocError> {
+    let mut style = S::new(alloc);
+    for rule in 0..number & 3 {
+        style.push(rule as u32)?;
+    }
+    if number & 7 == 7 {
+        style.insert_first(9)?;
+    }
+    Ok(style)
+}
+
+// How many styles are equal to the one before.
+fn repeated<S: List<u32>>(styles: &[S]) -> u64 {
+    let mut same = 0u64;
+    for at in 1..styles.len() {
+        if styles[at].as_slice() == styles[at - 1].as_slice() {
+            same = same.wrapping_add(1);
+        }
+    }
+    same
+}
+
+// Does steps, each two bytes, and undoes every fifth.
+#[inline(never)]
+fn undo<L: List<B>, B: List<u8>>(alloc: Global, size: usize, times: usize) -> Outcome {
+    let mut steps = L::new(alloc);
+    let mut sum = 0;
+    for _ in 0..times {
+        for number in 0..size {
+            let mut step = B::new(alloc);
+            step.push((number & 255) as u8)?;
+            step.push(1)?;
+            steps.push(step)?;
+            if number % 5 == 4
+                && let Some(undone) = steps.pop()
+            {
+                sum = mixed(sum, undone.as_slice().len() as u64);
+            }
+        }
+        steps.clear();
+    }
+    Ok(sum)
 }
 
 // Builds trees so deep, and walks over them.
