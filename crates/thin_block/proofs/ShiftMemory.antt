@@ -29,7 +29,7 @@ use Rattle.thin_block.proofs.SlotsLemmas.{empty-run, parted-run, run-split, leng
 use Rattle.thin_block.proofs.SlotMemory.{Slot, sz, cut, glue, around, run_out, run_in, to_items, of_items, to_room, of_room}
 
 -- the offset of a slot, from another's
-further : (a d c s o : ℕ) → c ≡ d + a → c * s + o ≡ d * s + (a * s + o)
+pub further : (a d c s o : ℕ) → c ≡ d + a → c * s + o ≡ d * s + (a * s + o)
 further a d c s o e = let sum = add_times d a s in
     let same : c * s ≡ (d + a) * s = ap (λ (k : ℕ). k * s) e in omega arith
 
@@ -75,7 +75,7 @@ module _ (E : El) {M : Type 1} {𝓤 : Ura M} (𝓛 : Logic 𝓤) (b o : ℕ) (s
   empty-long n = length-replicate n None
 
   -- the run beside a gap of d slots before it
-  slides_down : (d : ℕ) → from ≡ to + d → from + k ≤ length slots → run to d slots ≡ empty d
+  pub slides_down : (d : ℕ) → from ≡ to + d → from + k ≤ length slots → run to d slots ≡ empty d
       → Moves (memory_before_copy (R E) false d k (block_ptr b src) (block_ptr b dst) xs)
       (memory_after_copy (R E) false d k (block_ptr b src) (block_ptr b dst) xs)
   slides_down d apart within gap =

@@ -1,5 +1,5 @@
 //! A block as a whole: how its memory is had, made larger and given back.
-ghost use Rattle.std.specs.Prelude.{◌≡◌, ◌-◌, ◌++◌, ◌<◌, ◌≤◌, take, IfErr, IfOk, OnErr, OnOk, length};
+ghost use Rattle.std.specs.Prelude.{◌≡◌, ◌-◌, ◌++◌, ◌<◌, ◌≤◌, [], take, IfErr, IfOk, OnErr, OnOk, length};
 ghost use Rattle.std.specs.declared.option.Option.TheVariants.{Some};
 ghost use Rattle.std.specs.Mem.{type_size};
 ghost use Rattle.std.specs.Align.{type_align};
@@ -112,10 +112,17 @@ impl<T, A: Allocator> Block<T, A> {
     {
         let cap = self.cap();
         if cap == 0 {
-            let _none = unsafe { ManuallyDrop::new_unchecked(self) };
+            self.forget_none();
         } else {
             self.free_block(alloc, bytes_of_block::<T>(cap), align_of_block::<T>());
         }
+    }
+
+    /// `release` where there is no block, with no test.
+    pub fn forget_none(self)
+        requires none { self.slots ≡ [] }
+    {
+        let _none = unsafe { ManuallyDrop::new_unchecked(self) };
     }
 
     // `allocate` at the block's size and alignment.

@@ -1,12 +1,11 @@
-//! One slot, or a run of them: items go in, out and along.
-ghost use Rattle.std.specs.Prelude.{◌≡◌, ◌⊎◌, ℕ, ◌+◌, ◌<◌, ◌≤◌, ◌==◌, if◌then◌else◌, IsSome, length, slice_set};
+//! One slot, or a few: items go in and out.
+ghost use Rattle.std.specs.Prelude.{◌≡◌, ℕ, ◌+◌, ◌<◌, ◌≤◌, ◌==◌, if◌then◌else◌, IsSome, length, slice_set};
 ghost use Rattle.core.specs.Mem.Slots.{IsFull, SamePlaces, slots_items, slots_len};
 ghost use Rattle.std.specs.declared.option.Option.TheVariants.{None, Some};
-ghost use Rattle.thin_block.specs.Cost.{Cost, growing, moving};
-ghost use Rattle.thin_block.specs.Slots.{AreEmpty, AreFilled, full, slot, run, laid, emptied, moved};
+ghost use Rattle.thin_block.specs.Cost.{growing, moving};
+ghost use Rattle.thin_block.specs.Slots.{AreEmpty, AreFilled, full, slot, run, laid, emptied};
 
 use crate::block::Block;
-use crate::shifts::slide;
 use crate::sizes::HEADER_WORDS;
 use core::slots::Slots;
 use std::alloc::Allocator;
@@ -135,124 +134,6 @@ impl<T, A: Allocator> Block<T, A> {
     {
         let at = self.at;
         unsafe { ((at.add(HEADER_WORDS) as *mut T).add(i) as *mut [T; N]).read() }
-    }
-
-    /// Moves the `k` items in the slots from `from` on to those from `to` on. The two runs may
-    /// overlap.
-    pub fn move_run(&mut self, from: usize, to: usize, k: usize)
-        requires source { from + k ≤ length self.old.slots }
-        requires target { to + k ≤ length self.old.slots }
-        requires filled { AreFilled self.old.slots from k }
-        requires empty { (i : ℕ) → to ≤ i → i < to + k → (i < from) ⊎ (from + k ≤ i)
-            → slot self.old.slots i ≡ None }
-        ensures slots { self.new.slots ≡ moved from to k self.old.slots }
-        ensures cap { length self.new.slots ≡ length self.old.slots }
-        ensures len { self.new.len ≡ self.old.len }
-        ensures alloc { self.new.alloc ≡ self.old.alloc }
-        ensures cost { self.new.cost ≡ moving k self.old.cost }
-    {
-        if from.abs_diff(to) < k {
-            self.move_overlapping(from, to, k);
-        } else {
-            self.move_apart(from, to, k);
-        }
-    }
-
-    // `move_run` where the runs overlap.
-    fn move_overlapping(&mut self, from: usize, to: usize, k: usize)
-        requires source { from + k ≤ length self.old.slots }
-        requires target { to + k ≤ length self.old.slots }
-        requires filled { AreFilled self.old.slots from k }
-        requires empty { (i : ℕ) → to ≤ i → i < to + k → (i < from) ⊎ (from + k ≤ i)
-            → slot self.old.slots i ≡ None }
-        requires above { to < from + k }
-        requires below { from < to + k }
-        ensures slots { self.new.slots ≡ moved from to k self.old.slots }
-        ensures len { self.new.len ≡ self.old.len }
-        ensures alloc { self.new.alloc ≡ self.old.alloc }
-        ensures cost { self.new.cost ≡ moving k self.old.cost }
-    {
-        let at = self.at;
-        unsafe {
-            let items = at.add(HEADER_WORDS) as *mut T;
-            slide(items.add(from) as *const T, items.add(to), k, from < to)
-        }
-    }
-
-    // `move_run` where the runs lie apart.
-    fn move_apart(&mut self, from: usize, to: usize, k: usize)
-        requires source { from + k ≤ length self.old.slots }
-        requires target { to + k ≤ length self.old.slots }
-        requires filled { AreFilled self.old.slots from k }
-        requires empty { (i : ℕ) → to ≤ i → i < to + k → (i < from) ⊎ (from + k ≤ i)
-            → slot self.old.slots i ≡ None }
-        requires apart { (from + k ≤ to) ⊎ (to + k ≤ from) }
-        ensures slots { self.new.slots ≡ moved from to k self.old.slots }
-        ensures len { self.new.len ≡ self.old.len }
-        ensures alloc { self.new.alloc ≡ self.old.alloc }
-        ensures cost { self.new.cost ≡ moving k self.old.cost }
-    {
-        let at = self.at;
-        unsafe {
-            let items = at.add(HEADER_WORDS) as *mut T;
-            std::ptr::copy_nonoverlapping(items.add(from) as *const T, items.add(to), k)
-        }
-    }
-
-    /// Moves the `k` items in the slots from `from` on to the empty slots of `other` from `to` on.
-    pub fn move_run_to(&mut self, from: usize, k: usize, other: &mut Block<T, A>, to: usize)
-        requires source { from + k ≤ length self.old.slots }
-        requires target { to + k ≤ length other.old.slots }
-        requires filled { AreFilled self.old.slots from k }
-        requires empty { AreEmpty other.old.slots to k }
-
-        // This block's run is empty, and all else of it is kept.
-        ensures slots { self.new.slots ≡ emptied from k self.old.slots }
-        ensures len { self.new.len ≡ self.old.len }
-        ensures alloc { self.new.alloc ≡ self.old.alloc }
-        ensures cost { self.new.cost ≡ self.old.cost }
-
-        // The other block holds the run.
-        ensures other_slots { other.new.slots ≡ laid to
-            (run from k self.old.slots) other.old.slots }
-        ensures other_len { other.new.len ≡ other.old.len }
-        ensures other_alloc { other.new.alloc ≡ other.old.alloc }
-        ensures other_cost { other.new.cost ≡ moving k other.old.cost }
-    {
-        self.move_run_charging(from, other, to, k);
-    }
-
-    // Moves the `k` items in the slots from `from` on to those of `to_block` from `to` on, and says
-    // what `to_block` has cost by then.
-    pub(crate) fn move_run_charging(
-        &mut self,
-        from: usize,
-        to_block: &mut Block<T, A>,
-        to: usize,
-        k: usize,
-    )
-        ghost cost: { Cost }
-        requires source { from + k ≤ length self.old.slots }
-        requires target { to + k ≤ length to_block.old.slots }
-        requires filled { AreFilled self.old.slots from k }
-        requires empty { AreEmpty to_block.old.slots to k }
-        ensures slots { self.new.slots ≡ emptied from k self.old.slots }
-        ensures len { self.new.len ≡ self.old.len }
-        ensures alloc { self.new.alloc ≡ self.old.alloc }
-        ensures own_cost { self.new.cost ≡ self.old.cost }
-        ensures to_slots { to_block.new.slots ≡ laid to
-            (run from k self.old.slots) to_block.old.slots }
-        ensures to_len { to_block.new.len ≡ to_block.old.len }
-        ensures to_alloc { to_block.new.alloc ≡ to_block.old.alloc }
-        ensures to_cost { to_block.new.cost ≡ cost }
-    {
-        let from_at = self.at;
-        let to_at = to_block.at;
-        unsafe {
-            let source = (from_at.add(HEADER_WORDS) as *const T).add(from);
-            let target = (to_at.add(HEADER_WORDS) as *mut T).add(to);
-            std::ptr::copy_nonoverlapping(source, target, k)
-        }
     }
 }
 
