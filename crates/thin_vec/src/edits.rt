@@ -75,7 +75,7 @@ impl<T, A: Allocator, G: Growth> ThinVec<T, A, G> {
     {
         let len = self.block.len();
         let value = self.block.take(index);
-        self.block.move_run(index + 1, index, len - (index + 1));
+        self.block.move_down(index, 1, len - (index + 1));
         self.block.store_len(len - 1);
         value
     }

@@ -183,11 +183,13 @@ impl<T, A: Allocator> OpenBlock<T, A> {
             tail_start: _,
             len,
         } = self;
-        if front_end != rest_start {
-            block.move_run(rest_start, front_end, len - rest_start);
+        if front_end == rest_start {
+            block.set_len(len);
+            return block;
         }
-        block.set_len(len - (rest_start - front_end));
-        block
+        let mut closed = block.close_gap(front_end, rest_start - front_end, len - rest_start);
+        closed.store_len(len - (rest_start - front_end));
+        closed
     }
 }
 

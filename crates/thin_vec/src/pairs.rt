@@ -130,17 +130,18 @@ impl<T: Drop, A: Allocator> OpenBlock<T, A> {
         ensures thins { Thins J.asks judge.old self.old judge.new self.new }
         ensures rest { self.new.rest ≡ [] }
     {
-        while self.rest_len() > 0 {
-            self.thin_round(judge);
+        while self.has_two() {
+            self.thin_two(judge);
         }
+        self.thin_last(judge);
     }
 
-    // Asks about the next item, and where it stays, about those behind it up to the first that
-    // goes. The first of them moves by itself: two items with empty slots between them can't both
-    // be lent.
-    fn thin_round<J: AsksPairs<T>>(&mut self, judge: &mut J)
+    // Of two items and more, asks about the next one, and where it stays, about those behind it up
+    // to the first that goes. The first of them moves by itself: two items with empty slots between
+    // them can't both be lent.
+    fn thin_two<J: AsksPairs<T>>(&mut self, judge: &mut J)
         requires some { 0 < length self.old.front }
-        requires more { 0 < length self.old.rest }
+        requires two { 1 < length self.old.rest }
         requires gap { 0 < self.old.before }
         requires ready { J.ready judge.old }
         ensures thins { Thins J.asks judge.old self.old judge.new self.new }
@@ -151,10 +152,6 @@ impl<T: Drop, A: Allocator> OpenBlock<T, A> {
         let mut later = self.take_first();
         if self.ask_last(&mut later, judge) {
             drop(later);
-            return;
-        }
-        if self.rest_len() == 0 {
-            self.put_front(later);
             return;
         }
         let goes = self.ask_next(&mut later, judge);
@@ -168,6 +165,26 @@ impl<T: Drop, A: Allocator> OpenBlock<T, A> {
         if self.rest_len() > 0 {
             drop(self.take_first());
         }
+    }
+
+    // Asks about the last item, where there is one.
+    fn thin_last<J: AsksPairs<T>>(&mut self, judge: &mut J)
+        requires some { 0 < length self.old.front }
+        requires short { length self.old.rest ≤ 1 }
+        requires gap { 0 < self.old.before }
+        requires ready { J.ready judge.old }
+        ensures thins { Thins J.asks judge.old self.old judge.new self.new }
+        ensures rest { self.new.rest ≡ [] }
+    {
+        if self.rest_len() == 0 {
+            return;
+        }
+        let mut later = self.take_first();
+        if self.ask_last(&mut later, judge) {
+            drop(later);
+            return;
+        }
+        self.put_front(later);
     }
 }
 

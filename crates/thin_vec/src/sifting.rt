@@ -5,6 +5,8 @@ ghost use Rattle.thin_block.specs.Cost.{moving};
 
 use crate::open_block::OpenBlock;
 use std::alloc::Allocator;
+use std::mem;
+use thin_block::Block;
 
 // How many items are worth a call that moves them as one run.
 const FEW: usize = 8;
@@ -95,7 +97,8 @@ impl<T, A: Allocator> OpenBlock<T, A> {
         }
     }
 
-    // The first `k` items of the middle run move to the front as one run.
+    // The first `k` items of the middle run move to the front as one run. The block is handed over
+    // for it, so that all that is open can stay in registers.
     #[inline(always)]
     fn lower_run(&mut self, k: usize)
         requires in_bounds { k ≤ length self.old.rest }
@@ -106,14 +109,17 @@ impl<T, A: Allocator> OpenBlock<T, A> {
           cost = moving k self.old.cost;
         } }
     {
-        self.block.move_run(self.rest_start, self.front_end, k);
+        let block = mem::replace(&mut self.block, Block::none());
+        let lowered = block.close_gap(self.front_end, self.rest_start - self.front_end, k);
+        let none = mem::replace(&mut self.block, lowered);
+        none.forget_none();
         self.front_end += k;
         self.rest_start += k;
     }
 
     // Whether the middle run has more than one item, behind a gap. (The last place of the run
     // stays in a register.)
-    fn has_two(&self) -> bool
+    pub(crate) fn has_two(&self) -> bool
         requires gap { 0 < self.now.before }
         ensures value { IsTrue result ↔ (1 < length self.now.rest) }
     {

@@ -16,8 +16,8 @@ take-value-requires g c =
           (arith, c.requires.in_bounds, ap (λ v. length v.items) c.self.view_is));
     }
 
-pub move_run-requires-clause-filled : goal.move_run-requires-clause-filled
-move_run-requires-clause-filled g c = λ j low high.
+pub move_down-requires-clause-filled : goal.move_down-requires-clause-filled
+move_down-requires-clause-filled g c = λ j low high.
     kept-filled c.self.inside.block c.self.inside.alloc c.args.index j _ c.self.invariant
     (omega arith) (omega (arith, high, c.len-len.ensures.value, c.self.invariant.packed.len))
     c.take-value.ensures.slots
@@ -37,9 +37,9 @@ facts g c =
     c.take-value.new.self.slots c.self.invariant
     (omega (arith, c.requires.in_bounds, ap (λ v. length v.items) c.self.view_is)) refl
     (ap (λ n. n - (c.args.index + 1)) c.len-len.ensures.value)
-    c.take-value.ensures.slots (c.store_len.ensures.slots ∙ c.move_run.ensures.slots)
+    c.take-value.ensures.slots (c.store_len.ensures.slots ∙ c.move_down.ensures.slots)
     (c.store_len.ensures.len ∙ ap (λ n. n - 1) c.len-len.ensures.value)
-    (c.store_len.ensures.alloc ∙ (c.move_run.ensures.alloc ∙ c.take-value.ensures.alloc))
+    (c.store_len.ensures.alloc ∙ (c.move_down.ensures.alloc ∙ c.take-value.ensures.alloc))
 
 pub invariant_of-self : goal.invariant_of-self
 invariant_of-self g c = (facts g c).thin

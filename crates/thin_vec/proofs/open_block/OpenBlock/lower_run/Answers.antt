@@ -1,33 +1,59 @@
 -- The first slots of the middle run are filled, and their items then lie behind the front.
-use Rattle.std.proofs.Common.{◌≤◌, ◌++◌, ap, ◌∙◌, arith, length, take, drop, rules, ◌≡◌}
+use Rattle.std.proofs.Common.{◌≡◌, ◌≤◌, ◌+◌, ◌-◌, ◌++◌, ap, sym, subst, ◌∙◌, arith, length, take, drop}
+use Rattle.std.specs.Prelude.{IsSome}
 use Rattle.thin_block.specs.Cost.{moving}
+use Rattle.thin_block.specs.Slots.{moved, slot}
 use Rattle.thin_vec.specs.OpenBlock.{open_of}
-use Rattle.thin_vec.proofs.OpenBlockLemmas.{Found, rest-filled}
+use Rattle.thin_vec.proofs.OpenBlockLemmas.{Found, before-empty, rest-filled}
 use Rattle.thin_vec.proofs.SiftingLemmas.{lowered, lowered-seen, lower-step}
 use Rattle.thin_vec.proofs.open_block.OpenBlock.lower_run.Goals as goal
 
-pub move_run-requires-clause-filled : goal.move_run-requires-clause-filled
-move_run-requires-clause-filled g c = λ j low high.
+pub close_gap-lowered-requires-clause-empty : goal.close_gap-lowered-requires-clause-empty
+close_gap-lowered-requires-clause-empty g c = λ j low high.
     let o = c.self.invariant in
-    rest-filled c.self.inside (open_of c.self.inside) o j low
-    (omega (arith, high, o.rest, c.requires.in_bounds, ap (λ v. length v.rest) c.self.view_is))
+    ap (λ b. slot b.slots j) c.replace-block.ensures.value
+    ∙ before-empty c.self.inside (open_of c.self.inside) o j low (omega (arith, high, o.before))
+
+pub close_gap-lowered-requires-clause-filled : goal.close_gap-lowered-requires-clause-filled
+close_gap-lowered-requires-clause-filled g c = λ j low high.
+    let o = c.self.invariant in
+    subst (λ b. IsSome (slot b.slots j)) (sym c.replace-block.ensures.value)
+    (rest-filled c.self.inside (open_of c.self.inside) o j (omega (arith, low, o.before)) (omega (
+      arith,
+      high,
+      o.before,
+      o.rest,
+      c.requires.in_bounds,
+      ap (λ v. length v.rest) c.self.view_is,
+    )))
 
 facts : (g : _) (c : goal.After-self-2-1 g)
     → let low : c.args.k ≤ length (open_of c.self.inside).rest =
     omega (arith, c.requires.in_bounds, ap (λ v. length v.rest) c.self.view_is) in
-    Found (lowered c.self.inside c.self.invariant c.args.k low c.move_run.new.self)
-    (lowered-seen c.self.inside c.self.invariant c.args.k low c.move_run.new.self)
+    Found (lowered c.self.inside c.self.invariant c.args.k low c.replace-none.new.dest)
+    (lowered-seen c.self.inside c.self.invariant c.args.k low c.replace-none.new.dest)
 facts g c =
-    let low : c.args.k ≤ length (open_of c.self.inside).rest =
+    let h = c.self.inside in
+    let o = c.self.invariant in
+    let low : c.args.k ≤ length (open_of h).rest =
     omega (arith, c.requires.in_bounds, ap (λ v. length v.rest) c.self.view_is) in
-    lower-step c.self.inside c.self.invariant c.args.k low c.move_run.new.self
-    c.move_run.ensures.slots c.move_run.ensures.alloc
+    let same : h.front_end + (h.rest_start - h.front_end) ≡ h.rest_start = omega (arith, o.before) in
+    lower-step h o c.args.k low c.replace-none.new.dest
+    (ap (λ b. b.slots) c.replace-none.ensures.after
+    ∙ (c.close_gap-lowered.ensures.slots
+    ∙ (λ i. moved (same i) h.front_end c.args.k (c.replace-block.ensures.value i).slots)))
+    (ap (λ b. b.alloc) c.replace-none.ensures.after
+    ∙ (c.close_gap-lowered.ensures.alloc ∙ ap (λ b. b.alloc) c.replace-block.ensures.value))
 
 pub invariant_of-self : goal.invariant_of-self
 invariant_of-self g c = (facts g c).lies
 
 pub returns : goal.returns
 returns g c =
-    let spent : c.move_run.new.self.cost ≡ moving c.args.k c.args.self.now.cost = search rules in
+    let spent : c.replace-none.new.dest.cost ≡ moving c.args.k c.args.self.now.cost =
+    ap (λ b. b.cost) c.replace-none.ensures.after
+    ∙ (c.close_gap-lowered.ensures.cost
+    ∙ (ap (λ b. moving c.args.k b.cost) c.replace-block.ensures.value
+    ∙ ap (λ v. moving c.args.k v.cost) c.self.view_is)) in
     (facts g c).view ∙ (λ i. let v = c.self.view_is i in record v
     { front = v.front ++ take c.args.k v.rest; rest = drop c.args.k v.rest; cost = spent i })

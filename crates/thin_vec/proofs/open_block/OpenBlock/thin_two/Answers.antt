@@ -1,23 +1,15 @@
 -- A round ends at the first item that goes, or where none is left: a case for each such place.
 use Rattle.std.proofs.Common.{◌≡◌, ◌∷◌, [], ap, false, refl, sym, ◌∙◌, arith, rules}
 use Rattle.std.proofs.lemmas.List.{append-nil}
-use Rattle.thin_vec.proofs.DedupLemmas.{run-count, run-ends, run-goes, thins-goes, thins-run, thins-stays, thins-two}
+use Rattle.thin_vec.proofs.DedupLemmas.{run-count, run-ends, run-goes, thins-goes, thins-run, thins-two}
 use Rattle.thin_vec.proofs.FiltersLemmas.{nothing}
 use Rattle.std.proofs.lemmas.Grind.{common_steps}
-use Rattle.thin_vec.proofs.open_block.OpenBlock.thin_round.Goals as goal
+use Rattle.thin_vec.proofs.open_block.OpenBlock.thin_two.Goals as goal
 
 -- the next item goes
 pub returns-then-ask_last-clause-thins : goal.returns-then-ask_last-clause-thins
 returns-then-ask_last-clause-thins g c =
     thins-goes g.J.AsksPairs.asks c.args.self.now c.ask_last.new.self c.args.judge.now
-    c.ask_last.new.judge c.take_first-later.result c.ask_last.new.later
-    c.ask_last.new.self.front
-    (search rules) (search rules) (search rules) (search rules)
-
--- it stays, and is the last
-pub returns-then-rest_len-eq0-clause-thins : goal.returns-then-rest_len-eq0-clause-thins
-returns-then-rest_len-eq0-clause-thins g c =
-    thins-stays g.J.AsksPairs.asks c.args.self.now c.put_front.new.self c.args.judge.now
     c.ask_last.new.judge c.take_first-later.result c.ask_last.new.later
     c.ask_last.new.self.front
     (search rules) (search rules) (search rules) (search rules)
@@ -39,12 +31,12 @@ returns-then-rest_len-gt0-clause-thins g c =
     let r = c.ask_pairs-kept.ensures.asked in
     let w = c.take_first-then-rest_len-gt0.new.self in
     let goes = run-goes R c.ask_pairs-kept.result c.ask_next-goes.new.judge
-    c.put_front-2.new.self.rest c.ask_pairs-kept.new.judge c.ask_pairs-kept.new.self.rest r
+    c.put_front.new.self.rest c.ask_pairs-kept.new.judge c.ask_pairs-kept.new.self.rest r
     c.take_first-then-rest_len-gt0.result w.rest
     (sym (ap (λ v. v.rest) c.lower.ensures) ∙ c.take_first-then-rest_len-gt0.ensures.rest) in
     thins-run R c.args.self.now w c.args.judge.now c.ask_last.new.judge c.ask_next-goes.new.judge
     c.take_first-later.result c.ask_last.new.later c.ask_next-goes.new.kept
-    c.ask_last.new.self.front c.ask_last.new.self.rest c.put_front-2.new.self.rest (search rules)
+    c.ask_last.new.self.front c.ask_last.new.self.rest c.put_front.new.self.rest (search rules)
     c.ask_next-goes.result (search rules) (search rules)
     c.if-goes.false c.ask_pairs-kept.result c.ask_pairs-kept.new.judge
     c.ask_pairs-kept.new.self.rest r goes.0 (run-count R _ _ _ _ _ r (false ∷ []) refl goes.1)
@@ -57,13 +49,13 @@ returns-else-rest_len-gt0-clause-thins g c =
     let r = c.ask_pairs-kept.ensures.asked in
     let w = c.lower.new.self in
     let none : w.rest ≡ [] =
-    nothing w.rest (omega (arith, c.rest_len-2.ensures.value, c.if-rest_len-gt0.false)) in
+    nothing w.rest (omega (arith, c.rest_len.ensures.value, c.if-rest_len-gt0.false)) in
     let ends = run-ends R c.ask_pairs-kept.result c.ask_next-goes.new.judge
-    c.put_front-2.new.self.rest c.ask_pairs-kept.new.judge c.ask_pairs-kept.new.self.rest r
+    c.put_front.new.self.rest c.ask_pairs-kept.new.judge c.ask_pairs-kept.new.self.rest r
     (sym (ap (λ v. v.rest) c.lower.ensures) ∙ none) in
     thins-run R c.args.self.now w c.args.judge.now c.ask_last.new.judge c.ask_next-goes.new.judge
     c.take_first-later.result c.ask_last.new.later c.ask_next-goes.new.kept
-    c.ask_last.new.self.front c.ask_last.new.self.rest c.put_front-2.new.self.rest (search rules)
+    c.ask_last.new.self.front c.ask_last.new.self.rest c.put_front.new.self.rest (search rules)
     c.ask_next-goes.result (search rules) (search rules)
     c.if-goes.false c.ask_pairs-kept.result c.ask_pairs-kept.new.judge
     c.ask_pairs-kept.new.self.rest r (ends.0 ∙ sym none)
@@ -72,9 +64,6 @@ returns-else-rest_len-gt0-clause-thins g c =
 
 pub returns-then-ask_last-clause-some : goal.returns-then-ask_last-clause-some
 returns-then-ask_last-clause-some g c = grind (arith, common_steps)
-
-pub returns-then-rest_len-eq0-clause-some : goal.returns-then-rest_len-eq0-clause-some
-returns-then-rest_len-eq0-clause-some g c = grind (arith, common_steps)
 
 pub returns-then-goes-clause-some : goal.returns-then-goes-clause-some
 returns-then-goes-clause-some g c = grind (arith, common_steps)
