@@ -8,7 +8,7 @@ use std::cmp::Ordering;
 use std::hash::{DefaultHasher, Hash, Hasher};
 use std::process::Abort;
 use thin_vec::ThinVec;
-use thin_vec_callers::last_digits::LastDigit;
+use thin_vec_uses::last_digits::LastDigit;
 
 #[test]
 fn test_retain(rt: HostRuntime) {

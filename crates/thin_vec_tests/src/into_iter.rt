@@ -5,7 +5,7 @@ use refusing::Refusing;
 use std::alloc::{Allocator, Global};
 use std::process::Abort;
 use thin_vec::{IntoIter, ThinVec};
-use thin_vec_callers::walks::{carried_over, collected, count, least, reversed, reversed_singly};
+use thin_vec_uses::walks::{carried_over, collected, count, least, reversed, reversed_singly};
 
 #[test]
 fn test_into_iter_as_slice(rt: HostRuntime) {

@@ -3,7 +3,7 @@ use crate::items::push_all;
 use crate::standing::{assert_counts, assert_same};
 use refusing::Refusing;
 use thin_vec::ThinVec;
-use thin_vec_callers::walks::count;
+use thin_vec_uses::walks::count;
 
 #[test]
 fn a_walk_by_value_makes_no_request(rt: HostRuntime) {

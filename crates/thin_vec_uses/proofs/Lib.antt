@@ -1,5 +1,6 @@
--- The lemmas: of a closure that keeps all, of one that picks, of splices, and of trees.
+-- The lemmas: of a closure that keeps all, of one that picks, of splices, trees and judges.
 mod MovesLemmas
 mod PickLemmas
 mod SpliceLemmas
 mod TreeLemmas
+mod JudgeLemmas

@@ -1,2 +1,4 @@
--- The words of the contracts: what they read of a syntax tree.
+-- The words of the contracts: what they read of a tree, last digits, and what a judge answers.
 pub mod SyntaxTree
+pub mod LastDigits
+pub mod Judges

@@ -1,9 +1,12 @@
 //! Uses of `thin_vec`, and one of `thin_rows`, as a caller writes them.
 #![tactic(auto)]
 
+pub mod filtering;
 pub mod first_list;
+pub mod growing;
 pub mod handed_over;
 pub mod indices;
+pub mod last_digits;
 pub mod moved_range;
 pub mod moves;
 pub mod own_error;
@@ -17,3 +20,4 @@ pub mod spliced;
 pub mod std_errors;
 pub mod style_lists;
 pub mod syntax_tree;
+pub mod walks;

@@ -1,6 +1,6 @@
 -- What came over, and what is to come, are all the items.
 use Rattle.std.proofs.Common.{◌≡◌, ◌++◌, length}
-use Rattle.thin_vec_callers.proofs.walks.carried_over.Given as goal
+use Rattle.thin_vec_uses.proofs.walks.carried_over.Given as goal
 
 abbrev pub invariant-loop-item : goal.invariant-loop-item
 invariant-loop-item l = l.fn.list.items ≡ l.vec.items ++ l.items.items

@@ -1,6 +1,6 @@
 -- What the numbers of the tests are compared by.
 use Rattle.std.specs.Prelude.{ℕ, ◌%◌}
-use Rattle.thin_vec_callers.specs.declared.last_digits.LastDigit.{LastDigit}
+use Rattle.thin_vec_uses.specs.declared.last_digits.LastDigit.{LastDigit}
 
 -- the last decimal digit
 abbrev pub last_digit : LastDigit → ℕ

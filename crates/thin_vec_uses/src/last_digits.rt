@@ -16,7 +16,7 @@ pub struct LastDigit {
 }
 
 impl LastDigit {
-    ghost use Rattle.thin_vec_callers.specs.LastDigits.{last_digit};
+    ghost use Rattle.thin_vec_uses.specs.LastDigits.{last_digit};
 
     /// The last decimal digit.
     pub fn digit(&self) -> u32
@@ -27,7 +27,7 @@ impl LastDigit {
 }
 
 impl PartialEq for LastDigit {
-    ghost use Rattle.thin_vec_callers.specs.LastDigits.{last_digit};
+    ghost use Rattle.thin_vec_uses.specs.LastDigits.{last_digit};
 
     ghost eq = { on last_digit ◌==◌ };
 
@@ -43,7 +43,7 @@ impl Eq for LastDigit {
 }
 
 impl PartialOrd for LastDigit {
-    ghost use Rattle.thin_vec_callers.specs.LastDigits.{last_digit};
+    ghost use Rattle.thin_vec_uses.specs.LastDigits.{last_digit};
 
     ghost partial_cmp = { as_partial_cmp (on last_digit nat_cmp) };
 
@@ -56,7 +56,7 @@ impl PartialOrd for LastDigit {
 }
 
 impl Ord for LastDigit {
-    ghost use Rattle.thin_vec_callers.specs.LastDigits.{last_digit};
+    ghost use Rattle.thin_vec_uses.specs.LastDigits.{last_digit};
 
     ghost cmp = { on last_digit nat_cmp };
 
@@ -72,7 +72,7 @@ impl Ord for LastDigit {
 }
 
 impl Hash for LastDigit {
-    ghost use Rattle.thin_vec_callers.specs.LastDigits.{last_digit};
+    ghost use Rattle.thin_vec_uses.specs.LastDigits.{last_digit};
 
     ghost hash_input = { λ item. fed.u32 (last_digit item) };
 

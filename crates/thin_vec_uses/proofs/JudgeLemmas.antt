@@ -2,7 +2,7 @@
 use Rattle.std.proofs.Common.{◌≡◌, Bool, true, List, [], ◌∷◌, sym, ap, ◌∙◌}
 use Rattle.thin_vec.specs.Filters.{Asked, IsRetained, left_at}
 use Rattle.thin_vec.specs.ThinVec.{Thin}
-use Rattle.thin_vec_callers.specs.Judges.{asked_by}
+use Rattle.thin_vec_uses.specs.Judges.{asked_by}
 
 module _ {F J T : Type 0} (R : F → T → Bool → F → T → Type 0) (state : F → J)
     (judges : J → T → Bool × (T × J))

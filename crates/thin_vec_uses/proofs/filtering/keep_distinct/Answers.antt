@@ -2,7 +2,7 @@
 use Rattle.std.proofs.Common.{subst, sym}
 use Rattle.std.specs.List.Sorted.{IsStrictlyIncreasing}
 use Rattle.std.proofs.lemmas.Map.Keys.{IsStrictlyIncreasing-dedup}
-use Rattle.thin_vec_callers.proofs.filtering.keep_distinct.Goals as goal
+use Rattle.thin_vec_uses.proofs.filtering.keep_distinct.Goals as goal
 
 pub returns-clause-distinct : goal.returns-clause-distinct
 returns-clause-distinct g c = subst IsStrictlyIncreasing (sym c.dedup.ensures.items)

@@ -3,7 +3,7 @@ ghost use Rattle.std.specs.List.Sorted.{IsSorted, IsStrictlyIncreasing};
 ghost use Rattle.std.specs.Ordering.{nat_cmp};
 ghost use Rattle.std.specs.Prelude.{◌≡◌, ◌%◌, ◌==◌, Bool, filter, true};
 ghost use Rattle.thin_vec.specs.Filters.{left_at};
-ghost use Rattle.thin_vec_callers.specs.Judges.{asked_by};
+ghost use Rattle.thin_vec_uses.specs.Judges.{asked_by};
 
 use std::alloc::Allocator;
 use thin_vec::{Growth, ThinVec};

@@ -1,7 +1,7 @@
 -- The closure answers as the judge that it holds does.
 use Rattle.std.proofs.Common.{rules}
-use Rattle.thin_vec_callers.proofs.JudgeLemmas.{retained-by}
-use Rattle.thin_vec_callers.proofs.filtering.keep_judged.Goals as goal
+use Rattle.thin_vec_uses.proofs.JudgeLemmas.{retained-by}
+use Rattle.thin_vec_uses.proofs.filtering.keep_judged.Goals as goal
 
 pub returns-clause-items : goal.returns-clause-items
 returns-clause-items g c = retained-by _ (λ f. f.0) g.J.Judge.judges

@@ -1,2 +1,0 @@
--- The lemmas: of judges.
-mod JudgeLemmas
