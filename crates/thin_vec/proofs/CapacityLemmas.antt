@@ -1,17 +1,16 @@
 -- What a growth rule promises, and what a block holds once its capacity has changed.
-use Rattle.std.proofs.Common.{◌≡◌, ℕ, ◌^◌, ◌<◌, Some, None, arith, sym, ◌-◌, List, [], ◌++◌, length, take, Option, ap, ◌∙◌}
+use Rattle.std.proofs.Common.{◌≡◌, ℕ, ◌^◌, ◌<◌, ◌≤◌, Some, None, arith, sym, ◌-◌, List, [], ◌++◌, length, take, Option, ap, ◌∙◌}
 use Rattle.std.specs.Align.{type_align}
 use Rattle.std.specs.Borrow.{RattleType}
 use Rattle.std.specs.Mem.{type_size}
 use Rattle.std.specs.Prelude.{IfSome, Option}
 use Rattle.thin_block.specs.Growth.{Grows, KeepsLaw, Rule}
-use Rattle.std.proofs.lemmas.List.{append-nil}
 use Rattle.std.proofs.Math.Seq.{take-append_seam}
 use lib.ListN.{replicate}
-use Rattle.thin_block.specs.Slots.{full, empty, items_in, front}
+use Rattle.thin_block.specs.Slots.{empty, items_in, front}
 use Rattle.thin_block.specs.declared.block.Block.{Block}
 use Rattle.thin_vec.specs.ThinVec.{IsThin}
-use Rattle.thin_vec.proofs.ListLemmas.{Settled, settled, length-full, thin-room, front-grow}
+use Rattle.thin_vec.proofs.ListLemmas.{Settled, settled, length-front, thin-room, front-grow}
 
 module _ (rule : Rule) where
   -- the law of a rule, at what it answers
@@ -49,19 +48,16 @@ module _ {T A : Type 0} where
       → b.alloc ≡ Some a → Settled b a [] c
   settle-new b a c s l f = settled b a [] c (s ∙ front-none c) l (omega arith) (λ x e. cc)
 
-  -- a block of fewer slots
+  -- a block of fewer slots, which hold all items
   pub settle-shrink : (b b' : Block T A) (a : A) (k : ℕ) → IsThin b a
-      → k ≡ length (items_in b.slots) → b'.slots ≡ take k b.slots → b'.len ≡ b.len
-      → b'.alloc ≡ Some a → Settled b' a (items_in b.slots) k
-  settle-shrink b b' a k t all s l f =
+      → length (items_in b.slots) ≤ k → k ≤ length b.slots → b'.slots ≡ take k b.slots
+      → b'.len ≡ b.len → b'.alloc ≡ Some a → Settled b' a (items_in b.slots) k
+  settle-shrink b b' a k t room less s l f =
       let xs : List T = items_in b.slots in
-      let none : length xs - length xs ≡ 0 = omega arith in
-      let cut : take (length xs) (front xs (length b.slots)) ≡ front xs (length xs) =
-      ap (λ (m : ℕ). take m (front xs (length b.slots))) (sym (length-full xs))
-      ∙ (take-append_seam (full xs) (empty (length b.slots - length xs))
-      ∙ (sym (append-nil (full xs)) ∙ ap (λ (m : ℕ). full xs ++ empty m) (sym none))) in
+      let rest : List (Option T) = replicate (length b.slots - k) None in
       settled b' a xs k (s
-      ∙ (ap (λ (r : List (Option T)). take k r) t.packed.row
-      ∙ (ap (λ (m : ℕ). take m (front xs (length b.slots))) all
-      ∙ (cut ∙ ap (front xs) (sym all)))))
-      (l ∙ t.packed.len) (omega (arith, all)) (λ x e. cc)
+      ∙ (ap (λ (r : List (Option T)). take k r)
+      (t.packed.row ∙ sym (front-grow xs k (length b.slots) room less))
+      ∙ (ap (λ (m : ℕ). take m (front xs k ++ rest)) (sym (length-front xs k room))
+      ∙ take-append_seam (front xs k) rest)))
+      (l ∙ t.packed.len) room (λ x e. cc)

@@ -6,6 +6,7 @@ mod EditsLemmas
 mod ClonesLemmas
 mod LendsLemmas
 mod TwoListsLemmas
+mod WithinLemmas
 mod FromOthersLemmas
 mod ExtendLemmas
 mod IntoIterLemmas

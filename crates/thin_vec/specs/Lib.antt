@@ -11,6 +11,7 @@ pub mod OpenBlock
 pub mod Filling
 pub mod Replacing
 pub mod Lends
+pub mod Added
 pub mod Ranges
 pub mod Drain
 pub mod Splice

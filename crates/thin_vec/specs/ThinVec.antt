@@ -76,10 +76,15 @@ module _ {T A : Type 0} where
   abbrev pub cost_at : Thin T A → ℕ → Cost
   cost_at v c = if c == v.capacity then v.cost else growing (length v.items) v.cost
 
-  -- what v has cost once its capacity is its length
+  -- what v has cost once its capacity is c, which is no greater than before: at 0 its block is
+  -- given back
+  abbrev pub cost_shrunk_to : Thin T A → ℕ → Cost
+  cost_shrunk_to v c = if c == v.capacity then v.cost else
+      (if c == 0 then no_cost else growing (length v.items) v.cost)
+
+  -- the same once its capacity is its length
   abbrev pub cost_shrunk : Thin T A → Cost
-  cost_shrunk v = if length v.items == v.capacity then v.cost else
-      (if length v.items == 0 then no_cost else growing (length v.items) v.cost)
+  cost_shrunk v = cost_shrunk_to v (length v.items)
 
 -- it was refused as an overflow only where no capacity was named
 abbrev pub IsCause : Option ℕ → ThinVecError → Type 0

@@ -1,19 +1,18 @@
-//! How a list's capacity changes: the one function that computes a ruled capacity, and the one that
+//! How a list's capacity grows: the one function that computes a ruled capacity, and the one that
 //! makes a growth.
 ghost use Rattle.std.specs.Prelude.{◌≡◌, ◌+◌, ◌<◌, ◌≤◌, [], IfErr, IfOk, IfSome, IsErrOf, IsFalse, IsOk, IsTrue, None, OnErr, OnOk, Some, length};
 ghost use Rattle.thin_block.specs.Capacity.{Fits};
-ghost use Rattle.thin_block.specs.Cost.{growing, no_cost};
+ghost use Rattle.thin_block.specs.Cost.{growing};
 ghost use Rattle.thin_block.specs.Growth.{Grows, exact_capacity};
 
 use crate::list::ThinVec;
 use std::alloc::Allocator;
 use std::marker::PhantomData;
-use std::mem;
 use thin_block::{Block, Growth, ThinVecError, fits};
 
 impl<T, A: Allocator, G: Growth> ThinVec<T, A, G> {
     ghost use Rattle.thin_vec.specs.Cheap.{IsCheap};
-    ghost use Rattle.thin_vec.specs.ThinVec.{HasRoomFor, IsCause, IsWithin, capacity_for, cost_at, cost_new, cost_shrunk, exact_for};
+    ghost use Rattle.thin_vec.specs.ThinVec.{HasRoomFor, IsCause, IsWithin, capacity_for, cost_at, cost_new, exact_for};
 
     /// Makes room for `additional` more items: where there is not room enough, the capacity becomes
     /// the ruled one.
@@ -74,32 +73,6 @@ impl<T, A: Allocator, G: Growth> ThinVec<T, A, G> {
             Some(want) if fits::<T>(want) => self.grow_to(want),
             _ => Err(ThinVecError::CapacityOverflow),
         }
-    }
-
-    /// Makes the capacity the length: a full list stays, and an empty one gives its block back.
-    ///
-    /// It is refused only where memory is, and then nothing changes. An empty list that gives its
-    /// block back begins its counters again.
-    pub fn shrink_to_fit(&mut self) -> Result<(), ThinVecError>
-        ensures succeeds_empty { length self.old.items ≡ 0 → IsOk result }
-        ensures succeeds_full { length self.old.items ≡ self.old.capacity → IsOk result }
-        ensures items { self.new.items ≡ self.old.items }
-        ensures capacity { OnOk result (self.new.capacity ≡ length self.old.items) }
-        ensures alloc { self.new.alloc ≡ self.old.alloc }
-        ensures cost { OnOk result (self.new.cost ≡ cost_shrunk self.old) }
-        ensures err { OnErr result (self.new ≡ self.old) }
-        ensures cause { IfErr result (λ cause. cause ≡ ThinVecError.OutOfMemory) }
-        ensures within { IsWithin T.row self.old × IsWithin T.row self.new }
-    {
-        let len = self.len();
-        if len == self.capacity() {
-            return Ok(());
-        }
-        if len == 0 {
-            self.give_block_back();
-            return Ok(());
-        }
-        self.shrink_to(len)
     }
 
     // `reserve` for a run of items. Its test is one comparison where the run's length is known when
@@ -198,37 +171,6 @@ impl<T, A: Allocator, G: Growth> ThinVec<T, A, G> {
     {
         self.block.grow(&self.alloc, cap)?;
         Ok(())
-    }
-
-    // `shrink_to_fit` of a list of `len` items that is neither empty nor full.
-    fn shrink_to(&mut self, len: usize) -> Result<(), ThinVecError>
-        requires some { 0 < len }
-        requires all { len ≡ length self.old.items }
-        requires smaller { len < self.old.capacity }
-        requires within { IsWithin T.row self.old }
-        ensures items { self.new.items ≡ self.old.items }
-        ensures capacity { OnOk result (self.new.capacity ≡ len) }
-        ensures alloc { self.new.alloc ≡ self.old.alloc }
-        ensures cost { OnOk result (self.new.cost ≡ growing len self.old.cost) }
-        ensures err { OnErr result (self.new ≡ self.old) }
-        ensures cause { IfErr result (λ cause. cause ≡ ThinVecError.OutOfMemory) }
-        ensures within { IsWithin T.row self.new }
-    {
-        self.block.shrink(&self.alloc, len)?;
-        Ok(())
-    }
-
-    // The block of an empty list is given back.
-    fn give_block_back(&mut self)
-        requires empty { self.old.items ≡ [] }
-        ensures items { self.new.items ≡ [] }
-        ensures capacity { self.new.capacity ≡ 0 }
-        ensures alloc { self.new.alloc ≡ self.old.alloc }
-        ensures cost { self.new.cost ≡ no_cost }
-        ensures within { IsWithin T.row self.new }
-    {
-        let block = mem::replace(&mut self.block, Block::none());
-        block.release(&self.alloc);
     }
 
     // An empty list of a capacity that fits, which owns no block at 0. Every list of an exact

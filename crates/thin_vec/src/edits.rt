@@ -1,7 +1,10 @@
 //! The plain edits: an item or the rest of a list goes in or out.
-ghost use Rattle.std.specs.Prelude.{◌≡◌, ◌+◌, ◌-◌, ◌<◌, ◌≤◌, ◌==◌, [], IfErr, IsErrAnd, IsOk, None, OnErr, OnOk, Some, if◌then◌else◌, insert, length, remove, slice_get, take};
+ghost use Rattle.std.specs.Prelude.{◌≡◌, ◌+◌, ◌-◌, ◌<◌, ◌≤◌, ◌==◌, [], ◌∷◌, ◌++◌, IfErr, IfOk, IsErrAnd, IsOk, None, OnErr, OnOk, Some, if◌then◌else◌, insert, length, remove, slice_get, take};
 ghost use Rattle.std.specs.List.{swap_remove};
+ghost use Rattle.std.specs.List.Retain.{PopsIf};
+ghost use types.Logic.{sem};
 ghost use Rattle.thin_block.specs.Cost.{moving};
+ghost use Rattle.thin_vec.specs.Added.{LendsAdded};
 
 use crate::errors::Rejected;
 use crate::list::ThinVec;
@@ -63,6 +66,48 @@ impl<T, A: Allocator, G: Growth> ThinVec<T, A, G> {
         self.block.put_and_store(index, value, len + 1);
     }
 
+    /// `push` that lends the item: what is written is what the list holds. (own)
+    ///
+    /// It fails as `push` does, and then nothing changes.
+    pub fn push_mut(&mut self, value: T) -> Result<&mut T, Rejected<T>>
+        ensures* writes_back { sem 𝓛
+            (LendsAdded T.row A.row G.row A.Allocator G.Growth self.entry
+            (λ x. self.old.items ++ x ∷ []) 1 result) }
+        ensures value { IfOk result (λ item. item.now ≡ value) }
+        ensures succeeds { HasRoomFor self.old 1 → IsOk result }
+        ensures overflow { capacity_for G.rule T.row self.old 1 ≡ None
+            → IsErrAnd result (λ refused. refused.cause ≡ ThinVecError.CapacityOverflow) }
+        ensures cause { IfErr result
+            (λ refused. IsCause (capacity_for G.rule T.row self.old 1) refused.cause) }
+        ensures value_returned { IfErr result (λ refused. refused.value ≡ value) }
+        ensures within { IsWithin T.row self.old }
+    {
+        let len = self.len();
+        self.push(value)?;
+        Ok(&mut self[len])
+    }
+
+    /// `insert` that lends the item: what is written is what the list holds. (own)
+    ///
+    /// It fails as `insert` does, and then nothing changes.
+    pub fn insert_mut(&mut self, index: usize, value: T) -> Result<&mut T, Rejected<T>>
+        requires in_bounds { index ≤ length self.old.items }
+        ensures* writes_back { sem 𝓛
+            (LendsAdded T.row A.row G.row A.Allocator G.Growth self.entry
+            (insert self.old.items index) (length self.old.items - index + 1) result) }
+        ensures value { IfOk result (λ item. item.now ≡ value) }
+        ensures succeeds { HasRoomFor self.old 1 → IsOk result }
+        ensures overflow { capacity_for G.rule T.row self.old 1 ≡ None
+            → IsErrAnd result (λ refused. refused.cause ≡ ThinVecError.CapacityOverflow) }
+        ensures cause { IfErr result
+            (λ refused. IsCause (capacity_for G.rule T.row self.old 1) refused.cause) }
+        ensures value_returned { IfErr result (λ refused. refused.value ≡ value) }
+        ensures within { IsWithin T.row self.old }
+    {
+        self.insert(index, value)?;
+        Ok(&mut self[index])
+    }
+
     /// Removes the item at `index` and hands it out. The items behind it move one place forward.
     pub fn remove(&mut self, index: usize) -> T
         requires in_bounds { index < length self.old.items }
@@ -96,6 +141,27 @@ impl<T, A: Allocator, G: Growth> ThinVec<T, A, G> {
         let value = self.block.take_replacing(index, last);
         self.block.store_len(last);
         value
+    }
+
+    /// Removes the last item and returns it, where `predicate` returns true of it; else it stays,
+    /// as `predicate` left it. It is called once, and not for an empty list. The capacity stays.
+    /// (own)
+    pub fn pop_if<P: FnOnce(&mut T) -> bool>(&mut self, predicate: P) -> Option<T>
+        requires callable { P.IsAlwaysCallable predicate }
+        ensures popped { PopsIf P.FnOnce self.old.items self.new.items predicate result }
+        ensures capacity { self.new.capacity ≡ self.old.capacity }
+        ensures alloc { self.new.alloc ≡ self.old.alloc }
+        ensures cost { self.new.cost ≡ self.old.cost }
+        ensures within { IsWithin T.row self.old × IsWithin T.row self.new }
+    {
+        let len = self.len();
+        if len == 0 {
+            return None;
+        }
+        if predicate(&mut self[len - 1]) {
+            return Some(self.pop_last());
+        }
+        None
     }
 }
 

@@ -25,10 +25,13 @@ mod placing;
 mod ranges;
 mod replacing;
 mod replacing_clones;
+mod resizing;
+mod shrinking;
 mod sifting;
 mod splice;
 mod traits;
 mod two_lists;
+mod within;
 
 pub use drain::Drain;
 pub use errors::{CollectRefused, ExtendRefused, Rejected, SpliceRefused};

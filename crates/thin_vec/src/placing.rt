@@ -1,5 +1,6 @@
 //! Loops over a block: items are put into its empty slots, or taken out to be dropped.
 ghost use Rattle.std.specs.Iterator.{IsFinite, size};
+ghost use Rattle.std.specs.List.{FoldsTo};
 ghost use Rattle.std.specs.Prelude.{true, false, ◌≡◌, ℕ, ◌+◌, ◌-◌, ◌<◌, ◌≤◌, List, HoldsAt, length, replicate};
 ghost use Rattle.thin_block.specs.Cost.{moving};
 ghost use Rattle.thin_block.specs.Slots.{AreEmpty, IsPacked, empty, full, laid, slot};
@@ -98,6 +99,29 @@ pub(crate) fn put_repeated<T: Clone, A: Allocator>(
         }
     }
     count
+}
+
+// Puts what calls of `make` return into the `count` empty slots from `start` on.
+pub(crate) fn put_results<T, A: Allocator, F: FnMut() -> T>(
+    block: &mut Block<T, A>,
+    start: usize,
+    count: usize,
+    mut make: F,
+)
+    requires in_bounds { start + count ≤ length block.old.slots }
+    requires empty { AreEmpty block.old.slots start count }
+    requires callable { F.IsAlwaysCallable make }
+    ensures slots { (xs : List T) × (last : F) × (length xs ≡ count) × FoldsTo F.step make xs last
+        × (block.new.slots ≡ laid start (full xs) block.old.slots) }
+    ensures len { block.new.len ≡ block.old.len }
+    ensures alloc { block.new.alloc ≡ block.old.alloc }
+    ensures cost { block.new.cost ≡ moving count block.old.cost }
+{
+    // No capacity is past `isize::MAX`, so no index is.
+    let _whole = block.cap();
+    for i in 0..count {
+        block.put(start + i, make());
+    }
 }
 
 // Puts what `iter` yields into the empty slots from `start` up to `end`. Returns the iterator,

@@ -19,21 +19,24 @@ pub mod splices;
 
 use crate::calls::arrays::Listed;
 use crate::calls::bytes::{FromStr, WriteAll, WriteSome};
-use crate::calls::clones::{CloneAsTrait, CloneOn, ExtendFromSlice, Resize};
+use crate::calls::clones::{
+    CloneAsTrait, CloneOn, ExtendFromSlice, ExtendFromWithin, Resize, ResizeWith,
+};
 use crate::calls::compared::{Compare, Print};
 use crate::calls::conversions::{FromOthers, FromSlice, IntoOthers, New, Repeated, WithCapacity};
 use crate::calls::copies::{CloneCopies, ExtendFromCopies, FromCopies};
 use crate::calls::ends::{
-    Clear, Insert, InsertReserved, Pop, Push, PushReserved, Remove, SwapRemove, Truncate,
+    Clear, Insert, InsertMut, InsertReserved, Pop, Push, PushMut, PushReserved, Remove, SwapRemove,
+    Truncate,
 };
 use crate::calls::filling::{Collect, Extend, ExtendAsTrait, FromIter};
-use crate::calls::filters::{Dedup, DedupBy, DedupByKey, Retain, RetainMut};
+use crate::calls::filters::{Dedup, DedupBy, DedupByKey, PopIf, Retain, RetainMut};
 use crate::calls::into_iter::{IntoIter, IntoIterClone};
 use crate::calls::joins::{Append, SplitOff};
 use crate::calls::ranges::{Bounds, Drained, Extracted};
 use crate::calls::reads::{AsMutSlice, Index, IndexMut, Iterate, IterateMut, Read};
 use crate::calls::replaced::{ReplaceRange, ReplaceRangeFromCopies, ReplaceRangeFromList};
-use crate::calls::rooms::{Reserve, ReserveExact, ShrinkToFit};
+use crate::calls::rooms::{Reserve, ReserveExact, ShrinkTo, ShrinkToFit};
 use crate::calls::shown::{AppendReserved, ExtendFromCopiesReserved, ExtendFromSliceReserved};
 use crate::calls::splices::Spliced;
 use crate::samples::Sample;
@@ -47,11 +50,15 @@ use thin_vec::{Doubling, PowerBytes};
 /// Sweeps the calls for which a list may grow.
 pub fn every_growth<T: Sample, G: Ruled, R: Abort>(rt: &R, scope: &Scope) {
     sweep::<Push, T, G, R>(rt, scope);
+    sweep::<PushMut, T, G, R>(rt, scope);
     sweep::<Insert, T, G, R>(rt, scope);
+    sweep::<InsertMut, T, G, R>(rt, scope);
     sweep::<Reserve, T, G, R>(rt, scope);
     sweep::<ReserveExact, T, G, R>(rt, scope);
     sweep::<Resize, T, G, R>(rt, scope);
+    sweep::<ResizeWith, T, G, R>(rt, scope);
     sweep::<ExtendFromSlice, T, G, R>(rt, scope);
+    sweep::<ExtendFromWithin, T, G, R>(rt, scope);
     sweep::<Append, T, G, R>(rt, scope);
     sweep::<Extend, T, G, R>(rt, scope);
     sweep::<Spliced, T, G, R>(rt, scope);
@@ -67,6 +74,7 @@ pub fn every_edit<T: Sample, G: Ruled, R: Abort>(rt: &R, scope: &Scope) {
     sweep::<SwapRemove, T, G, R>(rt, scope);
     sweep::<Truncate, T, G, R>(rt, scope);
     sweep::<Clear, T, G, R>(rt, scope);
+    sweep::<ShrinkTo, T, G, R>(rt, scope);
     sweep::<ShrinkToFit, T, G, R>(rt, scope);
     sweep::<SplitOff, T, G, R>(rt, scope);
     sweep::<IntoIter, T, G, R>(rt, scope);
@@ -93,6 +101,7 @@ pub fn every_replacing_by_copies<T: Sample + Copy, G: Ruled, R: Abort>(rt: &R, s
 pub fn every_filter<T: Sample, G: Ruled, R: Abort>(rt: &R, scope: &Scope) {
     sweep::<Retain, T, G, R>(rt, scope);
     sweep::<RetainMut, T, G, R>(rt, scope);
+    sweep::<PopIf, T, G, R>(rt, scope);
     sweep::<Dedup, T, G, R>(rt, scope);
     sweep::<DedupBy, T, G, R>(rt, scope);
     sweep::<DedupByKey, T, G, R>(rt, scope);

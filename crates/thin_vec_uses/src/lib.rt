@@ -18,6 +18,7 @@ pub mod sorting;
 pub mod sparse_counts;
 pub mod spliced;
 pub mod std_errors;
+pub mod std_names;
 pub mod style_lists;
 pub mod syntax_tree;
 pub mod walks;

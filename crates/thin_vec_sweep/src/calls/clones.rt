@@ -1,7 +1,9 @@
-//! The calls that clone: `resize`, `extend_from_slice`, `clone`.
+//! The calls that clone: `resize`, `extend_from_slice`, `extend_from_within`, `clone`; and
+//! `resize_with`.
+use crate::answers::{Questions, number_at};
 use crate::case::{Case, Verdict, numbers, source};
 use crate::samples::Sample;
-use crate::shapes::Shape;
+use crate::shapes::{Cases, Shape};
 use crate::sweep::Call;
 use other_rules::ruled::Ruled;
 use std::process::Abort;
@@ -21,16 +23,7 @@ impl<T: Sample, G: Ruled> Call<T, G> for Resize {
     }
 
     fn run<R: Abort>(rt: &R, case: &mut Case<T, G>, argument: usize) {
-        let shape = case.at.shape;
-        let more = match argument.checked_sub(shape.indices()) {
-            None => 0,
-            Some(number) => shape.count(number),
-        };
-        let len = if argument < shape.indices() {
-            shape.index(argument)
-        } else {
-            shape.length.saturating_add(more)
-        };
+        let (len, more) = length(case.at.shape, argument);
         let value = case.item(rt, FRESH);
         let capacity = case.ruled(more);
         let verdict = case.growth(capacity, more.saturating_sub(1));
@@ -39,6 +32,51 @@ impl<T: Sample, G: Ruled> Call<T, G> for Resize {
         case.answered(rt, answer, verdict);
         if verdict == Verdict::Done {
             case.items.resize(len, FRESH).expect(rt, "memory");
+        }
+    }
+}
+
+// The new length, and by how much that is more: each index, and each count longer.
+fn length(shape: Shape, argument: usize) -> (usize, usize) {
+    match argument.checked_sub(shape.indices()) {
+        None => (shape.index(argument), 0),
+        Some(number) => {
+            let more = shape.count(number);
+            (shape.length.saturating_add(more), more)
+        }
+    }
+}
+
+/// To the same lengths. The closure owns a vector, whose items it gives from the last on.
+pub struct ResizeWith {}
+
+impl<T: Sample, G: Ruled> Call<T, G> for ResizeWith {
+    const NAME: &'static str = "resize_with";
+
+    fn arguments(shape: Shape) -> usize {
+        shape.indices().saturating_add(shape.counts())
+    }
+
+    fn run<R: Abort>(rt: &R, case: &mut Case<T, G>, argument: usize) {
+        let (len, more) = length(case.at.shape, argument);
+        let mut made: Vec<T> = source(rt, case.ledger, FRESH, more);
+        let questions = Questions::new();
+        let asked = &questions;
+        let capacity = case.ruled(more);
+        let verdict = case.growth(capacity, 0);
+        case.begin();
+        let answer = case.list.resize_with(len, move || {
+            let _number = asked.next();
+            made.pop().expect(rt, "an item")
+        });
+        case.answered(rt, answer, verdict);
+        let due = if verdict == Verdict::Done { more } else { 0 };
+        questions.end(rt, &case.at, due);
+        if verdict == Verdict::Done {
+            case.items.truncate(len);
+            let mut new = numbers(rt, case.ledger, FRESH, more);
+            new.reverse();
+            case.items.append(&mut new).expect(rt, "memory");
         }
     }
 }
@@ -61,6 +99,38 @@ impl<T: Sample, G: Ruled> Call<T, G> for ExtendFromSlice {
         let answer = case.list.extend_from_slice(new.as_slice());
         case.answered(rt, answer, verdict);
         case.add(rt, FRESH, count, verdict);
+    }
+}
+
+// Each range of few items once.
+const EACH_RANGE: Cases = [1; 7];
+
+/// By each range of few items, and by some ranges of more.
+pub struct ExtendFromWithin {}
+
+impl<T: Sample, G: Ruled> Call<T, G> for ExtendFromWithin {
+    const NAME: &'static str = "extend_from_within";
+
+    fn arguments(shape: Shape) -> usize {
+        if shape.length < EACH_RANGE.len() {
+            shape.ranged_cases(&EACH_RANGE)
+        } else {
+            4
+        }
+    }
+
+    fn run<R: Abort>(rt: &R, case: &mut Case<T, G>, argument: usize) {
+        let range = case.at.shape.ranged_case(&EACH_RANGE, argument);
+        let count = range.width();
+        let capacity = case.ruled(count);
+        let verdict = case.growth(capacity, count);
+        case.begin();
+        if range.start > range.end || range.end > case.list.len() {
+            return;
+        }
+        let answer = case.list.extend_from_within(range.start, range.end);
+        case.answered(rt, answer, verdict);
+        case.add(rt, number_at(range.start), count, verdict);
     }
 }
 

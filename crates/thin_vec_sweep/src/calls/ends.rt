@@ -1,14 +1,19 @@
-//! An item, or the rest of a list, comes in or goes out: `push`, `push_reserved`, `pop`, `insert`,
-//! `insert_reserved`, `remove`, `swap_remove`, `truncate`, `clear`.
-use crate::case::{Case, same};
+//! An item, or the rest of a list, comes in or goes out: `push`, `push_mut`, `push_reserved`, `pop`,
+//! `insert`, `insert_mut`, `insert_reserved`, `remove`, `swap_remove`, `truncate`, `clear`.
+use crate::case::{Case, Verdict};
 use crate::samples::Sample;
 use crate::shapes::Shape;
 use crate::sweep::Call;
 use other_rules::ruled::Ruled;
+use std::mem;
 use std::process::Abort;
+use thin_vec::Rejected;
 
 // The number of an item that comes in.
 const FRESH: u64 = 70_000;
+
+// And of one in whose place that comes.
+const PASSED: u64 = 71_000;
 
 pub struct Push {}
 
@@ -23,6 +28,54 @@ impl<T: Sample, G: Ruled> Call<T, G> for Push {
         let answer = case.list.push(item);
         let index = case.items.len();
         case.put(rt, index, FRESH, verdict, answer);
+    }
+}
+
+/// Another item is put into the place that is lent.
+pub struct PushMut {}
+
+impl<T: Sample, G: Ruled> Call<T, G> for PushMut {
+    const NAME: &'static str = "push_mut";
+
+    fn run<R: Abort>(rt: &R, case: &mut Case<T, G>, _argument: usize) {
+        let item = case.item(rt, PASSED);
+        let mut hand = case.item(rt, FRESH);
+        let capacity = case.ruled(1);
+        let verdict = case.growth(capacity, 0);
+        case.begin();
+        let answer = exchanged(case.list.push_mut(item), &mut hand);
+        let index = case.items.len();
+        lent(rt, case, index, verdict, answer, &hand);
+    }
+}
+
+// Puts what is in hand into the place that a call lends, where it lends one.
+fn exchanged<T>(lent: Result<&mut T, Rejected<T>>, hand: &mut T) -> Result<(), Rejected<T>> {
+    match lent {
+        Ok(place) => {
+            mem::swap(place, hand);
+            Ok(())
+        }
+        Err(refused) => Err(refused),
+    }
+}
+
+// What a call answered that lends the place at `index`: the item that it was given is in hand, or
+// is handed back.
+fn lent<T: Sample, G: Ruled, R: Abort>(
+    rt: &R,
+    case: &mut Case<T, G>,
+    index: usize,
+    verdict: Verdict,
+    answer: Result<(), Rejected<T>>,
+    hand: &T,
+) {
+    match answer {
+        Ok(()) => {
+            case.handed(rt, hand, PASSED);
+            case.put(rt, index, FRESH, verdict, Ok(()));
+        }
+        Err(refused) => case.put(rt, index, PASSED, verdict, Err(refused)),
     }
 }
 
@@ -66,6 +119,31 @@ impl<T: Sample, G: Ruled> Call<T, G> for Insert {
         }
         let answer = case.list.insert(index, item);
         case.put(rt, index, FRESH, verdict, answer);
+    }
+}
+
+/// Another item is put into the place that is lent.
+pub struct InsertMut {}
+
+impl<T: Sample, G: Ruled> Call<T, G> for InsertMut {
+    const NAME: &'static str = "insert_mut";
+
+    fn arguments(shape: Shape) -> usize {
+        shape.indices()
+    }
+
+    fn run<R: Abort>(rt: &R, case: &mut Case<T, G>, argument: usize) {
+        let index = case.at.shape.index(argument);
+        let item = case.item(rt, PASSED);
+        let mut hand = case.item(rt, FRESH);
+        let capacity = case.ruled(1);
+        let verdict = case.growth(capacity, 0);
+        case.begin();
+        if index > case.list.len() {
+            return;
+        }
+        let answer = exchanged(case.list.insert_mut(index, item), &mut hand);
+        lent(rt, case, index, verdict, answer, &hand);
     }
 }
 

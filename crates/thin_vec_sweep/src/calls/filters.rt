@@ -78,6 +78,40 @@ impl<T: Sample, G: Ruled> Call<T, G> for RetainMut {
     }
 }
 
+/// The closure puts an item that it owns into the place of the last one, which it drops with it, and
+/// says that it stays, or goes.
+pub struct PopIf {}
+
+impl<T: Sample, G: Ruled> Call<T, G> for PopIf {
+    const NAME: &'static str = "pop_if";
+
+    fn arguments(_shape: Shape) -> usize {
+        2
+    }
+
+    fn run<R: Abort>(rt: &R, case: &mut Case<T, G>, argument: usize) {
+        let count = case.at.shape.length;
+        let goes = argument == 1;
+        let questions = Questions::new();
+        let asked = &questions;
+        let mut hand = case.item(rt, FRESH);
+        case.begin();
+        let item = case.list.pop_if(move |last| {
+            let number = asked.next().saturating_add(count);
+            asked.about(&*last, number as u64);
+            mem::swap(last, &mut hand);
+            goes
+        });
+        questions.end(rt, &case.at, count.min(1));
+        let is_there = case.items.pop().is_some();
+        if is_there && !goes {
+            case.items.push(FRESH).ok().expect(rt, "memory");
+        }
+        let popped = if is_there && goes { Some(FRESH) } else { None };
+        case.handed_or_none(rt, item, popped);
+    }
+}
+
 /// The closure exchanges its two items.
 pub struct DedupBy {}
 

@@ -1,4 +1,5 @@
-//! The capacity changes, and nothing else: `reserve`, `reserve_exact`, `shrink_to_fit`.
+//! The capacity changes, and nothing else: `reserve`, `reserve_exact`, `shrink_to`,
+//! `shrink_to_fit`.
 use crate::case::Case;
 use crate::samples::Sample;
 use crate::shapes::Shape;
@@ -48,6 +49,32 @@ impl<T: Sample, G: Ruled> Call<T, G> for ReserveExact {
         let verdict = case.growth(capacity, 0);
         case.begin();
         let answer = case.list.reserve_exact(additional);
+        case.answered(rt, answer, verdict);
+    }
+}
+
+/// To each index, to one past the length, to the capacity, and to `usize::MAX`.
+pub struct ShrinkTo {}
+
+impl<T: Sample, G: Ruled> Call<T, G> for ShrinkTo {
+    const NAME: &'static str = "shrink_to";
+
+    fn arguments(shape: Shape) -> usize {
+        shape.indices().saturating_add(3)
+    }
+
+    fn run<R: Abort>(rt: &R, case: &mut Case<T, G>, argument: usize) {
+        let shape = case.at.shape;
+        let least = match argument.checked_sub(shape.indices()) {
+            None => shape.index(argument),
+            Some(0) => shape.length.saturating_add(1),
+            Some(1) => case.capacity,
+            Some(_) => usize::MAX,
+        };
+        let capacity = case.capacity.min(least.max(shape.length));
+        let verdict = case.growth(Some(capacity), 0);
+        case.begin();
+        let answer = case.list.shrink_to(least);
         case.answered(rt, answer, verdict);
     }
 }

@@ -5,16 +5,18 @@ use Rattle.thin_vec.proofs.ListLemmas.{Settled}
 use Rattle.thin_block.proofs.CapacityLemmas.{fits-less}
 use denote.Param.{param}
 use Rattle.thin_vec.proofs.ThinVecLemmas.{within-settled}
-use Rattle.thin_vec.proofs.list.ThinVec.shrink_to.Goals.{In_ok-shrink}
+use Rattle.thin_vec.proofs.list.ThinVec.shrink_block.Goals.{In_ok-shrink}
 use Rattle.thin_vec.proofs.CapacityLemmas.{settle-shrink}
-use Rattle.thin_vec.proofs.list.ThinVec.shrink_to.Goals as goal
+use Rattle.thin_vec.proofs.list.ThinVec.shrink_block.Goals as goal
 
 facts : (g : _) (c : In_ok-shrink g) → Settled c.shrink.new.self c.self.inside.alloc
-    (items_in c.self.inside.block.slots) c.args.len
+    (items_in c.self.inside.block.slots) c.args.cap
 facts g c =
     settle-shrink c.self.inside.block c.shrink.new.self c.self.inside.alloc
-    c.args.len c.self.invariant
-    (c.requires.all ∙ sym (ap (λ v. length v.items) c.self.view_is)) c.in_ok-shrink.ensures.slots
+    c.args.cap c.self.invariant
+    (omega (arith, c.requires.room, ap (λ v. length v.items) c.self.view_is))
+    (omega (arith, c.requires.smaller, ap (λ v. v.capacity) c.self.view_is))
+    c.in_ok-shrink.ensures.slots
     c.shrink.ensures.len c.in_ok-shrink.ensures.alloc
 
 pub invariant_of-self-2 : goal.invariant_of-self-2
@@ -26,5 +28,5 @@ returns-clause-items g c = (facts g c).items ∙ ap (λ v. v.items) c.self.view_
 pub returns-clause-within : goal.returns-clause-within
 returns-clause-within g c =
     within-settled _ _ _ _ _
-    (fits-less (param 0 g.row.T) c.args.len c.args.self.now.capacity c.requires.within.fits
+    (fits-less (param 0 g.row.T) c.args.cap c.args.self.now.capacity c.requires.within.fits
     (omega arith)) (facts g c)

@@ -1,0 +1,21 @@
+-- So many items of the range were cloned.
+use Rattle.std.proofs.Common.{◌≡◌, ◌+◌, length, take}
+use Rattle.std.specs.List.{AppendsClones}
+use Rattle.std.specs.Prelude.{slice_range}
+use Rattle.thin_block.specs.Cost.{moving}
+use denote.Param.{param}
+use Rattle.thin_vec.specs.ThinVec.{IsWithin}
+use Rattle.thin_vec.proofs.list.ThinVec.push_clones_within.Given as goal
+
+-- clones of the first i items of the range were pushed
+abbrev pub invariant-loop-i : goal.invariant-loop-i
+invariant-loop-i g l =
+    record {
+      items : AppendsClones g.T.Clone.is_clone l.fn.self.items l.self.items
+          (take l.i (slice_range l.fn.self.items l.start l.end));
+      len : length l.self.items ≡ length l.fn.self.items + l.i;
+      capacity : l.self.capacity ≡ l.fn.self.capacity;
+      alloc : l.self.alloc ≡ l.fn.self.alloc;
+      cost : l.self.cost ≡ moving l.i l.fn.self.cost;
+      within : IsWithin (param 0 g.row.T) l.self;
+    }

@@ -1,0 +1,42 @@
+-- The item that came in is lent, and what is written is what the list holds last.
+use Rattle.std.proofs.Common.{[], ap, arith, get_or, refl, sym, ◌∙◌}
+use Rattle.std.proofs.lemmas.List.{get_or_at, set_at}
+use lib.ListN.{length-set, set}
+use Rattle.thin_block.proofs.Outcomes.{none-some}
+use Rattle.thin_vec.proofs.ThinVecLemmas.{within-like}
+use Rattle.thin_vec.proofs.list.ThinVec.push_mut.Goals as goal
+
+pub returns : goal.returns
+returns g c =
+    let xs = c.args.self.now.items in
+    let i = c.len-len.result in
+    let v = c.args.value in
+    let new = c.push.new.self in
+    let put = c.in_ok-push.ensures.items in
+    let at = sym c.len-len.ensures.value in
+    let y = c.index_mut.result.now in
+    let within = c.push.ensures.within in (
+      (
+        refl,
+        λ w _. record {
+          items = ap (λ l. set l i w) put ∙ set_at xs v [] w i at;
+          capacity = c.in_ok-push.ensures.capacity;
+          alloc = c.push.ensures.alloc;
+          cost = c.in_ok-push.ensures.cost;
+          cheap = c.push.ensures.cheap;
+          within = within-like _ _ new within.1 refl
+              (omega (arith, length-set new.items i w, within.1.room));
+        },
+        tt,
+      ),
+      record {
+        writes_back = tt;
+        value = c.index_mut.ensures.item
+            ∙ (ap (λ l. get_or l i y) put ∙ get_or_at xs v [] y i at);
+        succeeds = λ _. refl;
+        overflow = λ none. absurd (none-some none c.in_ok-push.ensures.capacity);
+        cause = tt;
+        value_returned = tt;
+        within = within.0;
+      },
+    )

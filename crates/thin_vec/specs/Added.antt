@@ -1,0 +1,30 @@
+-- What a list holds once the `&mut` to an item that came in ends. (std: `Vec::push_mut`,
+-- `Vec::insert_mut`)
+use Rattle.std.specs.Prelude.{◌≡◌, ℕ, List, Result, Some}
+use Rattle.std.specs.declared.alloc.Allocator.{Ghosts as AllocatorGhosts}
+use Rattle.std.specs.Borrow.{Fml, LendsSoOk, MutBor, RattleType}
+use Rattle.thin_block.specs.Cost.{moving}
+use Rattle.thin_block.specs.Growth.{Rule}
+use Rattle.thin_block.specs.declared.growth.Growth.{Ghosts as GrowthGhosts}
+use Rattle.thin_vec.specs.Cheap.{IsCheap}
+use Rattle.thin_vec.specs.ThinVec.{Thin, IsWithin, capacity_for, cost_at}
+use Rattle.thin_vec.specs.contracts.list.ThinVec.{the_row}
+
+-- w is v at the ruled capacity for one item more, and holds xs, after k moves
+pub record IsAdded {T A : Type 0} (rule : Rule) (R : RattleType) (v : Thin T A) (xs : List T)
+    (k : ℕ) (w : Thin T A) : Type 0 where
+  pub items : w.items ≡ xs
+  pub capacity : capacity_for rule R v 1 ≡ Some w.capacity
+  pub alloc : w.alloc ≡ v.alloc
+  pub cost : w.cost ≡ moving k (cost_at v w.capacity)
+  pub cheap : IsCheap v → IsCheap w
+  pub within : IsWithin R w
+
+module _ (T A G : RattleType) (a : AllocatorGhosts A.Denot) (g : GrowthGhosts G.Denot)
+    (v : MutBor (Thin T.Denot A.Denot)) where
+  -- r is an item that came in after k moves, with which v has the items of `holding`; where there
+  -- is none, v is as before
+  abbrev pub LendsAdded : {E : Type 0} → (T.Denot → List T.Denot) → ℕ
+      → Result (MutBor T.Denot) E → Fml
+  LendsAdded holding k r = LendsSoOk (the_row T A G a g) T v r
+      (λ w x. IsAdded g.rule T v.now (holding x) k w) (λ w. w ≡ v.now)
