@@ -1,5 +1,5 @@
 -- How a change is taken back, and the texts that a list of changes makes, by its last one.
-use Rattle.std.proofs.Common.{◌≡◌, ℕ, zero, suc, ◌+◌, ◌-◌, ◌<◌, ◌≤◌, List, [], ◌∷◌, ◌++◌, length, take, drop, reverse, slice_range, refl, sym, ap, subst, ◌∙◌, arith, length-append, append_assoc}
+use Rattle.std.proofs.Common.{◌≡◌, ℕ, zero, suc, ◌+◌, ◌-◌, ◌≤◌, List, [], ◌∷◌, ◌++◌, length, take, drop, reverse, slice_range, refl, sym, ap, subst, ◌∙◌, arith, length-append, append_assoc}
 use Rattle.std.proofs.lemmas.List.{drop-drop, drop_at, length-drop, length-reverse, length-take-le, reverse-append, take-append-drop, take_at}
 use Rattle.std.specs.List.{replace_range}
 use Rattle.text_editor.specs.Changes.{AllFit, FitAlong, Fits, changed, texts_along, texts_of}
@@ -17,8 +17,12 @@ module _ (change : Change) (n : ℕ) (text new : List ℕ) (fits : Fits change t
   comes_in =
       let front : List ℕ = take change.start text in
       let same : length new ≡ length (changed change text) = ap length made in
-      omega (arith, short, length-append (front ++ change.characters.items) (drop change.end text),
-      length-append front change.characters.items)
+      omega (
+        arith,
+        short,
+        length-append (front ++ change.characters.items) (drop change.end text),
+        length-append front change.characters.items,
+      )
 
   -- the characters that were replaced, in the place of those that replaced them
   pub takes_back : (old : List ℕ) → old ≡ slice_range text change.start change.end
@@ -28,13 +32,13 @@ module _ (change : Change) (n : ℕ) (text new : List ℕ) (fits : Fits change t
       let e : ℕ = change.end in
       let xs : List ℕ = change.characters.items in
       let front : take s ((take s text ++ xs) ++ drop e text) ≡ take s text =
-          rw append_assoc (take_at (take s text) (xs ++ drop e text) s short) in
+      rw append_assoc (take_at (take s text) (xs ++ drop e text) s short) in
       let behind : drop (s + n) ((take s text ++ xs) ++ drop e text) ≡ drop e text =
-          drop_at (take s text ++ xs) (drop e text) (s + n)
-          (omega (arith, short, length-append (take s text) xs)) in
+      drop_at (take s text ++ xs) (drop e text) (s + n)
+      (omega (arith, short, length-append (take s text) xs)) in
       let more : s + (e - s) ≡ e = omega (arith, fits.start_le_end) in
       let rest : drop (e - s) (drop s text) ≡ drop e text =
-          drop-drop (e - s) s text ∙ ap (λ (k : ℕ). drop k text) more in
+      drop-drop (e - s) s text ∙ ap (λ (k : ℕ). drop k text) more in
       rw (made, is, front, behind, ← rest)
       (sym (append_assoc (take s text) (take (e - s) (drop s text)) (drop (e - s) (drop s text))
       ∙ (ap (λ (l : List ℕ). take s text ++ l) (take-append-drop (e - s) (drop s text))
@@ -97,10 +101,10 @@ reverse-drop : (m : ℕ) (changes : List Change)
 reverse-drop m changes =
     let left : List Change = reverse (drop m changes) in
     let whole : reverse changes ≡ left ++ reverse (take m changes) =
-        ap (λ (cs : List Change). reverse cs) (sym (take-append-drop m changes))
-        ∙ reverse-append (take m changes) (drop m changes) in
+    ap (λ (cs : List Change). reverse cs) (sym (take-append-drop m changes))
+    ∙ reverse-append (take m changes) (drop m changes) in
     let count : length left ≡ length changes - m =
-        length-reverse (drop m changes) ∙ length-drop m changes in
+    length-reverse (drop m changes) ∙ length-drop m changes in
     rw whole (sym (take_at left (reverse (take m changes)) (length changes - m) count))
 
 -- changes whose first m are forgotten
@@ -120,5 +124,6 @@ module _ (m : ℕ) (changes : List Change) (text : List ℕ) where
 pub no_text : (changes : List Change) (text : List ℕ) → texts_of changes text ≡ []
     → changes ≡ []
 no_text changes text none =
-    let counted : length (texts_of changes text) ≡ 0 = ap (λ (ts : List (List ℕ)). length ts) none in
+    let counted : length (texts_of changes text) ≡ 0 =
+    ap (λ (ts : List (List ℕ)). length ts) none in
     nothing changes (omega (arith, length-texts_of changes text))

@@ -1,3 +1,4 @@
--- The words of the contracts: what a change does, and what an editor is seen as.
+-- The words of the contracts: changes, what an editor is seen as, and commands.
 pub mod Changes
+pub mod Commands
 pub mod History

@@ -1,5 +1,5 @@
 //! The commands, a line each.
-ghost use Rattle.std.specs.Prelude.{◌≡◌, OnErr};
+ghost use Rattle.std.specs.Prelude.{◌≡◌, OnErr, OnOk};
 
 use crate::edit_error::EditError;
 use crate::editor::Editor;
@@ -22,6 +22,8 @@ pub enum Command {
 }
 
 impl Command {
+    ghost use Rattle.text_editor.specs.Commands.{Does};
+
     /// The command that the line says.
     pub fn parse(alloc: Global, line: &str) -> Result<Command, EditError> {
         let (name, rest) = first_word(line);
@@ -48,8 +50,9 @@ impl Command {
         }
     }
 
-    /// Does the command. Where it fails, the text and its history are as before.
+    /// Does the command. It fails as the editor's call does.
     pub fn run(self, editor: &mut Editor) -> Result<(), EditError>
+        ensures ok { OnOk result (Does self editor.old editor.new) }
         ensures err { OnErr result (editor.new ≡ editor.old) }
     {
         match self {

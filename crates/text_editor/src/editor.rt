@@ -10,7 +10,8 @@ use std::alloc::Global;
 use std::marker::Model;
 use thin_vec::{ThinVec, ThinVecError};
 
-/// A text with the history of its edits.
+/// A text with the history of its edits. Contracts see the text, those to which `undo` leads, one
+/// after another, and those to which `redo` does.
 #[derive(Drop)]
 pub struct Editor {
     text: ThinVec<char>,
@@ -31,7 +32,8 @@ impl Model for Editor {
       future = texts_of e.future.items e.text.items;
     } };
 
-    ghost invariant = { λ e. AllFit e.past.items e.text.items × AllFit e.future.items e.text.items };
+    ghost invariant = { λ e. AllFit e.past.items e.text.items
+        × AllFit e.future.items e.text.items };
 }
 
 impl Editor {

@@ -8,9 +8,13 @@ pub overflow_add-end : goal.overflow_add-end
 overflow_add-end c =
     let text = c.replace_range_from_copies.new.self.items in
     let after = c.in_ok-replace_range_from_copies.ensures in
-    omega (arith, after.within.1.room, after.within.1.small,
-    comes_in c.args.self.now c.len.result c.args.text.now.items text c.requires.fits
-    c.len.ensures.value (cc (after.items, c.deref-2.ensures)))
+    omega (
+      arith,
+      after.within.1.room,
+      after.within.1.small,
+      comes_in c.args.self.now c.len.result c.args.text.now.items text c.requires.fits
+          c.len.ensures.value (cc (after.items, c.deref-2.ensures)),
+    )
 
 pub returns-clause-all_fit : goal.returns-clause-all_fit
 returns-clause-all_fit c =
@@ -18,7 +22,7 @@ returns-clause-all_fit c =
     let text = c.args.text.now.items in
     let new = c.replace_range_from_copies.new.self.items in
     let made : new ≡ changed change text =
-        cc (c.in_ok-replace_range_from_copies.ensures.items, c.deref-2.ensures) in
+    cc (c.in_ok-replace_range_from_copies.ensures.items, c.deref-2.ensures) in
     AllFit-last c.push_reserved.new.self.items c.args.back.now.items _ new text
     (rw c.reserve.ensures.items at c.push_reserved.ensures.items)
     (takes_back change c.len.result text new c.requires.fits c.len.ensures.value made _
@@ -35,7 +39,7 @@ returns-clause-texts c =
     let text = c.args.text.now.items in
     let new = c.replace_range_from_copies.new.self.items in
     let made : new ≡ changed change text =
-        cc (c.in_ok-replace_range_from_copies.ensures.items, c.deref-2.ensures) in
+    cc (c.in_ok-replace_range_from_copies.ensures.items, c.deref-2.ensures) in
     texts_of-last c.push_reserved.new.self.items c.args.back.now.items _ new text
     (rw c.reserve.ensures.items at c.push_reserved.ensures.items)
     (takes_back change c.len.result text new c.requires.fits c.len.ensures.value made _

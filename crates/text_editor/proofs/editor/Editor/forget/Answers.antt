@@ -1,5 +1,5 @@
 -- What is left of the past is its first texts, as many as changes.
-use Rattle.std.proofs.Common.{◌≡◌, ℕ, ◌-◌, List, ap, arith, drop, length, rules, sym, take, ◌∙◌}
+use Rattle.std.proofs.Common.{◌≡◌, ℕ, ◌-◌, ap, arith, drop, length, rules, sym, take, ◌∙◌}
 use Rattle.std.proofs.lemmas.List.{take_all}
 use Rattle.text_editor.proofs.ChangesLemmas.{AllFit-drop, length-texts_of, texts_of-drop}
 use Rattle.text_editor.specs.Changes.{texts_of}
@@ -9,8 +9,9 @@ use Rattle.text_editor.proofs.editor.Editor.forget.Goals as goal
 pub invariant_of-self : goal.invariant_of-self
 invariant_of-self c =
     let past = c.self.inside.past.items in
-    let kept : c.drop-drain.new.self.0.items ≡ drop (c.len-then-count-len.result - c.args.count) past = search rules in
-    (rw kept (AllFit-drop _ past _ c.self.invariant.0), c.self.invariant.1)
+    let oldest = c.len-then-count-len.result - c.args.count in
+    let kept : c.drop-drain.new.self.0.items ≡ drop oldest past = search rules in
+    (rw kept (AllFit-drop oldest past _ c.self.invariant.0), c.self.invariant.1)
 
 pub returns-then-count-len-clause-past : goal.returns-then-count-len-clause-past
 returns-then-count-len-clause-past c =

@@ -5,8 +5,10 @@ use Rattle.text_editor.specs.History.{History}
 use Rattle.text_editor.proofs.editor.Editor.redo.Goals as goal
 
 pub returns-in_err-step-clause-nothing : goal.returns-in_err-step-clause-nothing
-returns-in_err-step-clause-nothing c = (
-  search rules,
-  λ none. cc (c.is_empty.ensures.value.1 (no_text c.self.inside.future.items c.self.inside.text.items
-      (ap (λ (h : History). h.future) c.self.view_is ∙ none))),
-)
+returns-in_err-step-clause-nothing c =
+    let inside = c.self.inside in
+    let seen = ap (λ (h : History). h.future) c.self.view_is in (
+      search rules,
+      λ none. cc (c.is_empty.ensures.value.1
+          (no_text inside.future.items inside.text.items (seen ∙ none))),
+    )

@@ -1,0 +1,17 @@
+-- What the commands do.
+use Rattle.std.specs.Prelude.{◌≡◌, [], ◌∷◌, take}
+use Rattle.std.specs.List.{replace_range}
+use Rattle.text_editor.specs.History.{History}
+use Rattle.text_editor.specs.declared.command.Command.{Command}
+use Rattle.text_editor.specs.declared.command.Command.TheVariants.{Forget, Print, Redo, Replace, Undo}
+
+-- the editor before a command that did not fail, and after it
+abbrev pub Does : Command → History → History → Type 0
+Does (Replace start end characters) old new =
+    (new.text ≡ replace_range old.text start end characters.items)
+    × (new.past ≡ old.text ∷ old.past) × (new.future ≡ [])
+Does Undo old new = (old.past ≡ new.text ∷ new.past) × (new.future ≡ old.text ∷ old.future)
+Does Redo old new = (old.future ≡ new.text ∷ new.future) × (new.past ≡ old.text ∷ old.past)
+Does (Forget count) old new =
+    (new.past ≡ take count old.past) × (new.text ≡ old.text) × (new.future ≡ old.future)
+Does Print old new = new ≡ old
