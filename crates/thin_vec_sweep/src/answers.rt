@@ -16,7 +16,7 @@ pub fn stays(count: usize, pattern: usize, index: usize) -> bool {
         return pattern >> (index % 64) & 1 == 0;
     }
     match pattern {
-        0 => index % 16 != 7,
+        0 => index % 16 / 2 != 3,
         1 => index % 2 == 0,
         2 => true,
         3 => false,

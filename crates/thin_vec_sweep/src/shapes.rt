@@ -13,8 +13,11 @@ pub const SHAPES: usize = 110;
 /// How many of them are of at most 40 items.
 pub const SHORT: usize = 107;
 
-/// The number of one shape more: of 100,000 items.
+/// The number of the first of two shapes more: of 100,000 items.
 pub const LONGEST: usize = SHAPES;
+
+/// How many shapes there are with those.
+pub const ALL: usize = LONGEST + 2;
 
 // How many further items: for a short list, for one of up to 40 items, for a long one, and for the
 // longest.
@@ -50,7 +53,7 @@ impl Ranged {
 
 impl Shape {
     /// The shape of that number: 0 to 4 items with 0 to 4 places beside them, then 0 to 40 items
-    /// with 0 and 1, then some thousands, and then the longest.
+    /// with 0 and 1, then some thousands, and then the longest with 1 and 0.
     pub fn nth(number: usize) -> Shape {
         if number < 25 {
             return Shape {
@@ -78,9 +81,9 @@ impl Shape {
                 length: 10000,
                 spare: 0,
             },
-            _ => Shape {
+            longest => Shape {
                 length: 100_000,
-                spare: 0,
+                spare: longest % 2,
             },
         }
     }

@@ -6,7 +6,7 @@ use crate::calls::{
 };
 use crate::ledger::Ledger;
 use crate::samples::{Counted, Inner};
-use crate::shapes::{LONGEST, SHAPES, SHORT};
+use crate::shapes::{ALL, LONGEST, SHAPES, SHORT};
 use crate::sweep::Scope;
 use other_rules::{Fourfold, Threefold};
 use std::alloc::Global;
@@ -29,11 +29,11 @@ fn short<R: Abort>(rt: &R, alloc: Global) -> Scope {
     }
 }
 
-// The longest shape alone.
+// The longest shapes alone.
 fn longest<R: Abort>(rt: &R, alloc: Global) -> Scope {
     Scope {
         ledger: Ledger::new(rt, alloc),
-        shapes: LONGEST..LONGEST + 1,
+        shapes: LONGEST..ALL,
     }
 }
 
@@ -275,6 +275,13 @@ fn sweeps_replaced_ranges_of_counted_items(rt: HostRuntime) {
 }
 
 #[test]
+fn sweeps_replaced_ranges_of_items_of_512_bytes(rt: HostRuntime) {
+    let scope = short(&rt, rt.alloc());
+    every_replacing::<[u64; 64], Doubling, _>(&rt, &scope);
+    every_replacing_by_copies::<[u64; 64], Doubling, _>(&rt, &scope);
+}
+
+#[test]
 fn sweeps_comparisons_and_texts(rt: HostRuntime) {
     let scope = all(&rt, rt.alloc());
     every_comparing::<(), _>(&rt, &scope);
@@ -292,6 +299,8 @@ fn sweeps_bytes_and_bounds(rt: HostRuntime) {
 fn sweeps_growths_of_a_long_list(rt: HostRuntime) {
     let scope = longest(&rt, rt.alloc());
     every_growth::<Counted, Doubling, _>(&rt, &scope);
+    every_replacing::<Counted, Doubling, _>(&rt, &scope);
+    every_replacing_by_copies::<i32, Doubling, _>(&rt, &scope);
 }
 
 #[test]
@@ -306,5 +315,6 @@ fn sweeps_readings_and_makings_of_a_long_list(rt: HostRuntime) {
     let scope = longest(&rt, rt.alloc());
     every_reading::<Counted, Doubling, _>(&rt, &scope);
     every_making::<Counted, _>(&rt, &scope);
+    every_copying::<u64, _>(&rt, &scope);
     every_call_of_bytes(&rt, &scope);
 }

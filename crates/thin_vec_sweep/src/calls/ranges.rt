@@ -1,7 +1,7 @@
 //! Calls by which the items of a range go out, given up after any steps, and the test for ranges.
 use crate::answers::{number_at, stays};
 use crate::case::{At, Case, same, same_item, same_items};
-use crate::samples::{Counted, Sample};
+use crate::samples::Sample;
 use crate::shapes::{Cases, Ranged, Shape};
 use crate::sweep::Call;
 use crate::walks::{Remaining, WALKS, Walk, some_steps};
@@ -83,8 +83,7 @@ impl<T: Sample, G: Ruled> Call<T, G> for Extracted {
         let range = at.shape.ranged_case(&EXTRACTIONS, argument);
         let wanted = Extraction::new(rt, case.ledger.global, at.shape.length, range);
         case.begin();
-        let owned = Counted::new(case.ledger, 0);
-        extract(rt, &at, &mut case.list, range, &wanted, owned);
+        extract(rt, &at, &mut case.list, range, &wanted);
         case.items = wanted.left;
     }
 }
@@ -148,14 +147,13 @@ fn calls_and_pattern(width: usize, number: usize) -> (usize, usize) {
 }
 
 // Extracts by some calls of `next`, and gives up. An item whose turn it is not stays, whatever the
-// pattern says. The closure owns a counted value.
+// pattern says.
 fn extract<T: Sample, A: Allocator, G: Growth, R: Abort>(
     rt: &R,
     at: &At,
     list: &mut ThinVec<T, A, G>,
     range: Ranged,
     wanted: &Extraction,
-    owned: Counted,
 ) {
     if range.start > range.end || range.end > list.len() {
         return;
@@ -165,8 +163,7 @@ fn extract<T: Sample, A: Allocator, G: Growth, R: Abort>(
     let start = range.start;
     let mut asked: usize = 0;
     let mut extract = list.extract_if(range.start, range.end, move |item: &mut T| {
-        let place = start.saturating_add(asked);
-        let is_due = owned.told() == 0 && item.told() == T::telling(number_at(place));
+        let is_due = item.told() == T::telling(number_at(start.saturating_add(asked)));
         let goes = is_due && !stays(width, pattern, asked);
         asked = asked.saturating_add(1);
         goes
