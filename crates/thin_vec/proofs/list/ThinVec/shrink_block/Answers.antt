@@ -1,5 +1,5 @@
 -- The items lie in front of a smaller block.
-use Rattle.std.proofs.Common.{sym, ap, ◌∙◌, arith, length}
+use Rattle.std.proofs.Common.{ap, ◌∙◌, arith, length}
 use Rattle.thin_block.specs.Slots.{items_in}
 use Rattle.thin_vec.proofs.ListLemmas.{Settled}
 use Rattle.thin_block.proofs.CapacityLemmas.{fits-less}
