@@ -4,7 +4,7 @@
 mod kit;
 mod thin;
 
-use crate::numbers::{Outcome, Pick, Triple, Wide};
+use crate::numbers::{Count, Outcome, Pick, Triple, Wide};
 pub use kit::Kit;
 use std::alloc::{AllocError, Global};
 use std::io::Write;
@@ -90,19 +90,21 @@ pub trait Numbers: List<u64> {
     /// sum.
     fn drain_range(&mut self, start: usize, end: usize, sum: u64) -> u64;
 
-    /// Splices `count` numbers from `first` on into the place of the items from `start` up to
+    /// Splices so many numbers from `first` on into the place of the items from `start` up to
     /// `end`, if there are so many. The iterator knows how many it has.
-    fn splice_hinted(
+    fn splice_few<C: Count>(
         &mut self,
         alloc: Global,
         start: usize,
         end: usize,
         first: usize,
-        count: usize,
     ) -> Result<(), AllocError>;
 
-    /// Splices the numbers below `end` into the place of the middle half. The iterator doesn't
-    /// know how many they are.
+    /// Splices the numbers below `end` into the place of the middle half. The iterator knows how
+    /// many they are.
+    fn splice_hinted(&mut self, alloc: Global, end: usize) -> Result<(), AllocError>;
+
+    /// The same where the iterator knows nothing.
     fn splice_unhinted(&mut self, alloc: Global, end: usize) -> Result<(), AllocError>;
 
     fn dedup(&mut self);

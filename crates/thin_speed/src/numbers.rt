@@ -172,6 +172,32 @@ impl Iterator for Unhinted {
     }
 }
 
+/// How many numbers are put in.
+pub trait Count {
+    /// So many.
+    fn count() -> usize;
+}
+
+/// One.
+pub struct One;
+
+impl Count for One {
+    #[inline(always)]
+    fn count() -> usize {
+        1
+    }
+}
+
+/// Two.
+pub struct Two;
+
+impl Count for Two {
+    #[inline(always)]
+    fn count() -> usize {
+        2
+    }
+}
+
 /// Which numbers are picked.
 pub trait Pick {
     /// Whether this one is.

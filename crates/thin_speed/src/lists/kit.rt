@@ -1,6 +1,6 @@
 //! The kit's `Vec`.
 use crate::lists::{Family, List, Numbers};
-use crate::numbers::{Outcome, Pick, Triple, Unhinted, Wide, mixed};
+use crate::numbers::{Count, Outcome, Pick, Triple, Unhinted, Wide, mixed};
 use std::alloc::{AllocError, Global};
 
 /// The kit's `Vec`s.
@@ -146,19 +146,27 @@ impl Numbers for Vec<u64> {
     }
 
     #[inline(always)]
-    fn splice_hinted(
+    fn splice_few<C: Count>(
         &mut self,
         _alloc: Global,
         start: usize,
         end: usize,
         first: usize,
-        count: usize,
     ) -> Result<(), AllocError> {
         if start > end || end > self.len() {
             return Ok(());
         }
-        let numbers = (0..count).map(move |number| number.wrapping_add(first) as u64);
+        let numbers = (0..C::count()).map(move |number| number.wrapping_add(first) as u64);
         drop(self.splice(start..end, numbers)?);
+        Ok(())
+    }
+
+    #[inline(always)]
+    fn splice_hinted(&mut self, _alloc: Global, end: usize) -> Result<(), AllocError> {
+        let start = self.len() / 4;
+        let stop = self.len() - start;
+        let numbers = (0..end).map(|number| number as u64);
+        drop(self.splice(start..stop, numbers)?);
         Ok(())
     }
 

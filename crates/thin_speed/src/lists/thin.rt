@@ -1,6 +1,6 @@
 //! `ThinVec`.
 use crate::lists::{Family, List, Numbers};
-use crate::numbers::{Outcome, Pick, Triple, Unhinted, Wide, mixed};
+use crate::numbers::{Count, Outcome, Pick, Triple, Unhinted, Wide, mixed};
 use std::alloc::{AllocError, Global};
 use thin_vec::ThinVec;
 
@@ -147,19 +147,26 @@ impl Numbers for ThinVec<u64> {
     }
 
     #[inline(always)]
-    fn splice_hinted(
+    fn splice_few<C: Count>(
         &mut self,
         alloc: Global,
         start: usize,
         end: usize,
         first: usize,
-        count: usize,
     ) -> Result<(), AllocError> {
         if start > end || end > self.len() {
             return Ok(());
         }
-        let numbers = (0..count).map(move |number| number.wrapping_add(first) as u64);
+        let numbers = (0..C::count()).map(move |number| number.wrapping_add(first) as u64);
         Ok(self.splice(start, end, numbers).finish(alloc)?)
+    }
+
+    #[inline(always)]
+    fn splice_hinted(&mut self, alloc: Global, end: usize) -> Result<(), AllocError> {
+        let start = self.len() / 4;
+        let stop = self.len() - start;
+        let numbers = (0..end).map(|number| number as u64);
+        Ok(self.splice(start, stop, numbers).finish(alloc)?)
     }
 
     #[inline(always)]

@@ -1,7 +1,7 @@
 //! Workloads in which items move within a list, or leave it by their place.
 use super::growing::filled;
 use crate::lists::{Family, List, Numbers};
-use crate::numbers::{InTurn, Item, Outcome, Pairs, Source, Wides, mixed, seen};
+use crate::numbers::{Count, InTurn, Item, One, Outcome, Pairs, Source, Two, Wides, mixed, seen};
 use std::alloc::{AllocError, Global};
 
 /// Runs the workload of that name, or none where there is no such here.
@@ -19,8 +19,8 @@ pub fn run<F: Family>(alloc: Global, workload: &str, size: usize, times: usize) 
         "drain_two" => drain_few::<F::Numbers, 0, 2>(alloc, size, times),
         "drain_ten" => drain_few::<F::Numbers, 0, 10>(alloc, size, times),
         "drain_inner" => drain_few::<F::Numbers, 3, 5>(alloc, size, times),
-        "splice_two" => splice_few::<F::Numbers, 3, 5, 2>(alloc, size, times),
-        "splice_away" => splice_few::<F::Numbers, 5, 7, 1>(alloc, size, times),
+        "splice_two" => splice_few::<F::Numbers, Two, 3, 5>(alloc, size, times),
+        "splice_away" => splice_few::<F::Numbers, One, 5, 7>(alloc, size, times),
         "splice_hinted" => splice_hinted::<F::Numbers>(alloc, size, times),
         "splice_unhinted" => splice_unhinted::<F::Numbers>(alloc, size, times),
         _ => return None,
@@ -147,17 +147,17 @@ fn drain_few<L: Numbers, const START: usize, const END: usize>(
     Ok(mixed(sum, seen(list.as_slice())))
 }
 
-// Puts `COUNT` items in the place of the two from `START` up to `END`, and pushes what is missing.
+// Puts one item or two in the place of the two from `START` up to `END`, and pushes what is missing.
 #[inline(never)]
-fn splice_few<L: Numbers, const START: usize, const END: usize, const COUNT: usize>(
+fn splice_few<L: Numbers, C: Count, const START: usize, const END: usize>(
     alloc: Global,
     size: usize,
     times: usize,
 ) -> Outcome {
     let mut list: L = filled(alloc, size)?;
     for number in 0..times {
-        list.splice_hinted(alloc, START, END, number, COUNT)?;
-        for _ in COUNT..2 {
+        list.splice_few::<C>(alloc, START, END, number)?;
+        for _ in C::count()..2 {
             list.push(3)?;
         }
     }
@@ -171,8 +171,7 @@ fn splice_hinted<L: Numbers>(alloc: Global, size: usize, times: usize) -> Outcom
     let mut sum = 0;
     for _ in 0..times {
         refill::<L, _, InTurn>(alloc, &mut list, size)?;
-        let len = list.as_slice().len();
-        list.splice_hinted(alloc, len / 4, len - len / 4, 0, size)?;
+        list.splice_hinted(alloc, size)?;
         sum = mixed(sum, seen(list.as_slice()));
     }
     Ok(sum)
