@@ -1,4 +1,4 @@
-//! Why a command was not done.
+//! What a command returns that is not done.
 
 use thin_vec::ThinVecError;
 use thiserror::Error;
@@ -6,10 +6,10 @@ use thiserror::Error;
 /// Why a command was not done. The text and its history are as before.
 #[derive(Debug, Drop, Error)]
 pub enum EditError {
-    /// The line is none.
+    /// The line is no command.
     #[error("not a command")]
     NotACommand,
-    /// Its range is not one of the text's.
+    /// Its range is not within the text.
     #[error("not a range of the text")]
     OutOfBounds,
     /// No edit was made, or all are undone.
