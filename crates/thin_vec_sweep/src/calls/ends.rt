@@ -43,20 +43,12 @@ impl<T: Sample, G: Ruled> Call<T, G> for PushMut {
         let capacity = case.ruled(1);
         let verdict = case.growth(capacity, 0);
         case.begin();
-        let answer = exchanged(case.list.push_mut(item), &mut hand);
+        let answer = match case.list.push_mut(item) {
+            Ok(place) => Ok(mem::swap(place, &mut hand)),
+            Err(refused) => Err(refused),
+        };
         let index = case.items.len();
         lent(rt, case, index, verdict, answer, &hand);
-    }
-}
-
-// Puts what is in hand into the place that a call lends, where it lends one.
-fn exchanged<T>(lent: Result<&mut T, Rejected<T>>, hand: &mut T) -> Result<(), Rejected<T>> {
-    match lent {
-        Ok(place) => {
-            mem::swap(place, hand);
-            Ok(())
-        }
-        Err(refused) => Err(refused),
     }
 }
 
@@ -142,7 +134,10 @@ impl<T: Sample, G: Ruled> Call<T, G> for InsertMut {
         if index > case.list.len() {
             return;
         }
-        let answer = exchanged(case.list.insert_mut(index, item), &mut hand);
+        let answer = match case.list.insert_mut(index, item) {
+            Ok(place) => Ok(mem::swap(place, &mut hand)),
+            Err(refused) => Err(refused),
+        };
         lent(rt, case, index, verdict, answer, &hand);
     }
 }
