@@ -74,6 +74,7 @@ fits-none R = closed R 0 (fits_none R)
 -- ---- numbers that are far below every limit, for callers at a known type: fewer than 2 ^ 31 items
 -- of fewer than 2 ^ 31 bytes
 
+-- so many items have fewer than 2 ^ 62 bytes
 pub few_bytes : (c s : ℕ) → c < 2 ^ 31 → s < 2 ^ 31 → c * s < 2 ^ 62
 few_bytes c s few small =
     let wide : c * s ≤ c * (2 ^ 31) =

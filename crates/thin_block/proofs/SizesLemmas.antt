@@ -257,6 +257,7 @@ tried_first s c w d none is = grind (arith, nat_tests)
 pub tried_twice : (s c w d : ℕ) → (c ≡ 0 → ⊥) → d ≡ 2 * c → max w d ≡ tried s c w
 tried_twice s c w d some is = grind (arith, nat_tests)
 
+-- a capacity past every address does not fit
 pub fitting_past : (s a n : ℕ) → 2 ^ 63 ≤ n → fitting s a n ≡ None
 unfolding fitting
 fitting_past s a n many = λ i. if fits_no s a n many i then Some n else None

@@ -83,6 +83,7 @@ headed_by true false true s a k ea es es' e some =
 headed_by true false false s a k ea es es' e some = absurd (omega (arith, e))
 headed_by false y z s a k ea es es' e some = absurd (omega (arith, e))
 
+-- a header that takes the room of k items has the size and the alignment for it
 pub headed : (s a k : ℕ) → header_items s a ≡ k → 0 < k → Headed s a k
 headed s a k e some = headed_by (a == 8) (s == 8) (s == 16) s a k refl refl refl e some
 
@@ -113,6 +114,7 @@ module _ (Rw : RattleType) (c : ℕ) where
   asked_as zero some = absurd (omega arith)
   asked_as (suc k) some = refl
 
+  -- so it is where the header takes the room of k items
   pub asked_is : (k : ℕ) → header_items s₀ a₀ ≡ k → 0 < k → asked Rw c ≡ array_of Rw (k + c)
   asked_is k e some = ap (λ (h : ℕ). asked_for h (bare Rw) c) (same_items ∙ e) ∙ asked_as k some
 
@@ -136,9 +138,11 @@ module _ (Rw : RattleType) (c : ℕ) where
   align_for zero e = whole_align Rw c
   align_for (suc k) e = array_align (suc k) (headed s₀ a₀ (suc k) e (omega arith))
 
+  -- a block has as many bytes as were asked for
   pub asked_size : size (asked Rw c) ≡ block_bytes s₀ a₀ c
   asked_size = size_for (in_header Rw) (sym same_items)
 
+  -- and lies as aligned as that
   pub asked_align : align (asked Rw c) ≡ block_align a₀
   asked_align = align_for (in_header Rw) (sym same_items)
 

@@ -73,6 +73,7 @@ module _ {S T : Type 0} (R : S → T → T → Bool → S → T → T → Type 0
       → AskedLast R s k (x ∷ []) (false ∷ []) (k' ∷ []) t
   last-goes s t k x x' k' h = (true, x', k', t, [], h, refl, (refl, refl, refl))
 
+  -- the later item stays, and is the last that does then
   pub last-stays : (s t : S) (k x x' k' : T) → R s x k false t x' k'
       → AskedLast R s k (x ∷ []) (true ∷ []) (k' ∷ x' ∷ []) t
   last-stays s t k x x' k' h = (false, x', k', t, [], h, refl, (x' ∷ [], (refl, refl, refl), refl))
@@ -121,6 +122,7 @@ module _ {S T : Type 0} (R : S → T → T → Bool → S → T → T → Type 0
     pub kept : suc (length pre) ≡ m
     pub now : ys ≡ pre ++ last ∷ behind
 
+  -- before the first question the first item alone stays
   pub pair-start : (s : S) (xs : List T) → 0 < length xs → PairStays 1 s xs s xs
   pair-start s [] some = absurd (omega arith)
   pair-start s (x ∷ xs) some =
@@ -399,6 +401,7 @@ module _ {S T : Type 0} (R : S → T → T → Bool → S → T → T → Type 0
         now = λ i. record v { front = p.2 i; cost = sym (moving-none v.cost) i };
       }
 
+  -- one round after another
   pub thins-then : {A : Type 0} (s t u : S) (v w z : Open T A) → Thins R s v t w
       → Thins R t w u z → Thins R s v u z
   thins-then s t u v w z h k =
@@ -518,6 +521,7 @@ module _ {J S T : Type 0} (R : S → T → T → Bool → S → T → T → Type
   pairs-through [] s t f ys h = (h.0, h.1, ap inside h.2)
   pairs-through (x ∷ xs) s t f ys h = last-through xs s t x f ys h
 
+  -- so a list that such a judge thinned is one that the closure thinned
   pub deduped-through : {A : Type 0} (s : J) (v w : Thin T A) (t : J) → IsDedupedTo through s v w t
       → IsDedupedBy R (inside s) v w
   deduped-through s v w t h = (
@@ -537,6 +541,7 @@ few-kept R s [] h = (refl, refl, refl)
 few-kept R s (x ∷ []) h = (refl, refl, refl)
 few-kept R s (x ∷ y ∷ xs) h = absurd (omega (arith, h))
 
+-- so such a list is thinned without a question
 pub deduped-few : {S T A : Type 0} (R : S → T → T → Bool → S → T → T → Type 0) (s : S)
     (v : Thin T A) → length v.items < 2 → IsDedupedTo R s v v s
 deduped-few R s v few =
@@ -569,6 +574,7 @@ module _ {S T : Type 0} (E : T → T → Bool) where
       ]
       h.5.0 h.6 h.7
 
+  -- the flags and the items that stay are those of the definition
   pub pairs-compare : (xs : List T) (s t : S) (f : List Bool) (ys : List T)
       → AskedPairs (Compares E) s xs f ys t → (f ≡ unlike E xs) × (ys ≡ dedup E xs)
   pairs-compare [] s t f ys h = (h.0, h.1)

@@ -17,10 +17,12 @@ tail-of e = ap (drop 1) e
 not-nil : {X : Type 0} {x : X} {xs : List X} → x ∷ xs ≡ [] → ⊥
 not-nil e = let n = ap length e in omega (arith, n)
 
+-- a list of no items
 pub nothing : {X : Type 0} (xs : List X) → length xs ≡ 0 → xs ≡ []
 nothing [] e = refl
 nothing (x ∷ xs) e = absurd (omega arith)
 
+-- a test that is turned round twice
 pub not-not : (b : Bool) → not (not b) ≡ b
 not-not true = refl
 not-not false = refl

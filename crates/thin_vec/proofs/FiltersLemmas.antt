@@ -17,6 +17,7 @@ pub moving-more : (a b : ℕ) (c : Cost) → moving a (moving b c) ≡ moving (b
 moving-more a b c = let e : c.moves + b + a ≡ c.moves + (b + a) = omega arith in
     λ i. record { blocks = c.blocks; grown = c.grown; moves = e i }
 
+-- no move costs nothing
 pub moving-none : (c : Cost) → moving 0 c ≡ c
 moving-none c = let e : c.moves + 0 ≡ c.moves = omega arith in
     λ i. record { blocks = c.blocks; grown = c.grown; moves = e i }
@@ -28,6 +29,7 @@ moving-behind gap k c some =
     ap (λ (b : Bool). if b then c else moving k c)
     (ne_eqb gap 0 (λ (e : gap ≡ 0). omega (arith, e)))
 
+-- with no gap nothing moves
 pub moving-before : (gap k : ℕ) (c : Cost) → (0 < gap → ⊥)
     → (if gap == 0 then c else moving k c) ≡ c
 moving-before zero k c none = refl
@@ -37,9 +39,11 @@ moving-before (suc gap) k c none = absurd (none (omega arith))
 pub cons-head : {X : Type 0} {x y : X} {xs ys : List X} → x ∷ xs ≡ y ∷ ys → x ≡ y
 cons-head e = cc
 
+-- its other items
 pub cons-tail : {X : Type 0} {x y : X} {xs ys : List X} → x ∷ xs ≡ y ∷ ys → xs ≡ ys
 cons-tail e = ap (drop 1) e
 
+-- it is not empty
 pub cons-not-nil : {X : Type 0} {x : X} {xs : List X} → x ∷ xs ≡ [] → ⊥
 cons-not-nil e = let n = ap length e in omega (arith, n)
 
@@ -48,16 +52,19 @@ pub nothing : {X : Type 0} (xs : List X) → length xs ≡ 0 → xs ≡ []
 nothing [] e = refl
 nothing (x ∷ xs) e = absurd (omega arith)
 
+-- where none is left
 pub none-left : {X : Type 0} (xs : List X) → (0 < length xs → ⊥) → xs ≡ []
 none-left [] none = refl
 none-left (x ∷ xs) none = absurd (none (omega arith))
 
 module _ {T : Type 0} where
+  -- those that stay of two stretches
   pub left_at-append : (a b : Answers T) → left_at true (a ++ b) ≡ left_at true a ++ left_at true b
   left_at-append [] b = refl
   left_at-append ((true, x) ∷ a) b = ap (λ (l : List T). x ∷ l) (left_at-append a b)
   left_at-append ((false, x) ∷ a) b = left_at-append a b
 
+  -- how many those are
   pub trues-append : (a b : Answers T) → trues (flags_of (a ++ b)) ≡ trues
       (flags_of a) + trues (flags_of b)
   trues-append [] b = omega arith
@@ -69,10 +76,12 @@ module _ {T : Type 0} where
   left_at-stay [] = refl
   left_at-stay (x ∷ xs) = ap (λ (l : List T). x ∷ l) (left_at-stay xs)
 
+  -- all of them do
   pub trues-stay : (xs : List T) → trues (flags_of (stay xs)) ≡ length xs
   trues-stay [] = refl
   trues-stay (x ∷ xs) = ap suc (trues-stay xs)
 
+  -- and none of them moves
   pub moved_up-stay : (xs : List T) (a : Answers T) → moved_up (flags_of (stay xs ++ a))
       ≡ moved_up (flags_of a)
   moved_up-stay [] a = refl
@@ -94,6 +103,7 @@ module _ {S T : Type 0} (R : S → T → Bool → S → T → Type 0) where
     ap (λ (c : Answers T). c ++ b) h.6,
   )
 
+  -- one question
   pub asked-one : (s t : S) (x y : T) (b : Bool) → R s x b t y → Asked R s (x ∷ []) ((b, y) ∷ []) t
   asked-one s t x y b h = (b, y, t, [], h, (refl, refl), refl)
 
@@ -106,6 +116,7 @@ module _ {S T : Type 0} (R : S → T → Bool → S → T → Type 0) where
     pub asked : R s item b t left
     pub now : ys ≡ left ∷ behind
 
+  -- a question about the first place is about the first item
   pub asked-first : (s : S) (xs : List T) (b : Bool) (t : S) (ys : List T)
       → IsAskedAt R 0 s xs b t ys → AskedFirst s xs b t ys
   asked-first s xs b t ys h =
@@ -133,6 +144,7 @@ module _ {S T : Type 0} (R : S → T → Bool → S → T → Type 0) where
     pub asked : Asked R s run (stay left) t
     pub now : ys ≡ before ++ (left ++ more)
 
+  -- before the first question nothing changed
   pub stays-start : (k : ℕ) (s : S) (xs : List T) → k ≤ length xs → Stays k k s xs s xs
   stays-start k s xs low =
       record {
@@ -257,6 +269,7 @@ module _ {S T : Type 0} (R : S → T → Bool → S → T → Type 0) where
   stop-count u [] t e h = ap length h.0
   stop-count u (x ∷ b) t e h = ap length h.2
 
+  -- there are as many items as before
   pub runs-count : (k m : ℕ) (s : S) (xs : List T) (t : S) (ys : List T) → Runs R k m s xs t ys
       → length ys ≡ length xs
   runs-count k m s xs t ys r =
@@ -277,6 +290,7 @@ module _ {S T : Type 0} (R : S → T → Bool → S → T → Type 0) where
       → IsAskedAt R 0 s xs true t ys → Stays 0 1 s xs t ys
   one-stays s xs t ys a = stays-more 0 0 s xs s xs (stays-start 0 s xs (omega arith)) t ys a
 
+  -- then the one behind it
   pub two-stay : (s : S) (xs : List T) (t : S) (ys : List T) (u : S) (zs : List T)
       → IsAskedAt R 0 s xs true t ys → IsAskedAt R 1 t ys true u zs → Stays 0 2 s xs u zs
   two-stay s xs t ys u zs a b = stays-more 0 1 s xs t ys (one-stays s xs t ys a) u zs b
@@ -473,6 +487,7 @@ module _ {S T : Type 0} (R : S → T → Bool → S → T → Type 0) where
             { front = sym (append-nil v.front) i; cost = sym (moving-none v.cost) i };
       }
 
+  -- one round after another
   pub sifts-then : {A : Type 0} (s t u : S) (v w z : Open T A) → Sifts R s v t w
       → Sifts R t w u z → Sifts R s v u z
   sifts-then s t u v w z h k =
@@ -533,7 +548,8 @@ module _ {S T : Type 0} (R : S → T → Bool → S → T → Type 0) where
             cost = moving (sym up i) u.cost;
           })
               ∙ (λ i. record v {
-                front = (ap (λ (l : List T). (v.front ++ l) ++ left_at true h.answers) (sym part.left)
+                front = (ap (λ (l : List T). (v.front ++ l) ++ left_at true h.answers)
+                    (sym part.left)
                     ∙ (append_assoc v.front (left_at true part.answers) (left_at true h.answers)
                     ∙ ap (λ (l : List T). v.front ++ l)
                     (sym (left_at-append part.answers h.answers)))) i;
@@ -568,12 +584,14 @@ module _ {J S T : Type 0} (R : S → T → Bool → S → T → Type 0) (inside 
   abbrev through : J → T → Bool → J → T → Type 0
   through s x b t y = R (inside s) x b (inside t) y
 
+  -- its answers are those of the closure
   pub asked-through : (xs : List T) (s t : J) (a : Answers T) → Asked through s xs a t
       → Asked R (inside s) xs a (inside t)
   asked-through [] s t a h = (h.0, ap inside h.1)
   asked-through (x ∷ xs) s t a h =
       (h.0, h.1, inside h.2, h.3, h.4, asked-through xs h.2 t h.3 h.5, h.6)
 
+  -- and what it leaves is what the closure would
   pub retained-through : {A : Type 0} (s : J) (v w : Thin T A) (t : J)
       → IsRetainedTo through s v w t → IsRetained R (inside s) v w
   retained-through s v w t h = (

@@ -17,6 +17,7 @@ use Rattle.thin_vec.proofs.ListLemmas.{get-some, items-front, items-full, length
 length-empty : (T : Type 0) (k : ℕ) → length (empty {T = T} k) ≡ k
 length-empty T k = length-replicate {A = Option T} k None
 
+-- two items that are both there are one
 pub some-same : {X : Type 0} {x y : X} → Some x ≡ Some y → x ≡ y
 some-same e = cc
 
@@ -25,6 +26,7 @@ pub first-of : {X : Type 0} (xs : List X) → 0 < length xs → (x : X) × (ys :
 first-of [] h = absurd (omega arith)
 first-of (x ∷ ys) h = (x, ys, refl)
 
+-- its last item, and those before
 pub last-of : {X : Type 0} (xs : List X) → 0 < length xs → (ys : List X)
     × (x : X) × (xs ≡ ys ++ x ∷ [])
 last-of [] h = absurd (omega arith)
@@ -78,9 +80,11 @@ module _ {T A : Type 0} where
   abbrev pub past_tail : Open T A → List (Option T)
   past_tail v = empty (v.capacity - reach v)
 
+  -- from the gap before the tail on
   abbrev pub past_behind : Open T A → List (Option T)
   past_behind v = full v.tail ++ past_tail v
 
+  -- and from the middle run's end on
   abbrev pub past_rest : Open T A → List (Option T)
   past_rest v = empty v.behind ++ past_behind v
 

@@ -28,6 +28,7 @@ module _ {T : Type 0} where
     pub second : slot s (suc i) ≡ Some x
     pub now : over s i (k' ∷ x' ∷ []) ≡ set (set s i (Some k')) (suc i) (Some x')
 
+  -- two items that are lent side by side are those of two slots
   pub neighbours : (s : List (Option T)) (i : ℕ) (k x k' x' : T) → Some k ∷ Some x ∷ [] ≡ take 2
       (drop i s) → Neighbours s i k x k' x'
   neighbours [] zero k x k' x' e = absurd (cons-not-nil e)
@@ -171,6 +172,7 @@ module _ {T A : Type 0} where
       len = h.len;
     }) (record (open_of h) { front = pre ++ y ∷ [] })
 
+  -- writing to it changes nothing else
   pub write-last-step : (h : Inside T A) (o : IsOpen h) (b : Block T A) (x y : T)
       → b.alloc ≡ h.block.alloc → b.cost ≡ h.block.cost → 0 < length (open_of h).front
       → slot h.block.slots (h.front_end - 1) ≡ Some x → b.slots

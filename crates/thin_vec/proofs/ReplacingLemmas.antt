@@ -105,6 +105,7 @@ module _ {T A : Type 0} (h : Inside T A) (o : IsOpen h) (b : Block T A) (k : ℕ
     len = h.len - k;
   }
 
+  -- so the tail is shorter, and the front longer
   abbrev pub brought-seen : Open T A
   brought-seen = record {
     front = v.front ++ drop (length v.tail - k) v.tail;
@@ -117,6 +118,7 @@ module _ {T A : Type 0} (h : Inside T A) (o : IsOpen h) (b : Block T A) (k : ℕ
     cost = b.cost;
   }
 
+  -- that is how the slots lie once they have moved
   pub bring-step : b.slots ≡ moved (h.len - k) h.front_end k h.block.slots
       → Found brought brought-seen
   bring-step now =
@@ -239,6 +241,7 @@ at-most-more {n} {m} {k} {c} {d} {e} h few is = record {
   cost = is ∙ (ap (λ q. moving m q) h.cost ∙ moving-add m h.moves c);
 }
 
+-- they are within any larger bound
 pub at-most-le : {n m : ℕ} {c d : Cost} → MovesAtMost n c d → n ≤ m → MovesAtMost m c d
 at-most-le {n} {m} {c} {d} h le = record {
   moves = h.moves;
@@ -252,6 +255,7 @@ pub at-most-if : (b : Bool) (n : ℕ) (c d : Cost) → d ≡ (if b then c else m
 at-most-if true n c d is = record { moves = 0; few = omega arith; cost = is ∙ moving-zero c }
 at-most-if false n c d is = record { moves = n; few = omega arith; cost = is }
 
+-- none is no more than n
 pub if-le : (b : Bool) (k n : ℕ) → k + (if b then 0 else n) ≤ k + n
 if-le true k n = omega arith
 if-le false k n = omega arith

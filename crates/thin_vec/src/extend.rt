@@ -134,8 +134,7 @@ impl<T, A: Allocator, G: Growth> ThinVec<T, A, G> {
         }
     }
 
-    // Fills the spare room, and draws one item more. Returns the iterator, and the item that found
-    // no room.
+    // Fills the spare room, and draws one item more, which it returns with the iterator.
     fn extend_reserved<I: Iterator<Item = T>>(&mut self, iter: I) -> (I, Option<T>)
         requires can_next { I.can_next iter }
         requires finite { IsFinite (I.remaining iter) }
@@ -162,8 +161,7 @@ impl<T, A: Allocator, G: Growth> ThinVec<T, A, G> {
         (rest, over)
     }
 
-    // Fills the spare room, and stores the length once. Returns the iterator, and whether it ended
-    // before the list was full.
+    // Fills the spare room, and stores the length once. Returns too whether the iterator ended.
     pub(crate) fn fill_spare<I: Iterator<Item = T>>(&mut self, iter: I) -> (I, bool)
         requires can_next { I.can_next iter }
         requires finite { IsFinite (I.remaining iter) }

@@ -59,7 +59,8 @@ returns-in-Err-extend_unhinted-clause-runs_err g c =
     let items = placed.1 ∙ ap (λ old. old ++ placed.0)
     (c.reserve_exact.ensures.items ∙ c.new-list.ensures.new.items) in
     let hand = c.in-Err-extend_unhinted.refused.in_hand in
-    run_given g.I.Iterator.next_gives c.args.iter placed.0 hand c.in-Err-extend_unhinted.refused.rest
+    run_given g.I.Iterator.next_gives c.args.iter placed.0 hand
+    c.in-Err-extend_unhinted.refused.rest
     (λ l. l ≡ c.extend_unhinted.new.self.items ++ option_to_list hand) placed.2
     (ap (λ l. l ++ option_to_list hand) (sym items))
 

@@ -6,8 +6,11 @@ use Rattle.thin_vec.proofs.list.ThinVec.keep_those.Goals as goal
 
 pub returns-clause-within : goal.returns-clause-within
 returns-clause-within g c =
-    let same : c.close.new.self.capacity ≡ c.args.self.now.capacity = search rules in
-    (c.len-len.ensures.within, within-like _ c.close.new.self c.args.self.now c.len-len.ensures.within same (omega (arith, c.close.ensures.room, same)))
+    let same : c.close.new.self.capacity ≡ c.args.self.now.capacity = search rules in (
+      c.len-len.ensures.within,
+      within-like _ c.close.new.self c.args.self.now
+          c.len-len.ensures.within same (omega (arith, c.close.ensures.room, same)),
+    )
 
 pub returns-clause-retained : goal.returns-clause-retained
 returns-clause-retained g c = grind (arith, common_steps)
