@@ -1,8 +1,7 @@
 -- A range that was replaced, and put back.
-use Rattle.std.proofs.Common.{Option, subst, ◌≡◌, ℕ, ◌+◌, ◌≤◌, List, ◌++◌, ◌∙◌, ap, append_assoc, arith, drop, length, length-append, sym, take}
+use Rattle.std.proofs.Common.{◌≡◌, ℕ, ◌+◌, ◌≤◌, List, ◌++◌, ◌∙◌, ap, append_assoc, arith, drop, length, length-append, sym, take}
 use Rattle.std.proofs.lemmas.List.{drop_at, length-take-le, take_at}
 use Rattle.std.proofs.lemmas.List.Edits.{split_between}
-use Rattle.std.specs.Iterator.Runs.{WholeRun}
 use Rattle.std.specs.Prelude.{OnOk, slice_range}
 use Rattle.std.specs.declared.result.Result.{Result}
 use Rattle.std.specs.declared.result.Result.TheVariants.{Ok, Err}
@@ -45,12 +44,3 @@ module _ {T : Type 0} (old numbers : List T) (start stop : ℕ) where
 pub on_ok : {X E P Q : Type 0} (r : Result X E) → (P → Q) → OnOk r P → OnOk r Q
 on_ok (Ok _) h p = h p
 on_ok (Err _) h p = p
-
--- what a whole run gave stands between the items before and behind a range, under other names
-pub run_between : {S T X E : Type 0} (steps : S → Option T → S → Type 0) (r : Result X E)
-    (items : List T) {s s' : S} {front front' tail tail' : List T} → s ≡ s' → front ≡ front'
-    → tail ≡ tail' → OnOk r (WholeRun steps s (λ p. items ≡ (front ++ p.items) ++ tail))
-    → OnOk r (WholeRun steps s' (λ p. items ≡ (front' ++ p.items) ++ tail'))
-run_between {S} {T} steps r items same first last run =
-    subst (λ (u : S × (List T × List T)). OnOk r (WholeRun steps u.0
-    (λ p. items ≡ (u.1.0 ++ p.items) ++ u.1.1))) (λ i. (same i, (first i, last i))) run

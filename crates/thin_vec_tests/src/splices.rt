@@ -1,6 +1,4 @@
 //! `splice`: what a program may promise of it, and what `finish` leaves, wherever it is refused.
-ghost use Rattle.std.specs.Iterator.{IsFinite};
-ghost use Rattle.std.specs.Iterator.Runs.{WholeRun};
 ghost use Rattle.std.specs.Prelude.{◌≡◌, ◌≤◌, ◌++◌, OnOk, drop, length, take};
 
 #[cfg(test)]
@@ -18,29 +16,10 @@ use std::alloc::Global;
 use std::iter::empty;
 #[cfg(test)]
 use std::process::Abort;
-use thin_vec::{Growth, SpliceRefused, ThinVec, ThinVecError};
-
-/// Puts what `iter` gives in the place of the items from `start` up to `end`. Refused, what found
-/// no room is handed back.
-///
-/// A splice by an iterator that borrows, as that over a slice, is proved in a function like this
-/// one, which is generic in it.
-pub fn splice_by<T: Drop, A: Allocator, G: Growth, I: Iterator<Item = T>>(
-    list: &mut ThinVec<T, A, G>,
-    range: (usize, usize),
-    iter: I,
-    alloc: A,
-) -> Result<(), SpliceRefused<T, I, A>>
-    requires start_le_end { range.0 ≤ range.1 }
-    requires in_bounds { range.1 ≤ length list.old.items }
-    requires can_next { I.can_next iter }
-    requires finite { IsFinite (I.remaining iter) }
-    ensures runs { OnOk result
-        (WholeRun I.next_gives iter (λ p. list.new.items ≡ (take range.0 list.old.items ++ p.items)
-        ++ drop range.1 list.old.items)) }
-{
-    list.splice(range.0, range.1, iter).finish(alloc)
-}
+#[cfg(test)]
+use thin_vec::SpliceRefused;
+use thin_vec::{Growth, ThinVec, ThinVecError};
+use thin_vec_uses::spliced::splice_by;
 
 /// Puts the numbers in the place of the items from `start` up to `end`. Refused, those that found
 /// no room are dropped.
