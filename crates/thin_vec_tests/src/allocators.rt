@@ -2,12 +2,12 @@
 //! it makes of nothing.
 use crate::claims::Claims;
 use crate::items::list_of;
-use crate::splices::splice_by;
 use crate::standing::{assert_counts, assert_len, assert_same};
 use refusing::Refusing;
 use std::alloc::{Allocator, Global};
 use std::process::Abort;
 use thin_vec::ThinVec;
+use thin_vec_uses::spliced::splice_by;
 
 // Pushes an item to a `Vec`, which has then one more.
 fn pushed<A: Allocator>(rt: &impl Abort, mut vec: Vec<i32, A>, len: usize) -> Vec<i32, A> {
