@@ -56,6 +56,7 @@ module _ {T A G J : Type 0} (here : Setting T A J) (like : T → T → Type 0)
 
 -- where clones equal their items, the run is the one with equality in the place of clones
 module _ {T A G J : Type 0} (here : Setting T A J) (equal : ClonesEqual here.clones) where
+  -- each reply and each list on the way stays the same
   pub run-equal : (old new : Thin T A) (commands : List (Command T A G))
       (replies : List (Reply T A G)) → Runs here old commands replies new
       → Runs (record here { clones = λ x y. y ≡ x }) old commands replies new

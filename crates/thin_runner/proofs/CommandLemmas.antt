@@ -7,6 +7,7 @@ use Rattle.thin_vec.specs.Cost.{moving}
 use Rattle.thin_vec.specs.Growth.{Rule}
 use Rattle.thin_vec.specs.ThinVec.{Thin, capacity_for, cost_at}
 
+-- a list that is not empty has an item
 pub some-items : {X : Type 0} (xs : List X) → (xs ≡ [] → ⊥) → 0 < length xs
 some-items [] none = absurd (none refl)
 some-items (x ∷ xs) none = omega arith
@@ -17,15 +18,29 @@ module _ {T A : Type 0} where
   grown v c xs m = record v { items = xs; capacity = c; cost = moving m (cost_at v c) }
 
   -- a list by its parts
-  pub is-grown : (v w : Thin T A) (xs : List T) (m : ℕ) → w.items ≡ xs → w.cost ≡ moving m (cost_at v w.capacity) → w.alloc ≡ v.alloc → w ≡ grown v w.capacity xs m
-  is-grown v w xs m items cost alloc = λ i. record { items = items i; capacity = w.capacity; alloc = alloc i; cost = cost i }
+  pub is-grown : (v w : Thin T A) (xs : List T) (m : ℕ) → w.items ≡ xs → w.cost
+      ≡ moving m (cost_at v w.capacity) → w.alloc ≡ v.alloc → w ≡ grown v w.capacity xs m
+  is-grown v w xs m items cost alloc = λ i. record {
+    items = items i;
+    capacity = w.capacity;
+    alloc = alloc i;
+    cost = cost i;
+  }
 
   module _ (rule : Rule) where
     -- nothing changed, or there was room and a clone was refused
     pub refuses-clone : (R : RattleType) (infallible : T
         → Type 0) (sources : List T) (k : ℕ) (v w : Thin T A) → w.items ≡ v.items
         → w.alloc ≡ v.alloc → (w ≡ v) ⊎ IsCloneRefused rule R infallible sources k v w
-        → (w ≡ v) ⊎ ((at : ℕ) × (at < length sources) × HoldsAt (λ x. ¬ (infallible x)) sources at × ((capacity_for rule R v k ≡ Some w.capacity) × (w ≡ grown v w.capacity v.items at)))
+        → (w ≡ v) ⊎ ((at : ℕ) × (at < length sources)
+        × HoldsAt (λ x. ¬ (infallible x))
+        sources at × ((capacity_for rule R v k ≡ Some w.capacity)
+        × (w ≡ grown v w.capacity v.items at)))
     refuses-clone R infallible sources k v w same alloc (inl e) = inl e
     refuses-clone R infallible sources k v w same alloc (inr r) =
-        inr (r.stopped.at, r.stopped.in_bounds, r.stopped.fallible, (r.capacity, is-grown v w v.items r.stopped.at same r.stopped.cost alloc))
+        inr (
+          r.stopped.at,
+          r.stopped.in_bounds,
+          r.stopped.fallible,
+          (r.capacity, is-grown v w v.items r.stopped.at same r.stopped.cost alloc),
+        )

@@ -11,47 +11,77 @@ use Rattle.thin_vec.specs.ThinVec.{Thin}
 use Rattle.thin_runner.specs.commands.Filters.{asked, asked_last, asked_pairs, same_key, sifted}
 
 -- the state of the closure has a judge, and each call answers as that judge does
-module _ {S T J : Type 0} (R : S → T → Bool → S → T → Type 0) (judge_of : S → J) (ask : J → T → Bool × T × J) (told : (s : S) (x : T) (b : Bool) (u : S) (y : T) → R s x b u y → (b, y, judge_of u) ≡ ask (judge_of s) x) where
-  pub asked-by : (s t : S) (xs : List T) (answers : Answers T) → Asked R s xs answers t → answers ≡ asked ask (judge_of s) xs
+module _ {S T J : Type 0} (R : S → T → Bool → S → T → Type 0) (judge_of : S → J)
+    (ask : J → T → Bool × T × J)
+    (told : (s : S) (x : T) (b : Bool) (u : S) (y : T) → R s x b u y → (b, y, judge_of u)
+    ≡ ask (judge_of s) x) where
+  -- the answers to the questions about xs are those of the judge
+  pub asked-by : (s t : S) (xs : List T) (answers : Answers T) → Asked R s xs answers t
+      → answers ≡ asked ask (judge_of s) xs
   asked-by s t [] answers a = a.0
   asked-by s t (x ∷ xs) answers a =
-      a.6 ∙ (ap (λ l. (a.0, a.1) ∷ l) (asked-by a.2 t xs a.3 a.5) ∙ ap (λ l. (l.0, l.1) ∷ asked ask l.2 xs) (told s x a.0 a.2 a.1 a.4))
+      a.6 ∙ (ap (λ l. (a.0, a.1) ∷ l) (asked-by a.2 t xs a.3 a.5)
+      ∙ ap (λ l. (l.0, l.1) ∷ asked ask l.2 xs) (told s x a.0 a.2 a.1 a.4))
 
 -- what questions about pairs have told: which of the later items stay, and what is left
 module _ {T : Type 0} where
+  -- ys are the items that stay by the answers b, and the flags say of each later one whether it
+  -- does
   abbrev pub Leaves : List Bool → List T → T × Answers T → Type 0
   Leaves flags ys b = (flags ≡ flags_of b.1) × (ys ≡ b.0 ∷ left_at true b.1)
 
-module _ {S T J : Type 0} (R : S → T → T → Bool → S → T → T → Type 0) (judge_of : S → J) (same : J → T → T → Bool × T × T × J) (told : (s : S) (x k : T) (b : Bool) (u : S) (x' k' : T) → R s x k b u x' k' → (b, x', k', judge_of u) ≡ same (judge_of s) x k) where
-  pub asked-last-by : (s t : S) (k : T) (xs : List T) (flags : List Bool) (ys : List T) → AskedLast R s k xs flags ys t → Leaves flags ys (asked_last same (judge_of s) k xs)
+module _ {S T J : Type 0} (R : S → T → T → Bool → S → T → T → Type 0) (judge_of : S → J)
+    (same : J → T → T → Bool × T × T × J)
+    (told : (s : S) (x k : T) (b : Bool) (u : S) (x' k' : T) → R s x k b u x' k'
+    → (b, x', k', judge_of u) ≡ same (judge_of s) x k) where
+  -- questions about each of xs and the last item that stays, which is k at first
+  pub asked-last-by : (s t : S) (k : T) (xs : List T) (flags : List Bool) (ys : List T)
+      → AskedLast R s k xs flags ys t → Leaves flags ys (asked_last same (judge_of s) k xs)
   asked-last-by s t k [] flags ys a = (a.0, a.1)
   asked-last-by s t k (x ∷ xs) flags ys a =
-      subst (λ p. let b = asked_last same p.3 (if p.0 then p.2 else p.1) xs in Leaves flags ys (if p.0 then (b.0, (false, p.1) ∷ b.1) else (p.2, (true, b.0) ∷ b.1)))
-      (told s x k a.0 a.3 a.1 a.2 a.5) (answered (λ l zs m. asked-last-by a.3 t l xs a.4 zs m) a.0 a.7 a.6)
+      subst (λ p. let b = asked_last same p.3 (if p.0 then p.2 else p.1) xs
+      in Leaves flags ys (if p.0 then (b.0, (false, p.1) ∷ b.1) else (p.2, (true, b.0) ∷ b.1)))
+      (told s x k a.0 a.3 a.1 a.2 a.5)
+      (answered (λ l zs m. asked-last-by a.3 t l xs a.4 zs m) a.0 a.7 a.6)
     where
-      answered : ((l : T) (zs : List T) → AskedLast R a.3 l xs a.4 zs t → Leaves a.4 zs (asked_last same (judge_of a.3) l xs))
-          → (b : Bool) → MatchBool b (AskedLast R a.3 a.2 xs a.4 ys t) ((zs : List T) × AskedLast R a.3 a.1 xs a.4 zs t × (ys ≡ a.2 ∷ zs)) → flags ≡ not b ∷ a.4
-          → (let c = asked_last same (judge_of a.3) (if b then a.2 else a.1) xs in Leaves flags ys (if b then (c.0, (false, a.1) ∷ c.1) else (a.2, (true, c.0) ∷ c.1)))
+      answered : ((l : T) (zs : List T) → AskedLast R a.3 l xs a.4 zs t
+          → Leaves a.4 zs (asked_last same (judge_of a.3) l xs))
+          → (b : Bool) → MatchBool b (AskedLast R a.3 a.2 xs a.4 ys t)
+          ((zs : List T) × AskedLast R a.3 a.1 xs a.4 zs t × (ys ≡ a.2 ∷ zs)) → flags ≡ not b ∷ a.4
+          → (let c = asked_last same (judge_of a.3) (if b then a.2 else a.1) xs
+          in Leaves flags ys (if b then (c.0, (false, a.1) ∷ c.1) else (a.2, (true, c.0) ∷ c.1)))
       answered by true m e = let h = by a.2 ys m in (e ∙ ap (λ l. false ∷ l) h.0, h.1)
-      answered by false m e = let h = by a.1 m.0 m.1 in (e ∙ ap (λ l. true ∷ l) h.0, m.2 ∙ ap (λ l. a.2 ∷ l) h.1)
+      answered by false m e = let h =
+          by a.1 m.0 m.1 in (e ∙ ap (λ l. true ∷ l) h.0, m.2 ∙ ap (λ l. a.2 ∷ l) h.1)
 
-  pub asked-pairs-by : (s t : S) (xs : List T) (flags : List Bool) (ys : List T) → AskedPairs R s xs flags ys t
-      → (moved_up flags ≡ moved_up (flags_of (asked_pairs same (judge_of s) xs))) × (ys ≡ left_at true (asked_pairs same (judge_of s) xs))
+  -- questions about all pairs, of which the first item is in none but stays
+  pub asked-pairs-by : (s t : S) (xs : List T) (flags : List Bool) (ys : List T)
+      → AskedPairs R s xs flags ys t
+      → (moved_up flags ≡ moved_up (flags_of (asked_pairs same (judge_of s) xs)))
+      × (ys ≡ left_at true (asked_pairs same (judge_of s) xs))
   asked-pairs-by s t [] flags ys a = (ap moved_up a.0, a.1)
-  asked-pairs-by s t (x ∷ xs) flags ys a = let h = asked-last-by s t x xs flags ys a in (ap moved_up h.0, h.1)
+  asked-pairs-by s t (x ∷ xs) flags ys a = let h = asked-last-by s t x xs flags ys a
+      in (ap moved_up h.0, h.1)
 
 module _ {S T A J : Type 0} (judge_of : S → J) where
   -- the list that is left, where a closure of such a judge was asked about each item
-  pub retained-by : (R : S → T → Bool → S → T → Type 0) (ask : J → T → Bool × T × J) → ((s : S) (x : T) (b : Bool) (u : S) (y : T) → R s x b u y → (b, y, judge_of u) ≡ ask (judge_of s) x)
-      → (s : S) (v w : Thin T A) → IsRetained R s v w → w.capacity ≡ v.capacity → w.alloc ≡ v.alloc → w ≡ sifted v (asked ask (judge_of s) v.items)
+  pub retained-by : (R : S → T → Bool → S → T → Type 0) (ask : J → T → Bool × T × J)
+      → ((s : S) (x : T) (b : Bool) (u : S) (y : T) → R s x b u y → (b, y, judge_of u)
+      ≡ ask (judge_of s) x)
+      → (s : S) (v w : Thin T A) → IsRetained R s v w → w.capacity ≡ v.capacity → w.alloc
+      ≡ v.alloc → w ≡ sifted v (asked ask (judge_of s) v.items)
   retained-by R ask told s v w r capacity alloc =
       let same = asked-by R judge_of ask told s r.0 v.items r.1.answers r.1.asked in
       let items = r.1.items ∙ ap (λ a. left_at true a) same in
       let cost = r.1.cost ∙ ap (λ a. moving (moved_up (flags_of a)) v.cost) same in
       λ i. record { items = items i; capacity = capacity i; alloc = alloc i; cost = cost i }
 
-  pub deduped-by : (R : S → T → T → Bool → S → T → T → Type 0) (same : J → T → T → Bool × T × T × J) → ((s : S) (x k : T) (b : Bool) (u : S) (x' k' : T) → R s x k b u x' k' → (b, x', k', judge_of u) ≡ same (judge_of s) x k)
-      → (s : S) (v w : Thin T A) → IsDedupedBy R s v w → w.capacity ≡ v.capacity → w.alloc ≡ v.alloc → w ≡ sifted v (asked_pairs same (judge_of s) v.items)
+  -- the same, where it was asked about pairs
+  pub deduped-by : (R : S → T → T → Bool → S → T → T → Type 0) (same : J → T → T → Bool × T × T × J)
+      → ((s : S) (x k : T) (b : Bool) (u : S) (x' k' : T) → R s x k b u x' k'
+      → (b, x', k', judge_of u) ≡ same (judge_of s) x k)
+      → (s : S) (v w : Thin T A) → IsDedupedBy R s v w → w.capacity ≡ v.capacity → w.alloc
+      ≡ v.alloc → w ≡ sifted v (asked_pairs same (judge_of s) v.items)
   deduped-by R same told s v w r capacity alloc =
       let by = asked-pairs-by R judge_of same told s r.0 v.items r.1.stays w.items r.1.asked in
       let cost = r.1.cost ∙ ap (λ m. moving m v.cost) by.0 in
@@ -62,31 +92,41 @@ module _ {T J : Type 0} (key : J → T → ℕ × T × J) (j u v : J) where
   pub keyed : (x x' y y' : T) (k l : ℕ) → (k, x', u) ≡ key j x → (l, y', v) ≡ key u y
       → (k == l, x', y', v) ≡ same_key key j x y
   keyed x x' y y' k l first second =
-      ap (λ b. (k == b.0, x', b.1, b.2)) second ∙ ap (λ a. let b = key a.2 y in (a.0 == b.0, a.1, b.1, b.2)) first
+      ap (λ b. (k == b.0, x', b.1, b.2)) second
+      ∙ ap (λ a. let b = key a.2 y in (a.0 == b.0, a.1, b.1, b.2)) first
 
 -- the list that is left, where a closure of such a judge gave the keys
-module _ {F T A J : Type 0} (g : Mut F (MutBor T × Unit {0}) (ℕ × (MutBor T × Unit {0}))) (judge_of : F → J) (key : J → T → ℕ × T × J)
-    (told : (f : F) (x : T) (k : ℕ) (f' : F) (x' : T) → CalledAtMut g f x k f' x' → (k, x', judge_of f') ≡ key (judge_of f) x) where
-  pub deduped-by-keys : (f : F) (v w : Thin T A) → IsDedupedBy (ComparesKeys g (λ a b. a == b)) f v w → w.capacity ≡ v.capacity → w.alloc ≡ v.alloc → w ≡ sifted v (asked_pairs (same_key key) (judge_of f) v.items)
+module _ {F T A J : Type 0} (g : Mut F (MutBor T × Unit {0}) (ℕ × (MutBor T × Unit {0})))
+    (judge_of : F → J) (key : J → T → ℕ × T × J)
+    (told : (f : F) (x : T) (k : ℕ) (f' : F) (x' : T) → CalledAtMut g f x k f' x'
+    → (k, x', judge_of f') ≡ key (judge_of f) x) where
+  -- by the keys of two items, which are asked for in turn
+  pub deduped-by-keys : (f : F) (v w : Thin T A)
+      → IsDedupedBy (ComparesKeys g (λ a b. a == b)) f v w → w.capacity ≡ v.capacity
+      → w.alloc ≡ v.alloc → w ≡ sifted v (asked_pairs (same_key key) (judge_of f) v.items)
   deduped-by-keys f v w d capacity alloc =
       deduped-by judge_of (ComparesKeys g (λ a b. a == b)) (same_key key)
       (λ f x k b f' x' k' called.
       let first = told f x called.key called.between x' called.first in
       let second = told called.between k called.other f' k' called.second in
       ap (λ z. (z, x', k', judge_of f')) called.compared
-      ∙ keyed key (judge_of f) (judge_of called.between) (judge_of f') x x' k k' called.key called.other first second)
+      ∙ keyed key (judge_of f) (judge_of called.between) (judge_of f') x x' k k' called.key
+      called.other first second)
       f v w d capacity alloc
 
 -- a question that only looks leaves the item
 module _ {T J : Type 0} (look : J → T → Bool × J) where
+  -- the question, with the item as it was
   abbrev pub looks : J → T → Bool × T × J
   looks j x = let a = look j x in (a.0, x, a.1)
 
+  -- an answer that left the item is the answer to that
   pub looked : (j u : J) (x y : T) (b : Bool) → (b, u) ≡ look j x → y ≡ x → (b, y, u) ≡ looks j x
   looked j u x y b told same = ap (λ z. (b, z, u)) same ∙ ap (λ a. (a.0, x, a.1)) told
 
 -- no more items stay than there were
 module _ {T : Type 0} where
+  -- those that stay are among those that were asked about
   pub few-left : (answers : Answers T) → length (left_at true answers) ≤ length answers
   few-left [] = omega arith
   few-left ((true, x) ∷ answers) = omega (arith, few-left answers)
@@ -102,26 +142,34 @@ module _ {T : Type 0} where
   one-answer false x k a = refl
 
 module _ {T J : Type 0} where
-  pub asked-length : (ask : J → T → Bool × T × J) (j : J) (xs : List T) → length (asked ask j xs) ≡ length xs
+  -- there is an answer for each item
+  pub asked-length : (ask : J → T → Bool × T × J) (j : J) (xs : List T) → length (asked ask j xs)
+      ≡ length xs
   asked-length ask j [] = refl
   asked-length ask j (x ∷ xs) = ap suc (asked-length ask (ask j x).2 xs)
 
-  pub few-asked : (ask : J → T → Bool × T × J) (j : J) (xs : List T) → length (left_at true (asked ask j xs)) ≤ length xs
+  -- so no more of them stay
+  pub few-asked : (ask : J → T → Bool × T × J) (j : J) (xs : List T)
+      → length (left_at true (asked ask j xs)) ≤ length xs
   few-asked ask j xs = omega (arith, few-left (asked ask j xs), asked-length ask j xs)
 
   -- of each later item there is an answer, and of all where the first one stays
-  last-length : (same : J → T → T → Bool × T × T × J) (j : J) (k : T) (xs : List T) → length (asked_last same j k xs).1 ≡ length xs
+  last-length : (same : J → T → T → Bool × T × T × J) (j : J) (k : T) (xs : List T)
+      → length (asked_last same j k xs).1 ≡ length xs
   last-length same j k [] = refl
   last-length same j k (x ∷ xs) =
       let a = same j x k in
       let l = if a.0 then a.2 else a.1 in
       one-answer a.0 a.1 a.2 (asked_last same a.3 l xs) ∙ ap suc (last-length same a.3 l xs)
 
-  pairs-length : (same : J → T → T → Bool × T × T × J) (j : J) (xs : List T) → length (asked_pairs same j xs) ≡ length xs
+  pairs-length : (same : J → T → T → Bool × T × T × J) (j : J) (xs : List T)
+      → length (asked_pairs same j xs) ≡ length xs
   pairs-length same j [] = refl
   pairs-length same j (x ∷ xs) = ap suc (last-length same j x xs)
 
-  pub few-pairs : (same : J → T → T → Bool × T × T × J) (j : J) (xs : List T) → length (left_at true (asked_pairs same j xs)) ≤ length xs
+  -- nor do of those that were asked about in pairs
+  pub few-pairs : (same : J → T → T → Bool × T × T × J) (j : J) (xs : List T)
+      → length (left_at true (asked_pairs same j xs)) ≤ length xs
   few-pairs same j xs = omega (arith, few-left (asked_pairs same j xs), pairs-length same j xs)
 
 -- where a test decides that has no state, what `dedup` leaves is what its answers leave
@@ -131,24 +179,30 @@ module _ {T J : Type 0} (E : T → T → Bool) (j : J) where
   tells j later kept = (E later kept, later, kept, j)
 
   -- behind an item that is kept
-  dedup-last : (k : T) (xs : List T) → Leaves (unlike_from E k xs) (dedup_from E k xs) (asked_last tells j k xs)
+  dedup-last : (k : T) (xs : List T) → Leaves (unlike_from E k xs) (dedup_from E k xs)
+      (asked_last tells j k xs)
   dedup-last k [] = (refl, refl)
   dedup-last k (x ∷ xs) = told (λ l. dedup-last l xs) (E x k)
     where
-      told : ((l : T) → Leaves (unlike_from E l xs) (dedup_from E l xs) (asked_last tells j l xs)) → (b : Bool)
+      told : ((l : T) → Leaves (unlike_from E l xs) (dedup_from E l xs) (asked_last tells j l xs))
+          → (b : Bool)
           → (let a = asked_last tells j (if b then k else x) xs in
-          Leaves (if b then false ∷ unlike_from E k xs else true ∷ unlike_from E x xs) (if b then dedup_from E k xs else k ∷ dedup_from E x xs)
+          Leaves (if b then false ∷ unlike_from E k xs else true ∷ unlike_from E x xs)
+          (if b then dedup_from E k xs else k ∷ dedup_from E x xs)
           (if b then (a.0, (false, x) ∷ a.1) else (k, (true, a.0) ∷ a.1)))
       told by true = let h = by k in (ap (λ l. false ∷ l) h.0, h.1)
       told by false = let h = by x in (ap (λ l. true ∷ l) h.0, ap (λ l. k ∷ l) h.1)
 
   -- from the first item on, which stays
-  dedup-pairs : (xs : List T) → (moved_up (unlike E xs) ≡ moved_up (flags_of (asked_pairs tells j xs))) × (dedup E xs ≡ left_at true (asked_pairs tells j xs))
+  dedup-pairs : (xs : List T)
+      → (moved_up (unlike E xs) ≡ moved_up (flags_of (asked_pairs tells j xs)))
+      × (dedup E xs ≡ left_at true (asked_pairs tells j xs))
   dedup-pairs [] = (refl, refl)
   dedup-pairs (x ∷ xs) = let h = dedup-last x xs in (ap moved_up h.0, h.1)
 
   -- the list that is left
-  pub deduped-alike : {A : Type 0} (v w : Thin T A) → w.items ≡ dedup E v.items → w.cost ≡ moving (moved_up (unlike E v.items)) v.cost
+  pub deduped-alike : {A : Type 0} (v w : Thin T A) → w.items ≡ dedup E v.items → w.cost
+      ≡ moving (moved_up (unlike E v.items)) v.cost
       → w.capacity ≡ v.capacity → w.alloc ≡ v.alloc → w ≡ sifted v (asked_pairs tells j v.items)
   deduped-alike v w items cost capacity alloc =
       let by = dedup-pairs v.items in

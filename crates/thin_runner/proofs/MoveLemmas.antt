@@ -125,7 +125,8 @@ module _ {T A G J : Type 0} (here : Setting T A J) where
       omega (arith, few (omega arith))
   step-moves v w (Extend xs lower) (Stopped answers cause held in_hand rest) s =
       let end = length v.items in
-      let few = stopped-moves v w here.rule here.R end end xs.items held.items lower cause in_hand in
+      let few = stopped-moves v w here.rule here.R end end xs.items held.items lower cause in_hand
+      in
       omega (arith, few rest s.1.1)
   step-moves v w (Append given) (Other back None) s = grown-moves v w _ _ s.1.1.1
   step-moves v w (Append given) (Other back (Some cause)) s = same-moves v w v 0 s.1.1.2 refl

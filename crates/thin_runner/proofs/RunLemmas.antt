@@ -77,7 +77,8 @@ module _ {T A G J : Type 0} (here : Setting T A J) where
       → All Only commands → Holds n v → Runs here v commands replies w
       → Holds (n + total commands replies) w
   runs-keep Holds Only count step total more none n v w [] [] only h r =
-      let e : n ≡ n + total [] [] = omega (arith, none) in subst (λ k. Holds k w) e (subst (Holds n) (sym r) h)
+      let e : n ≡ n + total [] [] =
+      omega (arith, none) in subst (λ k. Holds k w) e (subst (Holds n) (sym r) h)
   runs-keep Holds Only count step total more none n v w (c ∷ commands) (r ∷ replies) only h ran =
       let e : n + count c r + total commands replies ≡ n + total (c ∷ commands) (r ∷ replies) =
       omega (arith, more c r commands replies) in

@@ -38,7 +38,8 @@ module _ {T A : Type 0} (s rest : Hinted T A) (placed held : List T)
       placed held in_hand rest
 
   -- what a refused `finish` placed, what it holds, the item in hand and the rest are what there was
-  pub stopped-items : Broke → hinted_items s ≡ placed ++ (held ++ (option_to_list in_hand ++ hinted_items rest))
+  pub stopped-items : Broke → hinted_items s ≡ placed
+      ++ (held ++ (option_to_list in_hand ++ hinted_items rest))
   stopped-items (inl gave) =
       yields-items s rest ((placed ++ held) ++ option_to_list in_hand) gave.0
       ∙ (append_assoc (placed ++ held) (option_to_list in_hand) (hinted_items rest)
@@ -101,7 +102,8 @@ module _ {T A : Type 0} (old : Thin T A) (a b : ℕ) where
         → IsExtended rule R (left_of block alloc) new.capacity (length new.items) left
         → IsExtended rule R (cut old a b) new.capacity (length new.items) (at_most most)
     named rule R new most left count is_named =
-        let of = λ (v : Thin T A) (n : Count). IsExtended rule R v new.capacity (length new.items) n in
+        let of = λ (v : Thin T A) (n : Count). IsExtended rule R v new.capacity (length new.items) n
+        in
         subst (λ (n : Count). of (cut old a b) n) count
         (subst (λ (v : Thin T A). of v left) left-is is_named)
 
@@ -124,11 +126,13 @@ module _ {T A : Type 0} (old : Thin T A) (a b : ℕ) where
 
 -- what is said of a list is said of it under another name
 module _ {T A : Type 0} {rule : Rule} {R : RattleType} {old v w : Thin T A} {a b : ℕ} where
+  -- of one that items went into
   pub replaces-of : {placed : List T} {most : ℕ} → v ≡ w → Replaces rule R old a b placed most v
       → Replaces rule R old a b placed most w
   replaces-of {placed} {most} same =
       subst (λ (u : Thin T A). Replaces rule R old a b placed most u) same
 
+  -- of one for which there was no room
   pub stops-of : {xs held : List T} {lower : ℕ} {cause : ThinVecError} {in_hand : Option T}
       {rest : Hinted T A} → v ≡ w
       → StopsBetween rule R old a b xs held lower cause in_hand rest v
@@ -138,6 +142,7 @@ module _ {T A : Type 0} {rule : Rule} {R : RattleType} {old v w : Thin T A} {a b
 
 -- no item stands at the end
 module _ {T A : Type 0} (old : Thin T A) where
+  -- an empty range at the end takes nothing out
   pub cut-end : cut old (length old.items) (length old.items) ≡ old
   cut-end = λ i. record old { items = take-append-drop (length old.items) old.items i }
 
@@ -154,6 +159,7 @@ module _ {T A : Type 0} (old : Thin T A) where
 
 -- what went in behind the items of a list took the place of none
 module _ {T A : Type 0} (rule : Rule) (R : RattleType) (old new : Thin T A) where
+  -- as `extend` says it, and as `finish` would
   pub replaces-end : (placed : List T) (most : ℕ) → new.items ≡ old.items ++ placed
       → IsLoose rule R old.capacity new.capacity
       → IsExtended rule R old new.capacity (length new.items) (at_most most) → IsWithin R new

@@ -15,18 +15,24 @@ module _ {T : Type 0} where
   last-of (y ∷ xs) x = last-of xs x
 
   -- a step from the back of xs, of which it leaves ys
-  walked-last : (xs ys : List T) (item : Option T) → MatchOption item ((xs ≡ []) × (ys ≡ [])) (λ x. xs ≡ ys ++ x ∷ [])
+  walked-last : (xs ys : List T) (item : Option T)
+      → MatchOption item ((xs ≡ []) × (ys ≡ [])) (λ x. xs ≡ ys ++ x ∷ [])
       → (steps : List Step) → walked xs (Back ∷ steps) ≡ item ∷ walked ys steps
   walked-last xs ys None e steps =
-      ap (λ l. slice_get l (length l - 1) ∷ walked (take (length l - 1) l) steps) e.0 ∙ sym (ap (λ l. None ∷ walked l steps) e.1)
+      ap (λ l. slice_get l (length l - 1) ∷ walked (take (length l - 1) l) steps) e.0
+      ∙ sym (ap (λ l. None ∷ walked l steps) e.1)
   walked-last xs ys (Some x) e steps =
       let count : length xs - 1 ≡ length ys = omega (arith, ap length e, length_push ys x) in
-      let last : slice_get xs (length xs - 1) ≡ Some x = (λ i. slice_get (e i) (count i)) ∙ last-of ys x in
-      let others : take (length xs - 1) xs ≡ ys = (λ i. take (count i) (e i)) ∙ take-append_seam ys (x ∷ []) in
+      let last : slice_get xs (length xs - 1) ≡ Some x = (λ i. slice_get (e i) (count i))
+      ∙ last-of ys x in
+      let others : take (length xs - 1) xs ≡ ys = (λ i. take (count i) (e i))
+      ∙ take-append_seam ys (x ∷ []) in
       λ i. last i ∷ walked (others i) steps
 
   -- the same of a step that is one from the back
-  pub walked-back : (xs ys : List T) (item : Option T) (step : Step) → step ≡ Back → MatchOption item ((xs ≡ []) × (ys ≡ [])) (λ x. xs ≡ ys ++ x ∷ [])
+  pub walked-back : (xs ys : List T) (item : Option T) (step : Step) → step ≡ Back
+      → MatchOption item ((xs ≡ []) × (ys ≡ [])) (λ x. xs ≡ ys ++ x ∷ [])
       → (steps : List Step) → walked xs (step ∷ steps) ≡ item ∷ walked ys steps
   walked-back xs ys item step at gave steps =
-      subst (λ s. walked xs (s ∷ steps) ≡ item ∷ walked ys steps) (sym at) (walked-last xs ys item gave steps)
+      subst (λ s. walked xs (s ∷ steps) ≡ item ∷ walked ys steps) (sym at)
+      (walked-last xs ys item gave steps)

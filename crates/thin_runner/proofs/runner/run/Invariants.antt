@@ -10,6 +10,8 @@ use Rattle.thin_runner.proofs.runner.run.Given as goal
 abbrev pub invariant-loop-command : goal.invariant-loop-command
 invariant-loop-command g l = record {
   room : vec_len l.replies + length (into_iter_items l.command-iterator) ≤ vec_capacity l.replies;
-  ran : HasRun (setting g.T.Clone.is_clone g.T.Clone.is_infallible g.T.PartialEq.eq g.J.Judge.judging g.G.Growth.rule (param 0 g.row.T) l.fn.alloc l.fn.judge)
-      l.fn.list l.fn.commands.items (into_iter_items l.command-iterator) l.fn.replies.items l.replies.items l.list;
+  ran : HasRun (setting g.T.Clone.is_clone g.T.Clone.is_infallible g.T.PartialEq.eq
+      g.J.Judge.judging g.G.Growth.rule (param 0 g.row.T) l.fn.alloc l.fn.judge)
+      l.fn.list l.fn.commands.items (into_iter_items l.command-iterator) l.fn.replies.items
+      l.replies.items l.list;
 }

@@ -29,16 +29,22 @@ pub returns-in-Reserve : goal.returns-in-Reserve
 returns-in-Reserve g c = record { allowed = rw c.in-Reserve.is c.reserve.ensures.allowed }
 
 pub returns-in-ReserveExact : goal.returns-in-ReserveExact
-returns-in-ReserveExact g c = record { allowed = rw c.in-ReserveExact.is c.reserve_exact.ensures.allowed }
+returns-in-ReserveExact g c = record {
+  allowed = rw c.in-ReserveExact.is c.reserve_exact.ensures.allowed;
+}
 
 pub returns-in-ShrinkToFit : goal.returns-in-ShrinkToFit
-returns-in-ShrinkToFit g c = record { allowed = rw c.in-ShrinkToFit.is c.shrink_to_fit.ensures.allowed }
+returns-in-ShrinkToFit g c = record {
+  allowed = rw c.in-ShrinkToFit.is c.shrink_to_fit.ensures.allowed;
+}
 
 pub returns-in-Resize : goal.returns-in-Resize
 returns-in-Resize g c = record { allowed = rw c.in-Resize.is c.resize.ensures.allowed }
 
 pub returns-in-ExtendFromSlice : goal.returns-in-ExtendFromSlice
-returns-in-ExtendFromSlice g c = record { allowed = rw c.in-ExtendFromSlice.is c.extend_from_slice.ensures.allowed }
+returns-in-ExtendFromSlice g c = record {
+  allowed = rw c.in-ExtendFromSlice.is c.extend_from_slice.ensures.allowed;
+}
 
 pub returns-in-Extend : goal.returns-in-Extend
 returns-in-Extend g c = record { allowed = rw c.in-Extend.is c.extend.ensures.allowed }
@@ -65,7 +71,9 @@ pub returns-in-DedupBy : goal.returns-in-DedupBy
 returns-in-DedupBy g c = record { allowed = rw c.in-DedupBy.is c.dedup_by.ensures.allowed }
 
 pub returns-in-DedupByKey : goal.returns-in-DedupByKey
-returns-in-DedupByKey g c = record { allowed = rw c.in-DedupByKey.is c.dedup_by_key.ensures.allowed }
+returns-in-DedupByKey g c = record {
+  allowed = rw c.in-DedupByKey.is c.dedup_by_key.ensures.allowed;
+}
 
 pub returns-in-Drain : goal.returns-in-Drain
 returns-in-Drain g c = record { allowed = rw c.in-Drain.is c.drain.ensures.allowed }

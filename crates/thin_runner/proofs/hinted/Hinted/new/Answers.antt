@@ -7,7 +7,8 @@ use Rattle.thin_runner.proofs.hinted.Hinted.new.Goals as goal
 pub returns-clause-runs : goal.returns-clause-runs
 returns-clause-runs g c run seen =
     let steps = HintedSteps {T = g.row.T.Denot} {A = g.row.A.Denot} in
-    as_is run _ (from_front steps (λ item. item) hinted_items (λ old new step. ap length step.0.0) (λ old item new step. step.0) run seen)
+    as_is run _ (from_front steps (λ item. item) hinted_items (λ old new step. ap length step.0.0)
+    (λ old item new step. step.0) run seen)
 
 pub returns-clause-claim : goal.returns-clause-claim
 returns-clause-claim g c = search rules

@@ -4,4 +4,6 @@ use Rattle.thin_runner.proofs.JudgedLemmas.{deduped-alike}
 use Rattle.thin_runner.proofs.steps.Means.dedup.Goals as goal
 
 pub returns : goal.returns
-returns g c = record { allowed = search (rules, deduped-alike g.T.PartialEq.eq c.args.self.judge c.args.list.now) }
+returns g c = record {
+  allowed = search (rules, deduped-alike g.T.PartialEq.eq c.args.self.judge c.args.list.now);
+}

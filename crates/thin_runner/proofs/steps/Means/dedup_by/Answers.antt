@@ -10,6 +10,7 @@ returns g c =
       allowed = (
         tt,
         deduped-by (λ f. f.0) _ g.J.Judge.judging.same
-            (λ f x k b f' x' k' called. search rules) _ c.args.list.now c.dedup_by.new.self e.deduped e.capacity e.alloc,
+            (λ f x k b f' x' k' called. search rules) _ c.args.list.now c.dedup_by.new.self
+            e.deduped e.capacity e.alloc,
       );
     }

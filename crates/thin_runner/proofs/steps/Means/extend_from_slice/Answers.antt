@@ -8,8 +8,10 @@ pub returns : goal.returns
 returns g c =
     let e = c.in-Err.ensures in
     let same = c.as_slice.ensures.value in
-    let stopped = refuses-clone {T = g.row.T.Denot} {A = g.row.A.Denot} g.G.Growth.rule (param 0 g.row.T) g.T.Clone.is_infallible
-    c.as_slice.result.now (length c.as_slice.result.now) c.args.list.now c.extend_from_slice.new.self e.err_items e.alloc e.refused in
+    let stopped = refuses-clone {T = g.row.T.Denot} {A = g.row.A.Denot} g.G.Growth.rule
+    (param 0 g.row.T) g.T.Clone.is_infallible
+    c.as_slice.result.now (length c.as_slice.result.now) c.args.list.now
+    c.extend_from_slice.new.self e.err_items e.alloc e.refused in
     let overflow = rw same at e.overflow in
     let succeeds = rw same at e.succeeds in
     record {

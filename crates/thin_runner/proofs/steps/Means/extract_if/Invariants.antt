@@ -10,12 +10,16 @@ use Rattle.thin_runner.proofs.steps.Means.extract_if.Given as goal
 abbrev pub invariant-loop : goal.invariant-loop
 invariant-loop g l =
     let ask = g.J.Judge.judging.take in
-    let asked = extracting ask l.fn.self.judge l.fn.count (slice_range l.fn.list.items l.fn.start l.fn.end) in
-    let left = extracting ask (extract_callee l.extract).0 (l.fn.count - l.counter) (extract_rest l.extract) in
+    let asked = extracting ask l.fn.self.judge l.fn.count
+    (slice_range l.fn.list.items l.fn.start l.fn.end) in
+    let left = extracting ask (extract_callee l.extract).0 (l.fn.count - l.counter)
+    (extract_rest l.extract) in
     record {
       room : vec_len l.answers + (l.fn.count - l.counter) ≤ vec_capacity l.answers;
-      answers : l.answers.items ++ handed_out (l.fn.count - l.counter) (left_at false left) ≡ handed_out l.fn.count (left_at false asked);
-      extracting : IsExtracting asked (take l.fn.start l.fn.list.items) l.fn.list.cost left (extract_front l.extract) (extract_gone l.extract) (extract_cost l.extract);
+      answers : l.answers.items ++ handed_out (l.fn.count - l.counter) (left_at false left)
+          ≡ handed_out l.fn.count (left_at false asked);
+      extracting : IsExtracting asked (take l.fn.start l.fn.list.items) l.fn.list.cost left
+          (extract_front l.extract) (extract_gone l.extract) (extract_cost l.extract);
       tail : extract_tail l.extract ≡ drop l.fn.end l.fn.list.items;
       lender : extract_lender l.extract ≡ extract_lender l.initial.extract;
       capacity : extract_capacity l.extract ≡ l.fn.list.capacity;

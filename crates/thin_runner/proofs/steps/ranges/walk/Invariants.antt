@@ -9,6 +9,7 @@ use Rattle.thin_runner.proofs.steps.ranges.walk.Given as goal
 abbrev pub invariant-loop-step : goal.invariant-loop-step
 invariant-loop-step g l = record {
   room : vec_len l.answers + length (into_iter_items l.step-iterator) ≤ vec_capacity l.answers;
-  answers : l.answers.items ++ walked (drain_rest l.drain) (into_iter_items l.step-iterator) ≡ l.fn.answers.items ++ walked (drain_rest l.fn.drain) l.fn.steps.items;
+  answers : l.answers.items ++ walked (drain_rest l.drain) (into_iter_items l.step-iterator)
+      ≡ l.fn.answers.items ++ walked (drain_rest l.fn.drain) l.fn.steps.items;
   keeps : DrainKeeps l.fn.drain l.drain;
 }

@@ -9,6 +9,7 @@ use Rattle.thin_runner.proofs.steps.splices.walk.Given as goal
 abbrev pub invariant-loop-step : goal.invariant-loop-step
 invariant-loop-step g l = record {
   room : vec_len l.answers + length (into_iter_items l.step-iterator) ≤ vec_capacity l.answers;
-  answers : l.answers.items ++ walked (splice_block l.splice).rest (into_iter_items l.step-iterator) ≡ l.fn.answers.items ++ walked (splice_block l.fn.splice).rest l.fn.steps.items;
+  answers : l.answers.items ++ walked (splice_block l.splice).rest (into_iter_items l.step-iterator)
+      ≡ l.fn.answers.items ++ walked (splice_block l.fn.splice).rest l.fn.steps.items;
   keeps : SpliceKeeps l.fn.splice l.splice;
 }
