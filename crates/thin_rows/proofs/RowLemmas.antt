@@ -20,6 +20,7 @@ module _ {V : Type 0} (es : List (ℕ × V)) (rising : IsRising es) where
   abbrev row : map.FinMap nat_cmp V
   row = from_sorted es
 
+  -- it has as many entries
   pub len_is : map.len row ≡ length es
   len_is = len-entries row ∙ ap length (entries-from_sorted nat_cmp es rising)
 
@@ -82,5 +83,6 @@ module _ {V : Type 0} (es : List (ℕ × V)) (rising : IsRising es) where
       pub unchanged : row ≡ map.remove row c
       unchanged = left_is es (without_gap c es at gap)
 
+-- no entry makes the empty map
 pub none_stored : {V : Type 0} → from_sorted {R = nat_cmp} [] ≡ map.empty {X = V}
 none_stored = empty_of_len _ (len_is [] tt)

@@ -5,6 +5,7 @@ use Rattle.std.specs.Mem.{type_size}
 use Rattle.std.specs.Align.{type_align}
 use Rattle.thin_vec.specs.Growth.{Rule, exact_capacity, ruled_capacity}
 
+-- so an exact capacity is the same for two types of one size and alignment
 pub exact_of_same : (R S : RattleType) (c w : ℕ) → type_size R ≡ type_size S
     → type_align R ≡ type_align S → exact_capacity R c w ≡ exact_capacity S c w
 unfolding exact_capacity
@@ -22,5 +23,6 @@ pub error_passes : {X Y E : Type 0} (cause e : E) → IsErrOf {T = X} (Err cause
     → IsErrOf {T = Y} (Err cause) e
 error_passes cause e same = let equal : cause ≡ e = cc in ap Err equal
 
+-- where there was no error there is none
 pub ok_passes : {X Y E : Type 0} (x : X) (y : Y) (e : E) → IsErrOf (Ok x) e → IsErrOf (Ok y) e
 ok_passes x y e same = cc

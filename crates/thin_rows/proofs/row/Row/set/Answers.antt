@@ -68,7 +68,8 @@ returns-in-Err-insert-clause-cause g c = λ over.
     let row = c.self.inside.entries in
     let many : len c.args.self.now ≡ length row.items =
     sym (sym (len_is row.items c.self.invariant.rising) ∙ ap len c.self.view_is) in
-    let full : len c.args.self.now ≡ row.capacity = elim (cases_lt row.capacity (length row.items + 1)) [
+    let full : len c.args.self.now ≡ row.capacity =
+    elim (cases_lt row.capacity (length row.items + 1)) [
       | inl few ↦ omega (arith, few, many, c.insert.ensures.within.0.room)
       | inr spare ↦ absurd (false≢true (c.in-Err-insert.ensures.succeeds spare))
     ] in
