@@ -1,7 +1,7 @@
 //! What a closure owns is dropped with it, once its call ends.
 use crate::counted::Counted;
 use crate::items::list_of;
-use crate::standing::{assert_items, assert_len, assert_same};
+use crate::standing::{assert_items, assert_same};
 use std::cell::Cell;
 use std::process::Abort;
 use thin_vec::ThinVec;
@@ -50,17 +50,5 @@ fn dedup_by_key_drops_its_closure(rt: HostRuntime) {
     let owned = Counted::new(&drops);
     let mut list = list_of(&rt, rt.alloc(), &[1, 2, 3]);
     list.dedup_by_key(move |item| is_not_two(&owned, *item) && *item == 3);
-    assert_without_two(&rt, &list, &drops);
-}
-
-#[test]
-fn extract_if_drops_its_closure(rt: HostRuntime) {
-    let drops = Cell::new(0);
-    let owned = Counted::new(&drops);
-    let mut list = list_of(&rt, rt.alloc(), &[1, 2, 3]);
-    assert_len(&rt, &list, 3);
-    let mut extract = list.extract_if(0, 3, move |item| !is_not_two(&owned, *item));
-    assert_same(&rt, extract.next(), Some(2));
-    drop(extract);
     assert_without_two(&rt, &list, &drops);
 }

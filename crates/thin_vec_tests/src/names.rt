@@ -9,7 +9,9 @@ use std::hash::Hash;
 use std::io::Write;
 use std::iter::{ExactSizeIterator, FusedIterator};
 use std::ops::{DerefSlice, DerefSliceMut, Index, IndexMut};
-use thin_vec::{Doubling, Growth, IntoIter, Rejected, ThinVec, ThinVecError, fits, thin_vec};
+use thin_vec::{
+    Doubling, ExtractIf, Growth, IntoIter, Rejected, ThinVec, ThinVecError, fits, thin_vec,
+};
 
 // What a list of items that are cloned, compared, hashed and printed is.
 fn is_a_list<L>(_list: &L)
@@ -31,6 +33,8 @@ where
     E: Error + Copy + Eq + From<AllocError> + From<Rejected<u8>>,
 {}
 
+fn is_an_extraction<F>(_items: &ExtractIf<'_, u8, F>) {}
+
 fn of_a_rule<G: Growth, A: Allocator>(list: &ThinVec<u8, A, G>) -> usize {
     list.capacity()
 }
@@ -45,6 +49,7 @@ fn names_and_traits_are_there(rt: HostRuntime) {
     is_an_iterator(&items);
     let mut bytes = ThinVec::new(alloc);
     is_an_iterator(&bytes.drain(0, 0));
+    is_an_extraction(&bytes.extract_if(0, 0, |_item: &mut u8| true));
     is_a_cause(&ThinVecError::OutOfMemory);
     assert_same(&rt, fits::<u8>(3), true);
 }
