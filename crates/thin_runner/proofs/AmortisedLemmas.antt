@@ -1,8 +1,8 @@
 -- What pushes and pops alone have copied.
-use Rattle.std.proofs.Common.{◌≡◌, ℕ, zero, suc, ◌+◌, ◌*◌, ◌<◌, ◌≤◌, List, [], ◌∷◌, length, arith, ap, ◌∙◌, refl, inl, inr}
+use Rattle.std.proofs.Common.{◌≡◌, ℕ, zero, suc, ◌+◌, ◌*◌, ◌<◌, ◌≤◌, List, [], ◌∷◌, length, arith, ap, ◌∙◌, refl, subst, inl, inr}
 use Rattle.std.proofs.lemmas.Bool.{cases_lt}
 use Rattle.std.proofs.lemmas.List.{length-append, length_push}
-use Rattle.thin_runner.proofs.RunLemmas.{runs-keep}
+use Rattle.thin_runner.proofs.RunLemmas.{counted, runs-keep}
 use Rattle.std.specs.Prelude.{◌⊎◌, All}
 use Rattle.std.specs.Option.{option_to_list}
 use Rattle.thin_vec.specs.Cost.{Cost}
@@ -60,18 +60,17 @@ module _ {T A : Type 0} where
   same-amortised : (m : ℕ) (v w : Thin T A) → IsAmortised m v → w ≡ v → IsAmortised (m + 0) w
   same-amortised m v w a same = let e : m + 0 ≡ m = omega arith in rw (same, e) a
 
--- a growth of n items into a full list of at most m
-copied-growing : (c n m : ℕ) (k : Cost) (g : ℕ) → IsCheapAt c k → n ≤ c → c ≤ n → n ≤ m
-    → g ≡ k.grown + n → g < 2 * (m + 1)
-copied-growing zero n m k g h le ge few e = let z = h.none refl in omega (arith, z.1, e, le)
-copied-growing (suc c) n m k g h le ge few e =
-    let copied : k.grown < suc c = h.grown (omega arith) in omega (arith, copied, e, few, ge)
+-- a growth of a full list of c items, which are at most m
+copied-growing : (c m : ℕ) (k : Cost) → IsCheapAt c k → c ≤ m → k.grown + c < 2 * (m + 1)
+copied-growing zero m k h few = let z = h.none refl in omega (arith, z.1)
+copied-growing (suc c) m k h few =
+    let copied : k.grown < suc c = h.grown (omega arith) in omega (arith, copied, few)
 
 -- no growth
-copied-kept : (m m' g g' : ℕ) → (g < 2 * m) ⊎ (g ≡ 0) → m ≤ m' → g' ≡ g
-    → (g' < 2 * m') ⊎ (g' ≡ 0)
-copied-kept m m' g g' (inl few) more same = inl (omega arith)
-copied-kept m m' g g' (inr none) more same = inr (same ∙ none)
+copied-kept : (m more : ℕ) {g g' : ℕ} → (g < 2 * m) ⊎ (g ≡ 0) → g' ≡ g
+    → (g' < 2 * (m + more)) ⊎ (g' ≡ 0)
+copied-kept m more (inl few) same = inl (omega (arith, few, same))
+copied-kept m more (inr none) same = inr (same ∙ none)
 
 module _ {T A G J : Type 0} (here : Setting T A J) (law : KeepsLaw here.rule) where
   -- a push or a pop keeps it so
@@ -90,12 +89,12 @@ module _ {T A G J : Type 0} (here : Setting T A J) (law : KeepsLaw here.rule) wh
               let one = cost_at-grown here.rule here.R law v 1 w.capacity full next in
               let grown : w.cost.grown ≡ v.cost.grown + length v.items =
               paid ∙ ap (λ c. c.grown) one in
-              inl (copied-growing v.capacity (length v.items) m v.cost w.cost.grown a.paid.cheap
-              a.paid.room (omega arith) a.items grown)
+              let few = copied-growing v.capacity m v.cost a.paid.cheap
+              (omega (arith, full, was)) in
+              inl (omega (arith, grown, few, a.paid.room))
           | inr spare ↦
               let none = cost_at-kept here.rule here.R law v 1 w.capacity spare next in
-              copied-kept m (m + 1) v.cost.grown w.cost.grown a.copied (omega arith)
-              (paid ∙ ap (λ c. c.grown) none)
+              copied-kept m 1 a.copied (paid ∙ ap (λ c. c.grown) none)
         ];
       }
   step-amortised m v w Pop (Item o) only a s =
@@ -103,8 +102,7 @@ module _ {T A G J : Type 0} (here : Setting T A J) (law : KeepsLaw here.rule) wh
       record {
         paid = step-paid {G = G} here law v w Pop (Item o) tt a.paid s;
         items = omega (arith, ap length s.1.1, length-append w.items (option_to_list o), was);
-        copied = copied-kept m (m + 0) v.cost.grown w.cost.grown a.copied (omega arith)
-            (ap (λ z. z.cost.grown) s.1.2);
+        copied = copied-kept m 0 a.copied (ap (λ z. z.cost.grown) s.1.2);
       }
   step-amortised m v w (Push x) (Returned y cause) only a s = same-amortised m v w a s.1.1.2
   step-amortised m v w (Push x) (OutOfRange back) only a s = same-amortised m v w a s.2
@@ -113,18 +111,20 @@ module _ {T A G J : Type 0} (here : Setting T A J) (law : KeepsLaw here.rule) wh
   step-amortised m v w Pop reply only a s = absurd s.1
   step-amortised m v w command reply only a s = absurd only
 
-  -- the first command counts alone, and the others after it
-  accepted-cons : (command : Command T A G) (reply : Reply T A G)
-      (commands : List (Command T A G)) (replies : List (Reply T A G))
-      → accepted (command ∷ commands) (reply ∷ replies)
-      ≡ accepted (command ∷ []) (reply ∷ []) + accepted commands replies
-  accepted-cons (Push x) Done commands replies = omega arith
-  accepted-cons command reply commands replies = omega arith
+  -- what the steps of a run count, and how many of its pushes were accepted, are one
+  accepted-counted : (commands : List (Command T A G)) (replies : List (Reply T A G))
+      → counted (λ c r. accepted (c ∷ []) (r ∷ [])) commands replies ≡ accepted commands replies
+  accepted-counted (Push x ∷ commands) (Done ∷ replies) =
+      omega (arith, accepted-counted commands replies)
+  accepted-counted (command ∷ commands) (reply ∷ replies) =
+      omega (arith, accepted-counted commands replies)
+  accepted-counted commands replies = refl
 
   -- and so does a run of them
   pub runs-amortised : (v w : Thin T A) (commands : List (Command T A G))
       (replies : List (Reply T A G)) → All IsPushOrPop commands → IsAmortised 0 v
       → Runs here v commands replies w → IsAmortised (0 + accepted commands replies) w
   runs-amortised v w commands replies only a run =
-      runs-keep here IsAmortised IsPushOrPop (λ c r. accepted (c ∷ []) (r ∷ [])) step-amortised
-      accepted accepted-cons (omega arith) 0 v w commands replies only a run
+      subst (λ n. IsAmortised (0 + n) w) (accepted-counted commands replies)
+      (runs-keep here IsAmortised IsPushOrPop (λ c r. accepted (c ∷ []) (r ∷ [])) step-amortised
+      0 v w commands replies only a run)

@@ -29,15 +29,14 @@ module _ {T A : Type 0} where
 
   module _ (rule : Rule) where
     -- nothing changed, or there was room and a clone was refused
-    pub refuses-clone : (R : RattleType) (infallible : T
-        → Type 0) (sources : List T) (k : ℕ) (v w : Thin T A) → w.items ≡ v.items
-        → w.alloc ≡ v.alloc → (w ≡ v) ⊎ IsCloneRefused rule R infallible sources k v w
+    pub refuses-clone : {R : RattleType} {infallible : T → Type 0} {sources : List T} {k : ℕ}
+        {v w : Thin T A} → w.items ≡ v.items → w.alloc ≡ v.alloc
+        → (w ≡ v) ⊎ IsCloneRefused rule R infallible sources k v w
         → (w ≡ v) ⊎ ((at : ℕ) × (at < length sources)
-        × HoldsAt (λ x. ¬ (infallible x))
-        sources at × ((capacity_for rule R v k ≡ Some w.capacity)
-        × (w ≡ grown v w.capacity v.items at)))
-    refuses-clone R infallible sources k v w same alloc (inl e) = inl e
-    refuses-clone R infallible sources k v w same alloc (inr r) =
+        × HoldsAt (λ x. ¬ (infallible x)) sources at
+        × ((capacity_for rule R v k ≡ Some w.capacity) × (w ≡ grown v w.capacity v.items at)))
+    refuses-clone same alloc (inl e) = inl e
+    refuses-clone {v = v} {w} same alloc (inr r) =
         inr (
           r.stopped.at,
           r.stopped.in_bounds,

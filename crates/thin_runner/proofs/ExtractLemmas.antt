@@ -9,7 +9,7 @@ use Rattle.thin_vec.proofs.FiltersLemmas.{left_at-append, left_at-stay, moved_up
 use Rattle.thin_vec.specs.Cost.{Cost, moving}
 use Rattle.thin_vec.specs.Filters.{Answers, flags_of, left_at, moved_up, stay, trues}
 use Rattle.thin_vec.specs.ThinVec.{Thin}
-use Rattle.thin_runner.proofs.JudgedLemmas.{few-left}
+use Rattle.thin_runner.proofs.JudgedLemmas.{AsksJudge, few-left}
 use Rattle.thin_runner.specs.commands.Filters.{around, extracting, sifted}
 use Rattle.thin_runner.specs.commands.Ranges.{walked}
 use Rattle.thin_runner.specs.declared.command.Step.TheVariants.{Front}
@@ -69,64 +69,61 @@ module _ {T : Type 0} where
       (eqb-suc-zero (length (left_at false a))))
 
 module _ {S T J : Type 0} (R : S → T → Bool → S → T → Type 0) (judge_of : S → J)
-    (ask : J → T → Bool × T × J)
-    (told : (s : S) (x : T) (b : Bool) (u : S) (y : T) → R s x b u y → (b, y, judge_of u)
-    ≡ ask (judge_of s) x) where
+    (ask : J → T → Bool × T × J) (told : AsksJudge R judge_of ask) where
   none-left : (j : J) (k : ℕ) → extracting ask j k [] ≡ []
   none-left j zero = refl
   none-left j (suc k) = refl
 
-  -- one call of `next`, of those that are left
-  pub extracts-by : (s t : S) (k : ℕ) (xs : List T) (item : Option T) (kept rest : List T)
-      → ExtractsNext R s xs item t kept rest
-      → extracting ask (judge_of s) (suc k) xs ≡ stay kept
-      ++ (goes item ++ extracting ask (judge_of t) k rest)
-  extracts-by s t k [] item kept rest e =
-      sym ((λ i. stay (e.2 i) ++ (goes (e.0 i) ++ extracting ask (judge_of t) k (e.3 i)))
-      ∙ none-left (judge_of t) k)
-  extracts-by s t k (x ∷ xs) item kept rest e =
-      subst (λ a. (not a.0, a.1) ∷ extracting ask a.2 (if a.0 then k else suc k) xs
-      ≡ stay kept ++ (goes item ++ extracting ask (judge_of t) k rest)) (told s x e.0 e.1 e.2 e.3)
-      (answered e.0 (λ ks n. extracts-by e.1 t k xs item ks rest n) e.4)
-    where
-      answered : (b : Bool)
-          → ((ks : List T) → ExtractsNext R e.1 xs item t ks rest
-          → extracting ask (judge_of e.1) (suc k) xs ≡ stay ks
-          ++ (goes item ++ extracting ask (judge_of t) k rest))
-          → MatchBool b ((item ≡ Some e.2) × (t ≡ e.1) × (kept ≡ []) × (rest ≡ xs))
-          ((ks : List T) × ExtractsNext R e.1 xs item t ks rest × (kept ≡ e.2 ∷ ks))
-          → (not b, e.2) ∷ extracting ask (judge_of e.1) (if b then k else suc k) xs
-          ≡ stay kept ++ (goes item ++ extracting ask (judge_of t) k rest)
-      answered true by m =
-          sym (λ i. stay (m.2 i) ++ (goes (m.0 i) ++ extracting ask (judge_of (m.1 i)) k (m.3 i)))
-      answered false by m =
-          ap (λ l. (true, e.2) ∷ l) (by m.0 m.1)
-          ∙ sym (ap (λ l. stay l ++ (goes item ++ extracting ask (judge_of t) k rest)) m.2)
+  -- a call of `next` gave the item and left `rest`, and k calls may come after it
+  module _ (t : S) (k : ℕ) (item : Option T) (rest : List T) where
+    -- what becomes of the items from this call on
+    pub extracts-by : (s : S) (xs kept : List T) → ExtractsNext R s xs item t kept rest
+        → extracting ask (judge_of s) (suc k) xs
+        ≡ stay kept ++ (goes item ++ extracting ask (judge_of t) k rest)
+    extracts-by s [] kept e =
+        sym ((λ i. stay (e.2 i) ++ (goes (e.0 i) ++ extracting ask (judge_of t) k (e.3 i)))
+        ∙ none-left (judge_of t) k)
+    extracts-by s (x ∷ xs) kept e =
+        subst (λ a. (not a.0, a.1) ∷ extracting ask a.2 (if a.0 then k else suc k) xs
+        ≡ stay kept ++ (goes item ++ extracting ask (judge_of t) k rest)) (told s x e.0 e.1 e.2 e.3)
+        (answered e.0 (λ ks n. extracts-by e.1 xs ks n) e.4)
+      where
+        answered : (b : Bool)
+            → ((ks : List T) → ExtractsNext R e.1 xs item t ks rest
+            → extracting ask (judge_of e.1) (suc k) xs
+            ≡ stay ks ++ (goes item ++ extracting ask (judge_of t) k rest))
+            → MatchBool b ((item ≡ Some e.2) × (t ≡ e.1) × (kept ≡ []) × (rest ≡ xs))
+            ((ks : List T) × ExtractsNext R e.1 xs item t ks rest × (kept ≡ e.2 ∷ ks))
+            → (not b, e.2) ∷ extracting ask (judge_of e.1) (if b then k else suc k) xs
+            ≡ stay kept ++ (goes item ++ extracting ask (judge_of t) k rest)
+        answered true by m =
+            sym (λ i. stay (m.2 i) ++ (goes (m.0 i) ++ extracting ask (judge_of (m.1 i)) k (m.3 i)))
+        answered false by m =
+            ap (λ l. (true, e.2) ∷ l) (by m.0 m.1)
+            ∙ sym (ap (λ l. stay l ++ (goes item ++ extracting ask (judge_of t) k rest)) m.2)
 
-  -- where no item is handed out, none is left to be asked about
-  rest-none : (s t : S) (xs : List T) (item : Option T) (kept rest : List T)
-      → ExtractsNext R s xs item t kept rest → item ≡ None → rest ≡ []
-  rest-none s t [] item kept rest e none = e.3
-  rest-none s t (x ∷ xs) item kept rest e none =
-      answered e.0 (λ ks n. rest-none e.1 t xs item ks rest n none) e.4
-    where
-      answered : (b : Bool) → ((ks : List T) → ExtractsNext R e.1 xs item t ks rest → rest ≡ [])
-          → MatchBool b ((item ≡ Some e.2) × (t ≡ e.1) × (kept ≡ []) × (rest ≡ xs))
-          ((ks : List T) × ExtractsNext R e.1 xs item t ks rest × (kept ≡ e.2 ∷ ks)) → rest ≡ []
-      answered true by m = let wrong = m.0 in absurd (none-some (sym none ∙ wrong))
-      answered false by m = by m.0 m.1
+    -- where no item is handed out, none is left to be asked about
+    rest-none : (s : S) (xs kept : List T) → ExtractsNext R s xs item t kept rest
+        → item ≡ None → rest ≡ []
+    rest-none s [] kept e none = e.3
+    rest-none s (x ∷ xs) kept e none =
+        answered e.0 (λ ks n. rest-none e.1 xs ks n none) e.4
+      where
+        answered : (b : Bool) → ((ks : List T) → ExtractsNext R e.1 xs item t ks rest → rest ≡ [])
+            → MatchBool b ((item ≡ Some e.2) × (t ≡ e.1) × (kept ≡ []) × (rest ≡ xs))
+            ((ks : List T) × ExtractsNext R e.1 xs item t ks rest × (kept ≡ e.2 ∷ ks)) → rest ≡ []
+        answered true by m = let wrong = m.0 in absurd (none-some (sym none ∙ wrong))
+        answered false by m = by m.0 m.1
 
-  module _ (s t : S) where
-    -- the answer of one call, before those of the calls that are left
-    pub handed-by : (k : ℕ) (xs : List T) (item : Option T) (kept rest : List T)
-        → ExtractsNext R s xs item t kept rest
+    -- the answer of this call, before those of the calls that are left
+    pub handed-by : (s : S) (xs kept : List T) → ExtractsNext R s xs item t kept rest
         → handed_out (suc k) (left_at false (extracting ask (judge_of s) (suc k) xs))
         ≡ item ∷ handed_out k (left_at false (extracting ask (judge_of t) k rest))
-    handed-by k xs item kept rest e =
-        ap (λ l. handed_out (suc k) (left_at false l)) (extracts-by s t k xs item kept rest e)
+    handed-by s xs kept e =
+        ap (λ l. handed_out (suc k) (left_at false l)) (extracts-by s xs kept e)
         ∙ (ap (handed_out (suc k))
         (gone-behind kept (goes item ++ extracting ask (judge_of t) k rest))
-        ∙ first item (rest-none s t xs item kept rest e))
+        ∙ first item (rest-none s xs kept e))
       where
         first : (o : Option T) → (o ≡ None → rest ≡ [])
             → handed_out (suc k) (left_at false (goes o ++ extracting ask (judge_of t) k rest))
@@ -138,48 +135,70 @@ module _ {S T J : Type 0} (R : S → T → Bool → S → T → Type 0) (judge_o
             ∙ ap (left_at false) (none-left (judge_of t) k) in
             subst (λ l. handed_out (suc k) l ≡ None ∷ handed_out k l) (sym empty) refl
 
--- what was paid for a part: k moves where an item went before, and none where not
-charged : (n m a b k : ℕ) (c d : Cost) → d ≡ moving m c → a ≡ 0 → b ≡ k
-    → (if n == 0 then d else moving k d) ≡ moving (m + (if n == 0 then a else b)) c
-charged zero m a b k c d paid none some = let e : m ≡ m + a = omega (arith, none) in paid
-    ∙ ap (λ x. moving x c) e
-charged (suc n) m a b k c d paid none some =
-    let e : m + k ≡ m + b = omega (arith, some) in
-    subst (λ t. (if t then d else moving k d) ≡ moving (m + (if t then a else b)) c)
-    (sym (eqb-suc-zero n))
-    (ap (moving k) paid ∙ (moving-more k m c ∙ ap (λ x. moving x c) e))
+-- what is paid for a part: k moves where an item went before, and none where not
+charged : (gone m k : ℕ) (c : Cost)
+    → (if gone == 0 then moving m c else moving k (moving m c))
+    ≡ moving (m + (if gone == 0 then 0 else k)) c
+charged zero m k c = let e : m ≡ m + 0 = omega arith in ap (λ x. moving x c) e
+charged (suc gone) m k c =
+    subst (λ t. (if t then moving m c else moving k (moving m c))
+    ≡ moving (m + (if t then 0 else k)) c)
+    (sym (eqb-suc-zero gone)) (moving-more k m c)
+
+-- where calls of `next` stand
+pub record Stand (T : Type 0) : Type 0 where
+  -- what becomes of the items that are left to be asked about
+  pub left : Answers T
+  -- the items in front
+  pub front : List T
+  -- how many were handed out
+  pub out : ℕ
+  -- what was paid
+  pub paid : Cost
 
 -- of the items that calls of `next` are to ask about, `asked` says what becomes of them
 module _ {T : Type 0} (asked : Answers T) (start : List T) (before : Cost) where
-  -- the calls so far have asked about some, and what becomes of the others stands in `left`
-  pub record IsExtracting (left : Answers T) (stands : List T) (out : ℕ) (paid : Cost) : Type
-      0 where
+  -- the calls so far have asked about some
+  pub record IsExtracting (at : Stand T) : Type 0 where
     pub done : Answers T
-    pub split : asked ≡ done ++ left
-    pub front : stands ≡ start ++ left_at true done
-    pub gone : out ≡ length (left_at false done)
-    pub cost : paid ≡ moving (moved_up (flags_of done)) before
+    pub split : asked ≡ done ++ at.left
+    pub front : at.front ≡ start ++ left_at true done
+    pub out : at.out ≡ length (left_at false done)
+    pub paid : at.paid ≡ moving (moved_up (flags_of done)) before
+
+  -- the cost of what the next calls leave, of which those asked about are `now`
+  paid-next : (at : Stand T) (h : IsExtracting at) (now : Answers T) (k : ℕ)
+      → moved_up (flags_of now) ≡ 0 → trues (flags_of now) ≡ k
+      → (if at.out == 0 then at.paid else moving k at.paid)
+      ≡ moving (moved_up (flags_of (h.done ++ now))) before
+  paid-next at h now k still moved =
+      let some = length (left_at false h.done) == 0 in
+      (λ i. if h.out i == 0 then h.paid i else moving k (h.paid i))
+      ∙ (charged (length (left_at false h.done)) (moved_up (flags_of h.done)) k before
+      ∙ ((λ i. moving (moved_up (flags_of h.done) + (if some then sym still i else sym moved i))
+      before)
+      ∙ ap (λ m. moving m before) (sym (moves-append h.done now))))
 
   -- before the first call nothing is asked
-  pub extracting-none : (left : Answers T) (stands : List T) (gone : ℕ) (paid : Cost)
-      → left ≡ asked → stands ≡ start → gone ≡ 0 → paid ≡ before
-      → IsExtracting left stands gone paid
-  extracting-none left stands gone paid all same none free =
+  pub extracting-none : (at : Stand T) → at.left ≡ asked → at.front ≡ start → at.out ≡ 0
+      → at.paid ≡ before → IsExtracting at
+  extracting-none at all same none free =
       record {
         done = [];
         split = sym all;
         front = same ∙ sym (append-nil start);
-        gone = none;
-        cost = free ∙ sym (moving-none before);
+        out = none;
+        paid = free ∙ sym (moving-none before);
       }
 
-  module _ (left left' : Answers T) (stands stands' : List T) where
-    pub extracting-step : (gone gone' : ℕ) (paid paid' : Cost) (kept : List T) (item : Option T)
-        → IsExtracting left stands gone paid → left ≡ stay kept ++ (goes item ++ left')
-        → stands' ≡ stands ++ kept → gone' ≡ gone + length (option_to_list item)
-        → paid' ≡ (if gone == 0 then paid else moving (length kept) paid)
-        → IsExtracting left' stands' gone' paid'
-    extracting-step gone gone' paid paid' kept item h next more out charge =
+  module _ (at next : Stand T) where
+    -- a call kept some, gave the item, and left what stands next
+    pub extracting-step : (kept : List T) (item : Option T) → IsExtracting at
+        → at.left ≡ stay kept ++ (goes item ++ next.left) → next.front ≡ at.front ++ kept
+        → next.out ≡ at.out + length (option_to_list item)
+        → next.paid ≡ (if at.out == 0 then at.paid else moving (length kept) at.paid)
+        → IsExtracting next
+    extracting-step kept item h asks more out charge =
         let now = stay kept ++ goes item in
         let stays : left_at true now ≡ kept =
         left_at-append (stay kept) (goes item)
@@ -193,42 +212,43 @@ module _ {T : Type 0} (asked : Answers T) (start : List T) (before : Cost) where
         record {
           done = h.done ++ now;
           split = h.split
-              ∙ (ap (λ l. h.done ++ l) (next ∙ sym (append_assoc (stay kept) (goes item) left'))
-              ∙ sym (append_assoc h.done now left'));
+              ∙ (ap (λ l. h.done ++ l) (asks ∙ sym (append_assoc (stay kept) (goes item) next.left))
+              ∙ sym (append_assoc h.done now next.left));
           front = more
               ∙ ((λ i. h.front i ++ sym stays i)
               ∙ (append_assoc start (left_at true h.done) (left_at true now)
               ∙ ap (λ l. start ++ l) (sym (left_at-append h.done now))));
-          gone = omega (
+          out = omega (
             arith,
             out,
-            h.gone,
+            h.out,
             ap length (gone-append h.done now),
             length-append (left_at false h.done) (left_at false now),
             ap length go,
           );
-          cost = charge ∙ (ap (λ g. if g == 0 then paid else moving (length kept) paid) h.gone
-              ∙ (charged (length (left_at false h.done)) (moved_up (flags_of h.done)) _ _
-              (length kept) before paid h.cost still moved
-              ∙ ap (λ m. moving m before) (sym (moves-append h.done now))));
+          paid = charge ∙ paid-next at h now (length kept) still moved;
         }
 
 -- the calls have ended, and the list has what stays
 module _ {T A : Type 0} (v w : Thin T A) (a b : ℕ) (asked : Answers T) where
+  -- w is v with what stands in front, what was not asked about, and the tail
+  pub record IsLeft (at : Stand T) (rest tail : List T) : Type 0 where
+    pub items : w.items ≡ at.front ++ (rest ++ tail)
+    pub cost : w.cost ≡ (if at.out == 0 then at.paid else moving (length rest
+        + length tail) at.paid)
+    pub capacity : w.capacity ≡ v.capacity
+    pub alloc : w.alloc ≡ v.alloc
+
   -- so the definition's list and cost are those that the calls left
-  pub extracting-ends : (stands rest tail : List T) (gone : ℕ) (paid : Cost)
-      → IsExtracting asked (take a v.items) v.cost (stay rest) stands gone paid → tail
-      ≡ drop b v.items
-      → w.items ≡ stands ++ (rest ++ tail)
-      → w.cost ≡ (if gone == 0 then paid else moving (length rest + length tail) paid)
-      → w.capacity ≡ v.capacity → w.alloc ≡ v.alloc → w ≡ sifted v (around v.items a b asked)
-  extracting-ends stands rest tail gone paid h same_tail items cost capacity alloc =
+  pub extracting-ends : (at : Stand T) (rest tail : List T)
+      → IsExtracting asked (take a v.items) v.cost at → at.left ≡ stay rest → tail ≡ drop b v.items
+      → IsLeft at rest tail → w ≡ sifted v (around v.items a b asked)
+  extracting-ends at rest tail h none same_tail left_is =
       let front = take a v.items in
       let behind = stay rest ++ stay tail in
       let all : around v.items a b asked ≡ stay front ++ (h.done ++ behind) =
-      ap (λ l. stay front ++ (asked ++ stay l)) (sym same_tail)
-      ∙ ap (λ l. stay front ++ l)
-      (ap (λ l. l ++ stay tail) h.split ∙ append_assoc h.done (stay rest) (stay tail)) in
+      (λ i. stay front ++ ((h.split ∙ ap (λ l. h.done ++ l) none) i ++ stay (sym same_tail i)))
+      ∙ ap (λ l. stay front ++ l) (append_assoc h.done (stay rest) (stay tail)) in
       let ends : left_at true behind ≡ rest ++ tail =
       left_at-append (stay rest) (stay tail) ∙ (λ i. left_at-stay rest i ++ left_at-stay tail i) in
       let left : left_at true (stay front ++ (h.done ++ behind)) ≡ front
@@ -241,22 +261,22 @@ module _ {T A : Type 0} (v w : Thin T A) (a b : ℕ) (asked : Answers T) where
       ∙ (ap (λ l. moved_up (flags_of l)) (sym (append-nil (stay tail))) ∙ moved_up-stay tail []) in
       let moved : trues (flags_of behind) ≡ length rest + length tail =
       omega (arith, trues-append (stay rest) (stay tail), trues-stay rest, trues-stay tail) in
-      let now : w.items ≡ left_at true (around v.items a b asked) =
-      items ∙ (ap (λ l. l ++ (rest ++ tail)) h.front
+      let now = left_is.items
+      ∙ (ap (λ l. l ++ (rest ++ tail)) h.front
       ∙ (append_assoc front (left_at true h.done) (rest ++ tail)
       ∙ sym (ap (left_at true) all ∙ left))) in
-      let count : moved_up (flags_of h.done)
-      + (if length (left_at false h.done) == 0 then moved_up (flags_of behind) else trues
-      (flags_of behind))
+      let count : moved_up (flags_of (h.done ++ behind))
       ≡ moved_up (flags_of (around v.items a b asked)) =
-      sym (ap (λ l. moved_up (flags_of l)) all
-      ∙ (moved_up-stay front (h.done ++ behind) ∙ moves-append h.done behind)) in
-      let paid_now : w.cost ≡ moving (moved_up (flags_of (around v.items a b asked))) v.cost =
-      cost ∙ (ap (λ g. if g == 0 then paid else moving (length rest + length tail) paid) h.gone
-      ∙ (charged (length (left_at false h.done)) (moved_up (flags_of h.done)) _ _
-      (length rest + length tail) v.cost paid h.cost still moved
-      ∙ ap (λ m. moving m v.cost) count)) in
-      λ i. record { items = now i; capacity = capacity i; alloc = alloc i; cost = paid_now i }
+      sym (ap (λ l. moved_up (flags_of l)) all ∙ moved_up-stay front (h.done ++ behind)) in
+      let paid = left_is.cost
+      ∙ (paid-next asked front v.cost at h behind (length rest + length tail) still moved
+      ∙ ap (λ m. moving m v.cost) count) in
+      λ i. record {
+        items = now i;
+        capacity = left_is.capacity i;
+        alloc = left_is.alloc i;
+        cost = paid i;
+      }
 
 -- an extraction leaves no more items than there were
 module _ {T J : Type 0} (ask : J → T → Bool × T × J) where

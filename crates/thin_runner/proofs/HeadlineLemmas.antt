@@ -1,5 +1,6 @@
 -- The headline, from a run.
-use Rattle.std.proofs.Common.{◌≡◌, List, ◌++◌, sym, subst}
+use Rattle.std.proofs.Common.{◌≡◌, List, [], ◌++◌, ap, sym, subst, ◌∙◌}
+use Rattle.std.proofs.lemmas.List.{append-nil}
 use Rattle.thin_vec.specs.Growth.{KeepsLaw}
 use Rattle.thin_vec.specs.ThinVec.{IsWithin, Thin}
 use Rattle.thin_runner.specs.Setting.{Setting}
@@ -10,19 +11,23 @@ use Rattle.thin_runner.specs.declared.command.Reply.{Reply}
 use Rattle.thin_runner.proofs.AmortisedLemmas.{copied-run, new-amortised, runs-amortised}
 use Rattle.thin_runner.proofs.MoveLemmas.{runs-moves}
 use Rattle.thin_runner.proofs.PaidLemmas.{IsPaid, runs-paid}
+use Rattle.thin_runner.proofs.RunLemmas.{HasRun}
 
 module _ {T A G J : Type 0} (here : Setting T A J) (law : KeepsLaw here.rule) where
-  module _ (old new : Thin T A) where
-    pub headline : (commands done : List (Command T A G))
-        (replies before after : List (Reply T A G))
-        → IsWithin here.R old → IsWithin here.R new → commands ≡ done → after ≡ before ++ replies
-        → Runs here old done replies new → Headline here old commands before after new
-    headline commands done replies before after was within same appended ran =
+  module _ {old new : Thin T A} where
+    -- once all commands have run
+    pub headline : {commands left : List (Command T A G)} {before after : List (Reply T A G)}
+        → IsWithin here.R old → IsWithin here.R new → left ≡ []
+        → HasRun here old commands left before after new
+        → Headline here old commands before after new
+    headline {commands} was within none h =
+        let replies = h.replies in
+        let all : commands ≡ h.done = h.split ∙ (ap (λ l. h.done ++ l) none ∙ append-nil h.done) in
         let run : Runs here old commands replies new =
-        subst (λ c. Runs here old c replies new) (sym same) ran in
+        subst (λ c. Runs here old c replies new) (sym all) h.ran in
         record {
           replies = replies;
-          appended = appended;
+          appended = h.appended;
           allowed = run;
           within = within;
           stays_cheap = λ only cheap.

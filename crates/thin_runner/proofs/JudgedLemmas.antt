@@ -10,11 +10,15 @@ use Rattle.thin_vec.specs.Filters.{Answers, Asked, AskedLast, AskedPairs, IsDedu
 use Rattle.thin_vec.specs.ThinVec.{Thin}
 use Rattle.thin_runner.specs.commands.Filters.{asked, asked_last, asked_pairs, same_key, sifted}
 
--- the state of the closure has a judge, and each call answers as that judge does
 module _ {S T J : Type 0} (R : S → T → Bool → S → T → Type 0) (judge_of : S → J)
-    (ask : J → T → Bool × T × J)
-    (told : (s : S) (x : T) (b : Bool) (u : S) (y : T) → R s x b u y → (b, y, judge_of u)
-    ≡ ask (judge_of s) x) where
+    (ask : J → T → Bool × T × J) where
+  -- the state of the closure has a judge, and each call answers as that judge does
+  abbrev pub AsksJudge : Type 0
+  AsksJudge = (s : S) (x : T) (b : Bool) (u : S) (y : T) → R s x b u y
+      → (b, y, judge_of u) ≡ ask (judge_of s) x
+
+module _ {S T J : Type 0} (R : S → T → Bool → S → T → Type 0) (judge_of : S → J)
+    (ask : J → T → Bool × T × J) (told : AsksJudge R judge_of ask) where
   -- the answers to the questions about xs are those of the judge
   pub asked-by : (s t : S) (xs : List T) (answers : Answers T) → Asked R s xs answers t
       → answers ≡ asked ask (judge_of s) xs
@@ -23,6 +27,16 @@ module _ {S T J : Type 0} (R : S → T → Bool → S → T → Type 0) (judge_o
       a.6 ∙ (ap (λ l. (a.0, a.1) ∷ l) (asked-by a.2 t xs a.3 a.5)
       ∙ ap (λ l. (l.0, l.1) ∷ asked ask l.2 xs) (told s x a.0 a.2 a.1 a.4))
 
+  -- the list that is left, where it was asked about each item
+  pub retained-by : {A : Type 0} (s : S) (v w : Thin T A) → IsRetained R s v w
+      → w.capacity ≡ v.capacity → w.alloc ≡ v.alloc
+      → w ≡ sifted v (asked ask (judge_of s) v.items)
+  retained-by s v w r capacity alloc =
+      let same = asked-by s r.0 v.items r.1.answers r.1.asked in
+      let items = r.1.items ∙ ap (λ a. left_at true a) same in
+      let cost = r.1.cost ∙ ap (λ a. moving (moved_up (flags_of a)) v.cost) same in
+      λ i. record { items = items i; capacity = capacity i; alloc = alloc i; cost = cost i }
+
 -- what questions about pairs have told: which of the later items stay, and what is left
 module _ {T : Type 0} where
   -- ys are the items that stay by the answers b, and the flags say of each later one whether it
@@ -30,6 +44,7 @@ module _ {T : Type 0} where
   abbrev pub Leaves : List Bool → List T → T × Answers T → Type 0
   Leaves flags ys b = (flags ≡ flags_of b.1) × (ys ≡ b.0 ∷ left_at true b.1)
 
+-- the same of questions about two items
 module _ {S T J : Type 0} (R : S → T → T → Bool → S → T → T → Type 0) (judge_of : S → J)
     (same : J → T → T → Bool × T × T × J)
     (told : (s : S) (x k : T) (b : Bool) (u : S) (x' k' : T) → R s x k b u x' k'
@@ -63,37 +78,14 @@ module _ {S T J : Type 0} (R : S → T → T → Bool → S → T → T → Type
   asked-pairs-by s t (x ∷ xs) flags ys a = let h = asked-last-by s t x xs flags ys a
       in (ap moved_up h.0, h.1)
 
-module _ {S T A J : Type 0} (judge_of : S → J) where
-  -- the list that is left, where a closure of such a judge was asked about each item
-  pub retained-by : (R : S → T → Bool → S → T → Type 0) (ask : J → T → Bool × T × J)
-      → ((s : S) (x : T) (b : Bool) (u : S) (y : T) → R s x b u y → (b, y, judge_of u)
-      ≡ ask (judge_of s) x)
-      → (s : S) (v w : Thin T A) → IsRetained R s v w → w.capacity ≡ v.capacity → w.alloc
-      ≡ v.alloc → w ≡ sifted v (asked ask (judge_of s) v.items)
-  retained-by R ask told s v w r capacity alloc =
-      let same = asked-by R judge_of ask told s r.0 v.items r.1.answers r.1.asked in
-      let items = r.1.items ∙ ap (λ a. left_at true a) same in
-      let cost = r.1.cost ∙ ap (λ a. moving (moved_up (flags_of a)) v.cost) same in
-      λ i. record { items = items i; capacity = capacity i; alloc = alloc i; cost = cost i }
-
-  -- the same, where it was asked about pairs
-  pub deduped-by : (R : S → T → T → Bool → S → T → T → Type 0) (same : J → T → T → Bool × T × T × J)
-      → ((s : S) (x k : T) (b : Bool) (u : S) (x' k' : T) → R s x k b u x' k'
-      → (b, x', k', judge_of u) ≡ same (judge_of s) x k)
-      → (s : S) (v w : Thin T A) → IsDedupedBy R s v w → w.capacity ≡ v.capacity → w.alloc
-      ≡ v.alloc → w ≡ sifted v (asked_pairs same (judge_of s) v.items)
-  deduped-by R same told s v w r capacity alloc =
-      let by = asked-pairs-by R judge_of same told s r.0 v.items r.1.stays w.items r.1.asked in
+  -- the list that is left, where it was asked about pairs
+  pub deduped-by : {A : Type 0} (s : S) (v w : Thin T A) → IsDedupedBy R s v w
+      → w.capacity ≡ v.capacity → w.alloc ≡ v.alloc
+      → w ≡ sifted v (asked_pairs same (judge_of s) v.items)
+  deduped-by s v w r capacity alloc =
+      let by = asked-pairs-by s r.0 v.items r.1.stays w.items r.1.asked in
       let cost = r.1.cost ∙ ap (λ m. moving m v.cost) by.0 in
       λ i. record { items = by.1 i; capacity = capacity i; alloc = alloc i; cost = cost i }
-
-module _ {T J : Type 0} (key : J → T → ℕ × T × J) (j u v : J) where
-  -- two keys, one after the other
-  pub keyed : (x x' y y' : T) (k l : ℕ) → (k, x', u) ≡ key j x → (l, y', v) ≡ key u y
-      → (k == l, x', y', v) ≡ same_key key j x y
-  keyed x x' y y' k l first second =
-      ap (λ b. (k == b.0, x', b.1, b.2)) second
-      ∙ ap (λ a. let b = key a.2 y in (a.0 == b.0, a.1, b.1, b.2)) first
 
 -- the list that is left, where a closure of such a judge gave the keys
 module _ {F T A J : Type 0} (g : Mut F (MutBor T × Unit {0}) (ℕ × (MutBor T × Unit {0})))
@@ -105,13 +97,13 @@ module _ {F T A J : Type 0} (g : Mut F (MutBor T × Unit {0}) (ℕ × (MutBor T 
       → IsDedupedBy (ComparesKeys g (λ a b. a == b)) f v w → w.capacity ≡ v.capacity
       → w.alloc ≡ v.alloc → w ≡ sifted v (asked_pairs (same_key key) (judge_of f) v.items)
   deduped-by-keys f v w d capacity alloc =
-      deduped-by judge_of (ComparesKeys g (λ a b. a == b)) (same_key key)
+      deduped-by (ComparesKeys g (λ a b. a == b)) judge_of (same_key key)
       (λ f x k b f' x' k' called.
       let first = told f x called.key called.between x' called.first in
       let second = told called.between k called.other f' k' called.second in
       ap (λ z. (z, x', k', judge_of f')) called.compared
-      ∙ keyed key (judge_of f) (judge_of called.between) (judge_of f') x x' k k' called.key
-      called.other first second)
+      ∙ (ap (λ l. (called.key == l.0, x', l.1, l.2)) second
+      ∙ ap (λ a. let l = key a.2 k in (a.0 == l.0, a.1, l.1, l.2)) first))
       f v w d capacity alloc
 
 -- a question that only looks leaves the item

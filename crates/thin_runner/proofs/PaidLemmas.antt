@@ -9,12 +9,11 @@ use Rattle.thin_runner.specs.commands.Filters.{same_key}
 use Rattle.thin_runner.proofs.ExtractLemmas.{few-extracted}
 use Rattle.thin_runner.proofs.JudgedLemmas.{few-asked, few-pairs, looks, tells}
 use Rattle.thin_runner.proofs.RunLemmas.{runs-keep}
-use Rattle.std.specs.Prelude.{◌⊎◌, All, HoldsAt, drop, remove, slice_get, slice_set, take}
-use Rattle.std.specs.Borrow.{RattleType}
+use Rattle.std.specs.Prelude.{◌⊎◌, All, HoldsAt, drop, remove, slice_set, take}
 use Rattle.std.specs.Option.{option_to_list}
 use Rattle.thin_vec.specs.Cost.{Cost}
 use Rattle.thin_vec.specs.Cheap.{IsCheap, IsCheapAt}
-use Rattle.thin_vec.specs.Growth.{Rule, KeepsLaw}
+use Rattle.thin_vec.specs.Growth.{KeepsLaw}
 use Rattle.thin_vec.specs.ThinVec.{Thin, capacity_for, cost_at}
 use Rattle.thin_vec.proofs.ThinVecLemmas.{cap-kept, cap-grown, cheap-regrown}
 use Rattle.thin_runner.specs.Setting.{Setting}
@@ -226,5 +225,4 @@ module _ {T A G J : Type 0} (here : Setting T A J) (law : KeepsLaw here.rule) wh
       → All KeepsCheap commands → IsPaid v → Runs here v commands replies w → IsPaid w
   runs-paid v w commands replies only a run =
       runs-keep here (λ n z. IsPaid z) KeepsCheap (λ c r. 0)
-      (λ n x y c r keeps h s. step-paid x y c r keeps h s)
-      (λ cs rs. 0) (λ c r cs rs. omega arith) (omega arith) 0 v w commands replies only a run
+      (λ n x y c r keeps h s. step-paid x y c r keeps h s) 0 v w commands replies only a run

@@ -10,19 +10,13 @@ use Rattle.thin_runner.specs.Run.{Runs}
 use Rattle.thin_runner.specs.declared.command.Command.{Command}
 use Rattle.thin_runner.specs.declared.command.Reply.{Reply}
 
-module _ {T A G J : Type 0} (here : Setting T A J) where
-  -- one more command, after those that have run
-  pub runs-push : (old mid new : Thin T A) (commands : List (Command T A G))
-      (replies : List (Reply T A G)) (command : Command T A G) (reply : Reply T A G)
-      → Runs here old commands replies mid → Steps here mid command reply new
-      → Runs here old (commands ++ command ∷ []) (replies ++ reply ∷ []) new
-  runs-push old mid new [] [] command reply ran stepped =
-      (new, (subst (λ v. Steps here v command reply new) ran stepped, refl))
-  runs-push old mid new (c ∷ commands) (r ∷ replies) command reply ran stepped =
-      let rest = runs-push ran.0 mid new commands replies command reply ran.1.1 stepped in
-      (ran.0, (ran.1.0, rest))
-  runs-push old mid new commands replies command reply ran stepped = absurd ran
+module _ {T A G : Type 0} (count : Command T A G → Reply T A G → ℕ) where
+  -- what the steps of a run count, of which each counts `count`
+  abbrev pub counted : List (Command T A G) → List (Reply T A G) → ℕ
+  counted (command ∷ commands) (reply ∷ replies) = count command reply + counted commands replies
+  counted commands replies = 0
 
+module _ {T A G J : Type 0} (here : Setting T A J) where
   -- the commands before those that are left have run, and their replies follow those from before
   pub record HasRun (old : Thin T A) (commands left : List (Command T A G))
       (before after : List (Reply T A G)) (new : Thin T A) : Type 0 where
@@ -44,14 +38,25 @@ module _ {T A G J : Type 0} (here : Setting T A J) where
     ran = refl;
   }
 
-  module _ (old mid new : Thin T A) (commands left left' : List (Command T A G)) where
-    -- and then one more
-    pub HasRun-push : (before after after' : List (Reply T A G)) (command : Command T A G)
-        (reply : Reply T A G)
-        → HasRun old commands left before after mid → left ≡ command ∷ left'
-        → after' ≡ after ++ reply ∷ [] → Steps here mid command reply new
+  -- a step from mid to new
+  module _ (mid new : Thin T A) (command : Command T A G) (reply : Reply T A G)
+      (stepped : Steps here mid command reply new) where
+    -- is one more of a run that led to mid
+    runs-push : (old : Thin T A) (commands : List (Command T A G))
+        (replies : List (Reply T A G)) → Runs here old commands replies mid
+        → Runs here old (commands ++ command ∷ []) (replies ++ reply ∷ []) new
+    runs-push old [] [] ran =
+        (new, (subst (λ v. Steps here v command reply new) ran stepped, refl))
+    runs-push old (c ∷ commands) (r ∷ replies) ran =
+        (ran.0, (ran.1.0, runs-push ran.0 commands replies ran.1.1))
+    runs-push old commands replies ran = absurd ran
+
+    -- and its command is the first of those that were left
+    pub HasRun-push : {old : Thin T A} {commands left left' : List (Command T A G)}
+        {before after after' : List (Reply T A G)} → HasRun old commands left before after mid
+        → left ≡ command ∷ left' → after' ≡ after ++ reply ∷ []
         → HasRun old commands left' before after' new
-    HasRun-push before after after' command reply h next pushed stepped =
+    HasRun-push {old} {left' = left'} {before} h next pushed =
         record {
           done = h.done ++ command ∷ [];
           replies = h.replies ++ reply ∷ [];
@@ -59,31 +64,28 @@ module _ {T A G J : Type 0} (here : Setting T A J) where
               ∙ (ap (λ l. h.done ++ l) next ∙ sym (append_assoc h.done (command ∷ []) left'));
           appended = pushed
               ∙ (ap (λ l. l ++ reply ∷ []) h.appended ∙ append_assoc before h.replies (reply ∷ []));
-          ran = runs-push old mid new h.done h.replies command reply h.ran stepped;
+          ran = runs-push old h.done h.replies h.ran;
         }
 
-  -- what each step keeps, a run keeps: Holds n is true of the list once n has been counted, and a
-  -- step counts `count`
-  pub runs-keep : (Holds : ℕ → Thin T A → Type 0) (Only : Command T A G → Type 0)
+  -- what each step of such a command keeps, a run of them keeps: Holds n is true of the list once n
+  -- has been counted, and a step counts `count`
+  module _ (Holds : ℕ → Thin T A → Type 0) (Only : Command T A G → Type 0)
       (count : Command T A G → Reply T A G → ℕ)
-      → ((n : ℕ) (v w : Thin T A) (command : Command T A G) (reply : Reply T A G) → Only command
-      → Holds n v → Steps here v command reply w → Holds (n + count command reply) w)
-      → (total : List (Command T A G) → List (Reply T A G) → ℕ)
-      → ((command : Command T A G) (reply : Reply T A G) (commands : List (Command T A G))
-      (replies : List (Reply T A G)) → total (command ∷ commands) (reply ∷ replies)
-      ≡ count command reply + total commands replies)
-      → total [] [] ≡ 0
-      → (n : ℕ) (v w : Thin T A) (commands : List (Command T A G)) (replies : List (Reply T A G))
-      → All Only commands → Holds n v → Runs here v commands replies w
-      → Holds (n + total commands replies) w
-  runs-keep Holds Only count step total more none n v w [] [] only h r =
-      let e : n ≡ n + total [] [] =
-      omega (arith, none) in subst (λ k. Holds k w) e (subst (Holds n) (sym r) h)
-  runs-keep Holds Only count step total more none n v w (c ∷ commands) (r ∷ replies) only h ran =
-      let e : n + count c r + total commands replies ≡ n + total (c ∷ commands) (r ∷ replies) =
-      omega (arith, more c r commands replies) in
-      let first = step n v ran.0 c r (All-head Only c commands only) h ran.1.0 in
-      subst (λ k. Holds k w) e
-      (runs-keep Holds Only count step total more none (n + count c r) ran.0 w commands replies
-      (All-tail Only c commands only) first ran.1.1)
-  runs-keep Holds Only count step total more none n v w commands replies only h ran = absurd ran
+      (step : (n : ℕ) (v w : Thin T A) (command : Command T A G) (reply : Reply T A G)
+      → Only command → Holds n v → Steps here v command reply w
+      → Holds (n + count command reply) w) where
+    -- as many as its steps count
+    pub runs-keep : (n : ℕ) (v w : Thin T A) (commands : List (Command T A G))
+        (replies : List (Reply T A G)) → All Only commands → Holds n v
+        → Runs here v commands replies w → Holds (n + counted count commands replies) w
+    runs-keep n v w [] [] only h r =
+        let e : n ≡ n + 0 = omega arith in
+        subst (λ k. Holds k w) e (subst (Holds n) (sym r) h)
+    runs-keep n v w (c ∷ commands) (r ∷ replies) only h ran =
+        let e : n + count c r + counted count commands replies
+        ≡ n + (count c r + counted count commands replies) = omega arith in
+        let first = step n v ran.0 c r (All-head Only c commands only) h ran.1.0 in
+        subst (λ k. Holds k w) e
+        (runs-keep (n + count c r) ran.0 w commands replies (All-tail Only c commands only) first
+        ran.1.1)
+    runs-keep n v w commands replies only h ran = absurd ran

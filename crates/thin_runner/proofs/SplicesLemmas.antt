@@ -1,5 +1,5 @@
 -- What `finish` gives of the words of a splice that a command makes.
-use Rattle.std.proofs.Common.{◌≡◌, ℕ, ◌-◌, ◌*◌, ◌<◌, ◌≤◌, List, [], ◌∷◌, ◌++◌, None, Option, Some, ap, append_assoc, arith, drop, inl, inr, length, refl, subst, sym, take, ◌∙◌}
+use Rattle.std.proofs.Common.{◌≡◌, ℕ, ◌-◌, ◌*◌, ◌<◌, List, [], ◌∷◌, ◌++◌, None, Option, Some, ap, append_assoc, arith, drop, inl, inr, length, refl, subst, sym, take, ◌∙◌}
 use Rattle.std.proofs.lemmas.Bool.{false≢true}
 use Rattle.std.proofs.Math.Seq.{drop-length, take-length}
 use Rattle.std.proofs.lemmas.List.{append-nil, length-drop, take-append-drop}
@@ -114,16 +114,6 @@ module _ {T A : Type 0} (old : Thin T A) (a b : ℕ) where
         subst (λ (n : ℕ). HasRoomFor (left_of block alloc) n) (sym count)
         (subst (λ (v : Thin T A). HasRoomFor v most) (sym left-is) room)
 
-    -- where there are places enough, what follows of each of the two cases
-    pub with-places : (P : Type 0) (most size range : ℕ) → size ≡ most → range ≡ b - a
-        → (size ≤ range → P)
-        → (block.tail ≡ [] → HasRoomFor (left_of block alloc) size → P)
-        → HasPlacesFor old a b most → P
-    with-places P most size range count width between after (inl few) =
-        between (omega (arith, few, count, width))
-    with-places P most size range count width between after (inr room) =
-        after (no-tail room.0) (room-left most size count room.1)
-
 -- what is said of a list is said of it under another name
 module _ {T A : Type 0} {rule : Rule} {R : RattleType} {old v w : Thin T A} {a b : ℕ} where
   -- of one that items went into
@@ -159,35 +149,42 @@ module _ {T A : Type 0} (old : Thin T A) where
 
 -- what went in behind the items of a list took the place of none
 module _ {T A : Type 0} (rule : Rule) (R : RattleType) (old new : Thin T A) where
-  -- as `extend` says it, and as `finish` would
-  pub replaces-end : (placed : List T) (most : ℕ) → new.items ≡ old.items ++ placed
-      → IsLoose rule R old.capacity new.capacity
-      → IsExtended rule R old new.capacity (length new.items) (at_most most) → IsWithin R new
-      → (HasRoomFor old most → new.capacity ≡ old.capacity)
-      → IsExtendCost old new → (IsCheap old → IsCheap new) → new.alloc ≡ old.alloc
+  -- what `extend` says of the list that it filled, where `most` items might come
+  pub record IsFilled (placed : List T) (most : ℕ) : Type 0 where
+    pub items : new.items ≡ old.items ++ placed
+    pub capacity : IsLoose rule R old.capacity new.capacity
+    pub named : IsExtended rule R old new.capacity (length new.items) (at_most most)
+    pub within : IsWithin R new
+    pub had_room : HasRoomFor old most → new.capacity ≡ old.capacity
+    pub cost : IsExtendCost old new
+    pub cheap : IsCheap old → IsCheap new
+    pub alloc : new.alloc ≡ old.alloc
+
+  -- as `finish` would say it
+  pub replaces-end : {placed : List T} {most : ℕ} → IsFilled placed most
       → Replaces rule R old (length old.items) (length old.items) placed most new
-  replaces-end placed most items capacity named within room cost cheap alloc =
+  replaces-end {placed} {most} f =
       let end = length old.items in
       let same : IsSpliced old new (2 * (end - end)) =
       record {
-        least = omega (arith, cost.moves);
-        moves = omega (arith, cost.moves);
-        kept = cost.kept;
-        grown = cost.grown;
+        least = omega (arith, f.cost.moves);
+        moves = omega (arith, f.cost.moves);
+        kept = f.cost.kept;
+        grown = f.cost.grown;
       } in
       let around : (take end old.items ++ placed) ++ drop end old.items ≡ old.items ++ placed =
       (λ i. (take-length old.items i ++ placed) ++ drop-length old.items i)
       ∙ append-nil (old.items ++ placed) in
       record {
-        items = items ∙ sym around;
-        capacity = capacity;
+        items = f.items ∙ sym around;
+        capacity = f.capacity;
         named = subst (λ (v : Thin T A). IsExtended rule R v new.capacity (length new.items)
-            (at_most most)) (sym (cut-end old)) named;
-        within = within;
-        had_room = λ fits. room (room-end old most fits);
+            (at_most most)) (sym (cut-end old)) f.named;
+        within = f.within;
+        had_room = λ fits. f.had_room (room-end old most fits);
         cost = subst (λ (v : Thin T A). IsSpliced v new (2 * (end - end))) (sym (cut-end old)) same;
-        cheap = cheap;
-        alloc = alloc;
+        cheap = f.cheap;
+        alloc = f.alloc;
       }
 
   -- the cause of a refused `extend`, which holds no item and has no tail

@@ -6,7 +6,7 @@ ghost use Rattle.thin_runner.specs.Steps.{IsInRange, Steps};
 
 use crate::command::{Command, Reply};
 use crate::judge::Judge;
-use crate::steps::Means;
+use crate::steps::Setting;
 use std::alloc::Allocator;
 use std::marker::PhantomData;
 use thin_vec::{Growth, ThinVec, ThinVecError};
@@ -48,38 +48,38 @@ pub fn step<T: Clone + Eq, A: Allocator + Copy, G: Growth, J: Judge<T>>(
     if !is_in_range(list, &command) {
         return Reply::OutOfRange(command);
     }
-    let means = Means {
+    let here = Setting {
         alloc,
         judge: *judge,
         of: PhantomData,
     };
     match command {
-        Command::Push(value) => means.push(list, value),
-        Command::Pop => means.pop(list),
-        Command::Insert(index, value) => means.insert(list, index, value),
-        Command::Remove(index) => means.remove(list, index),
-        Command::SwapRemove(index) => means.swap_remove(list, index),
-        Command::Set(index, value) => means.set(list, index, value),
-        Command::Truncate(len) => means.truncate(list, len),
-        Command::Clear => means.clear(list),
-        Command::Reserve(additional) => means.reserve(list, additional),
-        Command::ReserveExact(additional) => means.reserve_exact(list, additional),
-        Command::ShrinkToFit => means.shrink_to_fit(list),
-        Command::Resize(len, value) => means.resize(list, len, value),
-        Command::ExtendFromSlice(items) => means.extend_from_slice(list, items),
-        Command::Extend(items, lower) => means.extend(list, items, lower),
-        Command::Append(other) => means.append(list, other),
-        Command::SplitOff(at) => means.split_off(list, at),
-        Command::Clone => means.clone(list),
-        Command::Retain => means.retain(list),
-        Command::RetainMut => means.retain_mut(list),
-        Command::Dedup => means.dedup(list),
-        Command::DedupBy => means.dedup_by(list),
-        Command::DedupByKey => means.dedup_by_key(list),
-        Command::Drain(start, end, steps) => means.drain(list, start, end, steps),
-        Command::ExtractIf(start, end, count) => means.extract_if(list, start, end, count),
+        Command::Push(value) => here.push(list, value),
+        Command::Pop => here.pop(list),
+        Command::Insert(index, value) => here.insert(list, index, value),
+        Command::Remove(index) => here.remove(list, index),
+        Command::SwapRemove(index) => here.swap_remove(list, index),
+        Command::Set(index, value) => here.set(list, index, value),
+        Command::Truncate(len) => here.truncate(list, len),
+        Command::Clear => here.clear(list),
+        Command::Reserve(additional) => here.reserve(list, additional),
+        Command::ReserveExact(additional) => here.reserve_exact(list, additional),
+        Command::ShrinkToFit => here.shrink_to_fit(list),
+        Command::Resize(len, value) => here.resize(list, len, value),
+        Command::ExtendFromSlice(items) => here.extend_from_slice(list, items),
+        Command::Extend(items, lower) => here.extend(list, items, lower),
+        Command::Append(other) => here.append(list, other),
+        Command::SplitOff(at) => here.split_off(list, at),
+        Command::Clone => here.clone(list),
+        Command::Retain => here.retain(list),
+        Command::RetainMut => here.retain_mut(list),
+        Command::Dedup => here.dedup(list),
+        Command::DedupBy => here.dedup_by(list),
+        Command::DedupByKey => here.dedup_by_key(list),
+        Command::Drain(start, end, steps) => here.drain(list, start, end, steps),
+        Command::ExtractIf(start, end, count) => here.extract_if(list, start, end, count),
         Command::Splice(start, end, steps, items, lower) => {
-            means.splice(list, start, end, steps, items, lower)
+            here.splice(list, start, end, steps, items, lower)
         }
     }
 }

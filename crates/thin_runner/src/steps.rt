@@ -8,10 +8,10 @@ mod splices;
 
 use std::marker::PhantomData;
 
-/// What a command may need beside its list: the allocator for what it makes, and the judge as it
-/// was handed in.
+/// What a command may need beside its list, the values of the specs' `Setting`: the allocator for
+/// what it makes, and the judge as it was handed in.
 #[derive(Drop)]
-pub(crate) struct Means<T, A, G, J> {
+pub(crate) struct Setting<T, A, G, J> {
     pub(crate) alloc: A,
     pub(crate) judge: J,
     pub(crate) of: PhantomData<(T, G)>,

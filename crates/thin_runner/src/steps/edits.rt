@@ -6,12 +6,12 @@ ghost use Rattle.thin_runner.specs.declared.command.Command.TheVariants.{Push, P
 
 use crate::command::Reply;
 use crate::judge::Judge;
-use crate::steps::Means;
+use crate::steps::Setting;
 use std::alloc::Allocator;
 use std::mem;
 use thin_vec::{Growth, Rejected, ThinVec};
 
-impl<T: Clone + Eq, A: Allocator + Copy, G: Growth, J: Judge<T>> Means<T, A, G, J> {
+impl<T: Clone + Eq, A: Allocator + Copy, G: Growth, J: Judge<T>> Setting<T, A, G, J> {
     pub(crate) fn push(self, list: &mut ThinVec<T, A, G>, value: T) -> Reply<T, A, G>
         ensures allowed { Steps
             (setting T.is_clone T.is_infallible T.eq J.judging G.rule T.row self.alloc self.judge)

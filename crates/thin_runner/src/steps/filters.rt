@@ -7,11 +7,11 @@ ghost use Rattle.thin_runner.specs.declared.command.Command.TheVariants.{Retain,
 
 use crate::command::Reply;
 use crate::judge::Judge;
-use crate::steps::Means;
+use crate::steps::Setting;
 use std::alloc::Allocator;
 use thin_vec::{Growth, ThinVec};
 
-impl<T: Clone + Eq, A: Allocator + Copy, G: Growth, J: Judge<T>> Means<T, A, G, J> {
+impl<T: Clone + Eq, A: Allocator + Copy, G: Growth, J: Judge<T>> Setting<T, A, G, J> {
     pub(crate) fn retain(self, list: &mut ThinVec<T, A, G>) -> Reply<T, A, G>
         ensures allowed { Steps
             (setting T.is_clone T.is_infallible T.eq J.judging G.rule T.row self.alloc self.judge)

@@ -6,11 +6,11 @@ ghost use Rattle.thin_runner.specs.declared.command.Command.TheVariants.{Resize,
 use crate::command::Reply;
 use crate::hinted::Hinted;
 use crate::judge::Judge;
-use crate::steps::Means;
+use crate::steps::Setting;
 use std::alloc::Allocator;
 use thin_vec::{ExtendRefused, Growth, ThinVec};
 
-impl<T: Clone + Eq, A: Allocator + Copy, G: Growth, J: Judge<T>> Means<T, A, G, J> {
+impl<T: Clone + Eq, A: Allocator + Copy, G: Growth, J: Judge<T>> Setting<T, A, G, J> {
     pub(crate) fn resize(self, list: &mut ThinVec<T, A, G>, len: usize, value: T) -> Reply<T, A, G>
         ensures allowed { Steps
             (setting T.is_clone T.is_infallible T.eq J.judging G.rule T.row self.alloc self.judge)

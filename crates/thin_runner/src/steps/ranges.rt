@@ -8,11 +8,11 @@ ghost use Rattle.thin_vec.specs.Drain.{DrainKeeps, drain_rest};
 
 use crate::command::{Reply, Step};
 use crate::judge::Judge;
-use crate::steps::Means;
+use crate::steps::Setting;
 use std::alloc::Allocator;
 use thin_vec::{Drain, Growth, ThinVec, ThinVecError};
 
-impl<T: Clone + Eq, A: Allocator + Copy, G: Growth, J: Judge<T>> Means<T, A, G, J> {
+impl<T: Clone + Eq, A: Allocator + Copy, G: Growth, J: Judge<T>> Setting<T, A, G, J> {
     // Room for the answers is taken first, and none where there is no step.
     pub(crate) fn drain(
         self,

@@ -9,11 +9,11 @@ ghost use Rattle.thin_vec.specs.Splice.{SpliceKeeps, splice_block};
 use crate::command::{Reply, Step};
 use crate::hinted::Hinted;
 use crate::judge::Judge;
-use crate::steps::Means;
+use crate::steps::Setting;
 use std::alloc::Allocator;
 use thin_vec::{Growth, Splice, SpliceRefused, ThinVec, ThinVecError};
 
-impl<T: Clone + Eq, A: Allocator + Copy, G: Growth, J: Judge<T>> Means<T, A, G, J> {
+impl<T: Clone + Eq, A: Allocator + Copy, G: Growth, J: Judge<T>> Setting<T, A, G, J> {
     // Room for the answers is taken first, and none where there is no step.
     pub(crate) fn splice(
         self,

@@ -1,7 +1,7 @@
 -- One more command has run at each turn, and at the end all have.
-use Rattle.std.proofs.Common.{◌≡◌, ◌++◌, ◌∷◌, [], ap, arith, length, rules, ◌∙◌}
+use Rattle.std.proofs.Common.{◌≡◌, ◌∷◌, [], ap, arith, length, rules}
 use Rattle.std.specs.Vec.Iter.{into_iter_items}
-use Rattle.std.proofs.lemmas.List.{append-nil, nil_from_length}
+use Rattle.std.proofs.lemmas.List.{nil_from_length}
 use denote.Param.{param}
 use Rattle.thin_runner.specs.Setting.{setting}
 use Rattle.thin_runner.proofs.HeadlineLemmas.{headline}
@@ -40,22 +40,19 @@ loop-command-preserved g c =
       );
       ran = HasRun-push (setting g.T.Clone.is_clone g.T.Clone.is_infallible g.T.PartialEq.eq
           g.J.Judge.judging g.G.Growth.rule (param 0 g.row.T) c.args.alloc c.args.judge.now)
-          _ _ _ _ _ _ _ _ _ c.in-Some.command c.step-reply.result c.loop-command.invariant.ran
-          next c.in-Ok-push.ensures.items c.step-reply.ensures.allowed;
+          _ _ c.in-Some.command c.step-reply.result c.step-reply.ensures.allowed
+          c.loop-command.invariant.ran next c.in-Ok-push.ensures.items;
     }
 
 pub returns-clause-ok : goal.returns-clause-ok
 returns-clause-ok g c =
-    let ran = c.loop-command.invariant.ran in
     let left = into_iter_items c.loop-command.command-iterator in
     let none : left ≡ [] = nil_from_length left
     (omega (arith, c.in-None.ensures.steps, c.loop-command.command-iterator.rest.ok)) in
-    let all : c.args.commands.items ≡ ran.done =
-    ran.split ∙ (ap (λ l. ran.done ++ l) none ∙ append-nil ran.done) in
     headline (setting g.T.Clone.is_clone g.T.Clone.is_infallible g.T.PartialEq.eq
     g.J.Judge.judging g.G.Growth.rule (param 0 g.row.T) c.args.alloc c.args.judge.now)
-    g.met.G.Growth.law _ _ _ _ _ _ _ c.capacity-capacity.ensures.within
-    c.capacity-end.ensures.within all ran.appended ran.ran
+    g.met.G.Growth.law c.capacity-capacity.ensures.within c.capacity-end.ensures.within none
+    c.loop-command.invariant.ran
 
 pub returns-clause-succeeds : goal.returns-clause-succeeds
 returns-clause-succeeds g c = search rules

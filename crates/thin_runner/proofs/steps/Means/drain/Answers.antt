@@ -1,6 +1,0 @@
--- The walk's answers are those of the range, and what is left are the items around it.
-use Rattle.std.proofs.Common.{rules}
-use Rattle.thin_runner.proofs.steps.Means.drain.Goals as goal
-
-pub returns : goal.returns
-returns g c = search rules

@@ -1,6 +1,0 @@
--- What the call ensures is what the command may do.
-use Rattle.std.proofs.Common.{rules}
-use Rattle.thin_runner.proofs.steps.Means.remove.Goals as goal
-
-pub returns : goal.returns
-returns g c = search rules

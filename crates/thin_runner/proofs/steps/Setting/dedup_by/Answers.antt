@@ -1,0 +1,16 @@
+-- Each call of the closure is a question to the judge that it holds.
+use Rattle.std.proofs.Common.{rules}
+use Rattle.thin_runner.proofs.JudgedLemmas.{deduped-by}
+use Rattle.thin_runner.proofs.steps.Setting.dedup_by.Goals as goal
+
+pub returns : goal.returns
+returns g c =
+    let e = c.dedup_by.ensures in
+    record {
+      allowed = (
+        tt,
+        deduped-by _ (λ f. f.0) g.J.Judge.judging.same
+            (λ f x k b f' x' k' called. search rules) _ c.args.list.now c.dedup_by.new.self
+            e.deduped e.capacity e.alloc,
+      );
+    }

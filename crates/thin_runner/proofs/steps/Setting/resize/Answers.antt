@@ -1,0 +1,9 @@
+-- What the call ensures, done or refused, is what the command may do.
+use Rattle.std.proofs.Common.{rules}
+use Rattle.thin_runner.proofs.steps.Setting.resize.Goals as goal
+
+pub returns-in-Ok : goal.returns-in-Ok
+returns-in-Ok g c = search rules
+
+pub returns-in-Err : goal.returns-in-Err
+returns-in-Err g c = search rules

@@ -1,0 +1,15 @@
+-- Each call of the closure is a question to the judge that it holds.
+use Rattle.std.proofs.Common.{rules}
+use Rattle.thin_runner.proofs.JudgedLemmas.{retained-by}
+use Rattle.thin_runner.proofs.steps.Setting.retain_mut.Goals as goal
+
+pub returns : goal.returns
+returns g c =
+    let e = c.retain_mut.ensures in
+    record {
+      allowed = (
+        tt,
+        retained-by _ (λ f. f.0) _ (λ f x b f' y called. search rules)
+            _ c.args.list.now c.retain_mut.new.self e.retained e.capacity e.alloc,
+      );
+    }

@@ -1,0 +1,153 @@
+-- What took the range's place, what is held, in hand and left are what there was.
+use Rattle.std.proofs.Common.{rules, List, ◌≡◌, ◌≤◌, ◌+◌, ◌-◌, ◌++◌, ◌∙◌, ap, arith, length, length-append, subst, sym}
+use Rattle.std.proofs.lemmas.Bool.{false≢true}
+use Rattle.std.specs.Iterator.{at_most, size}
+use mathlib.Core.Logic.{⊎_elim}
+use denote.Param.{param}
+use Rattle.thin_runner.specs.Hinted.{hinted_claim, hinted_count, hinted_items}
+use Rattle.thin_runner.proofs.HintedLemmas.{drains-items}
+use Rattle.thin_runner.proofs.SplicesLemmas.{IsOpened, left-is, named, no-tail, replaces-of, room-left, some-tail, spliced, stops-of, stopped-claim, stopped-ended, stopped-items}
+use Rattle.thin_runner.specs.commands.Splices.{cut}
+use Rattle.thin_vec.specs.Cheap.{IsCheap}
+use Rattle.thin_vec.specs.Extend.{IsLoose}
+use Rattle.thin_vec.specs.Filling.{IsStopCause}
+use Rattle.thin_vec.specs.Splice.{splice_alloc, splice_block, splice_iter}
+use Rattle.thin_vec.specs.ThinVec.{HasRoomFor, IsWithin}
+use Rattle.thin_runner.proofs.steps.Setting.splice.Goals as goal
+
+pub returns-in-Ok-finish : goal.returns-in-Ok-finish
+returns-in-Ok-finish g c =
+    let k = c.walk.ensures.keeps in
+    let s = c.splice-splice.ensures in
+    let old = c.args.list.now in
+    let start = c.args.start in
+    let end = c.args.end in
+    let iter = k.iter ∙ s.iter in
+    let items = ap hinted_items iter ∙ c.new.ensures.items in
+    let claim = ap hinted_claim iter ∙ c.new.ensures.claim in
+    let drawn = splice_iter c.walk.new.splice in
+    let block = splice_block c.walk.new.splice in
+    let alloc = splice_alloc c.walk.new.splice in
+    let is : IsOpened old start end block alloc = record {
+      front = k.front ∙ s.front;
+      tail = k.tail ∙ s.tail;
+      capacity = k.capacity ∙ s.capacity;
+      same = k.alloc ∙ s.alloc;
+      cost = k.cost ∙ s.cost;
+    } in
+    let width = k.range ∙ s.range in
+    let may = c.args.lower + length c.args.items.items in
+    let most : size (hinted_count drawn) ≡ may = omega (arith, claim, ap length items) in
+    let count : hinted_count drawn ≡ at_most may =
+    λ i. at_most (claim i + length (items i)) in
+    let now = c.finish.new.self.0 in
+    let left : now ≡ c.list-1.given.0 = search rules in
+    let e = c.in-Ok-finish.ensures in
+    let all = drains-items drawn e.items.0 e.items.1 ∙ items in
+    record {
+      allowed = (
+        (c.requires.start_le_end, c.requires.in_bounds),
+        (
+          search rules,
+          replaces-of left (record {
+            items = e.items.2 ∙ (λ i. (is.front i ++ all i) ++ is.tail i);
+            capacity = subst (λ n. IsLoose g.G.Growth.rule _ n now.capacity) is.capacity e.capacity;
+            named = named old start end block alloc is g.G.Growth.rule (param 0 g.row.T)
+                now _ _ count e.named;
+            within = subst (λ list. IsWithin _ list) (sym left) c.capacity-capacity.ensures.within;
+            had_room = λ room.
+                e.had_room (room-left old start end block alloc is _ _ most room) ∙ is.capacity;
+            cost = spliced old start end block alloc is _ e.cost;
+            cheap = λ cheap.
+                e.cheap (subst IsCheap (sym (left-is old start end block alloc is)) cheap);
+            alloc = e.alloc ∙ is.same;
+          }),
+        ),
+      );
+    }
+
+pub returns-in-Err-finish : goal.returns-in-Err-finish
+returns-in-Err-finish g c =
+    let k = c.walk.ensures.keeps in
+    let s = c.splice-splice.ensures in
+    let old = c.args.list.now in
+    let start = c.args.start in
+    let end = c.args.end in
+    let iter = k.iter ∙ s.iter in
+    let items = ap hinted_items iter ∙ c.new.ensures.items in
+    let claim = ap hinted_claim iter ∙ c.new.ensures.claim in
+    let drawn = splice_iter c.walk.new.splice in
+    let block = splice_block c.walk.new.splice in
+    let alloc = splice_alloc c.walk.new.splice in
+    let is : IsOpened old start end block alloc = record {
+      front = k.front ∙ s.front;
+      tail = k.tail ∙ s.tail;
+      capacity = k.capacity ∙ s.capacity;
+      same = k.alloc ∙ s.alloc;
+      cost = k.cost ∙ s.cost;
+    } in
+    let width = k.range ∙ s.range in
+    let may = c.args.lower + length c.args.items.items in
+    let most : size (hinted_count drawn) ≡ may = omega (arith, claim, ap length items) in
+    let count : hinted_count drawn ≡ at_most may =
+    λ i. at_most (claim i + length (items i)) in
+    let now = c.finish.new.self.0 in
+    let left : now ≡ c.list-1.given.0 = search rules in
+    let e = c.in-Err-finish.ensures in
+    let refused = c.in-Err-finish.refused in
+    let placed = e.placed.0 in
+    let held = refused.held.items in
+    record {
+      allowed = (
+        (c.requires.start_le_end, c.requires.in_bounds),
+        (
+          search rules,
+          stops-of left (record {
+            placed = placed;
+            all = sym items
+                ∙ stopped-items drawn refused.rest placed held refused.in_hand e.placed.2;
+            claim = stopped-claim drawn refused.rest placed held refused.in_hand e.placed.2
+                ∙ claim;
+            filled = record {
+              items = e.placed.1 ∙ (λ i. (is.front i ++ placed) ++ is.tail i);
+              capacity = subst (λ n. IsLoose g.G.Growth.rule _ n now.capacity) is.capacity
+                  e.capacity;
+              named = named old start end block alloc is g.G.Growth.rule (param 0 g.row.T)
+                  now _ _ count e.named;
+              within = subst (λ list. IsWithin _ list) (sym left)
+                  c.capacity-capacity-in-Err-finish.ensures.within;
+              had_room = λ room.
+                  e.had_room (room-left old start end block alloc is _ _ most room) ∙ is.capacity;
+              cost = spliced old start end block alloc is _ e.cost;
+              cheap = λ cheap.
+                  e.cheap (subst IsCheap (sym (left-is old start end block alloc is)) cheap);
+              alloc = e.alloc ∙ is.same;
+            };
+            no_room = λ places. false≢true (⊎_elim
+                (λ (few : may ≤ end - start). e.succeeds (omega (arith, few, most, width)))
+                (λ (room : (end ≡ length old.items) × HasRoomFor (cut old start end) may).
+                e.succeeds_behind (no-tail old start end block alloc is room.0)
+                (room-left old start end block alloc is _ _ most room.1)) places);
+            told = subst (λ (t : List _). IsStopCause g.G.Growth.rule (param 0 g.row.T)
+                now t held refused.in_hand (hinted_count refused.rest) refused.cause)
+                is.tail e.cause;
+            ended = stopped-ended drawn refused.rest placed held refused.in_hand e.placed.2;
+            range = λ more. omega (
+              arith,
+              width,
+              e.range (some-tail old start end block alloc is more),
+              ap length e.placed.1,
+              length-append (block.front ++ placed) block.tail,
+              length-append block.front placed,
+              length-append block.front block.tail,
+            );
+            behind = λ full. (
+              e.held (no-tail old start end block alloc is full),
+              e.full (no-tail old start end block alloc is full),
+            );
+            unchanged = λ full none. (e.err (no-tail old start end block alloc is full) none).0
+                ∙ left-is old start end block alloc is;
+          }),
+        ),
+      );
+    }

@@ -1,0 +1,6 @@
+-- What the call ensures is what the command may do.
+use Rattle.std.proofs.Common.{rules}
+use Rattle.thin_runner.proofs.steps.Setting.swap_remove.Goals as goal
+
+pub returns : goal.returns
+returns g c = search rules

@@ -1,6 +1,0 @@
--- What the closure answers is what the judge says.
-use Rattle.std.proofs.Common.{rules}
-use Rattle.thin_runner.proofs.steps.fn.Means.dedup_by.dedup_by.Goals as goal
-
-pub returns : goal.returns
-returns g c = search rules
