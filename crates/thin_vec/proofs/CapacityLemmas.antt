@@ -12,13 +12,13 @@ use Rattle.thin_block.specs.declared.block.Block.{Block}
 use Rattle.thin_vec.specs.ThinVec.{IsThin}
 use Rattle.thin_vec.proofs.ListLemmas.{Settled, settled, length-front, thin-room, front-grow}
 
-module _ (rule : Rule) where
+module _ (rule : Rule) (law : KeepsLaw rule) (R : RattleType) where
   -- the law of a rule, at what it answers
-  pub grows-rule : (R : RattleType) (c c' w w' : ℕ) (o : Option ℕ) → KeepsLaw rule → c < w
-      → w < 2 ^ 64 → o ≡ rule (type_size R) (type_align R) c w → c ≡ c' → w ≡ w'
+  pub grows-rule : (w : ℕ) {c c' w' : ℕ} {o : Option ℕ}
+      → o ≡ rule (type_size R) (type_align R) c w → c ≡ c' → w ≡ w' → c < w → w < 2 ^ 64
       → IfSome o (λ n. Grows R c' w' n)
-  grows-rule R c c' w w' None law l h e p q = tt
-  grows-rule R c c' w w' (Some n) law l h e p q =
+  grows-rule w {o = None} e p q l h = tt
+  grows-rule w {c} {o = Some n} e p q l h =
       let g = law (type_size R) (type_align R) c w n l h (sym e) in
       record {
         enough = omega (arith, g.enough, q);
@@ -31,28 +31,23 @@ module _ {T : Type 0} where
   pub front-none : (c : ℕ) → empty {T = T} c ≡ front [] c
   front-none c = let same : c ≡ c - 0 = omega arith in ap (λ (m : ℕ). empty m) same
 
-module _ {T A : Type 0} where
+module _ {T A : Type 0} {b : Block T A} {a : A} (t : IsThin b a) where
   -- a block of more slots
-  pub settle-grow : (b b' : Block T A) (a : A) (c : ℕ) → IsThin b a → length b.slots < c
+  pub settle-grow : (b' : Block T A) (c : ℕ) → length b.slots < c
       → b'.slots ≡ b.slots ++ replicate (c - length b.slots) None → b'.len ≡ b.len
       → b'.alloc ≡ Some a → Settled b' a (items_in b.slots) c
-  settle-grow b b' a c t h s n f =
+  settle-grow b' c h s n f =
       let xs : List T = items_in b.slots in
       settled b' a xs c
       (s ∙ (ap (λ (r : List (Option T)). r ++ replicate (c - length b.slots) None) t.packed.row
       ∙ front-grow xs (length b.slots) c (thin-room b a t) (omega arith)))
       (n ∙ t.packed.len) (omega (arith, thin-room b a t)) (λ x e. cc)
 
-  -- a new block
-  pub settle-new : (b : Block T A) (a : A) (c : ℕ) → b.slots ≡ empty c → b.len ≡ 0
-      → b.alloc ≡ Some a → Settled b a [] c
-  settle-new b a c s l f = settled b a [] c (s ∙ front-none c) l (omega arith) (λ x e. cc)
-
   -- a block of fewer slots, which hold all items
-  pub settle-shrink : (b b' : Block T A) (a : A) (k : ℕ) → IsThin b a
-      → length (items_in b.slots) ≤ k → k ≤ length b.slots → b'.slots ≡ take k b.slots
-      → b'.len ≡ b.len → b'.alloc ≡ Some a → Settled b' a (items_in b.slots) k
-  settle-shrink b b' a k t room less s l f =
+  pub settle-shrink : {b' : Block T A} (k : ℕ) → length (items_in b.slots) ≤ k
+      → k ≤ length b.slots → b'.slots ≡ take k b.slots → b'.len ≡ b.len → b'.alloc ≡ Some a
+      → Settled b' a (items_in b.slots) k
+  settle-shrink {b'} k room less s l f =
       let xs : List T = items_in b.slots in
       let rest : List (Option T) = replicate (length b.slots - k) None in
       settled b' a xs k (s
@@ -61,3 +56,8 @@ module _ {T A : Type 0} where
       ∙ (ap (λ (m : ℕ). take m (front xs k ++ rest)) (sym (length-front xs k room))
       ∙ take-append_seam (front xs k) rest)))
       (l ∙ t.packed.len) room (λ x e. cc)
+
+-- a new block
+pub settle-new : {T A : Type 0} (b : Block T A) (a : A) (c : ℕ) → b.slots ≡ empty c → b.len ≡ 0
+    → b.alloc ≡ Some a → Settled b a [] c
+settle-new b a c s l f = settled b a [] c (s ∙ front-none c) l (omega arith) (λ x e. cc)

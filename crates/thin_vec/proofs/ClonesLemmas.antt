@@ -6,7 +6,6 @@ use Rattle.std.specs.List.{AllByRecursion, AllZip}
 use Rattle.std.specs.Borrow.{RattleType}
 use Rattle.std.specs.Prelude.{All, HoldsAt, replicate}
 use lib.ListN.{set}
-use Rattle.thin_block.specs.Cost.{Cost, moving}
 use Rattle.thin_block.specs.Growth.{Rule, ruled_capacity}
 use Rattle.thin_block.specs.Slots.{full, laid}
 use Rattle.thin_block.proofs.SlotsLemmas.{laid-one}
@@ -14,23 +13,21 @@ use Rattle.thin_vec.specs.Clones.{AppendsRepeats, CloneEquals, LaysClones}
 use Rattle.thin_vec.specs.ThinVec.{IsNew, Thin, capacity_for}
 use Rattle.thin_vec.proofs.ListLemmas.{length-full}
 
-module _ {T : Type 0} (clones : T → T → Type 0) (sources : List T) (n i : ℕ)
-    (s s' : List (Option T)) where
+module _ {T : Type 0} {clones : T → T → Type 0} {sources : List T} {n i : ℕ}
+    {s s' : List (Option T)} (lays : LaysClones clones sources n i s s') where
   -- as many clones as sources
-  pub length-copies : n ≤ length sources → (lays : LaysClones clones sources n i s s')
-      → length lays.copies ≡ n
-  length-copies few lays = sym (length_all_zip clones (take n sources) lays.copies lays.cloned)
+  pub length-copies : n ≤ length sources → length lays.copies ≡ n
+  length-copies few = sym (length_all_zip clones (take n sources) lays.copies lays.cloned)
       ∙ length-take-le n sources few
 
   -- a clone of the next source is put behind those that are there
-  pub lays-more : (x y : T) (s'' : List (Option T)) → n < length sources
+  pub lays-more : (y : T) {x : T} {s'' : List (Option T)} → n < length sources
       → i + length sources ≤ length s → x ≡ get_or sources n x → clones x y
-      → LaysClones clones sources n i s s'
       → s'' ≡ set s' (i + n) (Some y) → LaysClones clones sources (n + 1) i s s''
-  lays-more x y s'' more room is is_clone lays put =
+  lays-more y {x} more room is is_clone put =
       let ys = lays.copies in
       let long : i + n ≡ i + length (full ys) =
-      omega (arith, length-copies (omega arith) lays, length-full ys) in
+      omega (arith, length-copies (omega arith), length-full ys) in
       record {
         copies = ys ++ y ∷ [];
         cloned = all_zip_more clones sources ys n x y more is lays.cloned is_clone;
@@ -55,9 +52,9 @@ all-repeated {T} clones x n m ys cloned = All-from_recursion (clones x) ys (each
 
 module _ {T : Type 0} (clones : T → T → Type 0) where
   -- where each clone of x is equal to it, n clones and x itself are x so often and once more
-  pub equal-repeated : (x : T) (n m : ℕ) (xs ys zs : List T) → CloneEquals clones x
+  pub equal-repeated : (n m : ℕ) {x : T} {xs ys zs : List T} → CloneEquals clones x
       → AppendsRepeats clones x n xs ys → zs ≡ ys ++ x ∷ [] → m ≡ n + 1 → zs ≡ xs ++ replicate m x
-  equal-repeated x n m xs ys zs equal repeats last one =
+  equal-repeated n m {x} {xs} equal repeats last one =
       let copies = repeats.copies in
       let same : copies ≡ replicate n x =
       each copies (recursion_from_All (clones x) copies repeats.cloned)
@@ -85,10 +82,5 @@ pub not-all : {X : Type 0} (P : X → Type 0) (xs : List X) (i : ℕ) → i < le
     → HoldsAt (λ x. ¬ (P x)) xs i → All P xs → ⊥
 not-all P [] i low never all = absurd (omega arith)
 not-all P (x ∷ xs) i low never all = never x (all i x low)
-
--- one move more is counted
-pub moving-one : (n : ℕ) (c : Cost) → moving 1 (moving n c) ≡ moving (n + 1) c
-moving-one n c = ap (λ m. let d : Cost = record c { moves = m } in d)
-    (let e : c.moves + n + 1 ≡ c.moves + (n + 1) = omega arith in e)
 
 pub ruleset new_lists = (capacity-new)

@@ -1,7 +1,7 @@
 -- What answers about items, each beside the last one kept, leave, as one stretch of items follows
 -- another.
 use Rattle.std.proofs.Common.{◌≡◌, ℕ, zero, suc, ◌+◌, ◌<◌, ◌≤◌, Bool, true, false, List, [], ◌∷◌, ◌++◌, length, take, drop, refl, sym, ap, subst, ◌∙◌, arith, inl, inr, length-append, append_assoc}
-use Rattle.std.proofs.lemmas.List.{append-nil, drop_at, length_push, replicate-append-replicate, take_at}
+use Rattle.std.proofs.lemmas.List.{append-nil, drop_at, length_push, nil_from_length, replicate-append-replicate, take_at}
 use Rattle.std.specs.List.{dedup, dedup_from}
 use Rattle.std.specs.Prelude.{MatchBool, cond, if◌then◌else◌, not, replicate}
 use Rattle.thin_block.specs.Cost.{Cost, moving}
@@ -9,8 +9,13 @@ use Rattle.thin_vec.specs.Filters.{AskedLast, AskedPairs, Compares, IsDedupedBy,
 use Rattle.thin_vec.specs.Open.{Open}
 use Rattle.thin_vec.specs.Pairs.{IsLastAsked, IsNextAsked, IsPairAskedAt, IsThinned, PairRuns, Thins}
 use Rattle.thin_vec.specs.ThinVec.{Thin}
-use Rattle.thin_vec.proofs.FiltersLemmas.{cons-head, cons-not-nil, cons-tail, moving-more, moving-none, nothing}
+use Rattle.thin_vec.proofs.FiltersLemmas.{cons-head, cons-not-nil, cons-tail, moving-more, moving-none, single}
 use Rattle.thin_vec.proofs.OpenBlockLemmas.{last-of}
+
+-- a relation of a state, a later item, the last item kept, whether the later one goes, the state
+-- afterwards and both items as they were left
+abbrev OnPairs : Type 0 → Type 0 → Type 1
+OnPairs S T = S → T → T → Bool → S → T → T → Type 0
 
 -- two ends of one list
 last-same : {X : Type 0} (a b : List X) (x y : X) → a ++ x ∷ [] ≡ b ++ y ∷ [] → (a ≡ b) × (x ≡ y)
@@ -20,11 +25,6 @@ last-same (z ∷ a) [] x y e = let n = ap length e in absurd (omega (arith, n, l
 last-same (z ∷ a) (q ∷ b) x y e =
     let p = last-same a b x y (cons-tail e) in
     ((λ i. cons-head e i ∷ p.0 i), p.1)
-
-single : {X : Type 0} (xs : List X) → length xs ≡ 1 → (x : X) × (xs ≡ x ∷ [])
-single [] e = absurd (omega (arith, e))
-single (x ∷ []) e = (x, refl)
-single (x ∷ y ∷ xs) e = absurd (omega (arith, e))
 
 -- flags of items that all stay
 abbrev pub all-stay : ℕ → List Bool
@@ -48,10 +48,10 @@ by-answer : (b : Bool) (P Q G : Type 0) → (P → G) → (Q → G) → MatchBoo
 by-answer true P Q G f g m = f m
 by-answer false P Q G f g m = g m
 
-map-answer : (b : Bool) (P Q P' Q' : Type 0) → (P → P') → (Q → Q')
-    → MatchBool b P Q → MatchBool b P' Q'
-map-answer true P Q P' Q' f g m = f m
-map-answer false P Q P' Q' f g m = g m
+map-answer : (b : Bool) {P Q P' Q' : Type 0} → (P → P') → (Q → Q') → MatchBool b P Q
+    → MatchBool b P' Q'
+map-answer true f g m = f m
+map-answer false f g m = g m
 
 -- a list of two and more, by its first and its last
 behind-first : {X : Type 0} (pre zs : List X) (k l : X) → pre ++ l ∷ [] ≡ k ∷ zs → 0 < length zs
@@ -59,7 +59,7 @@ behind-first : {X : Type 0} (pre zs : List X) (k l : X) → pre ++ l ∷ [] ≡ 
 behind-first [] zs k l e some = let n = ap length e in absurd (omega (arith, n, some))
 behind-first (a ∷ p) zs k l e some = (p, sym (cons-tail e), ap (λ z. z ∷ p) (cons-head e))
 
-module _ {S T : Type 0} (R : S → T → T → Bool → S → T → T → Type 0) where
+module _ {S T : Type 0} (R : OnPairs S T) where
   -- the last item kept is always there
   pub last-some : (xs : List T) (s t : S) (k : T) (stays : List Bool) (ys : List T)
       → AskedLast R s k xs stays ys t → 0 < length ys
@@ -78,35 +78,36 @@ module _ {S T : Type 0} (R : S → T → T → Bool → S → T → T → Type 0
       → AskedLast R s k (x ∷ []) (true ∷ []) (k' ∷ x' ∷ []) t
   last-stays s t k x x' k' h = (false, x', k', t, [], h, refl, (x' ∷ [], (refl, refl, refl), refl))
 
-  -- one stretch after another
-  pub last-append : (xs : List T) (s t u : S) (k l : T) (f g : List Bool) (pre ws zs : List T)
-      → AskedLast R s k xs f (pre ++ l ∷ []) t → AskedLast R t l zs g ws u
-      → AskedLast R s k (xs ++ zs) (f ++ g) (pre ++ ws) u
-  last-append [] s t u k l f g pre ws zs h m =
-      let e = last-same pre [] l k h.1 in
-      subst (λ (a : List Bool). AskedLast R s k zs (a ++ g) (pre ++ ws) u) (sym h.0)
-      (subst (λ (a : List T). AskedLast R s k zs g (a ++ ws) u) (sym e.0)
-      (subst (λ (a : T). AskedLast R s a zs g ws u) e.1
-      (subst (λ (a : S). AskedLast R a l zs g ws u) h.2 m)))
-  last-append (x ∷ xs) s t u k l f g pre ws zs h m = (
-    h.0,
-    h.1,
-    h.2,
-    h.3,
-    h.4 ++ g,
-    h.5,
-    ap (λ (a : List Bool). a ++ g) h.6,
-    map-answer h.0 _ _ _ _
-        (λ p. last-append xs h.3 t u h.2 l h.4 g pre ws zs p m)
-        (λ q.
-        let c = behind-first pre q.0 h.2 l q.2 (last-some xs h.3 t h.1 h.4 q.0 q.1) in (
-          c.0 ++ ws,
-          last-append xs h.3 t u h.1 l h.4 g c.0 ws zs
-              (subst (λ (a : List T). AskedLast R h.3 h.1 xs h.4 a t) c.1 q.1) m,
-          ap (λ (a : List T). a ++ ws) c.2,
-        ))
-        h.7,
-  )
+  -- a stretch that begins in the state t with l as the last item kept
+  module _ (t u : S) (l : T) (g : List Bool) (ws zs : List T) (m : AskedLast R t l zs g ws u) where
+    -- goes on after one that ended so
+    last-append : (xs : List T) (s : S) (k : T) (f : List Bool) (pre : List T)
+        → AskedLast R s k xs f (pre ++ l ∷ []) t → AskedLast R s k (xs ++ zs) (f ++ g) (pre ++ ws) u
+    last-append [] s k f pre h =
+        let e = last-same pre [] l k h.1 in
+        subst (λ (a : List Bool). AskedLast R s k zs (a ++ g) (pre ++ ws) u) (sym h.0)
+        (subst (λ (a : List T). AskedLast R s k zs g (a ++ ws) u) (sym e.0)
+        (subst (λ (a : T). AskedLast R s a zs g ws u) e.1
+        (subst (λ (a : S). AskedLast R a l zs g ws u) h.2 m)))
+    last-append (x ∷ xs) s k f pre h = (
+      h.0,
+      h.1,
+      h.2,
+      h.3,
+      h.4 ++ g,
+      h.5,
+      ap (λ (a : List Bool). a ++ g) h.6,
+      map-answer h.0
+          (λ p. last-append xs h.3 h.2 h.4 pre p)
+          (λ q.
+          let c = behind-first pre q.0 h.2 l q.2 (last-some xs h.3 t h.1 h.4 q.0 q.1) in (
+            c.0 ++ ws,
+            last-append xs h.3 h.1 h.4 c.0
+                (subst (λ (a : List T). AskedLast R h.3 h.1 xs h.4 a t) c.1 q.1),
+            ap (λ (a : List T). a ++ ws) c.2,
+          ))
+          h.7,
+    )
 
   -- ---- a run of items that stay
 
@@ -188,9 +189,10 @@ module _ {S T : Type 0} (R : S → T → T → Bool → S → T → T → Type 0
         let longer : length h.pre + 1 ≡ length pre = sym (length_push h.pre a.kept_left) in
         let flags : all-stay (length h.pre) ++ true ∷ [] ≡ all-stay (length pre) =
         replicate-append-replicate (length h.pre) 1 true ∙ ap (λ (n : ℕ). all-stay n) longer in
-        let asked = last-append h.done s t u h.first h.last (all-stay (length h.pre)) (true ∷ [])
-        h.pre (a.kept_left ∷ a.later_left ∷ []) (a.later ∷ []) h.asked
-        (last-stays t u h.last a.later a.later_left a.kept_left (next-asked false u zs a)) in
+        let asked = last-append t u h.last (true ∷ []) (a.kept_left ∷ a.later_left ∷ [])
+        (a.later ∷ [])
+        (last-stays t u h.last a.later a.later_left a.kept_left (next-asked false u zs a))
+        h.done s h.first (all-stay (length h.pre)) h.pre h.asked in
         record {
           first = h.first;
           done = h.done ++ a.later ∷ [];
@@ -219,9 +221,9 @@ module _ {S T : Type 0} (R : S → T → T → Bool → S → T → T → Type 0
           left = h.pre ++ a.kept_left ∷ [];
           over = a.later_left ∷ [];
           was = next-was true u zs a;
-          asked = last-append h.done s t u h.first h.last (all-stay (length h.pre)) (false ∷ [])
-              h.pre (a.kept_left ∷ []) (a.later ∷ []) h.asked
-              (last-goes t u h.last a.later a.later_left a.kept_left (next-asked true u zs a));
+          asked = last-append t u h.last (false ∷ []) (a.kept_left ∷ []) (a.later ∷ [])
+              (last-goes t u h.last a.later a.later_left a.kept_left (next-asked true u zs a))
+              h.done s h.first (all-stay (length h.pre)) h.pre h.asked;
           kept = h.kept;
           long = omega (arith, length_push h.pre a.kept_left, h.kept);
           now = next-now true u zs a;
@@ -231,7 +233,7 @@ module _ {S T : Type 0} (R : S → T → T → Bool → S → T → T → Type 0
     pub pair-end : length ys ≤ m → PairRuns R m s xs t ys
     pair-end short =
         let none : h.behind ≡ [] =
-        nothing h.behind (omega
+        nil_from_length h.behind (omega
         (arith, short, ap length h.now, length-append h.pre (h.last ∷ h.behind), h.kept)) in
         record {
           first = h.first;
@@ -316,18 +318,19 @@ module _ {S T : Type 0} (R : S → T → T → Bool → S → T → T → Type 0
           }
 
     -- the next item goes
-    pub thins-goes : (s t : S) (x y : T) (front : List T) → IsLastAsked R s x v.front true t y front
-        → v.rest ≡ x ∷ w.rest → 0 < w.before → Moved front v.cost → Thins R s v t w
-    thins-goes s t x y front a rest gap now =
+    pub thins-goes : {s t : S} (x y : T) (front : List T)
+        → IsLastAsked R s x v.front true t y front → v.rest ≡ x ∷ w.rest → 0 < w.before
+        → Moved front v.cost → Thins R s v t w
+    thins-goes {s} {t} x y front a rest gap now =
         thins-of s t a.before a.kept (x ∷ []) (false ∷ []) (a.kept_left ∷ []) a.was rest
         (last-goes s t a.kept x y a.kept_left a.asked) gap
         (now ∙ moved (λ i. a.now i) (sym (moving-none v.cost)))
 
     -- it stays
-    pub thins-stays : (s t : S) (x y : T) (front : List T)
+    pub thins-stays : {s t : S} (x y : T) (front : List T)
         → IsLastAsked R s x v.front false t y front → v.rest ≡ x ∷ w.rest
         → 0 < w.before → Moved (front ++ y ∷ []) (moving 1 v.cost) → Thins R s v t w
-    thins-stays s t x y front a rest gap now =
+    thins-stays {s} {t} x y front a rest gap now =
         thins-of s t a.before a.kept (x ∷ []) (true ∷ []) (a.kept_left ∷ y ∷ []) a.was rest
         (last-stays s t a.kept x y a.kept_left a.asked) gap
         (now ∙ moved (ap (λ (l : List T). l ++ y ∷ []) a.now
@@ -345,11 +348,11 @@ module _ {S T : Type 0} (R : S → T → T → Bool → S → T → T → Type 0
       pub thins-two : b ≡ true → (value : T) → zs ≡ value ∷ w.rest → 0 < w.before
           → Moved (front ++ z ∷ []) (moving 1 v.cost) → Thins R s v u w
       thins-two e value rest gap now =
-          let asked = last-append (x ∷ []) s t u a.kept y (true ∷ []) (false ∷ [])
-          (a.kept_left ∷ []) (z ∷ []) (n.later ∷ [])
-          (last-stays s t a.kept x y a.kept_left a.asked)
+          let asked = last-append t u y (false ∷ []) (z ∷ []) (n.later ∷ [])
           (last-goes t u y n.later n.later_left z
-          (subst (λ (q : Bool). R t n.later y q u n.later_left z) e n.asked)) in
+          (subst (λ (q : Bool). R t n.later y q u n.later_left z) e n.asked))
+          (x ∷ []) s a.kept (true ∷ []) (a.kept_left ∷ [])
+          (last-stays s t a.kept x y a.kept_left a.asked) in
           let same : n.behind ≡ w.rest = cons-tail (sym n.now ∙ rest) in
           thins-of s u a.before a.kept (x ∷ n.later ∷ []) (true ∷ false ∷ []) (a.kept_left ∷ z ∷ [])
           a.was (whole ∙ ap (λ (l : List T). x ∷ l)
@@ -361,17 +364,18 @@ module _ {S T : Type 0} (R : S → T → T → Bool → S → T → T → Type 0
           → 0 < w.before → Moved ((front ++ z ∷ []) ++ take m ws) (moving m (moving 1 v.cost))
           → Thins R s v q w
       thins-run e m q ws r rest count gap now =
-          let pair = last-append (x ∷ []) s t u a.kept y (true ∷ []) (true ∷ []) (a.kept_left ∷ [])
-          (z ∷ n.later_left ∷ []) (n.later ∷ []) (last-stays s t a.kept x y a.kept_left a.asked)
+          let pair = last-append t u y (true ∷ []) (z ∷ n.later_left ∷ []) (n.later ∷ [])
           (last-stays t u y n.later n.later_left z
-          (subst (λ (c : Bool). R t n.later y c u n.later_left z) e n.asked)) in
+          (subst (λ (c : Bool). R t n.later y c u n.later_left z) e n.asked))
+          (x ∷ []) s a.kept (true ∷ []) (a.kept_left ∷ [])
+          (last-stays s t a.kept x y a.kept_left a.asked) in
           let heads : n.later_left ∷ n.behind ≡ r.first ∷ (r.done ++ r.behind) = sym n.now
           ∙ r.was in
           let from : AskedLast R u n.later_left r.done r.stays r.left q =
           subst (λ (k : T). AskedLast R u k r.done r.stays r.left q)
           (sym (cons-head heads)) r.asked in
-          let asked = last-append (x ∷ n.later ∷ []) s u q a.kept n.later_left (true ∷ true ∷ [])
-          r.stays (a.kept_left ∷ z ∷ []) r.left r.done pair from in
+          let asked = last-append u q n.later_left r.stays r.left r.done from
+          (x ∷ n.later ∷ []) s a.kept (true ∷ true ∷ []) (a.kept_left ∷ z ∷ []) pair in
           let all : v.rest ≡ x ∷ n.later ∷ (r.done ++ w.rest) =
           whole ∙ ap (λ (l : List T). x ∷ l)
           (n.was ∙ ap (λ (l : List T). n.later ∷ l)
@@ -402,9 +406,9 @@ module _ {S T : Type 0} (R : S → T → T → Bool → S → T → T → Type 0
       }
 
   -- one round after another
-  pub thins-then : {A : Type 0} (s t u : S) (v w z : Open T A) → Thins R s v t w
+  pub thins-then : {A : Type 0} {s t u : S} {v w z : Open T A} → Thins R s v t w
       → Thins R t w u z → Thins R s v u z
-  thins-then s t u v w z h k =
+  thins-then {s = s} {t} {u} {v} {w} {z} h k =
       let p = last-of h.kept (last-some h.done s t h.first h.stays h.kept h.asked) in
       let e : (h.before ++ p.0) ++ p.1 ∷ [] ≡ k.before ++ k.first ∷ [] =
       append_assoc h.before p.0 (p.1 ∷ [])
@@ -420,9 +424,10 @@ module _ {S T : Type 0} (R : S → T → T → Bool → S → T → T → Type 0
         was = h.was;
         rest = h.rest ∙ (ap (λ (l : List T). h.done ++ l) k.rest
             ∙ sym (append_assoc h.done k.done z.rest));
-        asked = last-append h.done s t u h.first p.1 h.stays k.stays p.0 k.kept k.done
-            (subst (λ (l : List T). AskedLast R s h.first h.done h.stays l t) p.2 h.asked)
-            (subst (λ (l : T). AskedLast R t l k.done k.stays k.kept u) (sym ends.1) k.asked);
+        asked = last-append t u p.1 k.stays k.kept k.done
+            (subst (λ (l : T). AskedLast R t l k.done k.stays k.kept u) (sym ends.1) k.asked)
+            h.done s h.first h.stays p.0
+            (subst (λ (l : List T). AskedLast R s h.first h.done h.stays l t) p.2 h.asked);
         gap = k.gap;
         now = k.now ∙ ((λ i. let u = h.now i in record u {
           front = k.before ++ k.kept;
@@ -458,9 +463,9 @@ module _ {S T : Type 0} (R : S → T → T → Bool → S → T → T → Type 0
         ∙ (h.rest ∙ (ap (λ (l : List T). h.done ++ l) none ∙ append-nil h.done)) in
         let asked : AskedLast R s r.first (r.done ++ h.done) (r.stays ++ h.stays)
         (h.before ++ h.kept) u =
-        last-append r.done s t u r.first h.first r.stays h.stays h.before h.kept h.done
+        last-append t u h.first h.stays h.kept h.done h.asked r.done s r.first r.stays h.before
         (subst (λ (l : List T). AskedLast R s r.first r.done r.stays l t)
-        (sym here ∙ h.was) r.asked) h.asked in
+        (sym here ∙ h.was) r.asked) in
         record {
           stays = r.stays ++ h.stays;
           asked = subst (λ (l : List T). AskedPairs R s l (r.stays ++ h.stays) z.front u)
@@ -497,8 +502,8 @@ module _ {S T : Type 0} (R : S → T → T → Bool → S → T → T → Type 0
         }
 
 -- a judge that holds a closure answers as the closure does
-module _ {J S T : Type 0} (R : S → T → T → Bool → S → T → T → Type 0) (inside : J → S) where
-  abbrev through : J → T → T → Bool → J → T → T → Type 0
+module _ {J S T : Type 0} (R : OnPairs S T) (inside : J → S) where
+  abbrev through : OnPairs J T
   through s x k b t y l = R (inside s) x k b (inside t) y l
 
   last-through : (xs : List T) (s t : J) (k : T) (f : List Bool) (ys : List T)
@@ -512,7 +517,7 @@ module _ {J S T : Type 0} (R : S → T → T → Bool → S → T → T → Type
     h.4,
     h.5,
     h.6,
-    map-answer h.0 _ _ _ _ (λ p. last-through xs h.3 t h.2 h.4 ys p)
+    map-answer h.0 (λ p. last-through xs h.3 t h.2 h.4 ys p)
         (λ q. (q.0, last-through xs h.3 t h.1 h.4 q.0 q.1, q.2)) h.7,
   )
 
@@ -535,14 +540,14 @@ module _ {J S T : Type 0} (R : S → T → T → Bool → S → T → T → Type
   )
 
 -- fewer than two items stay as they are
-few-kept : {S T : Type 0} (R : S → T → T → Bool → S → T → T → Type 0) (s : S) (xs : List T)
+few-kept : {S T : Type 0} (R : OnPairs S T) (s : S) (xs : List T)
     → length xs < 2 → AskedPairs R s xs [] xs s
 few-kept R s [] h = (refl, refl, refl)
 few-kept R s (x ∷ []) h = (refl, refl, refl)
 few-kept R s (x ∷ y ∷ xs) h = absurd (omega (arith, h))
 
 -- so such a list is thinned without a question
-pub deduped-few : {S T A : Type 0} (R : S → T → T → Bool → S → T → T → Type 0) (s : S)
+pub deduped-few : {S T A : Type 0} (R : OnPairs S T) (s : S)
     (v : Thin T A) → length v.items < 2 → IsDedupedTo R s v v s
 deduped-few R s v few =
     record { stays = []; asked = few-kept R s v.items few; cost = sym (moving-none v.cost) }

@@ -21,7 +21,7 @@ use Rattle.thin_block.proofs.SlotsLemmas.{laid-one}
 use Rattle.std.specs.Prelude.{◌⊎◌}
 use Rattle.thin_vec.specs.Extend.{GaveUp, IsCollected, IsExtendCost, IsLoose, IsNamed}
 use Rattle.thin_vec.specs.ThinVec.{IsNew, Thin, capacity_for, cost_at, exact_for}
-use Rattle.thin_vec.proofs.ClonesLemmas.{moving-one}
+use Rattle.thin_vec.proofs.FiltersLemmas.{moving-more}
 use Rattle.thin_vec.proofs.ListLemmas.{length-full}
 use Rattle.thin_vec.proofs.ThinVecLemmas.{cap-kept, cost_at-more, cost_at-moves, cost_at-same}
 
@@ -57,22 +57,22 @@ module _ {S X : Type 0} (steps : S → Option X → S → Type 0) where
   run_of_ok s P (Ok _) all = run_of s P all
   run_of_ok s P (Err _) all = tt
 
-module _ {S X : Type 0} (steps : S → Option X → S → Type 0) where
+module _ {S X : Type 0} (steps : S → Option X → S → Type 0) (s : S) where
   -- what calls gave up to a refusal, as a run
-  pub run_given : (s : S) (xs : List X) (o : Option X) (t : S) (P : List X → Type 0)
+  pub run_given : (xs : List X) (o : Option X) (t : S) (P : List X → Type 0)
       → GaveUp steps s xs o t → P (xs ++ option_to_list o) → SomeRun steps s (λ p. P p.items)
-  run_given s xs o t P gave h =
+  run_given xs o t P gave h =
       (run steps s (xs ++ option_to_list o) false (t, gave, λ e. absurd (false≢true e)), refl, h)
 
   -- the same, where the answer is `Err`
-  pub run_given_err : {E : Type 0} (hand : E → Option X) (rest : E → S) (s : S)
+  pub run_given_err : {E : Type 0} (hand : E → Option X) (rest : E → S)
       (P : List X → Type 0) (r : Result (Unit {0}) E)
       → IfErr r (λ e. (xs : List X) × P xs × GaveUp steps s xs (hand e) (rest e))
       → IfErr r (λ e. SomeRun steps s
       (λ p. (xs : List X) × P xs × (p.items ≡ xs ++ option_to_list (hand e))))
-  run_given_err hand rest s P (Ok _) all = tt
-  run_given_err hand rest s P (Err e) all =
-      run_given s all.0 (hand e) (rest e)
+  run_given_err hand rest P (Ok _) all = tt
+  run_given_err hand rest P (Err e) all =
+      run_given all.0 (hand e) (rest e)
       (λ l. (xs : List X) × P xs × (l ≡ xs ++ option_to_list (hand e)))
       all.2 (all.0, all.1, refl)
 
@@ -88,12 +88,12 @@ module _ {T : Type 0} where
         ∙ ap (λ (l : List (Option T)). laid i l r)
         (sym (map-append (λ (y : T). Some y) xs (x ∷ [])))))
 
--- one move more
-pub moving-more : (i k : ℕ) (now before : Cost) → k ≤ i → now ≡ moving (i - k) before
+-- one move more, of those since the k-th
+pub moving-since : (i k : ℕ) (now before : Cost) → k ≤ i → now ≡ moving (i - k) before
     → moving 1 now ≡ moving (i + 1 - k) before
-moving-more i k now before order e =
+moving-since i k now before order e =
     ap (λ c. moving 1 c) e
-    ∙ (moving-one (i - k) before ∙ ap (λ n. moving n before)
+    ∙ (moving-more 1 (i - k) before ∙ ap (λ n. moving n before)
     (let f : i - k + 1 ≡ i + 1 - k = omega (arith, order) in f))
 
 -- ---- how a capacity grows over several calls
@@ -111,9 +111,10 @@ module _ (rule : Rule) (R : RattleType) (law : KeepsLaw rule) where
   loose-join c d e (inr p) q = inr (p.0, p.1, p.2, p.3, omega (arith, p.4, loose-le d e q))
 
   -- a capacity that was named for fewer was named for more
-  pub named-more : (c d d' n m : ℕ) → d' ≡ d → n ≤ m → IsNamed rule R c d n → IsNamed rule R c d' m
-  named-more c d d' n m same more (inl e) = inl (same ∙ e)
-  named-more c d d' n m same more (inr p) =
+  pub named-more : (c n m : ℕ) {d d' : ℕ} → d' ≡ d → n ≤ m → IsNamed rule R c d n
+      → IsNamed rule R c d' m
+  named-more c n m same more (inl e) = inl (same ∙ e)
+  named-more c n m same more (inr p) =
       inr (p.0, p.1, p.2, omega (arith, p.3, more), p.4 ∙ ap Some (sym same))
 
   -- a capacity that was named after another growth
@@ -124,9 +125,10 @@ module _ (rule : Rule) (R : RattleType) (law : KeepsLaw rule) where
 
   module _ {T A : Type 0} (v : Thin T A) where
     -- a list that was new, and then took exactly as many places as a hint says
-    pub collected-after : (a : A) (c d n h : ℕ) (left : Count) → IsNew v a → IsWithinCount h left
-        → exact_for R v h ≡ Some c → IsNamed rule R c d n → IsCollected rule R d n left
-    collected-after a c d n h left new hint e (inl same) =
+    pub collected-after : {a : A} {c d : ℕ} (n h : ℕ) (left : Count) → IsNew v a
+        → IsWithinCount h left → exact_for R v h ≡ Some c → IsNamed rule R c d n
+        → IsCollected rule R d n left
+    collected-after n h left new hint e (inl same) =
         let want : length v.items + h ≡ h = omega (arith, ap length new.items) in
         inr (
           h,
@@ -134,7 +136,7 @@ module _ (rule : Rule) (R : RattleType) (law : KeepsLaw rule) where
           sym (λ i. exact_capacity R (new.capacity i) (want i))
               ∙ (e ∙ ap Some (sym same)),
         )
-    collected-after a c d n h left new hint e (inr p) = inl p
+    collected-after n h left new hint e (inr p) = inl p
 
   -- a ruled capacity
   pub loose-ruled : {T A : Type 0} (v : Thin T A) (k d : ℕ) → capacity_for rule R v k ≡ Some d
@@ -180,9 +182,10 @@ module _ {T A : Type 0} where
       filled-at v w k (e ∙ ap (λ c. moving k c) (sym (cost_at-same v w.capacity same))) n
 
   -- one step after another
-  pub filled-join : (v u w : Thin T A) → v.capacity ≤ u.capacity → u.capacity ≤ w.capacity
-      → length v.items ≤ length u.items → IsExtendCost v u → IsExtendCost u w → IsExtendCost v w
-  filled-join v u w low high long p q = record {
+  pub filled-join : {v u w : Thin T A} → IsExtendCost v u → IsExtendCost u w
+      → v.capacity ≤ u.capacity → u.capacity ≤ w.capacity → length v.items ≤ length u.items
+      → IsExtendCost v w
+  filled-join {v} {u} {w} p q low high long = record {
     moves = omega (arith, p.moves, q.moves);
     kept = λ same. let a : u.capacity ≡ v.capacity = omega arith in
         let b : w.capacity ≡ u.capacity = omega arith in let f = p.kept a in let h = q.kept b in

@@ -1,26 +1,13 @@
 -- What a closure picked, as items are asked about up to the first that goes.
 use Rattle.std.proofs.Common.{◌≡◌, ℕ, ◌+◌, ◌≤◌, Bool, true, false, List, [], ◌∷◌, ◌++◌, Option, None, Some, length, take, drop, refl, sym, ap, subst, ◌∙◌, arith, length-append}
-use Rattle.std.proofs.lemmas.List.{drop_at, length-take-le, take_at}
+use Rattle.std.proofs.lemmas.List.{drop_at, length-take-le, nil_from_length, take_at}
 use Rattle.std.specs.List.Retain.{ExtractsNext}
 use Rattle.std.specs.Option.{option_to_list}
 use Rattle.std.specs.Prelude.{◌==◌, MatchBool, if◌then◌else◌, not}
 use Rattle.thin_block.specs.Cost.{Cost, moving}
 use Rattle.thin_vec.specs.Filters.{Answers, Asked, stay}
 use Rattle.thin_vec.specs.Sifting.{Runs, Stops}
-
-head-of : {X : Type 0} {x y : X} {xs ys : List X} → x ∷ xs ≡ y ∷ ys → x ≡ y
-head-of e = cc
-
-tail-of : {X : Type 0} {x y : X} {xs ys : List X} → x ∷ xs ≡ y ∷ ys → xs ≡ ys
-tail-of e = ap (drop 1) e
-
-not-nil : {X : Type 0} {x : X} {xs : List X} → x ∷ xs ≡ [] → ⊥
-not-nil e = let n = ap length e in omega (arith, n)
-
--- a list of no items
-pub nothing : {X : Type 0} (xs : List X) → length xs ≡ 0 → xs ≡ []
-nothing [] e = refl
-nothing (x ∷ xs) e = absurd (omega arith)
+use Rattle.thin_vec.proofs.FiltersLemmas.{cons-head, cons-not-nil, cons-tail}
 
 -- a test that is turned round twice
 pub not-not : (b : Bool) → not (not b) ≡ b
@@ -28,23 +15,6 @@ not-not true = refl
 not-not false = refl
 
 module _ {F T : Type 0} (R : F → T → Bool → F → T → Type 0) where
-  module _ (s : F) (x : T) (xs : List T) where
-    by-answer : (item : Option T) (t : F) (kept rest : List T) (u : F) (y : T) → ((ks : List T)
-        → ExtractsNext R u xs item t ks rest
-        → length xs ≡ length ks + length (option_to_list item) + length rest) → (b : Bool)
-        → MatchBool b ((item ≡ Some y) × (t ≡ u) × (kept ≡ []) × (rest ≡ xs))
-        ((ks : List T) × ExtractsNext R u xs item t ks rest × (kept ≡ y ∷ ks))
-        → length (x ∷ xs) ≡ length kept + length (option_to_list item) + length rest
-    by-answer item t kept rest u y more true m =
-        let i = ap (λ (o : Option T). length (option_to_list o)) m.0 in
-        let k = ap length m.2 in
-        let r = ap length m.3 in
-        omega (arith, i, k, r)
-    by-answer item t kept rest u y more false m =
-        let n = more m.0 m.1 in
-        let k = ap length m.2 in
-        omega (arith, n, k)
-
   -- each item stays, is handed out, or is still to be asked about
   pub picked-count : (s : F) (xs : List T) (item : Option T) (t : F) (kept rest : List T)
       → ExtractsNext R s xs item t kept rest → length xs ≡ length kept + length
@@ -55,55 +25,60 @@ module _ {F T : Type 0} (R : F → T → Bool → F → T → Type 0) where
       let r = ap length e.3 in
       omega (arith, i, k, r)
   picked-count s (x ∷ xs) item t kept rest e =
-      by-answer s x xs item t kept rest e.1 e.2
-      (λ (ks : List T) (m : ExtractsNext R e.1 xs item t ks rest). picked-count e.1 xs
-      item t ks rest m) e.0 e.4
+      answered e.0 (λ ks m. picked-count e.1 xs item t ks rest m) e.4
+    where
+      answered : (b : Bool)
+          → ((ks : List T) → ExtractsNext R e.1 xs item t ks rest
+          → length xs ≡ length ks + length (option_to_list item) + length rest)
+          → MatchBool b ((item ≡ Some e.2) × (t ≡ e.1) × (kept ≡ []) × (rest ≡ xs))
+          ((ks : List T) × ExtractsNext R e.1 xs item t ks rest × (kept ≡ e.2 ∷ ks))
+          → length (x ∷ xs) ≡ length kept + length (option_to_list item) + length rest
+      answered true more m =
+          let i = ap (λ (o : Option T). length (option_to_list o)) m.0 in
+          omega (arith, i, ap length m.2, ap length m.3)
+      answered false more m = omega (arith, more m.0 m.1, ap length m.2)
 
   module _ {S : Type 0} (of : S → F) where
     -- a judge that keeps what the closure does not pick
     abbrev J : S → T → Bool → S → T → Type 0
     J s x b t y = R (of s) x (not b) (of t) y
 
-    picked-behind : (s between : S) (run left behind : List T) (item : Option T) (t : F)
-        (rest : List T) → Asked J s run (stay left) between
-        → ExtractsNext R (of between) behind item t [] rest
-        → ExtractsNext R (of s) (run ++ behind) item t left rest
-    picked-behind s between [] [] behind item t rest a e =
-        subst (λ (q : S). ExtractsNext R (of q) behind item t [] rest) a.1 e
-    picked-behind s between [] (y ∷ left) behind item t rest a e = absurd (not-nil a.0)
-    picked-behind s between (x ∷ run) [] behind item t rest a e = absurd (not-nil (sym a.6))
-    picked-behind s between (x ∷ run) (z ∷ left) behind item t rest a e =
-        let h = head-of a.6 in
-        let answer : true ≡ a.0 = ap (λ (p : Bool × T). p.0) h in
-        let as_left : z ≡ a.1 = ap (λ (p : Bool × T). p.1) h in
-        let called : R (of s) x false (of a.2) z =
-        subst (λ (w : T). R (of s) x false (of a.2) w) (sym as_left)
-        (subst (λ (b : Bool). R (of s) x (not b) (of a.2) a.1) (sym answer) a.4) in
-        let on : Asked J a.2 run (stay left) between =
-        subst (λ (q : Answers T). Asked J a.2 run q between) (sym (tail-of a.6)) a.5 in (
-          false,
-          of a.2,
-          z,
-          called,
-          (left, picked-behind a.2 between run left behind item t rest on e, refl),
-        )
+    -- the item that was picked from those behind a run that stays
+    module _ (between : S) (behind : List T) (item : Option T) (t : F) (rest : List T)
+        (e : ExtractsNext R (of between) behind item t [] rest) where
+      picked-behind : (s : S) (run left : List T) → Asked J s run (stay left) between
+          → ExtractsNext R (of s) (run ++ behind) item t left rest
+      picked-behind s [] [] a =
+          subst (λ (q : S). ExtractsNext R (of q) behind item t [] rest) a.1 e
+      picked-behind s [] (y ∷ left) a = absurd (cons-not-nil a.0)
+      picked-behind s (x ∷ run) [] a = absurd (cons-not-nil (sym a.6))
+      picked-behind s (x ∷ run) (z ∷ left) a =
+          let h = cons-head a.6 in
+          let answer : true ≡ a.0 = ap (λ (p : Bool × T). p.0) h in
+          let as_left : z ≡ a.1 = ap (λ (p : Bool × T). p.1) h in
+          let called : R (of s) x false (of a.2) z =
+          subst (λ (w : T). R (of s) x false (of a.2) w) (sym as_left)
+          (subst (λ (b : Bool). R (of s) x (not b) (of a.2) a.1) (sym answer) a.4) in
+          let on : Asked J a.2 run (stay left) between =
+          subst (λ (q : Answers T). Asked J a.2 run q between) (sym (cons-tail a.6)) a.5 in
+          (false, of a.2, z, called, (left, picked-behind a.2 run left on, refl))
 
     stops-at-end : (between t : S) (behind ys : List T) → Stops J between behind t ys → ys ≡ []
         → ExtractsNext R (of between) behind None (of t) [] ys
     stops-at-end between t [] ys a none = (refl, ap of a.1, refl, none)
-    stops-at-end between t (x ∷ xs) ys a none = absurd (not-nil (sym a.2 ∙ none))
+    stops-at-end between t (x ∷ xs) ys a none = absurd (cons-not-nil (sym a.2 ∙ none))
 
     stops-at-item : (between t : S) (behind ys : List T) (v : T) (zs : List T)
         → Stops J between behind t ys → ys ≡ v ∷ zs → ExtractsNext R (of between)
         behind (Some v) (of t) [] zs
-    stops-at-item between t [] ys v zs a some = absurd (not-nil (sym some ∙ a.0))
+    stops-at-item between t [] ys v zs a some = absurd (cons-not-nil (sym some ∙ a.0))
     stops-at-item between t (x ∷ xs) ys v zs a some =
         let same : v ∷ zs ≡ a.0 ∷ xs = sym some ∙ a.2 in
-        (true, of t, a.0, a.1, (ap Some (head-of same), refl, refl, tail-of same))
+        (true, of t, a.0, a.1, (ap Some (cons-head same), refl, refl, cons-tail same))
 
     module _ (m : ℕ) (s : S) (xs : List T) (t : S) (ys : List T) (h : Runs J 0 m s xs t ys) where
       none-before : h.before ≡ []
-      none-before = nothing h.before h.place
+      none-before = nil_from_length h.before h.place
 
       was : xs ≡ h.run ++ h.behind
       was = h.was ∙ ap (λ (l : List T). l ++ (h.run ++ h.behind)) none-before
@@ -128,8 +103,8 @@ module _ {F T : Type 0} (R : F → T → Bool → F → T → Type 0) where
       whole item rest e =
           subst (λ (l : List T). ExtractsNext R (of s) l item (of t) (take m ys) rest) (sym was)
           (subst (λ (l : List T). ExtractsNext R (of s) (h.run ++ h.behind) item (of t) l rest)
-          (sym left-is) (picked-behind s h.between h.run h.left h.behind item
-          (of t) rest h.asked e))
+          (sym left-is)
+          (picked-behind h.between h.behind item (of t) rest e s h.run h.left h.asked))
 
       -- no item goes
       pub picked-none : drop m ys ≡ [] → ExtractsNext R (of s) xs None (of t)

@@ -1,7 +1,7 @@
 -- What answers about items leave, as one stretch of items follows another.
 use Rattle.std.proofs.Common.{◌≡◌, ℕ, zero, suc, ◌+◌, ◌<◌, ◌≤◌, Bool, true, false, List, [], ◌∷◌, ◌++◌, length, take, drop, refl, sym, ap, subst, ◌∙◌, arith, length-append, append_assoc}
 use Rattle.std.proofs.lemmas.Bool.{ne_eqb}
-use Rattle.std.proofs.lemmas.List.{append-nil, drop_at, length-drop, length-take-le, map-append, map_push, take-append-drop, take_at}
+use Rattle.std.proofs.lemmas.List.{append-nil, drop_at, length-drop, length-take-le, map-append, map_push, nil_from_length, take-append-drop, take_at}
 use Rattle.std.specs.Prelude.{◌==◌, if◌then◌else◌}
 use Rattle.std.specs.List.{filter, items_where_true}
 use Rattle.std.specs.List.Retain.{IsFiltered, ReturnsInTurn}
@@ -47,10 +47,11 @@ cons-tail e = ap (drop 1) e
 pub cons-not-nil : {X : Type 0} {x : X} {xs : List X} → x ∷ xs ≡ [] → ⊥
 cons-not-nil e = let n = ap length e in omega (arith, n)
 
--- a list of no items
-pub nothing : {X : Type 0} (xs : List X) → length xs ≡ 0 → xs ≡ []
-nothing [] e = refl
-nothing (x ∷ xs) e = absurd (omega arith)
+-- a list of one item, by the item
+pub single : {X : Type 0} (xs : List X) → length xs ≡ 1 → (x : X) × (xs ≡ x ∷ [])
+single [] e = absurd (omega (arith, e))
+single (x ∷ []) e = (x, refl)
+single (x ∷ y ∷ xs) e = absurd (omega (arith, e))
 
 -- where none is left
 pub none-left : {X : Type 0} (xs : List X) → (0 < length xs → ⊥) → xs ≡ []
@@ -88,20 +89,22 @@ module _ {T : Type 0} where
   moved_up-stay (x ∷ xs) a = moved_up-stay xs a
 
 module _ {S T : Type 0} (R : S → T → Bool → S → T → Type 0) where
-  -- one stretch after another
-  pub asked-append : (xs : List T) (s t u : S) (ys : List T) (a b : Answers T) → Asked R s xs a t
-      → Asked R t ys b u → Asked R s (xs ++ ys) (a ++ b) u
-  asked-append [] s t u ys a b h k = subst (λ (c : Answers T). Asked R s ys (c ++ b) u) (sym h.0)
-      (subst (λ (q : S). Asked R q ys b u) h.1 k)
-  asked-append (x ∷ xs) s t u ys a b h k = (
-    h.0,
-    h.1,
-    h.2,
-    h.3 ++ b,
-    h.4,
-    asked-append xs h.2 t u ys h.3 b h.5 k,
-    ap (λ (c : Answers T). c ++ b) h.6,
-  )
+  -- a stretch that begins in the state t
+  module _ (t u : S) (ys : List T) (b : Answers T) (k : Asked R t ys b u) where
+    -- goes on after one that ended there
+    asked-append : (xs : List T) (s : S) (a : Answers T) → Asked R s xs a t
+        → Asked R s (xs ++ ys) (a ++ b) u
+    asked-append [] s a h = subst (λ (c : Answers T). Asked R s ys (c ++ b) u) (sym h.0)
+        (subst (λ (q : S). Asked R q ys b u) h.1 k)
+    asked-append (x ∷ xs) s a h = (
+      h.0,
+      h.1,
+      h.2,
+      h.3 ++ b,
+      h.4,
+      asked-append xs h.2 h.3 h.5,
+      ap (λ (c : Answers T). c ++ b) h.6,
+    )
 
   -- one question
   pub asked-one : (s t : S) (x y : T) (b : Bool) → R s x b t y → Asked R s (x ∷ []) ((b, y) ∷ []) t
@@ -120,7 +123,7 @@ module _ {S T : Type 0} (R : S → T → Bool → S → T → Type 0) where
   pub asked-first : (s : S) (xs : List T) (b : Bool) (t : S) (ys : List T)
       → IsAskedAt R 0 s xs b t ys → AskedFirst s xs b t ys
   asked-first s xs b t ys h =
-      let none = nothing h.before h.place in
+      let none = nil_from_length h.before h.place in
       record {
         item = h.item;
         left = h.left;
@@ -201,8 +204,8 @@ module _ {S T : Type 0} (R : S → T → Bool → S → T → Type 0) where
               (ap (λ (l : List T). h.run ++ l) (next-parts true u zs a).1
               ∙ sym (append_assoc h.run (a.item ∷ []) a.behind));
           asked = subst (λ (c : Answers T). Asked R s (h.run ++ a.item ∷ []) c u) joined
-              (asked-append h.run s t u (a.item ∷ []) (stay h.left) ((true, a.left) ∷ []) h.asked
-              (asked-one t u a.item a.left true a.asked));
+              (asked-append t u (a.item ∷ []) ((true, a.left) ∷ [])
+              (asked-one t u a.item a.left true a.asked) h.run s (stay h.left) h.asked);
           now = next-now true u zs a ∙ ap (λ (l : List T). h.before ++ l)
               (sym (append_assoc h.left (a.left ∷ []) a.behind));
         }
@@ -227,7 +230,7 @@ module _ {S T : Type 0} (R : S → T → Bool → S → T → Type 0) where
     pub stays-end : length ys ≤ m → Runs R k m s xs t ys
     stays-end short =
         let none : h.more ≡ [] =
-        nothing h.more (omega
+        nil_from_length h.more (omega
         (arith, short, ap length parted, length-append asked-part h.more, long)) in
         record {
           before = h.before;
@@ -300,7 +303,7 @@ module _ {S T : Type 0} (R : S → T → Bool → S → T → Type 0) where
     pub runs-join : (s : S) (xs : List T) (t : S) (ys : List T) (u : S) (zs : List T)
         → Stays 0 m s xs t ys → Runs R m n t ys u zs → Runs R 0 n s xs u zs
     runs-join s xs t ys u zs h r =
-        let none = nothing h.before h.place in
+        let none = nil_from_length h.before h.place in
         let same : h.left ++ h.more ≡ r.before ++ (r.run ++ r.behind) =
         sym (h.now ∙ ap (λ (l : List T). l ++ (h.left ++ h.more)) none) ∙ r.was in
         let long : length h.left ≡ m = omega (arith, h.reached) in
@@ -324,7 +327,7 @@ module _ {S T : Type 0} (R : S → T → Bool → S → T → Type 0) where
           was = h.was ∙ (ap (λ (l : List T). l ++ (h.run ++ h.more)) none
               ∙ (ap (λ (l : List T). h.run ++ l) second ∙ sym (append_assoc h.run r.run r.behind)));
           asked = subst (λ (c : Answers T). Asked R s (h.run ++ r.run) c r.between) joined
-              (asked-append h.run s t r.between r.run (stay h.left) (stay r.left) h.asked r.asked);
+              (asked-append t r.between r.run (stay r.left) r.asked h.run s (stay h.left) h.asked);
           stops = r.stops;
           now = r.now ∙ (ap (λ (l : List T). l ++ (r.left ++ r.end)) first
               ∙ sym (append_assoc h.left r.left r.end));
@@ -344,7 +347,7 @@ module _ {S T : Type 0} (R : S → T → Bool → S → T → Type 0) where
 
   module _ (m : ℕ) (s : S) (xs : List T) (t : S) (ys : List T) (r : Runs R 0 m s xs t ys) where
     run-none : r.before ≡ []
-    run-none = nothing r.before r.place
+    run-none = nil_from_length r.before r.place
 
     run-long : length r.left ≡ m
     run-long = omega (arith, r.reached)
@@ -380,8 +383,8 @@ module _ {S T : Type 0} (R : S → T → Bool → S → T → Type 0) where
           answers = stay r.left ++ (false, v) ∷ [];
           was = run-was ∙ (ap (λ (l : List T). r.run ++ l) g.1
               ∙ sym (append_assoc r.run (g.0 ∷ []) rest));
-          asked = asked-append r.run s r.between t (g.0 ∷ []) (stay r.left) ((false, v) ∷ [])
-              r.asked (asked-one r.between t g.0 v false g.2);
+          asked = asked-append r.between t (g.0 ∷ []) ((false, v) ∷ [])
+              (asked-one r.between t g.0 v false g.2) r.run s (stay r.left) r.asked;
           left = left_at-append (stay r.left) ((false, v) ∷ [])
               ∙ (append-nil (left_at true (stay r.left)) ∙ (left_at-stay r.left ∙ sym run-kept));
           count = let none : trues (flags_of (let one : Answers T = (false, v) ∷ [] in one)) ≡ 0 =
@@ -488,15 +491,15 @@ module _ {S T : Type 0} (R : S → T → Bool → S → T → Type 0) where
       }
 
   -- one round after another
-  pub sifts-then : {A : Type 0} (s t u : S) (v w z : Open T A) → Sifts R s v t w
+  pub sifts-then : {A : Type 0} {s t u : S} {v w z : Open T A} → Sifts R s v t w
       → Sifts R t w u z → Sifts R s v u z
-  sifts-then s t u v w z h k =
+  sifts-then {s = s} {t} {u} {v} {w} {z} h k =
       record {
         done = h.done ++ k.done;
         answers = h.answers ++ k.answers;
         rest = h.rest ∙ (ap (λ (l : List T). h.done ++ l) k.rest
             ∙ sym (append_assoc h.done k.done z.rest));
-        asked = asked-append h.done s t u k.done h.answers k.answers h.asked k.asked;
+        asked = asked-append t u k.done k.answers k.asked h.done s h.answers h.asked;
         gap = k.gap;
         now = k.now ∙ ((λ i. let u = h.now i in record u {
           front = u.front ++ left_at true k.answers;
@@ -540,7 +543,7 @@ module _ {S T : Type 0} (R : S → T → Bool → S → T → Type 0) where
           answers = answers;
           asked = subst (λ (l : List T). Asked R s l answers u)
               (ap (λ (l : List T). part.done ++ l) all ∙ sym part.was)
-              (asked-append part.done s t u h.done part.answers h.answers part.asked h.asked);
+              (asked-append t u h.done h.answers h.asked part.done s part.answers part.asked);
           now = h.now ∙ ((λ i. let u = p i in record u {
             front = u.front ++ left_at true h.answers;
             before = z.before;
@@ -639,8 +642,8 @@ module _ {S T : Type 0} (R : S → T → Bool → S → Type 0) where
 
   -- where each answer is that of a test, and the closure stays as it was, the items are those that
   -- pass it
-  pub retained_filter : {A : Type 0} (test : T → Bool) (s : S) (v w : Thin T A)
+  pub retained_filter : {A : Type 0} (test : T → Bool) {s : S} {v w : Thin T A}
       → ((x : T) (b : Bool) (t : S) → R s x b t → (b ≡ test x) × (t ≡ s))
       → IsRetained (Looks R) s v w → w.items ≡ filter test v.items
-  retained_filter test s v w says h = filter_same R test s says v.items w.items
+  retained_filter test {s} {v} {w} says h = filter_same R test s says v.items w.items
       (retained_filtered s v w h)

@@ -5,7 +5,7 @@ use lib.ListN.{set}
 use Rattle.thin_block.specs.Cost.{Cost, moving}
 use Rattle.thin_block.specs.Slots.{full, laid}
 use Rattle.thin_block.proofs.SlotsLemmas.{laid-none}
-use Rattle.thin_vec.proofs.ClonesLemmas.{moving-one}
+use Rattle.thin_vec.proofs.FiltersLemmas.{moving-more}
 
 module _ {T : Type 0} where
   -- one slot more is laid, before the others
@@ -39,10 +39,10 @@ module _ {T : Type 0} where
       }
 
   -- the last of them goes into its slot
-  pub moving-next : (xs left : List T) (start i : ℕ) (v : T) (r s : List (Option T))
-      → IsMoving xs (left ++ v ∷ []) start r s → i ≡ start + length left
+  pub moving-next : {xs : List T} (left : List T) {start : ℕ} (i : ℕ) (v : T)
+      {r s : List (Option T)} → IsMoving xs (left ++ v ∷ []) start r s → i ≡ start + length left
       → start + length xs ≤ length r → IsMoving xs left start r (set s i (Some v))
-  moving-next xs left start i v r s m next room =
+  moving-next {xs} left {start} i v {r} {s} m next room =
       let one : length (left ++ v ∷ []) ≡ length left + 1 = length_push left v in
       let all : length xs ≡ length (left ++ v ∷ []) + length m.rest =
       ap length m.parts ∙ length-append (left ++ v ∷ []) m.rest in
@@ -59,14 +59,14 @@ module _ {T : Type 0} where
 -- a move is counted for each item that has come in
 module _ (n : ℕ) (c : Cost) where
   -- none has come in yet
-  pub moving-none : c ≡ moving (n - n) c
-  moving-none = ap (λ m. let d : Cost = record c { moves = m } in d)
+  pub counted-none : c ≡ moving (n - n) c
+  counted-none = ap (λ m. let d : Cost = record c { moves = m } in d)
       (let e : c.moves ≡ c.moves + (n - n) = omega arith in e)
 
   -- one more has come in
-  pub moving-more : (left more : ℕ) (d e : Cost) → more ≡ left + 1 → more ≤ n
+  pub counted-more : (left : ℕ) {more : ℕ} {d e : Cost} → more ≡ left + 1 → more ≤ n
       → d ≡ moving (n - more) c → e ≡ moving 1 d → e ≡ moving (n - left) c
-  moving-more left more d e one low was now =
+  counted-more left {more} one low was now =
       now ∙ (ap (λ b. moving 1 b) was
-      ∙ (moving-one (n - more) c
+      ∙ (moving-more 1 (n - more) c
       ∙ ap (λ k. moving k c) (let f : n - more + 1 ≡ n - left = omega arith in f)))

@@ -3,7 +3,7 @@
 use Rattle.std.proofs.Common.{◌≡◌, ℕ, zero, suc, ◌+◌, ◌-◌, ◌<◌, ◌≤◌, List, [], ◌∷◌, ◌++◌, Option, Some, None, length, take, drop, refl, sym, ap, ◌∙◌, arith, get_or, length-append, append_assoc}
 use Rattle.std.proofs.iter.runs.Sources.{as_is, as_is_back, from_back, from_front}
 use Rattle.std.proofs.lemmas.Grind.{take_at_read}
-use Rattle.std.proofs.lemmas.List.{append-nil, drop_at, get_or-append_right, get_or_at, length-replicate, length-take-le, map_push, replicate-append-replicate, set_at, take_at}
+use Rattle.std.proofs.lemmas.List.{append-nil, drop_at, nil_from_length, get_or-append_right, get_or_at, length-take-le, map_push, replicate-append-replicate, set_at, take_at}
 use Rattle.std.specs.Iterator.{YieldsFirst, YieldsLast}
 use Rattle.std.specs.Prelude.{IsSome, slice_range}
 use lib.ListN.{set}
@@ -16,10 +16,7 @@ use Rattle.std.specs.List.{length_refill, refill}
 use Rattle.thin_vec.specs.Lends.{with_items}
 use Rattle.thin_vec.specs.ThinVec.{thin_of}
 use Rattle.thin_vec.proofs.LendsLemmas.{over-front}
-use Rattle.thin_vec.proofs.ListLemmas.{from-same, full-same, get-some, items-empty, items-full, length-full, slot-get}
-
-length-empty : (T : Type 0) (k : ℕ) → length (empty {T = T} k) ≡ k
-length-empty T k = length-replicate {A = Option T} k None
+use Rattle.thin_vec.proofs.ListLemmas.{from-same, full-same, get-some, items-empty, items-full, length-empty, length-full, slot-get}
 
 module _ {T : Type 0} where
   items-behind : (k : ℕ) (s : List (Option T)) → items_in (empty k ++ s) ≡ items_in s
@@ -87,10 +84,10 @@ module _ {T A : Type 0} where
     pub items : items_in b.slots ≡ xs
     pub cap : length b.slots ≡ c
 
-  walking : (b : Block T A) (a : A) (xs : List T) (start end c : ℕ)
+  walking : (b : Block T A) {a : A} (xs : List T) (start end : ℕ) {c : ℕ}
       → b.slots ≡ empty start ++ (full xs ++ empty (c - end)) → start + length xs ≡ end → end ≤ c
       → IsFrom b a → Walking b a xs start end c
-  walking b a xs start end c e n h f =
+  walking b xs start end {c} e n h f =
       let behind : List (Option T) = empty (c - end) in
       let i : items_in b.slots ≡ xs =
       ap items_in e ∙ (items-behind start (full xs ++ behind)
@@ -161,7 +158,7 @@ module _ {T A : Type 0} where
   -- the list of which no item has been handed out
   pub settle-whole : (b : Block T A) (a : A) (xs : List T) (c : ℕ) → b.slots ≡ full xs ++ empty
       (c - length xs) → length xs ≤ c → IsFrom b a → Walking b a xs 0 (length xs) c
-  settle-whole b a xs c e h f = walking b a xs 0 (length xs) c e (omega arith) h f
+  settle-whole b a xs c e h f = walking b xs 0 (length xs) e (omega arith) h f
 
   module _ (b b' : Block T A) (a : A) (start end : ℕ) (v : T) (t : IsWalked b a start end)
       (some : start < end) where
@@ -198,7 +195,7 @@ module _ {T A : Type 0} where
     pub settle-first : slot b.slots start ≡ Some v → b'.slots ≡ set b.slots start None
         → b'.alloc ≡ b.alloc → Walking b' a (drop 1 xs) (start + 1) end (length b.slots)
     settle-first e s f =
-        walking b' a (drop 1 xs) (start + 1) end (length b.slots) (s ∙ (first e).1)
+        walking b' (drop 1 xs) (start + 1) end (s ∙ (first e).1)
         (omega (arith, t.len, ap length (first e).0)) (walked-room b a start end t)
         (from-same b b' a t.from f)
 
@@ -229,7 +226,7 @@ module _ {T A : Type 0} where
     settle-last s f =
         let more : gap + 1 ≡ length b.slots - (end - 1) =
         omega (arith, walked-room b a start end t) in
-        walking b' a most start (end - 1) (length b.slots)
+        walking b' most start (end - 1)
         (s ∙ ((λ i. set (row i) (sym place i) None)
         ∙ (set-last start gap most _
         ∙ ap (λ (n : ℕ). empty start ++ (full most ++ empty n)) more)))
@@ -243,7 +240,7 @@ module _ {T A : Type 0} where
   settle-written b b' a start end ws t s f =
       let xs : List T = items_in b.slots in
       let gap : ℕ = length b.slots - end in
-      walking b' a (refill (length xs) xs ws) start end (length b.slots)
+      walking b' (refill (length xs) xs ws) start end
       (s ∙ (ap (λ (r : List (Option T)). over r start ws) t.row
       ∙ (over-behind start (full xs ++ empty gap) ws
       ∙ ap (λ (r : List (Option T)). empty start ++ r) (over-front xs gap ws))))
@@ -265,13 +262,9 @@ module _ {T A : Type 0} where
       let all : start + (length b.slots - end) ≡ length b.slots =
       omega (arith, walked-room b a start end t) in
       t.row ∙ (ap (λ (ys : List T). empty start ++ (full ys ++ empty (length b.slots - end)))
-      (nothing (items_in b.slots) none)
+      (nil_from_length (items_in b.slots) none)
       ∙ (replicate-append-replicate start (length b.slots - end) None
       ∙ ap (λ (n : ℕ). empty n) all))
-    where
-      nothing : (xs : List T) → length xs ≡ 0 → xs ≡ []
-      nothing [] e = refl
-      nothing (x ∷ xs) e = absurd (omega arith)
 
 -- what calls of `next`, and of `next_back`, give
 module _ (T A : Type 0) where

@@ -1,13 +1,17 @@
 -- What a block holds whose items all lie in front, after each step on it.
 use Rattle.std.proofs.Common.{◌≡◌, ◌≢◌, ℕ, zero, suc, ◌+◌, ◌-◌, ◌<◌, ◌≤◌, List, [], ◌∷◌, ◌++◌, length, take, drop, Option, Some, None, refl, sym, ap, ◌∙◌, arith, get_or, length-append, append_assoc}
 use Rattle.std.proofs.lemmas.List.{length-replicate, length-map, take-append-drop, replicate-append-replicate, set_at, get_or_append_left, get_or-append_right, get_or-replicate, get_or-map, map_push, append-nil, length-take-le, drop_more, length_push, get_or-set_other}
-use Rattle.std.proofs.Math.Seq.{take-append_seam}
+use Rattle.std.proofs.Math.Seq.{drop-length, take-append_seam}
 use Rattle.std.specs.Prelude.{IsSome, slice_get, slice_range}
 use lib.ListN.{set, replicate}
 use Rattle.thin_block.specs.Slots.{IsPacked, full, empty, slot, items_in, front}
 use Rattle.thin_block.specs.Block.{IsFrom}
 use Rattle.thin_block.specs.declared.block.Block.{Block}
 use Rattle.thin_vec.specs.ThinVec.{IsThin}
+
+-- as many empty slots as are asked for
+pub length-empty : (T : Type 0) (k : ℕ) → length (empty {T = T} k) ≡ k
+length-empty T k = length-replicate {A = Option T} k None
 
 module _ {T : Type 0} where
   -- empty slots hold no item
@@ -19,6 +23,11 @@ module _ {T : Type 0} where
   pub items-full : (xs : List T) (s : List (Option T)) → items_in (full xs ++ s) ≡ xs ++ items_in s
   items-full [] s = refl
   items-full (x ∷ xs) s = ap (λ (ys : List T). x ∷ ys) (items-full xs s)
+
+  -- the same with no slot behind
+  pub items-full-alone : (xs : List T) → items_in (full xs) ≡ xs
+  items-full-alone [] = refl
+  items-full-alone (x ∷ xs) = ap (λ (ys : List T). x ∷ ys) (items-full-alone xs)
 
   -- the items of a list in front
   pub items-front : (xs : List T) (c : ℕ) → items_in (front xs c) ≡ xs
@@ -42,11 +51,7 @@ module _ {T : Type 0} where
 
   -- rows of filled slots are equal only where their items are
   pub full-same : (xs ys : List T) → full xs ≡ full ys → xs ≡ ys
-  full-same xs ys e = sym (items-of xs) ∙ (ap items_in e ∙ items-of ys)
-    where
-      items-of : (zs : List T) → items_in (full zs) ≡ zs
-      items-of [] = refl
-      items-of (z ∷ zs) = ap (λ (l : List T). z ∷ l) (items-of zs)
+  full-same xs ys e = sym (items-full-alone xs) ∙ (ap items_in e ∙ items-full-alone ys)
 
   -- a run of filled slots read at i
   pub slot-full : (xs : List T) (s : List (Option T)) (i : ℕ) (d : T) → i < length xs
@@ -167,20 +172,26 @@ module _ {T A : Type 0} where
   pub from-same : (b b' : Block T A) (a : A) → IsFrom b a → b'.alloc ≡ b.alloc → IsFrom b' a
   from-same b b' a f e = λ x h. f x (sym e ∙ h)
 
+  -- b' is b once its slots are s and its stored length is n
+  pub record IsWritten (b b' : Block T A) (s : List (Option T)) (n : ℕ) : Type 0 where
+    pub slots : b'.slots ≡ s
+    pub len : b'.len ≡ n
+    pub alloc : b'.alloc ≡ b.alloc
+
   -- an item went in behind
-  pub settle-push : (b b' : Block T A) (a : A) (v : T) (i : ℕ) → IsThin b a → i ≡ b.len
-      → i < length b.slots → b'.slots ≡ set b.slots i (Some v) → b'.len ≡ i + 1 → b'.alloc ≡ b.alloc
+  pub settle-push : {b : Block T A} {a : A} → IsThin b a → (b' : Block T A) (v : T) (i : ℕ)
+      → i ≡ b.len → i < length b.slots → IsWritten b b' (set b.slots i (Some v)) (i + 1)
       → Settled b' a (items_in b.slots ++ v ∷ []) (length b.slots)
-  settle-push b b' a v i t o h s n f =
+  settle-push {b} {a} t b' v i o h w =
       let xs : List T = items_in b.slots in
       let c : ℕ = length b.slots in
       let l : length xs < c = omega (arith, t.packed.len) in
       settled b' a (xs ++ v ∷ []) c
-      (s ∙ (ap (λ (q : ℕ). set b.slots q (Some v)) (o ∙ t.packed.len)
+      (w.slots ∙ (ap (λ (q : ℕ). set b.slots q (Some v)) (o ∙ t.packed.len)
       ∙ (ap (λ (r : List (Option T)). set r (length xs) (Some v)) t.packed.row
       ∙ front-push xs c v l)))
-      (omega (arith, n, t.packed.len, length_push xs v)) (omega (arith, length_push xs v))
-      (from-same b b' a t.from f)
+      (omega (arith, w.len, t.packed.len, length_push xs v)) (omega (arith, length_push xs v))
+      (from-same b b' a t.from w.alloc)
 
   -- the item in the last filled slot
   pub last-item : (b : Block T A) (a : A) (v : T) (j : ℕ) → IsThin b a → j + 1 ≡ b.len
@@ -199,28 +210,24 @@ module _ {T A : Type 0} where
       sym (take-append-drop j xs) ∙ ap (λ (r : List T). ys ++ r)
       (drop_more xs j v l
       ∙ (ap (λ (r : List T). get_or xs j v ∷ r) z ∙ ap (λ (r : T). r ∷ []) (sym y)))
-    where
-      drop-length : (zs : List T) → drop (length zs) zs ≡ []
-      drop-length [] = refl
-      drop-length (z ∷ zs) = drop-length zs
 
   -- the last item came out
-  pub settle-pop : (b b' : Block T A) (a : A) (v : T) (j : ℕ) → IsThin b a → j + 1 ≡ b.len
-      → slot b.slots j ≡ Some v → b'.slots ≡ set b.slots j None → b'.len ≡ j → b'.alloc ≡ b.alloc
+  pub settle-pop : {b : Block T A} {a : A} → IsThin b a → (b' : Block T A) (v : T) (j : ℕ)
+      → j + 1 ≡ b.len → slot b.slots j ≡ Some v → IsWritten b b' (set b.slots j None) j
       → Settled b' a (take j (items_in b.slots)) (length b.slots)
-  settle-pop b b' a v j t o w s n f =
+  settle-pop {b} {a} t b' v j o held w =
       let xs : List T = items_in b.slots in
       let c : ℕ = length b.slots in
       let ys : List T = take j xs in
       let l : j < length xs = omega (arith, t.packed.len) in
       let m : length ys ≡ j = length-take-le j xs (omega arith) in
-      let e : xs ≡ ys ++ v ∷ [] = last-item b a v j t o w in
+      let e : xs ≡ ys ++ v ∷ [] = last-item b a v j t o held in
       let k : length (ys ++ v ∷ []) ≤ c = omega (arith, thin-room b a t, ap length e) in
       settled b' a ys c
-      (s ∙ (ap (λ (r : List (Option T)). set r j None)
+      (w.slots ∙ (ap (λ (r : List (Option T)). set r j None)
       (t.packed.row ∙ ap (λ (r : List T). front r c) e)
       ∙ (ap (λ (q : ℕ). set (front (ys ++ v ∷ []) c) q None) (sym m) ∙ front-pop ys c v k)))
-      (n ∙ sym m) (omega (arith, length_push ys v)) (from-same b b' a t.from f)
+      (w.len ∙ sym m) (omega (arith, length_push ys v)) (from-same b b' a t.from w.alloc)
 
   -- what an item's slot holds
   thin-slot : (b : Block T A) (a : A) (i : ℕ) → IsThin b a → i < length (items_in b.slots)

@@ -1,25 +1,19 @@
 -- What a block that is open shows, after each step on it.
 use Rattle.std.proofs.Common.{◌≡◌, ℕ, suc, ◌+◌, ◌-◌, ◌<◌, ◌≤◌, List, [], ◌∷◌, ◌++◌, Option, Some, None, length, take, drop, refl, sym, ap, ◌∙◌, subst, arith, length-append, append_assoc}
-use Rattle.std.proofs.lemmas.List.{append-nil, drop_at, get_or-append_right, get_or-replicate, get_or_append_left, get_or_at, length-drop, length-replicate, length-take, length-take-le, length_push, map_push, replicate-append-replicate, set_at, take_at}
+use Rattle.std.proofs.lemmas.List.{drop_at, get_or-append_right, get_or-replicate, get_or_append_left, get_or_at, length-drop, length-take, length-take-le, length_push, map_push, replicate-append-replicate, set_at, take_at}
 use Rattle.std.proofs.lemmas.List.Edits.{split_between}
 use Rattle.std.specs.Prelude.{IsSome, slice_range}
 use lib.ListN.{set}
 use Rattle.thin_block.specs.Slots.{empty, front, full, items_in, laid, moved, slot}
 use Rattle.thin_block.specs.declared.block.Block.{Block}
+use Rattle.thin_block.proofs.Outcomes.{some-same}
 use Rattle.thin_block.proofs.SlotsLemmas.{laid-at, moved_left, moved_right}
 use Rattle.thin_vec.specs.OpenBlock.{IsOpen, Shows, open_of}
 use Rattle.thin_vec.specs.Open.{Open, items_of, reach, row_of}
 use Rattle.thin_vec.specs.ThinVec.{IsThin}
 use Rattle.thin_vec.specs.declared.open_block.OpenBlock.TheInside.{Inside}
 use Rattle.thin_vec.proofs.EditsLemmas.{full-append}
-use Rattle.thin_vec.proofs.ListLemmas.{get-some, items-front, items-full, length-full, slot-get, thin-room}
-
-length-empty : (T : Type 0) (k : ℕ) → length (empty {T = T} k) ≡ k
-length-empty T k = length-replicate {A = Option T} k None
-
--- two items that are both there are one
-pub some-same : {X : Type 0} {x y : X} → Some x ≡ Some y → x ≡ y
-some-same e = cc
+use Rattle.thin_vec.proofs.ListLemmas.{get-some, items-front, items-full-alone, length-empty, length-full, slot-get, thin-room}
 
 -- a list that is not empty, by its first item and by its last
 pub first-of : {X : Type 0} (xs : List X) → 0 < length xs → (x : X) × (ys : List X) × (xs ≡ x ∷ ys)
@@ -35,10 +29,6 @@ last-of (x ∷ z ∷ zs) h = let p = last-of (z ∷ zs) (omega arith) in
     (x ∷ p.0, p.1, ap (λ q. x ∷ q) p.2)
 
 module _ {T : Type 0} where
-  items-full-alone : (xs : List T) → items_in (full xs) ≡ xs
-  items-full-alone xs = ap items_in (sym (append-nil (full xs)))
-      ∙ (items-full xs [] ∙ append-nil xs)
-
   -- a slot of a filled run, and of an empty one
   pub slot-in-full : (pre : List (Option T)) (xs : List T) (post : List (Option T)) (j : ℕ)
       → length pre ≤ j → j < length pre + length xs → IsSome (slot (pre ++ (full xs ++ post)) j)

@@ -9,8 +9,9 @@ use Rattle.thin_block.specs.declared.block.Block.{Block}
 use Rattle.thin_vec.specs.OpenBlock.{IsOpen, Shows, open_of}
 use Rattle.thin_vec.specs.Open.{Open, reach, row_of}
 use Rattle.thin_vec.specs.declared.open_block.OpenBlock.TheInside.{Inside}
-use Rattle.thin_vec.proofs.FiltersLemmas.{cons-head, cons-not-nil, cons-tail}
-use Rattle.thin_vec.proofs.OpenBlockLemmas.{Found, found, last-of, past_rest, slot-in-full, some-same}
+use Rattle.thin_vec.proofs.FiltersLemmas.{cons-head, cons-not-nil, cons-tail, single}
+use Rattle.thin_block.proofs.Outcomes.{some-same}
+use Rattle.thin_vec.proofs.OpenBlockLemmas.{Found, found, last-of, past_rest, slot-in-full}
 use Rattle.thin_vec.proofs.ListLemmas.{length-full}
 use Rattle.thin_vec.proofs.SiftingLemmas.{row-at, same-past, write-step, written}
 
@@ -48,26 +49,12 @@ module _ {T : Type 0} where
       record { first = h.first; second = h.second; now = ap (λ (r : List (Option T)). p ∷ r) h.now }
 
   -- as the two parts of a slice of two
-  parts-alone : (s : List (Option T)) (i : ℕ) (all a b : List T) (k x k' x' : T)
-      → full all ≡ take 2 (drop i s) → all ≡ a ++ b → length a ≡ 1 → length b ≡ 1
-      → k ≡ get_or a 0 k → x ≡ get_or b 0 x → Neighbours s i k x k' x'
-      × (over s i (set a 0 k' ++ set b 0 x') ≡ set (set s i (Some k')) (suc i) (Some x'))
-  parts-alone s i all [] b k x k' x' lent cut one two is isn = absurd (omega (arith, one))
-  parts-alone s i all (p ∷ q ∷ a) b k x k' x' lent cut one two is isn = absurd (omega (arith, one))
-  parts-alone s i all (p ∷ []) [] k x k' x' lent cut one two is isn = absurd (omega (arith, two))
-  parts-alone s i all (p ∷ []) (q ∷ r ∷ b) k x k' x' lent cut one two is isn =
-      absurd (omega (arith, two))
-  parts-alone s i all (p ∷ []) (q ∷ []) k x k' x' lent cut one two is isn =
-      let h = neighbours s i k x k' x' ((λ j. Some (is j) ∷ Some (isn j) ∷ [])
-      ∙ (sym (ap full cut) ∙ lent)) in
-      (h, h.now)
-
-  module _ (s : List (Option T)) (i : ℕ) (all a b : List T) where
-    pub parts-of : (k x k' x' : T) → i + 2 ≤ length s → full all ≡ slice_range s i (i + 2)
-        → all ≡ a ++ b → length a ≡ 1 → k ≡ get_or a 0 k → x ≡ get_or b 0 x
+  module _ (s : List (Option T)) (i : ℕ) (all a b : List T) (within : i + 2 ≤ length s)
+      (lent : full all ≡ slice_range s i (i + 2)) (cut : all ≡ a ++ b) (one : length a ≡ 1) where
+    pub parts-of : {k x : T} (k' x' : T) → k ≡ get_or a 0 k → x ≡ get_or b 0 x
         → Neighbours s i k x k' x'
         × (over s i (set a 0 k' ++ set b 0 x') ≡ set (set s i (Some k')) (suc i) (Some x'))
-    parts-of k x k' x' within lent cut one is isn =
+    parts-of {k} {x} k' x' is isn =
         let n : i + 2 - i ≡ 2 = omega arith in
         let lent' : full all ≡ take 2 (drop i s) = lent ∙ ap (λ (m : ℕ). take m (drop i s)) n in
         let few : length (take 2 (drop i s)) ≡ 2 = length-take-le 2 (drop i s)
@@ -81,7 +68,14 @@ module _ {T : Type 0} where
           length-append a b,
           one,
         ) in
-        parts-alone s i all a b k x k' x' lent' cut one two is isn
+        let p = single a one in
+        let q = single b two in
+        let first : k ≡ p.0 = is ∙ ap (λ (l : List T). get_or l 0 k) p.1 in
+        let second : x ≡ q.0 = isn ∙ ap (λ (l : List T). get_or l 0 x) q.1 in
+        let both : all ≡ p.0 ∷ q.0 ∷ [] = cut ∙ (λ j. p.1 j ++ q.1 j) in
+        let h = neighbours s i k x k' x' ((λ j. Some (first j) ∷ Some (second j) ∷ [])
+        ∙ (sym (ap full both) ∙ lent')) in
+        (h, (λ j. over s i (set (p.1 j) 0 k' ++ set (q.1 j) 0 x')) ∙ h.now)
 
 module _ {T A : Type 0} where
   -- ---- on a block that is open
@@ -102,15 +96,16 @@ module _ {T A : Type 0} where
       len = h.len;
     }) (record (open_of h) { rest = pre ++ x' ∷ y' ∷ post })
 
-  module _ (h : Inside T A) (o : IsOpen h) where
-    pub write-two-step : (k : ℕ) (b : Block T A) (x y x' y' : T) → b.alloc ≡ h.block.alloc
-        → b.cost ≡ h.block.cost → suc k < length (open_of h).rest
+  module _ (h : Inside T A) (o : IsOpen h) (b : Block T A) (alloc : b.alloc ≡ h.block.alloc)
+      (cost : b.cost ≡ h.block.cost) where
+    -- writing to them changes nothing else
+    pub write-two-step : (k : ℕ) {x y : T} (x' y' : T) → suc k < length (open_of h).rest
         → slot h.block.slots (h.rest_start + k) ≡ Some x
         → slot h.block.slots (suc (h.rest_start + k)) ≡ Some y
         → b.slots ≡ set (set h.block.slots (h.rest_start + k) (Some x')) (suc (h.rest_start + k))
         (Some y')
         → WrittenTwo h o k b x y x' y'
-    write-two-step k b x y x' y' alloc cost low first second now =
+    write-two-step k {x} {y} x' y' low first second now =
         let c : Block T A = with_item h.block (h.rest_start + k) x' in
         let one = write-step h o c refl refl k (omega arith) x x' first refl in
         let m : Inside T A = written h o c refl refl k (omega arith) in
@@ -173,12 +168,11 @@ module _ {T A : Type 0} where
     }) (record (open_of h) { front = pre ++ y ∷ [] })
 
   -- writing to it changes nothing else
-  pub write-last-step : (h : Inside T A) (o : IsOpen h) (b : Block T A) (x y : T)
-      → b.alloc ≡ h.block.alloc → b.cost ≡ h.block.cost → 0 < length (open_of h).front
-      → slot h.block.slots (h.front_end - 1) ≡ Some x → b.slots
-      ≡ set h.block.slots (h.front_end - 1)
-      (Some y) → WrittenLast h b x y
-  write-last-step h o b x y alloc cost some is now =
+  pub write-last-step : (h : Inside T A) (o : IsOpen h) (b : Block T A) {x : T} (y : T)
+      → (b.alloc ≡ h.block.alloc) × (b.cost ≡ h.block.cost) → 0 < length (open_of h).front
+      → slot h.block.slots (h.front_end - 1) ≡ Some x
+      → b.slots ≡ set h.block.slots (h.front_end - 1) (Some y) → WrittenLast h b x y
+  write-last-step h o b {x} y same_block some is now =
       let v : Open T A = open_of h in
       let p = last-of v.front some in
       let pre : List T = p.0 in
@@ -221,7 +215,7 @@ module _ {T A : Type 0} where
       record {
         pre = pre;
         was = p.2 ∙ ap (λ (q : T). pre ++ q ∷ []) same;
-        shown = found i w shows alloc cost;
+        shown = found i w shows same_block.0 same_block.1;
       }
 
   -- an item goes behind the front

@@ -1,7 +1,7 @@
 -- What a list holds while clones that are to replace a range lie beside it, and what an open block
 -- shows once they go there.
 use Rattle.std.proofs.Common.{if◌then◌else◌, inl, inr, eqb, min, Bool, true, false, ◌≡◌, ℕ, zero, suc, ◌+◌, ◌-◌, ◌≤◌, List, [], ◌∷◌, ◌++◌, None, Option, append_assoc, ap, arith, drop, length, length-append, refl, sym, take, ◌∙◌}
-use Rattle.std.proofs.lemmas.List.{drop_at, length-drop, length-replicate, length-take-le, replicate-append-replicate, take-append-drop, take-append-le, take_at}
+use Rattle.std.proofs.lemmas.List.{drop_at, length-drop, length-take-le, replicate-append-replicate, take-append-drop, take-append-le, take_at}
 use Rattle.std.proofs.lemmas.Bool.{cases_lt}
 use Rattle.std.proofs.lemmas.Bool.Decides.{nat_tests}
 use Rattle.std.proofs.lemmas.List.Elements.{length_all_zip}
@@ -10,14 +10,14 @@ use Rattle.thin_block.specs.Cost.{Cost, moving}
 use Rattle.thin_block.specs.Slots.{empty, full, moved}
 use Rattle.thin_block.specs.declared.block.Block.{Block}
 use Rattle.thin_block.proofs.SlotsLemmas.{moved_back}
-use Rattle.thin_vec.specs.OpenBlock.{IsOpen, Shows, open_of}
+use Rattle.thin_vec.specs.OpenBlock.{IsOpen, open_of}
 use Rattle.thin_vec.specs.Open.{Open, reach, row_of}
 use Rattle.thin_vec.specs.declared.open_block.OpenBlock.TheInside.{Inside}
 use Rattle.thin_vec.specs.Replacing.{MovesAtMost, ReplacesByClones}
 use Rattle.thin_vec.proofs.EditsLemmas.{full-append}
 use Rattle.thin_vec.proofs.FillingLemmas.{moving-add, moving-zero}
 use Rattle.thin_vec.proofs.OpenBlockLemmas.{Found, found, past_tail, reached}
-use Rattle.thin_vec.proofs.ListLemmas.{length-full}
+use Rattle.thin_vec.proofs.ListLemmas.{length-empty, length-full}
 
 -- the clones of two lists of sources are those of the two as one
 pub all_zip-append : {X : Type 0} (R : X → X → Type 0) (ss ts xs ys : List X) → AllZip R ss xs
@@ -37,9 +37,9 @@ module _ {T : Type 0} where
       (take-less xs i j (omega arith))
 
   -- items that went in at i and go out again leave the list as it was
-  pub put-and-gone : (xs ys zs : List T) (i n : ℕ) → i ≤ length xs → length ys ≡ n
-      → zs ≡ replace_range xs i i ys → take i zs ++ drop (i + n) zs ≡ xs
-  put-and-gone xs ys zs i n within count is =
+  pub put-and-gone : (xs ys : List T) {zs : List T} (i : ℕ) {n : ℕ} → i ≤ length xs
+      → length ys ≡ n → zs ≡ replace_range xs i i ys → take i zs ++ drop (i + n) zs ≡ xs
+  put-and-gone xs ys {zs} i {n} within count is =
       let p : List T = take i xs in
       let few : length p ≡ i = length-take-le i xs within in
       let front : take i zs ≡ p =
@@ -49,13 +49,14 @@ module _ {T : Type 0} where
       ∙ drop_at (p ++ ys) (drop i xs) (i + n) (omega (arith, length-append p ys, few, count)) in
       (λ m. front m ++ past m) ∙ take-append-drop i xs
 
+module _ {T : Type 0} (xs : List T) (i j : ℕ) (order : i ≤ j) (within : j ≤ length xs) where
   -- clones of the first sources lie after the list and those of the others after the range: the
   -- first go to its place
-  pub brought-in : (xs ys zs w : List T) (i j n : ℕ) → i ≤ j → j ≤ length xs → length ys ≡ n
+  pub brought-in : (ys zs : List T) {w : List T} {n : ℕ} → length ys ≡ n
       → w ≡ replace_range xs j j zs ++ ys
       → (take i w ++ drop (length w - n) w) ++ take (length w - n - j) (drop j w)
       ≡ replace_range xs i j (ys ++ zs)
-  brought-in xs ys zs w i j n order within count is =
+  brought-in ys zs {w} {n} count is =
       let p : List T = take j xs in
       let r : List T = drop j xs in
       let few : length p ≡ j = length-take-le j xs within in
@@ -85,9 +86,6 @@ module _ {T : Type 0} where
       (λ m. (front m ++ last m) ++ mid m)
       ∙ (sym (append_assoc (take i xs ++ ys) zs r)
       ∙ ap (λ (l : List T). l ++ r) (append_assoc (take i xs) ys zs))
-
-length-empty : (T : Type 0) (k : ℕ) → length (empty {T = T} k) ≡ k
-length-empty T k = length-replicate {A = Option T} k None
 
 module _ {T A : Type 0} (h : Inside T A) (o : IsOpen h) (b : Block T A) (k : ℕ)
     (few : k ≤ length (open_of h).tail) (room : k ≤ (open_of h).before) where
@@ -260,12 +258,21 @@ pub if-le : (b : Bool) (k n : ℕ) → k + (if b then 0 else n) ≤ k + n
 if-le true k n = omega arith
 if-le false k n = omega arith
 
--- the moves of clones that come in beside a range of r items, with t after it: k2 of them after
--- the range, and k1 after the list, from where they go to its places
-pub cloning-moves : (k r t k1 k2 u z : ℕ) → z ≡ 0 → k1 ≡ min k r → k1 + k2 ≡ k → u ≡ t + k2
+-- of k clones that come in beside a range of r items, k1 go to its places, and k2 are more
+pub record IsParted (k r k1 k2 : ℕ) : Type 0 where
+  -- as many as there are places
+  pub first : k1 ≡ min k r
+  -- and each is one or the other
+  pub all : k1 + k2 ≡ k
+
+-- the moves of such clones, with t items after the range: k2 of them come in after the range, and
+-- k1 after the list, from where they go to its places
+pub cloning-moves : {k r k1 k2 : ℕ} → IsParted k r k1 k2 → (t : ℕ) {z u : ℕ} → z ≡ 0 → u ≡ t + k2
     → ((k2 + (if eqb k2 z then 0 else t)) + k1) + (k1 + (if eqb k1 r then 0 else u))
     ≡ (k + (if eqb k r then 0 else t)) + min k r
-cloning-moves k r t k1 k2 u z none first all past =
+cloning-moves {k} {r} {k1} {k2} parted t {z} {u} none past =
+    let first : k1 ≡ min k r = parted.first in
+    let all : k1 + k2 ≡ k = parted.all in
     elim (cases_lt r k) [
       | inl more ↦ let one : k1 ≡ r = omega (arith, first) in
           let e1 : eqb k2 z ≡ false = grind (arith, nat_tests, none, all, one, more) in

@@ -10,7 +10,8 @@ use Rattle.thin_vec.specs.OpenBlock.{IsOpen, Shows, open_of}
 use Rattle.thin_vec.specs.Open.{Open, reach, row_of}
 use Rattle.thin_vec.specs.declared.open_block.OpenBlock.TheInside.{Inside}
 use Rattle.thin_vec.proofs.EditsLemmas.{full-append}
-use Rattle.thin_vec.proofs.OpenBlockLemmas.{Found, at_rest, by_rest, empty-more, first-of, found, past_rest, some-same, to_rest}
+use Rattle.thin_block.proofs.Outcomes.{some-same}
+use Rattle.thin_vec.proofs.OpenBlockLemmas.{Found, at_rest, by_rest, empty-more, first-of, found, past_rest, to_rest}
 use Rattle.thin_vec.proofs.ListLemmas.{length-full}
 
 -- a list, by the item at k
@@ -207,12 +208,10 @@ module _ {T A : Type 0} where
 
   -- one item moves to the front, in line
   pub lower-one-step : (h : Inside T A) (o : IsOpen h) (some : 1 ≤ length (open_of h).rest)
-      → 0 < (open_of h).before → (b : Block T A) (x : T) (s : List (Option T))
-      → slot h.block.slots h.rest_start ≡ Some x → s ≡ set h.block.slots h.rest_start None
-      → b.slots ≡ set s h.front_end (Some x) → b.alloc ≡ h.block.alloc
-      → Found (lowered h o 1 some b)
-      (lowered-seen h o 1 some b)
-  lower-one-step h o some gap b x s is taken now alloc =
+      → 0 < (open_of h).before → (b : Block T A) {x : T} → slot h.block.slots h.rest_start ≡ Some x
+      → b.slots ≡ set (set h.block.slots h.rest_start None) h.front_end (Some x)
+      → b.alloc ≡ h.block.alloc → Found (lowered h o 1 some b) (lowered-seen h o 1 some b)
+  lower-one-step h o some gap b {x} is now alloc =
       let w : Open T A = open_of h in
       let parts = first-of w.rest some in
       let y : T = parts.0 in
@@ -225,11 +224,12 @@ module _ {T A : Type 0} where
       let g : ℕ = w.before - 1 in
       let wide : w.before ≡ suc g = omega arith in
       let wide' : g + 1 ≡ w.before = omega arith in
-      let opened : s ≡ full w.front ++ (None ∷ (empty g ++ (None ∷ z))) =
-      taken ∙ (ap (λ (r : List (Option T)). set r h.rest_start None) row
+      let opened : set h.block.slots h.rest_start None
+      ≡ full w.front ++ (None ∷ (empty g ++ (None ∷ z))) =
+      ap (λ (r : List (Option T)). set r h.rest_start None) row
       ∙ (set_at (to_rest w) (Some y) z None h.rest_start (at_rest h w o)
       ∙ (append_assoc (full w.front) (empty w.before) (None ∷ z)
-      ∙ ap (λ (n : ℕ). full w.front ++ (empty n ++ (None ∷ z))) wide))) in
+      ∙ ap (λ (n : ℕ). full w.front ++ (empty n ++ (None ∷ z))) wide)) in
       lowered-shows h o 1 some b
       (now ∙ (ap (λ (r : List (Option T)). set r h.front_end (Some x)) opened
       ∙ (set_at (full w.front) None (empty g ++ (None ∷ z)) (Some x) h.front_end

@@ -92,6 +92,28 @@ module _ {T A : Type 0} (v : Thin T A) (c : ℕ) where
 -- what a growth has cost, for callers at numbers that they know
 pub ruleset costs = (cost_at-same, cost_at-more)
 
+-- a cheap cost stays cheap over a growth for more than there was room for
+cheap-growing : {c : ℕ} {k : Cost} (n c' : ℕ) → IsCheapAt c k → n ≤ c → c < c' → 2 * c ≤ c'
+    → IsCheapAt c' (growing n k)
+cheap-growing {c = zero} {k} n c' h le larger doubled =
+    let z = h.none refl in
+    let two : 2 ^ (k.blocks + 1) ≡ 2 = ap (λ q. 2 ^ (q + 1)) z.0 in
+    record {
+      none = λ q. absurd (omega (arith, larger));
+      grown = λ q. omega (arith, z.1, larger, le);
+      blocks = λ q. omega (arith, two, larger);
+    }
+cheap-growing {c = suc c} {k} n c' h le larger doubled =
+    let few : k.grown < suc c = h.grown (omega arith) in
+    let half : 2 ^ k.blocks ≤ 2 * suc c = h.blocks (omega arith) in
+    let twice : 2 ^ (k.blocks + 1) ≡ 2 ^ k.blocks * 2 = pow_more 2 k.blocks in
+    record {
+      none = λ q. absurd (omega (arith, larger));
+      grown = λ q. omega (arith, doubled, few, le);
+      blocks =
+          λ q. omega (arith, twice, half, doubled);
+    }
+
 module _ {T A : Type 0} (rule : Rule) (R : RattleType) (law : KeepsLaw rule)
     (v : Thin T A) (k c : ℕ) where
   -- where there is room, the ruled capacity is the one that is there, and nothing is paid
@@ -116,36 +138,13 @@ module _ {T A : Type 0} (rule : Rule) (R : RattleType) (law : KeepsLaw rule)
       let g = cap-grown more e in
       cost_at-more v c (omega (arith, g.0))
 
--- a cheap cost stays cheap over a growth for more than there was room for
-pub cheap-growing : (c n c' : ℕ) (k : Cost) → IsCheapAt c k → n ≤ c → c < c' → 2 * c ≤ c'
-    → IsCheapAt c' (growing n k)
-cheap-growing zero n c' k h le larger doubled =
-    let z = h.none refl in
-    let two : 2 ^ (k.blocks + 1) ≡ 2 = ap (λ q. 2 ^ (q + 1)) z.0 in
-    record {
-      none = λ q. absurd (omega (arith, larger));
-      grown = λ q. omega (arith, z.1, larger, le);
-      blocks = λ q. omega (arith, two, larger);
-    }
-cheap-growing (suc c) n c' k h le larger doubled =
-    let few : k.grown < suc c = h.grown (omega arith) in
-    let half : 2 ^ k.blocks ≤ 2 * suc c = h.blocks (omega arith) in
-    let twice : 2 ^ (k.blocks + 1) ≡ 2 ^ k.blocks * 2 = pow_more 2 k.blocks in
-    record {
-      none = λ q. absurd (omega (arith, larger));
-      grown = λ q. omega (arith, doubled, few, le);
-      blocks =
-          λ q. omega (arith, twice, half, doubled);
-    }
-
--- a cheap list stays cheap where its capacity becomes the ruled one
-pub cheap-regrown : {T A : Type 0} (rule : Rule) (R : RattleType) → KeepsLaw rule
-    → (v : Thin T A) (k c : ℕ) → IsCheap v → length v.items ≤ v.capacity
-    → capacity_for rule R v k ≡ Some c → IsCheapAt c (cost_at v c)
-cheap-regrown rule R law v k c h room e =
-    elim (cases_lt v.capacity (length v.items + k)) [
-      | inl more ↦ let g = cap-grown rule R law v k c more e in
-          rw (cost_at-grown rule R law v k c more e)
-          (cheap-growing v.capacity (length v.items) c v.cost h room (omega (arith, g.0)) g.1)
-      | inr spare ↦ rw (cost_at-kept rule R law v k c spare e, cap-kept rule R law v k c spare e) h
-    ]
+  -- a cheap list stays cheap where its capacity becomes the ruled one
+  pub cheap-regrown : IsCheap v → length v.items ≤ v.capacity → capacity_for rule R v k ≡ Some c
+      → IsCheapAt c (cost_at v c)
+  cheap-regrown h room e =
+      elim (cases_lt v.capacity (length v.items + k)) [
+        | inl more ↦ let g = cap-grown more e in
+            rw (cost_at-grown more e)
+            (cheap-growing (length v.items) c h room (omega (arith, g.0)) g.1)
+        | inr spare ↦ rw (cost_at-kept spare e, cap-kept spare e) h
+      ]

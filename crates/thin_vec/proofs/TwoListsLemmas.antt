@@ -6,7 +6,7 @@ use Rattle.thin_block.specs.declared.block.Block.{Block}
 use Rattle.thin_block.proofs.SlotsLemmas.{laid-at, run-at}
 use Rattle.thin_vec.specs.ThinVec.{IsThin}
 use Rattle.thin_vec.proofs.EditsLemmas.{full-append}
-use Rattle.thin_vec.proofs.ListLemmas.{Settled, from-same, length-full, settled, thin-room}
+use Rattle.thin_vec.proofs.ListLemmas.{IsWritten, Settled, from-same, length-full, settled, thin-room}
 
 module _ {T : Type 0} where
   -- ys go into the first empty slots
@@ -61,42 +61,47 @@ module _ {T : Type 0} where
 
 module _ {T A : Type 0} where
   -- items that are laid behind those of a list
-  pub settle-more : (b b' : Block T A) (a : A) (xs : List T) (n : ℕ) → IsThin b a → n ≡ b.len
-      → n + length xs ≤ length b.slots → b'.slots ≡ laid n (full xs) b.slots
-      → b'.len ≡ n + length xs → b'.alloc ≡ b.alloc
+  pub settle-more : {b : Block T A} {a : A} → IsThin b a → (b' : Block T A) (xs : List T) (n : ℕ)
+      → n ≡ b.len → n + length xs ≤ length b.slots
+      → IsWritten b b' (laid n (full xs) b.slots) (n + length xs)
       → Settled b' a (items_in b.slots ++ xs) (length b.slots)
-  settle-more b b' a xs n t len room s l f =
+  settle-more {b} {a} t b' xs n len room w =
       let ys : List T = items_in b.slots in
       let end : n ≡ length ys = len ∙ t.packed.len in
       settled b' a (ys ++ xs) (length b.slots)
-      (s ∙ ((λ m. laid (end m) (full xs) (t.packed.row m)) ∙ front-more ys xs (length b.slots)
+      (w.slots ∙ ((λ m. laid (end m) (full xs) (t.packed.row m)) ∙ front-more ys xs (length b.slots)
       (omega (arith, room, end))))
-      (omega (arith, l, end, length-append ys xs)) (omega (arith, room, end, length-append ys xs))
-      (from-same b b' a t.from f)
+      (omega (arith, w.len, end, length-append ys xs))
+      (omega (arith, room, end, length-append ys xs)) (from-same b b' a t.from w.alloc)
 
-  module _ (b b' o : Block T A) where
+  module _ {b o : Block T A} {a p : A} (t : IsThin b a) (u : IsThin o p) where
     -- the list that the items from i on of another go to
-    pub settle-joined : (a p : A) (i k n : ℕ) → IsThin b a → IsThin o p
-        → i ≤ length (items_in o.slots) → k ≡ o.len - i → n ≡ b.len → n + k ≤ length b.slots
-        → b'.slots ≡ laid n (run i k o.slots) b.slots → b'.len ≡ n + k → b'.alloc ≡ b.alloc
+    pub settle-joined : (b' : Block T A) (i : ℕ) {k n : ℕ} → i ≤ length (items_in o.slots)
+        → k ≡ o.len - i → n ≡ b.len → n + k ≤ length b.slots
+        → IsWritten b b' (laid n (run i k o.slots) b.slots) (n + k)
         → Settled b' a (items_in b.slots ++ drop i (items_in o.slots)) (length b.slots)
-    settle-joined a p i k n t u order count len room s l f =
+    settle-joined b' i {k} {n} order count len room w =
         let ys : List T = items_in o.slots in
         let all : k ≡ length ys - i = omega (arith, count, u.packed.len) in
         let more : length (drop i ys) ≡ k = omega (arith, all, length-drop i ys) in
         let same : run i k o.slots ≡ full (drop i ys) = ap (λ (r : List (Option T)). run i k r)
         u.packed.row ∙ front-run ys (length o.slots) i k order (thin-room o p u) all in
-        settle-more b b' a (drop i ys) n t len (omega (arith, room, more))
-        (s ∙ ap (λ (r : List (Option T)). laid n r b.slots) same) (omega (arith, l, more)) f
+        settle-more t b' (drop i ys) n len (omega (arith, room, more)) (record {
+          slots = w.slots ∙ ap (λ (r : List (Option T)). laid n r b.slots) same;
+          len = omega (arith, w.len, more);
+          alloc = w.alloc;
+        })
 
   -- and the one that they left
-  pub settle-cut : (o o' : Block T A) (p : A) (i k : ℕ) → IsThin o p → i ≤ length (items_in o.slots)
-      → k ≡ o.len - i → o'.slots ≡ emptied i k o.slots → o'.len ≡ i → o'.alloc ≡ o.alloc
+  pub settle-cut : {o : Block T A} {p : A} → IsThin o p → (o' : Block T A) (i : ℕ) {k : ℕ}
+      → i ≤ length (items_in o.slots) → k ≡ o.len - i → IsWritten o o' (emptied i k o.slots) i
       → Settled o' p (take i (items_in o.slots)) (length o.slots)
-  settle-cut o o' p i k u order count s l f =
+  settle-cut {o} {p} u o' i {k} order count w =
       let ys : List T = items_in o.slots in
       let few : length (take i ys) ≡ i = length-take-le i ys order in
       settled o' p (take i ys) (length o.slots)
-      (s ∙ (ap (λ (r : List (Option T)). emptied i k r) u.packed.row ∙ front-cut ys (length o.slots)
+      (w.slots ∙ (ap (λ (r : List (Option T)). emptied i k r) u.packed.row
+      ∙ front-cut ys (length o.slots)
       i k order (thin-room o p u) (omega (arith, count, u.packed.len))))
-      (l ∙ sym few) (omega (arith, few, thin-room o p u, order)) (from-same o o' p u.from f)
+      (w.len ∙ sym few) (omega (arith, few, thin-room o p u, order))
+      (from-same o o' p u.from w.alloc)

@@ -8,10 +8,8 @@ pub returns-clause-asked : goal.returns-clause-asked
 returns-clause-asked g c =
     let parts = c.split_at_mut-kept in
     let h = parts-of c.args.block.now.slots c.args.i c.slice_mut.result.now parts.result.0.now
-    parts.result.1.now c.index-kept-0.result c.index-later-0.result
-    c.ask.new.kept c.ask.new.later
-    c.requires.in_bounds c.slice_mut.ensures.value parts.ensures.value (search rules)
-    c.index-kept-0.is c.index-later-0.is in
+    parts.result.1.now c.requires.in_bounds c.slice_mut.ensures.value parts.ensures.value
+    (search rules) c.ask.new.kept c.ask.new.later c.index-kept-0.is c.index-later-0.is in
     record {
       kept = c.index-kept-0.result;
       later = c.index-later-0.result;

@@ -1,7 +1,7 @@
 -- One item more is laid.
 use Rattle.std.proofs.Common.{◌∷◌, ◌++◌, [], ◌∙◌, arith}
 use Rattle.std.proofs.lemmas.List.{length_push}
-use Rattle.thin_vec.proofs.ExtendLemmas.{laid-more, moving-more, yields-more}
+use Rattle.thin_vec.proofs.ExtendLemmas.{laid-more, moving-since, yields-more}
 use Rattle.std.proofs.lemmas.Grind.{common_steps}
 use Rattle.thin_vec.proofs.placing.put_iter.Goals as goal
 
@@ -26,7 +26,7 @@ loop-i-preserved g c =
       within = omega (arith, c.loop-i-test.true);
       len = c.put.ensures.len ∙ held.len;
       alloc = c.put.ensures.alloc ∙ held.alloc;
-      cost = c.put.ensures.cost ∙ moving-more c.loop-i.i c.args.start c.loop-i.block.cost
+      cost = c.put.ensures.cost ∙ moving-since c.loop-i.i c.args.start c.loop-i.block.cost
           c.args.block.now.cost (omega (arith, held.placed.2)) held.cost;
       nearer = omega (arith, held.nearer, goes.2);
     }

@@ -7,7 +7,7 @@ use Rattle.std.specs.Fn.{Called}
 use Rattle.thin_block.specs.Cost.{Cost, moving}
 use Rattle.thin_block.specs.Slots.{full, slot}
 use Rattle.thin_block.proofs.SlotsLemmas.{slot-laid}
-use Rattle.thin_vec.proofs.ClonesLemmas.{moving-one}
+use Rattle.thin_vec.proofs.FiltersLemmas.{moving-more}
 use Rattle.thin_vec.proofs.ExtendLemmas.{laid-more}
 use Rattle.thin_vec.proofs.ListLemmas.{length-full}
 use Rattle.thin_vec.proofs.placing.put_results.Goals as goal
@@ -61,7 +61,7 @@ loop-i-preserved g c =
       );
       len = c.put.ensures.len ∙ was.len;
       alloc = c.put.ensures.alloc ∙ was.alloc;
-      cost = c.put.ensures.cost ∙ (ap (λ d. moving 1 d) was.cost ∙ moving-one i old.cost);
+      cost = c.put.ensures.cost ∙ (ap (λ d. moving 1 d) was.cost ∙ moving-more 1 i old.cost);
       callable = search of_calls;
     }
 

@@ -1,7 +1,7 @@
 -- One item more has come in, from the last on.
 use Rattle.std.proofs.Common.{◌+◌, ◌∙◌, ap, arith, length, length-append, refl, subst, sym}
 use Rattle.std.proofs.lemmas.List.{length_push}
-use Rattle.thin_vec.proofs.FromOthersLemmas.{IsMoving, moving-first, moving-more, moving-next, moving-none}
+use Rattle.thin_vec.proofs.FromOthersLemmas.{IsMoving, counted-more, counted-none, moving-first, moving-next}
 use Rattle.thin_vec.proofs.placing.put_vec.Goals as goal
 
 pub loop-item-init : goal.loop-item-init
@@ -9,7 +9,7 @@ loop-item-init g c = record {
   slots = moving-first c.args.items.items c.args.start c.args.block.now.slots;
   len = refl;
   alloc = refl;
-  cost = moving-none (length c.args.items.items) c.args.block.now.cost;
+  cost = counted-none (length c.args.items.items) c.args.block.now.cost;
 }
 
 pub loop-item-preserved : goal.loop-item-preserved
@@ -23,13 +23,11 @@ loop-item-preserved g c =
     c.in-Some.ensures.items was.slots in
     record {
       slots = subst (λ s. IsMoving xs left start old s) (sym c.put.ensures.slots)
-          (moving-next xs left start (start + c.len.result) c.in-Some.item old
-          c.loop-item.block.slots before
+          (moving-next left (start + c.len.result) c.in-Some.item before
           (ap (λ n. start + n) (c.len.ensures ∙ c.pop.new.self.ok.0)) c.requires.in_bounds);
       len = c.put.ensures.len ∙ was.len;
       alloc = c.put.ensures.alloc ∙ was.alloc;
-      cost = moving-more (length xs) c.args.block.now.cost (length left)
-          (length c.loop-item.items.items) c.loop-item.block.cost c.put.new.self.cost
+      cost = counted-more (length xs) c.args.block.now.cost (length left)
           (ap length c.in-Some.ensures.items ∙ length_push left c.in-Some.item)
           (omega (
             arith,

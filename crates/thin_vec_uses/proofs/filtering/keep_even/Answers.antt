@@ -4,5 +4,5 @@ use Rattle.thin_vec.proofs.FiltersLemmas.{retained_filter}
 use Rattle.thin_vec_uses.proofs.filtering.keep_even.Goals as goal
 
 pub returns-clause-items : goal.returns-clause-items
-returns-clause-items g c = retained_filter _ _ _ _ _
+returns-clause-items g c = retained_filter _ _
     (λ x b t k. search rules) c.retain.ensures.retained

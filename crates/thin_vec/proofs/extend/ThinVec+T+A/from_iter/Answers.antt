@@ -38,12 +38,12 @@ returns-in-Err-clause-err_named g c =
 
 pub returns-in-Ok-extend_unhinted-clause-named : goal.returns-in-Ok-extend_unhinted-clause-named
 returns-in-Ok-extend_unhinted-clause-named g c =
-    collected-after doubling (param 0 g.row.T) doubling_law _ _ _ _ _ _ _ c.new-list.ensures.new
+    collected-after doubling (param 0 g.row.T) doubling_law _ _ _ _ c.new-list.ensures.new
     c.size_hint.ensures.lower c.in-Ok.ensures.capacity c.extend_unhinted.ensures.named
 
 pub returns-in-Err-extend_unhinted-clause-err_named : goal.returns-in-Err-extend_unhinted-clause-err_named
 returns-in-Err-extend_unhinted-clause-err_named g c =
-    collected-after doubling (param 0 g.row.T) doubling_law _ _ _ _ _ _ _ c.new-list.ensures.new
+    collected-after doubling (param 0 g.row.T) doubling_law _ _ _ _ c.new-list.ensures.new
     c.size_hint.ensures.lower c.in-Ok.ensures.capacity c.extend_unhinted.ensures.named
 
 pub returns-in-Err-clause-runs_err : goal.returns-in-Err-clause-runs_err

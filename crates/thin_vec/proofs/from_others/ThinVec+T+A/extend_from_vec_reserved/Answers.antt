@@ -14,12 +14,14 @@ none g c = ap (λ v. v.items) c.self.view_is ∙ c.requires.empty
 facts : (g : _) (c : goal.After-set_len g) → Settled c.set_len.new.self c.self.inside.alloc
     (items_in c.self.inside.block.slots ++ c.args.items.items) (length c.self.inside.block.slots)
 facts g c =
-    settle-more c.self.inside.block c.set_len.new.self c.self.inside.alloc c.args.items.items 0
-    c.self.invariant (sym (c.self.invariant.packed.len ∙ ap length (none g c)))
+    settle-more c.self.invariant c.set_len.new.self c.args.items.items 0
+    (sym (c.self.invariant.packed.len ∙ ap length (none g c)))
     (omega (arith, c.requires.room, ap (λ v. v.capacity) c.self.view_is))
-    (c.set_len.ensures.slots ∙ c.put_vec.ensures.slots)
-    (omega (arith, c.set_len.ensures.len, c.len-len.ensures, c.args.items.ok.0))
-    (c.set_len.ensures.alloc ∙ c.put_vec.ensures.alloc)
+    (record {
+      slots = c.set_len.ensures.slots ∙ c.put_vec.ensures.slots;
+      len = omega (arith, c.set_len.ensures.len, c.len-len.ensures, c.args.items.ok.0);
+      alloc = c.set_len.ensures.alloc ∙ c.put_vec.ensures.alloc;
+    })
 
 pub invariant_of-self : goal.invariant_of-self
 invariant_of-self g c = (facts g c).thin

@@ -11,8 +11,8 @@ facts : (g : _) (c : goal.After-set_len g) → Settled c.set_len.new.self c.list
     (items_in c.list.inside.block.slots ++ c.args.items) (length c.list.inside.block.slots)
 facts g c =
     let none = ap length (ap (λ v. v.items) c.list.view_is ∙ c.in-Ok.ensures.items) in
-    settle-more c.list.inside.block c.set_len.new.self c.list.inside.alloc c.args.items 0
-    c.list.invariant (sym (c.list.invariant.packed.len ∙ none))
+    settle-more c.list.invariant c.set_len.new.self c.args.items 0
+    (sym (c.list.invariant.packed.len ∙ none))
     (omega (
       arith,
       c.count-len.ensures.value,
@@ -20,9 +20,11 @@ facts g c =
       c.in-Ok.ensures.capacity,
       ap (λ v. v.capacity) c.list.view_is,
     ))
-    (c.set_len.ensures.slots ∙ c.put_array.ensures.slots)
-    (omega (arith, c.set_len.ensures.len, c.count-len.ensures.length))
-    (c.set_len.ensures.alloc ∙ c.put_array.ensures.alloc)
+    (record {
+      slots = c.set_len.ensures.slots ∙ c.put_array.ensures.slots;
+      len = omega (arith, c.set_len.ensures.len, c.count-len.ensures.length);
+      alloc = c.set_len.ensures.alloc ∙ c.put_array.ensures.alloc;
+    })
 
 pub invariant_of-list : goal.invariant_of-list
 invariant_of-list g c = (facts g c).thin

@@ -22,20 +22,21 @@ move_run_to-requires-clause-filled g c = λ i low high.
 cut : (g : _) (c : goal.After-set_len-2 g) → Settled c.set_len.new.self c.other.inside.alloc
     (take c.args.start (items_in c.other.inside.block.slots)) (length c.other.inside.block.slots)
 cut g c =
-    settle-cut c.other.inside.block c.set_len.new.self c.other.inside.alloc
-    c.args.start _ c.other.invariant
+    settle-cut c.other.invariant c.set_len.new.self c.args.start
     (omega (arith, c.requires.in_bounds, ap (λ v. length v.items) c.other.view_is))
     (ap (λ n. n - c.args.start) c.len.ensures.value)
-    (c.set_len.ensures.slots ∙ c.move_run_to.ensures.slots) c.set_len.ensures.len
-    (c.set_len.ensures.alloc ∙ c.move_run_to.ensures.alloc)
+    (record {
+      slots = c.set_len.ensures.slots ∙ c.move_run_to.ensures.slots;
+      len = c.set_len.ensures.len;
+      alloc = c.set_len.ensures.alloc ∙ c.move_run_to.ensures.alloc;
+    })
 
 joined : (g : _) (c : goal.After-set_len-2 g)
     → Settled c.set_len-2.new.self c.self.inside.alloc
     (items_in c.self.inside.block.slots ++ drop c.args.start
     (items_in c.other.inside.block.slots)) (length c.self.inside.block.slots)
 joined g c =
-    settle-joined c.self.inside.block c.set_len-2.new.self c.other.inside.block c.self.inside.alloc
-    c.other.inside.alloc c.args.start _ _ c.self.invariant c.other.invariant
+    settle-joined c.self.invariant c.other.invariant c.set_len-2.new.self c.args.start
     (omega (arith, c.requires.in_bounds, ap (λ v. length v.items) c.other.view_is))
     (ap (λ n. n - c.args.start) c.len.ensures.value) c.len-len.ensures.value
     (omega (
@@ -49,8 +50,11 @@ joined g c =
       ap (λ v. length v.items) c.other.view_is,
       ap (λ v. v.capacity) c.self.view_is,
     ))
-    (c.set_len-2.ensures.slots ∙ c.move_run_to.ensures.other_slots) c.set_len-2.ensures.len
-    (c.set_len-2.ensures.alloc ∙ c.move_run_to.ensures.other_alloc)
+    (record {
+      slots = c.set_len-2.ensures.slots ∙ c.move_run_to.ensures.other_slots;
+      len = c.set_len-2.ensures.len;
+      alloc = c.set_len-2.ensures.alloc ∙ c.move_run_to.ensures.other_alloc;
+    })
 
 pub invariant_of-self : goal.invariant_of-self
 invariant_of-self g c = (joined g c).thin

@@ -23,12 +23,12 @@ pub returns-in-Ok-clause-cost : goal.returns-in-Ok-clause-cost
 returns-in-Ok-clause-cost g c =
     let rule = g.G.Growth.rule in let T = param 0 g.row.T in let law = g.met.G.Growth.law in
     let v = c.args.self.now in let u = c.reserve.new.self in let w = c.extend_unhinted.new.self in
-    filled-join v u w (loose-le rule T law v.capacity u.capacity
+    filled-join (filled-reserved v u c.in-Ok.ensures.cost c.reserve.ensures.items)
+    c.extend_unhinted.ensures.cost
+    (loose-le rule T law v.capacity u.capacity
     (loose-ruled rule T law v c.size_hint.result.0 u.capacity c.in-Ok.ensures.capacity))
     (loose-le rule T law u.capacity w.capacity c.extend_unhinted.ensures.capacity)
     (omega (arith, ap length c.reserve.ensures.items))
-    (filled-reserved v u c.in-Ok.ensures.cost c.reserve.ensures.items)
-    c.extend_unhinted.ensures.cost
 
 pub returns-in-Ok-clause-named : goal.returns-in-Ok-clause-named
 returns-in-Ok-clause-named g c =
@@ -68,7 +68,7 @@ returns-in-Ok-clause-runs_err g c =
     (λ refused. SomeRun steps c.args.iter
     (λ p. (xs : List g.row.T.Denot) × (w.items ≡ old ++ xs)
     × (p.items ≡ xs ++ option_to_list refused.in_hand)))) c.reserve.ensures.items
-    (run_given_err steps (λ refused. refused.in_hand) (λ refused. refused.rest) c.args.iter
+    (run_given_err steps c.args.iter (λ refused. refused.in_hand) (λ refused. refused.rest)
     (λ xs. w.items ≡ c.reserve.new.self.items ++ xs) c.extend_unhinted.result
     c.extend_unhinted.ensures.placed)
 

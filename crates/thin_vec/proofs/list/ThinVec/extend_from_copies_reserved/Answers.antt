@@ -10,8 +10,7 @@ use Rattle.thin_vec.proofs.list.ThinVec.extend_from_copies_reserved.Goals as goa
 facts : (g : _) (c : goal.After-store_len g) → Settled c.store_len.new.self c.self.inside.alloc
     (items_in c.self.inside.block.slots ++ c.args.items.now) (length c.self.inside.block.slots)
 facts g c =
-    settle-more c.self.inside.block c.store_len.new.self c.self.inside.alloc c.args.items.now _
-    c.self.invariant c.len-len.ensures.value
+    settle-more c.self.invariant c.store_len.new.self c.args.items.now _ c.len-len.ensures.value
     (omega (
       arith,
       c.requires.room,
@@ -20,8 +19,11 @@ facts g c =
       ap (λ v. length v.items) c.self.view_is,
       ap (λ v. v.capacity) c.self.view_is,
     ))
-    (c.store_len.ensures.slots ∙ c.copy_in.ensures.slots) c.store_len.ensures.len
-    (c.store_len.ensures.alloc ∙ c.copy_in.ensures.alloc)
+    (record {
+      slots = c.store_len.ensures.slots ∙ c.copy_in.ensures.slots;
+      len = c.store_len.ensures.len;
+      alloc = c.store_len.ensures.alloc ∙ c.copy_in.ensures.alloc;
+    })
 
 pub invariant_of-self : goal.invariant_of-self
 invariant_of-self g c = (facts g c).thin

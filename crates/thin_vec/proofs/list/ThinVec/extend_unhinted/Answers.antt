@@ -51,8 +51,7 @@ returns-in_default-clause-named g c =
     let u = c.loop-item.self in let w = c.extend_reserved-left.new.self in
     let now = c.extend_reserved-left.ensures.items in
     named-more g.G.Growth.rule (param 0 g.row.T) g.met.G.Growth.law c.args.self.now.capacity
-    u.capacity w.capacity (length u.items) (length w.items)
-    c.extend_reserved-left.ensures.capacity
+    (length u.items) (length w.items) c.extend_reserved-left.ensures.capacity
     (omega (arith, ap length now.1, length-append u.items now.0)) c.loop-item.invariant.named
 
 pub returns-in-Err-clause-named : goal.returns-in-Err-clause-named
@@ -61,8 +60,7 @@ returns-in-Err-clause-named g c =
     let now = c.extend_reserved-left.ensures.items in
     rw c.in-Err.ensures.err
     (named-more g.G.Growth.rule (param 0 g.row.T) g.met.G.Growth.law c.args.self.now.capacity
-    u.capacity w.capacity (length u.items) (length w.items)
-    c.extend_reserved-left.ensures.capacity
+    (length u.items) (length w.items) c.extend_reserved-left.ensures.capacity
     (omega (arith, ap length now.1, length-append u.items now.0)) c.loop-item.invariant.named)
 
 pub loop-item-preserved : goal.loop-item-preserved
@@ -122,10 +120,10 @@ loop-item-preserved g c =
             c.extend_reserved-left.ensures.capacity,
           ))
           ∙ (c.extend_reserved-left.ensures.capacity ∙ same);
-      cost = filled-join v u z low (omega (arith, high, c.extend_reserved-left.ensures.capacity))
-          (omega (arith, some)) held.cost
-          (filled-join u w z (omega (arith, c.extend_reserved-left.ensures.capacity)) high
-          (omega (arith, more)) spare push);
+      cost = filled-join held.cost
+          (filled-join spare push (omega (arith, c.extend_reserved-left.ensures.capacity)) high
+          (omega (arith, more)))
+          low (omega (arith, high, c.extend_reserved-left.ensures.capacity)) (omega (arith, some));
       named = let full = at-some c.in-Some.is c.extend_reserved-left.ensures.full in
           inr (
             w.capacity,
@@ -167,8 +165,8 @@ returns-in-Err-clause-cost g c =
     c.extend_reserved-left.ensures.cost c.extend_reserved-left.ensures.capacity
     (omega (arith, more)) in
     rw c.in-Err.ensures.err
-    (filled-join v u w low (omega (arith, c.extend_reserved-left.ensures.capacity))
-    (omega (arith, some)) held.cost spare)
+    (filled-join held.cost spare low (omega (arith, c.extend_reserved-left.ensures.capacity))
+    (omega (arith, some)))
 
 pub returns-in-Err-clause-alloc : goal.returns-in-Err-clause-alloc
 returns-in-Err-clause-alloc g c = search (arith, ◌∙◌)

@@ -13,11 +13,13 @@ facts : (g : _) (c : goal.After-set_len g) → Settled c.set_len.new.self c.self
     (length c.self.inside.block.slots)
 facts g c =
     let gave = c.put_iter-rest.ensures.slots in
-    settle-more c.self.inside.block c.set_len.new.self c.self.inside.alloc gave.0 c.len-len.result
-    c.self.invariant c.len-len.ensures.value
+    settle-more c.self.invariant c.set_len.new.self gave.0 c.len-len.result c.len-len.ensures.value
     (omega (arith, gave.2, c.put_iter-rest.ensures.within, c.cap-cap.ensures.value))
-    (c.set_len.ensures.slots ∙ gave.1) (c.set_len.ensures.len ∙ gave.2)
-    (c.set_len.ensures.alloc ∙ c.put_iter-rest.ensures.alloc)
+    (record {
+      slots = c.set_len.ensures.slots ∙ gave.1;
+      len = c.set_len.ensures.len ∙ gave.2;
+      alloc = c.set_len.ensures.alloc ∙ c.put_iter-rest.ensures.alloc;
+    })
 
 -- where the items end
 ends : (g : _) (c : goal.After-set_len g) → length (items_in c.set_len.new.self.slots)

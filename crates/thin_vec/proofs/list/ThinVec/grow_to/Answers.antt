@@ -11,7 +11,7 @@ use Rattle.thin_vec.proofs.list.ThinVec.grow_to.Goals as goal
 facts : (g : _) (c : In_ok-grow g) → Settled c.grow.new.self c.self.inside.alloc
     (items_in c.self.inside.block.slots) c.args.cap
 facts g c =
-    settle-grow c.self.inside.block c.grow.new.self c.self.inside.alloc c.args.cap c.self.invariant
+    settle-grow c.self.invariant c.grow.new.self c.args.cap
     (omega (arith, c.requires.larger, ap (λ v. v.capacity) c.self.view_is))
     c.in_ok-grow.ensures.slots c.grow.ensures.len c.in_ok-grow.ensures.alloc
 

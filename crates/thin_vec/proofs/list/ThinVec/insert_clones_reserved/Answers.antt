@@ -1,9 +1,8 @@
 -- Where a clone fails, those before it lie in the list for a while, and go out again.
-use Rattle.std.proofs.Common.{◌≡◌, ◌+◌, ◌-◌, ◌≤◌, ◌++◌, ◌∙◌, [], ap, arith, drop, eqb, length, length-append, sym, take}
+use Rattle.std.proofs.Common.{◌≡◌, ◌+◌, ◌-◌, ◌++◌, ◌∙◌, [], ap, arith, drop, eqb, length, length-append, sym, take}
 use Rattle.std.proofs.lemmas.List.{length-drop, length-take-le}
 use Rattle.std.proofs.lemmas.List.Elements.{length_all_zip}
 use Rattle.std.specs.List.{replace_range}
-use Rattle.thin_vec.specs.Replacing.{MovesAtMost}
 use Rattle.thin_vec.proofs.ClonesLemmas.{not-all}
 use Rattle.thin_vec.proofs.ReplacingLemmas.{at-most-if, at-most-le, at-most-more, if-le, put-and-gone}
 use Rattle.thin_vec.proofs.list.ThinVec.insert_clones_reserved.Goals as goal
@@ -39,8 +38,8 @@ returns-then-placed-items-clause-succeeds g c = λ all. absurd
 pub returns-then-placed-items-clause-err_items : goal.returns-then-placed-items-clause-err_items
 returns-then-placed-items-clause-err_items g c =
     c.drop_range.ensures.items
-    ∙ put-and-gone c.args.self.now.items c.fill_from_clones-placed.ensures.front.0
-    c.close.new.self.items c.args.at c.fill_from_clones-placed.result c.requires.in_bounds
+    ∙ put-and-gone c.args.self.now.items c.fill_from_clones-placed.ensures.front.0 c.args.at
+    c.requires.in_bounds
     (count g c) (closed g c)
 
 pub returns-then-placed-items-clause-refused : goal.returns-then-placed-items-clause-refused

@@ -1,8 +1,9 @@
 -- The items from the index on make room, and the value goes in.
-use Rattle.std.proofs.Common.{◌+◌, ◌-◌, ap, ◌∙◌, length, arith, refl}
+use Rattle.std.proofs.Common.{Some, ◌+◌, ◌-◌, ap, ◌∙◌, length, arith, refl}
+use lib.ListN.{set}
 use Rattle.std.specs.Prelude.{insert}
 use Rattle.thin_vec.proofs.ListLemmas.{Settled, thin-filled}
-use Rattle.thin_block.specs.Slots.{items_in}
+use Rattle.thin_block.specs.Slots.{items_in, slot}
 use Rattle.thin_vec.proofs.ThinVecLemmas.{within-kept}
 use Rattle.thin_vec.proofs.list.ThinVec.insert_reserved.Goals.{After-put_and_store}
 use Rattle.thin_vec.proofs.EditsLemmas.{settle-insert, thin-gap}
@@ -23,8 +24,8 @@ move_run-requires-clause-filled g c = λ j low high.
 
 pub put_and_store-requires-clause-empty : goal.put_and_store-requires-clause-empty
 put_and_store-requires-clause-empty g c =
-    thin-gap c.self.inside.block c.self.inside.alloc c.args.index _ _
-    c.move_run.new.self.slots c.self.invariant
+    ap (λ s. slot s c.args.index) c.move_run.ensures.slots
+    ∙ thin-gap c.self.invariant c.args.index
     (omega (arith, c.requires.in_bounds, ap (λ v. length v.items) c.self.view_is))
     (omega (
       arith,
@@ -33,14 +34,13 @@ put_and_store-requires-clause-empty g c =
       ap (λ v. length v.items) c.self.view_is,
       ap (λ v. v.capacity) c.self.view_is,
     ))
-    refl (ap (λ n. n - c.args.index) c.len-len.ensures.value) c.move_run.ensures.slots
+    refl (ap (λ n. n - c.args.index) c.len-len.ensures.value)
 
 facts : (g : _) (c : After-put_and_store g) → Settled c.put_and_store.new.self c.self.inside.alloc
     (insert (items_in c.self.inside.block.slots) c.args.index c.args.value)
     (length c.self.inside.block.slots)
 facts g c =
-    settle-insert c.self.inside.block c.put_and_store.new.self c.self.inside.alloc c.args.index _ _
-    c.args.value c.move_run.new.self.slots c.self.invariant
+    settle-insert c.self.invariant c.put_and_store.new.self c.args.index c.args.value
     (omega (arith, c.requires.in_bounds, ap (λ v. length v.items) c.self.view_is))
     (omega (
       arith,
@@ -49,10 +49,12 @@ facts g c =
       ap (λ v. length v.items) c.self.view_is,
       ap (λ v. v.capacity) c.self.view_is,
     ))
-    refl (ap (λ n. n - c.args.index) c.len-len.ensures.value) c.move_run.ensures.slots
-    c.put_and_store.ensures.slots
-    (c.put_and_store.ensures.len ∙ ap (λ n. n + 1) c.len-len.ensures.value)
-    (c.put_and_store.ensures.alloc ∙ c.move_run.ensures.alloc)
+    refl (ap (λ n. n - c.args.index) c.len-len.ensures.value) (record {
+      slots = c.put_and_store.ensures.slots
+          ∙ ap (λ s. set s c.args.index (Some c.args.value)) c.move_run.ensures.slots;
+      len = c.put_and_store.ensures.len ∙ ap (λ n. n + 1) c.len-len.ensures.value;
+      alloc = c.put_and_store.ensures.alloc ∙ c.move_run.ensures.alloc;
+    })
 
 pub invariant_of-self : goal.invariant_of-self
 invariant_of-self g c = (facts g c).thin

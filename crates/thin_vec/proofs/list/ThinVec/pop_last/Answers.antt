@@ -30,10 +30,12 @@ facts : (g : _) (c : goal.After-store_len g) → Settled c.store_len.new.self c.
     (take (c.len-last.result - 1) (items_in c.self.inside.block.slots))
     (length c.self.inside.block.slots)
 facts g c =
-    settle-pop c.self.inside.block c.store_len.new.self c.self.inside.alloc c.take-value.result
-    (c.len-last.result - 1) c.self.invariant (stored g c)
-    c.take-value.ensures.value (c.store_len.ensures.slots ∙ c.take-value.ensures.slots)
-    c.store_len.ensures.len (c.store_len.ensures.alloc ∙ c.take-value.ensures.alloc)
+    settle-pop c.self.invariant c.store_len.new.self c.take-value.result (c.len-last.result - 1)
+    (stored g c) c.take-value.ensures.value (record {
+      slots = c.store_len.ensures.slots ∙ c.take-value.ensures.slots;
+      len = c.store_len.ensures.len;
+      alloc = c.store_len.ensures.alloc ∙ c.take-value.ensures.alloc;
+    })
 
 pub invariant_of-self : goal.invariant_of-self
 invariant_of-self g c = (facts g c).thin

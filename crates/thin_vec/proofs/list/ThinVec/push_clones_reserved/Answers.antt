@@ -11,14 +11,10 @@ facts : (g : _) (c : goal.After-set_len g) → Settled c.set_len.new.self c.self
     (items_in c.self.inside.block.slots ++ c.put_clones-placed.ensures.slots.copies)
     (length c.self.inside.block.slots)
 facts g c =
-    let b = c.self.inside.block in
     let put = c.put_clones-placed.ensures in
-    let placed = c.put_clones-placed.result in
     let len = c.len-len in
-    let many = length-copies g.T.Clone.is_clone c.args.items.now placed len.result b.slots
-    c.put_clones-placed.new.block.slots put.in_bounds put.slots in
-    settle-more b c.set_len.new.self c.self.inside.alloc put.slots.copies len.result
-    c.self.invariant len.ensures.value
+    let many = length-copies put.slots put.in_bounds in
+    settle-more c.self.invariant c.set_len.new.self put.slots.copies len.result len.ensures.value
     (omega (
       arith,
       c.requires.room,
@@ -29,8 +25,11 @@ facts g c =
       ap (λ v. length v.items) c.self.view_is,
       ap (λ v. v.capacity) c.self.view_is,
     ))
-    (c.set_len.ensures.slots ∙ put.slots.slots) (omega (arith, c.set_len.ensures.len, many))
-    (c.set_len.ensures.alloc ∙ put.alloc)
+    (record {
+      slots = c.set_len.ensures.slots ∙ put.slots.slots;
+      len = omega (arith, c.set_len.ensures.len, many);
+      alloc = c.set_len.ensures.alloc ∙ put.alloc;
+    })
 
 pub invariant_of-self : goal.invariant_of-self
 invariant_of-self g c = (facts g c).thin

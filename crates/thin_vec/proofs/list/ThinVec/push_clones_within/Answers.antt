@@ -4,7 +4,7 @@ use Rattle.std.proofs.lemmas.List.{length_push}
 use Rattle.std.proofs.lemmas.List.Elements.{all_zip_more}
 use Rattle.std.specs.Prelude.{slice_range}
 use Rattle.thin_block.specs.Cost.{moving}
-use Rattle.thin_vec.proofs.ClonesLemmas.{moving-one}
+use Rattle.thin_vec.proofs.FiltersLemmas.{moving-more}
 use Rattle.thin_vec.proofs.WithinLemmas.{get-range, length-range}
 use Rattle.thin_vec.proofs.list.ThinVec.push_clones_within.Goals as goal
 
@@ -30,6 +30,6 @@ loop-i-preserved g c =
       len = ap length pushed.items ∙ (length_push _ y ∙ omega (arith, was.len));
       capacity = pushed.capacity ∙ was.capacity;
       alloc = pushed.alloc ∙ was.alloc;
-      cost = pushed.cost ∙ (ap (λ d. moving 1 d) was.cost ∙ moving-one i c.args.self.now.cost);
+      cost = pushed.cost ∙ (ap (λ d. moving 1 d) was.cost ∙ moving-more 1 i c.args.self.now.cost);
       within = pushed.within.1;
     }

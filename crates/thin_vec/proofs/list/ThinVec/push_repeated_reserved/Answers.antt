@@ -1,5 +1,5 @@
 -- The clones lie behind the items.
-use Rattle.std.proofs.Common.{◌≡◌, ◌++◌, ap, arith, length, replicate, ◌∙◌}
+use Rattle.std.proofs.Common.{◌≡◌, ◌++◌, ap, arith, length, ◌∙◌}
 use Rattle.std.proofs.lemmas.List.{length-replicate}
 use Rattle.thin_block.specs.Slots.{items_in}
 use Rattle.thin_vec.proofs.ClonesLemmas.{all-repeated, length-copies}
@@ -12,20 +12,16 @@ many : (g : _) (c : goal.After-set_len g) → length c.put_repeated-placed.ensur
     ≡ c.put_repeated-placed.result
 many g c =
     let put = c.put_repeated-placed.ensures in
-    let x = c.args.value.now in
-    length-copies g.T.Clone.is_clone (replicate c.args.count x) c.put_repeated-placed.result
-    c.len-len.result c.self.inside.block.slots c.put_repeated-placed.new.block.slots
-    (omega (arith, put.in_bounds, length-replicate c.args.count x)) put.slots
+    length-copies put.slots
+    (omega (arith, put.in_bounds, length-replicate c.args.count c.args.value.now))
 
 facts : (g : _) (c : goal.After-set_len g) → Settled c.set_len.new.self c.self.inside.alloc
     (items_in c.self.inside.block.slots ++ c.put_repeated-placed.ensures.slots.copies)
     (length c.self.inside.block.slots)
 facts g c =
-    let b = c.self.inside.block in
     let put = c.put_repeated-placed.ensures in
     let len = c.len-len in
-    settle-more b c.set_len.new.self c.self.inside.alloc put.slots.copies len.result
-    c.self.invariant len.ensures.value
+    settle-more c.self.invariant c.set_len.new.self put.slots.copies len.result len.ensures.value
     (omega (
       arith,
       c.requires.room,
@@ -36,8 +32,11 @@ facts g c =
       ap (λ v. length v.items) c.self.view_is,
       ap (λ v. v.capacity) c.self.view_is,
     ))
-    (c.set_len.ensures.slots ∙ put.slots.slots) (omega (arith, c.set_len.ensures.len, many g c))
-    (c.set_len.ensures.alloc ∙ put.alloc)
+    (record {
+      slots = c.set_len.ensures.slots ∙ put.slots.slots;
+      len = omega (arith, c.set_len.ensures.len, many g c);
+      alloc = c.set_len.ensures.alloc ∙ put.alloc;
+    })
 
 pub invariant_of-self : goal.invariant_of-self
 invariant_of-self g c = (facts g c).thin

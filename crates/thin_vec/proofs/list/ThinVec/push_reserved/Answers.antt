@@ -9,8 +9,8 @@ facts : (g : _) (c : goal.After-put_and_store g)
     → Settled c.put_and_store.new.self c.self.inside.alloc
     (items_in c.self.inside.block.slots ++ c.args.value ∷ []) (length c.self.inside.block.slots)
 facts g c =
-    settle-push c.self.inside.block c.put_and_store.new.self c.self.inside.alloc c.args.value
-    c.len-len.result c.self.invariant c.len-len.ensures.value
+    settle-push c.self.invariant c.put_and_store.new.self c.args.value c.len-len.result
+    c.len-len.ensures.value
     (omega (
       arith,
       c.requires.room,
@@ -19,7 +19,11 @@ facts g c =
       ap (λ v. length v.items) c.self.view_is,
       ap (λ v. v.capacity) c.self.view_is,
     ))
-    c.put_and_store.ensures.slots c.put_and_store.ensures.len c.put_and_store.ensures.alloc
+    (record {
+      slots = c.put_and_store.ensures.slots;
+      len = c.put_and_store.ensures.len;
+      alloc = c.put_and_store.ensures.alloc;
+    })
 
 pub invariant_of-self : goal.invariant_of-self
 invariant_of-self g c = (facts g c).thin

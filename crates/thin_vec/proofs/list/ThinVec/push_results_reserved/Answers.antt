@@ -10,11 +10,9 @@ facts : (g : _) (c : goal.After-set_len g) → Settled c.set_len.new.self c.self
     (items_in c.self.inside.block.slots ++ c.put_results.ensures.slots.0)
     (length c.self.inside.block.slots)
 facts g c =
-    let b = c.self.inside.block in
     let put = c.put_results.ensures in
     let len = c.len-len in
-    settle-more b c.set_len.new.self c.self.inside.alloc put.slots.0 len.result
-    c.self.invariant len.ensures.value
+    settle-more c.self.invariant c.set_len.new.self put.slots.0 len.result len.ensures.value
     (omega (
       arith,
       c.requires.room,
@@ -24,8 +22,11 @@ facts g c =
       ap (λ v. length v.items) c.self.view_is,
       ap (λ v. v.capacity) c.self.view_is,
     ))
-    (c.set_len.ensures.slots ∙ put.slots.4)
-    (omega (arith, c.set_len.ensures.len, put.slots.2)) (c.set_len.ensures.alloc ∙ put.alloc)
+    (record {
+      slots = c.set_len.ensures.slots ∙ put.slots.4;
+      len = omega (arith, c.set_len.ensures.len, put.slots.2);
+      alloc = c.set_len.ensures.alloc ∙ put.alloc;
+    })
 
 pub invariant_of-self : goal.invariant_of-self
 invariant_of-self g c = (facts g c).thin

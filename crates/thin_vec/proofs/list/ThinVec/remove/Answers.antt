@@ -2,7 +2,7 @@
 use Rattle.std.proofs.Common.{◌+◌, ◌-◌, ap, ◌∙◌, length, arith, refl}
 use Rattle.std.specs.Prelude.{remove}
 use Rattle.thin_vec.proofs.ListLemmas.{Settled, thin-filled, thin-get, kept-filled}
-use Rattle.thin_block.specs.Slots.{items_in}
+use Rattle.thin_block.specs.Slots.{items_in, moved}
 use Rattle.thin_vec.proofs.ThinVecLemmas.{within-kept}
 use Rattle.thin_vec.proofs.list.ThinVec.remove.Goals.{After-store_len}
 use Rattle.thin_vec.proofs.EditsLemmas.{settle-remove}
@@ -33,13 +33,16 @@ returns-clause-value g c =
 facts : (g : _) (c : After-store_len g) → Settled c.store_len.new.self c.self.inside.alloc
     (remove (items_in c.self.inside.block.slots) c.args.index) (length c.self.inside.block.slots)
 facts g c =
-    settle-remove c.self.inside.block c.store_len.new.self c.self.inside.alloc c.args.index _ _
-    c.take-value.new.self.slots c.self.invariant
+    let behind = c.len-len.result - (c.args.index + 1) in
+    settle-remove c.self.invariant c.store_len.new.self c.args.index
     (omega (arith, c.requires.in_bounds, ap (λ v. length v.items) c.self.view_is)) refl
-    (ap (λ n. n - (c.args.index + 1)) c.len-len.ensures.value)
-    c.take-value.ensures.slots (c.store_len.ensures.slots ∙ c.move_down.ensures.slots)
-    (c.store_len.ensures.len ∙ ap (λ n. n - 1) c.len-len.ensures.value)
-    (c.store_len.ensures.alloc ∙ (c.move_down.ensures.alloc ∙ c.take-value.ensures.alloc))
+    (ap (λ n. n - (c.args.index + 1)) c.len-len.ensures.value) (record {
+      slots = c.store_len.ensures.slots ∙ (c.move_down.ensures.slots
+          ∙ ap (λ s. moved (c.args.index + 1) c.args.index behind s) c.take-value.ensures.slots);
+      len = c.store_len.ensures.len ∙ ap (λ n. n - 1) c.len-len.ensures.value;
+      alloc = c.store_len.ensures.alloc
+          ∙ (c.move_down.ensures.alloc ∙ c.take-value.ensures.alloc);
+    })
 
 pub invariant_of-self : goal.invariant_of-self
 invariant_of-self g c = (facts g c).thin

@@ -1,11 +1,11 @@
 -- The clones lie after the range and after the list until all are made.
-use Rattle.std.proofs.Common.{if◌then◌else◌, ◌≡◌, ◌+◌, ◌-◌, ◌≤◌, ◌++◌, ◌∙◌, ap, arith, eqb, length, length-append, min, subst, sym}
+use Rattle.std.proofs.Common.{if◌then◌else◌, ◌≡◌, ◌+◌, ◌-◌, ◌≤◌, ◌++◌, ◌∙◌, ap, arith, eqb, length, length-append, subst, sym}
 use Rattle.std.proofs.lemmas.List.Elements.{length_all_zip}
-use Rattle.std.specs.List.{AllZip, replace_range}
+use Rattle.std.specs.List.{AllZip}
 use Rattle.thin_block.specs.Cost.{moving}
-use Rattle.thin_vec.specs.Replacing.{MovesAtMost, ReplacesByClones}
+use Rattle.thin_vec.specs.Replacing.{MovesAtMost}
 use Rattle.thin_vec.proofs.FillingLemmas.{any-err, moving-add}
-use Rattle.thin_vec.proofs.ReplacingLemmas.{all_zip-append, at-most-le, at-most-more, brought-in, cloning-moves, if-le, put-and-gone, replaced-length}
+use Rattle.thin_vec.proofs.ReplacingLemmas.{IsParted, all_zip-append, at-most-le, at-most-more, brought-in, cloning-moves, if-le, put-and-gone, replaced-length}
 use Rattle.thin_vec.proofs.list.ThinVec.replace_reserved_by_clones.Goals as goal
 
 pub returns-in_err-insert_clones_reserved-clause-refused :
@@ -45,8 +45,7 @@ pub returns-in-Err-clause-err_items : goal.returns-in-Err-clause-err_items
 returns-in-Err-clause-err_items g c =
     let put = c.in_ok-insert_clones_reserved.ensures.items in
     c.drop_range.ensures.items
-    ∙ put-and-gone c.args.self.now.items put.copies c.extend_from_slice_reserved.new.self.items
-    c.args.end (length c.split_at.result.1.now) c.requires.in_bounds
+    ∙ put-and-gone c.args.self.now.items put.copies c.args.end c.requires.in_bounds
     (sym (length_all_zip g.T.Clone.is_clone c.split_at.result.1.now put.copies put.cloned))
     (c.in-Err.ensures.err_items ∙ put.items)
 
@@ -107,9 +106,8 @@ returns-clause-items g c =
           more.0 put.copies more.2 put.cloned);
       items =
           c.replace_by_last.ensures.items
-          ∙ brought-in c.args.self.now.items more.0 put.copies
-          c.extend_from_slice_reserved.new.self.items c.args.start c.args.end
-          (length c.split_at.result.0.now) c.requires.start_le_end c.requires.in_bounds
+          ∙ brought-in c.args.self.now.items c.args.start c.args.end c.requires.start_le_end
+          c.requires.in_bounds more.0 put.copies
           (sym (length_all_zip g.T.Clone.is_clone c.split_at.result.0.now more.0 more.2))
           (more.1 ∙ ap (λ l. l ++ more.0) put.items);
     }
@@ -131,12 +129,14 @@ returns-clause-cost g c =
           c.split_at.result.1.now c.insert_clones_reserved.new.self.items c.requires.in_bounds
           c.in_ok-insert_clones_reserved.ensures.items,
     ) in
-    let first : k1 ≡ min (length c.args.items.now) (c.args.end - c.args.start) =
-    omega (arith, c.split_at.ensures.front_len, c.min.ensures) in
-    let sum = cloning-moves (length c.args.items.now) (c.args.end - c.args.start)
-    (n - c.args.end) k1 k2 (w - k1 - c.args.end) (c.args.end - c.args.end) (omega arith) first
-    (omega (arith, c.split_at.ensures.back_len, c.split_at.ensures.front_len))
-    (omega (arith, all, c.requires.in_bounds)) in
+    let parted : IsParted (length c.args.items.now) (c.args.end - c.args.start) k1 k2 = record {
+      first = omega (arith, c.split_at.ensures.front_len, c.min.ensures);
+      all = omega (arith, c.split_at.ensures.back_len, c.split_at.ensures.front_len);
+    } in
+    let none : c.args.end - c.args.end ≡ 0 = omega arith in
+    let past : w - k1 - c.args.end ≡ n - c.args.end + k2 =
+    omega (arith, all, c.requires.in_bounds) in
+    let sum = cloning-moves parted (n - c.args.end) none past in
     c.replace_by_last.ensures.cost
     ∙ (ap (λ q. moving (k1 + (if eqb k1 (c.args.end - c.args.start) then 0
     else w - k1 - c.args.end)) q)

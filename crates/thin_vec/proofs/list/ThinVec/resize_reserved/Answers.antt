@@ -7,7 +7,7 @@ use Rattle.thin_vec.proofs.list.ThinVec.resize_reserved.Goals as goal
 pub returns-clause-items_if_clones_equal : goal.returns-clause-items_if_clones_equal
 returns-clause-items_if_clones_equal g c = λ equal.
     let placed = c.push_repeated_reserved in
-    equal-repeated g.T.Clone.is_clone c.args.value placed.result c.args.count _ _ _ equal
+    equal-repeated g.T.Clone.is_clone placed.result c.args.count equal
     placed.ensures.items c.push_reserved.ensures.items
     (omega (
       arith,

@@ -9,7 +9,6 @@ returns-in-Some-clause-grown g c =
     let want = c.in-Some.ensures in
     let cap = c.capacity.ensures.value in
     let len = c.len.ensures.value in
-    grows-rule g.G.Growth.rule (param 0 g.row.T) c.capacity.result _ c.in-Some.want _
-    c.next_capacity.result g.met.G.Growth.law
-    (omega (arith, want, c.requires.more)) (omega (arith, want)) c.next_capacity.ensures.value
-    cap (omega (arith, want))
+    grows-rule g.G.Growth.rule g.met.G.Growth.law (param 0 g.row.T) c.in-Some.want
+    c.next_capacity.ensures.value cap (omega (arith, want))
+    (omega (arith, want, c.requires.more)) (omega (arith, want))

@@ -12,8 +12,7 @@ use Rattle.thin_vec.proofs.list.ThinVec.shrink_block.Goals as goal
 facts : (g : _) (c : In_ok-shrink g) → Settled c.shrink.new.self c.self.inside.alloc
     (items_in c.self.inside.block.slots) c.args.cap
 facts g c =
-    settle-shrink c.self.inside.block c.shrink.new.self c.self.inside.alloc
-    c.args.cap c.self.invariant
+    settle-shrink c.self.invariant c.args.cap
     (omega (arith, c.requires.room, ap (λ v. length v.items) c.self.view_is))
     (omega (arith, c.requires.smaller, ap (λ v. v.capacity) c.self.view_is))
     c.in_ok-shrink.ensures.slots

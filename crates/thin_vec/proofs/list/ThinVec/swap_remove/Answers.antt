@@ -28,8 +28,8 @@ facts : (g : _) (c : goal.After-store_len g)
     c.args.index c.take_replacing-value.result) (length c.self.inside.block.slots)
 facts g c =
     let long = ap (λ v. length v.items) c.self.view_is in
-    settle-replaced c.self.inside.block c.store_len.new.self c.self.inside.alloc c.args.index
-    (c.len-last.result - 1) c.take_replacing-value.result c.self.invariant
+    settle-replaced c.self.invariant c.store_len.new.self c.args.index (c.len-last.result - 1)
+    c.take_replacing-value.result
     (omega (
       arith,
       c.requires.in_bounds,
@@ -45,8 +45,11 @@ facts g c =
       long,
     ))
     c.take_replacing-value.ensures.value
-    (c.store_len.ensures.slots ∙ c.take_replacing-value.ensures.slots) c.store_len.ensures.len
-    (c.store_len.ensures.alloc ∙ c.take_replacing-value.ensures.alloc)
+    (record {
+      slots = c.store_len.ensures.slots ∙ c.take_replacing-value.ensures.slots;
+      len = c.store_len.ensures.len;
+      alloc = c.store_len.ensures.alloc ∙ c.take_replacing-value.ensures.alloc;
+    })
 
 pub invariant_of-self : goal.invariant_of-self
 invariant_of-self g c = (facts g c).thin

@@ -2,9 +2,9 @@
 use Rattle.std.proofs.Common.{◌≡◌, ◌≤◌, sym, ap, ◌∙◌, length, take, arith, None}
 use lib.ListN.{set}
 use Rattle.thin_block.specs.Slots.{front}
-use Rattle.thin_vec.proofs.EditsLemmas.{emptying, emptying-none, emptying-filled, emptying-take, settle-truncate}
-use Rattle.thin_vec.proofs.ListLemmas.{Settled, thin-room}
-use Rattle.std.proofs.lemmas.List.{length-take}
+use Rattle.thin_vec.proofs.EditsLemmas.{emptying, emptying-none, emptying-filled, emptying-take, emptying-all}
+use Rattle.thin_vec.proofs.ListLemmas.{Settled, settled, thin-room}
+use Rattle.std.proofs.lemmas.List.{length-take, length-take-le}
 use Rattle.thin_vec.proofs.ThinVecLemmas.{within-like, within-of}
 use Rattle.thin_vec.proofs.list.ThinVec.truncate.Goals as goal
 
@@ -64,9 +64,13 @@ facts g c =
       ap (λ w. length w.items) c.self.view_is,
       ap (λ w. w.capacity) c.self.view_is,
     ) in
-    settle-truncate c.loop-i.self-inside.block c.loop-i.self-inside.alloc v.items c.args.len
-    v.capacity (omega (arith, n, c.if-len-old.false)) room
-    (h.slots ∙ ap (λ k. emptying v.items c.args.len k v.capacity) end) h.len h.from
+    let order : c.args.len ≤ length v.items = omega (arith, n, c.if-len-old.false) in
+    let few = length-take-le c.args.len v.items order in
+    settled c.loop-i.self-inside.block c.loop-i.self-inside.alloc (take c.args.len v.items)
+    v.capacity
+    (h.slots ∙ (ap (λ k. emptying v.items c.args.len k v.capacity) end
+    ∙ emptying-all v.items c.args.len v.capacity order room))
+    (h.len ∙ sym few) (omega (arith, few, order, room)) h.from
 
 pub invariant_of-self : goal.invariant_of-self
 invariant_of-self g c = (facts g c).thin

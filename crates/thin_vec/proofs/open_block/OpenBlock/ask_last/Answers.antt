@@ -18,7 +18,7 @@ facts : (g : _) (c : goal.After-self-1 g) → WrittenLast c.self.inside
 facts g c =
     write-last-step c.self.inside c.self.invariant
     (with_item c.self.inside.block (c.self.inside.front_end - 1) c.ask.new.kept)
-    c.slot_mut.result.now c.ask.new.kept refl refl
+    c.ask.new.kept (refl, refl)
     (omega (arith, c.requires.some, ap (λ v. length v.front) c.self.view_is))
     c.slot_mut.ensures.value refl
 

@@ -5,7 +5,7 @@ use Rattle.std.proofs.Common.{◌++◌, ◌∷◌, Some}
 use lib.ListN.{set}
 use Rattle.thin_block.specs.Lends.{with_item}
 use Rattle.thin_block.specs.Slots.{slot}
-use Rattle.thin_vec.proofs.FiltersLemmas.{nothing}
+use Rattle.std.proofs.lemmas.List.{nil_from_length}
 use Rattle.thin_vec.proofs.OpenBlockLemmas.{rest-filled}
 use Rattle.thin_vec.proofs.SiftingLemmas.{Written, write-step}
 use Rattle.thin_vec.proofs.open_block.OpenBlock.ask_next.Goals as goal
@@ -41,7 +41,7 @@ invariant_of-self g c = (facts g c).shown.lies
 pub returns-clause-asked : goal.returns-clause-asked
 returns-clause-asked g c =
     let f = facts g c in
-    let none = nothing f.pre f.place in
+    let none = nil_from_length f.pre f.place in
     record {
       later = c.slot_mut.result.now;
       later_left = c.ask.new.later;

@@ -25,9 +25,9 @@ facts : (g : _) (c : goal.After-ask_neighbours g) → WrittenTwo c.self.inside c
     c.ask_neighbours.ensures.asked.later_left
 facts g c =
     let a = c.ask_neighbours.ensures.asked in
-    write-two-step c.self.inside c.self.invariant (c.args.k - 1) c.ask_neighbours.new.block a.kept
-    a.later a.kept_left a.later_left c.ask_neighbours.ensures.alloc
-    c.ask_neighbours.ensures.cost
+    write-two-step c.self.inside c.self.invariant c.ask_neighbours.new.block
+    c.ask_neighbours.ensures.alloc c.ask_neighbours.ensures.cost (c.args.k - 1) a.kept_left
+    a.later_left
     (omega (arith, c.requires.in_bounds, c.requires.some, ap (λ v. length v.rest) c.self.view_is))
     a.first a.second a.now
 

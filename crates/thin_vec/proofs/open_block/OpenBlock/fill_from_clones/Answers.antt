@@ -9,9 +9,7 @@ use Rattle.thin_vec.proofs.open_block.OpenBlock.fill_from_clones.Goals as goal
 count : (g : _) (c : goal.After-self-1 g)
     → length c.put_clones-placed.ensures.slots.copies ≡ c.put_clones-placed.result
 count g c =
-    length-copies g.T.Clone.is_clone c.args.items.now c.put_clones-placed.result
-    c.self.inside.front_end c.self.inside.block.slots c.put_clones-placed.new.block.slots
-    c.put_clones-placed.ensures.in_bounds c.put_clones-placed.ensures.slots
+    length-copies c.put_clones-placed.ensures.slots c.put_clones-placed.ensures.in_bounds
 
 facts : (g : _) (c : goal.After-self-1 g)
     → Found (record {

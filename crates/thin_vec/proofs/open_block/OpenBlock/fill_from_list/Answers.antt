@@ -68,10 +68,12 @@ facts g c =
 cut : (g : _) (c : goal.After-self-1 g) → Settled c.set_len.new.self c.other.inside.alloc
     (take 0 (items_in c.other.inside.block.slots)) (length c.other.inside.block.slots)
 cut g c =
-    settle-cut c.other.inside.block c.set_len.new.self c.other.inside.alloc 0 c.len-count.result
-    c.other.invariant (omega arith) (omega (arith, c.len-count.ensures.value))
-    (c.set_len.ensures.slots ∙ c.move_run_to.ensures.slots) c.set_len.ensures.len
-    (c.set_len.ensures.alloc ∙ c.move_run_to.ensures.alloc)
+    settle-cut c.other.invariant c.set_len.new.self 0 {k = c.len-count.result} (omega arith)
+    (omega (arith, c.len-count.ensures.value)) (record {
+      slots = c.set_len.ensures.slots ∙ c.move_run_to.ensures.slots;
+      len = c.set_len.ensures.len;
+      alloc = c.set_len.ensures.alloc ∙ c.move_run_to.ensures.alloc;
+    })
 
 pub invariant_of-self : goal.invariant_of-self
 invariant_of-self g c = (facts g c).lies

@@ -1,8 +1,8 @@
 -- The last slots of the tail are filled, and their items then lie after the front.
-use Rattle.std.proofs.Common.{◌≡◌, ◌-◌, ◌≤◌, ◌++◌, ◌∙◌, ap, arith, drop, length, rules, take}
+use Rattle.std.proofs.Common.{◌≡◌, ◌-◌, ◌≤◌, ◌++◌, ◌∙◌, ap, arith, drop, length, take}
 use Rattle.thin_block.specs.Cost.{moving}
 use Rattle.thin_vec.specs.OpenBlock.{open_of}
-use Rattle.thin_vec.proofs.OpenBlockLemmas.{Found, before-empty, tail-filled}
+use Rattle.thin_vec.proofs.OpenBlockLemmas.{Found, tail-filled}
 use Rattle.thin_vec.proofs.ReplacingLemmas.{bring-step, brought, brought-seen}
 use Rattle.thin_vec.proofs.open_block.OpenBlock.lower_last.Goals as goal
 

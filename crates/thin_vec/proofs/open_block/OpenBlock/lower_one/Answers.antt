@@ -1,5 +1,6 @@
 -- The first slot of the middle run is filled, and its item then lies behind the front.
-use Rattle.std.proofs.Common.{◌≤◌, ◌++◌, ap, ◌∙◌, arith, length, take, drop, rules, ◌≡◌}
+use Rattle.std.proofs.Common.{Some, ◌≤◌, ◌++◌, ap, ◌∙◌, arith, length, take, drop, rules, ◌≡◌}
+use lib.ListN.{set}
 use Rattle.thin_block.specs.Cost.{moving}
 use Rattle.thin_vec.specs.OpenBlock.{open_of}
 use Rattle.thin_vec.proofs.OpenBlockLemmas.{Found, rest-filled}
@@ -26,8 +27,9 @@ facts g c =
     omega (arith, c.requires.some, ap (λ v. length v.rest) c.self.view_is) in
     lower-one-step c.self.inside c.self.invariant some
     (omega (arith, c.requires.gap, ap (λ v. v.before) c.self.view_is))
-    c.put.new.self c.take-value.result c.take-value.new.self.slots
-    c.take-value.ensures.value c.take-value.ensures.slots c.put.ensures.slots
+    c.put.new.self c.take-value.ensures.value
+    (c.put.ensures.slots ∙ ap (λ s. set s c.self.inside.front_end (Some c.take-value.result))
+    c.take-value.ensures.slots)
     (c.put.ensures.alloc ∙ c.take-value.ensures.alloc)
 
 pub invariant_of-self : goal.invariant_of-self

@@ -1,6 +1,7 @@
 -- Some first items stay; then none is left, or one goes and all behind it were asked about.
 use Rattle.std.proofs.Common.{◌≡◌, [], ap, sym, ◌∙◌, arith, rules}
-use Rattle.thin_vec.proofs.FiltersLemmas.{nothing, sifted-ends, sifted-goes}
+use Rattle.std.proofs.lemmas.List.{nil_from_length}
+use Rattle.thin_vec.proofs.FiltersLemmas.{sifted-ends, sifted-goes}
 use Rattle.thin_vec.proofs.open_block.OpenBlock.sift.Goals as goal
 
 pub returns-then-rest_len-gt0 : goal.returns-then-rest_len-gt0
@@ -21,7 +22,7 @@ pub returns-else-rest_len-gt0 : goal.returns-else-rest_len-gt0
 returns-else-rest_len-gt0 g c =
     let R = g.J.Asks.asks in
     let run = c.ask_run-first in
-    let none : c.pass.new.self.rest ≡ [] = nothing c.pass.new.self.rest
+    let none : c.pass.new.self.rest ≡ [] = nil_from_length c.pass.new.self.rest
     (omega (arith, c.rest_len.ensures.value, c.if-rest_len-gt0.false)) in
     record {
       sifted = sifted-ends R c.args.self.now c.pass.new.self run.result c.args.judge.now

@@ -11,15 +11,11 @@ loop-self-init g c =
 
 pub loop-self-preserved : goal.loop-self-preserved
 loop-self-preserved g c =
-    let l = c.loop-self in
     record {
-      sifts = sifts-then g.J.Asks.asks c.args.judge.now l.judge c.sift_two.new.judge
-          c.args.self.now l.self c.sift_two.new.self l.invariant.sifts c.sift_two.ensures.sifts;
+      sifts = sifts-then g.J.Asks.asks c.loop-self.invariant.sifts c.sift_two.ensures.sifts;
       ready = c.sift_two.ensures.ready;
     }
 
 pub returns-clause-sifts : goal.returns-clause-sifts
 returns-clause-sifts g c =
-    let l = c.loop-self in
-    sifts-then g.J.Asks.asks c.args.judge.now l.judge c.sift_last.new.judge c.args.self.now l.self
-    c.sift_last.new.self l.invariant.sifts c.sift_last.ensures.sifts
+    sifts-then g.J.Asks.asks c.loop-self.invariant.sifts c.sift_last.ensures.sifts

@@ -1,7 +1,8 @@
 -- The last item goes, or stays, or there was none: nothing is left to ask about.
 use Rattle.std.proofs.Common.{◌∙◌, ap, arith, length, sym}
 use Rattle.std.proofs.lemmas.Bool.{false≢true}
-use Rattle.thin_vec.proofs.FiltersLemmas.{advanced-count, advanced-ends, advanced-goes, none-left, nothing}
+use Rattle.std.proofs.lemmas.List.{nil_from_length}
+use Rattle.thin_vec.proofs.FiltersLemmas.{advanced-count, advanced-ends, advanced-goes, none-left}
 use Rattle.thin_vec.proofs.open_block.OpenBlock.sift_last.Goals as goal
 
 -- an item goes
@@ -24,5 +25,5 @@ pub returns-then-advance_last-clause-rest : goal.returns-then-advance_last-claus
 returns-then-advance_last-clause-rest g c =
     let few = advanced-count g.J.Asks.asks c.args.judge.now c.advance_last.new.judge c.args.self.now
     c.advance_last.new.self c.requires.gap c.advance_last.ensures.advances in
-    nothing c.take_first.new.self.rest
+    nil_from_length c.take_first.new.self.rest
     (omega (arith, few, c.requires.short, ap length c.take_first.ensures.rest))

@@ -13,16 +13,12 @@ loop-self-init g c =
 
 pub loop-self-preserved : goal.loop-self-preserved
 loop-self-preserved g c =
-    let l = c.loop-self in
     record {
-      thins = thins-then g.J.AsksPairs.asks c.args.judge.now l.judge c.thin_two.new.judge
-          c.args.self.now l.self c.thin_two.new.self l.invariant.thins c.thin_two.ensures.thins;
+      thins = thins-then g.J.AsksPairs.asks c.loop-self.invariant.thins c.thin_two.ensures.thins;
       some = c.thin_two.ensures.some;
       ready = c.thin_two.ensures.ready;
     }
 
 pub returns-clause-thins : goal.returns-clause-thins
 returns-clause-thins g c =
-    let l = c.loop-self in
-    thins-then g.J.AsksPairs.asks c.args.judge.now l.judge c.thin_last.new.judge c.args.self.now
-    l.self c.thin_last.new.self l.invariant.thins c.thin_last.ensures.thins
+    thins-then g.J.AsksPairs.asks c.loop-self.invariant.thins c.thin_last.ensures.thins

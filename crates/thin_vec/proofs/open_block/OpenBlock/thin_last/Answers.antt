@@ -11,15 +11,13 @@ returns-then-rest_len-eq0-clause-thins g c =
 -- it goes
 pub returns-then-ask_last-clause-thins : goal.returns-then-ask_last-clause-thins
 returns-then-ask_last-clause-thins g c =
-    thins-goes g.J.AsksPairs.asks c.args.self.now c.ask_last.new.self c.args.judge.now
-    c.ask_last.new.judge c.take_first-later.result c.ask_last.new.later
-    c.ask_last.new.self.front
+    thins-goes g.J.AsksPairs.asks c.args.self.now c.ask_last.new.self
+    c.take_first-later.result c.ask_last.new.later c.ask_last.new.self.front
     (search rules) (search rules) (search rules) (search rules)
 
 -- it stays
 pub returns-clause-thins : goal.returns-clause-thins
 returns-clause-thins g c =
-    thins-stays g.J.AsksPairs.asks c.args.self.now c.put_front.new.self c.args.judge.now
-    c.ask_last.new.judge c.take_first-later.result c.ask_last.new.later
-    c.ask_last.new.self.front
+    thins-stays g.J.AsksPairs.asks c.args.self.now c.put_front.new.self
+    c.take_first-later.result c.ask_last.new.later c.ask_last.new.self.front
     (search rules) (search rules) (search rules) (search rules)

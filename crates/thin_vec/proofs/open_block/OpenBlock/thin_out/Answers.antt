@@ -1,7 +1,7 @@
 -- Some first items stay; then none is left, or one goes and rounds ask about those behind it.
 use Rattle.std.proofs.Common.{◌≡◌, [], sym, ap, ◌∙◌, arith, rules}
 use Rattle.thin_vec.proofs.DedupLemmas.{thinned-ends, thinned-goes}
-use Rattle.thin_vec.proofs.FiltersLemmas.{nothing}
+use Rattle.std.proofs.lemmas.List.{nil_from_length}
 use Rattle.thin_vec.proofs.open_block.OpenBlock.thin_out.Goals as goal
 
 pub returns-then-rest_len-gt0 : goal.returns-then-rest_len-gt0
@@ -20,7 +20,7 @@ returns-then-rest_len-gt0 g c =
 pub returns-else-rest_len-gt0 : goal.returns-else-rest_len-gt0
 returns-else-rest_len-gt0 g c =
     let run = c.ask_pairs-kept in
-    let none : c.pass.new.self.rest ≡ [] = nothing c.pass.new.self.rest
+    let none : c.pass.new.self.rest ≡ [] = nil_from_length c.pass.new.self.rest
     (omega (arith, c.rest_len.ensures.value, c.if-rest_len-gt0.false)) in
     record {
       thinned = thinned-ends g.J.AsksPairs.asks c.args.self.now c.pass.new.self run.result

@@ -1,17 +1,15 @@
 -- A round ends at the first item that goes, or where none is left: a case for each such place.
 use Rattle.std.proofs.Common.{◌≡◌, ◌∷◌, [], ap, false, refl, sym, ◌∙◌, arith, rules}
-use Rattle.std.proofs.lemmas.List.{append-nil}
+use Rattle.std.proofs.lemmas.List.{append-nil, nil_from_length}
 use Rattle.thin_vec.proofs.DedupLemmas.{run-count, run-ends, run-goes, thins-goes, thins-run, thins-two}
-use Rattle.thin_vec.proofs.FiltersLemmas.{nothing}
 use Rattle.std.proofs.lemmas.Grind.{common_steps}
 use Rattle.thin_vec.proofs.open_block.OpenBlock.thin_two.Goals as goal
 
 -- the next item goes
 pub returns-then-ask_last-clause-thins : goal.returns-then-ask_last-clause-thins
 returns-then-ask_last-clause-thins g c =
-    thins-goes g.J.AsksPairs.asks c.args.self.now c.ask_last.new.self c.args.judge.now
-    c.ask_last.new.judge c.take_first-later.result c.ask_last.new.later
-    c.ask_last.new.self.front
+    thins-goes g.J.AsksPairs.asks c.args.self.now c.ask_last.new.self
+    c.take_first-later.result c.ask_last.new.later c.ask_last.new.self.front
     (search rules) (search rules) (search rules) (search rules)
 
 -- it stays, and the one behind it goes
@@ -49,7 +47,7 @@ returns-else-rest_len-gt0-clause-thins g c =
     let r = c.ask_pairs-kept.ensures.asked in
     let w = c.lower.new.self in
     let none : w.rest ≡ [] =
-    nothing w.rest (omega (arith, c.rest_len.ensures.value, c.if-rest_len-gt0.false)) in
+    nil_from_length w.rest (omega (arith, c.rest_len.ensures.value, c.if-rest_len-gt0.false)) in
     let ends = run-ends R c.ask_pairs-kept.result c.ask_next-goes.new.judge
     c.put_front.new.self.rest c.ask_pairs-kept.new.judge c.ask_pairs-kept.new.self.rest r
     (sym (ap (λ v. v.rest) c.lower.ensures) ∙ none) in
