@@ -1,7 +1,10 @@
--- The lemmas; ThinVecLemmas and FiltersLemmas are for callers too.
+-- The lemmas; those in ThinVecLemmas, FiltersLemmas and DedupLemmas are for callers too, those in
+-- UndoLemmas and FewLemmas for them alone.
 mod ListLemmas
 mod CapacityLemmas
 pub mod ThinVecLemmas
+pub mod UndoLemmas
+pub mod FewLemmas
 mod EditsLemmas
 mod ClonesLemmas
 mod LendsLemmas

@@ -49,7 +49,12 @@ impl<T, A: Allocator, G: Growth> Index<usize> for ThinVec<T, A, G> {
 
     ghost index_gives = { λ list index item. (slice_get list.items index ≡ Some item) × (item ≡ slice_index_or list.items index item) };
 
-    fn index(&self, index: usize) -> &T {
+    fn index(&self, index: usize) -> &T
+        requires { index < length self.now.items }
+        ensures value { slice_get self.now.items index ≡ Some result.now }
+        ensures item { result.now ≡ slice_index_or self.now.items index result.now }
+        ensures within { IsWithin T.row self.now }
+    {
         &self.as_slice()[index]
     }
 }

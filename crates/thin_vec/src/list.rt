@@ -108,6 +108,7 @@ impl<T, A: Allocator, G: Growth> ThinVec<T, A, G> {
     /// Whether the list owns a block.
     pub fn has_capacity(&self) -> bool
         ensures value { IsTrue result ↔ (0 < self.now.capacity) }
+        ensures within { IsWithin T.row self.now }
     {
         self.capacity() != 0
     }
@@ -148,6 +149,7 @@ impl<T, A: Allocator, G: Growth> ThinVec<T, A, G> {
     /// The items, in order.
     pub fn as_slice(&self) -> &[T]
         ensures value { result.now ≡ self.now.items }
+        ensures within { IsWithin T.row self.now }
     {
         self.block.slice(0, self.block.len())
     }

@@ -36,6 +36,16 @@ pub fn extend_below<A: Allocator, G: Growth>(
     }
 }
 
+/// Room for eight numbers. So little is no overflow, as a lemma says: the only cause is that memory
+/// was refused.
+#[tactic(auto, using(thin_vec::proofs::FewLemmas::few_items))]
+pub fn room_for_eight<A: Allocator>(alloc: A) -> Result<ThinVec<u64, A>, ThinVecError>
+    ensures capacity { IfOk result (λ list. list.capacity ≡ 8) }
+    ensures cause { IfErr result (λ cause. cause ≡ ThinVecError.OutOfMemory) }
+{
+    ThinVec::with_capacity(alloc, 8)
+}
+
 /// A list of the numbers of both slices, in order.
 pub fn joined<A: Allocator>(
     alloc: A,

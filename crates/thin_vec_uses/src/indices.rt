@@ -1,10 +1,10 @@
-//! Sums of indices, and writes at indices.
+//! Sums of indices, writes at indices, and an item that comes and goes.
 ghost use Rattle.std.specs.List.{swap};
-ghost use Rattle.std.specs.Prelude.{◌≡◌, ◌+◌, ◌<◌, ◌≤◌, length, replicate};
+ghost use Rattle.std.specs.Prelude.{◌≡◌, ◌+◌, ◌<◌, ◌≤◌, IfOk, length, replicate, slice_index};
 ghost use Rattle.thin_vec.specs.ThinVec.{IsWithin};
 
 use std::alloc::Allocator;
-use thin_vec::{Growth, ThinVec};
+use thin_vec::{Growth, Rejected, ThinVec};
 
 /// The index after `count` items from `start` on. The sum can't overflow: no length is past
 /// `isize::MAX`, which `within` says, a clause that each call of the list gives its caller.
@@ -18,6 +18,16 @@ pub fn run_end<T, A: Allocator, G: Growth>(
     ensures value { result ≡ start + count }
 {
     start + count
+}
+
+/// An item and the one after it. The index of the second can't overflow, since `list[index]` says
+/// `within` too.
+pub fn neighbours<A: Allocator, G: Growth>(list: &ThinVec<u32, A, G>, index: usize) -> (u32, u32)
+    requires in_bounds { index + 1 < length list.now.items }
+    ensures first { result.0 ≡ slice_index list.now.items index }
+    ensures second { result.1 ≡ slice_index list.now.items (index + 1) }
+{
+    (list[index], list[index + 1])
 }
 
 /// Exchanges two items.
@@ -42,4 +52,19 @@ pub fn set_to_zero<A: Allocator, G: Growth>(list: &mut ThinVec<u32, A, G>)
     ensures alloc { list.new.alloc ≡ list.old.alloc }
 {
     list.as_mut_slice().fill(0);
+}
+
+/// Puts `value` at `index`, and takes it out again: the items are as before. A lemma says so.
+#[tactic(auto, using(thin_vec::proofs::UndoLemmas::undone))]
+pub fn insert_and_remove<T: Drop, A: Allocator, G: Growth>(
+    list: &mut ThinVec<T, A, G>,
+    index: usize,
+    value: T,
+) -> Result<T, Rejected<T>>
+    requires in_bounds { index ≤ length list.old.items }
+    ensures items { list.new.items ≡ list.old.items }
+    ensures value { IfOk result (λ back. back ≡ value) }
+{
+    list.insert(index, value)?;
+    Ok(list.remove(index))
 }

@@ -2,11 +2,22 @@
 //! block.
 ghost use Rattle.std.specs.FinMap as columns;
 ghost use Rattle.std.specs.Option.{unwrap_or};
-ghost use Rattle.std.specs.Prelude.{◌≡◌, ◌↔◌, ◌+◌, ◌-◌, ◌^◌, ◌<◌, ◌/◌, IfSome, IsNone, IsOk, IsSome, IsTrue, None, OnErr, OnOk, length, min};
+ghost use Rattle.std.specs.Prelude.{◌≡◌, ◌↔◌, ◌+◌, ◌-◌, ◌^◌, ◌<◌, ◌/◌, IfErr, IfOk, IfSome, IsNone, IsOk, IsSome, IsTrue, None, OnErr, OnOk, length, min, replicate};
 ghost use Rattle.thin_rows.specs.Table.{row_of, value_at, with_value, without_value};
 
-use std::alloc::{AllocError, Allocator};
+use std::alloc::{AllocError, Allocator, Global};
 use thin_rows::Rows;
+use thin_vec::ThinVecError;
+
+/// A table for each day of the week. So few rows are no overflow, as a lemma says: the only cause
+/// is that memory was refused.
+#[tactic(auto, using(thin_vec::proofs::FewLemmas::few_items))]
+pub fn for_a_week(alloc: Global) -> Result<Rows<u32>, ThinVecError>
+    ensures table { IfOk result (λ counts. counts ≡ replicate 7 columns.empty) }
+    ensures cause { IfErr result (λ cause. cause ≡ ThinVecError.OutOfMemory) }
+{
+    Rows::with_rows(alloc, 7)
+}
 
 /// Adds to the count at a row and a column. A count that would be past `u32::MAX` is `u32::MAX`.
 pub fn add<A: Allocator>(

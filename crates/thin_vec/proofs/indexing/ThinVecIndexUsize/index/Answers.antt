@@ -3,5 +3,8 @@ use Rattle.std.proofs.Common.{arith}
 use Rattle.std.proofs.lemmas.Grind.{elements}
 use Rattle.thin_vec.proofs.indexing.ThinVecIndexUsize.index.Goals as goal
 
-pub returns : goal.returns
-returns g c = grind (arith, elements)
+pub returns-clause-value : goal.returns-clause-value
+returns-clause-value g c = grind (arith, elements)
+
+pub returns-clause-item : goal.returns-clause-item
+returns-clause-item g c = grind (arith, elements)

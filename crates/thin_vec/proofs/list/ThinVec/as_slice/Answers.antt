@@ -1,6 +1,7 @@
 -- The items' slots are filled.
 use Rattle.std.proofs.Common.{ap, arith, ◌∙◌}
 use Rattle.thin_vec.proofs.ListLemmas.{thin-filled, thin-run}
+use Rattle.thin_vec.proofs.ThinVecLemmas.{within-of}
 use Rattle.thin_vec.proofs.list.ThinVec.as_slice.Goals as goal
 
 pub slice-requires-clause-filled : goal.slice-requires-clause-filled
@@ -14,4 +15,5 @@ returns g c =
       value = thin-run c.self.inside.block c.self.inside.alloc c.slice.result.now c.len.result
           c.self.invariant c.len.ensures.value c.slice.ensures.value
           ∙ ap (λ v. v.items) c.self.view_is;
+      within = within-of _ _ _ _ c.self.invariant c.self.view_is c.len.ensures.slots_fit;
     }

@@ -2,5 +2,5 @@
 use Rattle.std.proofs.Common.{arith, ◌∙◌}
 use Rattle.thin_vec.proofs.list.ThinVec.has_capacity.Goals as goal
 
-pub returns : goal.returns
-returns g c = search (arith, ◌∙◌)
+pub returns-clause-value : goal.returns-clause-value
+returns-clause-value g c = search (arith, ◌∙◌)
