@@ -1,23 +1,25 @@
 -- What a splice moves, and what it costs.
-use Rattle.std.proofs.Common.{if◌then◌else◌, inl, inr, Option, Some, None, append_assoc, drop, take, subst, ◌≡◌, ℕ, ◌+◌, ◌-◌, ◌<◌, ◌≤◌, Bool, true, false, eqb, List, [], ◌∷◌, ◌++◌, ap, arith, length, length-append, refl, sym, ◌∙◌}
-use Rattle.std.proofs.lemmas.List.{append-nil, drop_at, length-take-le, take_at}
+use Rattle.std.proofs.Common.{if◌then◌else◌, inl, inr, Option, Some, None, append_assoc, drop, take, subst, ◌≡◌, ℕ, ◌+◌, ◌-◌, ◌*◌, ◌^◌, ◌<◌, ◌≤◌, Bool, true, false, eqb, List, [], ◌∷◌, ◌++◌, ap, arith, length, length-append, refl, sym, ◌∙◌}
+use Rattle.std.proofs.lemmas.List.{append-nil, drop_at, length-drop, length-take-le, take_at}
 use Rattle.std.specs.Borrow.{RattleType}
 use Rattle.std.specs.Option.{option_to_list}
-use Rattle.std.specs.Prelude.{◌↔◌, IfErr, IsSome, OnOk}
+use Rattle.std.specs.Prelude.{◌↔◌, IfErr, IsSome}
 use Rattle.std.specs.declared.result.Result.{Result}
 use Rattle.std.specs.declared.result.Result.TheVariants.{Ok, Err}
 use Rattle.std.specs.Iterator.{Count, Drains, IsFinite, Yields, YieldsThen, size}
-use Rattle.thin_vec.specs.Extend.{GaveUp, IsExtendCost, IsExtended, IsNamed, Overflows}
+use Rattle.thin_vec.specs.Cheap.{IsCheap}
+use Rattle.thin_vec.specs.Extend.{GaveUp, IsExtendCost, IsNamed, Overflows}
 use Rattle.std.proofs.lemmas.Bool.Decides.{nat_tests}
 use Rattle.thin_block.specs.declared.errors.ThinVecError.{ThinVecError}
 use Rattle.thin_block.specs.declared.errors.ThinVecError.TheVariants.{CapacityOverflow, OutOfMemory}
 use Rattle.thin_block.specs.Cost.{Cost, moving}
-use Rattle.thin_block.specs.Growth.{KeepsLaw, Rule, ruled_capacity}
+use Rattle.thin_block.specs.Growth.{KeepsLaw, Rule}
 use Rattle.std.proofs.lemmas.Bool.{cases_lt, false≢true}
 use Rattle.thin_vec.specs.Open.{Open, cost_closed, items_of}
 use Rattle.thin_vec.specs.Filling.{IsSpliced, IsStopCause, Stopped, left_of, with_between}
-use Rattle.thin_vec.specs.ThinVec.{Thin, capacity_for, cost_at}
-use Rattle.thin_vec.proofs.ExtendLemmas.{filled-reserved, yields-join, yields-more}
+use Rattle.thin_vec.specs.Finish.{HasTaken}
+use Rattle.thin_vec.specs.ThinVec.{HasRoomFor, Thin, capacity_for, cost_at}
+use Rattle.thin_vec.proofs.ExtendLemmas.{filled-reserved, loose-join, loose-le, loose-ruled, yields-join, yields-more}
 use Rattle.thin_vec.proofs.ThinVecLemmas.{cap-kept}
 
 -- moves add up
@@ -25,6 +27,7 @@ pub moving-add : (a b : ℕ) (c : Cost) → moving a (moving b c) ≡ moving (b 
 moving-add a b c = ap (λ m. let d : Cost = record c { moves = m } in d)
     (let e : c.moves + b + a ≡ c.moves + (b + a) = omega arith in e)
 
+-- no move changes nothing
 pub moving-zero : (c : Cost) → c ≡ moving 0 c
 moving-zero c = ap (λ m. let d : Cost = record c { moves = m } in d)
     (let e : c.moves ≡ c.moves + 0 = omega arith in e)
@@ -119,12 +122,12 @@ module _ {T A : Type 0} where
   }
 
   -- one step after another
-  pub spliced-join : (v u w : Thin T A) (m n : ℕ) → v.capacity ≤ u.capacity
+  pub spliced-join : (v u w : Thin T A) (m n k : ℕ) → m + n ≤ k → v.capacity ≤ u.capacity
       → u.capacity ≤ w.capacity → length v.items ≤ length u.items → IsSpliced v u m
-      → IsSpliced u w n → IsSpliced v w (m + n)
-  spliced-join v u w m n low high long p q = record {
+      → IsSpliced u w n → IsSpliced v w k
+  spliced-join v u w m n k few low high long p q = record {
     least = omega (arith, p.least, q.least);
-    moves = omega (arith, p.moves, q.moves);
+    moves = omega (arith, p.moves, q.moves, few);
     kept = λ same. let a : u.capacity ≡ v.capacity = omega arith in
         let b : w.capacity ≡ u.capacity = omega arith in let f = p.kept a in let h = q.kept b in
         (h.0 ∙ f.0, h.1 ∙ f.1);
@@ -140,20 +143,7 @@ module _ {T A : Type 0} where
     ];
   }
 
-  pub spliced-less : (v w : Thin T A) (m n : ℕ) → m ≤ n → IsSpliced v w m → IsSpliced v w n
-  spliced-less v w m n less p =
-      record {
-        least = p.least;
-        moves = omega (arith, p.moves, less);
-        kept = p.kept;
-        grown = p.grown;
-      }
-
 -- a fact of an outcome gives another
-pub on-ok : {X E P Q : Type 0} (r : Result X E) → (P → Q) → OnOk r P → OnOk r Q
-on-ok (Ok _) h p = h p
-on-ok (Err _) h p = p
-
 pub if-err : {X E : Type 0} {P Q : E → Type 0} (r : Result X E) → ((e : E) → r ≡ Err e → P e → Q e)
     → IfErr r P → IfErr r Q
 if-err (Ok _) h p = p
@@ -164,18 +154,18 @@ pub any-err : {X E : Type 0} {Q : E → Type 0} (r : Result X E) → ((e : E) �
 any-err (Ok _) h = tt
 any-err (Err e) h = h e
 
-module _ {T : Type 0} where
-  -- items go in behind those that went in before
-  pub spliced-more : (vs ws xs ys : List T) (at end : ℕ) → at ≤ length vs
-      → ws ≡ (take at vs ++ xs) ++ drop at vs → end ≡ at + length xs
-      → (take end ws ++ ys) ++ drop end ws ≡ (take at vs ++ (xs ++ ys)) ++ drop at vs
-  spliced-more vs ws xs ys at end in_bounds e ends =
-      let pre : List T = take at vs ++ xs in
-      let here : length pre ≡ end =
-      omega (arith, length-append (take at vs) xs, length-take-le at vs in_bounds, ends) in
-      (λ i. (take end (e i) ++ ys) ++ drop end (e i))
-      ∙ ((λ i. (take_at pre (drop at vs) end here i ++ ys) ++ drop_at pre (drop at vs) end here i)
-      ∙ ap (λ l. l ++ drop at vs) (append_assoc (take at vs) xs ys))
+-- how many there are once items went in
+pub inserted-long : {T : Type 0} (xs ys : List T) (at : ℕ) → at ≤ length xs
+    → length ((take at xs ++ ys) ++ drop at xs) ≡ length xs + length ys
+inserted-long xs ys at in_bounds =
+    omega (
+      arith,
+      length-append (take at xs ++ ys) (drop at xs),
+      length-append (take at xs) ys,
+      length-take-le at xs in_bounds,
+      length-drop at xs,
+      in_bounds,
+    )
 
 module _ {S X : Type 0} (steps : S → Option X → S → Type 0) (can : S → Type 0)
     (remaining : S → Count) where
@@ -185,41 +175,25 @@ module _ {S X : Type 0} (steps : S → Option X → S → Type 0) (can : S → T
   drains-more s t xs ys before now =
       (now.0, (now.1.0, yields-join steps s t now.1.0 xs ys before now.1.1, now.1.2))
 
-  module _ (s t rest : S) where
-    -- what was placed, held and in hand, after what was placed before
-    pub stopped-after : (xs ys held : List X) (in_hand : Option X) → Yields steps s xs t
-        → Stopped steps can remaining t ys held in_hand rest
-        → Stopped steps can remaining s (xs ++ ys) held in_hand rest
-    stopped-after xs ys held in_hand before (inl now) =
-        let last : List X = option_to_list in_hand in
-        let gave = yields-join steps s t rest xs ((ys ++ held) ++ last) before now.0 in
-        inl (
-          subst (λ l. Yields steps s l rest)
-              (sym (append_assoc xs (ys ++ held) last)
-              ∙ ap (λ l. l ++ last) (sym (append_assoc xs ys held))) gave,
-          now.1,
-          now.2,
-          now.3,
-        )
-    stopped-after xs ys held in_hand before (inr now) =
-        inr (
-          now.0,
-          now.1,
-          (
-            now.2.0,
-            subst (λ l. Yields steps s l now.2.0) (sym (append_assoc xs ys held))
-                (yields-join steps s t now.2.0 xs (ys ++ held) before now.2.1),
-            now.2.2,
-          ),
-        )
-
-  -- the same, where nothing was placed since
+  -- what was held and in hand, after what was placed before
   pub stopped-more : (s t rest : S) (xs held : List X) (in_hand : Option X) → Yields steps s xs t
       → Stopped steps can remaining t [] held in_hand rest
       → Stopped steps can remaining s xs held in_hand rest
-  stopped-more s t rest xs held in_hand before now =
-      subst (λ l. Stopped steps can remaining s l held in_hand rest) (append-nil xs)
-      (stopped-after s t rest xs [] held in_hand before now)
+  stopped-more s t rest xs held in_hand before (inl now) =
+      let last : List X = option_to_list in_hand in
+      inl (
+        subst (λ l. Yields steps s l rest) (sym (append_assoc xs held last))
+            (yields-join steps s t rest xs (held ++ last) before now.0),
+        now.1,
+        now.2,
+        now.3,
+      )
+  stopped-more s t rest xs held in_hand before (inr now) =
+      inr (
+        now.0,
+        now.1,
+        (now.2.0, yields-join steps s t now.2.0 xs held before now.2.1, now.2.2),
+      )
 
   -- where nothing is held
   pub stopped-now : (s rest : S) (xs held : List X) (in_hand : Option X) → held ≡ []
@@ -233,12 +207,6 @@ module _ {S X : Type 0} (steps : S → Option X → S → Type 0) (can : S → T
         asked,
         fin,
       )
-
--- a test found no item
-pub no-tail : {T : Type 0} (xs : List T) (b : Bool) → (0 < length xs → b ≡ true) → b ≡ false
-    → xs ≡ []
-no-tail [] b some e = refl
-no-tail (x ∷ xs) b some e = absurd (false≢true (sym e ∙ some (omega arith)))
 
 -- why a splice stopped
 module _ {T A : Type 0} (rule : Rule) (R : RattleType) (v : Thin T A) (tail held : List T)
@@ -295,22 +263,6 @@ module _ (rule : Rule) (R : RattleType) where
         | inr spare ↦ inl (cap-kept rule R law v k d spare e)
       ]
 
-  module _ {T A : Type 0} (v u : Thin T A) where
-    -- where a capacity comes from after k items went into spare room
-    pub extended-after : (k d n : ℕ) (left more : Count) → u.capacity ≡ v.capacity
-        → length u.items ≡ length v.items + k → IsFinite more → k + size more ≤ size left
-        → IsExtended rule R u d n more → IsExtended rule R v d n left
-    extended-after k d n left more same long finite near (inl p) =
-        inl (subst (λ c. IsNamed rule R c d n) same p)
-    extended-after k d n left more same long finite near (inr p) =
-        let within : p.0 ≤ size more = p.1 finite in
-        let want : length v.items + (k + p.0) ≡ length u.items + p.0 = omega (arith, long) in
-        inr (
-          k + p.0,
-          (λ _. omega (arith, near, within)),
-          (λ i. ruled_capacity rule R (sym same i) (want i)) ∙ p.2,
-        )
-
 -- no move is none
 unmoved : (b : Bool) (c : Cost) (n : ℕ) → n ≡ 0 → (if b then c else moving n c) ≡ c
 unmoved true c n none = refl
@@ -329,17 +281,6 @@ module _ {T A : Type 0} where
       let cost : u.cost ≡ v.cost = paid ∙ free in
       λ i. record { items = here i; capacity = same i; alloc = from i; cost = cost i }
 
-  -- what is left of two blocks that differ in their empty slots is the same
-  pub left-same : (v w : Open T A) (a b : A) → v.front ≡ w.front → v.tail ≡ w.tail
-      → v.capacity ≡ w.capacity → v.cost ≡ w.cost → a ≡ b → left_of v a ≡ left_of w b
-  left-same v w a b front tail same paid from =
-      λ i. record {
-        items = front i ++ tail i;
-        capacity = same i;
-        alloc = from i;
-        cost = paid i;
-      }
-
   -- more items go in behind those that went in before
   pub between-more : (v : Open T A) (us xs ys : List T) (end : ℕ) → us ≡ with_between v xs
       → end ≡ length v.front + length xs
@@ -357,6 +298,14 @@ module _ {T A : Type 0} where
   between-length v xs =
       omega (arith, length-append (v.front ++ xs) v.tail, length-append v.front xs)
 
+  -- with no tail, what lies in the gap lies behind all
+  pub behind-items : (v : Open T A) (xs : List T) → v.tail ≡ []
+      → (v.front ++ v.tail) ++ xs ≡ with_between v xs
+  behind-items v xs none =
+      (λ i. (v.front ++ none i) ++ xs)
+      ∙ (ap (λ l. l ++ xs) (append-nil v.front)
+      ∙ (sym (append-nil (v.front ++ xs)) ∙ (λ i. (v.front ++ xs) ++ sym none i)))
+
   -- the cost of what went behind all is that of what went between
   pub spliced-extended : (v w : Thin T A) (n : ℕ) → IsExtendCost v w → IsSpliced v w n
   spliced-extended v w n p =
@@ -366,3 +315,64 @@ module _ {T A : Type 0} where
         kept = p.kept;
         grown = p.grown;
       }
+
+-- what a step of a splice's end does to a list
+module _ (rule : Rule) (R : RattleType) {T A : Type 0} where
+  -- items that went into spare room
+  pub taken-spare : (v w : Thin T A) (k m n : ℕ) (left : Count) → w.cost ≡ moving (k + m) v.cost
+      → w.capacity ≡ v.capacity → length w.items ≡ length v.items + k → m ≤ n → w.alloc ≡ v.alloc
+      → HasTaken rule R v w n left
+  taken-spare v w k m n left paid same long few from = record {
+    capacity = inl same;
+    had_room = λ _. same;
+    cost = spliced-run v w k m n paid same long few;
+    alloc = from;
+    cheap = λ p. record {
+      none = λ z. let f = p.none (omega (arith, z, same)) in
+          (ap (λ c. c.blocks) paid ∙ f.0, ap (λ c. c.grown) paid ∙ f.1);
+      grown = λ some. omega (
+        arith,
+        p.grown (omega (arith, some, same)),
+        ap (λ c. c.grown) paid,
+        same,
+      );
+      blocks = λ some. subst (λ b. 2 ^ b ≤ 2 * w.capacity) (sym (ap (λ c. c.blocks) paid))
+          (subst (λ d. 2 ^ v.cost.blocks ≤ 2 * d) (sym same)
+          (p.blocks (omega (arith, some, same))));
+    };
+  }
+
+  -- nothing went in
+  pub taken-none : (v w : Thin T A) (n : ℕ) (left : Count) → w ≡ v → HasTaken rule R v w n left
+  taken-none v w n left e =
+      taken-spare v w 0 0 n left (ap (λ z. z.cost) e ∙ moving-zero v.cost)
+      (ap (λ z. z.capacity) e) (omega (arith, ap (λ z. length z.items) e)) (omega arith)
+      (ap (λ z. z.alloc) e)
+
+  module _ (law : KeepsLaw rule) where
+    -- room was made for h items, which `left` allows
+    pub taken-reserved : (v w : Thin T A) (h : ℕ) (left : Count)
+        → capacity_for rule R v h ≡ Some w.capacity → w.items ≡ v.items → w.alloc ≡ v.alloc
+        → w.cost ≡ cost_at v w.capacity → (IsCheap v → IsCheap w) → h ≤ size left
+        → HasTaken rule R v w 0 left
+    taken-reserved v w h left named same from paid cheap allowed = record {
+      capacity = loose-ruled rule R law v h w.capacity named;
+      had_room = λ fit. cap-kept rule R law v h w.capacity (omega (arith, fit, allowed)) named;
+      cost = spliced-reserved v w paid same;
+      alloc = from;
+      cheap = cheap;
+    }
+
+    -- one step after another
+    pub taken-join : (v u w : Thin T A) (m n k : ℕ) (left more : Count) → m + n ≤ k
+        → length v.items ≤ length u.items
+        → (HasRoomFor v (size left) → u.capacity ≡ v.capacity → HasRoomFor u (size more))
+        → HasTaken rule R v u m left → HasTaken rule R u w n more → HasTaken rule R v w k left
+    taken-join v u w m n k left more few long room p q = record {
+      capacity = loose-join rule R law v.capacity u.capacity w.capacity p.capacity q.capacity;
+      had_room = λ fit. let same = p.had_room fit in q.had_room (room fit same) ∙ same;
+      cost = spliced-join v u w m n k few (loose-le rule R law v.capacity u.capacity p.capacity)
+          (loose-le rule R law u.capacity w.capacity q.capacity) long p.cost q.cost;
+      alloc = q.alloc ∙ p.alloc;
+      cheap = λ c. q.cheap (p.cheap c);
+    }

@@ -15,6 +15,7 @@ mod ExtendLemmas
 mod IntoIterLemmas
 mod OpenBlockLemmas
 mod FillingLemmas
+mod FinishLemmas
 mod ReplacingLemmas
 mod DrainLemmas
 mod SiftingLemmas

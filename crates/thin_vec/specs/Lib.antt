@@ -9,6 +9,7 @@ pub mod Pairs
 pub mod Open
 pub mod OpenBlock
 pub mod Filling
+pub mod Finish
 pub mod Replacing
 pub mod Lends
 pub mod Added

@@ -13,6 +13,7 @@ mod extract_if;
 mod filling;
 mod filters;
 mod from_others;
+mod holding;
 mod holds;
 mod indexing;
 mod into_iter;

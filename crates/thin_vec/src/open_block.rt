@@ -1,8 +1,9 @@
 //! A list's block while an edit works on it, with empty slots between its items.
-ghost use Rattle.std.specs.Prelude.{◌≡◌, ◌↔◌, ◌+◌, ◌-◌, ◌<◌, ◌≤◌, ◌∷◌, ◌++◌, [], IsTrue, drop, length, slice_range, take};
-ghost use Rattle.thin_block.specs.Cost.{no_cost};
+ghost use Rattle.std.specs.Prelude.{◌≡◌, ◌↔◌, ◌+◌, ◌-◌, ◌==◌, ◌<◌, ◌≤◌, ◌∷◌, ◌++◌, [], IsTrue, drop, if◌then◌else◌, length, slice_range, take};
+ghost use Rattle.thin_block.specs.Cost.{moving, no_cost};
 ghost use Rattle.thin_block.specs.Slots.{front};
 ghost use Rattle.thin_vec.specs.Open.{IsOf, cost_closed, items_of, reach};
+ghost use Rattle.thin_vec.specs.ThinVec.{HasRoomFor};
 
 use crate::list::ThinVec;
 use std::alloc::Allocator;
@@ -71,6 +72,32 @@ impl<T, A: Allocator, G: Growth> ThinVec<T, A, G> {
             tail_start: end,
             len,
         }
+    }
+
+    // The list's block with `count` empty slots before the item at `at`: the items from there on
+    // move up, as one run. The list is left empty and without a block.
+    pub(crate) fn open_wide(&mut self, at: usize, count: usize) -> OpenBlock<T, A>
+        requires in_bounds { at ≤ length self.old.items }
+        requires room { HasRoomFor self.old count }
+        ensures front { result.front ≡ take at self.old.items }
+        ensures before { result.before ≡ count }
+        ensures rest { result.rest ≡ [] }
+        ensures behind { result.behind ≡ 0 }
+        ensures tail { result.tail ≡ drop at self.old.items }
+        ensures other_capacity { result.capacity ≡ self.old.capacity }
+        ensures from { IsOf result.alloc self.old.alloc }
+        ensures other_cost { result.cost ≡ (if count == 0 then self.old.cost else moving
+            (length self.old.items - at) self.old.cost) }
+        ensures items { self.new.items ≡ [] }
+        ensures alloc { self.new.alloc ≡ self.old.alloc }
+    {
+        let mut block = self.open(at, at);
+        if count == 0 {
+            return block;
+        }
+        block.widen(count);
+        block.join();
+        block
     }
 
     // Closes the gap by one move of all items behind it, and makes the block the list's again.
@@ -190,6 +217,21 @@ impl<T, A: Allocator> OpenBlock<T, A> {
         let mut closed = block.close_gap(front_end, rest_start - front_end, len - rest_start);
         closed.store_len(len - (rest_start - front_end));
         closed
+    }
+
+    // Moves the tail up by `count` slots, as one run.
+    pub(crate) fn widen(&mut self, count: usize)
+        requires some { 0 < count }
+        requires room { reach self.old + count ≤ self.old.capacity }
+        ensures { self.new ≡ record self.old {
+          behind = self.old.behind + count;
+          cost = moving (length self.old.tail) self.old.cost;
+        } }
+    {
+        let from = self.tail_start;
+        self.block.move_run(from, from + count, self.len - from);
+        self.tail_start += count;
+        self.len += count;
     }
 }
 

@@ -187,7 +187,11 @@ impl<
         let mut block = holder.into_inner();
         block.drop_rest();
         list.clear();
-        let answer = list.fill_gap(block, iter, alloc);
+        let answer = if block.has_tail() {
+            list.fill_between(block, iter, alloc)
+        } else {
+            list.fill_behind(block, iter, alloc)
+        };
         // A list knows of itself that its items are within its capacity, and that this fits.
         let _len = list.len();
         answer

@@ -1,35 +1,37 @@
--- The moves of what went in, and of the tail where the gap was not full by then.
-use Rattle.std.proofs.Common.{◌∙◌, ◌-◌, ap, arith, length, length-append}
+-- What went in lies behind the front, and the tail moves where the gap was not full by then.
+use Rattle.std.proofs.Common.{◌≡◌, ◌+◌, ◌-◌, ◌++◌, ◌∙◌, ap, arith, length, length-append}
 use Rattle.thin_vec.proofs.FillingLemmas.{closed-moves}
-use Rattle.std.proofs.lemmas.Grind.{common_steps}
 use Rattle.thin_vec.proofs.list.ThinVec.close_filled.Goals as goal
 
-pub returns-clause-cost : goal.returns-clause-cost
-returns-clause-cost g c =
-    let gave = c.fill-rest.ensures.front in
+pub returns : goal.returns
+returns g c =
+    let v = c.args.block in
     let block = c.fill-rest.new.self in
-    let put = closed-moves c.args.block block (c.front_len-end.result - length c.args.block.front)
-    (ap (λ v. v.cost) c.fill-rest.ensures.same)
-    (ap (λ v. v.rest) c.fill-rest.ensures.same ∙ c.requires.none)
-    (ap (λ v. v.tail) c.fill-rest.ensures.same)
-    (omega (
-      arith,
-      c.front_len-end.ensures.value,
-      ap length gave.1,
-      length-append c.args.block.front gave.0,
-      gave.2,
-    )) in (
-      put.0,
-      c.close.ensures.cost ∙ put.1,
-      put.2,
-      λ full. put.3 (c.fill-rest.ensures.full full),
-    )
-
-pub returns-clause-items : goal.returns-clause-items
-returns-clause-items g c = grind (arith, common_steps)
-
-pub returns-clause-full : goal.returns-clause-full
-returns-clause-full g c = grind (arith, common_steps)
-
-pub returns-clause-short : goal.returns-clause-short
-returns-clause-short g c = grind (arith, common_steps)
+    let gave = c.fill-rest.ensures.front in
+    let same = c.fill-rest.ensures.same in
+    let none = ap (λ z. z.rest) same ∙ c.requires.none in
+    let tail = ap (λ z. z.tail) same in
+    let ends : c.front_len-end.result ≡ length v.front + length gave.0 =
+    omega (arith, c.front_len-end.ensures.value, ap length gave.1, length-append v.front gave.0) in
+    let put = closed-moves v block (c.front_len-end.result - length v.front)
+    (ap (λ z. z.cost) same) none tail (omega (arith, ends, gave.2)) in
+    record {
+      items = (
+        gave.0,
+        c.close.ensures.items ∙ (λ i. gave.1 i ++ (none i ++ tail i)),
+        ends,
+        gave.3,
+      );
+      capacity = c.close.ensures.capacity ∙ ap (λ z. z.capacity) same;
+      alloc = c.close.ensures.alloc;
+      cost = (
+        put.0,
+        c.close.ensures.cost ∙ put.1,
+        put.2,
+        λ full. put.3 (c.fill-rest.ensures.full full),
+      );
+      full = λ f. omega (arith, ends, gave.2, c.fill-rest.ensures.full f);
+      short = λ t. omega (arith, ends, gave.2, c.fill-rest.ensures.short t);
+      asked = c.fill-rest.ensures.asked;
+      nearer = c.fill-rest.ensures.nearer;
+    }

@@ -1,91 +1,97 @@
 -- With no item behind the gap, the closed list is what is left, and `extend` says the rest.
-use Rattle.std.proofs.Common.{arith, ◌∙◌, length, subst, sym}
+use Rattle.std.proofs.Common.{◌≡◌, ◌*◌, ◌++◌, ◌∙◌, ap, arith, length, length-append, subst, sym}
 use Rattle.std.specs.Iterator.{size}
-use Rattle.thin_vec.specs.ThinVec.{HasRoomFor}
 use denote.Param.{param}
-use Rattle.thin_vec.specs.Extend.{IsExtended, IsLoose}
-use Rattle.thin_vec.proofs.FillingLemmas.{closed-left}
-use Rattle.std.proofs.lemmas.Grind.{common_steps}
+use Rattle.thin_vec.specs.Extend.{IsExtended}
+use Rattle.thin_vec.specs.Filling.{left_of}
+use Rattle.thin_vec.specs.Finish.{HasTaken}
+use Rattle.thin_vec.specs.ThinVec.{HasRoomFor}
+use Rattle.thin_vec.proofs.FillingLemmas.{behind-items, closed-left, spliced-extended, stop-at-end, stopped-now}
+use Rattle.thin_vec.proofs.FinishLemmas.{finished-ok}
+use Rattle.thin_vec.proofs.list.ThinVec.fill_behind.Goals.{After-extend}
 use Rattle.thin_vec.proofs.list.ThinVec.fill_behind.Goals as goal
 
-pub returns-in-Ok-clause-capacity : goal.returns-in-Ok-clause-capacity
-returns-in-Ok-clause-capacity g c =
-    subst (λ n. IsLoose g.G.Growth.rule (param 0 g.row.T) n c.extend.new.self.capacity)
-    c.close.ensures.capacity c.extend.ensures.capacity
+-- what is left of the block
+left : (g : _) (c : After-extend g)
+    → c.close.new.self ≡ left_of c.args.block c.args.self.now.alloc
+left g c =
+    closed-left c.args.block c.close.new.self c.args.self.now.alloc c.requires.none
+    c.requires.no_tail c.close.ensures.items c.close.ensures.capacity c.close.ensures.alloc
+    c.close.ensures.cost
 
-pub returns-in-Ok-clause-named : goal.returns-in-Ok-clause-named
-returns-in-Ok-clause-named g c =
+-- what became of that
+taken : (g : _) (c : After-extend g)
+    → HasTaken g.G.Growth.rule (param 0 g.row.T) (left_of c.args.block c.args.self.now.alloc)
+    c.extend.new.self (2 * length c.args.block.tail) (g.I.Iterator.remaining c.args.iter)
+taken g c =
+    let n = 2 * length c.args.block.tail in
+    let w = c.extend.new.self in let more = g.I.Iterator.remaining c.args.iter in
+    let now : HasTaken g.G.Growth.rule (param 0 g.row.T) c.close.new.self w n more = record {
+      capacity = c.extend.ensures.capacity;
+      had_room = c.extend.ensures.had_room;
+      cost = spliced-extended c.close.new.self w n c.extend.ensures.cost;
+      alloc = c.extend.ensures.alloc;
+      cheap = c.extend.ensures.cheap;
+    } in
+    subst (λ z. HasTaken g.G.Growth.rule (param 0 g.row.T) z w n more) (left g c) now
+
+-- where its capacity comes from
+named : (g : _) (c : After-extend g)
+    → IsExtended g.G.Growth.rule (param 0 g.row.T) (left_of c.args.block c.args.self.now.alloc)
+    c.extend.new.self.capacity (length c.extend.new.self.items)
+    (g.I.Iterator.remaining c.args.iter)
+named g c =
     let w = c.extend.new.self in
-    let left = closed-left c.args.block c.close.new.self c.args.self.now.alloc c.requires.none
-    c.requires.no_tail c.close.ensures.items c.close.ensures.capacity c.close.ensures.alloc
-    c.close.ensures.cost in
     subst (λ z. IsExtended g.G.Growth.rule (param 0 g.row.T) z w.capacity (length w.items)
-    (g.I.Iterator.remaining c.args.iter)) left c.extend.ensures.named
+    (g.I.Iterator.remaining c.args.iter)) (left g c) c.extend.ensures.named
 
-pub returns-in-Err-clause-capacity : goal.returns-in-Err-clause-capacity
-returns-in-Err-clause-capacity g c =
-    subst (λ n. IsLoose g.G.Growth.rule (param 0 g.row.T) n c.extend.new.self.capacity)
-    c.close.ensures.capacity c.extend.ensures.capacity
+pub returns-in-Ok : goal.returns-in-Ok
+returns-in-Ok g c =
+    let v = c.args.block in let gave = c.in-Ok.ensures.items in
+    let at = (goal.at.returns-in-Ok g c).After-extend in
+    finished-ok v c.args.self.now.alloc c.args.iter c.extend.new.self tt (
+      gave.0,
+      gave.1,
+      gave.2 ∙ (ap (λ z. z.items ++ gave.0) (left g at)
+          ∙ behind-items v gave.0 c.requires.no_tail),
+    )
+    (taken g at) (named g at)
 
-pub returns-in-Err-clause-named : goal.returns-in-Err-clause-named
-returns-in-Err-clause-named g c =
-    let w = c.extend.new.self in
-    let left = closed-left c.args.block c.close.new.self c.args.self.now.alloc c.requires.none
-    c.requires.no_tail c.close.ensures.items c.close.ensures.capacity c.close.ensures.alloc
-    c.close.ensures.cost in
-    subst (λ z. IsExtended g.G.Growth.rule (param 0 g.row.T) z w.capacity (length w.items)
-    (g.I.Iterator.remaining c.args.iter)) left c.extend.ensures.named
-
-pub returns-in-Ok-clause-had_room : goal.returns-in-Ok-clause-had_room
-returns-in-Ok-clause-had_room g c = λ fit.
-    let left = closed-left c.args.block c.close.new.self c.args.self.now.alloc c.requires.none
-    c.requires.no_tail c.close.ensures.items c.close.ensures.capacity c.close.ensures.alloc
-    c.close.ensures.cost in
-    c.extend.ensures.had_room
-    (subst (λ z. HasRoomFor z (size (g.I.Iterator.remaining c.args.iter))) (sym left) fit)
-    ∙ c.close.ensures.capacity
-
-pub returns-in-Err-clause-had_room : goal.returns-in-Err-clause-had_room
-returns-in-Err-clause-had_room g c = λ fit.
-    let left = closed-left c.args.block c.close.new.self c.args.self.now.alloc c.requires.none
-    c.requires.no_tail c.close.ensures.items c.close.ensures.capacity c.close.ensures.alloc
-    c.close.ensures.cost in
-    c.extend.ensures.had_room
-    (subst (λ z. HasRoomFor z (size (g.I.Iterator.remaining c.args.iter))) (sym left) fit)
-    ∙ c.close.ensures.capacity
-
-pub returns-in-Err-clause-cheap : goal.returns-in-Err-clause-cheap
-returns-in-Err-clause-cheap g c = grind (arith, common_steps)
-
-pub returns-in-Err-clause-alloc : goal.returns-in-Err-clause-alloc
-returns-in-Err-clause-alloc g c = search (arith, ◌∙◌)
-
-pub returns-in-Err-clause-cause : goal.returns-in-Err-clause-cause
-returns-in-Err-clause-cause g c = search (arith, ◌∙◌)
-
-pub returns-in-Err-clause-cost : goal.returns-in-Err-clause-cost
-returns-in-Err-clause-cost g c = search (arith, ◌∙◌)
-
-pub returns-in-Err-clause-err : goal.returns-in-Err-clause-err
-returns-in-Err-clause-err g c = search (arith, ◌∙◌)
-
-pub returns-in-Err-clause-full : goal.returns-in-Err-clause-full
-returns-in-Err-clause-full g c = search (arith, ◌∙◌)
-
-pub returns-in-Err-clause-rest : goal.returns-in-Err-clause-rest
-returns-in-Err-clause-rest g c = search (arith, ◌∙◌)
-
-pub returns-in-Ok-clause-alloc : goal.returns-in-Ok-clause-alloc
-returns-in-Ok-clause-alloc g c = search (arith, ◌∙◌)
-
-pub returns-in-Ok-clause-cheap : goal.returns-in-Ok-clause-cheap
-returns-in-Ok-clause-cheap g c = search (arith, ◌∙◌)
-
-pub returns-in-Ok-clause-cost : goal.returns-in-Ok-clause-cost
-returns-in-Ok-clause-cost g c = search (arith, ◌∙◌)
-
-pub returns-in-Err-clause-placed : goal.returns-in-Err-clause-placed
-returns-in-Err-clause-placed g c = grind (arith, common_steps)
-
-pub returns-in-Ok-clause-items : goal.returns-in-Ok-clause-items
-returns-in-Ok-clause-items g c = grind (arith, common_steps)
+pub returns-in-Err : goal.returns-in-Err
+returns-in-Err g c =
+    let v = c.args.block in let refused = c.in-Err.refused in
+    let at = (goal.at.returns-in-Err g c).After-extend in
+    let is = left g at in
+    let gave = c.in-Err.ensures.placed in
+    let asked = c.in-Err.ensures.rest in
+    record {
+      succeeds = λ few. c.in-Err.ensures.succeeds (omega (
+        arith,
+        few,
+        c.requires.within,
+        ap (λ z. length z.items) is,
+        ap (λ z. z.capacity) is,
+        length-append v.front v.tail,
+      ));
+      succeeds_behind = λ _ fit. c.in-Err.ensures.succeeds
+          (subst (λ z. HasRoomFor z (size (g.I.Iterator.remaining c.args.iter))) (sym is) fit);
+      items = tt;
+      taken = taken g at;
+      named = named g at;
+      placed = (
+        gave.0,
+        gave.1 ∙ (ap (λ z. z.items ++ gave.0) is
+            ∙ behind-items v gave.0 c.requires.no_tail),
+        stopped-now g.I.Iterator.next_gives g.I.Iterator.can_next g.I.Iterator.remaining
+            c.args.iter refused.rest gave.0 c.new-held.result.items refused.in_hand
+            c.new-held.ensures.items gave.2 asked.0 asked.1,
+      );
+      range = λ some. absurd (omega (arith, some, ap length c.requires.no_tail));
+      cause = stop-at-end g.G.Growth.rule (param 0 g.row.T) c.extend.new.self v.tail
+          c.new-held.result.items refused.in_hand (g.I.Iterator.remaining refused.rest)
+          refused.cause c.requires.no_tail c.new-held.ensures.items c.in-Err.ensures.overflow
+          c.in-Err.ensures.cause;
+      held = λ _. c.new-held.ensures.items;
+      full = λ _. c.in-Err.ensures.full;
+      err = λ _ none. let same = c.in-Err.ensures.err none in (same.0 ∙ is, same.1);
+    }

@@ -1,172 +1,161 @@
--- The gap is filled, and then what is beyond it goes in behind what filled it.
-use Rattle.std.proofs.Common.{inl, ◌≡◌, ◌++◌, ◌+◌, ◌-◌, ◌*◌, ◌∙◌, ap, arith, drop, length, length-append, subst, take}
-use Rattle.std.proofs.lemmas.List.{length-drop, length-take-le}
+-- The gap is filled, then the room that the hint asked for, and then what was held goes in.
+use Rattle.std.proofs.Common.{[], Err, None, Ok, Some, inl, ℕ, ◌-◌, ◌*◌, ◌++◌, ◌∙◌, ap, arith, length, refl, subst, sym}
 use denote.Param.{param}
-use Rattle.thin_vec.specs.Extend.{Gives, IsLoose}
-use Rattle.thin_vec.specs.Filling.{IsSpliced, left_of}
-use Rattle.thin_vec.proofs.ExtendLemmas.{loose-le}
-use Rattle.thin_vec.proofs.FillingLemmas.{between-length, between-more, drains-more, extended-after, if-err, on-ok, spliced-join, spliced-less, spliced-run, stopped-after}
-use Rattle.std.proofs.lemmas.Grind.{common_steps}
+use Rattle.thin_vec.specs.Extend.{IsExtended, IsNamed}
+use Rattle.thin_vec.specs.Filling.{left_of}
+use Rattle.thin_vec.specs.Finish.{HasTaken}
+use Rattle.thin_vec.specs.ThinVec.{capacity_for}
+use Rattle.thin_vec.proofs.ExtendLemmas.{named-after}
+use Rattle.thin_vec.proofs.FillingLemmas.{if-err, stop-at-hint, stopped-now, taken-reserved}
+use Rattle.thin_vec.proofs.FinishLemmas.{IsReached, IsWide, filled-drains, filled-reached, filled-taken, finished-from, finished-ok, reached-extended, reached-grown, reached-long, reached-more, reached-taken, reached-wide, wide-taken}
+use Rattle.thin_vec.proofs.list.ThinVec.fill_between.Goals.{After-close_filled-last}
 use Rattle.thin_vec.proofs.list.ThinVec.fill_between.Goals as goal
 
-pub returns-then-ended-clause-had_room : goal.returns-then-ended-clause-had_room
-returns-then-ended-clause-had_room g c = λ _. c.close_filled-end.ensures.capacity
+-- the gap is full
+reached : (g : _) (c : After-close_filled-last g)
+    → IsReached g.I.Iterator.next_gives g.I.Iterator.can_next g.I.Iterator.remaining c.args.block
+    c.args.iter c.reserve.new.self c.close_filled-end.ensures.items.0 c.close_filled-end.result.0
+    c.close_filled-end.result.1
+reached g c =
+    reached-grown (filled-reached c.close_filled-end.ensures c.if-ended.false) c.reserve.new.self
+    c.reserve.ensures.items
 
-pub returns-clause-succeeds : goal.returns-clause-succeeds
-returns-clause-succeeds g c = λ few.
-    c.insert_all.ensures.succeeds
-    (omega (arith, few, c.close_filled-end.ensures.nearer c.if-ended.false))
+-- the list is opened behind that
+wide : (g : _) (c : After-close_filled-last g)
+    → IsWide c.open_wide-wide.result c.reserve.new.self c.close_filled-end.result.0
+    c.size_hint-hint.result.0
+wide g c = record {
+  in_bounds = omega (arith, reached-long (reached g c));
+  front = c.open_wide-wide.ensures.front;
+  tail = c.open_wide-wide.ensures.tail;
+  capacity = c.open_wide-wide.ensures.other_capacity;
+  cost = c.open_wide-wide.ensures.other_cost;
+}
 
-pub returns-clause-had_room : goal.returns-clause-had_room
-returns-clause-had_room g c = λ fit.
-    let block = c.args.block in
-    let gave = c.close_filled-end.ensures.items in
-    c.insert_all.ensures.had_room (omega (
-      arith,
-      fit,
-      ap length gave.1,
-      between-length block gave.0,
-      length-append block.front block.tail,
-      gave.2,
-      c.close_filled-end.ensures.capacity,
-      c.close_filled-end.ensures.full c.if-ended.false,
-      c.close_filled-end.ensures.nearer c.if-ended.false,
-    )) ∙ c.close_filled-end.ensures.capacity
-
-pub returns-clause-cause : goal.returns-clause-cause
-returns-clause-cause g c =
-    if-err c.insert_all.result (λ refused is now some. now c.args.block.tail some)
-    c.insert_all.ensures.cause
-
-pub returns-then-ended-clause-named : goal.returns-then-ended-clause-named
-returns-then-ended-clause-named g c = inl (inl c.close_filled-end.ensures.capacity)
-
-pub returns-then-ended-clause-capacity : goal.returns-then-ended-clause-capacity
-returns-then-ended-clause-capacity g c = inl c.close_filled-end.ensures.capacity
-
-pub returns-then-ended-clause-cost : goal.returns-then-ended-clause-cost
-returns-then-ended-clause-cost g c =
-    let block = c.args.block in let u = c.close_filled-end.new.self in
-    let gave = c.close_filled-end.ensures.items in
-    let paid = c.close_filled-end.ensures.cost in
-    spliced-run (left_of block c.args.self.now.alloc) u
-    (c.close_filled-end.result.0 - length block.front) paid.0 (2 * length block.tail) paid.1
-    c.close_filled-end.ensures.capacity
-    (omega (
-      arith,
-      ap length gave.1,
-      between-length block gave.0,
-      length-append block.front block.tail,
-      gave.2,
-    ))
-    (omega (arith, paid.2))
-
-pub returns-clause-items : goal.returns-clause-items
-returns-clause-items g c =
-    let steps = g.I.Iterator.next_gives in
-    let gave = c.close_filled-end.ensures.items in
-    let before = subst (λ b. Gives steps c.args.iter gave.0 b c.close_filled-end.result.1)
-    c.if-ended.false gave.3 in
-    on-ok c.insert_all.result
-    (λ now. (
-      gave.0 ++ now.0,
-      drains-more steps g.I.Iterator.can_next g.I.Iterator.remaining c.args.iter
-          c.close_filled-end.result.1 gave.0 now.0 before now.1,
-      now.2 ∙ between-more c.args.block c.close_filled-end.new.self.items gave.0 now.0
-          c.close_filled-end.result.0 gave.1 gave.2,
-    )) c.insert_all.ensures.items
-
-pub returns-clause-placed : goal.returns-clause-placed
-returns-clause-placed g c =
-    let steps = g.I.Iterator.next_gives in
-    let gave = c.close_filled-end.ensures.items in
-    let before = subst (λ b. Gives steps c.args.iter gave.0 b c.close_filled-end.result.1)
-    c.if-ended.false gave.3 in
-    if-err c.insert_all.result
-    (λ refused is now. (
-      gave.0 ++ now.0,
-      now.1 ∙ between-more c.args.block c.close_filled-end.new.self.items gave.0 now.0
-          c.close_filled-end.result.0 gave.1 gave.2,
-      stopped-after steps g.I.Iterator.can_next g.I.Iterator.remaining c.args.iter
-          c.close_filled-end.result.1 refused.rest gave.0 now.0 refused.held.items
-          refused.in_hand before now.2,
-    )) c.insert_all.ensures.placed
-
-pub returns-clause-range : goal.returns-clause-range
-returns-clause-range g c =
-    let block = c.args.block in
-    let us = c.close_filled-end.new.self.items in
-    let end = c.close_filled-end.result.0 in
-    let gave = c.close_filled-end.ensures.items in
-    if-err c.insert_all.result
-    (λ refused is now. omega (
-      arith,
-      ap length now.1,
-      length-append (take end us ++ now.0) (drop end us),
-      length-append (take end us) now.0,
-      length-take-le end us
-          (omega (arith, ap length gave.1, between-length block gave.0, gave.2)),
-      length-drop end us,
-      ap length gave.1,
-      between-length block gave.0,
-      gave.2,
-      c.close_filled-end.ensures.full c.if-ended.false,
-    )) c.insert_all.ensures.placed
-
-pub returns-clause-capacity : goal.returns-clause-capacity
-returns-clause-capacity g c =
-    subst (λ n. IsLoose g.G.Growth.rule (param 0 g.row.T) n c.insert_all.new.self.capacity)
-    c.close_filled-end.ensures.capacity c.insert_all.ensures.capacity
-
-pub returns-clause-named : goal.returns-clause-named
-returns-clause-named g c =
-    let block = c.args.block in let u = c.close_filled-end.new.self in
-    let gave = c.close_filled-end.ensures.items in
-    extended-after g.G.Growth.rule (param 0 g.row.T) (left_of block c.args.self.now.alloc) u
-    block.before c.insert_all.new.self.capacity (length c.insert_all.new.self.items)
-    (g.I.Iterator.remaining c.args.iter)
-    (g.I.Iterator.remaining c.close_filled-end.result.1)
-    c.close_filled-end.ensures.capacity
-    (omega (
-      arith,
-      ap length gave.1,
-      between-length block gave.0,
-      length-append block.front block.tail,
-      gave.2,
-      c.close_filled-end.ensures.full c.if-ended.false,
-    ))
-    (c.close_filled-end.ensures.asked c.if-ended.false).1
-    (c.close_filled-end.ensures.nearer c.if-ended.false) c.insert_all.ensures.named
-
-pub returns-clause-cost : goal.returns-clause-cost
-returns-clause-cost g c =
+-- what the list was before it was opened
+grown : (g : _) (c : After-close_filled-last g)
+    → HasTaken g.G.Growth.rule (param 0 g.row.T) (left_of c.args.block c.args.self.now.alloc)
+    c.reserve.new.self 0 (g.I.Iterator.remaining c.args.iter)
+grown g c =
     let rule = g.G.Growth.rule in let T = param 0 g.row.T in let law = g.met.G.Growth.law in
-    let block = c.args.block in let u = c.close_filled-end.new.self in
-    let w = c.insert_all.new.self in let end = c.close_filled-end.result.0 in
-    let v = left_of block c.args.self.now.alloc in
-    let gave = c.close_filled-end.ensures.items in
-    let paid = c.close_filled-end.ensures.cost in
-    let long : length u.items ≡ length v.items + (end - length block.front) =
-    omega (
-      arith,
-      ap length gave.1,
-      between-length block gave.0,
-      length-append block.front block.tail,
-      gave.2,
-    ) in
-    let first : IsSpliced v u 0 = spliced-run v u (end - length block.front) paid.0 0 paid.1
-    c.close_filled-end.ensures.capacity long (omega (arith, paid.3 c.if-ended.false)) in
-    let high = loose-le rule T law u.capacity w.capacity c.insert_all.ensures.capacity in
-    let both = spliced-join v u w 0 (2 * (length u.items - end))
-    (omega (arith, c.close_filled-end.ensures.capacity)) high (omega (arith, long)) first
-    c.insert_all.ensures.cost in
-    spliced-less v w (0 + 2 * (length u.items - end)) (2 * length block.tail)
+    let left = g.I.Iterator.remaining in
+    let p = c.close_filled-end.ensures in
+    let first = filled-reached p c.if-ended.false in
+    reached-taken first rule T law c.args.self.now.alloc c.reserve.new.self 0 0 0 (omega arith)
+    (filled-taken p rule T 0 (left c.args.iter) (omega (arith, p.cost.3 c.if-ended.false)))
+    (taken-reserved rule T law c.close_filled-end.new.self c.reserve.new.self
+    c.size_hint-hint.result.0 (left c.close_filled-end.result.1) c.in_default.ensures.capacity
+    c.reserve.ensures.items c.reserve.ensures.alloc c.in_default.ensures.cost
+    c.reserve.ensures.cheap (c.size_hint-hint.ensures.lower first.finite))
+
+-- where a capacity comes from that was named after that
+named : (g : _) (c : After-close_filled-last g) (d n : ℕ)
+    → IsNamed g.G.Growth.rule (param 0 g.row.T) c.reserve.new.self.capacity d n
+    → IsExtended g.G.Growth.rule (param 0 g.row.T) (left_of c.args.block c.args.self.now.alloc)
+    d n (g.I.Iterator.remaining c.args.iter)
+named g c d n e =
+    let rule = g.G.Growth.rule in let T = param 0 g.row.T in
+    let p = c.close_filled-end.ensures in
+    reached-extended (filled-reached p c.if-ended.false) rule T c.args.self.now.alloc d n
+    p.capacity
+    (named-after rule T g.met.G.Growth.law c.close_filled-end.new.self.capacity
+    c.reserve.new.self.capacity d n _ e
+    (λ same. (
+      c.size_hint-hint.result.0,
+      c.size_hint-hint.ensures.lower,
+      c.in_default.ensures.capacity ∙ ap Some (sym same),
+    )))
+
+pub returns-then-ended : goal.returns-then-ended
+returns-then-ended g c =
+    let v = c.args.block in
+    let p = c.close_filled-end.ensures in
+    finished-ok v c.args.self.now.alloc c.args.iter c.close_filled-end.new.self tt
+    (p.items.0, filled-drains p c.if-ended.true, p.items.1)
+    (filled-taken p g.G.Growth.rule (param 0 g.row.T) (2 * length v.tail)
+    (g.I.Iterator.remaining c.args.iter) (omega (arith, p.cost.2)))
+    (inl (inl p.capacity))
+
+pub returns-in-Err : goal.returns-in-Err
+returns-in-Err g c =
+    let rule = g.G.Growth.rule in let T = param 0 g.row.T in
+    let left = g.I.Iterator.remaining in
+    let v = c.args.block in let a = c.args.self.now.alloc in
+    let w = c.reserve.new.self in let t = c.close_filled-end.result.1 in
+    let hint = c.size_hint-hint.result.0 in
+    let p = c.close_filled-end.ensures in
+    let same = c.in-Err.ensures.err in
+    let here = reached-grown (filled-reached p c.if-ended.false) w c.reserve.ensures.items in
+    finished-from v a c.args.iter w (Err _) here c.requires.some
+    (λ none. c.in-Err.ensures.succeeds_empty
+    (omega (arith, none, c.size_hint-hint.ensures.lower here.finite)))
+    tt
+    (stopped-now g.I.Iterator.next_gives g.I.Iterator.can_next left t t [] c.new.result.items None
+    c.new.ensures.items refl here.can_next here.finite)
+    (stop-at-hint rule T w v.tail c.new.result.items None (left t) c.in-Err.cause c.requires.some
+    c.new.ensures.items refl
+    (λ over. (
+      hint,
+      c.size_hint-hint.ensures.lower,
+      ap (λ z. capacity_for rule T z hint) same ∙ c.in-Err.ensures.cause over,
+    )))
+    refl
+    (subst (λ z. HasTaken rule T (left_of v a) z (2 * length v.tail) (left c.args.iter)) (sym same)
+    (filled-taken p rule T (2 * length v.tail) (left c.args.iter)
+    (omega (arith, p.cost.3 c.if-ended.false))))
+    (inl (inl (ap (λ z. z.capacity) same ∙ p.capacity)))
+
+pub returns-then-over : goal.returns-then-over
+returns-then-over g c =
+    let rule = g.G.Growth.rule in let T = param 0 g.row.T in let law = g.met.G.Growth.law in
+    let a = c.args.self.now.alloc in
+    let z = c.reserve.new.self in let w = c.close_filled-last.new.self in
+    let hint = c.size_hint-hint.result.0 in
+    let q = c.close_filled-last.ensures in
+    let at = (goal.at.returns-then-over g c).After-close_filled-last in
+    let here = reached g at in let there = wide g at in
+    let n = 2 * length c.args.block.tail in
+    finished-from c.args.block a c.args.iter w (Ok tt) here c.requires.some (λ _. refl) (
+      q.items.0,
+      filled-drains q c.if-over.true,
+      q.items.1 ∙ (λ i. (there.front i ++ q.items.0) ++ there.tail i),
+    )
+    tt tt tt
+    (reached-taken here rule T law a w 0 n n (omega arith) (grown g at)
+    (wide-taken q rule T n (g.I.Iterator.remaining c.close_filled-end.result.1) z
+    c.close_filled-end.result.0 hint there c.open_wide-wide.ensures.alloc
+    (omega (arith, q.cost.2, reached-wide here hint there, reached-long here))))
+    (named g at w.capacity (length w.items) (inl (q.capacity ∙ there.capacity)))
+
+pub returns : goal.returns
+returns g c =
+    let rule = g.G.Growth.rule in let T = param 0 g.row.T in let law = g.met.G.Growth.law in
+    let v = c.args.block in let a = c.args.self.now.alloc in
+    let z = c.reserve.new.self in let y = c.close_filled-last.new.self in
+    let w = c.insert_held.new.self in
+    let hint = c.size_hint-hint.result.0 in
+    let q = c.close_filled-last.ensures in
+    let at = (goal.at.returns g c).After-close_filled-last in
+    let here = reached g at in let there = wide g at in
+    let last = reached-more here hint there q c.if-over.false in
+    let n = length v.tail in
+    finished-from v a c.args.iter w c.insert_held.result last c.requires.some
+    c.insert_held.ensures.succeeds c.insert_held.ensures.items c.insert_held.ensures.placed
+    (if-err c.insert_held.result (λ refused is now. now v.tail c.requires.some)
+    c.insert_held.ensures.cause)
+    c.insert_held.ensures.err
+    (reached-taken last rule T law a w n (length y.items - c.close_filled-last.result.0) (2 * n)
+    (omega (arith, reached-long last))
+    (reached-taken here rule T law a y 0 n n (omega arith) (grown g at)
+    (wide-taken q rule T n (g.I.Iterator.remaining c.close_filled-end.result.1) z
+    c.close_filled-end.result.0 hint there c.open_wide-wide.ensures.alloc
     (omega (
       arith,
-      ap length gave.1,
-      between-length block gave.0,
-      gave.2,
-    )) both
-
-pub insert_all-requires-clause-in_bounds : goal.insert_all-requires-clause-in_bounds
-insert_all-requires-clause-in_bounds g c = grind (arith, common_steps)
+      q.cost.3 c.if-over.false,
+      reached-wide here hint there,
+      reached-long here,
+    ))))
+    c.insert_held.ensures.taken)
+    (named g at w.capacity (length w.items)
+    (subst (λ k. IsNamed rule T k w.capacity (length w.items)) (q.capacity ∙ there.capacity)
+    c.insert_held.ensures.named))

@@ -4,7 +4,7 @@ use Rattle.std.proofs.lemmas.List.{length_push}
 use Rattle.std.specs.Iterator.{YieldsThen}
 use Rattle.thin_block.proofs.Outcomes.{at-some}
 use Rattle.thin_vec.proofs.FillingLemmas.{yields-drawn, yields-held}
-use Rattle.thin_vec.proofs.filling.hold.Goals as goal
+use Rattle.thin_vec.proofs.holding.hold.Goals as goal
 
 pub loop-item-preserved : goal.loop-item-preserved
 loop-item-preserved g c =
