@@ -16,7 +16,7 @@ use std::mem::{ManuallyDrop, replace};
 
 // So many words of items, or more, are left to the allocator's `grow`, which may keep them where
 // they are. For fewer a new block is cheaper.
-pub(crate) const LONG: usize = 128;
+pub(crate) const LONG: usize = 32;
 
 impl<T, A: Allocator> Block<T, A> {
     ghost use Rattle.thin_block.specs.Block.{IsFrom};

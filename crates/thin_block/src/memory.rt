@@ -49,12 +49,34 @@ impl<T, A: Allocator> Block<T, A> {
         ensures err { OnErr result (self.new ≡ self.old) }
         ensures cause { IfErr result (λ cause. cause ≡ ThinVecError.OutOfMemory) }
     {
+        if self.cap() == 0 {
+            return self.begin(alloc, cap);
+        }
         let len = self.len();
         match header_items::<T>() {
             2 if len >= LONG => self.grow_in_place::<2>(alloc, len, cap),
             1 if len >= LONG / 2 => self.grow_in_place::<1>(alloc, len, cap),
             _ => self.remake(alloc, cap),
         }
+    }
+
+    /// `grow` where there is no block: nothing is copied, and nothing given back.
+    pub fn begin(&mut self, alloc: &A, cap: usize) -> Result<(), ThinVecError>
+        requires none { self.old.slots ≡ [] }
+        requires some { 0 < cap }
+        requires fits { Fits T.row cap }
+        ensures slots { OnOk result (self.new.slots ≡ empty cap) }
+        ensures len { self.new.len ≡ self.old.len }
+        ensures alloc { OnOk result (self.new.alloc ≡ Some alloc.now) }
+        ensures cost { OnOk result (self.new.cost ≡ growing self.old.len self.old.cost) }
+        ensures err { OnErr result (self.new ≡ self.old) }
+        ensures cause { IfErr result (λ cause. cause ≡ ThinVecError.OutOfMemory) }
+    {
+        let mut block = Block::allocate(alloc, cap)?;
+        block.charge_as(self);
+        let none = replace(self, block);
+        none.forget_none();
+        Ok(())
     }
 
     /// Gives up all slots but the first `cap`, by one allocation and one copy. Refused only where

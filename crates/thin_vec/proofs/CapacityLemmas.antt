@@ -1,9 +1,9 @@
 -- What a growth rule promises, and what a block holds once its capacity has changed.
-use Rattle.std.proofs.Common.{◌≡◌, ℕ, ◌^◌, ◌<◌, ◌≤◌, Some, None, arith, sym, ◌-◌, List, [], ◌++◌, length, take, Option, ap, ◌∙◌}
+use Rattle.std.proofs.Common.{◌≡◌, ℕ, ◌^◌, ◌<◌, ◌≤◌, Err, Ok, Result, Some, None, arith, refl, subst, sym, ◌-◌, List, [], ◌∷◌, ◌++◌, length, take, Option, ap, ◌∙◌}
 use Rattle.std.specs.Align.{type_align}
 use Rattle.std.specs.Borrow.{RattleType}
 use Rattle.std.specs.Mem.{type_size}
-use Rattle.std.specs.Prelude.{IfSome, Option}
+use Rattle.std.specs.Prelude.{IfSome, OnErr, OnOk, Option}
 use Rattle.thin_block.specs.Growth.{Grows, KeepsLaw, Rule}
 use Rattle.std.proofs.Math.Seq.{take-append_seam}
 use lib.ListN.{replicate}
@@ -31,6 +31,12 @@ module _ {T : Type 0} where
   pub front-none : (c : ℕ) → empty {T = T} c ≡ front [] c
   front-none c = let same : c ≡ c - 0 = omega arith in ap (λ (m : ℕ). empty m) same
 
+  -- and those of a larger row than none
+  pub row-none : (s : List (Option T)) (c : ℕ) → length s ≡ 0
+      → empty c ≡ s ++ replicate (c - length s) None
+  row-none [] c h = front-none c
+  row-none (x ∷ s) c h = absurd (omega (arith, h))
+
 module _ {T A : Type 0} {b : Block T A} {a : A} (t : IsThin b a) where
   -- a block of more slots
   pub settle-grow : (b' : Block T A) (c : ℕ) → length b.slots < c
@@ -42,6 +48,33 @@ module _ {T A : Type 0} {b : Block T A} {a : A} (t : IsThin b a) where
       (s ∙ (ap (λ (r : List (Option T)). r ++ replicate (c - length b.slots) None) t.packed.row
       ∙ front-grow xs (length b.slots) c (thin-room b a t) (omega arith)))
       (n ∙ t.packed.len) (omega (arith, thin-room b a t)) (λ x e. cc)
+
+  -- what a growth to c slots leaves, whether it was made or refused
+  pub record IsTried {X E : Type 0} (r : Result X E) (b' : Block T A) (c : ℕ) : Type 0 where
+    pub larger : length b.slots < c
+    pub slots : OnOk r (b'.slots ≡ b.slots ++ replicate (c - length b.slots) None)
+    pub len : b'.len ≡ b.len
+    pub alloc : OnOk r (b'.alloc ≡ Some a)
+    pub err : OnErr r (b' ≡ b)
+
+  -- the items are in front
+  pub settle-tried : {X E : Type 0} (r : Result X E) (b' : Block T A) (c : ℕ) → IsTried r b' c
+      → Settled b' a (items_in b.slots) (length b'.slots)
+  settle-tried (Ok _) b' c e =
+      let after = settle-grow b' c e.larger e.slots e.len e.alloc in
+      record { thin = after.thin; items = after.items; cap = refl }
+  settle-tried (Err _) b' c e =
+      subst (λ (q : Block T A). Settled q a (items_in b.slots) (length q.slots)) (sym e.err)
+      (record { thin = t; items = refl; cap = refl })
+
+  -- and there are at most so many slots
+  pub cap-tried : {X E : Type 0} (r : Result X E) (b' : Block T A) (c : ℕ) → IsTried r b' c
+      → length b'.slots ≤ c
+  cap-tried (Ok _) b' c e =
+      let cap = (settle-grow b' c e.larger e.slots e.len e.alloc).cap in omega (arith, cap)
+  cap-tried (Err _) b' c e =
+      let same : length b'.slots ≡ length b.slots = ap (λ (q : Block T A). length q.slots) e.err in
+      omega (arith, same, e.larger)
 
   -- a block of fewer slots, which hold all items
   pub settle-shrink : {b' : Block T A} (k : ℕ) → length (items_in b.slots) ≤ k

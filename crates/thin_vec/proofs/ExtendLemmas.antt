@@ -1,6 +1,7 @@
 -- What calls of `next` gave, and what a block and a list are once it was placed.
-use Rattle.std.proofs.Common.{true, ◌≡◌, ℕ, ◌+◌, ◌-◌, ◌<◌, ◌≤◌, List, [], ◌∷◌, ◌++◌, inl, inr, length, Option, Some, refl, sym, ap, subst, ◌∙◌, arith, false}
-use Rattle.std.proofs.lemmas.Bool.{cases_lt}
+use Rattle.std.proofs.Common.{true, ◌≡◌, ℕ, ◌+◌, ◌-◌, ◌<◌, ◌≤◌, List, [], ◌∷◌, ◌++◌, inl, inr, length, Option, Some, refl, sym, ap, subst, ◌∙◌, arith, false, Bool, ltb}
+use Rattle.std.proofs.lemmas.Bool.{cases_lt, lt-ltb}
+use borrow.Author.Tests.{le-ltb}
 use Rattle.std.proofs.lemmas.List.{map-append}
 use Rattle.std.specs.Borrow.{RattleType}
 use Rattle.std.proofs.iter.runs.Made.{run, to_end}
@@ -20,7 +21,7 @@ use Rattle.thin_block.proofs.CapacityLemmas.{ruled-grows}
 use Rattle.thin_block.proofs.SlotsLemmas.{laid-one}
 use Rattle.std.specs.Prelude.{◌⊎◌}
 use Rattle.thin_vec.specs.Extend.{GaveUp, IsCollected, IsExtendCost, IsLoose, IsNamed}
-use Rattle.thin_vec.specs.ThinVec.{IsNew, Thin, capacity_for, cost_at, exact_for}
+use Rattle.thin_vec.specs.ThinVec.{Thin, capacity_for, cost_at}
 use Rattle.thin_vec.proofs.FiltersLemmas.{moving-more}
 use Rattle.thin_vec.proofs.ListLemmas.{length-full}
 use Rattle.thin_vec.proofs.ThinVecLemmas.{cap-kept, cost_at-more, cost_at-moves, cost_at-same}
@@ -96,6 +97,11 @@ moving-since i k now before order e =
     ∙ (moving-more 1 (i - k) before ∙ ap (λ n. moving n before)
     (let f : i - k + 1 ≡ i + 1 - k = omega (arith, order) in f))
 
+-- an iterator ended where it left room
+pub short-ends : (b : Bool) (m n : ℕ) → (b ≡ true → m < n) → (b ≡ false → m ≡ n) → b ≡ ltb m n
+short-ends true m n short full = sym (lt-ltb m n (short refl))
+short-ends false m n short full = sym (le-ltb m n (omega (arith, full refl)))
+
 -- ---- how a capacity grows over several calls
 
 module _ (rule : Rule) (R : RattleType) (law : KeepsLaw rule) where
@@ -123,20 +129,11 @@ module _ (rule : Rule) (R : RattleType) (law : KeepsLaw rule) where
   named-after c d e n P (inl same) f = inr (f same)
   named-after c d e n P (inr p) f = inl (inr p)
 
-  module _ {T A : Type 0} (v : Thin T A) where
-    -- a list that was new, and then took exactly as many places as a hint says
-    pub collected-after : {a : A} {c d : ℕ} (n h : ℕ) (left : Count) → IsNew v a
-        → IsWithinCount h left → exact_for R v h ≡ Some c → IsNamed rule R c d n
-        → IsCollected rule R d n left
-    collected-after n h left new hint e (inl same) =
-        let want : length v.items + h ≡ h = omega (arith, ap length new.items) in
-        inr (
-          h,
-          hint,
-          sym (λ i. exact_capacity R (new.capacity i) (want i))
-              ∙ (e ∙ ap Some (sym same)),
-        )
-    collected-after n h left new hint e (inr p) = inl p
+  -- a list that took exactly as many places as a hint says
+  pub collected-after : {c d : ℕ} (n h : ℕ) (left : Count) → IsWithinCount h left
+      → exact_capacity R 0 h ≡ Some c → IsNamed rule R c d n → IsCollected rule R d n left
+  collected-after n h left hint e (inl same) = inr (h, hint, e ∙ ap Some (sym same))
+  collected-after n h left hint e (inr p) = inl p
 
   -- a ruled capacity
   pub loose-ruled : {T A : Type 0} (v : Thin T A) (k d : ℕ) → capacity_for rule R v k ≡ Some d

@@ -75,6 +75,49 @@ impl<T, A: Allocator, G: Growth> ThinVec<T, A, G> {
         }
     }
 
+    // `reserve_exact` of a list that owns no block, with no test for what it holds.
+    #[tactic(auto, using(thin_block::proofs::CapacityLemmas::exact))]
+    pub(crate) fn reserve_first(&mut self, capacity: usize) -> Result<(), ThinVecError>
+        requires none { self.old.capacity ≡ 0 }
+        requires within { IsWithin T.row self.old }
+        ensures succeeds_empty { capacity ≡ 0 → IsOk result }
+        ensures overflow { exact_capacity T.row 0 capacity ≡ None
+            → IsErrOf result ThinVecError.CapacityOverflow }
+        ensures cause { IfErr result (IsCause (exact_capacity T.row 0 capacity)) }
+        ensures items { self.new.items ≡ self.old.items }
+        ensures capacity { OnOk result
+            (exact_capacity T.row 0 capacity ≡ Some self.new.capacity) }
+        ensures had_room { capacity ≡ 0 → self.new.capacity ≡ self.old.capacity }
+        ensures alloc { self.new.alloc ≡ self.old.alloc }
+        ensures cost { OnOk result (self.new.cost ≡ cost_at self.old self.new.capacity) }
+        ensures err { OnErr result (self.new ≡ self.old) }
+        ensures within { IsWithin T.row self.new }
+    {
+        if capacity == 0 {
+            return Ok(());
+        }
+        if !fits::<T>(capacity) {
+            return Err(ThinVecError::CapacityOverflow);
+        }
+        self.begin(capacity)
+    }
+
+    // `grow_to` of a list that owns no block.
+    fn begin(&mut self, cap: usize) -> Result<(), ThinVecError>
+        requires none { self.old.capacity ≡ 0 }
+        requires some { 0 < cap }
+        requires fits { Fits T.row cap }
+        ensures items { self.new.items ≡ self.old.items }
+        ensures capacity { OnOk result (self.new.capacity ≡ cap) }
+        ensures alloc { self.new.alloc ≡ self.old.alloc }
+        ensures cost { OnOk result (self.new.cost ≡ growing (length self.old.items) self.old.cost) }
+        ensures err { OnErr result (self.new ≡ self.old) }
+        ensures cause { IfErr result (λ cause. cause ≡ ThinVecError.OutOfMemory) }
+        ensures within { IsWithin T.row self.new }
+    {
+        self.block.begin(&self.alloc, cap)
+    }
+
     // `reserve` for a run of items. Its test is one comparison where the run's length is known when
     // this is compiled, as that of a literal is; for the one item of a push, the test of `reserve`
     // is.
@@ -156,7 +199,7 @@ impl<T, A: Allocator, G: Growth> ThinVec<T, A, G> {
         }
     }
 
-    // Every growth is made here.
+    // Every growth is made here, but for the first of `begin`.
     pub(crate) fn grow_to(&mut self, cap: usize) -> Result<(), ThinVecError>
         requires larger { self.old.capacity < cap }
         requires fits { Fits T.row cap }
@@ -169,8 +212,7 @@ impl<T, A: Allocator, G: Growth> ThinVec<T, A, G> {
         ensures cause { IfErr result (λ cause. cause ≡ ThinVecError.OutOfMemory) }
         ensures within { IsWithin T.row self.new }
     {
-        self.block.grow(&self.alloc, cap)?;
-        Ok(())
+        self.block.grow(&self.alloc, cap)
     }
 
     // An empty list of a capacity that fits, which owns no block at 0. Every list of an exact

@@ -161,7 +161,8 @@ impl<T, A: Allocator, G: Growth> ThinVec<T, A, G> {
         (rest, over)
     }
 
-    // Fills the spare room, and stores the length once. Returns too whether the iterator ended.
+    // Fills the spare room, and stores the length once. Returns too whether the iterator ended: it
+    // did where room is left, which costs the loop no flag.
     pub(crate) fn fill_spare<I: Iterator<Item = T>>(&mut self, iter: I) -> (I, bool)
         requires can_next { I.can_next iter }
         requires finite { IsFinite (I.remaining iter) }
@@ -181,9 +182,9 @@ impl<T, A: Allocator, G: Growth> ThinVec<T, A, G> {
     {
         let len = self.block.len();
         let cap = self.block.cap();
-        let (rest, end, ended) = put_iter(&mut self.block, len, cap, iter);
+        let (rest, end, _ended) = put_iter(&mut self.block, len, cap, iter);
         self.block.set_len(end);
-        (rest, ended)
+        (rest, end < cap)
     }
 }
 
@@ -240,7 +241,7 @@ impl<T, A: Allocator> ThinVec<T, A> {
         ensures err_within { IfErr result (λ refused. IsWithin T.row refused.list) }
     {
         let mut list = ThinVec::new(alloc);
-        match list.reserve_exact(iter.size_hint().0) {
+        match list.reserve_first(iter.size_hint().0) {
             Ok(()) => (),
             Err(cause) => {
                 return Err(CollectRefused {

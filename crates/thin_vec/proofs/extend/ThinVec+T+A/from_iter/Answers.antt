@@ -2,7 +2,6 @@
 use Rattle.std.specs.Option.{option_to_list}
 use Rattle.std.proofs.Common.{None, [], refl, Some, inr, ◌+◌, ◌++◌, ◌≡◌, ◌∙◌, ap, arith, length, sym}
 use denote.Param.{param}
-use Rattle.thin_block.specs.Growth.{exact_capacity}
 use Rattle.thin_block.specs.Growth.{doubling}
 use Rattle.thin_block.specs.GrowthLaws.{doubling_law}
 use Rattle.thin_block.proofs.CapacityLemmas.{exact-same}
@@ -11,14 +10,7 @@ use Rattle.thin_vec.proofs.extend.ThinVec+T+A.from_iter.Goals as goal
 
 pub returns-in-Err-clause-cause : goal.returns-in-Err-clause-cause
 returns-in-Err-clause-cause g c = λ over.
-    let h = c.size_hint.result.0 in
-    let none = c.new-list.ensures.new in
-    let want : length c.new-list.result.items + h ≡ h = omega (arith, ap length none.items) in (
-      h,
-      c.size_hint.ensures.lower,
-      sym (λ i. exact_capacity (param 0 g.row.T) (none.capacity i) (want i))
-          ∙ c.in-Err.ensures.cause over,
-    )
+    (c.size_hint.result.0, c.size_hint.ensures.lower, c.in-Err.ensures.cause over)
 
 pub returns-in-Ok-extend_unhinted-clause-runs : goal.returns-in-Ok-extend_unhinted-clause-runs
 returns-in-Ok-extend_unhinted-clause-runs g c =
@@ -27,7 +19,7 @@ returns-in-Ok-extend_unhinted-clause-runs g c =
       filled.0,
       filled.1,
       filled.2 ∙ ap (λ old. old ++ filled.0)
-          (c.reserve_exact.ensures.items ∙ c.new-list.ensures.new.items),
+          (c.reserve_first.ensures.items ∙ c.new-list.ensures.new.items),
     )
 
 pub returns-in-Err-clause-err_named : goal.returns-in-Err-clause-err_named
@@ -38,26 +30,26 @@ returns-in-Err-clause-err_named g c =
 
 pub returns-in-Ok-extend_unhinted-clause-named : goal.returns-in-Ok-extend_unhinted-clause-named
 returns-in-Ok-extend_unhinted-clause-named g c =
-    collected-after doubling (param 0 g.row.T) doubling_law _ _ _ _ c.new-list.ensures.new
-    c.size_hint.ensures.lower c.in-Ok.ensures.capacity c.extend_unhinted.ensures.named
+    collected-after doubling (param 0 g.row.T) doubling_law _ _ _ c.size_hint.ensures.lower
+    c.in-Ok.ensures.capacity c.extend_unhinted.ensures.named
 
 pub returns-in-Err-extend_unhinted-clause-err_named : goal.returns-in-Err-extend_unhinted-clause-err_named
 returns-in-Err-extend_unhinted-clause-err_named g c =
-    collected-after doubling (param 0 g.row.T) doubling_law _ _ _ _ c.new-list.ensures.new
-    c.size_hint.ensures.lower c.in-Ok.ensures.capacity c.extend_unhinted.ensures.named
+    collected-after doubling (param 0 g.row.T) doubling_law _ _ _ c.size_hint.ensures.lower
+    c.in-Ok.ensures.capacity c.extend_unhinted.ensures.named
 
 pub returns-in-Err-clause-runs_err : goal.returns-in-Err-clause-runs_err
 returns-in-Err-clause-runs_err g c =
-    let none = c.reserve_exact.ensures.items ∙ c.new-list.ensures.new.items in
+    let none = c.reserve_first.ensures.items ∙ c.new-list.ensures.new.items in
     run_given g.I.Iterator.next_gives c.args.iter [] None c.args.iter
-    (λ l. l ≡ c.reserve_exact.new.self.items ++ []) refl
+    (λ l. l ≡ c.reserve_first.new.self.items ++ []) refl
     (ap (λ l. l ++ []) (sym none))
 
 pub returns-in-Err-extend_unhinted-clause-runs_err : goal.returns-in-Err-extend_unhinted-clause-runs_err
 returns-in-Err-extend_unhinted-clause-runs_err g c =
     let placed = c.in-Err-extend_unhinted.ensures.placed in
     let items = placed.1 ∙ ap (λ old. old ++ placed.0)
-    (c.reserve_exact.ensures.items ∙ c.new-list.ensures.new.items) in
+    (c.reserve_first.ensures.items ∙ c.new-list.ensures.new.items) in
     let hand = c.in-Err-extend_unhinted.refused.in_hand in
     run_given g.I.Iterator.next_gives c.args.iter placed.0 hand
     c.in-Err-extend_unhinted.refused.rest

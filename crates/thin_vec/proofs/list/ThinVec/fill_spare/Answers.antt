@@ -1,8 +1,10 @@
 -- What the iterator gave lies behind the items, and the stored length counts both.
 use Rattle.std.proofs.lemmas.Grind.{common_steps}
-use Rattle.std.proofs.Common.{◌++◌, ◌-◌, ◌≡◌, ◌∙◌, ap, arith, length, length-append}
+use Rattle.std.proofs.Common.{◌++◌, ◌-◌, ◌≡◌, ◌∙◌, ap, arith, length, length-append, ltb, subst}
 use Rattle.thin_block.specs.Cost.{moving}
 use Rattle.thin_block.specs.Slots.{items_in}
+use Rattle.thin_vec.specs.Extend.{Gives}
+use Rattle.thin_vec.proofs.ExtendLemmas.{short-ends}
 use Rattle.thin_vec.proofs.TwoListsLemmas.{settle-more}
 use Rattle.thin_vec.proofs.ListLemmas.{Settled, thin-room}
 use Rattle.thin_vec.proofs.ThinVecLemmas.{within-kept}
@@ -36,6 +38,12 @@ ends g c =
       c.self.invariant.packed.len,
     )
 
+-- the iterator ended where room is left
+ended : (g : _) (c : goal.After-set_len g) → c.put_iter-rest.result.2
+    ≡ ltb c.put_iter-rest.result.1 c.cap-cap.result
+ended g c = short-ends c.put_iter-rest.result.2 c.put_iter-rest.result.1 c.cap-cap.result
+    c.put_iter-rest.ensures.short c.put_iter-rest.ensures.full
+
 begins : (g : _) (c : goal.After-set_len g) → c.len-len.result ≡ length c.args.self.now.items
 begins g c = c.len-len.ensures.value
     ∙ (c.self.invariant.packed.len ∙ ap (λ v. length v.items) c.self.view_is)
@@ -45,8 +53,15 @@ invariant_of-self g c = (facts g c).thin
 
 pub returns-clause-items : goal.returns-clause-items
 returns-clause-items g c =
-    let gave = c.put_iter-rest.ensures.slots in
-    (gave.0, (facts g c).items ∙ ap (λ v. v.items ++ gave.0) c.self.view_is, gave.3)
+    let gave = c.put_iter-rest.ensures.slots in (
+      gave.0,
+      (facts g c).items ∙ ap (λ v. v.items ++ gave.0) c.self.view_is,
+      subst (λ e. Gives g.I.Iterator.next_gives c.args.iter gave.0 e c.put_iter-rest.result.0)
+          (ended g c) gave.3,
+    )
+
+pub returns-clause-rest : goal.returns-clause-rest
+returns-clause-rest g c = λ left. c.put_iter-rest.ensures.rest (ended g c ∙ left)
 
 pub returns-clause-room : goal.returns-clause-room
 returns-clause-room g c = thin-room c.set_len.new.self c.self.inside.alloc (facts g c).thin
@@ -60,12 +75,12 @@ returns-clause-cost g c =
 
 pub returns-clause-nearer : goal.returns-clause-nearer
 returns-clause-nearer g c =
-    λ left. omega (arith, c.put_iter-rest.ensures.nearer left, ends g c, begins g c)
+    λ left. omega (arith, c.put_iter-rest.ensures.nearer (ended g c ∙ left), ends g c, begins g c)
 
 pub returns-clause-full : goal.returns-clause-full
 returns-clause-full g c = λ left. omega (
   arith,
-  c.put_iter-rest.ensures.full left,
+  c.put_iter-rest.ensures.full (ended g c ∙ left),
   ends g c,
   (facts g c).cap,
   c.cap-cap.ensures.value,
