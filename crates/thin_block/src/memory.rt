@@ -60,8 +60,8 @@ impl<T, A: Allocator> Block<T, A> {
         }
     }
 
-    /// `grow` where there is no block: nothing is copied, and nothing given back.
-    pub fn begin(&mut self, alloc: &A, cap: usize) -> Result<(), ThinVecError>
+    // `grow` where there is no block: nothing is copied, and nothing given back.
+    fn begin(&mut self, alloc: &A, cap: usize) -> Result<(), ThinVecError>
         requires none { self.old.slots ≡ [] }
         requires some { 0 < cap }
         requires fits { Fits T.row cap }

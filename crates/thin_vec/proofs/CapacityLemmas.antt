@@ -31,12 +31,6 @@ module _ {T : Type 0} where
   pub front-none : (c : ℕ) → empty {T = T} c ≡ front [] c
   front-none c = let same : c ≡ c - 0 = omega arith in ap (λ (m : ℕ). empty m) same
 
-  -- and those of a larger row than none
-  pub row-none : (s : List (Option T)) (c : ℕ) → length s ≡ 0
-      → empty c ≡ s ++ replicate (c - length s) None
-  row-none [] c h = front-none c
-  row-none (x ∷ s) c h = absurd (omega (arith, h))
-
 module _ {T A : Type 0} {b : Block T A} {a : A} (t : IsThin b a) where
   -- a block of more slots
   pub settle-grow : (b' : Block T A) (c : ℕ) → length b.slots < c

@@ -99,23 +99,7 @@ impl<T, A: Allocator, G: Growth> ThinVec<T, A, G> {
         if !fits::<T>(capacity) {
             return Err(ThinVecError::CapacityOverflow);
         }
-        self.begin(capacity)
-    }
-
-    // `grow_to` of a list that owns no block.
-    fn begin(&mut self, cap: usize) -> Result<(), ThinVecError>
-        requires none { self.old.capacity ≡ 0 }
-        requires some { 0 < cap }
-        requires fits { Fits T.row cap }
-        ensures items { self.new.items ≡ self.old.items }
-        ensures capacity { OnOk result (self.new.capacity ≡ cap) }
-        ensures alloc { self.new.alloc ≡ self.old.alloc }
-        ensures cost { OnOk result (self.new.cost ≡ growing (length self.old.items) self.old.cost) }
-        ensures err { OnErr result (self.new ≡ self.old) }
-        ensures cause { IfErr result (λ cause. cause ≡ ThinVecError.OutOfMemory) }
-        ensures within { IsWithin T.row self.new }
-    {
-        self.block.begin(&self.alloc, cap)
+        self.grow_to(capacity)
     }
 
     // `reserve` for a run of items. Its test is one comparison where the run's length is known when
@@ -199,7 +183,7 @@ impl<T, A: Allocator, G: Growth> ThinVec<T, A, G> {
         }
     }
 
-    // Every growth is made here, but for the first of `begin`.
+    // Every growth is made here.
     pub(crate) fn grow_to(&mut self, cap: usize) -> Result<(), ThinVecError>
         requires larger { self.old.capacity < cap }
         requires fits { Fits T.row cap }
