@@ -1,9 +1,10 @@
 //! What a closure owns is dropped with it, once its call ends.
 use crate::counted::Counted;
 use crate::items::list_of;
-use crate::standing::{assert_items, assert_same};
+use crate::standing::{assert_items, assert_len, assert_same};
 use std::cell::Cell;
 use std::process::Abort;
+use std::rc::Rc;
 use thin_vec::ThinVec;
 
 // Whether an item is not 2. The value that is lent is owned by the closure that asks.
@@ -51,4 +52,19 @@ fn dedup_by_key_drops_its_closure(rt: HostRuntime) {
     let mut list = list_of(&rt, rt.alloc(), &[1, 2, 3]);
     list.dedup_by_key(move |item| is_not_two(&owned, *item) && *item == 3);
     assert_without_two(&rt, &list, &drops);
+}
+
+// The closure owns a counted reference: one that borrows the borrow checker does not cover here.
+#[test]
+fn extract_if_drops_its_closure(rt: HostRuntime) {
+    let kept = Rc::new(rt.alloc(), 2).ok().expect(&rt, "memory");
+    let owned = kept.clone().expect(&rt, "memory");
+    let mut list = list_of(&rt, rt.alloc(), &[1, 2, 3]);
+    assert_len(&rt, &list, 3);
+    let mut twos = list.extract_if(0, 3, move |item: &mut i32| *item == *owned.as_ref());
+    assert_same(&rt, twos.next(), Some(2));
+    assert_same(&rt, Rc::strong_count(&kept), 2);
+    drop(twos);
+    assert_same(&rt, Rc::strong_count(&kept), 1);
+    assert_items(&rt, list.as_slice(), &[1, 3]);
 }
