@@ -1,11 +1,15 @@
 -- Which capacities are no overflow, for callers at a known type.
-use Rattle.std.proofs.Common.{◌≡◌, ℕ, zero, suc, ◌^◌, ◌<◌, arith, IfErr, Option, Result, Ok, Err, Some, None, refl, sym, ◌∙◌}
+use Rattle.std.proofs.Common.{if◌then◌else◌, Bool, true, false, ◌≡◌, ℕ, zero, suc, ◌-◌, ◌*◌, ◌^◌, ◌<◌, arith, IfErr, Option, Result, Ok, Err, Some, None, inl, inr, refl, sym, ◌∙◌}
 use Rattle.std.specs.Borrow.{RattleType}
+use Rattle.std.specs.Align.{type_align}
 use Rattle.std.specs.Mem.{type_size}
+use Rattle.std.specs.Prelude.{◌==◌, max, nat_lt}
+use Rattle.std.proofs.lemmas.Bool.{cases_lt}
 use Rattle.thin_block.specs.declared.errors.ThinVecError.{ThinVecError}
 use Rattle.thin_block.specs.declared.errors.ThinVecError.TheVariants.{CapacityOverflow, OutOfMemory}
-use Rattle.thin_block.specs.Growth.{exact_capacity}
-use Rattle.thin_block.proofs.CapacityLemmas.{exact-fits, exact-same, small_fits}
+use Rattle.thin_block.specs.Capacity.{first, fits}
+use Rattle.thin_block.specs.Growth.{doubling, exact_capacity, fitting, ruled_capacity}
+use Rattle.thin_block.proofs.CapacityLemmas.{exact-fits, exact-same, ruled-rule, ruled-same, small_fits}
 use Rattle.thin_vec.specs.ThinVec.{IsCause}
 
 -- fewer than 2 ^ 31 items of fewer than 2 ^ 31 bytes have a capacity
@@ -31,3 +35,36 @@ pub few_items : {X : Type 0} (R : RattleType) (n : ℕ) (result : Result X ThinV
 few_items R n (Ok made) few small told = tt
 few_items R n (Err cause) few small told =
     cause-named (exact_capacity R 0 n) n cause (exact-few R n few small) told
+
+-- a test of two small numbers is small
+either_few : (b : Bool) (m n : ℕ) → m < 2 ^ 31 → n < 2 ^ 31 → (if b then m else n) < 2 ^ 31
+either_few true m n few less = few
+either_few false m n few less = less
+
+first_few : (s : ℕ) → first s < 2 ^ 31
+unfolding first
+first_few s = either_few (nat_lt (2 ^ 61 - 1) s) 1 4 (omega arith) (omega arith)
+
+-- doubling names a capacity for fewer than 2 ^ 30 items of fewer than 2 ^ 31 bytes
+pub doubling-few : (R : RattleType) (c w : ℕ) → w < 2 ^ 30 → type_size R < 2 ^ 31
+    → (n : ℕ) × (ruled_capacity doubling R c w ≡ Some n)
+unfolding doubling fitting
+doubling-few R c w few small = elim (cases_lt c w) [
+  | inl more ↦ (let s : ℕ = type_size R in
+      let twice : ℕ = if c == 0 then first s else 2 * c in
+      let less : twice < 2 ^ 31 =
+      either_few (c == 0) (first s) (2 * c) (first_few s) (omega arith) in
+      let fit : fits s (type_align R) (max w (if c == 0 then first s else 2 * c)) ≡ true =
+      small_fits R (max w twice) (omega (arith, less)) small in
+      (max w twice, ruled-rule doubling R c w more (omega arith) ∙ rw fit refl))
+  | inr enough ↦ (c, ruled-same doubling R c w enough)
+]
+
+-- so a call that wants room for few items more fails only because memory was refused
+pub few_more : {X : Type 0} (R : RattleType) (c w : ℕ) (result : Result X ThinVecError)
+    → w < 2 ^ 30 → type_size R < 2 ^ 31 → IfErr result (IsCause (ruled_capacity doubling R c w))
+    → IfErr result (λ cause. cause ≡ OutOfMemory)
+few_more R c w (Ok made) few small told = tt
+few_more R c w (Err cause) few small told =
+    let named = doubling-few R c w few small in
+    cause-named (ruled_capacity doubling R c w) named.0 cause named.1 told

@@ -46,6 +46,17 @@ pub fn room_for_eight<A: Allocator>(alloc: A) -> Result<ThinVec<u64, A>, ThinVec
     ThinVec::with_capacity(alloc, 8)
 }
 
+/// Makes room for eight more behind fewer than a thousand. So few are no overflow either.
+#[tactic(auto, using(thin_vec::proofs::FewLemmas::few_more))]
+pub fn reserve_eight<A: Allocator>(list: &mut ThinVec<u64, A>) -> Result<(), ThinVecError>
+    requires few { length list.old.items < 1000 }
+    ensures room { OnOk result (HasRoomFor list.new 8) }
+    ensures cause { IfErr result (λ cause. cause ≡ ThinVecError.OutOfMemory) }
+    ensures err { OnErr result (list.new ≡ list.old) }
+{
+    list.reserve(8)
+}
+
 /// A list of the numbers of both slices, in order.
 pub fn joined<A: Allocator>(
     alloc: A,
