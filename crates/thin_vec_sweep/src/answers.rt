@@ -1,5 +1,5 @@
 //! What a closure that is passed to a call answers, and what it was asked.
-use crate::case::{At, same};
+use crate::assertions::{At, same};
 use crate::ledger::count;
 use crate::samples::Sample;
 use crate::shapes::Cases;

@@ -1,10 +1,8 @@
 //! The calls, and which of them a list of any items has.
 pub mod arrays;
-pub mod bytes;
 pub mod clones;
 pub mod compared;
 pub mod conversions;
-pub mod copies;
 pub mod ends;
 pub mod filling;
 pub mod filters;
@@ -14,17 +12,14 @@ pub mod ranges;
 pub mod reads;
 pub mod replaced;
 pub mod rooms;
-pub mod shown;
+pub mod seconds;
+pub mod slices;
 pub mod splices;
 
 use crate::calls::arrays::Listed;
-use crate::calls::bytes::{FromStr, WriteAll, WriteSome};
-use crate::calls::clones::{
-    CloneAsTrait, CloneOn, ExtendFromSlice, ExtendFromWithin, Resize, ResizeWith,
-};
+use crate::calls::clones::{ExtendFromWithin, Resize, ResizeWith};
 use crate::calls::compared::{Compare, Print};
-use crate::calls::conversions::{FromOthers, FromSlice, IntoOthers, New, Repeated, WithCapacity};
-use crate::calls::copies::{CloneCopies, ExtendFromCopies, FromCopies};
+use crate::calls::conversions::{FromOthers, FromStr, IntoOthers, New, Repeated, WithCapacity};
 use crate::calls::ends::{
     Clear, Insert, InsertMut, InsertReserved, Pop, Push, PushMut, PushReserved, Remove, SwapRemove,
     Truncate,
@@ -32,12 +27,18 @@ use crate::calls::ends::{
 use crate::calls::filling::{Collect, Extend, ExtendAsTrait, FromIter};
 use crate::calls::filters::{Dedup, DedupBy, DedupByKey, PopIf, Retain, RetainMut};
 use crate::calls::into_iter::{IntoIter, IntoIterClone};
-use crate::calls::joins::{Append, SplitOff};
+use crate::calls::joins::{Append, AppendReserved, SplitOff};
 use crate::calls::ranges::{Bounds, Drained, Extracted};
 use crate::calls::reads::{AsMutSlice, Index, IndexMut, Iterate, IterateMut, Read};
 use crate::calls::replaced::{ReplaceRange, ReplaceRangeFromCopies, ReplaceRangeFromList};
 use crate::calls::rooms::{Reserve, ReserveExact, ShrinkTo, ShrinkToFit};
-use crate::calls::shown::{AppendReserved, ExtendFromCopiesReserved, ExtendFromSliceReserved};
+use crate::calls::seconds::{
+    CloneAsTrait, CloneCopies, CloneOn, FromCopies, FromSlice, MakeSecond,
+};
+use crate::calls::slices::{
+    AppendSlice, ExtendFromCopies, ExtendFromCopiesReserved, ExtendFromSlice,
+    ExtendFromSliceReserved, WriteAll, WriteSome,
+};
 use crate::calls::splices::Spliced;
 use crate::samples::Sample;
 use crate::sweep::{Scope, sweep};
@@ -57,7 +58,7 @@ pub fn every_growth<T: Sample, G: Ruled, R: Abort>(rt: &R, scope: &Scope) {
     sweep::<ReserveExact, T, G, R>(rt, scope);
     sweep::<Resize, T, G, R>(rt, scope);
     sweep::<ResizeWith, T, G, R>(rt, scope);
-    sweep::<ExtendFromSlice, T, G, R>(rt, scope);
+    sweep::<AppendSlice<ExtendFromSlice>, T, G, R>(rt, scope);
     sweep::<ExtendFromWithin, T, G, R>(rt, scope);
     sweep::<Append, T, G, R>(rt, scope);
     sweep::<Extend, T, G, R>(rt, scope);
@@ -87,13 +88,13 @@ pub fn every_replacing<T: Sample, G: Ruled, R: Abort>(rt: &R, scope: &Scope) {
     sweep::<ReplaceRange, T, G, R>(rt, scope);
     sweep::<ReplaceRangeFromList, T, G, R>(rt, scope);
     sweep::<AppendReserved, T, G, R>(rt, scope);
-    sweep::<ExtendFromSliceReserved, T, G, R>(rt, scope);
+    sweep::<AppendSlice<ExtendFromSliceReserved>, T, G, R>(rt, scope);
 }
 
 /// Sweeps those of them that copy the items.
 pub fn every_replacing_by_copies<T: Sample + Copy, G: Ruled, R: Abort>(rt: &R, scope: &Scope) {
     sweep::<ReplaceRangeFromCopies, T, G, R>(rt, scope);
-    sweep::<ExtendFromCopiesReserved, T, G, R>(rt, scope);
+    sweep::<AppendSlice<ExtendFromCopiesReserved>, T, G, R>(rt, scope);
 }
 
 /// Sweeps the calls that ask a closure which items stay, and those by which the items of a range go
@@ -117,8 +118,8 @@ pub fn every_reading<T: Sample, G: Ruled, R: Abort>(rt: &R, scope: &Scope) {
     sweep::<AsMutSlice, T, G, R>(rt, scope);
     sweep::<IndexMut, T, G, R>(rt, scope);
     sweep::<IterateMut, T, G, R>(rt, scope);
-    sweep::<CloneOn, T, G, R>(rt, scope);
-    sweep::<CloneAsTrait, T, G, R>(rt, scope);
+    sweep::<MakeSecond<CloneOn>, T, G, R>(rt, scope);
+    sweep::<MakeSecond<CloneAsTrait>, T, G, R>(rt, scope);
     sweep::<IntoIterClone, T, G, R>(rt, scope);
 }
 
@@ -132,16 +133,16 @@ pub fn every_making<T: Sample, R: Abort>(rt: &R, scope: &Scope) {
     sweep::<FromIter, T, Doubling, R>(rt, scope);
     sweep::<Collect, T, Doubling, R>(rt, scope);
     sweep::<ExtendAsTrait, T, Doubling, R>(rt, scope);
-    sweep::<FromSlice, T, Doubling, R>(rt, scope);
+    sweep::<MakeSecond<FromSlice>, T, Doubling, R>(rt, scope);
     sweep::<FromOthers, T, Doubling, R>(rt, scope);
 }
 
 /// Sweeps each call that copies the items of a list as one run.
 pub fn every_copying<T: Sample + Copy, R: Abort>(rt: &R, scope: &Scope) {
-    sweep::<ExtendFromCopies, T, Doubling, R>(rt, scope);
-    sweep::<ExtendFromCopies, T, PowerBytes, R>(rt, scope);
-    sweep::<CloneCopies, T, PowerBytes, R>(rt, scope);
-    sweep::<FromCopies, T, Doubling, R>(rt, scope);
+    sweep::<AppendSlice<ExtendFromCopies>, T, Doubling, R>(rt, scope);
+    sweep::<AppendSlice<ExtendFromCopies>, T, PowerBytes, R>(rt, scope);
+    sweep::<MakeSecond<CloneCopies>, T, PowerBytes, R>(rt, scope);
+    sweep::<MakeSecond<FromCopies>, T, Doubling, R>(rt, scope);
 }
 
 /// Sweeps each call that compares, hashes or prints the items of a list.
@@ -163,6 +164,6 @@ pub fn every_bound<R: Abort>(rt: &R, scope: &Scope) {
 }
 
 fn every_writing<G: Ruled, R: Abort>(rt: &R, scope: &Scope) {
-    sweep::<WriteSome, u8, G, R>(rt, scope);
-    sweep::<WriteAll, u8, G, R>(rt, scope);
+    sweep::<AppendSlice<WriteSome>, u8, G, R>(rt, scope);
+    sweep::<AppendSlice<WriteAll>, u8, G, R>(rt, scope);
 }

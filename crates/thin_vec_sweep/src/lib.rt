@@ -13,7 +13,9 @@
 //! how it has to end (`growth` where the list's capacity may change, `fresh` where another list is
 //! made, `further_growth` and `granted` one by one where it makes several requests; no question
 //! where it takes no memory); `begin`, from where on requests are counted and refused; the call,
-//! behind a test of what it requires; `answered`, and the same edit of `case.items`. What a closure
+//! behind a test of what it requires; `answered`, and the same edit of `case.items`. A call that
+//! appends a slice's items has an impl of `AppendsSlice` (`calls/slices.rt`) in the place of `run`,
+//! and one that makes a second list an impl of `MakesSecond` (`calls/seconds.rt`). What a closure
 //! answers is in `answers.rt`, steps from both ends are in `walks.rt`: on lists and ranges of up to
 //! 6 items all there are. An iterator that a call is given is one of `claims.rt`, which counts how
 //! often it is asked.
@@ -25,6 +27,8 @@
 
 #[cfg(test)]
 mod answers;
+#[cfg(test)]
+mod assertions;
 #[cfg(test)]
 mod calls;
 #[cfg(test)]

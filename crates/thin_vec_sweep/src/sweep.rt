@@ -1,5 +1,6 @@
 //! How a call is swept: over each shape, each argument and each request that can be refused.
-use crate::case::{At, Case};
+use crate::assertions::At;
+use crate::case::Case;
 use crate::ledger::Ledger;
 use crate::samples::Sample;
 use crate::shapes::Shape;

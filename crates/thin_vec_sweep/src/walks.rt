@@ -36,6 +36,14 @@ impl Walk {
         }
     }
 
+    /// So many steps, all from the back or all from the front.
+    pub fn one_way(steps: usize, is_back: bool) -> Walk {
+        Walk {
+            steps,
+            ends: if is_back { u64::MAX } else { 0 },
+        }
+    }
+
     /// Whether the step of that number is from the back.
     pub fn is_back(self, step: usize) -> bool {
         self.ends >> (step % 64) & 1 == 1

@@ -1,9 +1,8 @@
 //! What a call makes is on the allocator that it was passed, and not on the list's own; also what
 //! it makes of nothing.
 use crate::claims::Claims;
-use crate::items::list_of;
+use crate::items::{list_of, refusing_nth};
 use crate::standing::{assert_counts, assert_len, assert_same};
-use refusing::Refusing;
 use std::alloc::{Allocator, Global};
 use std::process::Abort;
 use thin_vec::ThinVec;
@@ -72,22 +71,22 @@ fn in_second_iter<A: Allocator + Copy>(
 // Each way for a list of these items: nothing of it stays on its own allocator, and one block comes
 // from the other.
 fn assert_moved(rt: &impl Abort, alloc: Global, items: &[i32]) {
-    let own = Refusing::new(alloc, 0);
-    let other = Refusing::new(alloc, 0);
+    let own = refusing_nth(rt, alloc, 0);
+    let other = refusing_nth(rt, alloc, 0);
     for way in 0..6 {
-        let list = list_of(rt, &own, items);
+        let list = list_of(rt, own, items);
         let made = match way {
-            0 => in_vec(rt, list, &other),
-            1 => in_boxed_slice(rt, list, &other),
-            2 => in_split_list(rt, list, &other),
-            3 => in_clone(rt, list, &other),
-            4 => in_copy(rt, list, &other),
-            _ => in_second_iter(rt, list, &other),
+            0 => in_vec(rt, list, other),
+            1 => in_boxed_slice(rt, list, other),
+            2 => in_split_list(rt, list, other),
+            3 => in_clone(rt, list, other),
+            4 => in_copy(rt, list, other),
+            _ => in_second_iter(rt, list, other),
         };
         assert_same(rt, (way, own.blocks(), other.blocks()), (way, 0, 1));
         drop(made);
     }
-    assert_counts(rt, &own, if items.is_empty() { 0 } else { 6 }, 0);
+    assert_counts(rt, own, if items.is_empty() { 0 } else { 6 }, 0);
 }
 
 #[test]
@@ -98,12 +97,12 @@ fn what_a_call_makes_is_on_the_allocator_passed(rt: HostRuntime) {
 
 #[test]
 fn a_splice_holds_on_the_allocator_passed(rt: HostRuntime) {
-    let own = Refusing::new(rt.alloc(), 0);
-    let other = Refusing::new(rt.alloc(), 0);
-    let mut list = list_of(&rt, &own, &[1, 2, 3]);
+    let own = refusing_nth(&rt, rt.alloc(), 0);
+    let other = refusing_nth(&rt, rt.alloc(), 0);
+    let mut list = list_of(&rt, own, &[1, 2, 3]);
     assert_len(&rt, &list, 3);
-    let answer = splice_by(&mut list, (1, 2), Claims::new(&[7, 8, 9], 0), &other);
+    let answer = splice_by(&mut list, (1, 2), Claims::new(&[7, 8, 9], 0), other);
     answer.ok().expect(&rt, "memory");
-    assert_counts(&rt, &own, 2, 1);
-    assert_counts(&rt, &other, 1, 0);
+    assert_counts(&rt, own, 2, 1);
+    assert_counts(&rt, other, 1, 0);
 }

@@ -1,5 +1,5 @@
 //! Which capacity a list has after each call, against numbers worked out by hand.
-use crate::items::push_all;
+use crate::items::{push_all, refusing_nth};
 use crate::standing::{assert_list, assert_same};
 use refusing::Refusing;
 use std::alloc::Global;
@@ -67,20 +67,23 @@ fn test_reserve_exact(rt: HostRuntime) {
     assert_reserved_exact(&rt, &mut list, 16, 33);
 }
 
+// Asserts that no list of so many places is made.
+fn assert_overflows<T: Drop>(rt: &impl Abort, alloc: &'static Refusing<Global>, capacity: usize) {
+    let refused = ThinVec::<T, &'static Refusing<Global>>::with_capacity(alloc, capacity).err();
+    let overflow = Some(ThinVecError::CapacityOverflow);
+    assert_same(rt, (capacity, refused), (capacity, overflow));
+}
+
 // No request is made: each overflow is found before.
 #[test]
 fn test_capacity_overflow(rt: HostRuntime) {
-    let refusing = Refusing::new(rt.alloc(), 0);
+    let refusing = refusing_nth(&rt, rt.alloc(), 0);
     let most = isize::MAX as usize;
     for capacity in [most - 16, most - 2, most, most + 1] {
-        let refused = ThinVec::<u8, &Refusing<Global>>::with_capacity(&refusing, capacity).err();
-        let overflow = Some(ThinVecError::CapacityOverflow);
-        assert_same(&rt, (capacity, refused), (capacity, overflow));
+        assert_overflows::<u8>(&rt, refusing, capacity);
     }
     for capacity in [most / 2 + 1, most + 1] {
-        let refused = ThinVec::<u16, &Refusing<Global>>::with_capacity(&refusing, capacity).err();
-        let overflow = Some(ThinVecError::CapacityOverflow);
-        assert_same(&rt, (capacity, refused), (capacity, overflow));
+        assert_overflows::<u16>(&rt, refusing, capacity);
     }
     assert_same(&rt, refusing.requests(), 0);
 }

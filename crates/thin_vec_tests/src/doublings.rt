@@ -4,7 +4,7 @@ ghost use Rattle.std.specs.Prelude.{◌≡◌, ◌+◌, ◌*◌, ◌<◌, ◌≤
 ghost use Rattle.thin_vec.specs.ThinVec.{HasRoomFor};
 
 use std::alloc::Allocator;
-use thin_vec::{Rejected, ThinVec, ThinVecError};
+use thin_vec::{ThinVec, ThinVecError};
 
 /// Five pushes into a new list, and the capacity after each. The one block of 4 places was copied
 /// into one of 8.
@@ -27,40 +27,7 @@ pub fn five_pushes<A: Allocator>(alloc: A) -> Result<(ThinVec<u32, A>, [usize; 5
     Ok((list, [first, second, third, fourth, fifth]))
 }
 
-/// Seventeen pushes into a new list: 28 items were copied into four blocks, of 4, 8, 16 and 32
-/// places.
-pub fn seventeen_pushes<A: Allocator>(alloc: A) -> Result<ThinVec<u32, A>, ThinVecError>
-    ensures len { IfOk result (λ list. length list.items ≡ 17) }
-    ensures capacity { IfOk result (λ list. list.capacity ≡ 32) }
-    ensures grown { IfOk result (λ list. list.cost.grown ≡ 28) }
-    ensures blocks { IfOk result (λ list. list.cost.blocks ≡ 4) }
-{
-    let mut list = eight_pushes(alloc)?;
-    push_full(&mut list)?;
-    push_three(&mut list);
-    push_three(&mut list);
-    push_spare(&mut list);
-    push_full(&mut list)?;
-    Ok(list)
-}
-
-// The first eight of them.
-fn eight_pushes<A: Allocator>(alloc: A) -> Result<ThinVec<u32, A>, ThinVecError>
-    ensures len { IfOk result (λ list. length list.items ≡ 8) }
-    ensures capacity { IfOk result (λ list. list.capacity ≡ 8) }
-    ensures grown { IfOk result (λ list. list.cost.grown ≡ 4) }
-    ensures blocks { IfOk result (λ list. list.cost.blocks ≡ 2) }
-{
-    let mut list = ThinVec::new(alloc);
-    push_full(&mut list)?;
-    push_three(&mut list);
-    push_full(&mut list)?;
-    push_three(&mut list);
-    Ok(list)
-}
-
 // A push into a full list, which doubles the capacity.
-#[tactic(auto, using(thin_block::proofs::CapacityLemmas::doubling_first, thin_block::proofs::CapacityLemmas::doubling_next, thin_vec::proofs::ThinVecLemmas::costs))]
 fn push_full<A: Allocator>(list: &mut ThinVec<u32, A>) -> Result<(), ThinVecError>
     requires full { length list.old.items ≡ list.old.capacity }
     requires few { list.old.capacity < 100 }
@@ -75,21 +42,7 @@ fn push_full<A: Allocator>(list: &mut ThinVec<u32, A>) -> Result<(), ThinVecErro
     Ok(())
 }
 
-// Three pushes into spare room.
-fn push_three<A: Allocator>(list: &mut ThinVec<u32, A>)
-    requires room { HasRoomFor list.old 3 }
-    ensures len { length list.new.items ≡ length list.old.items + 3 }
-    ensures capacity { list.new.capacity ≡ list.old.capacity }
-    ensures grown { list.new.cost.grown ≡ list.old.cost.grown }
-    ensures blocks { list.new.cost.blocks ≡ list.old.cost.blocks }
-{
-    push_spare(list);
-    push_spare(list);
-    push_spare(list);
-}
-
 // A push into spare room.
-#[tactic(auto, using(thin_vec::proofs::ThinVecLemmas::costs))]
 fn push_spare<A: Allocator>(list: &mut ThinVec<u32, A>)
     requires room { HasRoomFor list.old 1 }
     ensures len { length list.new.items ≡ length list.old.items + 1 }

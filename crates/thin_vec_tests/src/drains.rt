@@ -107,47 +107,45 @@ pub fn drain_between<T: Drop, A: Allocator, G: Growth>(
     Some(list.drain(start, end))
 }
 
-// What a drain gives from the front, and the slice of the list that it leaves.
+// What a drain gives from the front, or from the back, and the slice of the list that it leaves.
 #[cfg(test)]
 fn assert_drained<T: PartialEq + std::fmt::Debug + Drop, A: Allocator>(
     rt: &impl Abort,
     mut list: ThinVec<T, A>,
     range: (Bound<usize>, Bound<usize>),
+    is_reverse: bool,
     given: &[T],
     left: &[T],
 ) {
     let capacity = list.capacity();
     {
         let mut drain = drain_between(&mut list, range.0, range.1).expect(rt, "a range");
-        assert_items(rt, drain.as_slice(), given);
-        assert_same(rt, drain.size_hint(), (given.len(), Some(given.len())));
-        for item in given {
-            assert_same(rt, drain.next().as_ref(), Some(item));
-        }
-        let ended = (drain.len(), drain.next(), drain.next_back());
-        assert_same(rt, ended, (0, None, None));
+        assert_given(rt, &mut drain, is_reverse, given);
     }
     assert_items(rt, list.as_slice(), left);
     assert_same(rt, list.capacity(), capacity);
 }
 
-// The same from the back.
+// What it gives until it has ended.
 #[cfg(test)]
-fn assert_drained_back<T: PartialEq + std::fmt::Debug + Drop, A: Allocator>(
+fn assert_given<T: PartialEq + std::fmt::Debug + Drop, A: Allocator>(
     rt: &impl Abort,
-    mut list: ThinVec<T, A>,
-    range: (Bound<usize>, Bound<usize>),
+    drain: &mut Drain<'_, T, A>,
+    is_reverse: bool,
     given: &[T],
-    left: &[T],
 ) {
-    {
-        let mut drain = drain_between(&mut list, range.0, range.1).expect(rt, "a range");
-        for item in given.iter().rev() {
-            assert_same(rt, drain.next_back().as_ref(), Some(item));
+    assert_items(rt, drain.as_slice(), given);
+    assert_same(rt, drain.size_hint(), (given.len(), Some(given.len())));
+    let mut items = given.iter();
+    for _ in 0..given.len() {
+        if is_reverse {
+            assert_same(rt, drain.next_back().as_ref(), items.next_back());
+        } else {
+            assert_same(rt, drain.next().as_ref(), items.next());
         }
-        assert_same(rt, drain.next_back(), None);
     }
-    assert_items(rt, list.as_slice(), left);
+    let ended = (drain.len(), drain.next(), drain.next_back());
+    assert_same(rt, ended, (0, None, None));
 }
 
 #[cfg(test)]
@@ -156,26 +154,26 @@ const ALL: (Bound<usize>, Bound<usize>) = (Bound::Unbounded, Bound::Unbounded);
 #[test]
 fn test_drain_items(rt: HostRuntime) {
     let list = list_of(&rt, rt.alloc(), &[1, 2, 3]);
-    assert_drained(&rt, list, ALL, &[1, 2, 3], &[]);
+    assert_drained(&rt, list, ALL, false, &[1, 2, 3], &[]);
 }
 
 #[test]
 fn test_drain_items_reverse(rt: HostRuntime) {
     let list = list_of(&rt, rt.alloc(), &[1, 2, 3]);
-    assert_drained_back(&rt, list, ALL, &[1, 2, 3], &[]);
+    assert_drained(&rt, list, ALL, true, &[1, 2, 3], &[]);
 }
 
 #[test]
 fn test_drain_items_zero_sized(rt: HostRuntime) {
     let list = list_of(&rt, rt.alloc(), &[(), (), ()]);
-    assert_drained(&rt, list, ALL, &[(), (), ()], &[]);
+    assert_drained(&rt, list, ALL, false, &[(), (), ()], &[]);
 }
 
 #[test]
 fn test_drain_range(rt: HostRuntime) {
     let from_four = (Bound::Included(4), Bound::Unbounded);
     let numbers = list_of(&rt, rt.alloc(), &[1, 2, 3, 4, 5]);
-    assert_drained(&rt, numbers, from_four, &[5], &[1, 2, 3, 4]);
+    assert_drained(&rt, numbers, from_four, false, &[5], &[1, 2, 3, 4]);
 }
 
 #[cfg(test)]
@@ -184,33 +182,33 @@ const INNER: (Bound<usize>, Bound<usize>) = (Bound::Included(1), Bound::Excluded
 #[test]
 fn test_drain_range_of_texts(rt: HostRuntime) {
     let texts = list_of(&rt, rt.alloc(), &["1", "2", "3", "4", "5"]);
-    assert_drained(&rt, texts, INNER, &["2", "3", "4"], &["1", "5"]);
+    assert_drained(&rt, texts, INNER, false, &["2", "3", "4"], &["1", "5"]);
 }
 
 #[test]
 fn test_drain_range_of_texts_reverse(rt: HostRuntime) {
     let texts = list_of(&rt, rt.alloc(), &["1", "2", "3", "4", "5"]);
-    assert_drained_back(&rt, texts, INNER, &["2", "3", "4"], &["1", "5"]);
+    assert_drained(&rt, texts, INNER, true, &["2", "3", "4"], &["1", "5"]);
 }
 
 #[test]
 fn test_drain_range_zero_sized(rt: HostRuntime) {
     let units = list_of(&rt, rt.alloc(), &[(), (), (), (), ()]);
-    assert_drained(&rt, units, INNER, &[(), (), ()], &[(), ()]);
+    assert_drained(&rt, units, INNER, false, &[(), (), ()], &[(), ()]);
 }
 
 #[test]
 fn test_drain_inclusive_range(rt: HostRuntime) {
     let letters = list_of(&rt, rt.alloc(), &['a', 'b', 'c', 'd', 'e']);
     let inner = (Bound::Included(1), Bound::Included(3));
-    assert_drained(&rt, letters, inner, &['b', 'c', 'd'], &['a', 'e']);
+    assert_drained(&rt, letters, inner, false, &['b', 'c', 'd'], &['a', 'e']);
 }
 
 #[test]
 fn test_drain_inclusive_range_to_the_first(rt: HostRuntime) {
     let texts = list_of(&rt, rt.alloc(), &["0", "1"]);
     let first = (Bound::Unbounded, Bound::Included(0));
-    assert_drained(&rt, texts, first, &["0"], &["1"]);
+    assert_drained(&rt, texts, first, false, &["0"], &["1"]);
 }
 
 #[test]
@@ -223,7 +221,7 @@ fn test_drain_inclusive_range_of_texts(rt: HostRuntime) {
     ] {
         let texts = ThinVec::from_slice(rt.alloc(), &all).expect(&rt, "memory");
         let range = (Bound::Included(first), Bound::Included(last));
-        assert_drained(&rt, texts, range, given, left);
+        assert_drained(&rt, texts, range, false, given, left);
     }
 }
 
@@ -249,15 +247,6 @@ fn collects_what_it_drains(rt: HostRuntime) {
     let back = reversed(&mut list, 0, 2, alloc).expect(&rt, "memory");
     assert_items(&rt, back.as_slice(), &[4, 1]);
     assert_items(&rt, list.as_slice(), &[5, 6]);
-}
-
-// Takes the last item out.
-#[cfg(test)]
-fn assert_emptied(rt: &impl Abort, list: &mut ThinVec<u32>) {
-    assert_len(rt, list, 1);
-    assert_same(rt, greatest_out(list, 0, 1, 3), 5);
-    assert_same(rt, without(list, 0, 0), None);
-    assert_items(rt, list.as_slice(), &[]);
 }
 
 #[test]

@@ -1,12 +1,10 @@
 //! Each item is dropped once, by the list or by whoever it was handed out to, and each block is
 //! given back.
 use crate::counted::{Counted, counted_list};
-use crate::items::{push, push_all};
-use crate::standing::{assert_len, assert_same};
-use refusing::Refusing;
+use crate::items::{push, refusing_nth};
+use crate::standing::assert_same;
 use std::alloc::Global;
 use std::cell::Cell;
-use std::process::Abort;
 use thin_vec::ThinVec;
 
 #[test]
@@ -47,9 +45,9 @@ fn test_double_drop(rt: HostRuntime) {
 
 #[test]
 fn test_drop_empty(rt: HostRuntime) {
-    let refusing = Refusing::new(rt.alloc(), 1);
+    let refusing = refusing_nth(&rt, rt.alloc(), 1);
     {
-        let _list = ThinVec::<u64, _>::new(&refusing);
+        let _list = ThinVec::<u64, _>::new(refusing);
     }
     assert_same(&rt, refusing.requests(), 0);
 }

@@ -1,9 +1,8 @@
 //! `extend` and `from_iter`: the Rust crate's own cases, and what a refusal hands back.
 use crate::claims::Claims;
 use crate::counted::Counted;
-use crate::items::list_of;
+use crate::items::{list_of, refusing_nth};
 use crate::standing::{assert_counts, assert_list, assert_same};
-use refusing::Refusing;
 use std::alloc::Global;
 use std::cell::Cell;
 use std::iter::once;
@@ -58,14 +57,14 @@ fn test_collect_capacity(rt: HostRuntime) {
 
 #[test]
 fn row_26_extend_refused(rt: HostRuntime) {
-    let refusing = Refusing::new(rt.alloc(), 2);
-    let mut list = ThinVec::new(&refusing);
+    let refusing = refusing_nth(&rt, rt.alloc(), 2);
+    let mut list = ThinVec::new(refusing);
     let refused = list
         .extend(Claims::new(&[1, 2, 3, 4, 5], 0))
         .err()
         .expect(&rt, "accepted");
     assert_list(&rt, &list, &[1, 2, 3, 4], 4);
-    assert_counts(&rt, &refusing, 2, 1);
+    assert_counts(&rt, refusing, 2, 1);
     let ExtendRefused {
         cause,
         in_hand,

@@ -1,10 +1,6 @@
 //! `extract_if`: what a program may promise of it, and what it leaves, wherever it is given up.
 ghost use Rattle.std.specs.Prelude.{◌≡◌, ◌≤◌, length};
 
-#[cfg(test)]
-use crate::items::list_of;
-#[cfg(test)]
-use crate::standing::{assert_len, assert_list, assert_same};
 use std::alloc::Allocator;
 use thin_vec::{Growth, ThinVec};
 

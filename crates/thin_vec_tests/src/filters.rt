@@ -1,14 +1,10 @@
 //! `retain` and `dedup`, in their forms: what no clause says, and the cases of the Rust crate's own
 //! tests.
-use crate::items::{boxes_of, list_of, push, push_all};
+use crate::items::{boxes_of, list_of};
 use crate::standing::{assert_items, assert_list, assert_same};
 use std::alloc::Global;
-use std::cell::Cell;
-use std::cmp::Ordering;
-use std::hash::{DefaultHasher, Hash, Hasher};
 use std::process::Abort;
 use thin_vec::ThinVec;
-use thin_vec_uses::last_digits::LastDigit;
 
 #[test]
 fn test_retain(rt: HostRuntime) {

@@ -1,7 +1,6 @@
 //! Walks over a list that is used up: what remains, and how they end.
-use crate::items::list_of;
+use crate::items::{list_of, refusing_nth};
 use crate::standing::{assert_items, assert_list, assert_same};
-use refusing::Refusing;
 use std::alloc::{Allocator, Global};
 use std::process::Abort;
 use thin_vec::{IntoIter, ThinVec};
@@ -61,14 +60,13 @@ fn clone_between_steps<A: Allocator + Copy>(
 
 #[test]
 fn test_into_iter_clone(rt: HostRuntime) {
-    let refusing = Refusing::new(rt.alloc(), 2);
-    let alloc = &refusing;
-    let mut items = list_of(&rt, alloc, &[1, 2, 3]).into_iter();
-    assert_same(&rt, items.clone(alloc).is_err(), true);
+    let refusing = refusing_nth(&rt, rt.alloc(), 2);
+    let mut items = list_of(&rt, refusing, &[1, 2, 3]).into_iter();
+    assert_same(&rt, items.clone(refusing).is_err(), true);
     assert_same(&rt, refusing.blocks(), 1);
-    clone_between_steps(&rt, &mut items, alloc);
+    clone_between_steps(&rt, &mut items, refusing);
     refusing.refuse(1);
-    assert_cloned(&rt, &items, alloc, &[]);
+    assert_cloned(&rt, &items, refusing, &[]);
 }
 
 // A list to which the items were moved, in order and then last first.

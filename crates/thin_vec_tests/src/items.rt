@@ -1,10 +1,18 @@
-//! Items for a list that is tested.
+//! Items and allocators for a list that is tested.
 ghost use Rattle.std.specs.Prelude.{◌≡◌, length};
 
+use refusing::Refusing;
 use std::alloc::{AllocError, Allocator, Global};
 use std::ops::Range;
 use std::process::Abort;
 use thin_vec::{Growth, ThinVec};
+
+/// An allocator that refuses the request of that number, and none at 0. It stays until the tests
+/// end, so that none has to keep it.
+pub fn refusing_nth(rt: &impl Abort, alloc: Global, number: u64) -> &'static Refusing<Global> {
+    let refusing = Refusing::new(alloc, number);
+    Box::leak(Box::new(alloc, refusing).ok().expect(rt, "memory"))
+}
 
 /// A list of these items, without spare room.
 pub fn list_of<T: Copy + Drop, A: Allocator>(

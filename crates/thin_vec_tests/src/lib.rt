@@ -71,8 +71,6 @@ mod tables;
 #[cfg(test)]
 mod texts;
 #[cfg(test)]
-mod trees;
-#[cfg(test)]
 mod two_lists;
 #[cfg(test)]
 mod uses;

@@ -1,9 +1,9 @@
 //! Lists that are written out, and lists made from an array.
 use crate::counted::Counted;
-use crate::standing::{assert_counts, assert_list, assert_same};
+use crate::standing::{assert_counts, assert_same};
 use refusing::Refusing;
 use std::cell::Cell;
-use thin_vec::{ThinVec, ThinVecError, thin_vec};
+use thin_vec::{ThinVecError, thin_vec};
 
 #[test]
 fn a_refused_list_written_out_makes_no_item(rt: HostRuntime) {

@@ -41,15 +41,18 @@ fn of_a_rule<G: Growth, A: Allocator>(list: &ThinVec<u8, A, G>) -> usize {
 
 #[test]
 fn names_and_traits_are_there(rt: HostRuntime) {
-    let alloc = rt.alloc();
-    let list: ThinVec<u8, Global, Doubling> = thin_vec![alloc => 1, 2].expect(&rt, "memory");
+    let list: ThinVec<u8, Global, Doubling> = thin_vec![rt.alloc() => 1, 2].expect(&rt, "memory");
     is_a_list(&list);
     assert_same(&rt, of_a_rule::<Doubling, Global>(&list), 2);
-    let items: IntoIter<u8, Global, Doubling> = list.into_iter();
-    is_an_iterator(&items);
-    let mut bytes = ThinVec::new(alloc);
-    is_an_iterator(&bytes.drain(0, 0));
-    is_an_extraction(&bytes.extract_if(0, 0, |_item: &mut u8| true));
     is_a_cause(&ThinVecError::OutOfMemory);
     assert_same(&rt, fits::<u8>(3), true);
+}
+
+#[test]
+fn iterators_and_their_traits_are_there(rt: HostRuntime) {
+    let mut bytes = ThinVec::new(rt.alloc());
+    is_an_iterator(&bytes.drain(0, 0));
+    is_an_extraction(&bytes.extract_if(0, 0, |_item: &mut u8| true));
+    let items: IntoIter<u8, Global, Doubling> = bytes.into_iter();
+    is_an_iterator(&items);
 }

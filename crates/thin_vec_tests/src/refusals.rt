@@ -1,11 +1,9 @@
 //! Memory that is refused, request by request, and what stands afterwards.
-use crate::items::{list_of, push_all};
-use crate::standing::{assert_counts, assert_items, assert_len, assert_list, assert_same};
-use refusing::Refusing;
+use crate::items::{push_all, refusing_nth};
+use crate::standing::{assert_counts, assert_list, assert_same};
 use std::alloc::Allocator;
-use std::io::Write;
 use std::process::Abort;
-use thin_vec::{IntoIter, ThinVec, ThinVecError};
+use thin_vec::{ThinVec, ThinVecError};
 
 // Pushes, which is refused, and asserts what is handed back.
 fn assert_push_refused<A: Allocator>(rt: &impl Abort, list: &mut ThinVec<i32, A>, item: i32) {
@@ -16,16 +14,16 @@ fn assert_push_refused<A: Allocator>(rt: &impl Abort, list: &mut ThinVec<i32, A>
 
 #[test]
 fn row_16_push_refused(rt: HostRuntime) {
-    let refusing = Refusing::new(rt.alloc(), 2);
-    let mut list = ThinVec::new(&refusing);
+    let refusing = refusing_nth(&rt, rt.alloc(), 2);
+    let mut list = ThinVec::new(refusing);
     push_all(&rt, &mut list, 1..5);
-    assert_counts(&rt, &refusing, 1, 1);
+    assert_counts(&rt, refusing, 1, 1);
 
     assert_push_refused(&rt, &mut list, 5);
     assert_list(&rt, &list, &[1, 2, 3, 4], 4);
-    assert_counts(&rt, &refusing, 2, 1);
+    assert_counts(&rt, refusing, 2, 1);
 
     push_all(&rt, &mut list, 5..6);
     assert_list(&rt, &list, &[1, 2, 3, 4, 5], 8);
-    assert_counts(&rt, &refusing, 3, 1);
+    assert_counts(&rt, refusing, 3, 1);
 }

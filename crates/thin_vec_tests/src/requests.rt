@@ -1,5 +1,6 @@
 //! Which requests `refusing` refuses, and what it counts.
-use crate::standing::{assert_counts, assert_items, assert_same};
+use crate::items::refusing_nth;
+use crate::standing::{assert_counts, assert_same};
 use refusing::Refusing;
 use std::alloc::{Allocator, Global};
 use std::process::Abort;
@@ -14,37 +15,9 @@ fn assert_reserve<A: Allocator>(rt: &impl Abort, items: &mut Vec<u8, A>, granted
     assert_same(rt, items.reserve(1000).is_ok(), granted);
 }
 
-// Asserts what the `Vec` holds.
-fn assert_holds<A: Allocator>(rt: &impl Abort, items: &Vec<u8, A>, wanted: &[u8]) {
-    assert_items(rt, items.as_slice(), wanted);
-}
-
-// Asserts how many requests were made.
-fn assert_requests(rt: &impl Abort, refusing: &Refusing<Global>, requests: u64) {
-    assert_same(rt, refusing.requests(), requests);
-}
-
 // Asserts how many blocks are out.
 fn assert_blocks(rt: &impl Abort, refusing: &Refusing<Global>, blocks: u64) {
     assert_same(rt, refusing.blocks(), blocks);
-}
-
-#[test]
-fn only_the_second_request_is_refused(rt: HostRuntime) {
-    let refusing = Refusing::new(rt.alloc(), 2);
-    let mut one = Vec::new(&refusing);
-    let mut other = Vec::new(&refusing);
-
-    assert_push(&rt, &mut one, 1, true);
-    assert_push(&rt, &mut other, 2, false);
-    assert_holds(&rt, &other, &[]);
-    assert_same(&rt, other.capacity(), 0);
-    assert_requests(&rt, &refusing, 2);
-
-    assert_push(&rt, &mut other, 3, true);
-    assert_holds(&rt, &other, &[3]);
-    assert_holds(&rt, &one, &[1]);
-    assert_requests(&rt, &refusing, 3);
 }
 
 // Pushes to a `Vec` of its own, and asserts how many blocks are out by the refusal, and by the push
@@ -59,32 +32,32 @@ fn assert_blocks_by_pushes(rt: &impl Abort, refusing: &Refusing<Global>) {
 
 #[test]
 fn counts_the_blocks_that_are_out(rt: HostRuntime) {
-    let refusing = Refusing::new(rt.alloc(), 0);
+    let refusing = refusing_nth(&rt, rt.alloc(), 0);
     {
-        let mut one = Vec::new(&refusing);
-        assert_blocks(&rt, &refusing, 0);
+        let mut one = Vec::new(refusing);
+        assert_blocks(&rt, refusing, 0);
         assert_push(&rt, &mut one, 1, true);
-        assert_blocks(&rt, &refusing, 1);
+        assert_blocks(&rt, refusing, 1);
         assert_reserve(&rt, &mut one, true);
-        assert_blocks(&rt, &refusing, 1);
+        assert_blocks(&rt, refusing, 1);
 
         refusing.refuse(1);
-        assert_blocks_by_pushes(&rt, &refusing);
+        assert_blocks_by_pushes(&rt, refusing);
     }
-    assert_blocks(&rt, &refusing, 0);
+    assert_blocks(&rt, refusing, 0);
 }
 
 #[test]
 fn each_number_refuses_its_own_request(rt: HostRuntime) {
     for refused in 1..9 {
-        let refusing = Refusing::new(rt.alloc(), refused);
+        let refusing = refusing_nth(&rt, rt.alloc(), refused);
         let mut kept = Vec::new(rt.alloc());
         for request in 1..10 {
-            let mut one = Vec::new(&refusing);
+            let mut one = Vec::new(refusing);
             let answer = (refused, request, one.push(request).is_ok());
             assert_same(&rt, answer, (refused, request, request != refused));
             kept.push(one).ok().expect(&rt, "memory");
         }
-        assert_counts(&rt, &refusing, 9, 8);
+        assert_counts(&rt, refusing, 9, 8);
     }
 }

@@ -1,7 +1,6 @@
 //! What is written through a lent slice or a lent item is in the list afterwards.
-use crate::items::{list_of, push_all};
-use crate::standing::{assert_items, assert_len, assert_same};
-use thin_vec::ThinVec;
+use crate::items::list_of;
+use crate::standing::{assert_items, assert_same};
 
 fn add(amount: i32, items: &mut [i32]) {
     for item in items {
@@ -11,27 +10,21 @@ fn add(amount: i32, items: &mut [i32]) {
 
 #[test]
 fn test_slice_from_mut(rt: HostRuntime) {
-    let mut list = ThinVec::new(rt.alloc());
-    push_all(&rt, &mut list, 1..6);
-    assert_len(&rt, &list, 5);
+    let mut list = list_of(&rt, rt.alloc(), &[1, 2, 3, 4, 5]);
     add(2, &mut list.as_mut_slice()[2..]);
     assert_items(&rt, list.as_slice(), &[1, 2, 5, 6, 7]);
 }
 
 #[test]
 fn test_slice_to_mut(rt: HostRuntime) {
-    let mut list = ThinVec::new(rt.alloc());
-    push_all(&rt, &mut list, 1..6);
-    assert_len(&rt, &list, 5);
+    let mut list = list_of(&rt, rt.alloc(), &[1, 2, 3, 4, 5]);
     add(1, &mut list.as_mut_slice()[..2]);
     assert_items(&rt, list.as_slice(), &[2, 3, 3, 4, 5]);
 }
 
 #[test]
 fn test_split_at_mut(rt: HostRuntime) {
-    let mut list = ThinVec::new(rt.alloc());
-    push_all(&rt, &mut list, 1..6);
-    assert_len(&rt, &list, 5);
+    let mut list = list_of(&rt, rt.alloc(), &[1, 2, 3, 4, 5]);
     let (left, right) = list.as_mut_slice().split_at_mut(2);
     add(1, left);
     add(2, right);

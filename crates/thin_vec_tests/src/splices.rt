@@ -4,11 +4,9 @@ ghost use Rattle.std.specs.Prelude.{◌≡◌, ◌≤◌, ◌++◌, OnOk, drop, 
 #[cfg(test)]
 use crate::claims::Claims;
 #[cfg(test)]
-use crate::items::list_of;
+use crate::items::{list_of, refusing_nth};
 #[cfg(test)]
 use crate::standing::{assert_items, assert_len, assert_list, assert_same};
-#[cfg(test)]
-use refusing::Refusing;
 use std::alloc::Allocator;
 #[cfg(test)]
 use std::alloc::Global;
@@ -123,21 +121,21 @@ fn assert_range_refused<A: Allocator + Copy>(
 
 #[test]
 fn row_12_splice_refused(rt: HostRuntime) {
-    let refusing = Refusing::new(rt.alloc(), 2);
+    let refusing = refusing_nth(&rt, rt.alloc(), 2);
     let iter = Claims::new(&[10, 11, 12], 0);
     let left = (&[1, 2, 10, 11, 5][..], 5);
     let wanted = (ThinVecError::OutOfMemory, &[][..], Some(12), &[][..]);
-    assert_range_refused(&rt, &refusing, &[1, 2, 3, 4, 5], (2, 4), iter, left, wanted);
+    assert_range_refused(&rt, refusing, &[1, 2, 3, 4, 5], (2, 4), iter, left, wanted);
 }
 
 #[test]
 fn row_39_splice_refused(rt: HostRuntime) {
     // The list's first memory, the vector's, and then the list's growth.
-    let refusing = Refusing::new(rt.alloc(), 3);
+    let refusing = refusing_nth(&rt, rt.alloc(), 3);
     let iter = Claims::new(&[7, 8, 9], 0);
     let left = (&[1, 7, 3][..], 3);
     let wanted = (ThinVecError::OutOfMemory, &[8, 9][..], None, &[][..]);
-    assert_range_refused(&rt, &refusing, &[1, 2, 3], (1, 2), iter, left, wanted);
+    assert_range_refused(&rt, refusing, &[1, 2, 3], (1, 2), iter, left, wanted);
 }
 
 // Puts so many numbers in the place of the second item.

@@ -2,10 +2,13 @@
 //! texts. And many random calls, beside a map of std's that takes the same calls.
 ghost use Rattle.std.specs.Prelude.{◌<◌, length};
 
+use crate::counted::Counted;
+use crate::items::refusing_nth;
 use crate::standing::{assert_counts, assert_same};
 use crate::texts::assert_texts;
 use refusing::Refusing;
 use std::alloc::{Allocator, Global};
+use std::cell::Cell;
 use std::collections::BTreeMap;
 use std::process::Abort;
 use thin_rows::{Rows, ThinVecError};
@@ -65,126 +68,38 @@ fn assert_value<A: Allocator>(
 }
 
 #[test]
-fn keeps_entries_by_rising_columns(rt: HostRuntime) {
-    let refusing = Refusing::new(rt.alloc(), 0);
-    let mut table = Rows::with_rows(&refusing, 1).expect(&rt, "memory");
-    assert_set(&rt, &mut table, (0, usize::MAX), 1, None);
-    assert_set(&rt, &mut table, (0, 0), 2, None);
-    assert_entries(&rt, &table, 0, &[(0, 2), (usize::MAX, 1)]);
-    assert_value(&rt, &table, (0, 5), None);
-    assert_removed(&rt, &mut table, (0, 5), None);
-    assert_value(&rt, &table, (0, 0), Some(2));
-
-    refusing.refuse(1);
-    assert_set(&rt, &mut table, (0, 0), 3, Some(2));
-    assert_counts(&rt, &refusing, 0, 2);
-    assert_entries(&rt, &table, 0, &[(0, 3), (usize::MAX, 1)]);
-}
-
-#[test]
-fn a_refused_set_leaves_an_empty_row_without_a_block(rt: HostRuntime) {
-    let refusing = Refusing::new(rt.alloc(), 0);
-    let mut table = Rows::with_rows(&refusing, 2).expect(&rt, "memory");
-    refusing.refuse(1);
-    assert_row(&rt, &table, 1);
-    let refused = table.set(1, 4, 8).err().expect(&rt, "a refusal");
-    assert_same(
-        &rt,
-        (refused.value, refused.cause),
-        (8, ThinVecError::OutOfMemory),
-    );
-    assert_entries(&rt, &table, 1, &[]);
-    assert_counts(&rt, &refusing, 1, 1);
-}
-
-#[test]
 fn a_refused_table_is_none(rt: HostRuntime) {
-    let refusing = Refusing::new(rt.alloc(), 1);
-    let alloc = &refusing;
-    let refused = Rows::<u32, &Refusing<Global>>::with_rows(alloc, 3).err();
+    let refusing = refusing_nth(&rt, rt.alloc(), 1);
+    let refused = Rows::<u32, &Refusing<Global>>::with_rows(refusing, 3).err();
     assert_same(&rt, refused, Some(ThinVecError::OutOfMemory));
-    assert_counts(&rt, &refusing, 1, 0);
+    assert_counts(&rt, refusing, 1, 0);
     for rows in [usize::MAX, 1 << 60] {
         let refused = Rows::<u32, Global>::with_rows(rt.alloc(), rows).err();
         assert_same(&rt, refused, Some(ThinVecError::CapacityOverflow));
     }
 }
 
-// Removes both entries of the row 1, and asserts what is left of it each time.
-fn empty_row<A: Allocator>(rt: &impl Abort, table: &mut Rows<u32, A>) {
-    assert_removed(rt, table, (1, 2), Some(20));
-    assert_entries(rt, table, 1, &[(7, 10)]);
-    assert_removed(rt, table, (1, 7), Some(10));
-    assert_entries(rt, table, 1, &[]);
-}
-
-// Sets two entries of the row 1, and one of the row 2.
-fn fill_rows<A: Allocator>(rt: &impl Abort, table: &mut Rows<u32, A>) {
-    assert_set(rt, table, (1, 7), 10, None);
-    assert_set(rt, table, (1, 2), 20, None);
-    assert_set(rt, table, (2, 2), 30, None);
-}
-
-#[test]
-fn a_row_gives_its_block_back_with_its_last_entry(rt: HostRuntime) {
-    let refusing = Refusing::new(rt.alloc(), 0);
-    {
-        let mut table = Rows::with_rows(&refusing, 3).expect(&rt, "memory");
-        assert_counts(&rt, &refusing, 1, 1);
-        fill_rows(&rt, &mut table);
-        assert_counts(&rt, &refusing, 3, 3);
-        assert_same(&rt, table.len(), 3);
-        empty_row(&rt, &mut table);
-        assert_counts(&rt, &refusing, 3, 2);
-        assert_set(&rt, &mut table, (1, 9), 40, None);
-        assert_counts(&rt, &refusing, 4, 3);
-    }
-    assert_counts(&rt, &refusing, 4, 0);
-}
-
-// Sets boxes of the columns' numbers in the first row.
-fn set_boxes<'a>(
-    rt: &impl Abort,
-    table: &mut Rows<Box<usize, &'a Refusing<Global>>, &'a Refusing<Global>>,
-    alloc: &'a Refusing<Global>,
-    columns: &[usize],
-) {
-    for &column in columns {
-        let value = Box::new(alloc, column).ok().expect(rt, "memory");
+// Sets values that count their drops in the first row: the fourth takes the place of one.
+fn set_counted<'a>(rt: &impl Abort, table: &mut Rows<Counted<'a>>, drops: &'a Cell<u32>) {
+    for column in [3, 1, 2, 1] {
         assert_row(rt, table, 0);
+        let value = Counted::new(drops);
         table.set(0, column, value).ok().expect(rt, "memory");
     }
 }
 
 #[test]
 fn drops_each_value_once(rt: HostRuntime) {
-    let refusing = Refusing::new(rt.alloc(), 0);
-    let alloc = &refusing;
+    let drops = Cell::new(0);
     {
-        let mut table = Rows::with_rows(alloc, 2).expect(&rt, "memory");
-        set_boxes(&rt, &mut table, alloc, &[3, 1, 2, 1]);
-        // Two blocks of the table, and a box for each of three values: the fourth took the place of
-        // one.
-        assert_same(&rt, refusing.blocks(), 5);
+        let mut table = Rows::with_rows(rt.alloc(), 2).expect(&rt, "memory");
+        set_counted(&rt, &mut table, &drops);
+        assert_same(&rt, drops.get(), 1);
         assert_row(&rt, &table, 0);
         drop(table.remove(0, 3));
-        assert_same(&rt, refusing.blocks(), 4);
+        assert_same(&rt, drops.get(), 2);
     }
-    assert_same(&rt, refusing.blocks(), 0);
-}
-
-#[test]
-fn values_are_written_in_place(rt: HostRuntime) {
-    let mut table = Rows::with_rows(rt.alloc(), 2).expect(&rt, "memory");
-    assert_set(&rt, &mut table, (1, 6), 1, None);
-    assert_row(&rt, &table, 1);
-    if let Some(value) = table.get_mut(1, 6) {
-        *value = 9;
-    }
-    assert_row(&rt, &table, 1);
-    assert_same(&rt, table.get_mut(1, 5).is_some(), false);
-    assert_entries(&rt, &table, 1, &[(6, 9)]);
-    assert_entries(&rt, &table, 0, &[]);
+    assert_same(&rt, drops.get(), 4);
 }
 
 #[test]
@@ -223,25 +138,25 @@ fn fill_columns<A: Allocator>(rt: &impl Abort, table: &mut Rows<u32, A>, columns
 // Beside the table's own block, one for each capacity from 4 up to 4096.
 #[test]
 fn a_row_takes_thousands_of_columns(rt: HostRuntime) {
-    let refusing = Refusing::new(rt.alloc(), 0);
-    let mut table = Rows::with_rows(&refusing, 1).expect(&rt, "memory");
+    let refusing = refusing_nth(&rt, rt.alloc(), 0);
+    let mut table = Rows::with_rows(refusing, 1).expect(&rt, "memory");
     fill_columns(&rt, &mut table, 4000);
-    assert_counts(&rt, &refusing, 12, 2);
+    assert_counts(&rt, refusing, 12, 2);
     assert_same(&rt, table.len(), 4000);
     assert_value(&rt, &table, (0, 3999), Some(7));
 }
 
 #[test]
 fn a_full_row_makes_no_request_for_an_entry_that_is_there(rt: HostRuntime) {
-    let refusing = Refusing::new(rt.alloc(), 0);
-    let mut table = Rows::with_rows(&refusing, 1).expect(&rt, "memory");
+    let refusing = refusing_nth(&rt, rt.alloc(), 0);
+    let mut table = Rows::with_rows(refusing, 1).expect(&rt, "memory");
     fill_columns(&rt, &mut table, 4);
     refusing.refuse(1);
     assert_set(&rt, &mut table, (0, 3), 8, Some(7));
     assert_removed(&rt, &mut table, (0, 0), Some(7));
     assert_removed(&rt, &mut table, (0, 9), None);
     assert_value(&rt, &table, (0, 3), Some(8));
-    assert_counts(&rt, &refusing, 0, 2);
+    assert_counts(&rt, refusing, 0, 2);
     assert_entries(&rt, &table, 0, &[(1, 7), (2, 7), (3, 8)]);
 }
 
@@ -347,11 +262,11 @@ fn run_both(rt: &impl Abort, refusing: &Refusing<Global>, alloc: Global, rows: u
 
 #[test]
 fn holds_it_where_any_request_is_refused(rt: HostRuntime) {
-    let refusing = Refusing::new(rt.alloc(), 0);
+    let refusing = refusing_nth(&rt, rt.alloc(), 0);
     for rows in 0..6 {
         for nth in 1..40 {
             refusing.refuse(nth);
-            run_both(&rt, &refusing, rt.alloc(), rows, 200);
+            run_both(&rt, refusing, rt.alloc(), rows, 200);
             assert_same(&rt, refusing.blocks(), 0);
         }
     }

@@ -1,7 +1,6 @@
 //! `append` and `split_off`: what both lists have afterwards, also refused.
-use crate::items::list_of;
+use crate::items::{list_of, refusing_nth};
 use crate::standing::{assert_counts, assert_list, assert_same};
-use refusing::Refusing;
 use thin_vec::ThinVecError;
 
 #[test]
@@ -23,15 +22,15 @@ fn test_split_off(rt: HostRuntime) {
 
 #[test]
 fn row_38_append_refused(rt: HostRuntime) {
-    let refusing = Refusing::new(rt.alloc(), 3);
-    let mut list = list_of(&rt, &refusing, &[1, 2]);
-    let mut other = list_of(&rt, &refusing, &[3]);
+    let refusing = refusing_nth(&rt, rt.alloc(), 3);
+    let mut list = list_of(&rt, refusing, &[1, 2]);
+    let mut other = list_of(&rt, refusing, &[3]);
     assert_same(&rt, list.append(&mut other), Err(ThinVecError::OutOfMemory));
     assert_list(&rt, &list, &[1, 2], 2);
     assert_list(&rt, &other, &[3], 1);
-    assert_counts(&rt, &refusing, 3, 2);
+    assert_counts(&rt, refusing, 3, 2);
 
     list.append(&mut other).expect(&rt, "memory");
     assert_list(&rt, &list, &[1, 2, 3], 4);
-    assert_counts(&rt, &refusing, 4, 2);
+    assert_counts(&rt, refusing, 4, 2);
 }

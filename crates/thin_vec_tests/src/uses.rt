@@ -1,7 +1,6 @@
 //! Each use of `thin_vec_uses`, once.
-use crate::items::{list_of, push};
+use crate::items::{list_of, push, refusing_nth};
 use crate::standing::{assert_items, assert_len, assert_same};
-use refusing::Refusing;
 use std::alloc::Global;
 use std::io::ErrorKind;
 use std::process::Abort;
@@ -55,8 +54,8 @@ fn styles_are_compared_and_hashed_by_their_rules(rt: HostRuntime) {
 
 #[test]
 fn reserved_room_takes_both(rt: HostRuntime) {
-    let refusing = Refusing::new(rt.alloc(), 2);
-    let mut list = ThinVec::new(&refusing);
+    let refusing = refusing_nth(&rt, rt.alloc(), 2);
+    let mut list = ThinVec::new(refusing);
     push_both(&mut list, 1, 2).expect(&rt, "memory");
     assert_items(&rt, list.as_slice(), &[1, 2]);
     assert_same(&rt, refusing.requests(), 1);
@@ -71,8 +70,8 @@ fn sorts_in_place(rt: HostRuntime) {
 
 #[test]
 fn a_refused_push_hands_its_value_back(rt: HostRuntime) {
-    let refusing = Refusing::new(rt.alloc(), 1);
-    let mut list = ThinVec::new(&refusing);
+    let refusing = refusing_nth(&rt, rt.alloc(), 1);
+    let mut list = ThinVec::new(refusing);
     for returned in [Some(7), None] {
         assert_same(&rt, push_or_return(&mut list, 7), returned);
     }
@@ -115,12 +114,12 @@ fn std_traits_fill_a_list(rt: HostRuntime) {
 
 #[test]
 fn a_refusal_is_an_error_of_std(rt: HostRuntime) {
-    let refusing = Refusing::new(rt.alloc(), 2);
-    let mut bytes = list_of(&rt, &refusing, &[7]);
+    let refusing = refusing_nth(&rt, rt.alloc(), 2);
+    let mut bytes = list_of(&rt, refusing, &[7]);
     let refused = write_line(&mut bytes, &[8]);
     assert!(rt; refused.is_err_and(|error| error.kind() == ErrorKind::OutOfMemory));
     assert_items(&rt, bytes.as_slice(), &[7]);
-    let refused = doubled(&Refusing::new(rt.alloc(), 1), &[1]).is_err();
+    let refused = doubled(refusing_nth(&rt, rt.alloc(), 1), &[1]).is_err();
     assert_same(&rt, refused, true);
 }
 

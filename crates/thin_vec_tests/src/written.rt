@@ -20,18 +20,6 @@ pub fn three<T: Drop, A: Allocator>(
     thin_vec![alloc => first, second, third]
 }
 
-/// How many items two lists have together, or 0 where memory was refused.
-pub fn together<T: Drop, A: Allocator + Copy>(alloc: A, items: [T; 2], more: T) -> usize {
-    let [first, second] = items;
-    let Ok(list) = thin_vec![alloc => first, second] else {
-        return 0;
-    };
-    let Ok(other) = thin_vec![alloc => more] else {
-        return 0;
-    };
-    list.len() + other.len()
-}
-
 /// The two items of a list of two.
 pub fn pair<T: Drop, A: Allocator>(list: ThinVec<T, A>) -> Option<(T, T)>
     requires small { 2 * type_size T.row < 2 ^ 63 }

@@ -2,13 +2,15 @@
 ghost use Rattle.std.specs.Mem.{type_size};
 ghost use Rattle.std.specs.Prelude.{◌*◌, ◌<◌, ◌^◌};
 
+use crate::assertions::{At, same, same_items};
 use crate::calls::conversions::made;
-use crate::case::{At, Case, Verdict, numbers, same, same_items};
+use crate::case::{Case, List, Verdict, numbers};
 use crate::ledger::Ledger;
 use crate::samples::Sample;
 use crate::shapes::{SHAPES, Shape};
 use crate::sweep::{Call, Scope};
-use std::alloc::Allocator;
+use refusing::Refusing;
+use std::alloc::{Allocator, Global};
 use std::process::Abort;
 use thin_vec::{Doubling, ThinVec, ThinVecError, thin_vec};
 
@@ -31,15 +33,26 @@ impl<T: Sample> Call<T, Doubling> for Listed {
         let (x, y, z) = (case.item(rt, 1), case.item(rt, 2), case.item(rt, 3));
         let verdict = case.growth(Some(count), 0);
         case.begin();
-        let list = match count {
-            1 => thin_vec![&case.ledger.alloc => x],
-            2 => thin_vec![&case.ledger.alloc => x, y],
-            _ => thin_vec![&case.ledger.alloc => x, y, z],
-        };
+        let list = written_out(&case.ledger.alloc, count, x, y, z);
         made(rt, case, list, verdict);
         if verdict == Verdict::Done {
             case.items = numbers(rt, case.ledger, 1, count);
         }
+    }
+}
+
+// So many of the items, one to three.
+fn written_out<T: Sample>(
+    alloc: &'static Refusing<Global>,
+    count: usize,
+    x: T,
+    y: T,
+    z: T,
+) -> Result<List<T, Doubling>, ThinVecError> {
+    match count {
+        1 => thin_vec![alloc => x],
+        2 => thin_vec![alloc => x, y],
+        _ => thin_vec![alloc => x, y, z],
     }
 }
 

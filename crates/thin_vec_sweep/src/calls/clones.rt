@@ -1,5 +1,5 @@
-//! The calls that clone: `resize`, `extend_from_slice`, `extend_from_within`, `clone`; and
-//! `resize_with`.
+//! The calls that clone an item of the list, or one that they are passed: `extend_from_within`,
+//! `resize`; and `resize_with`.
 use crate::answers::{Questions, number_at};
 use crate::case::{Case, Verdict, numbers, source};
 use crate::samples::Sample;
@@ -7,7 +7,6 @@ use crate::shapes::{Cases, Shape};
 use crate::sweep::Call;
 use other_rules::ruled::Ruled;
 use std::process::Abort;
-use thin_vec::ThinVec;
 
 // The number of the first item that comes in.
 const FRESH: u64 = 80_000;
@@ -81,27 +80,6 @@ impl<T: Sample, G: Ruled> Call<T, G> for ResizeWith {
     }
 }
 
-pub struct ExtendFromSlice {}
-
-impl<T: Sample, G: Ruled> Call<T, G> for ExtendFromSlice {
-    const NAME: &'static str = "extend_from_slice";
-
-    fn arguments(shape: Shape) -> usize {
-        shape.counts()
-    }
-
-    fn run<R: Abort>(rt: &R, case: &mut Case<T, G>, argument: usize) {
-        let count = case.at.shape.count(argument);
-        let new: Vec<T> = source(rt, case.ledger, FRESH, count);
-        let capacity = case.ruled(count);
-        let verdict = case.growth(capacity, count);
-        case.begin();
-        let answer = case.list.extend_from_slice(new.as_slice());
-        case.answered(rt, answer, verdict);
-        case.add(rt, FRESH, count, verdict);
-    }
-}
-
 // Each range of few items once.
 const EACH_RANGE: Cases = [1; 7];
 
@@ -131,38 +109,5 @@ impl<T: Sample, G: Ruled> Call<T, G> for ExtendFromWithin {
         let answer = case.list.extend_from_within(range.start, range.end);
         case.answered(rt, answer, verdict);
         case.add(rt, number_at(range.start), count, verdict);
-    }
-}
-
-/// As a method of the list, on an allocator that is passed.
-pub struct CloneOn {}
-
-impl<T: Sample, G: Ruled> Call<T, G> for CloneOn {
-    const NAME: &'static str = "clone on an allocator";
-
-    fn run<R: Abort>(rt: &R, case: &mut Case<T, G>, _argument: usize) {
-        let length = case.items.len();
-        let verdict = case.fresh(Some(length), length);
-        case.begin();
-        let clone = ThinVec::clone(&case.list, &case.ledger.alloc);
-        case.second(rt, clone, verdict, case.items.as_slice(), length);
-    }
-}
-
-/// As std's trait has it.
-pub struct CloneAsTrait {}
-
-impl<T: Sample, G: Ruled> Call<T, G> for CloneAsTrait {
-    const NAME: &'static str = "clone";
-
-    fn run<R: Abort>(rt: &R, case: &mut Case<T, G>, _argument: usize) {
-        let length = case.items.len();
-        let verdict = case.fresh(Some(length), length);
-        case.begin();
-        let clone = match Clone::clone(&case.list) {
-            Ok(clone) => Ok(clone),
-            Err(refused) => Err(refused.into()),
-        };
-        case.second(rt, clone, verdict, case.items.as_slice(), length);
     }
 }

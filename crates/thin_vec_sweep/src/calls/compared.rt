@@ -1,9 +1,11 @@
 //! Comparisons, hashes and texts: those of the items' slice.
-use crate::case::{Case, filled, same};
+use crate::assertions::{At, same};
+use crate::case::{Case, List, filled};
 use crate::samples::Sample;
 use crate::shapes::Shape;
 use crate::sweep::Call;
 use other_rules::ruled::Ruled;
+use std::alloc::Global;
 use std::fmt::Debug;
 use std::hash::{DefaultHasher, Hash, Hasher};
 use std::process::Abort;
@@ -34,14 +36,34 @@ impl<T: Sample + Ord + Hash + Debug, G: Ruled> Call<T, G> for Compare {
             *last = case.item(rt, 77);
         }
         case.begin();
-        let list = &case.list;
-        let (items, others) = (list.as_slice(), other.as_slice());
-        same(rt, &case.at, "==", *list == other, items == others);
-        let order = (list.partial_cmp(&other), list.cmp(&other));
-        let wanted = (items.partial_cmp(&others), items.cmp(&others));
-        same(rt, &case.at, "order", order, wanted);
-        same(rt, &case.at, "hash", hash(list), hash(&items));
+        same_order(rt, &case.at, &case.list, &other);
+        same(
+            rt,
+            &case.at,
+            "hash",
+            hash(&case.list),
+            hash(&case.list.as_slice()),
+        );
     }
+}
+
+// Asserts that two lists are ordered as their slices are.
+fn same_order<T: Sample + Ord, G: Ruled, R: Abort>(
+    rt: &R,
+    at: &At,
+    list: &List<T, G>,
+    other: &List<T, G>,
+) {
+    let (items, others) = (list.as_slice(), other.as_slice());
+    same(rt, at, "==", *list == *other, items == others);
+    let wanted = (items.partial_cmp(&others), items.cmp(&others));
+    same(
+        rt,
+        at,
+        "order",
+        (list.partial_cmp(other), list.cmp(other)),
+        wanted,
+    );
 }
 
 fn hash<H: Hash>(value: &H) -> u64 {
@@ -62,11 +84,19 @@ impl<T: Sample + Debug, G: Ruled> Call<T, G> for Print {
 
     fn run<R: Abort>(rt: &R, case: &mut Case<T, G>, _argument: usize) {
         case.begin();
-        let global = case.ledger.global;
-        let list = &case.list;
-        let items = list.as_slice();
-        let text = format!(in global; "{list:?} {list:#?}").expect(rt, "memory");
-        let wanted = format!(in global; "{items:?} {items:#?}").expect(rt, "memory");
-        same(rt, &case.at, "text", text.as_str() == wanted.as_str(), true);
+        let printed = text(rt, case.ledger.global, &case.list);
+        let wanted = text(rt, case.ledger.global, &case.list.as_slice());
+        same(
+            rt,
+            &case.at,
+            "text",
+            printed.as_str() == wanted.as_str(),
+            true,
+        );
     }
+}
+
+// Both forms.
+fn text<D: Debug, R: Abort>(rt: &R, global: Global, value: &D) -> String {
+    format!(in global; "{value:?} {value:#?}").expect(rt, "memory")
 }

@@ -55,13 +55,9 @@ fn vec_of<T: Sample, R: Abort>(
     case: &mut Case<T, Doubling>,
     spare: usize,
 ) -> Vec<T, &'static Refusing<Global>> {
-    let (list, numbers) = case.take();
-    let mut items = Vec::new(&case.ledger.alloc);
-    let capacity = numbers.len().saturating_add(spare);
-    items.reserve(capacity).expect(rt, "memory");
-    for item in list {
-        items.push(item).ok().expect(rt, "memory");
-    }
+    let (list, _numbers) = case.take();
+    let mut items = list.into_vec(&case.ledger.alloc).ok().expect(rt, "memory");
+    items.reserve(spare).expect(rt, "memory");
     items
 }
 
@@ -104,23 +100,43 @@ impl<T: Sample> Call<T, Doubling> for FromOthers {
     }
 }
 
-/// Of the items of another list.
-pub struct FromSlice {}
+/// Of text of as many letters as the shape has items: of one byte each, or of two.
+pub struct FromStr {}
 
-impl<T: Sample> Call<T, Doubling> for FromSlice {
-    const NAME: &'static str = "from_slice";
+impl Call<u8, Doubling> for FromStr {
+    const NAME: &'static str = "from_str";
 
     fn arguments(shape: Shape) -> usize {
-        shape.alone(1)
+        shape.alone(2)
     }
 
-    fn run<R: Abort>(rt: &R, case: &mut Case<T, Doubling>, _argument: usize) {
-        let length = case.items.len();
-        let verdict = case.fresh(Some(length), length);
+    fn run<R: Abort>(rt: &R, case: &mut Case<u8, Doubling>, argument: usize) {
+        let letter = if argument == 0 { "z" } else { "ß" };
+        let text = letters(rt, case.ledger.global, letter, case.at.shape.length);
+        let bytes = numbers_of(rt, case.ledger.global, text.as_bytes());
+        let verdict = case.fresh(Some(bytes.len()), 0);
         case.begin();
-        let answer = ThinVec::from_slice(&case.ledger.alloc, case.list.as_slice());
-        case.second(rt, answer, verdict, case.items.as_slice(), length);
+        let answer = ThinVec::from_str(&case.ledger.alloc, text.as_str());
+        case.second(rt, answer, verdict, bytes.as_slice(), bytes.len());
     }
+}
+
+// The letter so many times.
+fn letters<R: Abort>(rt: &R, global: Global, letter: &str, count: usize) -> String {
+    let mut text = String::new(global);
+    for _ in 0..count {
+        text.push_str(letter).expect(rt, "memory");
+    }
+    text
+}
+
+// The bytes' numbers.
+fn numbers_of<R: Abort>(rt: &R, global: Global, bytes: &[u8]) -> Vec<u64, Global> {
+    let mut numbers = Vec::new(global);
+    for byte in bytes {
+        numbers.push(u64::from(*byte)).ok().expect(rt, "memory");
+    }
+    numbers
 }
 
 /// With the length of the shape, and with the numbers about the greatest that fits.

@@ -1,6 +1,7 @@
 //! `extend` and `from_iter`, with a hint that is short, true, too great, or past every capacity.
+use crate::assertions::same;
 use crate::calls::rooms::is_too_much;
-use crate::case::{Case, Verdict, numbers, same, source};
+use crate::case::{Case, Verdict, numbers, source};
 use crate::claims::Claims;
 use crate::ledger::Ledger;
 use crate::samples::Sample;

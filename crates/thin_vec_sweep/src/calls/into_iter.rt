@@ -1,12 +1,15 @@
 //! The iterator that a list becomes, from both ends.
-use crate::case::{Case, same};
+use crate::assertions::{At, same, same_item};
+use crate::case::Case;
 use crate::samples::Sample;
 use crate::shapes::Shape;
 use crate::sweep::Call;
 use crate::walks::{Remaining, WALKS, Walk};
 use other_rules::ruled::Ruled;
+use std::alloc::Allocator;
 use std::mem;
 use std::process::Abort;
+use thin_vec::Growth;
 
 // The number of an item that comes in.
 const FRESH: u64 = 70_000;
@@ -39,18 +42,7 @@ impl<T: Sample, G: Ruled> Call<T, G> for IntoIter {
         case.begin();
         let mut rest = list.into_iter();
         let walk = Walk::nth(numbers.len(), argument);
-        let mut remaining = Remaining::new(numbers.len());
-        for step in 0..walk.steps {
-            let is_back = walk.is_back(step);
-            let item = if is_back {
-                rest.next_back()
-            } else {
-                rest.next()
-            };
-            let number = remaining.take(is_back, numbers.as_slice());
-            case.handed_or_none(rt, item, number);
-        }
-        let numbers = remaining.of(numbers.as_slice());
+        let numbers = step_through(rt, &case.at, &mut rest, walk, numbers.as_slice());
         let count = numbers.len();
         let hint = (rest.len(), rest.size_hint());
         same(rt, &case.at, "hint", hint, (count, (count, Some(count))));
@@ -61,6 +53,27 @@ impl<T: Sample, G: Ruled> Call<T, G> for IntoIter {
         let next = if count == 0 { None } else { Some(FRESH) };
         case.handed_or_none(rt, rest.next(), next);
     }
+}
+
+// Makes the steps, and returns the numbers of the items that remain.
+fn step_through<'a, T: Sample, A: Allocator, G: Growth, R: Abort>(
+    rt: &R,
+    at: &At,
+    items: &mut thin_vec::IntoIter<T, A, G>,
+    walk: Walk,
+    numbers: &'a [u64],
+) -> &'a [u64] {
+    let mut remaining = Remaining::new(numbers.len());
+    for step in 0..walk.steps {
+        let is_back = walk.is_back(step);
+        let item = if is_back {
+            items.next_back()
+        } else {
+            items.next()
+        };
+        same_item(rt, at, item, remaining.take(is_back, numbers));
+    }
+    remaining.of(numbers)
 }
 
 /// `clone`, after some steps from the front, or from the back.
@@ -78,16 +91,8 @@ impl<T: Sample, G: Ruled> Call<T, G> for IntoIterClone {
         let is_back = argument % 2 == 1;
         let (list, numbers) = case.take();
         let mut rest = list.into_iter();
-        let mut remaining = Remaining::new(numbers.len());
-        for _ in 0..steps {
-            drop(if is_back {
-                rest.next_back()
-            } else {
-                rest.next()
-            });
-            remaining.take(is_back, numbers.as_slice());
-        }
-        let numbers = remaining.of(numbers.as_slice());
+        let walk = Walk::one_way(steps, is_back);
+        let numbers = step_through(rt, &case.at, &mut rest, walk, numbers.as_slice());
         let count = numbers.len();
         let verdict = case.fresh(Some(count), count);
         case.begin();

@@ -1,4 +1,4 @@
-//! Two lists: `append`, `split_off`.
+//! Two lists: `append`, `append_reserved`, `split_off`.
 use crate::case::{Case, Verdict, filled, numbers};
 use crate::samples::Sample;
 use crate::shapes::Shape;
@@ -34,6 +34,30 @@ impl<T: Sample, G: Ruled> Call<T, G> for Append {
         let left = if verdict == Verdict::Done { 0 } else { length };
         let numbers = numbers(rt, case.ledger, FRESH, left);
         case.stands(rt, &other, numbers.as_slice(), length.saturating_add(spare));
+    }
+}
+
+/// Into room that was shown to be there: by one item and more, up to all that it takes.
+pub struct AppendReserved {}
+
+impl<T: Sample, G: Ruled> Call<T, G> for AppendReserved {
+    const NAME: &'static str = "append_reserved";
+
+    fn arguments(shape: Shape) -> usize {
+        shape.spare
+    }
+
+    fn run<R: Abort>(rt: &R, case: &mut Case<T, G>, argument: usize) {
+        let length = argument.saturating_add(1);
+        let mut other = filled(rt, case.ledger, Shape { length, spare: 0 }, FRESH);
+        case.add(rt, FRESH, length, Verdict::Done);
+        case.begin();
+        let len = case.list.len();
+        let spare = case.list.capacity().saturating_sub(len);
+        if other.len() <= spare {
+            case.list.append_reserved(&mut other);
+        }
+        case.stands(rt, &other, &[], length);
     }
 }
 

@@ -1,6 +1,7 @@
 //! Calls by which the items of a range go out, given up after any steps, and the test for ranges.
 use crate::answers::{number_at, stays};
-use crate::case::{At, Case, same, same_item, same_items};
+use crate::assertions::{At, same, same_item, same_items};
+use crate::case::Case;
 use crate::samples::Sample;
 use crate::shapes::{Cases, Ranged, Shape};
 use crate::sweep::Call;
@@ -9,7 +10,7 @@ use other_rules::ruled::Ruled;
 use std::alloc::{Allocator, Global};
 use std::ops::Bound;
 use std::process::Abort;
-use thin_vec::{Growth, ThinVec, bounds};
+use thin_vec::{Drain, Growth, ThinVec, bounds};
 
 pub struct Drained {}
 
@@ -48,8 +49,23 @@ fn drain<T: Sample, A: Allocator, G: Growth, R: Abort>(
     }
     let numbers = numbers.get(range.start..range.end).unwrap_or(&[]);
     let walk = Walk::nth(range.width(), range.number);
-    let mut remaining = Remaining::new(numbers.len());
     let mut drain = list.drain(range.start, range.end);
+    let numbers = step_through(rt, at, &mut drain, walk, numbers);
+    let count = numbers.len();
+    let hint = (drain.len(), drain.size_hint());
+    same(rt, at, "hint", hint, (count, (count, Some(count))));
+    same_items(rt, at, drain.as_slice(), numbers);
+}
+
+// Makes the steps, and returns the numbers of the items that remain.
+fn step_through<'a, T: Sample, A: Allocator, G: Growth, R: Abort>(
+    rt: &R,
+    at: &At,
+    drain: &mut Drain<'_, T, A, G>,
+    walk: Walk,
+    numbers: &'a [u64],
+) -> &'a [u64] {
+    let mut remaining = Remaining::new(numbers.len());
     for step in 0..walk.steps {
         let is_back = walk.is_back(step);
         let item = if is_back {
@@ -59,11 +75,7 @@ fn drain<T: Sample, A: Allocator, G: Growth, R: Abort>(
         };
         same_item(rt, at, item, remaining.take(is_back, numbers));
     }
-    let numbers = remaining.of(numbers);
-    let count = numbers.len();
-    let hint = (drain.len(), drain.size_hint());
-    same(rt, at, "hint", hint, (count, (count, Some(count))));
-    same_items(rt, at, drain.as_slice(), numbers);
+    remaining.of(numbers)
 }
 
 // Each number of calls up to k + 1, with each pattern of answers about k items.

@@ -1,5 +1,6 @@
 //! What is read, and what is written through a `&mut`: no call of these takes memory.
-use crate::case::{Case, List, same};
+use crate::assertions::same;
+use crate::case::{Case, List};
 use crate::samples::Sample;
 use crate::shapes::Shape;
 use crate::sweep::Call;

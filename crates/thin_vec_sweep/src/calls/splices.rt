@@ -5,8 +5,9 @@ ghost use Rattle.std.specs.Prelude.{◌≤◌, length};
 ghost use Rattle.thin_vec.specs.Splice.{SpliceKeeps};
 
 use crate::answers::number_at;
+use crate::assertions::{is_item, same};
 use crate::calls::filling::{Ending, asked, back, claims, coming, fill};
-use crate::case::{Case, Verdict, is_item, numbers, same};
+use crate::case::{Case, Verdict, numbers};
 use crate::claims::Claims;
 use crate::samples::Sample;
 use crate::shapes::{Cases, Ranged, Shape};

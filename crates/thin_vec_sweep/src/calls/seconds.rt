@@ -1,0 +1,123 @@
+//! The calls that make a second list of the items: `clone`, `clone_copies`, `from_slice`,
+//! `from_copies`.
+use crate::case::{Case, List};
+use crate::samples::Sample;
+use crate::sweep::Call;
+use other_rules::ruled::Ruled;
+use refusing::Refusing;
+use std::alloc::Global;
+use std::marker::PhantomData;
+use std::process::Abort;
+use thin_vec::{Doubling, ThinVec, ThinVecError};
+
+/// A call that makes a second list of the items of a list of `T` under the rule `G`.
+pub trait MakesSecond<T: Sample, G: Ruled> {
+    /// What an assertion calls it.
+    const NAME: &'static str;
+
+    /// Whether it clones each item.
+    const CLONES: bool;
+
+    /// Makes the call, on that allocator.
+    fn second(
+        list: &List<T, G>,
+        alloc: &'static Refusing<Global>,
+    ) -> Result<List<T, G>, ThinVecError>;
+}
+
+/// With exactly the capacity that the items take.
+pub struct MakeSecond<C> {
+    call: PhantomData<C>,
+}
+
+impl<T: Sample, G: Ruled, C: MakesSecond<T, G>> Call<T, G> for MakeSecond<C> {
+    const NAME: &'static str = C::NAME;
+
+    fn run<R: Abort>(rt: &R, case: &mut Case<T, G>, _argument: usize) {
+        let length = case.items.len();
+        let verdict = case.fresh(Some(length), if C::CLONES { length } else { 0 });
+        case.begin();
+        let answer = C::second(&case.list, &case.ledger.alloc);
+        case.second(rt, answer, verdict, case.items.as_slice(), length);
+    }
+}
+
+/// As a method of the list, on an allocator that is passed.
+pub struct CloneOn {}
+
+impl<T: Sample, G: Ruled> MakesSecond<T, G> for CloneOn {
+    const NAME: &'static str = "clone on an allocator";
+
+    const CLONES: bool = true;
+
+    fn second(
+        list: &List<T, G>,
+        alloc: &'static Refusing<Global>,
+    ) -> Result<List<T, G>, ThinVecError> {
+        ThinVec::clone(list, alloc)
+    }
+}
+
+/// As std's trait has it.
+pub struct CloneAsTrait {}
+
+impl<T: Sample, G: Ruled> MakesSecond<T, G> for CloneAsTrait {
+    const NAME: &'static str = "clone";
+
+    const CLONES: bool = true;
+
+    fn second(
+        list: &List<T, G>,
+        _alloc: &'static Refusing<Global>,
+    ) -> Result<List<T, G>, ThinVecError> {
+        match Clone::clone(list) {
+            Ok(clone) => Ok(clone),
+            Err(refused) => Err(refused.into()),
+        }
+    }
+}
+
+pub struct CloneCopies {}
+
+impl<T: Sample + Copy, G: Ruled> MakesSecond<T, G> for CloneCopies {
+    const NAME: &'static str = "clone_copies";
+
+    const CLONES: bool = false;
+
+    fn second(
+        list: &List<T, G>,
+        alloc: &'static Refusing<Global>,
+    ) -> Result<List<T, G>, ThinVecError> {
+        list.clone_copies(alloc)
+    }
+}
+
+pub struct FromSlice {}
+
+impl<T: Sample> MakesSecond<T, Doubling> for FromSlice {
+    const NAME: &'static str = "from_slice";
+
+    const CLONES: bool = true;
+
+    fn second(
+        list: &List<T, Doubling>,
+        alloc: &'static Refusing<Global>,
+    ) -> Result<List<T, Doubling>, ThinVecError> {
+        ThinVec::from_slice(alloc, list.as_slice())
+    }
+}
+
+pub struct FromCopies {}
+
+impl<T: Sample + Copy> MakesSecond<T, Doubling> for FromCopies {
+    const NAME: &'static str = "from_copies";
+
+    const CLONES: bool = false;
+
+    fn second(
+        list: &List<T, Doubling>,
+        alloc: &'static Refusing<Global>,
+    ) -> Result<List<T, Doubling>, ThinVecError> {
+        ThinVec::from_copies(alloc, list.as_slice())
+    }
+}

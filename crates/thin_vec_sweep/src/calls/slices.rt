@@ -1,0 +1,207 @@
+//! The calls that append the items of a slice: by clones, by copies, as bytes that are written, and
+//! into room that was shown to be there.
+use crate::assertions::{At, same};
+use crate::case::{Case, List, source};
+use crate::samples::Sample;
+use crate::shapes::Shape;
+use crate::sweep::Call;
+use other_rules::ruled::Ruled;
+use std::io::{Error, ErrorKind, Write};
+use std::marker::PhantomData;
+use std::process::Abort;
+use thin_vec::ThinVecError;
+
+// The number of the first item that comes in.
+const FRESH: u64 = 80_000;
+
+/// A call that appends the items of a slice to a list of `T` under the rule `G`.
+pub trait AppendsSlice<T: Sample, G: Ruled> {
+    /// What an assertion calls it.
+    const NAME: &'static str;
+
+    /// Whether it clones each item.
+    const CLONES: bool;
+
+    /// Whether it is for spare room alone.
+    const IS_RESERVED: bool;
+
+    /// Makes the call.
+    fn append<R: Abort>(
+        rt: &R,
+        at: &At,
+        list: &mut List<T, G>,
+        items: &[T],
+    ) -> Result<(), ThinVecError>;
+}
+
+/// By each count of items; into spare room by one item and more, up to all that it takes.
+pub struct AppendSlice<C> {
+    call: PhantomData<C>,
+}
+
+impl<T: Sample, G: Ruled, C: AppendsSlice<T, G>> Call<T, G> for AppendSlice<C> {
+    const NAME: &'static str = C::NAME;
+
+    fn arguments(shape: Shape) -> usize {
+        if C::IS_RESERVED {
+            shape.spare
+        } else {
+            shape.counts()
+        }
+    }
+
+    fn run<R: Abort>(rt: &R, case: &mut Case<T, G>, argument: usize) {
+        let count = if C::IS_RESERVED {
+            argument.saturating_add(1)
+        } else {
+            case.at.shape.count(argument)
+        };
+        let new: Vec<T> = source(rt, case.ledger, FRESH, count);
+        let capacity = case.ruled(count);
+        let verdict = case.growth(capacity, if C::CLONES { count } else { 0 });
+        case.begin();
+        let answer = C::append(rt, &case.at, &mut case.list, new.as_slice());
+        case.answered(rt, answer, verdict);
+        case.add(rt, FRESH, count, verdict);
+    }
+}
+
+pub struct ExtendFromSlice {}
+
+impl<T: Sample, G: Ruled> AppendsSlice<T, G> for ExtendFromSlice {
+    const NAME: &'static str = "extend_from_slice";
+
+    const CLONES: bool = true;
+
+    const IS_RESERVED: bool = false;
+
+    fn append<R: Abort>(
+        _rt: &R,
+        _at: &At,
+        list: &mut List<T, G>,
+        items: &[T],
+    ) -> Result<(), ThinVecError> {
+        list.extend_from_slice(items)
+    }
+}
+
+pub struct ExtendFromCopies {}
+
+impl<T: Sample + Copy, G: Ruled> AppendsSlice<T, G> for ExtendFromCopies {
+    const NAME: &'static str = "extend_from_copies";
+
+    const CLONES: bool = false;
+
+    const IS_RESERVED: bool = false;
+
+    fn append<R: Abort>(
+        _rt: &R,
+        _at: &At,
+        list: &mut List<T, G>,
+        items: &[T],
+    ) -> Result<(), ThinVecError> {
+        list.extend_from_copies(items)
+    }
+}
+
+pub struct ExtendFromSliceReserved {}
+
+impl<T: Sample, G: Ruled> AppendsSlice<T, G> for ExtendFromSliceReserved {
+    const NAME: &'static str = "extend_from_slice_reserved";
+
+    const CLONES: bool = true;
+
+    const IS_RESERVED: bool = true;
+
+    fn append<R: Abort>(
+        _rt: &R,
+        _at: &At,
+        list: &mut List<T, G>,
+        items: &[T],
+    ) -> Result<(), ThinVecError> {
+        let spare = list.capacity().saturating_sub(list.len());
+        if items.len() > spare {
+            return Ok(());
+        }
+        list.extend_from_slice_reserved(items)
+    }
+}
+
+pub struct ExtendFromCopiesReserved {}
+
+impl<T: Sample + Copy, G: Ruled> AppendsSlice<T, G> for ExtendFromCopiesReserved {
+    const NAME: &'static str = "extend_from_copies_reserved";
+
+    const CLONES: bool = false;
+
+    const IS_RESERVED: bool = true;
+
+    fn append<R: Abort>(
+        _rt: &R,
+        _at: &At,
+        list: &mut List<T, G>,
+        items: &[T],
+    ) -> Result<(), ThinVecError> {
+        let spare = list.capacity().saturating_sub(list.len());
+        if items.len() <= spare {
+            list.extend_from_copies_reserved(items);
+        }
+        Ok(())
+    }
+}
+
+pub struct WriteSome {}
+
+impl<G: Ruled> AppendsSlice<u8, G> for WriteSome {
+    const NAME: &'static str = "write";
+
+    const CLONES: bool = false;
+
+    const IS_RESERVED: bool = false;
+
+    fn append<R: Abort>(
+        rt: &R,
+        at: &At,
+        list: &mut List<u8, G>,
+        items: &[u8],
+    ) -> Result<(), ThinVecError> {
+        match list.write(items) {
+            Ok(written) => {
+                same(rt, at, "bytes that were written", written, items.len());
+                Ok(())
+            }
+            Err(error) => Err(cause(rt, at, &error)),
+        }
+    }
+}
+
+pub struct WriteAll {}
+
+impl<G: Ruled> AppendsSlice<u8, G> for WriteAll {
+    const NAME: &'static str = "write_all, flush";
+
+    const CLONES: bool = false;
+
+    const IS_RESERVED: bool = false;
+
+    fn append<R: Abort>(
+        rt: &R,
+        at: &At,
+        list: &mut List<u8, G>,
+        items: &[u8],
+    ) -> Result<(), ThinVecError> {
+        let answer = list.write_all(items);
+        same(rt, at, "flush", list.flush().is_ok(), true);
+        match answer {
+            Ok(()) => Ok(()),
+            Err(error) => Err(cause(rt, at, &error)),
+        }
+    }
+}
+
+// The cause of a refused write: there is one kind for both.
+fn cause<R: Abort>(rt: &R, at: &At, error: &Error) -> ThinVecError {
+    let kind = error.kind() == ErrorKind::OutOfMemory;
+    same(rt, at, "the error's kind is OutOfMemory", kind, true);
+    ThinVecError::OutOfMemory
+}
