@@ -3,7 +3,7 @@ use std::alloc::Allocator;
 use thin_vec::{Growth, ThinVec};
 
 /// How many values a row compared with those that were worked out, and how many of them differ.
-#[derive(Debug, Clone, Copy, PartialEq, Eq)]
+#[derive(Clone, Copy)]
 pub struct Checks {
     compared: u32,
     wrong: u32,

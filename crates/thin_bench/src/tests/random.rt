@@ -1,13 +1,17 @@
 //! Random runs: each command is done by `step`, and by the definition written as a program.
-use crate::tests::model::{Model, both};
-use crate::tests::orders::{Form, KINDS, Kind, Order};
-use crate::tests::samples::{Lender, Sample, Wavers, put};
+use crate::tests::compared::both;
+use crate::tests::judges::{Digits, EACH_SECOND};
+use crate::tests::model::Model;
+use crate::tests::orders::{KINDS, Kind, Order};
+use crate::tests::samples::{Lender, Sample, put};
+use crate::tests::shown::Form;
 use other_rules::ruled::Ruled;
 use other_rules::{Fourfold, Threefold};
 use refusing::Refusing;
 use std::alloc::{AllocError, Global};
 use std::process::Abort;
-use thin_vec::{Doubling, PowerBytes, ThinVec};
+use thin_runner::judge::Judge;
+use thin_vec::{Doubling, PowerBytes, ThinVec, ThinVecError};
 
 // Numbers that look random.
 #[derive(Drop)]
@@ -41,6 +45,25 @@ impl Dice {
         }
     }
 
+    // Which request is refused, or none at 0: mostly one of the first, which is made.
+    fn refused(&mut self) -> u64 {
+        let few = self.below(4);
+        if self.below(2) == 0 {
+            few
+        } else {
+            few.saturating_add(self.below(8))
+        }
+    }
+
+    // What a judge answers by.
+    fn digits(&mut self) -> u64 {
+        if self.below(4) == 0 {
+            EACH_SECOND.digits
+        } else {
+            self.state >> 20
+        }
+    }
+
     // A command on a list of that length.
     fn order(&mut self, len: usize) -> Order {
         let near = u64::try_from(len).unwrap_or(0).min(12).saturating_add(2);
@@ -57,26 +80,27 @@ impl Dice {
     }
 }
 
-// A run of up to 30 commands. Answers whether both did the same, and no block is out. The commands
-// are put into `orders`, each with its request that is refused.
-fn runs_alike<'a, T: Sample<Lender<'a>>, G: Ruled>(
+/// A command, its request that was refused, and its reply.
+pub type Done = (Order, u64, Form, Option<ThinVecError>);
+
+// A run of up to 30 commands. Answers whether both did the same, and no block is out. What was done
+// is put into `done`.
+fn runs_alike<'a, T: Sample<Lender<'a>>, G: Ruled, J: Judge<T> + From<u64>>(
     alloc: Lender<'a>,
     seed: u64,
-    orders: &mut Vec<(Order, u64), Global>,
+    done: &mut Vec<Done, Global>,
 ) -> Result<bool, AllocError> {
     let mut dice = Dice { state: seed };
     let mut list = ThinVec::ruled(alloc);
     let mut model: Model<T, Lender<'a>, G> = Model::new(alloc);
     let commands = dice.below(31);
-    orders.clear();
+    done.clear();
     for _ in 0..commands {
         let order = dice.order(model.items.len());
-        let nth = dice.below(4);
-        put(orders, (order, nth))?;
-        let judge = Wavers {
-            state: order.number,
-        };
-        let (form, _cause) = both(alloc, &mut list, &mut model, order, &judge, nth)?;
+        let nth = dice.refused();
+        let judge = J::from(dice.digits());
+        let (form, cause) = both(alloc, &mut list, &mut model, order, &judge, nth)?;
+        put(done, (order, nth, form, cause))?;
         if form == Form::Never {
             return Ok(false);
         }
@@ -86,21 +110,31 @@ fn runs_alike<'a, T: Sample<Lender<'a>>, G: Ruled>(
     Ok(alloc.blocks() == 0)
 }
 
-// How many runs there are at each type of items under a growth rule: with ten types and two rules
-// 100,000.
+/// Asserts that the run of a seed is done alike. What was done is put into `done`.
+pub fn assert_alike<'a, T: Sample<Lender<'a>>, G: Ruled, J: Judge<T> + From<u64>, R: Abort>(
+    rt: &R,
+    alloc: Lender<'a>,
+    seed: u64,
+    done: &mut Vec<Done, Global>,
+) {
+    let alike = runs_alike::<T, G, J>(alloc, seed, done).unwrap_or(false);
+    assert!(rt; alike, "seed {seed}, done {done:?}");
+}
+
+// How many runs there are at each type of items under a growth rule: with eight types under two
+// rules, and two of them under two more, 100,000.
 const RUNS: u64 = 5_000;
 
 // Asserts that all runs from a seed on are alike.
-fn assert_alike<'a, T: Sample<Lender<'a>>, G: Ruled, R: Abort>(
+fn assert_all_from<'a, T: Sample<Lender<'a>>, G: Ruled, R: Abort>(
     rt: &R,
     alloc: Lender<'a>,
     global: Global,
     first: u64,
 ) {
-    let mut orders = Vec::new(global);
+    let mut done = Vec::new(global);
     for seed in first..first.saturating_add(RUNS) {
-        let alike = runs_alike::<T, G>(alloc, seed, &mut orders).unwrap_or(false);
-        assert!(rt; alike, "seed {seed}, orders {orders:?}");
+        assert_alike::<T, G, Digits, R>(rt, alloc, seed, &mut done);
     }
 }
 
@@ -110,8 +144,8 @@ fn assert_all_alike<'a, T: Sample<Lender<'a>>, R: Abort>(
     alloc: Lender<'a>,
     global: Global,
 ) {
-    assert_alike::<T, Doubling, R>(rt, alloc, global, 0);
-    assert_alike::<T, PowerBytes, R>(rt, alloc, global, 10_000);
+    assert_all_from::<T, Doubling, R>(rt, alloc, global, 0);
+    assert_all_from::<T, PowerBytes, R>(rt, alloc, global, 10_000);
 }
 
 // The same under two rules of the tests' own.
@@ -120,8 +154,8 @@ fn assert_alike_by_other_rules<'a, T: Sample<Lender<'a>>, R: Abort>(
     alloc: Lender<'a>,
     global: Global,
 ) {
-    assert_alike::<T, Threefold, R>(rt, alloc, global, 20_000);
-    assert_alike::<T, Fourfold, R>(rt, alloc, global, 30_000);
+    assert_all_from::<T, Threefold, R>(rt, alloc, global, 20_000);
+    assert_all_from::<T, Fourfold, R>(rt, alloc, global, 30_000);
 }
 
 #[test]
@@ -147,18 +181,6 @@ fn random_runs_at_u32(rt: HostRuntime) {
 fn random_runs_at_u64(rt: HostRuntime) {
     let refusing = Refusing::new(rt.alloc(), 0);
     assert_all_alike::<u64, _>(&rt, &refusing, rt.alloc());
-}
-
-#[test]
-fn random_runs_at_usize(rt: HostRuntime) {
-    let refusing = Refusing::new(rt.alloc(), 0);
-    assert_all_alike::<usize, _>(&rt, &refusing, rt.alloc());
-}
-
-#[test]
-fn random_runs_at_bool(rt: HostRuntime) {
-    let refusing = Refusing::new(rt.alloc(), 0);
-    assert_all_alike::<bool, _>(&rt, &refusing, rt.alloc());
 }
 
 #[test]

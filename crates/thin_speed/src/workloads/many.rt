@@ -3,21 +3,9 @@ use crate::lists::{Family, List};
 use crate::numbers::{Outcome, mixed};
 use std::alloc::{AllocError, Global};
 
-/// Runs the workload of that name, or none where there is no such here.
-pub fn run<F: Family>(alloc: Global, workload: &str, size: usize, times: usize) -> Option<Outcome> {
-    Some(match workload {
-        "empty_lists" => empty_lists::<F::Lists, F::Numbers>(alloc, size, times),
-        "sparse_lists" => sparse_lists::<F::Lists, F::Numbers>(alloc, size, times),
-        "styles" => styles::<F::Styles, F::Style>(alloc, size, times),
-        "undo" => undo::<F::Steps, F::Bytes>(alloc, size, times),
-        "tree" => tree::<F>(alloc, size, times),
-        _ => return None,
-    })
-}
-
-// Makes a list of so many empty lists, and walks over all.
+/// Makes a list of so many empty lists, and walks over all.
 #[inline(never)]
-fn empty_lists<L: List<N>, N: List<u64>>(alloc: Global, size: usize, times: usize) -> Outcome {
+pub fn empty_lists<L: List<N>, N: List<u64>>(alloc: Global, size: usize, times: usize) -> Outcome {
     let mut sum = 0;
     for _ in 0..times {
         let mut lists = L::new(alloc);
@@ -29,9 +17,9 @@ fn empty_lists<L: List<N>, N: List<u64>>(alloc: Global, size: usize, times: usiz
     Ok(sum)
 }
 
-// The same of lists of which every sixteenth has three items.
+/// The same of lists of which every sixteenth has three items.
 #[inline(never)]
-fn sparse_lists<L: List<N>, N: List<u64>>(alloc: Global, size: usize, times: usize) -> Outcome {
+pub fn sparse_lists<L: List<N>, N: List<u64>>(alloc: Global, size: usize, times: usize) -> Outcome {
     let mut sum = 0;
     for _ in 0..times {
         let mut lists = L::new(alloc);
@@ -60,9 +48,9 @@ fn items_of<L: List<u64>>(lists: &[L]) -> u64 {
     sum
 }
 
-// Makes a list of styles, each a few rules, and counts those that are as the one before.
+/// Makes a list of styles, each a few rules, and counts those that are as the one before.
 #[inline(never)]
-fn styles<L: List<S>, S: List<u32>>(alloc: Global, size: usize, times: usize) -> Outcome {
+pub fn styles<L: List<S>, S: List<u32>>(alloc: Global, size: usize, times: usize) -> Outcome {
     let mut sum = 0;
     for _ in 0..times {
         let mut styles = L::new(alloc);
@@ -97,9 +85,9 @@ fn repeated<S: List<u32>>(styles: &[S]) -> u64 {
     same
 }
 
-// Does steps, each two bytes, and undoes every fifth.
+/// Does steps, each two bytes, and undoes every fifth.
 #[inline(never)]
-fn undo<L: List<B>, B: List<u8>>(alloc: Global, size: usize, times: usize) -> Outcome {
+pub fn undo<L: List<B>, B: List<u8>>(alloc: Global, size: usize, times: usize) -> Outcome {
     let mut steps = L::new(alloc);
     let mut sum = 0;
     for _ in 0..times {
@@ -119,9 +107,9 @@ fn undo<L: List<B>, B: List<u8>>(alloc: Global, size: usize, times: usize) -> Ou
     Ok(sum)
 }
 
-// Builds trees so deep, and walks over them.
+/// Builds trees so deep, and walks over them.
 #[inline(never)]
-fn tree<F: Family>(alloc: Global, size: usize, times: usize) -> Outcome {
+pub fn tree<F: Family>(alloc: Global, size: usize, times: usize) -> Outcome {
     let mut sum = 0;
     for _ in 0..times {
         sum = mixed(sum, F::tree(alloc, size)?);

@@ -27,14 +27,15 @@ pub fn row_2<A: Allocator + Copy>(alloc: A) -> Outcome {
 
 pub fn row_4<A: Allocator + Copy>(alloc: A) -> Outcome {
     let mut checks = Checks::new();
-    for (additional, capacity) in [(1, 6), (10, 13)] {
+    for (additional, is_exact, capacity) in [(1, false, 6), (10, false, 13), (1, true, 4)] {
         let mut list = listed(alloc, [1, 2, 3])?;
-        list.reserve(additional)?;
+        if is_exact {
+            list.reserve_exact(additional)?;
+        } else {
+            list.reserve(additional)?;
+        }
         checks.same(list.capacity(), capacity);
     }
-    let mut exact = listed(alloc, [1, 2, 3])?;
-    exact.reserve_exact(1)?;
-    checks.same(exact.capacity(), 4);
     Ok(checks)
 }
 

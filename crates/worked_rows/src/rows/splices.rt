@@ -9,13 +9,12 @@ use thin_vec::{SpliceRefused, ThinVec, ThinVecError};
 
 pub fn row_10<A: Allocator + Copy>(alloc: A) -> Outcome {
     let mut checks = Checks::new();
-    let mut roomy = listed(alloc, [1, 2, 3, 4, 5])?;
-    let items = claiming(alloc, [10, 11, 12], 1000)?;
-    roomy.splice(2, 4, items).finish(alloc)?;
-    checks.holds(&roomy, &[1, 2, 10, 11, 12, 5], 1005);
-    let mut list = listed(alloc, [1, 2, 3, 4, 5])?;
-    list.splice(2, 4, 10..13).finish(alloc)?;
-    checks.holds(&list, &[1, 2, 10, 11, 12, 5], 10);
+    for (claim, capacity) in [(1000, 1005), (3, 10)] {
+        let mut list = listed(alloc, [1, 2, 3, 4, 5])?;
+        let items = claiming(alloc, [10, 11, 12], claim)?;
+        list.splice(2, 4, items).finish(alloc)?;
+        checks.holds(&list, &[1, 2, 10, 11, 12, 5], capacity);
+    }
     Ok(checks)
 }
 
