@@ -36,6 +36,7 @@ impl<T, A: Allocator> Block<T, A> {
 
     /// Makes room for `cap` slots, by one allocation and one copy. Refused only where memory is,
     /// and then nothing changes.
+    #[inline(always)]
     pub fn grow(&mut self, alloc: &A, cap: usize) -> Result<(), ThinVecError>
         requires from { IsFrom self.old alloc.now }
         requires larger { length self.old.slots < cap }

@@ -183,7 +183,9 @@ impl<T, A: Allocator, G: Growth> ThinVec<T, A, G> {
         }
     }
 
-    // Every growth is made here.
+    // Every growth is made here. (In line, as `grow` is, so that the first of a new list tests
+    // nothing.)
+    #[inline(always)]
     pub(crate) fn grow_to(&mut self, cap: usize) -> Result<(), ThinVecError>
         requires larger { self.old.capacity < cap }
         requires fits { Fits T.row cap }
