@@ -1,9 +1,9 @@
 //! Callers that count on a list's length being at most its capacity, and on its capacity being
 //! small. None has a proof file, and none asks a list for its length to learn that.
-ghost use Rattle.std.specs.Prelude.{◌≡◌, ◌+◌, ◌<◌, ◌≤◌, ◌++◌, IsTrue, OnErr, OnOk, drop, length, take};
+ghost use Rattle.std.specs.Prelude.{◌≡◌, ◌+◌, ◌<◌, ◌≤◌, IsTrue, length, take};
 
 use std::alloc::Allocator;
-use thin_vec::{Growth, ThinVec, ThinVecError};
+use thin_vec::{Growth, ThinVec};
 
 /// Puts another item in the place of the last one, and answers whether there was one. It asks for
 /// no memory.
@@ -26,30 +26,7 @@ pub fn only<T: Drop, A: Allocator, G: Growth>(list: &mut ThinVec<T, A, G>, value
     list.push(value).is_ok()
 }
 
-/// Takes out the items from `from` up to `to`, as a list. For putting the rest back no memory is
-/// asked: where a cut is refused, the list has its old items.
-pub fn take_out<T: Drop, A: Allocator + Copy, G: Growth>(
-    list: &mut ThinVec<T, A, G>,
-    from: usize,
-    to: usize,
-) -> Result<ThinVec<T, A, G>, ThinVecError>
-    requires in_order { from ≤ to }
-    requires in_bounds { to ≤ length list.old.items }
-    ensures items { OnOk result
-        (list.new.items ≡ take from list.old.items ++ drop to list.old.items) }
-    ensures capacity { list.new.capacity ≡ list.old.capacity }
-    ensures err { OnErr result (list.new.items ≡ list.old.items) }
-{
-    let alloc = *list.allocator();
-    let mut tail = list.split_off(alloc, to)?;
-    let middle = list.split_off(alloc, from);
-    match list.append(&mut tail) {
-        Ok(()) => middle,
-        Err(cause) => Err(cause),
-    }
-}
-
-/// Drops `count` items behind the first `at`, where there are as many.
+/// Drops `count` items after the first `at`, where there are as many.
 pub fn cut_to<T: Drop, A: Allocator, G: Growth>(
     list: &mut ThinVec<T, A, G>,
     at: usize,
