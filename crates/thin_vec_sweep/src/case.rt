@@ -207,7 +207,7 @@ impl<T: Sample, G: Ruled> Case<T, G> {
         same_item(rt, &self.at, item, number);
     }
 
-    /// So many items, numbered from `first` on, have come in behind the others, where the call was
+    /// So many items, numbered from `first` on, have come in after the others, where the call was
     /// not refused.
     pub fn add<R: Abort>(&mut self, rt: &R, first: u64, count: usize, verdict: Verdict) {
         if verdict == Verdict::Done {

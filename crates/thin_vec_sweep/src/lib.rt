@@ -13,7 +13,7 @@
 //! how it has to end (`growth` where the list's capacity may change, `fresh` where another list is
 //! made, `further_growth` and `granted` one by one where it makes several requests; no question
 //! where it takes no memory); `begin`, from where on requests are counted and refused; the call,
-//! behind a test of what it requires; `answered`, and the same edit of `case.items`. A call that
+//! after a test of what it requires; `answered`, and the same edit of `case.items`. A call that
 //! appends a slice's items has an impl of `AppendsSlice` (`calls/slices.rt`) in the place of `run`,
 //! and one that makes a second list an impl of `MakesSecond` (`calls/seconds.rt`). What a closure
 //! answers is in `answers.rt`, steps from both ends are in `walks.rt`: on lists and ranges of up to

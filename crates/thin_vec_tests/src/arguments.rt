@@ -6,7 +6,7 @@ use std::cell::Cell;
 use std::process::Abort;
 use thin_vec::thin_vec;
 
-// `value`, and a digit behind those of the evaluations before it.
+// `value`, and a digit after those of the evaluations before it.
 fn told<V>(evaluated: &Cell<u32>, digit: u32, value: V) -> V {
     evaluated.set(evaluated.get().wrapping_mul(10).wrapping_add(digit));
     value

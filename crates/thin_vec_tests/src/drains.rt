@@ -15,7 +15,7 @@ use std::ops::Bound;
 use std::process::Abort;
 use thin_vec::{Drain, Growth, ThinVec, ThinVecError, bounds};
 
-/// Takes the items from `start` up to `end` out of the list, and answers the greatest of them, or
+/// Takes the items from `start` up to `end` out of the list, and returns the greatest of them, or
 /// `least` where that is more.
 pub fn greatest_out(list: &mut ThinVec<u32, Global>, start: usize, end: usize, least: u32) -> u32
     requires start_le_end { start ≤ end }
@@ -32,7 +32,7 @@ pub fn greatest_out(list: &mut ThinVec<u32, Global>, start: usize, end: usize, l
 }
 
 /// Takes the items from `start` up to `end` out, and gives up after one of them. Those before and
-/// behind them stay.
+/// after them stay.
 pub fn without<T: Drop, A: Allocator, G: Growth>(
     list: &mut ThinVec<T, A, G>,
     start: usize,

@@ -5,7 +5,7 @@ ghost use Rattle.std.specs.Prelude.{◌≡◌, ◌+◌, ◌<◌, ◌≤◌, IsTr
 use std::alloc::Allocator;
 use thin_vec::{Growth, ThinVec};
 
-/// Puts another item in the place of the last one, and answers whether there was one. It asks for
+/// Puts another item in the place of the last one, and returns whether there was one. It asks for
 /// no memory.
 pub fn replace_last<T: Drop, A: Allocator, G: Growth>(list: &mut ThinVec<T, A, G>, value: T) -> bool
     ensures succeeds { 0 < length list.old.items → IsTrue result }
@@ -17,7 +17,7 @@ pub fn replace_last<T: Drop, A: Allocator, G: Growth>(list: &mut ThinVec<T, A, G
     }
 }
 
-/// Keeps one item alone, that was not in the list, and answers whether it could. It asks for no
+/// Keeps one item alone, that was not in the list, and returns whether it could. It asks for no
 /// memory where there was one.
 pub fn only<T: Drop, A: Allocator, G: Growth>(list: &mut ThinVec<T, A, G>, value: T) -> bool
     ensures succeeds { 0 < length list.old.items → IsTrue result }

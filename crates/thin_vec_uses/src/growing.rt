@@ -16,7 +16,7 @@ pub fn halves<A: Allocator>(alloc: A, numbers: &[u32]) -> Option<ThinVec<u32, A>
     }
 }
 
-/// Appends the numbers that are below `limit`, in order, and answers whether all went in. The old
+/// Appends the numbers that are below `limit`, in order, and returns whether all went in. The old
 /// items stay in any case.
 pub fn extend_below<A: Allocator, G: Growth>(
     list: &mut ThinVec<u32, A, G>,
@@ -46,7 +46,7 @@ pub fn room_for_eight<A: Allocator>(alloc: A) -> Result<ThinVec<u64, A>, ThinVec
     ThinVec::with_capacity(alloc, 8)
 }
 
-/// Makes room for eight more behind fewer than a thousand. So few are no overflow either.
+/// Makes room for eight more after fewer than a thousand. So few are no overflow either.
 #[tactic(auto, using(thin_vec::proofs::FewLemmas::few_more))]
 pub fn reserve_eight<A: Allocator>(list: &mut ThinVec<u64, A>) -> Result<(), ThinVecError>
     requires few { length list.old.items < 1000 }
@@ -71,7 +71,7 @@ pub fn joined<A: Allocator>(
     Ok(list)
 }
 
-/// A copy of the list on `alloc`, and behind it the numbers `more`.
+/// A copy of the list on `alloc`, and after it the numbers `more`.
 pub fn continued<A: Allocator, G: Growth>(
     list: &ThinVec<u32, A, G>,
     alloc: A,
@@ -85,7 +85,7 @@ pub fn continued<A: Allocator, G: Growth>(
     Ok(copy)
 }
 
-/// Appends the numbers, and answers how many went in behind the old items: all, or those before the
+/// Appends the numbers, and returns how many went in after the old items: all, or those before the
 /// one that was refused.
 pub fn extend_by_number<A: Allocator, G: Growth>(
     list: &mut ThinVec<u32, A, G>,
@@ -104,7 +104,7 @@ pub fn extend_by_number<A: Allocator, G: Growth>(
     }
 }
 
-/// Makes the text `len` bytes long, by spaces behind it. Refused, it is as it was, and so is its
+/// Makes the text `len` bytes long, by spaces after it. Refused, it is as it was, and so is its
 /// capacity.
 pub fn pad<A: Allocator, G: Growth>(
     text: &mut ThinVec<u8, A, G>,

@@ -6,7 +6,7 @@ ghost use Rattle.thin_vec.specs.ThinVec.{HasRoomFor};
 use std::alloc::{AllocError, Allocator};
 use thin_vec::{Growth, ThinVec};
 
-/// Moves the numbers from `start` up to `end` behind those of `other`, or moves none.
+/// Moves the numbers from `start` up to `end` after those of `other`, or moves none.
 ///
 /// The `Drain` stays here, and only its numbers go into the call: of one that another call uses up
 /// no contract says what it leaves.
@@ -32,7 +32,7 @@ pub fn move_range<A: Allocator, G: Growth>(
     Ok(())
 }
 
-/// Moves the odd ones of the numbers from 1 to 6 behind those of `other`, or moves none.
+/// Moves the odd ones of the numbers from 1 to 6 after those of `other`, or moves none.
 pub fn move_odd<A: Allocator, G: Growth>(
     list: &mut ThinVec<u32, A, G>,
     other: &mut ThinVec<u32, A, G>,

@@ -39,7 +39,7 @@ pub fn drained_middle<T: Drop, A: Allocator, G: Growth>(list: &mut ThinVec<T, A,
     drop(drain);
 }
 
-/// Takes no item out behind the last of six: nothing moves.
+/// Takes no item out after the last of six: nothing moves.
 pub fn drained_behind<T: Drop, A: Allocator, G: Growth>(list: &mut ThinVec<T, A, G>)
     requires six { length list.old.items ≡ 6 }
     ensures items { list.new.items ≡ list.old.items }
@@ -56,7 +56,7 @@ pub fn kept_all<T: Drop, A: Allocator, G: Growth>(list: &mut ThinVec<T, A, G>)
     list.retain(|_item: &T| true);
 }
 
-/// Takes the first even one of the items from 2 to 5 out, and asks about no other: the four behind
+/// Takes the first even one of the items from 2 to 5 out, and asks about no other: the four after
 /// it move.
 pub fn extracted_first<A: Allocator, G: Growth>(list: &mut ThinVec<u32, A, G>) -> Option<u32>
     requires to_six { list.old.items ≡ 1 ∷ 2 ∷ 3 ∷ 4 ∷ 5 ∷ 6 ∷ [] }
@@ -69,8 +69,8 @@ pub fn extracted_first<A: Allocator, G: Growth>(list: &mut ThinVec<u32, A, G>) -
         .next()
 }
 
-/// Puts three items in the place of two, with one behind them: at most five moves, one for each
-/// that comes in, and two for the one behind.
+/// Puts three items in the place of two, with one after them: at most five moves, one for each
+/// that comes in, and two for the one after.
 pub fn spliced_middle<A: Allocator + Copy, G: Growth>(
     list: &mut ThinVec<u32, A, G>,
     alloc: A,
@@ -85,7 +85,7 @@ pub fn spliced_middle<A: Allocator + Copy, G: Growth>(
     Ok(())
 }
 
-/// A new list, filled and edited: six items come in behind, one between others, and five go out
+/// A new list, filled and edited: six items come in after, one between others, and five go out
 /// again. Two stay, after at most 14 moves.
 pub fn edited<A: Allocator + Copy>(alloc: A) -> Result<ThinVec<u32, A>, AllocError>
     ensures len { IfOk result (λ list. length list.items ≡ 2) }
@@ -100,7 +100,7 @@ pub fn edited<A: Allocator + Copy>(alloc: A) -> Result<ThinVec<u32, A>, AllocErr
     Ok(list)
 }
 
-// Puts 9 in the place of 2 and 3: one move for it, and at most two for each of the three behind.
+// Puts 9 in the place of 2 and 3: one move for it, and at most two for each of the three after.
 fn nine_for_two<A: Allocator>(list: &mut ThinVec<u32, A>, alloc: A) -> Result<(), AllocError>
     requires to_six { list.old.items ≡ 1 ∷ 2 ∷ 3 ∷ 4 ∷ 5 ∷ 6 ∷ [] }
     ensures items { OnOk result (list.new.items ≡ 1 ∷ 9 ∷ 4 ∷ 5 ∷ 6 ∷ []) }

@@ -82,7 +82,7 @@ fn has(replies: &[Replied], one: Replied) -> bool {
     false
 }
 
-// Puts the replies to these commands behind the others, but for those that are there.
+// Puts the replies to these commands after the others, but for those that are there.
 fn put_new(replies: &mut Vec<Replied, Global>, done: &[Done]) -> Result<(), AllocError> {
     for (order, _, form, cause) in done {
         let one = (order.kind, *form, *cause);
@@ -157,7 +157,7 @@ const WORKED: [(&[u64], usize); 6] = [
 ];
 
 // Under `PowerBytes`: a block of 32, 64 or 128 bytes has room for 4, 12 or 28 items of 4 bytes
-// behind its header.
+// after its header.
 fn worked_powers() -> [Order; 9] {
     [
         plain(Kind::Push, 0, 0, 0, 0, 1),

@@ -51,7 +51,7 @@ const OUT_OF_MEMORY: &str = "ExitCode(unix_exit_status(2))";
 const NOT_WRITTEN: &str = "ExitCode(unix_exit_status(3))";
 
 // Reports into `text`, of which the call of that number is refused, or none at 0. Asserts that the
-// report ends so, and answers how many calls it made.
+// report ends so, and returns how many calls it made.
 fn report_into<A: Allocator + Copy, R: Abort>(
     rt: &R,
     alloc: A,

@@ -100,7 +100,7 @@ impl<'a> Sample<Lender<'a>> for Vec<u64, Lender<'a>> {
     }
 }
 
-/// Puts an item behind the others.
+/// Puts an item after the others.
 pub fn put<T: Drop, A: Allocator>(items: &mut Vec<T, A>, item: T) -> Result<(), AllocError> {
     match items.push(item) {
         Ok(()) => Ok(()),

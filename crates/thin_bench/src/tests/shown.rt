@@ -30,7 +30,7 @@ pub struct Place {
     pub end: usize,
     /// How many items are claimed, or how many calls of `next` are made.
     pub claim: usize,
-    /// The steps of a walk as binary digits, 1 for the front, behind a first 1.
+    /// The steps of a walk as binary digits, 1 for the front, after a first 1.
     pub walk: u64,
 }
 
@@ -73,7 +73,7 @@ pub struct Shown<T, A: Allocator> {
     pub items: Vec<T, A>,
     /// The capacity of a list, or how many items were held.
     pub number: usize,
-    /// Whether an item was in hand, the first behind those that were held.
+    /// Whether an item was in hand, the first after those that were held.
     pub in_hand: bool,
     /// Where the command was to work that is handed back.
     pub place: Place,

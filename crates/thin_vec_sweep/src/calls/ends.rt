@@ -1,5 +1,5 @@
-//! An item, or the rest of a list, comes in or goes out: `push`, `push_mut`, `push_reserved`, `pop`,
-//! `insert`, `insert_mut`, `insert_reserved`, `remove`, `swap_remove`, `truncate`, `clear`.
+//! An item, or the rest of a list, comes in or goes out: `push`, `push_mut`, `push_reserved`,
+//! `pop`, `insert`, `insert_mut`, `insert_reserved`, `remove`, `swap_remove`, `truncate`, `clear`.
 use crate::case::{Case, Verdict};
 use crate::samples::Sample;
 use crate::shapes::Shape;

@@ -41,9 +41,9 @@ pub struct Ending {
     pub verdict: Verdict,
     /// How many items are placed.
     pub placed: usize,
-    /// How many are held behind those.
+    /// How many are held after those.
     pub held: usize,
-    /// How many are in hand behind those: at most one.
+    /// How many are in hand after those: at most one.
     pub in_hand: usize,
     /// How often the iterator answers `None`: at most once.
     pub ends: usize,
@@ -84,7 +84,7 @@ impl Ending {
     }
 }
 
-/// What a list has to come to that is filled behind its items with `count` more: room is made once
+/// What a list has to come to that is filled after its items with `count` more: room is made once
 /// for the hint, and then one at a time where there is none left.
 pub fn fill<T: Sample, G: Ruled, R: Abort>(
     rt: &R,

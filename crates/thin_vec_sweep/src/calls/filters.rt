@@ -78,8 +78,8 @@ impl<T: Sample, G: Ruled> Call<T, G> for RetainMut {
     }
 }
 
-/// The closure puts an item that it owns into the place of the last one, which it drops with it, and
-/// says that it stays, or goes.
+/// The closure puts an item that it owns into the place of the last one, which it drops with it,
+/// and says that it stays, or goes.
 pub struct PopIf {}
 
 impl<T: Sample, G: Ruled> Call<T, G> for PopIf {

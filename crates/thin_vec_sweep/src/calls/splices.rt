@@ -115,7 +115,7 @@ fn hint(number: usize, left: usize, all: usize) -> usize {
     }
 }
 
-// How `finish` has to end, and what it leaves in the list: with nothing behind the range it is an
+// How `finish` has to end, and what it leaves in the list: with nothing after the range it is an
 // `extend`.
 fn finish<T: Sample, G: Ruled, R: Abort>(rt: &R, case: &mut Case<T, G>, plan: &Plan) -> Ending {
     let range = plan.range;
@@ -135,7 +135,7 @@ fn finish<T: Sample, G: Ruled, R: Abort>(rt: &R, case: &mut Case<T, G>, plan: &P
     ending
 }
 
-// How it has to end with items behind the range. The case has all items of before.
+// How it has to end with items after the range. The case has all items of before.
 fn fill_between<T: Sample, G: Ruled>(case: &mut Case<T, G>, width: usize, plan: &Plan) -> Ending {
     let mut ending = Ending::done(plan.count);
     if plan.count < width {

@@ -24,7 +24,7 @@ impl<T: Sample<A>, A: Allocator + Copy, G: Ruled> Model<T, A, G> {
     }
 
     // Whether there is, or could be made, room for the items of an order in the place of its range:
-    // with items behind it, once for what is claimed and once for the rest, and else for each item
+    // with items after it, once for what is claimed and once for the rest, and else for each item
     // that comes.
     fn make_rooms(&mut self, order: Order) -> bool {
         let len = self.items.len();
@@ -83,7 +83,7 @@ impl<T: Sample<A>, A: Allocator + Copy, G: Ruled> Model<T, A, G> {
     // Whether a command that was refused memory once so many items were placed may have drawn what
     // it shows.
     //
-    // With nothing behind the range none is held, and an item is in hand just where the list is
+    // With nothing after the range none is held, and an item is in hand just where the list is
     // full. Else an item is in hand, or none was drawn, or all were.
     fn may_stop(&self, order: Order, given: &Shown<T, A>) -> bool {
         let placed = order.count.saturating_sub(given.items.len());
