@@ -54,7 +54,7 @@ ruled-grows rule R c w n law more e = elim (dec_lt w (2 ^ 64)) [
 pub fits-small : (R : RattleType) (c : ℕ) → Fits R c → c < 2 ^ 63
 fits-small R c e = (fits_tells R c (opened R c e)).few
 
--- and so are the bytes of as many items
+-- the bytes of as many items as fit are below 2 ^ 63
 pub fits-bytes : (R : RattleType) (c : ℕ) → Fits R c → c * type_size R < 2 ^ 63
 fits-bytes R c e = let room = (fits_tells R c (opened R c e)).room in omega arith
 
@@ -74,14 +74,14 @@ fits-none R = closed R 0 (fits_none R)
 -- ---- numbers that are far below every limit, for callers at a known type: fewer than 2 ^ 31 items
 -- of fewer than 2 ^ 31 bytes
 
--- so many items have fewer than 2 ^ 62 bytes
+-- fewer than 2 ^ 31 items of fewer than 2 ^ 31 bytes have fewer than 2 ^ 62
 pub few_bytes : (c s : ℕ) → c < 2 ^ 31 → s < 2 ^ 31 → c * s < 2 ^ 62
 few_bytes c s few small =
     let wide : c * s ≤ c * (2 ^ 31) =
     mul-le-mul_left c (let less : s ≤ 2 ^ 31 = omega arith in less) in
     omega arith
 
--- so many fit
+-- fewer than 2 ^ 31 items of fewer than 2 ^ 31 bytes fit
 pub small_fits : (R : RattleType) (c : ℕ) → c < 2 ^ 31 → type_size R < 2 ^ 31 → Fits R c
 small_fits R c few small =
     let bytes : c * type_size R < 2 ^ 62 = few_bytes c (type_size R) few small in
@@ -100,7 +100,7 @@ doubling_first R c w none some few small =
     subst (Fits R) (sym four) (small_fits R 4 (omega arith) small) in
     ruled-rule doubling R c w more (omega arith) ∙ (rw fit (ap Some four))
 
--- and any other twice its places, where they suffice
+-- doubling gives a list with a block twice its places, where they suffice
 pub doubling_next : (R : RattleType) (c w : ℕ) → 0 < c → c < w → w ≤ 2 * c → c < 2 ^ 30
     → type_size R < 2 ^ 31 → ruled_capacity doubling R c w ≡ Some (2 * c)
 unfolding doubling fitting
@@ -111,7 +111,7 @@ doubling_next R c w some more enough few small =
     subst (Fits R) (sym twice) (small_fits R (2 * c) (omega arith) small) in
     ruled-rule doubling R c w more (omega arith) ∙ (rw fit (ap Some twice))
 
--- or as many as are wanted, where those are more
+-- doubling gives a list with a block as many places as are wanted, where twice its own are fewer
 pub doubling_wanted : (R : RattleType) (c w : ℕ) → 0 < c → 2 * c < w → w < 2 ^ 31
     → type_size R < 2 ^ 31 → ruled_capacity doubling R c w ≡ Some w
 unfolding doubling fitting
@@ -127,7 +127,7 @@ pub exact-same : (R : RattleType) (c w : ℕ) → w ≤ c → exact_capacity R c
 unfolding exact_capacity
 exact-same R c w enough = rw (le-leb w c enough) refl
 
--- one that fits is the want
+-- an exact capacity that fits is the want
 pub exact-fits : (R : RattleType) (c w : ℕ) → c < w → Fits R w → exact_capacity R c w ≡ Some w
 unfolding exact_capacity fitting
 exact-fits R c w more fit = rw (lt-leb w c more, fit) refl
@@ -142,13 +142,13 @@ pub fitting_none : (R : RattleType) (n : ℕ) → (Fits R n → ⊥)
 unfolding fitting
 fitting_none R n never = no_answer (fits (type_size R) (type_align R) n) n never
 
--- and one that does not fit overflows
+-- an exact capacity that does not fit overflows
 pub exact-overflow : (R : RattleType) (c w : ℕ) → c < w → (Fits R w → ⊥)
     → exact_capacity R c w ≡ None
 unfolding exact_capacity
 exact-overflow R c w more never = rw (lt-leb w c more) (fitting_none R w never)
 
--- where there was no block, as well at a want of nothing, which fits
+-- from no block on, an exact capacity that does not fit overflows
 pub exact-none : (R : RattleType) (w : ℕ) → (Fits R w → ⊥) → exact_capacity R 0 w ≡ None
 exact-none R zero never = absurd (never (fits-none R))
 exact-none R (suc w) never = exact-overflow R 0 (suc w) (omega arith) never
@@ -158,7 +158,7 @@ pub exact-past : (R : RattleType) (c w : ℕ) → c < w → 2 ^ 64 ≤ w → exa
 exact-past R c w more high =
     exact-overflow R c w more (λ fit. let small = fits-small R w fit in absurd (omega arith))
 
--- of a type these words see its size and its alignment alone
+-- two item types of one size and alignment
 module _ (R S : RattleType) (c w : ℕ) (size : type_size R ≡ type_size S)
     (align : type_align R ≡ type_align S) where
   -- the exact capacity depends on an item by its size and alignment alone
@@ -166,7 +166,7 @@ module _ (R S : RattleType) (c w : ℕ) (size : type_size R ≡ type_size S)
   unfolding exact_capacity fitting
   exact-at = rw (size, align) refl
 
-  -- and so does the ruled one
+  -- the ruled capacity depends on an item by its size and alignment alone
   pub ruled-at : (rule : Rule) → ruled_capacity rule R c w ≡ ruled_capacity rule S c w
   unfolding ruled_capacity
   ruled-at rule = rw (size, align) refl

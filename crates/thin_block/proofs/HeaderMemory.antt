@@ -1,12 +1,12 @@
 -- A block as a machine value, its room cut into its parts, and the steps that open and close it.
 -- Assumes `Logic`.
---     block_val, block_own           the pointer in a struct of three fields, and what that struct owns beside `also_owns`
---     whole_size, whole_align        the layout of the room that a block is asked for
---     carve, gather                  that room as its parts, and back
---     header, header_fits            all of a block but its slots, also where there is none; and that the block fits
---     alloc_there                     where there are slots, there is an allocator
---     block_had, block_made          what a block owns, as its header and its slots, and back
---     block_opens, block_closes      the same behind a `&mut`
+--     block_val, block_own        the pointer in a struct of three fields, and what the struct owns
+--     whole_size, whole_align     the layout of the room that a block is asked for
+--     carve, gather               that room as its parts, and back
+--     header, header_fits         a block but for its slots, also where there is none; that it fits
+--     alloc_there                 where there are slots, there is an allocator
+--     block_had, block_made       what a block owns, as its header and its slots, and back
+--     block_opens, block_closes   a `&mut` to a block, as its header and its slots, and back
 use Rattle.std.proofs.Common.{◌≡◌, Bool, true, ℕ, Some, None, ◌+◌, ◌*◌, ◌<◌, List, [], ◌∷◌, ◌++◌, length, refl, sym, ap, subst, ◌∙◌, arith, w64}
 use seplogic.Ra.Ura.{Ura}
 use mir.Syntax.{Ty, Tys, Width, Args, w8, w16, w32, w128, a_type, dcons, dnil, ty_int, ty_array, tcons, tnil}
@@ -108,7 +108,7 @@ module _ (R : RattleType) (c : ℕ) where
   pub whole_align : align (whole R c) ≡ block_align (type_align R)
   whole_align = ap (λ (a : ℕ). max 8 (max 8 (max a 1))) (align-raw τ) ∙ (aligned τ).0
 
-  -- and its size
+  -- the size of a whole block
   pub whole_size : size (whole R c) ≡ block_bytes (type_size R) (type_align R) c
   whole_size =
       let ends : up (align items) 16 + size items ≡ max 16 (align τ) + c * size τ =
@@ -255,7 +255,7 @@ module _ (E : El) (Y : Al) {M : Type 1} {𝓤 : Ura M} {𝓛 : Logic 𝓤} {K : 
       header_fits (t E Y) (R E) k x.len x.slots x.alloc b o x.sound.1 (λ fits.
       next b o at (block_told x.at vs is.0 ∙ ap (λ (p : Ptr). block_val p ∷ []) at) fits)))
 
-  -- which make a block again
+  -- a header and slots in memory make a block again
   pub block_made : K → (x : (Br E Y).Denot) (b o : ℕ) → x.at ≡ block_ptr b o
       → Step K 𝓛 (‵ ((Br E Y).own_val x (block_val (block_ptr b o) ∷ [])) ∷ Γ) G
       (‵ (Header E Y x b o) ∷ ‵ (Slots E Y x b o) ∷ Γ) G
@@ -284,7 +284,7 @@ module _ (E : El) (Y : Al) {M : Type 1} {𝓤 : Ura M} {𝓛 : Logic 𝓤} {K : 
       rewrite k 2 (λ (us : List Val). ‵ (cell_at full_share (Br E Y).mir us rb ro))
       is refl $ next b o at fits))
 
-  -- and give back a borrow of one
+  -- a header and slots in memory end a borrow of a block
   pub block_closes : K → Soaks G → {κ : Lft} {q : Share} {u v : Gv} {γ : GName} (x : (Br E Y).Denot)
       (b o rb ro : ℕ) → x.at ≡ block_ptr b o
       → Step K 𝓛 (‵ (fobs γ ((Br E Y).coded.code x)) ∷ ‵

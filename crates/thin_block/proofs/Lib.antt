@@ -4,11 +4,14 @@ mod PowersLemmas
 mod Walks
 mod HeaderMemory
 mod SlotMemory
+mod Methods
+mod Addresses
 mod Turning
 mod ShiftMemory
 mod CopyCall
 mod Sharing
 mod Lending
+pub mod BlockLemmas
 pub mod CapacityLemmas
 pub mod SlotsLemmas
 pub mod Outcomes

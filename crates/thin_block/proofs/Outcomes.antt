@@ -1,38 +1,33 @@
--- What follows of an answer that is `Ok`, `Err`, `Some` or `None`, for this crate and the list's.
+-- What follows of a result that is `Ok`, `Err`, `Some` or `None`, for this crate and the list's.
 use Rattle.std.proofs.Common.{Err, None, Ok, Option, Result, Some, subst, ◌≡◌}
 use Rattle.std.specs.Prelude.{OnErr, OnOk, OnSome}
 
--- a fact of `Ok` gives another
+-- what follows from a fact holds of `Ok` where the fact does
 pub on-ok : {T E P Q : Type 0} (r : Result T E) → (P → Q) → OnOk r P → OnOk r Q
 on-ok (Ok x) h p = h p
 on-ok (Err e) h p = p
 
--- a fact of `Err` gives another
+-- what follows from a fact holds of `Err` where the fact does
 pub on-err : {T E P Q : Type 0} (r : Result T E) → (P → Q) → OnErr r P → OnErr r Q
 on-err (Ok x) h p = tt
 on-err (Err e) h p = h p
 
--- a fact of `Some` gives another
-pub on-some : {X P Q : Type 0} (o : Option X) → (P → Q) → OnSome o P → OnSome o Q
-on-some (Some x) h p = h p
-on-some None h p = p
-
--- and holds where the item is known
+-- a fact of `Some` holds where the item is known
 pub at-some : {X P : Type 0} {o : Option X} {x : X} → o ≡ Some x → OnSome o P → P
 at-some {P = P} e p = subst (λ o. OnSome o P) e p
 
--- no call both succeeds and is refused
+-- no result is both `Ok` and `Err`
 pub ok-err : {X E P : Type 0} (x : X) (e : E) → Ok x ≡ Err e → P
 ok-err x e h = cc
 
--- equal refusals have one cause
+-- equal results that are `Err` have one cause
 pub err-same : {X E : Type 0} {d e : E} → (let r : Result X E = Err d in r) ≡ Err e → d ≡ e
 err-same h = cc
 
--- equal answers hold one value
+-- equal results that are `Some` hold one value
 pub some-same : {X : Type 0} {x y : X} → Some x ≡ Some y → x ≡ y
 some-same e = cc
 
--- nothing is both there and not
+-- no result is both `None` and `Some`
 pub none-some : {X : Type 0} {o : Option X} {x : X} → o ≡ None → o ≡ Some x → ⊥
 none-some e h = cc

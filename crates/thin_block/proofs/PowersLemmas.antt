@@ -44,7 +44,7 @@ module _ (R : RattleType) (c w size : ℕ) (is : size ≡ capped (type_size R))
   abbrev a : ℕ
   a = type_align R
 
-  -- as many items as the code and the rule go by
+  -- how many items the code and the rule make room for
   abbrev items : ℕ
   items = max w (min (c * 2) (2 ^ 64 - 1))
 

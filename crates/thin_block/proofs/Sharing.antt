@@ -1,6 +1,6 @@
 -- What a `&` to a block shows: its pointer, and a `&` to each word and each item. Assumes `Logic`.
---     block_seen       a `&` to a block, taken apart
---     run_seen         of the slots that are lent, the run that holds the items xs is a slice of them
+--     block_seen    a `&` to a block, taken apart
+--     run_seen      of the slots that are lent, a run that holds the items xs is a slice of them
 use Rattle.std.proofs.Common.{◌≡◌, ℕ, zero, suc, Some, None, ◌+◌, ◌*◌, ◌≤◌, List, [], ◌∷◌, ◌++◌, length, Bool, true, refl, sym, ap, subst, ◌∙◌, arith}
 use native.Mathlib.Nat.{zero-mul, suc-mul}
 use lib.ListN.{drop, take-append-drop}

@@ -1,8 +1,8 @@
 -- A run of items and the slots that it goes to come out of one row, and go back once it has moved.
 -- Assumes `Logic`.
---     Moves            the way out of the row of what a copy takes, and the way back of what it leaves
---     apart            where the two runs lie apart: the items, and room for them
---     slides           where they overlap: the items, and room beside them as far as they go
+--     Moves     the way out of the row of what a copy takes, and the way back of what it leaves
+--     apart     where the two runs lie apart: the items, and room for them
+--     slides    where they overlap: the items, and room beside them as far as they go
 use Rattle.std.proofs.Common.{◌≡◌, ◌⊎◌, Bool, true, false, ℕ, Some, None, ◌+◌, ◌-◌, ◌*◌, ◌<◌, ◌≤◌, List, [], ◌∷◌, ◌++◌, length, refl, sym, ap, ◌∙◌, arith, append_assoc}
 use Rattle.std.proofs.lemmas.List.{length-map, length-replicate, length-append, length-take}
 use mathlib.Core.Logic.{inl, inr, ⊎_elim}
@@ -124,7 +124,7 @@ module _ (E : El) {M : Type 1} {𝓤 : Ura M} (𝓛 : Logic 𝓤) (b o : ℕ) (s
             rewrite ! 0 (λ (l : S). ‵ (Row o l)) result refl $ done !;
       }
 
-  -- the run beside a gap of d slots behind it
+  -- the run beside a gap of d slots after it
   slides_up : (d : ℕ) → to ≡ from + d → to + k ≤ length slots → run (from + k) d slots ≡ empty d
       → Moves (memory_before_copy (R E) true d k (block_ptr b src) (block_ptr b dst) xs)
       (memory_after_copy (R E) true d k (block_ptr b src) (block_ptr b dst) xs)
@@ -210,7 +210,7 @@ module _ (E : El) {M : Type 1} {𝓤 : Ura M} (𝓛 : Logic 𝓤) (b o : ℕ) (s
       let same : length mid * s ≡ m * s = ap (λ (n : ℕ). n * s) count in
       omega arith
 
-  -- the items go over what lies behind them
+  -- the items go over what lies after them
   goes_over : (m : ℕ) → to ≡ from + k + m → to + k ≤ length slots
       → run to k slots ≡ empty k → Moves Was Is
   goes_over m apart within gap =

@@ -85,7 +85,7 @@ align_known R = (align_w (layout R), align-bytes (layout R))
 pub rounded_at : (a x : ℕ) → IsAlign a → Rounded a x
 rounded_at a x is = subst (λ (k : ℕ). Rounded k x) (sym is.1) (rounded_to is.0 x)
 
--- the same at an item's own
+-- rounding up to the alignment of an item
 pub rounded : (R : RattleType) (x : ℕ) → Rounded (type_align R) x
 rounded R x = rounded_at (type_align R) x (align_known R)
 
@@ -147,7 +147,7 @@ module _ (s a c : ℕ) (is : IsAlign a) where
       both_true (ltb c (2 ^ 63)) (ltb (block_bytes s a c) (2 ^ 63)) (lt-ltb c (2 ^ 63) few)
       (lt-ltb (block_bytes s a c) (2 ^ 63) whole)
 
-  -- and what is small tells both
+  -- where a block is small, its slots are few and their bytes leave room
   pub small_tells : is_small s a c ≡ true → Told s a c
   small_tells e =
       let few : c < 2 ^ 63 =
@@ -156,16 +156,16 @@ module _ (s a c : ℕ) (is : IsAlign a) where
       (tells_second (ltb c (2 ^ 63)) (ltb (block_bytes s a c) (2 ^ 63)) e) in
       record { few = few; room = (rounded_at a (c * s) is).tells short; short = short }
 
--- the same of a type
+-- which capacities fit, for items of R
 module _ (R : RattleType) (c : ℕ) where
   abbrev IsSmall : Type 0
   IsSmall = is_small (type_size R) (type_align R) c ≡ true
 
-  -- the same of a type
+  -- a block of few items of R whose bytes leave room is small
   pub fits_yes : c < 2 ^ 63 → Small (type_size R) (type_align R) c → IsSmall
   fits_yes few room = small_yes (type_size R) (type_align R) c (align_known R) few room
 
-  -- and back
+  -- where a block of items of R is small, they are few and their bytes leave room
   pub fits_tells : IsSmall → Told (type_size R) (type_align R) c
   fits_tells e = small_tells (type_size R) (type_align R) c (align_known R) e
 
@@ -240,11 +240,6 @@ unfolding fits
 fits_no s a c many = first_false (ltb c (2 ^ 63)) (ltb (block_bytes s a c) (2 ^ 63))
     (le-ltb c (2 ^ 63) many)
 
--- a test that failed told that what it tests for is not so
-pub told_not : (r t : Bool) → (t ≡ true → r ≡ true) → r ≡ false → t ≡ false
-told_not r true tells e = sym (tells refl) ∙ e
-told_not r false tells e = refl
-
 -- the capacity that doubling tries
 abbrev pub tried : ℕ → ℕ → ℕ → ℕ
 tried s c w = max w (if c == 0 then first s else 2 * c)
@@ -253,7 +248,7 @@ tried s c w = max w (if c == 0 then first s else 2 * c)
 pub tried_first : (s c w d : ℕ) → c ≡ 0 → d ≡ first s → max w d ≡ tried s c w
 tried_first s c w d none is = grind (arith, nat_tests)
 
--- and where there was one
+-- the capacity that doubling tries where there was one
 pub tried_twice : (s c w d : ℕ) → (c ≡ 0 → ⊥) → d ≡ 2 * c → max w d ≡ tried s c w
 tried_twice s c w d some is = grind (arith, nat_tests)
 

@@ -1,11 +1,11 @@
 -- Slots come out of a block's row of slots and go back. Assumes `Logic`.
---     slot_out, slot_in        one slot
---     run_out, run_in          the k slots from i on
---     two_slots                two different slots, in either order
---     to_items, of_items       slots that hold the items xs are an array of them
---     to_cells, of_cells       slots that hold the items xs are the cells of a slice
---     to_room, of_room         empty slots are room for an array; to_raw, of_raw: for one of no type
---     reach                    how far behind the first slot a slot begins: a number that a word holds
+--     slot_out, slot_in    one slot
+--     run_out, run_in      the k slots from i on
+--     two_slots            two different slots, in either order
+--     to_items, of_items   slots that hold the items xs are an array of them
+--     to_cells, of_cells   slots that hold the items xs are the cells of a slice
+--     to_room, of_room     empty slots are room for an array; to_raw, of_raw: for one of no type
+--     reach                how far after the first slot a slot begins: a number that a word holds
 use Rattle.std.proofs.Common.{◌≡◌, true, ℕ, zero, suc, None, ◌+◌, ◌*◌, ◌^◌, ◌<◌, ◌≤◌, List, [], ◌∷◌, ◌++◌, length, refl, sym, ap, ◌∙◌, arith}
 use native.Mathlib.Nat.{zero-mul, suc-mul}
 use lib.ListN.{take, drop, set, get_or, take-append-drop, length-take, length-drop, length-set}
@@ -35,7 +35,7 @@ use Rattle.thin_block.specs.Ownership.{fits_block, place, places}
 use Rattle.thin_block.specs.Slots.{full, empty, run, laid}
 use Rattle.thin_block.proofs.SizesLemmas.{fits_tells}
 
--- how far behind the first slot a slot begins: a number that a word holds
+-- how far after the first slot a slot begins: a number that a word holds
 pub reach : (Rw : RattleType) (i c : ℕ) → fits_block Rw c ≡ true → i ≤ c → i * type_size Rw < 2 ^ 63
 reach Rw i c fits le =
     let small = (fits_tells Rw c fits).room in
@@ -171,7 +171,7 @@ module _ (E : El) {M : Type 1} {𝓤 : Ura M} (𝓛 : Logic 𝓤) (b : ℕ) wher
   to_items k xs o long = qed 𝓛 (‵ (Row o (full xs)) ∷ []) ∵ use1 𝓛 (‵ (row (R E) full_share xs b o))
       (to_row xs o) $ by ! (arrays.whole E' 𝓛 full_share k xs b o long)
 
-  -- and back
+  -- an array of items is filled slots
   pub of_items : (k : ℕ) (xs : List (el_x E)) (o : ℕ)
       → ent 𝓤 (sem 𝓛 (part_at (Array (R E) k) full_share xs b o)) (sem 𝓛 (Row o (full xs)))
   of_items k xs o = qed 𝓛 (‵ (part_at (Array (R E) k) full_share xs b o) ∷ []) ∵
@@ -193,7 +193,7 @@ module _ (E : El) {M : Type 1} {𝓤 : Ura M} (𝓛 : Logic 𝓤) (b : ℕ) wher
   to_cells [] o = id⊢ 𝓤 (emp 𝓤)
   to_cells (x ∷ xs) o = mono_r 𝓤 (sem 𝓛 (part_at (R E) full_share x b o)) (to_cells xs (o + s))
 
-  -- and back
+  -- std's cells are filled slots
   pub of_cells : (xs : List (el_x E)) (o : ℕ) → ent 𝓤 (sem 𝓛 (cells (mem (R E)) xs b o))
       (sem 𝓛 (Row o (full xs)))
   of_cells [] o = id⊢ 𝓤 (emp 𝓤)
@@ -208,7 +208,7 @@ module _ (E : El) {M : Type 1} {𝓤 : Ura M} (𝓛 : Logic 𝓤) (b : ℕ) wher
       use1 𝓛 (‵ (place (R E) None b o)) (𝓛.laws.room-raw (elτ E) b o) $ keeps ! $
       by ! (of_room k (o + s))
 
-  -- and back
+  -- empty slots are room for an array
   pub to_room : (k o : ℕ) → ent 𝓤 (sem 𝓛 (Row o (empty k))) (H.room (ty_array (elτ E) k) b o)
   to_room zero o = 𝓛.laws.room_nil (elτ E) b o
   to_room (suc k) o = qed 𝓛 (‵ (Row o (empty (suc k))) ∷ []) ∵ fsplit ! $
@@ -216,7 +216,7 @@ module _ (E : El) {M : Type 1} {𝓤 : Ura M} (𝓛 : Logic 𝓤) (b : ℕ) wher
       use1 𝓛 (‵ (froom (ty_array (elτ E) k) b (o + s))) (to_room k (o + s)) $ move ! (1 ∷ []) $
       by ! (𝓛.laws.room_cons (elτ E) k b o)
 
-  -- the same for room of no type
+  -- room for an array that has no type is empty slots
   pub of_raw : (k o : ℕ) → ent 𝓤 (H.room (bare (ty_array (elτ E) k)) b o) (sem 𝓛 (Row o (empty k)))
   of_raw k o = via 𝓤 (H.room (ty_array (elτ E) k) b o)
       (𝓛.laws.raw-room (ty_array (elτ E) k) b o) (of_room k o)

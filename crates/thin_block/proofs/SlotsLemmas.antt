@@ -1,10 +1,9 @@
 -- What the words of `specs/Slots.antt` give.
 use Rattle.std.proofs.Common.{◌⊎◌, ◌≡◌, ℕ, zero, suc, ◌+◌, ◌-◌, ◌<◌, ◌≤◌, List, [], ◌∷◌, ◌++◌, length, Some, None, refl, sym, ap, subst, ◌∙◌, arith, append_assoc}
-use Rattle.std.proofs.lemmas.List.{take-append-drop, drop-drop, set_at, get_or-append_right, get_or-drop, map-append, length-replicate, length-map, length-append, length-take, length-drop, take_at, drop_at, drop-replicate, replicate-append-replicate}
+use Rattle.std.proofs.lemmas.List.{take-append-drop, drop-drop, set_at, get_or-append_right, get_or-drop, length-replicate, length-map, length-append, length-take, length-drop, take_at, drop_at, drop-replicate, replicate-append-replicate}
 use mathlib.Core.Logic.{inl, inr, ⊎_elim}
 use lib.ListN.{set, get_or}
 use lib.Seq.{set-set, drop-cons, take-add}
-use Rattle.std.proofs.lemmas.Grind.{take_at_read}
 use Rattle.core.proofs.str.Laws.{order}
 use borrow.Author.Tests.{clash}
 use Rattle.std.specs.Prelude.{Option, IsSome, take, drop, replicate}
@@ -127,7 +126,7 @@ module _ {T : Type 0} where
       (sym (append_assoc ys (y ∷ []) (drop (suc k) s)))
       ∙ ap (λ (n : ℕ). take i s ++ ((ys ++ y ∷ []) ++ drop n s)) long))))
 
-  -- behind what is laid
+  -- a slot after what is laid stays as it was
   pub slot-laid : (i : ℕ) (ys s : List (Option T)) (k : ℕ) → i ≤ length s → i + length ys ≤ k
       → slot (laid i ys s) k ≡ slot s k
   slot-laid i ys s k low past =
@@ -138,14 +137,7 @@ module _ {T : Type 0} where
       ∙ ap (λ (n : ℕ). slot s n)
       (let e : i + length ys + (k - i - length ys) ≡ k = omega arith in e)))
 
-  -- one item of xs more is copied
-  pub full-more : (xs : List T) (k : ℕ) (x : T) → k < length xs → x ≡ get_or xs k x
-      → full (take (k + 1) xs) ≡ full (take k xs) ++ Some x ∷ []
-  full-more xs k x low is =
-      ap (λ (l : List T). full l) ((take_at_read xs k x low).1 ∙ ap (λ (y : T). take k xs ++ y ∷ [])
-      (sym is)) ∙ map-append Some (take k xs) (x ∷ [])
-
-  -- a row, by what lies before, in and behind a run
+  -- a row, by what lies before, in and after a run
   pub parted-run : (s : List (Option T)) (i k : ℕ) → s ≡ take i s ++ (run i k s ++ drop (i + k) s)
   parted-run s i k =
       sym (take-append-drop i s)
@@ -167,7 +159,7 @@ module _ {T : Type 0} where
       ∙ drop_at (pre ++ old) post (i + length ys) (length-append pre old ∙ omega arith) in
       λ m. take_at pre (old ++ post) i (sym e) m ++ (ys ++ rest m)
 
-  -- a run, by what lies before and behind it
+  -- a run, by what lies before and after it
   pub run-at : (i k : ℕ) (pre ys post : List (Option T)) → i ≡ length pre → k ≡ length ys
       → run i k (pre ++ (ys ++ post)) ≡ ys
   run-at i k pre ys post e n = ap (λ (l : List (Option T)). take k l)
@@ -228,7 +220,7 @@ module _ {T : Type 0} where
         (laid-at to pre ys (empty k) (empty d ++ post) t (sym m))
 
   module _ (from to k d : ℕ) where
-    -- a run goes to the end of the gap behind it
+    -- a run goes to the end of the gap after it
     pub moved_right : (pre ys post : List (Option T)) → from ≡ length pre → to ≡ from + d
         → k ≡ length ys
         → moved from to k (pre ++ (ys ++ (empty d ++ post))) ≡ pre ++ (empty d ++ (ys ++ post))
@@ -251,22 +243,8 @@ module _ {T : Type 0} where
         (laid-at to (pre ++ empty d) ys (empty k) post l (sym m)
         ∙ append_assoc pre (empty d) (ys ++ post))
 
-  -- a run stays where it is
-  pub moved_same : (s : List (Option T)) (from k : ℕ) → from + k ≤ length s
-      → moved from from k s ≡ s
-  moved_same s from k source =
-      let pre : List (Option T) = take from s in
-      let ys : List (Option T) = run from k s in
-      let post : List (Option T) = drop (from + k) s in
-      let e : s ≡ pre ++ (ys ++ post) = parted-run s from k in
-      let l : from ≡ length pre = omega (arith, length-take from s) in
-      let n : k ≡ length ys = sym (length-run s from k source) in
-      let still : from ≡ from + 0 = omega arith in
-      ap (λ (r : List (Option T)). moved from from k r) e
-      ∙ (moved_right from from k 0 pre ys post l still n ∙ sym e)
-
   module _ (from to k : ℕ) where
-    -- a run goes over what lies behind it, to empty slots
+    -- a run goes over what lies after it, to empty slots
     pub moved_over : (pre ys mid post : List (Option T)) → from ≡ length pre
         → to ≡ from + k + length mid → k ≡ length ys
         → moved from to k (pre ++ (ys ++ (mid ++ (empty k ++ post))))

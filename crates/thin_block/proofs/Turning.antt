@@ -105,7 +105,7 @@ module _ (Rw : RattleType) (c : ℕ) where
   abbrev τ₀ : Ty
   τ₀ = lone Rw.mir
 
-  -- as many items without their names
+  -- the header takes the room of as many items, with their names or without
   pub same_items : in_header Rw ≡ header_items s₀ a₀
   same_items = λ i. header_items (size-raw τ₀ i) (align-raw τ₀ i)
 
@@ -114,7 +114,7 @@ module _ (Rw : RattleType) (c : ℕ) where
   asked_as zero some = absurd (omega arith)
   asked_as (suc k) some = refl
 
-  -- so it is where the header takes the room of k items
+  -- where the header takes the room of k items, room for a block is an array of k more
   pub asked_is : (k : ℕ) → header_items s₀ a₀ ≡ k → 0 < k → asked Rw c ≡ array_of Rw (k + c)
   asked_is k e some = ap (λ (h : ℕ). asked_for h (bare Rw) c) (same_items ∙ e) ∙ asked_as k some
 
@@ -142,7 +142,7 @@ module _ (Rw : RattleType) (c : ℕ) where
   pub asked_size : size (asked Rw c) ≡ block_bytes s₀ a₀ c
   asked_size = size_for (in_header Rw) (sym same_items)
 
-  -- and lies as aligned as that
+  -- a block lies as aligned as was asked for
   pub asked_align : align (asked Rw c) ≡ block_align a₀
   asked_align = align_for (in_header Rw) (sym same_items)
 
@@ -161,9 +161,6 @@ module _ {M : Type 1} {𝓤 : Ura M} (𝓛 : Logic 𝓤) (E : El) (b : ℕ) wher
   abbrev two : Ty
   two = ty_array word 2
 
-  abbrev Row : ℕ → List (Option (el_x E)) → Fml
-  Row o xs = places (R E) xs b o
-
   module _ (k : ℕ) (hd : Headed (type_size (R E)) (type_align (R E)) k) (o : ℕ) where
     abbrev units : ℕ → Ty
     units n = ty_array τ n
@@ -181,7 +178,7 @@ module _ {M : Type 1} {𝓤 : Ura M} (𝓛 : Logic 𝓤) (E : El) (b : ℕ) wher
         use1 𝓛 (‵ (froom word b (o + 8)) ⊛ ‵ (froom (ty_array word 0) b (o + 8 + 8)))
         (𝓛.laws.room_uncons word 0 b (o + 8)) $ split ! $ keep ! (2 ∷ 0 ∷ []) $ done !
 
-    -- and back
+    -- room for the header is room for the items that the header takes the room of
     pub words_in : ent 𝓤 (sep 𝓤 (H.room word b o) (H.room word b (o + 8))) (H.room (units k) b o)
     words_in =
         let dv : Dv (align τ) 8 = subst (λ (a : ℕ). Dv a 8) (sym hd.align) tt in
@@ -254,7 +251,7 @@ module _ {M : Type 1} {𝓤 : Ura M} (𝓛 : Logic 𝓤) (E : El) (b : ℕ) (k :
   abbrev Slots' : ℕ → List (Option (el_x E)) → Fml
   Slots' at xs = places (R E) xs b at
 
-  -- xs, behind which ys of as many as the header takes the room of, and m empty slots
+  -- xs, then ys of as many as the header takes the room of, and m empty slots
   module _ (xs ys : List (el_x E)) (long : length ys ≡ k) (n m : ℕ)
       (count : n ≡ length xs + k) where
     abbrev there : ℕ
@@ -306,7 +303,7 @@ module _ {M : Type 1} {𝓤 : Ura M} (𝓛 : Logic 𝓤) (E : El) (b : ℕ) (k :
         (cut E 𝓛 b (full ys) (empty m) there past_all at_end) $ split ! $
         use1 𝓛 (‵ (Last there)) (to_items E 𝓛 b k ys there long) $ move ! (2 ∷ 0 ∷ 1 ∷ []) $ done !
 
-    -- and back
+    -- the last items, put back at their place
     pub turn_back : ent 𝓤 (sep 𝓤 (sem 𝓛 (Slots' (o + 16) (full xs)))
         (sep 𝓤 (sem 𝓛 (Last there)) (sem 𝓛 (Slots' past_all (empty m)))))
         (sem 𝓛 (Slots' (o + 16) All))
@@ -369,7 +366,8 @@ module _ {M : Type 1} {𝓤 : Ura M} (𝓛 : Logic 𝓤) (E : El) (b : ℕ) (k :
           rewrite ! 0 (λ (j : ℕ). ‵ (froom (array_of (R E) spare) b j)) turned refl $
           move ! (1 ∷ 0 ∷ 2 ∷ []) $ fjoin3 ! $ done !
 
-      -- and back
+      -- an array from the block's start, as the items before the last and those in the header's
+      -- room
       pub turn_down : ent 𝓤 (sem 𝓛 Whole) (sep 𝓤 (sem 𝓛 (Last o))
           (sep 𝓤 (sem 𝓛 (Slots' (o + 16) (full xs))) (sep 𝓤 (H.room (ty_array τ' k) b there)
           (sep 𝓤 (sem 𝓛 (Slots' past_all (empty m))) (sem 𝓛 Token)))))
@@ -421,7 +419,7 @@ module _ {M : Type 1} {𝓤 : Ura M} (𝓛 : Logic 𝓤) (E : El) (b : ℕ) (k :
         use1 𝓛 (‵ (froom (array_of (R E) (k + c)) b o)) (array_in 𝓛 E b k hd o c) $
         rewrite ! 0 (λ (ω : Ty). ‵ (froom ω b o)) (sym (asked_is (R E) c k is some)) refl $ done !
 
-    -- and back
+    -- the header's room, and the right to give the block back, make a header
     pub header_whole : fits_block (R E) c ≡ true
         → ent 𝓤 (sep 𝓤 (sem 𝓛 (lies_at usize full_share (block_ptr b o) c))
         (sep 𝓤 (sem 𝓛 (lies_at usize full_share (block_ptr b (o + 8)) n)) (sem 𝓛 Right)))

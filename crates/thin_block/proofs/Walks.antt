@@ -1,10 +1,9 @@
 -- What the walks share: the parts of a body, what follows a part, and a walk that holds the
 -- thread's token. Assumes `Logic`.
 pub use Rattle.core.proofs.alloc.Shapes.{after, head, inside, arm_body}
-use Rattle.std.proofs.Common.{◌≡◌, ℕ, zero, suc, ◌<◌, List, [], ◌∷◌, refl, T, not, eqb, subst, arith, T_not}
-use lib.Dec.{eqb_refl}
+use Rattle.std.proofs.Common.{◌≡◌, ℕ, zero, suc, List, [], ◌∷◌, refl, T}
 use seplogic.Ra.Ura.{Ura}
-use mir.Syntax.{Body, skip, seq, assign, block, loop, cond, switch, exit, return, call, call_v, unreachable, lend_static}
+use mir.Syntax.{Body}
 use base.Logic.{SProp, ent, emp, sep, via, id⊢, comm∗, emp∗, mono_l, mono_r}
 use prog.Wp.{Env, Calls, Loops, Wp, after_seq, after_block}
 use types.Logic.{Logic, sem}
@@ -22,42 +21,11 @@ use denote.Laws.{Is, Typed}
 use denote.Builtin.{unit}
 use denote.Signature.{Slot, plain}
 
--- numbers that a test tells apart differ
-pub apart : (a b : ℕ) → T (not (eqb a b)) → a ≡ b → ⊥
-apart a b t e = T_not (eqb a b) t (subst (λ (k : ℕ). T (eqb a k)) e (eqb_refl a))
-
--- a number that a test tells from 0 is above it
-pub positive : (n : ℕ) → T (not (eqb n 0)) → 0 < n
-positive n t = let some = apart n 0 t in omega arith
-
 -- the local at an index
 abbrev pub slot_at : {n : ℕ} → ℕ → List (Slot n) → Slot n
 slot_at k [] = plain (λ _. unit)
 slot_at zero (s ∷ ss) = s
 slot_at (suc k) (s ∷ ss) = slot_at k ss
-
-abbrev arms : Body → Body × Body
-arms skip = (skip, skip)
-arms (seq x₀ x₁) = (skip, skip)
-arms (assign x₀ x₁) = (skip, skip)
-arms (block x₀) = (skip, skip)
-arms (loop x₀) = (skip, skip)
-arms (cond x₀ x₁ x₂) = (x₁, x₂)
-arms (switch x₀ x₁) = (skip, skip)
-arms (exit x₀) = (skip, skip)
-arms return = (skip, skip)
-arms (call x₀ x₁ x₂) = (skip, skip)
-arms (call_v x₀ x₁ x₂ x₃) = (skip, skip)
-arms unreachable = (skip, skip)
-arms (lend_static x₀ x₁ x₂) = (skip, skip)
-
--- the arm of a branch where the test holds
-abbrev pub if_true : Body → Body
-if_true b = (arms b).0
-
--- and where it fails
-abbrev pub if_false : Body → Body
-if_false b = (arms b).1
 
 module _ {M : Type 1} {𝓤 : Ura M} (𝓛 : Logic 𝓤) where
   open 𝓛 use {H}
@@ -115,7 +83,7 @@ alone τ [] t = absurd t
 alone τ (v ∷ []) t = (v, (refl, t.0))
 alone τ (v ∷ w ∷ vs) t = absurd t.1
 
--- the items of an array that was passed leave nothing behind
+-- of an array that was passed nothing is left
 pub nothing_left : {M : Type 1} {𝓤 : Ura M} (𝓛 : Logic 𝓤) {X : Type 0} (xs : List X)
     (fs : Entries (λ _. Unit {0}) xs)
     → ent 𝓤 (sem 𝓛 ftrue) (sem 𝓛 (all_last (λ _. Unit {0}) (λ _ _. ftrue) xs fs))

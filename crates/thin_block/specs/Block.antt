@@ -1,9 +1,21 @@
 -- Words on a block as a contract sees it.
-use Rattle.std.specs.Prelude.{◌≡◌}
+use Rattle.std.specs.Prelude.{◌≡◌, ℕ, List, Option}
 use Rattle.std.specs.declared.option.Option.TheVariants.{Some}
+use Rattle.thin_block.specs.Cost.{Cost}
 use Rattle.thin_block.specs.declared.block.Block.{Block}
 
+-- a block of items of T from an allocator A, as a contract sees it
+pub record Seen (T A : Type 0) : Type 0 where
+  pub slots : List (Option T)
+  pub len : ℕ
+  pub alloc : Option A
+  pub cost : Cost
+
 module _ {T A : Type 0} where
+  -- what a contract sees of b
+  abbrev pub seen : Block T A → Seen T A
+  seen b = record { slots = b.slots; len = b.len; alloc = b.alloc; cost = b.cost }
+
   -- the memory came from the allocator a, or there is none
   abbrev pub IsFrom : Block T A → A → Type 0
   IsFrom b a = (x : A) → b.alloc ≡ Some x → x ≡ a

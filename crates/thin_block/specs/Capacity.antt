@@ -12,7 +12,7 @@ use denote.RattleType.{RattleType}
 abbrev pub IsAlign : ℕ → Type 0
 IsAlign a = (w : Width) × (a ≡ bytes w)
 
--- where the first item stands: behind two words of 8 bytes, and padding
+-- where the first item stands: after two words of 8 bytes, and padding
 abbrev pub items_offset : ℕ → ℕ
 items_offset a = max 16 a
 
@@ -29,7 +29,8 @@ block_bytes s a c = next_multiple_of (items_offset a + c * s) (block_align a)
 abbrev pub is_small : ℕ → ℕ → ℕ → Bool
 is_small s a c = nat_lt c (2 ^ 63) && nat_lt (block_bytes s a c) (2 ^ 63)
 
--- the same, closed to those who need only the word
+-- whether a block of c items is small enough to be asked for: `is_small`, closed to those who need
+-- only the word
 unfoldable pub fits : ℕ → ℕ → ℕ → Bool
 fits s a c = is_small s a c
 

@@ -19,7 +19,7 @@ pub record IsGrown (s a c w n : ℕ) : Type 0 where
   pub doubled : 2 * c ≤ n
   pub fits : IsTrue (fits s a n)
 
--- the same of items of R
+-- the capacity n after c, for w items of R
 abbrev pub Grows : RattleType → ℕ → ℕ → ℕ → Type 0
 Grows R c w n = IsGrown (type_size R) (type_align R) c w n
 
@@ -46,7 +46,7 @@ doubled_to (suc more) n p = if nat_le n p then p else doubled_to more n (2 * p)
 unfoldable pub least_power : ℕ → ℕ
 least_power n = doubled_to n n 1
 
--- as many items as fit, behind the header, into the least power of two bytes that has room for the
+-- as many items as fit, after the header, into the least power of two bytes that has room for the
 -- want and for twice the capacity; where items take no bytes, as by doubling
 unfoldable pub power_bytes : Rule
 power_bytes s a c w = if s == 0 then doubling s a c w else fitting s a

@@ -1,11 +1,11 @@
 -- A block as a formula of memory: what it owns, and what a `&` to it lends. An item's row is R; b
 -- and o are the block and the offset of an address.
 -- No public clause cites this module.
---     place, places      a slot, or all of them in a row: an item that lies there, or room for one
---     frame              the block but for its slots: the two words before them, that it fits, and the way back
---     backing            what turns the parts of the block back into the room that was asked for, and the right to give it back
---     block_owns         all of a block, or of the words that every list without a block shares
---     .._lent            the same, as a `&` sees it
+--     place, places   a slot, or all of them in a row: an item that lies there, or room for one
+--     frame           a block but for its slots: its two words, that it fits, and the way back
+--     backing         what turns its parts back into the room that was asked for, to be given back
+--     block_owns      all of a block, or of the words that every list without a block shares
+--     .._lent         what a `&` to it sees
 use Rattle.std.specs.Prelude.{◌≡◌, ℕ, zero, suc, ◌+◌, List, [], ◌∷◌, length, Bool, true, false, Option}
 use Rattle.std.specs.declared.option.Option.TheVariants.{Some, None}
 use Rattle.std.specs.Mem.{type_size}
@@ -65,6 +65,7 @@ whole_of τ c = ty_struct []
 abbrev pub bare : RattleType → Ty
 bare R = raw (lone R.mir)
 
+-- the type of a block of c slots for items of R: its header, and then the slots
 abbrev pub whole : RattleType → ℕ → Ty
 whole R c = whole_of (bare R) c
 
@@ -78,6 +79,7 @@ asked_for (suc k) τ c = ty_array τ (suc k + c)
 abbrev pub in_header : RattleType → ℕ
 in_header R = header_items (size (bare R)) (align (bare R))
 
+-- the type that a block of c slots for items of R is asked for as
 abbrev pub asked : RattleType → ℕ → Ty
 asked R c = asked_for (in_header R) (bare R) c
 

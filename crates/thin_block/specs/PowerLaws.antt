@@ -15,10 +15,12 @@ use Rattle.thin_block.specs.GrowthLaws.{doubling_law, fitting_is}
 
 -- ---- the least power
 
+-- each number is below its power of two
 below_power : (n : ℕ) → n < 2 ^ n
 below_power zero = omega arith
 below_power (suc n) = omega (arith, below_power n, pow_more 2 n)
 
+-- p is the least power, or where it is too small, the one that comes next is
 one_step : (b : Bool) (n p next : ℕ) → nat_le n p ≡ b → IsPowerOfTwo p → p / 2 < max 1 n
     → (p < n → IsNextPowerOfTwo n next) → IsNextPowerOfTwo n (if b then p else next)
 one_step true n p next e power half later = (power, leb-true n p e, half)
@@ -36,10 +38,12 @@ doubled_is (suc k) n p power half enough =
     (λ less. doubled_is k n (2 * p) (power.0 + 1, next) (omega (arith, less))
     (omega (arith, enough, twice)))
 
+-- the least power of two that is at least n is what its name says
 pub least_power_is : (n : ℕ) → IsNextPowerOfTwo n (least_power n)
 unfolding least_power
 least_power_is n = doubled_is n n 1 (0, refl) (omega arith) (omega (arith, below_power n))
 
+-- a power of two whose half is too small is at most one that suffices
 not_more : (n j k : ℕ) → n ≤ 2 ^ k → 2 ^ j / 2 < max 1 n → 2 ^ j ≤ 2 ^ k
 not_more n zero k enough half = pow_pos k
 not_more n (suc j) k enough half = elim (cases_lt j k) [
@@ -64,6 +68,7 @@ pub powers_of_none : (s a c w : ℕ) → s ≡ 0 → power_bytes s a c w ≡ dou
 unfolding power_bytes
 powers_of_none s a c w none = let test : (s == 0) ≡ true = grind (arith, nat_tests) in rw test refl
 
+-- an item that takes a byte goes by the least power that has room
 pub powers_of_some : (s a c w : ℕ) → 0 < s → power_bytes s a c w ≡ fitting s a
     ((least_power (items_offset a + max w (2 * c) * s) - items_offset a) / s)
 unfolding power_bytes
@@ -71,18 +76,23 @@ powers_of_some s a c w some = let test : (s == 0) ≡ false = grind (arith, nat_
 
 -- what it names, where an item takes a byte
 module _ (s a c w n : ℕ) (some : 0 < s) (e : power_bytes s a c w ≡ Some n) where
+  -- how many bytes of items there is to be room for
   abbrev wanted : ℕ
   wanted = max w (2 * c) * s
 
+  -- the least power of two with room for them after the header
   abbrev power : ℕ
   power = least_power (items_offset a + wanted)
 
+  -- as many items as that power has room for fit, and are what the rule names
   named : IsTrue (fits s a ((power - items_offset a) / s)) × ((power - items_offset a) / s ≡ n)
   named = fitting_is s a ((power - items_offset a) / s) n (sym (powers_of_some s a c w some) ∙ e)
 
+  -- the power has room for the header and what is wanted
   room : items_offset a + wanted ≤ power
   room = (least_power_is (items_offset a + wanted)).1
 
+  -- what the rule names is a growth: enough, at least twice the capacity, and it fits
   pub powers_grow : IsGrown s a c w n
   powers_grow =
       let more : max w (2 * c) ≤ (power - items_offset a) / s =
@@ -93,6 +103,7 @@ module _ (s a c w n : ℕ) (some : 0 < s) (e : power_bytes s a c w ≡ Some n) w
         fits = subst (λ (k : ℕ). IsTrue (fits s a k)) named.1 named.0;
       }
 
+  -- what the rule names fills the power but for less than one item
   pub powers_filled : FillsPower s a n
   powers_filled =
       let parts = div-add-mod' (power - items_offset a) s in
@@ -106,6 +117,7 @@ module _ (s a c w n : ℕ) (some : 0 < s) (e : power_bytes s a c w ≡ Some n) w
         is_full = omega (arith, room, parts, whole, rest, next);
       }
 
+-- `PowerBytes` keeps the law of a growth rule
 pub power_bytes_law : KeepsLaw power_bytes
 power_bytes_law s a c w n more word e = elim (eq-zero-or-pos s) [
   | inl none ↦ doubling_law s a c w n more word (sym (powers_of_none s a c w none) ∙ e)

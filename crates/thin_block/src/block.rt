@@ -17,7 +17,7 @@ static NO_BLOCK: Header = Header {
     aligned: [],
 };
 
-// A capacity and a length, behind which an item of any alignment may stand.
+// A capacity and a length. An item of any alignment may stand after them.
 struct Header {
     cap: usize,
     len: usize,
@@ -27,12 +27,12 @@ struct Header {
 /// At most one allocation that holds a capacity, a stored length and that many slots, each empty or
 /// holding an item.
 ///
-/// A block is one pointer wide. It is no owner that drops: `release` gives the memory back, once
-/// every slot is empty. Contracts see the slots, the stored length, the allocator that the memory
-/// came from and three counters, none of which but the first two takes a byte at run time.
+/// A block is one pointer wide. It is no owner that drops: `release` frees the memory, once every
+/// slot is empty. Contracts see the slots, the stored length, the allocator that the memory came
+/// from and three counters, none of which but the first two takes a byte at run time.
 pub struct Block<T, A: Allocator> {
-    // It points to the capacity, behind which the length and then the slots lie: of the allocation,
-    // or of `NO_BLOCK`.
+    // It points to the capacity, which the length and then the slots follow: of the allocation, or
+    // of `NO_BLOCK`.
     pub(crate) at: *mut usize,
     pub(crate) item: PhantomData<T>,
     pub(crate) handle: PhantomData<A>,
@@ -50,12 +50,16 @@ impl<T, A: Allocator> Model for Block<T, A> {
 }
 
 impl<T, A: Allocator> Block<T, A> {
-    /// No block: no slot, length 0. It takes no memory, and there is nothing to give back.
+    ghost use Rattle.thin_block.specs.Block.{seen};
+
+    /// No block: no slot, length 0. It takes no memory, and there is nothing to free.
     pub fn none() -> Block<T, A>
-        ensures slots { result.slots ≡ [] }
-        ensures len { result.len ≡ 0 }
-        ensures alloc { result.alloc ≡ None }
-        ensures cost { result.cost ≡ no_cost }
+        ensures new { seen result ≡ record {
+          slots = [];
+          len = 0;
+          alloc = None;
+          cost = no_cost;
+        } }
     {
         Block {
             at: (&raw const NO_BLOCK) as *mut usize,
@@ -90,10 +94,7 @@ impl<T, A: Allocator> Block<T, A> {
     /// Stores a length, in items. No slot changes.
     pub fn set_len(&mut self, len: usize)
         requires in_bounds { len ≤ length self.old.slots }
-        ensures slots { self.new.slots ≡ self.old.slots }
-        ensures len { self.new.len ≡ len }
-        ensures alloc { self.new.alloc ≡ self.old.alloc }
-        ensures cost { self.new.cost ≡ self.old.cost }
+        ensures changes { seen self.new ≡ record (seen self.old) { len = len } }
     {
         if self.cap() > 0 {
             self.store_len(len);
@@ -104,10 +105,7 @@ impl<T, A: Allocator> Block<T, A> {
     pub fn store_len(&mut self, len: usize)
         requires block { 0 < length self.old.slots }
         requires in_bounds { len ≤ length self.old.slots }
-        ensures slots { self.new.slots ≡ self.old.slots }
-        ensures len { self.new.len ≡ len }
-        ensures alloc { self.new.alloc ≡ self.old.alloc }
-        ensures cost { self.new.cost ≡ self.old.cost }
+        ensures changes { seen self.new ≡ record (seen self.old) { len = len } }
     {
         let at = self.at;
         unsafe { *at.add(1) = len }

@@ -1,4 +1,4 @@
-//! Why a call was refused.
+//! Why a call failed.
 ghost use Rattle.std.specs.IoError.{error_kind};
 ghost use Rattle.std.specs.Prelude.{◌≡◌};
 ghost use Rattle.std.specs.declared.io.ErrorKind.TheVariants as Kind;
@@ -9,14 +9,14 @@ use std::io;
 use std::io::ErrorKind;
 use thiserror::Error;
 
-/// Why a call was refused.
+/// Why a call failed.
 #[derive(Debug, Clone, Copy, PartialEq, Eq, Error)]
 pub enum ThinVecError {
     /// The capacity that the call needs does not fit. It is found before memory is asked for that
     /// capacity.
     #[error("capacity overflow")]
     CapacityOverflow,
-    /// Memory was refused, or the clone of an item.
+    /// The allocator failed, or the clone of an item.
     #[error("out of memory")]
     OutOfMemory,
 }

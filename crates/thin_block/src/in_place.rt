@@ -19,7 +19,7 @@ use std::mem::{ManuallyDrop, replace};
 pub(crate) const LONG: usize = 32;
 
 impl<T, A: Allocator> Block<T, A> {
-    ghost use Rattle.thin_block.specs.Block.{IsFrom};
+    ghost use Rattle.thin_block.specs.Block.{IsFrom, seen};
 
     // `grow` where the header takes the room of `K` items, and at least as many are there.
     #[cold]
@@ -37,11 +37,11 @@ impl<T, A: Allocator> Block<T, A> {
         requires packed { IsPacked self.old.slots self.old.len }
         requires len { len ≡ self.old.len }
         requires room { K ≤ len }
-        ensures slots { OnOk result
-            (self.new.slots ≡ self.old.slots ++ empty (cap - length self.old.slots)) }
-        ensures len { self.new.len ≡ self.old.len }
-        ensures alloc { OnOk result (self.new.alloc ≡ Some alloc.now) }
-        ensures cost { OnOk result (self.new.cost ≡ growing self.old.len self.old.cost) }
+        ensures ok { OnOk result (seen self.new ≡ record (seen self.old) {
+          slots = self.old.slots ++ empty (cap - length self.old.slots);
+          alloc = Some alloc.now;
+          cost = growing self.old.len self.old.cost;
+        }) }
         ensures err { OnErr result (self.new ≡ self.old) }
         ensures cause { IfErr result (λ cause. cause ≡ ThinVecError.OutOfMemory) }
     {
@@ -80,10 +80,11 @@ impl<T, A: Allocator> Block<T, A> {
         requires held { held ≡ K + old }
         requires wanted { wanted ≡ K + cap }
         requires room { K ≤ len }
-        ensures slots { IfOk result (λ block. block.slots ≡ self.slots ++ empty (cap - old)) }
-        ensures len { IfOk result (λ block. block.len ≡ self.len) }
-        ensures alloc { IfOk result (λ block. block.alloc ≡ Some alloc.now) }
-        ensures cost { IfOk result (λ block. block.cost ≡ growing self.len self.cost) }
+        ensures ok { IfOk result (λ block. seen block ≡ record (seen self) {
+          slots = self.slots ++ empty (cap - old);
+          alloc = Some alloc.now;
+          cost = growing self.len self.cost;
+        }) }
         ensures err { IfErr result (λ block. block ≡ self) }
     {
         let Block {

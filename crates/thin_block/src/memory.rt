@@ -1,4 +1,4 @@
-//! A block as a whole: how its memory is had, made larger and given back.
+//! A block as a whole: how its memory is allocated, made larger and freed.
 ghost use Rattle.std.specs.Prelude.{◌≡◌, ◌-◌, ◌++◌, ◌<◌, ◌≤◌, [], take, IfErr, IfOk, OnErr, OnOk, length};
 ghost use Rattle.std.specs.declared.option.Option.TheVariants.{Some};
 ghost use Rattle.std.specs.Mem.{type_size};
@@ -16,16 +16,19 @@ use std::marker::PhantomData;
 use std::mem::{ManuallyDrop, replace};
 
 impl<T, A: Allocator> Block<T, A> {
-    ghost use Rattle.thin_block.specs.Block.{IsFrom};
+    ghost use Rattle.thin_block.specs.Block.{IsFrom, seen};
 
-    /// A block of `cap` empty slots and length 0, by one allocation. Refused only where memory is.
+    /// A block of `cap` empty slots and length 0, by one allocation. Fails only where the allocator
+    /// does.
     pub fn allocate(alloc: &A, cap: usize) -> Result<Block<T, A>, ThinVecError>
         requires some { 0 < cap }
         requires fits { Fits T.row cap }
-        ensures slots { IfOk result (λ block. block.slots ≡ empty cap) }
-        ensures len { IfOk result (λ block. block.len ≡ 0) }
-        ensures alloc { IfOk result (λ block. block.alloc ≡ Some alloc.now) }
-        ensures cost { IfOk result (λ block. block.cost ≡ growing 0 no_cost) }
+        ensures ok { IfOk result (λ block. seen block ≡ record {
+          slots = empty cap;
+          len = 0;
+          alloc = Some alloc.now;
+          cost = growing 0 no_cost;
+        }) }
         ensures cause { IfErr result (λ cause. cause ≡ ThinVecError.OutOfMemory) }
     {
         match Block::allocate_block(alloc, cap, bytes_of_block::<T>(cap), align_of_block::<T>()) {
@@ -34,19 +37,19 @@ impl<T, A: Allocator> Block<T, A> {
         }
     }
 
-    /// Makes room for `cap` slots, by one allocation and one copy. Refused only where memory is,
-    /// and then nothing changes.
+    /// Makes room for `cap` slots, by one allocation and one copy. Fails only where the allocator
+    /// does, and then nothing changes.
     #[inline(always)]
     pub fn grow(&mut self, alloc: &A, cap: usize) -> Result<(), ThinVecError>
         requires from { IsFrom self.old alloc.now }
         requires larger { length self.old.slots < cap }
         requires fits { Fits T.row cap }
         requires packed { IsPacked self.old.slots self.old.len }
-        ensures slots { OnOk result
-            (self.new.slots ≡ self.old.slots ++ empty (cap - length self.old.slots)) }
-        ensures len { self.new.len ≡ self.old.len }
-        ensures alloc { OnOk result (self.new.alloc ≡ Some alloc.now) }
-        ensures cost { OnOk result (self.new.cost ≡ growing self.old.len self.old.cost) }
+        ensures ok { OnOk result (seen self.new ≡ record (seen self.old) {
+          slots = self.old.slots ++ empty (cap - length self.old.slots);
+          alloc = Some alloc.now;
+          cost = growing self.old.len self.old.cost;
+        }) }
         ensures err { OnErr result (self.new ≡ self.old) }
         ensures cause { IfErr result (λ cause. cause ≡ ThinVecError.OutOfMemory) }
     {
@@ -61,15 +64,16 @@ impl<T, A: Allocator> Block<T, A> {
         }
     }
 
-    // `grow` where there is no block: nothing is copied, and nothing given back.
+    // `grow` where there is no block: nothing is copied, and nothing freed.
     fn begin(&mut self, alloc: &A, cap: usize) -> Result<(), ThinVecError>
         requires none { self.old.slots ≡ [] }
         requires some { 0 < cap }
         requires fits { Fits T.row cap }
-        ensures slots { OnOk result (self.new.slots ≡ empty cap) }
-        ensures len { self.new.len ≡ self.old.len }
-        ensures alloc { OnOk result (self.new.alloc ≡ Some alloc.now) }
-        ensures cost { OnOk result (self.new.cost ≡ growing self.old.len self.old.cost) }
+        ensures ok { OnOk result (seen self.new ≡ record (seen self.old) {
+          slots = empty cap;
+          alloc = Some alloc.now;
+          cost = growing self.old.len self.old.cost;
+        }) }
         ensures err { OnErr result (self.new ≡ self.old) }
         ensures cause { IfErr result (λ cause. cause ≡ ThinVecError.OutOfMemory) }
     {
@@ -80,18 +84,19 @@ impl<T, A: Allocator> Block<T, A> {
         Ok(())
     }
 
-    /// Gives up all slots but the first `cap`, by one allocation and one copy. Refused only where
-    /// memory is, and then nothing changes.
+    /// Gives up all slots but the first `cap`, by one allocation and one copy. Fails only where the
+    /// allocator does, and then nothing changes.
     pub fn shrink(&mut self, alloc: &A, cap: usize) -> Result<(), ThinVecError>
         requires from { IsFrom self.old alloc.now }
         requires some { 0 < cap }
         requires smaller { cap < length self.old.slots }
         requires packed { IsPacked self.old.slots self.old.len }
         requires room { self.old.len ≤ cap }
-        ensures slots { OnOk result (self.new.slots ≡ take cap self.old.slots) }
-        ensures len { self.new.len ≡ self.old.len }
-        ensures alloc { OnOk result (self.new.alloc ≡ Some alloc.now) }
-        ensures cost { OnOk result (self.new.cost ≡ growing self.old.len self.old.cost) }
+        ensures ok { OnOk result (seen self.new ≡ record (seen self.old) {
+          slots = take cap self.old.slots;
+          alloc = Some alloc.now;
+          cost = growing self.old.len self.old.cost;
+        }) }
         ensures err { OnErr result (self.new ≡ self.old) }
         ensures cause { IfErr result (λ cause. cause ≡ ThinVecError.OutOfMemory) }
     {
@@ -107,11 +112,11 @@ impl<T, A: Allocator> Block<T, A> {
         requires fits { Fits T.row cap }
         requires packed { IsPacked self.old.slots self.old.len }
         requires room { self.old.len ≤ cap }
-        ensures slots { OnOk result (self.new.slots ≡ laid 0 (run 0 self.old.len self.old.slots)
-            (empty cap)) }
-        ensures len { self.new.len ≡ self.old.len }
-        ensures alloc { OnOk result (self.new.alloc ≡ Some alloc.now) }
-        ensures cost { OnOk result (self.new.cost ≡ growing self.old.len self.old.cost) }
+        ensures ok { OnOk result (seen self.new ≡ record (seen self.old) {
+          slots = laid 0 (run 0 self.old.len self.old.slots) (empty cap);
+          alloc = Some alloc.now;
+          cost = growing self.old.len self.old.cost;
+        }) }
         ensures err { OnErr result (self.new ≡ self.old) }
         ensures cause { IfErr result (λ cause. cause ≡ ThinVecError.OutOfMemory) }
     {
@@ -128,7 +133,7 @@ impl<T, A: Allocator> Block<T, A> {
         Ok(())
     }
 
-    /// Gives the memory back, where there is a block. Every slot is empty.
+    /// Frees the memory, where there is a block. Every slot is empty.
     pub fn release(self, alloc: &A)
         requires from { IsFrom self alloc.now }
         requires empty { self.slots ≡ empty (length self.slots) }
@@ -159,10 +164,12 @@ impl<T, A: Allocator> Block<T, A> {
         requires fits { Fits T.row cap }
         requires bytes { bytes ≡ block_bytes (type_size T.row) (type_align T.row) cap }
         requires align { align ≡ block_align (type_align T.row) }
-        ensures slots { IfOk result (λ block. block.slots ≡ empty cap) }
-        ensures len { IfOk result (λ block. block.len ≡ 0) }
-        ensures alloc { IfOk result (λ block. block.alloc ≡ Some alloc.now) }
-        ensures cost { IfOk result (λ block. block.cost ≡ growing 0 no_cost) }
+        ensures ok { IfOk result (λ block. seen block ≡ record {
+          slots = empty cap;
+          len = 0;
+          alloc = Some alloc.now;
+          cost = growing 0 no_cost;
+        }) }
     {
         match alloc.allocate(bytes, align) {
             Ok(start) => {

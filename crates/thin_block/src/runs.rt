@@ -10,6 +10,8 @@ use crate::sizes::HEADER_WORDS;
 use std::alloc::Allocator;
 
 impl<T, A: Allocator> Block<T, A> {
+    ghost use Rattle.thin_block.specs.Block.{seen};
+
     /// Moves the `k` items in the slots from `from` on to those from `to` on. The two runs may
     /// overlap.
     pub fn move_run(&mut self, from: usize, to: usize, k: usize)
@@ -18,11 +20,11 @@ impl<T, A: Allocator> Block<T, A> {
         requires filled { AreFilled self.old.slots from k }
         requires empty { (i : ℕ) → to ≤ i → i < to + k → (i < from) ⊎ (from + k ≤ i)
             → slot self.old.slots i ≡ None }
-        ensures slots { self.new.slots ≡ moved from to k self.old.slots }
+        ensures changes { seen self.new ≡ record (seen self.old) {
+          slots = moved from to k self.old.slots;
+          cost = moving k self.old.cost;
+        } }
         ensures cap { length self.new.slots ≡ length self.old.slots }
-        ensures len { self.new.len ≡ self.old.len }
-        ensures alloc { self.new.alloc ≡ self.old.alloc }
-        ensures cost { self.new.cost ≡ moving k self.old.cost }
     {
         if from.abs_diff(to) < k {
             self.move_overlapping(from, to, k);
@@ -31,18 +33,18 @@ impl<T, A: Allocator> Block<T, A> {
         }
     }
 
-    /// Moves the `k` items behind the `gap` empty slots from `to` on down to those: to LLVM a
+    /// Moves the `k` items after the `gap` empty slots from `to` on down to those: to LLVM a
     /// `memmove`, where `gap` is a constant.
     #[inline(always)]
     pub fn move_down(&mut self, to: usize, gap: usize, k: usize)
         requires in_bounds { to + gap + k ≤ length self.old.slots }
         requires empty { AreEmpty self.old.slots to gap }
         requires filled { AreFilled self.old.slots (to + gap) k }
-        ensures slots { self.new.slots ≡ moved (to + gap) to k self.old.slots }
+        ensures changes { seen self.new ≡ record (seen self.old) {
+          slots = moved (to + gap) to k self.old.slots;
+          cost = moving k self.old.cost;
+        } }
         ensures cap { length self.new.slots ≡ length self.old.slots }
-        ensures len { self.new.len ≡ self.old.len }
-        ensures alloc { self.new.alloc ≡ self.old.alloc }
-        ensures cost { self.new.cost ≡ moving k self.old.cost }
     {
         let at = self.at;
         unsafe {
@@ -51,17 +53,17 @@ impl<T, A: Allocator> Block<T, A> {
         }
     }
 
-    /// `move_down` of a block that is handed over, so that its pointer stays in a register.
+    /// `move_down` of a block that is passed by value, so that its pointer stays in a register.
     #[inline(never)]
     pub fn close_gap(self, to: usize, gap: usize, k: usize) -> Block<T, A>
         requires in_bounds { to + gap + k ≤ length self.slots }
         requires empty { AreEmpty self.slots to gap }
         requires filled { AreFilled self.slots (to + gap) k }
-        ensures slots { result.slots ≡ moved (to + gap) to k self.slots }
+        ensures changes { seen result ≡ record (seen self) {
+          slots = moved (to + gap) to k self.slots;
+          cost = moving k self.cost;
+        } }
         ensures cap { length result.slots ≡ length self.slots }
-        ensures len { result.len ≡ self.len }
-        ensures alloc { result.alloc ≡ self.alloc }
-        ensures cost { result.cost ≡ moving k self.cost }
     {
         let mut block = self;
         let _cap = block.cap();
@@ -96,10 +98,10 @@ impl<T, A: Allocator> Block<T, A> {
             → slot self.old.slots i ≡ None }
         requires above { to < from + k }
         requires below { from < to + k }
-        ensures slots { self.new.slots ≡ moved from to k self.old.slots }
-        ensures len { self.new.len ≡ self.old.len }
-        ensures alloc { self.new.alloc ≡ self.old.alloc }
-        ensures cost { self.new.cost ≡ moving k self.old.cost }
+        ensures changes { seen self.new ≡ record (seen self.old) {
+          slots = moved from to k self.old.slots;
+          cost = moving k self.old.cost;
+        } }
     {
         let at = self.at;
         unsafe {
@@ -116,10 +118,10 @@ impl<T, A: Allocator> Block<T, A> {
         requires empty { (i : ℕ) → to ≤ i → i < to + k → (i < from) ⊎ (from + k ≤ i)
             → slot self.old.slots i ≡ None }
         requires apart { (from + k ≤ to) ⊎ (to + k ≤ from) }
-        ensures slots { self.new.slots ≡ moved from to k self.old.slots }
-        ensures len { self.new.len ≡ self.old.len }
-        ensures alloc { self.new.alloc ≡ self.old.alloc }
-        ensures cost { self.new.cost ≡ moving k self.old.cost }
+        ensures changes { seen self.new ≡ record (seen self.old) {
+          slots = moved from to k self.old.slots;
+          cost = moving k self.old.cost;
+        } }
     {
         let at = self.at;
         unsafe {
@@ -134,19 +136,13 @@ impl<T, A: Allocator> Block<T, A> {
         requires target { to + k ≤ length other.old.slots }
         requires filled { AreFilled self.old.slots from k }
         requires empty { AreEmpty other.old.slots to k }
-
-        // This block's run is empty, and all else of it is kept.
-        ensures slots { self.new.slots ≡ emptied from k self.old.slots }
-        ensures len { self.new.len ≡ self.old.len }
-        ensures alloc { self.new.alloc ≡ self.old.alloc }
-        ensures cost { self.new.cost ≡ self.old.cost }
-
-        // The other block holds the run.
-        ensures other_slots { other.new.slots ≡ laid to
-            (run from k self.old.slots) other.old.slots }
-        ensures other_len { other.new.len ≡ other.old.len }
-        ensures other_alloc { other.new.alloc ≡ other.old.alloc }
-        ensures other_cost { other.new.cost ≡ moving k other.old.cost }
+        ensures changes { seen self.new ≡ record (seen self.old) {
+          slots = emptied from k self.old.slots;
+        } }
+        ensures other_changes { seen other.new ≡ record (seen other.old) {
+          slots = laid to (run from k self.old.slots) other.old.slots;
+          cost = moving k other.old.cost;
+        } }
     {
         self.move_run_charging(from, other, to, k);
     }
@@ -165,15 +161,13 @@ impl<T, A: Allocator> Block<T, A> {
         requires target { to + k ≤ length to_block.old.slots }
         requires filled { AreFilled self.old.slots from k }
         requires empty { AreEmpty to_block.old.slots to k }
-        ensures slots { self.new.slots ≡ emptied from k self.old.slots }
-        ensures len { self.new.len ≡ self.old.len }
-        ensures alloc { self.new.alloc ≡ self.old.alloc }
-        ensures own_cost { self.new.cost ≡ self.old.cost }
-        ensures to_slots { to_block.new.slots ≡ laid to
-            (run from k self.old.slots) to_block.old.slots }
-        ensures to_len { to_block.new.len ≡ to_block.old.len }
-        ensures to_alloc { to_block.new.alloc ≡ to_block.old.alloc }
-        ensures to_cost { to_block.new.cost ≡ cost }
+        ensures changes { seen self.new ≡ record (seen self.old) {
+          slots = emptied from k self.old.slots;
+        } }
+        ensures other_changes { seen to_block.new ≡ record (seen to_block.old) {
+          slots = laid to (run from k self.old.slots) to_block.old.slots;
+          cost = cost;
+        } }
     {
         let from_at = self.at;
         let to_at = to_block.at;

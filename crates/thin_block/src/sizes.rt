@@ -11,7 +11,7 @@ use std::mem::{align_of, size_of};
 // begin here.
 pub(crate) const HEADER: usize = 16;
 
-// The same in words: how far behind the capacity the first item lies.
+// The words of the capacity and the length: how far after the capacity the first item lies.
 pub(crate) const HEADER_WORDS: usize = 2;
 
 // The size of an item in bytes. One past `usize::MAX` counts as `usize::MAX`.

@@ -14,14 +14,16 @@ use std::alloc::Allocator;
 const FEW: usize = 16;
 
 impl<T, A: Allocator> Block<T, A> {
+    ghost use Rattle.thin_block.specs.Block.{seen};
+
     /// Moves `value` into the empty slot `i`, which owns it afterwards.
     pub fn put(&mut self, i: usize, value: T)
         requires in_bounds { i < length self.old.slots }
         requires empty { slot self.old.slots i ≡ None }
-        ensures slots { self.new.slots ≡ slice_set self.old.slots i (Some value) }
-        ensures len { self.new.len ≡ self.old.len }
-        ensures alloc { self.new.alloc ≡ self.old.alloc }
-        ensures cost { self.new.cost ≡ moving 1 self.old.cost }
+        ensures changes { seen self.new ≡ record (seen self.old) {
+          slots = slice_set self.old.slots i (Some value);
+          cost = moving 1 self.old.cost;
+        } }
     {
         let at = self.at;
         unsafe { (at.add(HEADER_WORDS) as *mut T).add(i).write(value) }
@@ -29,10 +31,9 @@ impl<T, A: Allocator> Block<T, A> {
 
     // Says that the block has cost what `from` has, and one growth with its items. It does nothing.
     pub(crate) fn charge_as(&mut self, from: &Block<T, A>)
-        ensures slots { self.new.slots ≡ self.old.slots }
-        ensures len { self.new.len ≡ self.old.len }
-        ensures alloc { self.new.alloc ≡ self.old.alloc }
-        ensures cost { self.new.cost ≡ growing from.now.len from.now.cost }
+        ensures changes { seen self.new ≡ record (seen self.old) {
+          cost = growing from.now.len from.now.cost;
+        } }
     {}
 
     /// `put`, and then `store_len`: both by one pointer, so that writing the item can't make the
@@ -41,10 +42,11 @@ impl<T, A: Allocator> Block<T, A> {
         requires in_bounds { i < length self.old.slots }
         requires empty { slot self.old.slots i ≡ None }
         requires len_in_bounds { len ≤ length self.old.slots }
-        ensures slots { self.new.slots ≡ slice_set self.old.slots i (Some value) }
-        ensures len { self.new.len ≡ len }
-        ensures alloc { self.new.alloc ≡ self.old.alloc }
-        ensures cost { self.new.cost ≡ moving 1 self.old.cost }
+        ensures changes { seen self.new ≡ record (seen self.old) {
+          slots = slice_set self.old.slots i (Some value);
+          len = len;
+          cost = moving 1 self.old.cost;
+        } }
     {
         let at = self.at;
         unsafe {
@@ -58,10 +60,9 @@ impl<T, A: Allocator> Block<T, A> {
     pub fn take(&mut self, i: usize) -> T
         requires filled { IsSome (slot self.old.slots i) }
         ensures value { slot self.old.slots i ≡ Some result }
-        ensures slots { self.new.slots ≡ slice_set self.old.slots i None }
-        ensures len { self.new.len ≡ self.old.len }
-        ensures alloc { self.new.alloc ≡ self.old.alloc }
-        ensures cost { self.new.cost ≡ self.old.cost }
+        ensures changes { seen self.new ≡ record (seen self.old) {
+          slots = slice_set self.old.slots i None;
+        } }
     {
         let at = self.at;
         unsafe { (at.add(HEADER_WORDS) as *mut T).add(i).read() }
@@ -71,11 +72,11 @@ impl<T, A: Allocator> Block<T, A> {
     pub fn swap(&mut self, i: usize, j: usize)
         requires first { IsSome (slot self.old.slots i) }
         requires second { IsSome (slot self.old.slots j) }
-        ensures slots { self.new.slots ≡ slice_set
-            (slice_set self.old.slots i (slot self.old.slots j)) j (slot self.old.slots i) }
-        ensures len { self.new.len ≡ self.old.len }
-        ensures alloc { self.new.alloc ≡ self.old.alloc }
-        ensures cost { self.new.cost ≡ moving 1 self.old.cost }
+        ensures changes { seen self.new ≡ record (seen self.old) {
+          slots = slice_set
+              (slice_set self.old.slots i (slot self.old.slots j)) j (slot self.old.slots i);
+          cost = moving 1 self.old.cost;
+        } }
     {
         let at = self.at;
         unsafe {
@@ -93,11 +94,10 @@ impl<T, A: Allocator> Block<T, A> {
         requires first { IsSome (slot self.old.slots i) }
         requires second { IsSome (slot self.old.slots j) }
         ensures value { slot self.old.slots i ≡ Some result }
-        ensures slots { self.new.slots ≡ slice_set
-            (slice_set self.old.slots i (slot self.old.slots j)) j None }
-        ensures len { self.new.len ≡ self.old.len }
-        ensures alloc { self.new.alloc ≡ self.old.alloc }
-        ensures cost { self.new.cost ≡ moving (if i == j then 0 else 1) self.old.cost }
+        ensures changes { seen self.new ≡ record (seen self.old) {
+          slots = slice_set (slice_set self.old.slots i (slot self.old.slots j)) j None;
+          cost = moving (if i == j then 0 else 1) self.old.cost;
+        } }
     {
         let at = self.at;
         unsafe {
@@ -113,10 +113,10 @@ impl<T, A: Allocator> Block<T, A> {
     pub fn put_array<const N: usize>(&mut self, i: usize, values: [T; N])
         requires in_bounds { i + N ≤ length self.old.slots }
         requires empty { AreEmpty self.old.slots i N }
-        ensures slots { self.new.slots ≡ laid i (full values) self.old.slots }
-        ensures len { self.new.len ≡ self.old.len }
-        ensures alloc { self.new.alloc ≡ self.old.alloc }
-        ensures cost { self.new.cost ≡ moving N self.old.cost }
+        ensures changes { seen self.new ≡ record (seen self.old) {
+          slots = laid i (full values) self.old.slots;
+          cost = moving N self.old.cost;
+        } }
     {
         let at = self.at;
         unsafe { ((at.add(HEADER_WORDS) as *mut T).add(i) as *mut [T; N]).write(values) }
@@ -127,10 +127,9 @@ impl<T, A: Allocator> Block<T, A> {
         requires in_bounds { i + N ≤ length self.old.slots }
         requires filled { AreFilled self.old.slots i N }
         ensures value { full result ≡ run i N self.old.slots }
-        ensures slots { self.new.slots ≡ emptied i N self.old.slots }
-        ensures len { self.new.len ≡ self.old.len }
-        ensures alloc { self.new.alloc ≡ self.old.alloc }
-        ensures cost { self.new.cost ≡ self.old.cost }
+        ensures changes { seen self.new ≡ record (seen self.old) {
+          slots = emptied i N self.old.slots;
+        } }
     {
         let at = self.at;
         unsafe { ((at.add(HEADER_WORDS) as *mut T).add(i) as *mut [T; N]).read() }
@@ -138,14 +137,16 @@ impl<T, A: Allocator> Block<T, A> {
 }
 
 impl<T: Copy, A: Allocator> Block<T, A> {
+    ghost use Rattle.thin_block.specs.Block.{seen};
+
     /// Copies `items` into the empty slots from `i` on.
     pub fn copy_in(&mut self, i: usize, items: &[T])
         requires in_bounds { i + length items.now ≤ length self.old.slots }
         requires empty { AreEmpty self.old.slots i (length items.now) }
-        ensures slots { self.new.slots ≡ laid i (full items.now) self.old.slots }
-        ensures len { self.new.len ≡ self.old.len }
-        ensures alloc { self.new.alloc ≡ self.old.alloc }
-        ensures cost { self.new.cost ≡ moving (length items.now) self.old.cost }
+        ensures changes { seen self.new ≡ record (seen self.old) {
+          slots = laid i (full items.now) self.old.slots;
+          cost = moving (length items.now) self.old.cost;
+        } }
     {
         let at = self.at;
         unsafe {
@@ -157,7 +158,7 @@ impl<T: Copy, A: Allocator> Block<T, A> {
 
 // `row` with a copy of each of `items`, as many as it has places.
 //
-// std's `Slots::copy_in` is one copy, by a call and behind a test whether the two runs overlap. For
+// std's `Slots::copy_in` is one copy, by a call and after a test whether the two runs overlap. For
 // a few items that would cost more than the items.
 fn copied<T: Copy>(mut row: Slots<T>, items: &[T]) -> Slots<T>
     requires room { slots_len row ≡ length items.now }

@@ -8,9 +8,9 @@ use crate::growth::doubling::Doubling;
 use crate::growth::{Growth, fitting};
 use crate::sizes::{HEADER, item_size};
 
-/// As many items as fit, behind the header, into a power of two bytes: the least power that has
-/// room for the want, and for twice the capacity. Allocators that serve powers of two then waste
-/// less than one item of a block. Items of no size grow as by `Doubling`.
+/// As many items as fit, after the header, into a power of two bytes: the least power that has room
+/// for the want, and for twice the capacity. Allocators that serve powers of two then waste less
+/// than one item of a block. Items of no size grow as by `Doubling`.
 ///
 /// The rule is this port's own, after the one that the Rust crate has for Gecko.
 pub struct PowerBytes {}

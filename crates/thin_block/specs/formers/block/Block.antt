@@ -52,19 +52,19 @@ module _ (g : Former {0}) where
   slot_put X None n t = t
   slot_put X (Some y) n t = g.put X y n t
 
-  -- and taken from its front again
+  -- the items below a slot, taken from the front of a row
   abbrev pub slot_get : (X : Type 0) (a : Option g.Shape) (n : Count) → Row X (slot_count a n)
       → Option (g.Of X) × Row X n
   slot_get X None n v = (None, v)
   slot_get X (Some a) n v = let r : g.Of X × Row X n = g.get X a n v in (Some r.0, r.1)
 
-  -- what is laid in front is what is taken
+  -- what was laid in front of a row is what is taken from its front
   pub slot_get-put : (X : Type 0) (o : Option (g.Of X)) (n : Count) (t : Row X n)
       → slot_get X (on_slot (g.shape X) o) n (slot_put X o n t) ≡ (o, t)
   slot_get-put X None n t = refl
   slot_get-put X (Some y) n t = λ i. (Some (g.get-put X y n t i).0, (g.get-put X y n t i).1)
 
-  -- and the other way round
+  -- what was taken from the front of a row, laid there again, makes the row
   pub slot_put-get : (X : Type 0) (a : Option g.Shape) (n : Count) (v : Row X (slot_count a n))
       → ◌≡◌ {A = (b : Option g.Shape) × Row X (slot_count b n)} (
         on_slot (g.shape X) (slot_get X a n v).0,
@@ -135,11 +135,11 @@ module _ {X Y Z : Type 0} (d : Block X Z) where
     sound = sound;
   }
 
-  -- as many slots may
+  -- as many slots as the block has may stand in their place
   pub fits : (ys : List (Option Y)) → length ys ≡ length d.slots → Fits ys
   fits ys e = (let le = d.sound.0 in omega (arith, e, le), d.sound.1 ∙ sym (any_same d.slots ys e))
 
-  -- which proof says so does not matter
+  -- which proof of `Fits` does not matter
   pub Fits-along : (ys zs : List (Option Y)) (e : ys ≡ zs) (p : Fits ys) (q : Fits zs)
       → PathP (λ i. Fits (e i)) p q
   Fits-along ys zs e = is_prop→PathP (λ i. Fits (e i))
@@ -178,7 +178,7 @@ module _ (g : Former {0}) (Z : Type 0) where
     ((list (slot g)).get-put X d.slots n t i).1,
   )
 
-  -- and the other way round
+  -- a block whose items were taken from a row, laid there again, makes the row
   pub put-got : (X : Type 0) (a : Block g.Shape Z) (n : Count)
       (v : Row X (list_count (slot g) a.slots n))
       → ◌≡◌ {A = (b : Block g.Shape Z) × Row X (list_count (slot g) b.slots n)} (
@@ -251,7 +251,7 @@ items_listed X (Some x ∷ xs) = ap (λ l. x ∷ l) (items_listed X xs)
 abbrev pub the_items : (Z X : Type 0) → Block X Z → List X
 the_items Z X d = items_in d.slots
 
--- they are those below it
+-- the items of a block are those below it
 pub the_items_listed : (Z X : Type 0) (d : Block X Z)
     → listed _ (children (the_former this Z) X d) ≡ the_items Z X d
 the_items_listed Z X d = items_listed X d.slots
@@ -265,7 +265,7 @@ codes_of = codes_placed
 first : {a b c : Gv} → a ≡ b → gcons a c ≡ gcons b c
 first {c = c} e = λ i. gcons (e i) c
 
--- and in their second
+-- codes that differ in their second part
 second : {a b c : Gv} → a ≡ b → gcons c a ≡ gcons c b
 second {c = c} e = λ i. gcons c (e i)
 
@@ -279,7 +279,7 @@ module _ (R R' : RattleType) (h : R.Denot → R'.Denot) (a : Alike R R' h) where
   place_placed None b o = λ i. room_for (raw (lone (a.mir_same i))) (block_ptr b o)
   place_placed (Some x) b o = lies_placed R R' h a full_share (block_ptr b o) x
 
-  -- and so does a row of slots
+  -- a row of slots lies in memory as its image does
   places_placed : (xs : List (Option R.Denot)) (b o : ℕ)
       → places R' (map (on_slot h) xs) b o ≡ places R xs b o
   places_placed [] b o = refl
@@ -287,7 +287,7 @@ module _ (R R' : RattleType) (h : R.Denot → R'.Denot) (a : Alike R R' h) where
       (λ i. fsep (place_placed x b o i) (places R' (map (on_slot h) xs) b (o + width i)))
       ∙ ap (fsep (place R x b o)) (places_placed xs b (o + type_size R))
 
-  -- and so does a block
+  -- a block lies in memory as its image does
   pub block_placed : {D : Type 0} (t : D → Ty → Ptr → Fml) (p : Ptr) (n : ℕ)
       (xs : List (Option R.Denot)) (w : Option D) → block_owns t R' p n (map (on_slot h) xs)
       w ≡ block_owns t R p n xs w
@@ -303,7 +303,7 @@ module _ (R R' : RattleType) (h : R.Denot → R'.Denot) (a : Alike R R' h) where
   place_lent_placed None p = refl
   place_lent_placed (Some x) p = lent_at_placed R R' h a p x
 
-  -- and so does a row of slots that is lent
+  -- a row of slots that is lent lies as its image does
   places_lent_placed : (xs : List (Option R.Denot)) (b o : ℕ) → places_lent R' (map (on_slot h) xs)
       b o ≡ places_lent R xs b o
   places_lent_placed [] b o = refl
@@ -312,7 +312,7 @@ module _ (R R' : RattleType) (h : R.Denot → R'.Denot) (a : Alike R R' h) where
       (places_lent R' (map (on_slot h) xs) b (o + width i)))
       ∙ ap (beside (place_lent R x (block_ptr b o))) (places_lent_placed xs b (o + type_size R))
 
-  -- and so does a block that is lent
+  -- a block that is lent lies as its image does
   pub block_lent_placed : {D : Type 0} (p : Ptr) (n : ℕ) (xs : List (Option R.Denot)) (w : Option D)
       → block_lent R' p n (map (on_slot h) xs) w ≡ block_lent R p n xs w
   block_lent_placed null_ptr n xs w = refl
@@ -340,7 +340,7 @@ module _ (A : RattleType) (G : Ghosts A.Denot) (R R' : RattleType) (h : R.Denot 
   slot_recoded e None = refl
   slot_recoded e (Some x) = second (e x)
 
-  -- and a block's is that of its image
+  -- a block's code is that of its image
   pub the_codes_placed : Recodes R R' h → Recodes (C.the_row R A G) (C.the_row R' A G)
       ((the_former this A.Denot).map R.Denot R'.Denot h)
   the_codes_placed e d =

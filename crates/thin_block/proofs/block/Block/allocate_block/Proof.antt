@@ -1,33 +1,31 @@
 -- `allocate_block` asks for the room of a whole block, writes the two words of its header, and
 -- leaves the slots empty. Assumes `Logic`.
 use Rattle.std.proofs.Common.{◌≡◌, ℕ, ◌+◌, ◌<◌, List, [], ◌∷◌, ◌++◌, length, replicate, Bool, true, refl, sym, ap, ◌∙◌, arith, lit<, w64, Some, None, Option}
-use mir.Syntax.{Ty, Fn, Body, ty_int}
+use mir.Syntax.{Ty, Body, ty_int}
 use mir.Val.{Val, WT, vint, vptr, vstruct, vcons, vnil}
 use mir.MapTy.{inst_fn}
 use lib.ListN.{length-replicate}
 use base.Fraction.{full_share}
 use base.Logic.{SProp}
-use base.Fml.{Lft, Share, ftrue, fwand, fat, froom, flft}
+use base.Fml.{Lft, Share, fwand, fat, froom, flft}
 use prog.Memory.{size, align, capped}
 use prog.Capped.{capped_is}
-use prog.Wp.{Env, WpFn}
-use contract.BorrowLft.{◌⊑◌, ⊑_trans}
-use contract.Monad.{fact}
+use prog.Wp.{Env}
+use contract.BorrowLft.{⊑_trans}
 use contract.Running.{tables}
-use types.Kit.{Post as After, ‵, raw, ◌⊛◌, later, prop, at_ret, ◌$◌, ◌∵◌, !, qed, move, keep, drop, use0, use1, use2, split, split3, join, regoal, rewrite, fsplit, fjoin, feq_i, await, suffices, done}
+use types.Kit.{Post as After, ‵, raw, ◌⊛◌, later, at_ret, ◌$◌, !, move, keep, drop, use0, use1, use2, split, split3, join, rewrite, fsplit, fjoin, feq_i, await, suffices, done}
 use types.Part.{whole, agg}
 use types.Match.{live, vrt, in_variant}
-use types.Run.{stop, fld, lit, bin, init, of_opd, no_more, and_then, assigns, assigns_last, first, blocks, switches_on, exec, returns, enter}
+use types.Run.{stop, fld, lit, bin, init, of_opd, no_more, and_then, assigns, assigns_last, first, blocks, switches_on, exec, returns}
 use types.ByLocal.{alloc_all, pass_all, free_all, look_at, get, get_in, get_tag, through, sets, sets_last, lands_as, env}
-use denote.RattleType.{RattleType, owns}
+use denote.RattleType.{RattleType}
 use denote.Builtin.{usize}
 use denote.Plain.{uint_in}
 use denote.RawPtr.{Ptr, block_ptr, lies_at}
-use denote.Signature.{types_at, type_at}
-use denote.Steps.{nothing, heard}
+use denote.Signature.{type_at}
 use denote.Triple.Call.{calls_at}
-use denote.Triple.Walked.{Stays, stay_dropped, walk_of, Goes-dropped, ends_at}
-use Rattle.core.proofs.alloc.Calls.{Al, token, Takes, at_takes, Answered, Takes-goes, Takes-gives, answers}
+use denote.Triple.Walked.{walk_of, ends_at}
+use Rattle.core.proofs.alloc.Calls.{token, Takes, at_takes, Answered, Takes-goes, Takes-gives, answers}
 use Rattle.core.proofs.atomic.Steps.{fm}
 use Rattle.core.specs.contracts.alloc.AllocError as AE
 use Rattle.core.specs.declared.result.Result.TheVariants.{Ok, Err}
@@ -35,7 +33,7 @@ use Rattle.std_alloc.proofs.ResultValues.{ok_of, err_of}
 use Rattle.std.proofs.raw_atomic.Walks.{proved_at}
 use Rattle.std.specs.Mem.{type_size}
 use Rattle.std.specs.Align.{type_align}
-use Rattle.core.proofs.mem.Param.{El, R}
+use Rattle.core.proofs.mem.Param.{R}
 use Rattle.thin_block.specs.Cost.{growing, no_cost}
 use Rattle.thin_block.specs.Capacity.{Fits, block_align, block_bytes}
 use Rattle.thin_block.specs.Ownership.{fits_block, parts, places, frame, asked as whole_block}
@@ -44,6 +42,7 @@ use Rattle.thin_block.proofs.Walks.{slot_at, then_runs, after, head, arm_body, s
 use Rattle.thin_block.proofs.Turning.{asked_size, asked_align, carve_asked}
 use Rattle.thin_block.proofs.HeaderMemory.{args, Br, any_some, block_val, block_made, items}
 use Rattle.thin_block.proofs.SlotMemory.{of_raw}
+use Rattle.thin_block.proofs.Methods.{item, source, others, dropped, all_go, arrives, heard_all, enters, blank}
 use Rattle.thin_block.specs.contracts.block.Block.allocate_block.{ended, clauses}
 use Rattle.thin_block.specs.contracts.block.Block.allocate_block.Key.{name as #self}
 use Rattle.thin_block.proofs.block.Block.allocate_block.Statement.{statement}
@@ -51,41 +50,19 @@ use Rattle.thin_block.proofs.block.Block.allocate_block.Code as compiled
 
 pub allocate_block_spec : {M : Type 1} → statement M
 allocate_block_spec 𝓤 𝓛 𝓜 𝓡 wired T A LT LA g d dd met md =
-    let H = 𝓛.H in
-    let E : El = record { row = T; laws = LT } in
-    let Y : Al = record { row = A; laws = LA; g = g; d = d; drops = dd } in
-    let B : RattleType = Br E Y in
-    let En₀ = ended T A g d dd in
-    let c = clauses T A g d dd 𝓛 𝓜.mem 𝓡.returns in
-    let fn : Fn = inst_fn (args E Y) compiled.function in
-    let ps = En₀.signature.params in
-    let hs : Stays ps En₀.kept = (
-      stay_dropped (slot_at 0 ps) En₀.kept.0,
-      (
-        stay_dropped (slot_at 1 ps) En₀.kept.1.0,
-        (
-          stay_dropped (slot_at 2 ps) En₀.kept.1.1.0,
-          (stay_dropped (slot_at 3 ps) En₀.kept.1.1.1.0, tt),
-        ),
-      ),
-    ) in
-    let 𝓣 = tables 𝓤 H 𝓜 𝓡 𝓡.env in
-    let C = 𝓣.C in
-    let Λ = 𝓣.Λ in
-    proved_at 𝓛 En₀ hs c 𝓜 𝓡 (
-      Goes-dropped 𝓛 3 (slot_at 0 ps) En₀.kept.0 (λ κs x f. refl),
-      (
-        Goes-dropped 𝓛 3 (slot_at 1 ps) En₀.kept.1.0 (λ κs x f. refl),
-        (
-          Goes-dropped 𝓛 3 (slot_at 2 ps) En₀.kept.1.1.0 (λ κs x f. refl),
-          (Goes-dropped 𝓛 3 (slot_at 3 ps) En₀.kept.1.1.1.0 (λ κs x f. refl), tt),
-        ),
-      ),
-    )
-    (#self (args E Y)) fn (compiled.unfolded 𝓤 H 𝓜 𝓡 wired (T, (A, tt)) d dd) (λ z are.
+    let E = item LT in let Y = source LA g d dd in let En₀ = ended T A g d dd in
+    let c = clauses T A g d dd 𝓛 𝓜.mem 𝓡.returns in let ps = En₀.signature.params in
+    let hs = dropped ps En₀.kept in let fn = inst_fn (args E Y) compiled.function in
+    let 𝓣 = tables 𝓤 𝓛.H 𝓜 𝓡 𝓡.env in let C = 𝓣.C in let Λ = 𝓣.Λ in
+    proved_at 𝓛 En₀ hs c 𝓜 𝓡
+    (all_go 𝓛 ps En₀.kept (
+      (λ κs x f. refl),
+      ((λ κs x f. refl), ((λ κs x f. refl), ((λ κs x f. refl), tt))),
+    ))
+    (#self (args E Y)) fn (compiled.unfolded 𝓤 𝓛.H 𝓜 𝓡 wired (T, (A, tt)) d dd) (λ z are.
     let Post : Val → SProp 𝓤 = (walk_of 𝓛 En₀ hs c).post z in
     let a = z.0.3 in
-    let vss = z.0.4 in
+    let B : RattleType = Br E Y in
     let Rt : RattleType = R E in
     let κ : Lft = z.0.0.0 in
     let q : Share = z.0.1.0 in
@@ -96,22 +73,16 @@ allocate_block_spec 𝓤 𝓛 𝓜 𝓡 wired T A LT LA g d dd met md =
     let al : ℕ = a.1.1.1.0 in
     let τ : Ty = whole_block Rt cap in
     let Out : RattleType = type_at En₀.signature.result z.0.0 in
-    let Any : Type 0 = 0 < cap in
-    let Small : Type 0 = Fits Rt cap in
     let size_of_block : ℕ = block_bytes (type_size Rt) (type_align Rt) cap in
     let align_of_block : ℕ = block_align (type_align Rt) in
-    let Bytes : Type 0 = bytes ≡ size_of_block in
-    let Align : Type 0 = al ≡ align_of_block in
     let y = at_takes Y 𝓛 𝓜.mem 𝓡.returns κ q at h bytes al τ in
-    qed 𝓛 (((‵ (flft κ q) ⊛ ‵ (flft z.0.0.1.0 z.0.1.1.0) ⊛ ‵ (flft z.0.0.1.1.0 z.0.1.1.1.0)
-    ⊛ ‵ ftrue) ⊛ ‵ (owns (types_at ps z.0.0) a vss))
-    ∷ (raw (fact 𝓤 (z.0.0.1.0 ⊑ T.lives)) ⊛ raw (fact 𝓤 (z.0.0.1.1.0 ⊑ A.lives)) ⊛ raw (fact 𝓤 Any)
-    ⊛ raw (fact 𝓤 Small) ⊛ raw (fact 𝓤 Bytes) ⊛ raw (fact 𝓤 Align)) ∷ []) ∵
-    move ! (1 ∷ []) $ split3 ! $ drop ! $ heard ! (z.0.0.1.1.0 ⊑ A.lives)
-    (λ le. split3 ! $ heard ! Any
-    (λ some. heard ! Small
-    (λ small. split ! $ heard ! Bytes (λ bytes_are. heard ! Align (λ align_is.
-    split ! $ split ! $ move ! (2 ∷ []) $ fsplit ! $ fsplit ! $ drop ! $ keep ! (0 ∷ 2 ∷ 3 ∷ []) $
+    arrives (slot_at 0 ps) (others ps) 𝓛 z.0 ((c z.0.0 z.0.3).requires z.1) (
+    move ! (4 ∷ []) $ heard_all ! (_ ∷ _ ∷ _ ∷ _ ∷ _ ∷ _ ∷ []) (λ said.
+    let le = said.1.0 in let some : 0 < cap = said.1.1.0 in
+    let small : Fits Rt cap = said.1.1.1.0 in
+    let bytes_are : bytes ≡ size_of_block = said.1.1.1.1.0 in
+    let align_is : al ≡ align_of_block = said.1.1.1.1.1 in
+    fsplit ! $ drop ! $ keep ! (0 ∷ 1 ∷ 2 ∷ []) $
     -- [the handle's `&`; its token; the other tokens]
     let fits : fits_block Rt cap ≡ true = opened Rt cap small in
     let short = (fits_tells Rt cap fits).short in
@@ -120,9 +91,8 @@ allocate_block_spec 𝓤 𝓛 𝓜 𝓡 wired T A LT LA g d dd met md =
     ∙ capped_is size_of_block (omega arith) ∙ sym bytes_are in
     let laid : capped (align τ) ≡ al = ap capped (asked_align Rt cap)
     ∙ capped_is align_of_block (omega arith) ∙ sym align_is in
-    regoal ! (λ (us : List Val). prop (WpFn 𝓤 H C Λ fn us Post))
-    (λ i. are.0.0 i ++ (are.1.0.0 i ++ (are.1.1.0.0 i ++ (are.1.1.1.0.0 i ++ [])))) refl $
-    enter ! C Λ fn (vptr at.0 at.1 ∷ vint w64 cap ∷ vint w64 bytes ∷ vint w64 al ∷ []) Post $
+    enters ! fn (vptr at.0 at.1 ∷ vint w64 cap ∷ vint w64 bytes ∷ vint w64 al ∷ [])
+    (λ i. are.0.0 i ++ (are.1.0.0 i ++ (are.1.1.0.0 i ++ (are.1.1.1.0.0 i ++ [])))) $
     alloc_all ! (λ l. pass_all ! refl (
       (tt, tt),
       (
@@ -141,7 +111,7 @@ allocate_block_spec 𝓤 𝓛 𝓜 𝓡 wired T A LT LA g d dd met md =
     (Takes-gives Y 𝓛 𝓜.mem 𝓡.returns κ q at h bytes al τ v) $ await ! tt $ split ! $
     move ! (1 ∷ 2 ∷ []) $ join ! $ move ! (1 ∷ []) $
     let both : Body = head (after 1 fn.body) in
-    let Then : After 𝓤 H = then_runs 𝓛 C Λ En (after 2 fn.body) (at_ret En Post) in
+    let Then : After 𝓤 𝓛.H = then_runs 𝓛 C Λ En (after 2 fn.body) (at_ret En Post) in
     answers Y ! 𝓜.mem 𝓡.returns h τ v
     (λ b o e.
     let p : Ptr = block_ptr b o in
@@ -200,11 +170,10 @@ allocate_block_spec 𝓤 𝓛 𝓜 𝓡 wired T A LT LA g d dd met md =
     block_made E Y ! x b o refl $
     use1 𝓛 (‵ (Out.own_val (Ok x) (live 0 (vcons (block_val p) vnil) ∷ [])))
     (ok_of 𝓛 B AE.the_row x (block_val p)) $
-    nothing ! $ nothing ! $ fjoin ! $ nothing ! $ fjoin ! $ nothing ! $ fjoin ! $ nothing ! $
-    fjoin ! $ move ! (0 ∷ 1 ∷ []) $ join ! $ move ! (1 ∷ 0 ∷ []) $ join ! $
+    blank ! 4 $ move ! (0 ∷ 1 ∷ []) $ join ! $ move ! (1 ∷ 0 ∷ []) $ join ! $
     suffices ! _ (ends_at 𝓛 En₀ hs c z (live 0 (vcons (block_val p) vnil)) (Ok x)
     (tt, (tt, (tt, (tt, tt)))) (tt, (tt, (tt, (tt, tt))))) $
-    says_all ! (_ ∷ _ ∷ _ ∷ _ ∷ []) (refl, (refl, (refl, refl))) $ done !)
+    says_all ! (_ ∷ []) refl $ done !)
     (λ e.
     let none : WT (live 1 (vcons (vstruct vnil) vnil)) = (record { fits = lit< tt }, (tt, tt)) in
     lands_as ! e refl (tt, (record { fits = lit< tt }, (tt, tt))) $
@@ -220,8 +189,7 @@ allocate_block_spec 𝓤 𝓛 𝓜 𝓡 wired T A LT LA g d dd met md =
     use0 𝓛 (‵ (AE.the_row.own_val (record {}) (vstruct vnil ∷ []))) (refused_made 𝓛) $
     use1 𝓛 (‵ (Out.own_val (Err (record {})) (live 1 (vcons (vstruct vnil) vnil) ∷ [])))
     (err_of 𝓛 B AE.the_row (record {}) (vstruct vnil)) $
-    nothing ! $ nothing ! $ fjoin ! $ nothing ! $ fjoin ! $ nothing ! $ fjoin ! $ nothing ! $
-    fjoin ! $ move ! (0 ∷ 1 ∷ []) $ join ! $ move ! (1 ∷ 0 ∷ []) $ join ! $
+    blank ! 4 $ move ! (0 ∷ 1 ∷ []) $ join ! $ move ! (1 ∷ 0 ∷ []) $ join ! $
     suffices ! _ (ends_at 𝓛 En₀ hs c z (live 1 (vcons (vstruct vnil) vnil)) (Err (record {}))
     (tt, (tt, (tt, (tt, tt)))) (tt, (tt, (tt, (tt, tt))))) $
-    says_all ! (_ ∷ _ ∷ _ ∷ _ ∷ []) (tt, (tt, (tt, tt))) $ done !)))))))))
+    says_all ! (_ ∷ []) tt $ done !))))))

@@ -1,39 +1,31 @@
 -- `copy_in` takes the room of a run of slots out of the row, has core's `Slots` copy the items
 -- there, and puts the filled run back. Assumes `Logic`.
-use Rattle.std.proofs.Common.{◌≡◌, ℕ, Some, None, false, ◌+◌, ◌*◌, ◌^◌, ◌<◌, ◌≤◌, List, ◌∷◌, [], ◌++◌, length, refl, sym, ap, subst, ◌∙◌, arith, w64}
+use Rattle.std.proofs.Common.{◌≡◌, ℕ, Some, None, false, ◌+◌, ◌*◌, ◌^◌, ◌<◌, ◌≤◌, List, ◌∷◌, [], ◌++◌, length, refl, sym, subst, ◌∙◌, arith, w64}
 use lib.ListN.{length-map, length-replicate, replicate}
 use mir.Syntax.{Fn, Args, ty_array, a_type, dcons, dnil, named}
-use mir.Val.{Val, WT, vint, vptr, vunit}
+use mir.Val.{Val, WT, vint, vunit}
 use mir.MapTy.{inst_fn}
 use base.Fraction.{full_share}
-use base.Logic.{SProp}
-use base.Fml.{Lft, Share, ftrue, froom, flft}
-use prog.Wp.{Env, WpFn}
-use contract.BorrowLft.{◌⊑◌}
-use contract.Monad.{fact}
-use contract.Running.{tables}
-use types.Kit.{‵, raw, ◌⊛◌, some as exists, given, later, learn, pick, await, prop, at_ret, ◌$◌, ◌∵◌, !, qed, move, keep, drop, use1, use2, use3, split, split3, join, fsplit, fsplit3, fjoin, fjoin3, feq_i, rewrite, regoal, suffices, done}
-use types.Part.{whole, sub, look_in}
-use types.Run.{stop, fld, load, lit, bin, size_word, unit_lit, of_opd, no_more, and_then, first, blocks, exec, returns, enter}
-use types.ByLocal.{alloc_all, pass_all, free_all, look_at, through, is, sets, lands_as, lands_last, env, get, get_in}
+use base.Fml.{Lft, Share, froom, flft}
+use types.Kit.{‵, raw, ◌⊛◌, some as exists, given, later, learn, pick, await, ◌$◌, !, move, keep, drop, use1, use2, use3, split, split3, join, fsplit, fsplit3, rewrite, suffices, done}
+use types.Part.{whole, sub}
+use types.Run.{stop, fld, unit_lit, of_opd, no_more, and_then, first, blocks, returns}
+use types.ByLocal.{alloc_all, pass_all, free_all, look_at, sets, lands_as, lands_last, get, get_in}
 use denote.Array.{Array}
 use denote.Memory.{part_at}
-use denote.RattleType.{RattleType, owns}
+use denote.RattleType.{RattleType}
 use denote.RawPtr.{block_ptr}
 use denote.Param.{layout, param, bounded, copied}
-use denote.Signature.{plain, types_at}
+use denote.Signature.{plain}
 use denote.Slice.{ShrSlice, slice_val}
-use denote.Steps.{nothing, heard}
 use denote.Triple.Call.{calls_at, calls_at_last}
-use denote.Triple.Walked.{Stays, stay_ref, stay_dropped, walk_of, Goes-dropped, Goes-ref, ends_at}
+use denote.Triple.Walked.{Stays, stay_ref, walk_of, Goes-ref, ends_at}
 use Rattle.std.specs.Prelude.{Option}
 use Rattle.std.proofs.raw_atomic.Walks.{proved_at}
 use Rattle.core.specs.Mem.Slots.{slots_items, slots_filled, slots_ptr, slots_len, slots_counts, slots_small}
 use Rattle.core.specs.Mem.Slots.Ownership.{Filled}
-use Rattle.core.proofs.alloc.Calls.{Al}
 use Rattle.core.proofs.atomic.Steps.{fm as framed}
-use Rattle.core.proofs.mem.Param.{El, R}
-use Rattle.core.proofs.slots.Leases.{uncapped}
+use Rattle.core.proofs.mem.Param.{R}
 use Rattle.core.proofs.slots.Opens.{row_val}
 use Rattle.core.proofs.slots.Runs.{of_space, to_values}
 use Rattle.core.proofs.slots.Slots.from_raw_parts.Met as from_met
@@ -45,13 +37,15 @@ use Rattle.thin_block.specs.Cost.{moving}
 use Rattle.thin_block.specs.Lends.{with_slots}
 use Rattle.thin_block.specs.Ownership.{places}
 use Rattle.thin_block.specs.Slots.{full, empty, slot, laid}
-use Rattle.thin_block.proofs.Walks.{slot_at, after, says_all}
+use Rattle.thin_block.proofs.Walks.{slot_at, says_all}
 use Rattle.thin_block.proofs.CopyCall.{Copied, at_copied, IsCopy, Copied-goes, Copied-gives}
-use Rattle.thin_block.proofs.HeaderMemory.{header, t, block_opens, block_closes}
-use Rattle.thin_block.proofs.SlotMemory.{sz, reach, around, run_out, run_in, of_items, to_room}
+use Rattle.thin_block.proofs.HeaderMemory.{Br}
+use Rattle.thin_block.proofs.SlotMemory.{sz, around, run_out, run_in, of_items, to_room}
 use Rattle.thin_block.proofs.SlotsLemmas.{empty-run, length-laid}
 use Rattle.thin_block.proofs.slots.copied.Met as copied_met
 use Rattle.thin_block.specs.contracts.block.Block as block
+use Rattle.thin_block.proofs.Methods.{item, source, others, dropped, all_go, arrives, heard_all, token_out, enters, closes_over, leaves_unit, ptr_of, opens_self, continues, word}
+use Rattle.thin_block.proofs.Addresses.{near, its_ptr, slot_found}
 use Rattle.thin_block.specs.contracts.block.Block.copy_in.{ended, clauses}
 use Rattle.thin_block.specs.contracts.block.Block.copy_in.Key.{name as #self}
 use Rattle.thin_block.proofs.block.Block.copy_in.Statement.{statement}
@@ -59,88 +53,47 @@ use Rattle.thin_block.proofs.block.Block.copy_in.Code as compiled
 
 pub copy_in_spec : {M : Type 1} → statement M
 copy_in_spec 𝓤 𝓛 𝓜 𝓡 wired T A LT LA copies gc dc g d dd metc met md =
-    let H = 𝓛.H in
-    let E : El = record { row = T; laws = LT } in
-    let Y : Al = record { row = A; laws = LA; g = g; d = d; drops = dd } in
+    let E = item LT in let Y = source LA g d dd in let En₀ = ended T A gc dc g d dd in
     let V : vecs.El = record { row = T; laws = LT; al = Y } in
     let B : RattleType = block.the_row (copied 0 T) (param 1 A) g in
     let args : Args = bounded (a_type ∷ a_type ∷ []) (T, (A, tt))
     (dcons dc (dcons d (dcons dd dnil))) in
-    let En₀ = ended T A gc dc g d dd in
-    let ps = En₀.signature.params in
-    let c = clauses T A gc dc g d dd 𝓛 𝓜.mem 𝓡.returns in
+    let c = clauses T A gc dc g d dd 𝓛 𝓜.mem 𝓡.returns in let ps = En₀.signature.params in
+    let hs : Stays ps En₀.kept =
+    (stay_ref (0 ∷ []) tt (plain (λ _. B)), dropped (others ps) En₀.kept.1) in
     let fn : Fn = inst_fn args compiled.function in
-    let hs : Stays ps En₀.kept = (
-      stay_ref (0 ∷ []) tt (plain (λ _. B)),
-      (
-        stay_dropped (slot_at 1 ps) En₀.kept.1.0,
-        (stay_dropped (slot_at 2 ps) En₀.kept.1.1.0, tt),
-      ),
-    ) in
-    let 𝓣 = tables 𝓤 H 𝓜 𝓡 𝓡.env in
     proved_at 𝓛 En₀ hs c 𝓜 𝓡 (
       Goes-ref 𝓛 4 0 tt (plain (λ _. B)),
-      (
-        Goes-dropped 𝓛 4 (slot_at 1 ps) En₀.kept.1.0 (λ κs x f. refl),
-        (Goes-dropped 𝓛 4 (slot_at 2 ps) En₀.kept.1.1.0 (λ κs x f. refl), tt),
-      ),
+      all_go 𝓛 (others ps) En₀.kept.1 ((λ κs x f. refl), ((λ κs x f. refl), tt)),
     )
-    (#self args) fn (compiled.unfolded 𝓤 H 𝓜 𝓡 wired (T, (A, tt)) dc d dd) (λ z are.
-    let Post : Val → SProp 𝓤 = (walk_of 𝓛 En₀ hs c).post z in
-    let a = z.0.3 in
-    let vss = z.0.4 in
-    let κ : Lft = z.0.0.0 in
-    let q : Share = z.0.1.0 in
-    let κ₁ : Lft = z.0.0.1.0 in
-    let q₁ : Share = z.0.1.1.0 in
-    let κ₂ : Lft = z.0.0.1.1.0 in
-    let q₂ : Share = z.0.1.1.1.0 in
-    let x = a.0.now in
-    let rb : ℕ = a.0.ref_ptr.0 in
-    let ro : ℕ = a.0.ref_ptr.1 in
-    let i : ℕ = a.1.0 in
-    let items = a.1.1.0 in
+    (#self args) fn (compiled.unfolded 𝓤 𝓛.H 𝓜 𝓡 wired (T, (A, tt)) dc d dd) (λ z are.
+    let self = z.0.3.0 in let x = self.now in
+    let κ₁ : Lft = z.0.0.1.0 in let q₁ : Share = z.0.1.1.0 in
+    let κ₂ : Lft = z.0.0.1.1.0 in let q₂ : Share = z.0.1.1.1.0 in
+    let i : ℕ = z.0.3.1.0 in let items = z.0.3.1.1.0 in
     let xs : List T.Denot = items.now in
     let n : ℕ = length xs in
     let s : ℕ = sz E in
-    let Within : Type 0 = i + n ≤ length x.slots in
-    let Empty : Type 0 = (k : ℕ) → i ≤ k → k < i + n → slot x.slots k ≡ None in
-    qed 𝓛 (((‵ (flft κ q) ⊛ ‵ (flft κ₁ q₁) ⊛ ‵ (flft κ₂ q₂) ⊛ ‵ (flft z.0.0.1.1.1.0 z.0.1.1.1.1.0)
-    ⊛ ‵ ftrue) ⊛ ‵ (owns (types_at ps z.0.0) a vss))
-    ∷ (raw (fact 𝓤 (κ₂ ⊑ T.lives)) ⊛ raw (fact 𝓤 (z.0.0.1.1.1.0 ⊑ A.lives)) ⊛ raw (fact 𝓤 Within)
-    ⊛ raw (fact 𝓤 Empty)) ∷ []) ∵
-    move ! (1 ∷ []) $ split3 ! $
-    heard ! (κ₂ ⊑ T.lives)
-    (λ lives. drop ! $ split ! $ heard ! Within (λ within. heard ! Empty (λ bare.
+    arrives (slot_at 0 ps) (others ps) 𝓛 z.0 ((c z.0.0 z.0.3).requires z.1) (
+    move ! (4 ∷ []) $ heard_all ! (_ ∷ _ ∷ _ ∷ _ ∷ []) (λ said.
+    let lives = said.0 in let within : i + n ≤ length x.slots = said.1.1.0 in
+    let bare : (k : ℕ) → i ≤ k → k < i + n → slot x.slots k ≡ None = said.1.1.1 in
     let fi = are.1.0.1 in
     let roomy = are.1.1.0.0.1 in
     let fk : n < 2 ^ 64 = roomy.0 in
-    split ! $ split ! $ move ! (2 ∷ []) $ fsplit ! $ fsplit3 ! $ move ! (3 ∷ []) $ fsplit ! $
-    move ! (1 ∷ []) $ fsplit ! $ keep ! (4 ∷ 5 ∷ 6 ∷ 7 ∷ 0 ∷ []) $
+    fsplit3 ! $ drop ! $ move ! (4 ∷ []) $ fsplit ! $ drop ! $ fsplit ! $
+    keep ! (2 ∷ 3 ∷ 4 ∷ 5 ∷ 0 ∷ []) $
     rewrite ! 4 (λ (us : List Val). ‵ ((ShrSlice (named 1) κ₁ (copied 0 T)).own_val items us))
     are.1.1.0.0.0 refl $
-    regoal ! (λ (us : List Val). prop (WpFn 𝓤 H 𝓣.C 𝓣.Λ fn us Post))
-    (λ k. are.0.0 k ++ (are.1.0.0 k ++ (are.1.1.0.0.0 k ++ []))) refl $
-    enter ! 𝓣.C 𝓣.Λ fn (vptr rb ro ∷ vint w64 i ∷ slice_val items.ref_ptr n ∷ []) Post $
+    enters ! fn
+    (ptr_of self ∷ vint w64 i ∷ slice_val items.ref_ptr n ∷ [])
+    (λ k. are.0.0 k ++ (are.1.0.0 k ++ (are.1.1.0.0.0 k ++ []))) $
     alloc_all ! (λ l. pass_all ! refl
-    ((tt, tt), ((tt, record { fits = fi }), ((tt, (tt, (record { fits = fk }, tt))), tt))) $
-    let En : Env 𝓤 H = env fn.locals l in
-    block_opens E Y ! tt x rb ro (λ b o at fits.
-    -- [the header; the slots; the block's cell; the open borrow, in three entries; the other
-    -- tokens; the slice]
+    ((tt, tt), (word fi, ((tt, (tt, (record { fits = fk }, tt))), tt))) $
+    opens_self E Y ! tt self (λ b o at fits. let fm = near E x.slots i fits (omega arith) in
+    sets ! (of_opd ! (its_ptr E Y ! refl)) refl (tt, tt) $ first ! $ blocks ! $
+    slot_found E ! b o i fm refl ((tt, tt), (tt, tt)) $
     let here : ℕ = i * s + (o + 16) in
-    let near : i * s < 2 ^ 63 = reach (R E) i (length x.slots) fits (omega arith) in
-    let fm : i * s < 2 ^ 64 = omega arith in
-    sets ! (of_opd ! (load ! (through ! refl (fld ! refl (stop !)))
-    (look_in ! 2 (sub ! 0 refl (whole !))))) refl (tt, tt) $
-    first ! $ blocks ! $
-    sets ! (is ! (bin ! (get ! refl) (lit ! tt) tt)
-    (ap (vptr b) (let turned : 16 + o ≡ o + 16 = omega arith in turned))) refl (tt, tt) $
-    sets ! (of_opd ! (get ! refl)) refl (tt, tt) $
-    sets ! (is ! (bin ! (get ! refl) (size_word !)
-    (record { fits = subst (λ (k : ℕ). k < 2 ^ 64) (sym (uncapped i s fm)) fm }))
-    (ap (vint w64) (uncapped i s fm))) refl (tt, record { fits = fm }) $
-    sets ! (bin ! (get ! refl) (get ! refl) tt) refl (tt, tt) $
     sets ! (of_opd ! (get_in ! (fld ! refl (stop !)) (sub ! 1 refl (whole !)))) refl
     (tt, record { fits = fk }) $
     move ! (1 ∷ []) $ use1 𝓛
@@ -149,7 +102,8 @@ copy_in_spec 𝓤 𝓛 𝓜 𝓡 wired T A LT LA copies gc dc g d dd metc met md
     split ! $
     use1 𝓛 (‵ (froom (ty_array (layout T) n) b here)) (to_room E 𝓛 b n here) $
     use1 𝓛 (‵ (all V b here xs (replicate n false))) (of_space E 𝓛 b here n xs refl) $
-    move ! (7 ∷ []) $ split3 ! $ move ! (3 ∷ 1 ∷ []) $
+    move ! (7 ∷ []) $ token_out ! 2 z.0.0.1 z.0.1.1 $ move ! (1 ∷ []) $
+    token_out ! 1 z.0.0.1.1 z.0.1.1.1 $ move ! (3 ∷ 0 ∷ 2 ∷ 1 ∷ []) $
     -- [the run; the token of T; the token of the items; the last token; the other slots; the
     -- header; the cell; the open borrow, in three entries; the slice]
     let y₁ = at_from V 𝓛 𝓜.mem 𝓡.returns κ₂ q₂ b here n xs (replicate n false) in
@@ -205,7 +159,7 @@ copy_in_spec 𝓤 𝓛 𝓜 𝓡 wired T A LT LA copies gc dc g d dd metc met md
     (Into-gives V 𝓛 𝓜.mem 𝓡.returns κ₂ q₂ f b here v₃ is_copy.1) $ await ! tt $
     learn ! (λ e₃. split ! $
     lands_last ! refl (parts_typed v₃ b here (slots_len f) e₃ fz) $
-    exec ! 𝓣.C 𝓣.Λ En (after 2 fn.body) (at_ret En Post) $
+    continues ! 𝓜 𝓡 fn l 2 ((walk_of 𝓛 En₀ hs c).post z) $
     sets ! (of_opd ! (unit_lit !)) refl (tt, tt) $
     -- [the run; the token of T; the token of the items; the last token; the other slots; the
     -- header; the cell; the open borrow, in three entries]
@@ -219,24 +173,18 @@ copy_in_spec 𝓤 𝓛 𝓜 𝓡 wired T A LT LA copies gc dc g d dd metc met md
     let laid_in : List (Option T.Denot) = laid i (full xs) x.slots in
     let long_full : length (full xs) ≡ n = length-map xs Some in
     let long : length laid_in ≡ length x.slots = length-laid i (full xs) x.slots (omega arith) in
-    let y : B.Denot = record (with_slots x laid_in long) { cost = moving n x.cost } in
+    let y : (Br E Y).Denot = record (with_slots x laid_in long) { cost = moving n x.cost } in
     use1 𝓛 (‵ (places (R E) (full xs) b here)) (of_items E 𝓛 b n xs here) $ move ! (0 ∷ 4 ∷ []) $
     use2 𝓛 (‵ (places (R E) laid_in b (o + 16)))
     (run_in E 𝓛 b (o + 16) x.slots i n within (full xs) long_full) $
     -- [the slots; the token of T; the token of the items; the last token; the header; the cell; the
     -- open borrow, in three entries]
-    move ! (4 ∷ 0 ∷ 5 ∷ 6 ∷ 7 ∷ 8 ∷ []) $
-    rewrite ! 0 (λ (k : ℕ). ‵ (header (t E Y) (R E) x.len k x.alloc b o)) (sym long) refl $
-    block_closes E Y ! tt y b o rb ro at $
+    move ! (0 ∷ 4 ∷ 5 ∷ 6 ∷ 7 ∷ 8 ∷ []) $
+    closes_over E Y ! tt self y b o at long $
     -- [the `&mut`, in two entries; its token; the token of T; the token of the items; the last
     -- token]
     returns ! (look_at ! 0 refl) $ free_all ! refl $
-    feq_i ! (List Val) vss.0 (vptr rb ro ∷ []) are.0.0 $ fjoin3 ! $ nothing ! $ nothing ! $
-    fjoin ! $ nothing ! $ fjoin ! $ move ! (1 ∷ 0 ∷ []) $ fjoin ! $
-    -- [the parameters; the token of the `&mut`; the token of T; the token of the items; the last
-    -- token]
-    feq_i ! (List Val) (vunit ∷ []) (vunit ∷ []) refl $ move ! (1 ∷ 0 ∷ []) $ join ! $
-    move ! (2 ∷ 4 ∷ []) $ join ! $ move ! (3 ∷ 0 ∷ []) $ join ! $
-    move ! (2 ∷ 0 ∷ []) $ join ! $ join ! $
+    move ! (3 ∷ 5 ∷ []) $ join ! $ move ! (4 ∷ 0 ∷ []) $ join ! $
+    move ! (1 ∷ 2 ∷ 3 ∷ 0 ∷ []) $ leaves_unit E Y ! self y 2 are.0.0 $
     suffices ! _ (ends_at 𝓛 En₀ hs c z vunit tt (y, (tt, (tt, tt))) (tt, (tt, (tt, tt)))) $
-    says_all ! (_ ∷ _ ∷ _ ∷ _ ∷ []) (refl, (refl, (refl, refl))) $ done !))))))))))))))
+    says_all ! (_ ∷ []) refl $ done !)))))))))))))

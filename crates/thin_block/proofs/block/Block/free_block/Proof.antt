@@ -1,33 +1,31 @@
 -- `free_block` makes the block whole again, and gives the allocator its room and the right to free
 -- it. Assumes `Logic`.
 use Rattle.std.proofs.Common.{◌≡◌, ℕ, ◌+◌, List, [], ◌∷◌, ◌++◌, length, refl, sym, ap, ◌∙◌, arith, w64, Some, Option}
-use mir.Syntax.{Ty, Fn, place}
+use mir.Syntax.{Ty, place}
 use mir.Val.{Val, vint, vptr, vunit}
 use mir.MapTy.{inst_fn}
 use base.Logic.{SProp}
-use base.Fml.{Lft, Share, ftrue, froom, flft}
+use base.Fml.{Lft, Share, froom, flft}
 use prog.Memory.{size, align, capped}
 use prog.Capped.{capped_is}
-use prog.Wp.{Env, WpFn}
-use contract.BorrowLft.{◌⊑◌, ⊑_trans}
-use contract.Monad.{fact}
+use prog.Wp.{Env}
+use contract.BorrowLft.{⊑_trans}
 use contract.Running.{tables}
-use types.Kit.{‵, raw, ◌⊛◌, given, later, prop, settles, at_ret, ◌$◌, ◌∵◌, !, qed, by, move, keep, drop, use1, use2, use3, split, split3, join, learn, rewrite, regoal, fsplit, fjoin, feq_i, await}
+use types.Kit.{‵, raw, ◌⊛◌, given, later, settles, at_ret, ◌$◌, !, by, move, keep, drop, use1, use2, use3, split, join, learn, rewrite, regoal, fsplit, feq_i, await}
 use types.Part.{whole, sub}
-use types.Run.{stop, fld, unit_lit, of_opd, no_more, and_then, first, blocks, exec, returns, enter}
+use types.Run.{stop, fld, unit_lit, of_opd, no_more, and_then, first, blocks, exec, returns}
 use types.ByLocal.{alloc_all, pass_all, free_all, look_at, get, get_in, sets, lands_last, env}
-use denote.RattleType.{RattleType, owns}
+use denote.RattleType.{RattleType}
 use denote.RawPtr.{block_ptr}
-use denote.Signature.{types_at}
-use denote.Steps.{nothing, heard}
+use denote.Steps.{nothing}
 use denote.Triple.Call.{calls_at_last}
-use denote.Triple.Walked.{Stays, stay_dropped, walk_of, Goes-dropped}
-use Rattle.core.proofs.alloc.Calls.{Al, token, Goes-blank, Gives, at_gives, Gives-goes, Gives-Gives}
+use denote.Triple.Walked.{walk_of}
+use Rattle.core.proofs.alloc.Calls.{token, Goes-blank, Gives, at_gives, Gives-goes, Gives-Gives}
 use Rattle.core.proofs.atomic.Steps.{fm}
 use Rattle.std.proofs.raw_atomic.Walks.{proved_at, leaves}
 use Rattle.std.specs.Mem.{type_size}
 use Rattle.std.specs.Align.{type_align}
-use Rattle.core.proofs.mem.Param.{El, R}
+use Rattle.core.proofs.mem.Param.{R}
 use Rattle.thin_block.specs.Slots.{empty}
 use Rattle.thin_block.specs.Capacity.{block_align, block_bytes}
 use Rattle.thin_block.specs.Ownership.{places, asked as whole_block}
@@ -36,6 +34,7 @@ use Rattle.thin_block.proofs.Walks.{slot_at, then_runs, out_of_block, after}
 use Rattle.thin_block.proofs.Turning.{asked_size, asked_align}
 use Rattle.thin_block.proofs.HeaderMemory.{args, header, t, block_val, block_had, gather, items}
 use Rattle.thin_block.proofs.SlotMemory.{to_raw}
+use Rattle.thin_block.proofs.Methods.{item, source, others, dropped, all_go, arrives, heard_all, enters, blank}
 use Rattle.thin_block.specs.contracts.block.Block.free_block.{ended, clauses}
 use Rattle.thin_block.specs.contracts.block.Block.free_block.Key.{name as #self}
 use Rattle.thin_block.proofs.block.Block.free_block.Statement.{statement}
@@ -43,40 +42,18 @@ use Rattle.thin_block.proofs.block.Block.free_block.Code as compiled
 
 pub free_block_spec : {M : Type 1} → statement M
 free_block_spec 𝓤 𝓛 𝓜 𝓡 wired T A LT LA g d dd met md =
-    let H = 𝓛.H in
-    let E : El = record { row = T; laws = LT } in
-    let Y : Al = record { row = A; laws = LA; g = g; d = d; drops = dd } in
-    let En₀ = ended T A g d dd in
-    let c = clauses T A g d dd 𝓛 𝓜.mem 𝓡.returns in
-    let fn : Fn = inst_fn (args E Y) compiled.function in
-    let ps = En₀.signature.params in
-    let hs : Stays ps En₀.kept = (
-      stay_dropped (slot_at 0 ps) En₀.kept.0,
-      (
-        stay_dropped (slot_at 1 ps) En₀.kept.1.0,
-        (
-          stay_dropped (slot_at 2 ps) En₀.kept.1.1.0,
-          (stay_dropped (slot_at 3 ps) En₀.kept.1.1.1.0, tt),
-        ),
-      ),
-    ) in
-    let 𝓣 = tables 𝓤 H 𝓜 𝓡 𝓡.env in
-    let C = 𝓣.C in
-    let Λ = 𝓣.Λ in
+    let E = item LT in let Y = source LA g d dd in let En₀ = ended T A g d dd in
+    let c = clauses T A g d dd 𝓛 𝓜.mem 𝓡.returns in let ps = En₀.signature.params in
+    let hs = dropped ps En₀.kept in let fn = inst_fn (args E Y) compiled.function in
+    let 𝓣 = tables 𝓤 𝓛.H 𝓜 𝓡 𝓡.env in let C = 𝓣.C in let Λ = 𝓣.Λ in
     proved_at 𝓛 En₀ hs c 𝓜 𝓡 (
       Goes-blank 𝓛 3 (slot_at 0 ps) En₀.kept.0 (λ κs x f. tt),
-      (
-        Goes-dropped 𝓛 3 (slot_at 1 ps) En₀.kept.1.0 (λ κs x f. refl),
-        (
-          Goes-dropped 𝓛 3 (slot_at 2 ps) En₀.kept.1.1.0 (λ κs x f. refl),
-          (Goes-dropped 𝓛 3 (slot_at 3 ps) En₀.kept.1.1.1.0 (λ κs x f. refl), tt),
-        ),
-      ),
+      all_go 𝓛 (others ps) En₀.kept.1
+          ((λ κs x f. refl), ((λ κs x f. refl), ((λ κs x f. refl), tt))),
     )
-    (#self (args E Y)) fn (compiled.unfolded 𝓤 H 𝓜 𝓡 wired (T, (A, tt)) d dd) (λ z are.
+    (#self (args E Y)) fn (compiled.unfolded 𝓤 𝓛.H 𝓜 𝓡 wired (T, (A, tt)) d dd) (λ z are.
     let Post : Val → SProp 𝓤 = (walk_of 𝓛 En₀ hs c).post z in
     let a = z.0.3 in
-    let vss = z.0.4 in
     let Rt : RattleType = R E in
     let κ : Lft = z.0.0.0 in
     let q : Share = z.0.1.0 in
@@ -88,20 +65,15 @@ free_block_spec 𝓤 𝓛 𝓜 𝓡 wired T A LT LA g d dd met md =
     let xs : List (Option T.Denot) = x.slots in
     let cap : ℕ = length xs in
     let τ : Ty = whole_block Rt cap in
-    let From : Type 0 = x.alloc ≡ Some h in
-    let Empty : Type 0 = xs ≡ empty cap in
     let size_of_block : ℕ = block_bytes (type_size Rt) (type_align Rt) cap in
     let align_of_block : ℕ = block_align (type_align Rt) in
-    let Bytes : Type 0 = bytes ≡ size_of_block in
-    let Align : Type 0 = al ≡ align_of_block in
-    qed 𝓛 (((‵ (flft κ q) ⊛ ‵ (flft z.0.0.1.0 z.0.1.1.0) ⊛ ‵ (flft z.0.0.1.1.0 z.0.1.1.1.0)
-    ⊛ ‵ ftrue) ⊛ ‵ (owns (types_at ps z.0.0) a vss))
-    ∷ (raw (fact 𝓤 (z.0.0.1.0 ⊑ T.lives)) ⊛ raw (fact 𝓤 (z.0.0.1.1.0 ⊑ A.lives)) ⊛ raw (fact 𝓤 From)
-    ⊛ raw (fact 𝓤 Empty) ⊛ raw (fact 𝓤 Bytes) ⊛ raw (fact 𝓤 Align)) ∷ []) ∵
-    move ! (1 ∷ []) $ split3 ! $ drop ! $ heard ! (z.0.0.1.1.0 ⊑ A.lives) (λ le. split3 ! $
-    heard ! From (λ from. heard ! Empty
-    (λ bare. split ! $ heard ! Bytes (λ bytes_are. heard ! Align (λ align_is.
-    split ! $ split ! $ move ! (2 ∷ []) $ fsplit ! $ block_had E Y ! x vss.0 (λ b o at told fits.
+    arrives (slot_at 0 ps) (others ps) 𝓛 z.0 ((c z.0.0 z.0.3).requires z.1) (
+    move ! (4 ∷ []) $ heard_all ! (_ ∷ _ ∷ _ ∷ _ ∷ _ ∷ _ ∷ []) (λ said.
+    let le = said.1.0 in let from : x.alloc ≡ Some h = said.1.1.0 in
+    let bare : xs ≡ empty cap = said.1.1.1.0 in
+    let bytes_are : bytes ≡ size_of_block = said.1.1.1.1.0 in
+    let align_is : al ≡ align_of_block = said.1.1.1.1.1 in
+    move ! (0 ∷ 3 ∷ []) $ block_had E Y ! x z.0.4.0 (λ b o at told fits.
     -- [the header; the slots; the other parameters; the token; the other tokens]
     rewrite ! 0 (λ (u : Option A.Denot). ‵ (header (t E Y) Rt x.len cap u b o))
     from refl $ move ! (1 ∷ []) $
@@ -119,10 +91,9 @@ free_block_spec 𝓤 𝓛 𝓜 𝓡 wired T A LT LA g d dd met md =
     let laid : capped (align τ) ≡ al = ap capped (asked_align Rt cap)
     ∙ capped_is align_of_block (omega arith) ∙ sym align_is in
     let y = at_gives Y 𝓛 𝓜.mem 𝓡.returns κ q handle_at h b o bytes al τ in
-    regoal ! (λ (us : List Val). prop (WpFn 𝓤 H C Λ fn us Post))
-    (λ i. told i ++ (are.1.0.0 i ++ (are.1.1.0.0 i ++ (are.1.1.1.0.0 i ++ [])))) refl $
-    enter ! C Λ fn (block_val (block_ptr b o) ∷ vptr handle_at.0 handle_at.1 ∷ vint w64
-    bytes ∷ vint w64 al ∷ []) Post $
+    enters ! fn (block_val (block_ptr b o) ∷ vptr handle_at.0 handle_at.1 ∷ vint w64
+    bytes ∷ vint w64 al ∷ [])
+    (λ i. told i ++ (are.1.0.0 i ++ (are.1.1.0.0 i ++ (are.1.1.1.0.0 i ++ [])))) $
     alloc_all ! (λ l. pass_all ! refl (
       (tt, (tt, (tt, (tt, tt)))),
       (
@@ -153,8 +124,7 @@ free_block_spec 𝓤 𝓛 𝓜 𝓡 wired T A LT LA g d dd met md =
     exec ! C Λ En (after 2 fn.body) (at_ret En Post) $
     sets ! (of_opd ! (unit_lit !)) refl (tt, tt) $
     returns ! (look_at ! 0 refl) $ free_all ! refl $
-    feq_i ! (List Val) (vunit ∷ []) (vunit ∷ []) refl $ nothing ! $ nothing ! $ nothing ! $
-    fjoin ! $ nothing ! $ fjoin ! $ nothing ! $ fjoin ! $ nothing ! $ fjoin ! $
+    feq_i ! (List Val) (vunit ∷ []) (vunit ∷ []) refl $ nothing ! $ blank ! 4 $
     move ! (3 ∷ 0 ∷ 2 ∷ 1 ∷ []) $
     by ! (leaves 𝓛 En₀ hs c z vunit tt (tt, (tt, (tt, (tt, tt))))
-    (tt, (tt, (tt, (tt, tt)))))))))))))))
+    (tt, (tt, (tt, (tt, tt))))))))))))

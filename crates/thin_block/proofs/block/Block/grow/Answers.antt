@@ -1,13 +1,14 @@
 -- The slots laid in a larger row are the old ones and empty ones.
-use Rattle.std.proofs.Common.{◌∙◌, arith}
+use Rattle.std.proofs.Common.{arith}
+use Rattle.thin_block.proofs.BlockLemmas.{slots-are}
 use Rattle.thin_block.proofs.SlotsLemmas.{packed-grown}
 use Rattle.thin_block.proofs.Outcomes.{on-ok}
 use Rattle.thin_block.proofs.block.Block.grow.Goals as goal
 
 -- the items in a larger row are the old row and empty slots
-pub returns-in_default-clause-slots : goal.returns-in_default-clause-slots
-returns-in_default-clause-slots g c =
+pub returns-in_default-clause-ok : goal.returns-in_default-clause-ok
+returns-in_default-clause-ok g c =
     let larger = c.requires.larger in
     on-ok c.remake.result
-    (λ e. e ∙ packed-grown c.args.self.now.slots c.args.self.now.len c.requires.packed
-    c.args.cap (omega arith)) c.remake.ensures.slots
+    (λ e. slots-are e (packed-grown c.args.self.now.slots c.args.self.now.len c.requires.packed
+    c.args.cap (omega arith))) c.remake.ensures.ok

@@ -1,43 +1,37 @@
 -- `move_overlapping` takes the run and the gap beside it out of the row, lets the items slide into
 -- the gap, and puts both back. Assumes `Logic`.
-use Rattle.std.proofs.Common.{◌≡◌, ℕ, Some, None, ◌+◌, ◌*◌, ◌^◌, ◌<◌, ◌≤◌, List, ◌∷◌, [], ◌++◌, length, refl, sym, ap, subst, ◌∙◌, arith, w64}
+use Rattle.std.proofs.Common.{◌≡◌, ℕ, Some, ◌+◌, ◌*◌, ◌^◌, ◌<◌, ◌≤◌, List, ◌∷◌, [], ◌++◌, length, refl, sym, ap, subst, ◌∙◌, arith, w64}
 use lib.ListN.{length-map}
 use lib.Dec.{T as Holds}
-use mir.Syntax.{Fn, ty_unit}
+use mir.Syntax.{ty_unit}
 use mir.Val.{Val, WT, has_ty, vint, vptr, vunit}
 use mir.MapTy.{inst_fn}
-use base.Logic.{SProp, emp}
+use base.Logic.{emp}
 use base.Fml.{Lft, Share, Fml, ftrue, fsep, flft}
-use prog.Wp.{Env, WpFn}
 use contract.BorrowLft.{◌⊑◌}
 use contract.Monad.{fact, fact_i}
-use contract.Running.{tables}
-use types.Kit.{‵, raw, ◌⊛◌, some as exists, later, pick, await, prop, at_ret, ◌$◌, ◌∵◌, !, qed, move, keep, drop, use0, use1, use2, split, split3, join, fsplit, fsplit3, fjoin, fjoin3, feq_i, rewrite, regoal, suffices, done}
-use types.Part.{whole, sub, look_in}
-use types.Run.{stop, fld, load, lit, bin, size_word, unit_lit, of_opd, no_more, and_then, first, blocks, exec, returns, enter}
-use types.ByLocal.{alloc_all, pass_all, free_all, look_at, through, is, sets, lands_last, env, get}
+use types.Kit.{‵, raw, ◌⊛◌, some as exists, later, pick, await, ◌$◌, !, move, drop, use0, use1, use2, split, join, suffices, done}
+use types.Run.{bin, unit_lit, of_opd, no_more, and_then, first, blocks, returns}
+use types.ByLocal.{alloc_all, pass_all, free_all, look_at, sets, lands_last, get}
 use denote.Builtin.{usize}
-use denote.RattleType.{RattleType, owns}
+use denote.RattleType.{owns}
 use denote.RawPtr.{RawPtr, block_ptr}
-use denote.Signature.{plain, types_at}
-use denote.Steps.{nothing, heard}
+use denote.Steps.{nothing}
 use denote.Triple.Call.{calls_at_last}
-use denote.Triple.Walked.{Stays, stay_ref, stay_dropped, walk_of, Goes-dropped, Goes-ref, ends_at}
-use Rattle.std.specs.Prelude.{Option, IsSome}
+use denote.Triple.Walked.{walk_of, ends_at}
+use Rattle.std.specs.Prelude.{Option}
 use Rattle.std.proofs.raw_atomic.Walks.{proved_at}
-use Rattle.core.proofs.alloc.Calls.{Al}
 use Rattle.core.proofs.atomic.Steps.{fm as framed}
-use Rattle.core.proofs.mem.Param.{El, R}
-use Rattle.core.proofs.slots.Leases.{uncapped}
+use Rattle.core.proofs.mem.Param.{R}
 use Rattle.thin_block.specs.Cost.{moving}
 use Rattle.thin_block.specs.Lends.{with_slots}
 use Rattle.thin_block.specs.Ownership.{places}
-use Rattle.thin_block.specs.Slots.{slot, moved}
-use Rattle.thin_block.proofs.Walks.{slot_at, after, says_all}
+use Rattle.thin_block.specs.Slots.{moved}
+use Rattle.thin_block.proofs.Walks.{says_all}
 use Rattle.thin_block.proofs.SlotsLemmas.{full-run, length-run}
-use Rattle.thin_block.proofs.HeaderMemory.{args, Br, header, t, block_opens, block_closes}
+use Rattle.thin_block.proofs.HeaderMemory.{args, Br}
 use Rattle.thin_block.proofs.SlotMemory.{sz, reach}
-use Rattle.std.specs.Prelude.{◌⊎◌, Bool}
+use Rattle.std.specs.Prelude.{Bool}
 use types.Kit.{feq_l}
 use base.Logic.{id⊢}
 use denote.Builtin.{bool, unit}
@@ -53,6 +47,8 @@ use Rattle.thin_block.proofs.SlotsLemmas.{length-moved}
 use Rattle.thin_block.proofs.ShiftMemory.{slides, distance, shifted}
 use Rattle.thin_block.proofs.shifts.slide.Met as slide_met
 use Rattle.thin_block.specs.contracts.shifts.slide as slide
+use Rattle.thin_block.proofs.Methods.{item, source, others, block_stays, goes, begins, enters, closes_over, token_out, leaves_unit, ptr_of, opens_self, continues, word}
+use Rattle.thin_block.proofs.Addresses.{near, its_ptr, slot_found, moves_on}
 use Rattle.thin_block.specs.contracts.block.Block.move_overlapping.{ended, clauses}
 use Rattle.thin_block.specs.contracts.block.Block.move_overlapping.Key.{name as #self}
 use Rattle.thin_block.proofs.block.Block.move_overlapping.Statement.{statement}
@@ -60,68 +56,20 @@ use Rattle.thin_block.proofs.block.Block.move_overlapping.Code as compiled
 
 pub move_overlapping_spec : {M : Type 1} → statement M
 move_overlapping_spec 𝓤 𝓛 𝓜 𝓡 wired T A LT LA g d dd met md =
-    let H = 𝓛.H in
-    let E : El = record { row = T; laws = LT } in
-    let Y : Al = record { row = A; laws = LA; g = g; d = d; drops = dd } in
-    let B : RattleType = Br E Y in
-    let En₀ = ended T A g d dd in
-    let ps = En₀.signature.params in
-    let c = clauses T A g d dd 𝓛 𝓜.mem 𝓡.returns in
-    let fn : Fn = inst_fn (args E Y) compiled.function in
-    let hs : Stays ps En₀.kept = (
-      stay_ref (0 ∷ []) tt (plain (λ _. B)),
-      (
-        stay_dropped (slot_at 1 ps) En₀.kept.1.0,
-        (
-          stay_dropped (slot_at 2 ps) En₀.kept.1.1.0,
-          (stay_dropped (slot_at 3 ps) En₀.kept.1.1.1.0, tt),
-        ),
-      ),
-    ) in
-    let 𝓣 = tables 𝓤 H 𝓜 𝓡 𝓡.env in
-    proved_at 𝓛 En₀ hs c 𝓜 𝓡 (
-      Goes-ref 𝓛 3 0 tt (plain (λ _. B)),
-      (
-        Goes-dropped 𝓛 3 (slot_at 1 ps) En₀.kept.1.0 (λ κs x f. refl),
-        (
-          Goes-dropped 𝓛 3 (slot_at 2 ps) En₀.kept.1.1.0 (λ κs x f. refl),
-          (Goes-dropped 𝓛 3 (slot_at 3 ps) En₀.kept.1.1.1.0 (λ κs x f. refl), tt),
-        ),
-      ),
-    )
-    (#self (args E Y)) fn (compiled.unfolded 𝓤 H 𝓜 𝓡 wired (T, (A, tt)) d dd) (λ z are.
-    let Post : Val → SProp 𝓤 = (walk_of 𝓛 En₀ hs c).post z in
-    let a = z.0.3 in
-    let vss = z.0.4 in
-    let κ : Lft = z.0.0.0 in
-    let q : Share = z.0.1.0 in
-    let x = a.0.now in
-    let rb : ℕ = a.0.ref_ptr.0 in
-    let ro : ℕ = a.0.ref_ptr.1 in
-    let κ₁ : Lft = z.0.0.1.0 in
-    let q₁ : Share = z.0.1.1.0 in
-    let from : ℕ = a.1.0 in
-    let to : ℕ = a.1.1.0 in
-    let k : ℕ = a.1.1.1.0 in
-    let s : ℕ = sz E in
-    let cap : ℕ = length x.slots in
-    let Source : Type 0 = from + k ≤ cap in
-    let Target : Type 0 = to + k ≤ cap in
-    let Filled : Type 0 = (i : ℕ) → from ≤ i → i < from + k → IsSome (slot x.slots i) in
-    let Bare : Type 0 = (i : ℕ) → to ≤ i → i < to + k → (i < from) ⊎ (from + k ≤ i)
-    → slot x.slots i ≡ None in
-    let Above : Type 0 = to < from + k in
-    let Below : Type 0 = from < to + k in
-    qed 𝓛 (((‵ (flft κ q) ⊛ ‵ (flft κ₁ q₁) ⊛ ‵ (flft z.0.0.1.1.0 z.0.1.1.1.0) ⊛ ‵ ftrue) ⊛ ‵
-    (owns (types_at ps z.0.0) a vss))
-    ∷ (raw (fact 𝓤 (κ₁ ⊑ T.lives)) ⊛ raw (fact 𝓤 (z.0.0.1.1.0 ⊑ A.lives)) ⊛ raw (fact 𝓤 Source)
-    ⊛ raw (fact 𝓤 Target) ⊛ raw (fact 𝓤 Filled) ⊛ raw (fact 𝓤 Bare) ⊛ raw (fact 𝓤 Above) ⊛ raw
-    (fact 𝓤 Below)) ∷ []) ∵
-    move ! (1 ∷ []) $ split3 ! $
-    heard ! (κ₁ ⊑ T.lives)
-    (λ lives. drop ! $ split3 ! $ heard ! Source (λ source. heard ! Target (λ target. split3 ! $
-    heard ! Filled (λ filled. heard ! Bare
-    (λ bare. split ! $ heard ! Above (λ above. heard ! Below (λ below.
+    let E = item LT in let Y = source LA g d dd in let En₀ = ended T A g d dd in
+    let c = clauses T A g d dd 𝓛 𝓜.mem 𝓡.returns in let ss = others En₀.signature.params in
+    let hs = block_stays E Y ss En₀.kept.1 in let fn = inst_fn (args E Y) compiled.function in
+    proved_at 𝓛 En₀ hs c 𝓜 𝓡
+    (goes E Y ss 𝓛 En₀.kept.1 ((λ κs x f. refl), ((λ κs x f. refl), ((λ κs x f. refl), tt))))
+    (#self (args E Y)) fn (compiled.unfolded 𝓤 𝓛.H 𝓜 𝓡 wired (T, (A, tt)) d dd) (λ z are.
+    let r = z.0.3.0 in let x = r.now in let cap : ℕ = length x.slots in
+    let from : ℕ = z.0.3.1.0 in let to : ℕ = z.0.3.1.1.0 in let k : ℕ = z.0.3.1.1.1.0 in
+    let κ₁ : Lft = z.0.0.1.0 in let q₁ : Share = z.0.1.1.0 in
+    begins E Y 𝓛 ss z.0 (_ ∷ _ ∷ _ ∷ _ ∷ _ ∷ _ ∷ _ ∷ _ ∷ []) (λ said.
+    let lives = said.0 in let source : from + k ≤ cap = said.1.1.0 in
+    let target : to + k ≤ cap = said.1.1.1.0 in let filled = said.1.1.1.1.0 in
+    let bare = said.1.1.1.1.1.0 in let above = said.1.1.1.1.1.1.0 in
+    let below = said.1.1.1.1.1.1.1 in
     let items = full-run x.slots from k source filled in
     let xs : List T.Denot = items.0 in
     let long : length xs ≡ k = sym (length-map xs Some) ∙ ap length (sym items.1)
@@ -129,43 +77,19 @@ move_overlapping_spec 𝓤 𝓛 𝓜 𝓡 wired T A LT LA g d dd met md =
     let ff = are.1.0.1 in
     let ft = are.1.1.0.1 in
     let fk = are.1.1.1.0.1 in
-    split ! $ split ! $ move ! (2 ∷ []) $ fsplit ! $ fsplit3 ! $ keep ! (1 ∷ 2 ∷ 4 ∷ 5 ∷ []) $
-    regoal ! (λ (us : List Val). prop (WpFn 𝓤 H 𝓣.C 𝓣.Λ fn us Post))
-    (λ n. are.0.0 n ++ (are.1.0.0 n ++ (are.1.1.0.0 n ++ (are.1.1.1.0.0 n ++ [])))) refl $
-    enter ! 𝓣.C 𝓣.Λ fn (vptr rb ro ∷ vint w64 from ∷ vint w64 to ∷ vint w64 k ∷ []) Post $
-    alloc_all ! (λ l. pass_all ! refl (
-      (tt, tt),
-      (
-        (tt, record { fits = ff }),
-        ((tt, record { fits = ft }), ((tt, record { fits = fk }), tt)),
-      ),
-    ) $
-    let En : Env 𝓤 H = env fn.locals l in
-    block_opens E Y ! tt x rb ro (λ b o at fits.
-    -- [the header; the slots; the block's cell; the open borrow, in three entries; the other
-    -- tokens]
+    enters ! fn (ptr_of r ∷ vint w64 from ∷ vint w64 to ∷ vint w64 k ∷ [])
+    (λ n. are.0.0 n ++ (are.1.0.0 n ++ (are.1.1.0.0 n ++ (are.1.1.1.0.0 n ++ [])))) $
+    alloc_all ! (λ l. pass_all ! refl ((tt, tt), (word ff, (word ft, (word fk, tt)))) $
+    opens_self E Y ! tt r (λ b o at fits.
+    let s : ℕ = sz E in
     let src : ℕ = from * s + (o + 16) in
     let dst : ℕ = to * s + (o + 16) in
-    let near_from : from * s < 2 ^ 63 = reach (R E) from cap fits (omega arith) in
-    let near_to : to * s < 2 ^ 63 = reach (R E) to cap fits (omega arith) in
     let light : k * s < 2 ^ 63 = reach (R E) k cap fits (omega arith) in
-    let fm : from * s < 2 ^ 64 = omega arith in
-    let fm' : to * s < 2 ^ 64 = omega arith in
-    sets ! (of_opd ! (load ! (through ! refl (fld ! refl (stop !)))
-    (look_in ! 2 (sub ! 0 refl (whole !))))) refl (tt, tt) $
-    first ! $ blocks ! $
-    sets ! (is ! (bin ! (get ! refl) (lit ! tt) tt)
-    (ap (vptr b) (let turned : 16 + o ≡ o + 16 = omega arith in turned))) refl (tt, tt) $
-    sets ! (of_opd ! (get ! refl)) refl (tt, tt) $
-    sets ! (is ! (bin ! (get ! refl) (size_word !)
-    (record { fits = subst (λ (n : ℕ). n < 2 ^ 64) (sym (uncapped from s fm)) fm }))
-    (ap (vint w64) (uncapped from s fm))) refl (tt, record { fits = fm }) $
-    sets ! (bin ! (get ! refl) (get ! refl) tt) refl (tt, tt) $
-    sets ! (of_opd ! (get ! refl)) refl (tt, tt) $
-    sets ! (is ! (bin ! (get ! refl) (size_word !)
-    (record { fits = subst (λ (n : ℕ). n < 2 ^ 64) (sym (uncapped to s fm')) fm' }))
-    (ap (vint w64) (uncapped to s fm'))) refl (tt, record { fits = fm' }) $
-    sets ! (bin ! (get ! refl) (get ! refl) tt) refl (tt, tt) $
+    let fm = near E x.slots from fits (omega arith) in
+    let fm' = near E x.slots to fits (omega arith) in
+    sets ! (of_opd ! (its_ptr E Y ! refl)) refl (tt, tt) $ first ! $ blocks ! $
+    slot_found E ! b o from fm refl ((tt, tt), (tt, tt)) $
+    sets ! (of_opd ! (get ! refl)) refl (tt, tt) $ moves_on E ! b (o + 16) to fm' refl (tt, tt) $
     let up : Bool = ltb from to in
     let far : ℕ = distance E 𝓛 b (o + 16) x.slots from to k xs items.1 long up in
     let p = slides E 𝓛 b (o + 16) x.slots from to k xs items.1 long source target
@@ -178,7 +102,7 @@ move_overlapping_spec 𝓤 𝓛 𝓜 𝓡 wired T A LT LA g d dd met md =
     let fits_k : Fits = omega arith in
     sets ! (bin ! (get ! refl) (get ! refl) tt) refl (tt, tt) $
     move ! (1 ∷ []) $ use1 𝓛 (‵ Before ⊛ ‵ p.Rest) p.out $ split ! $ move ! (7 ∷ []) $
-    split ! $ move ! (2 ∷ 0 ∷ []) $
+    token_out ! 1 z.0.0.1 z.0.1.1 $ move ! (2 ∷ 0 ∷ []) $
     -- [the items and the gap; the token of T; the last token; the other slots; the header; the
     -- cell; the open borrow, in three entries]
     let G = triple_of 𝓛 (slide.signature T) (slide.spec T 𝓛 𝓜.mem 𝓡.returns) in
@@ -207,28 +131,22 @@ move_overlapping_spec 𝓤 𝓛 𝓜 𝓡 wired T A LT LA g d dd met md =
     (λ (r : Unit {0}). ((‵ (flft κ₁ q₁) ⊛ ‵ ftrue) ⊛ ‵ (unit.own_val r (v ∷ [])))
     ⊛ exists (λ (ws : Unit {0} × (Unit {0} × (Unit {0} × (Unit {0} × Unit {0})))). ‵
     (fsep ftrue (fsep ftrue (fsep ftrue (fsep ftrue ftrue)))) ⊛ ‵ After)))) (id⊢ 𝓤 _) $
-    await ! tt $ pick ! (λ r. split ! $ split ! $ move ! (1 ∷ []) $
+    await ! tt $ pick ! (λ u. split ! $ split ! $ move ! (1 ∷ []) $
     feq_l ! (λ e. move ! (1 ∷ []) $
     pick ! (λ ws. split ! $ drop ! $ move ! (1 ∷ []) $ split ! $ move ! (1 ∷ []) $
     drop ! $ move ! (1 ∷ 0 ∷ []) $
     -- [what is left of both; the token of T; the last token; ..]
     lands_last ! refl (subst (λ (u : Val). Holds (has_ty ty_unit u) × WT u)
     (sym (ap only e)) (tt, tt)) $
-    exec ! 𝓣.C 𝓣.Λ En (after 2 fn.body) (at_ret En Post) $
+    continues ! 𝓜 𝓡 fn l 2 ((walk_of 𝓛 En₀ hs c).post z) $
     sets ! (of_opd ! (unit_lit !)) refl (tt, tt) $
     move ! (0 ∷ 3 ∷ []) $
     let gone : List (Option T.Denot) = moved from to k x.slots in
     let same : length gone ≡ cap = length-moved from to k x.slots source target in
-    let y : B.Denot = record (with_slots x gone same) { cost = moving k x.cost } in
-    use2 𝓛 (‵ (places (R E) gone b (o + 16))) p.back $ move ! (3 ∷ 0 ∷ 4 ∷ 5 ∷ 6 ∷ 7 ∷ []) $
-    rewrite ! 0 (λ (n : ℕ). ‵ (header (t E Y) (R E) x.len n x.alloc b o)) (sym same) refl $
-    block_closes E Y ! tt y b o rb ro at $
-    -- [the `&mut`, in two entries; its token; the token of T; the last token]
-    returns ! (look_at ! 0 refl) $ free_all ! refl $
-    feq_i ! (List Val) vss.0 (vptr rb ro ∷ []) are.0.0 $ fjoin3 ! $ nothing ! $ nothing ! $
-    fjoin ! $ nothing ! $ fjoin ! $ nothing ! $ fjoin ! $ move ! (1 ∷ 0 ∷ []) $ fjoin ! $
-    feq_i ! (List Val) (vunit ∷ []) (vunit ∷ []) refl $ move ! (1 ∷ 0 ∷ []) $ join ! $
-    move ! (2 ∷ 3 ∷ []) $ join ! $ move ! (2 ∷ 0 ∷ []) $ join ! $ join ! $
+    let y : (Br E Y).Denot = record (with_slots x gone same) { cost = moving k x.cost } in
+    use2 𝓛 (‵ (places (R E) gone b (o + 16))) p.back $ move ! (0 ∷ 3 ∷ 4 ∷ 5 ∷ 6 ∷ 7 ∷ []) $
+    closes_over E Y ! tt r y b o at same $
+    returns ! (look_at ! 0 refl) $ free_all ! refl $ move ! (3 ∷ 4 ∷ []) $ join ! $
+    move ! (1 ∷ 2 ∷ 3 ∷ 0 ∷ []) $ leaves_unit E Y ! r y 3 are.0.0 $
     suffices ! _ (ends_at 𝓛 En₀ hs c z vunit tt (y, (tt, (tt, (tt, tt))))
-    (tt, (tt, (tt, (tt, tt))))) $ says_all ! (_ ∷ _ ∷ _ ∷ _ ∷ []) (refl, (refl, (refl, refl))) $
-    done !))))))))))))))
+    (tt, (tt, (tt, (tt, tt))))) $ says_all ! (_ ∷ []) refl $ done !))))))))

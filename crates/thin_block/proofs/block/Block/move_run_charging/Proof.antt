@@ -15,8 +15,8 @@ use contract.Monad.{fact}
 use contract.Running.{tables}
 use types.Kit.{‵, raw, ◌⊛◌, given, later, prop, at_ret, ◌$◌, ◌∵◌, !, qed, move, keep, drop, use1, use2, use3, split, split3, join, fsplit, fsplit3, fjoin, fjoin3, feq_i, rewrite, regoal, learn, await, suffices, done}
 use types.Part.{whole, sub, look_in}
-use types.Run.{stop, fld, load, lit, bin, size_word, unit_lit, of_opd, no_more, and_then, first, blocks, exec, returns, enter}
-use types.ByLocal.{alloc_all, pass_all, free_all, look_at, through, is, sets, lands_last, env, get}
+use types.Run.{stop, fld, load, unit_lit, of_opd, no_more, and_then, first, blocks, exec, returns, enter}
+use types.ByLocal.{alloc_all, pass_all, free_all, look_at, through, sets, lands_last, env, get}
 use denote.Array.{Array}
 use denote.Memory.{part_at}
 use denote.RattleType.{RattleType, owns}
@@ -32,7 +32,6 @@ use Rattle.core.proofs.alloc.Moves.{Copies, at_copies, Copies-goes, Copies-gives
 use Rattle.core.proofs.atomic.Steps.{fm as framed}
 use Rattle.core.proofs.mem.Param.{El, R}
 use Rattle.core.proofs.ptr.copy_nonoverlapping.Met as copy_met
-use Rattle.core.proofs.slots.Leases.{uncapped}
 use Rattle.thin_block.specs.Cost.{Cost}
 use Rattle.thin_block.specs.Lends.{with_slots}
 use Rattle.thin_block.specs.Ownership.{places}
@@ -41,6 +40,8 @@ use Rattle.thin_block.proofs.Walks.{slot_at, after, says_all}
 use Rattle.thin_block.proofs.SlotsLemmas.{full-run, empty-run, length-run, length-laid}
 use Rattle.thin_block.proofs.HeaderMemory.{args, Br, header, t, block_opens, block_closes}
 use Rattle.thin_block.proofs.SlotMemory.{sz, reach, around, run_out, run_in, to_items, of_items, to_room, of_room}
+use Rattle.thin_block.specs.Block.{seen}
+use Rattle.thin_block.proofs.Addresses.{near, slot_found}
 use Rattle.thin_block.specs.contracts.block.Block.move_run_charging.{ended, clauses}
 use Rattle.thin_block.specs.contracts.block.Block.move_run_charging.Key.{name as #self}
 use Rattle.thin_block.proofs.block.Block.move_run_charging.Statement.{statement}
@@ -145,30 +146,15 @@ move_run_charging_spec 𝓤 𝓛 𝓜 𝓡 wired T A LT LA g d dd met md =
     -- slots; cell; borrow; the other tokens]
     let src : ℕ = from * s + (o + 16) in
     let dst : ℕ = to * s + (o' + 16) in
-    let near : from * s < 2 ^ 63 = reach (R E) from (length x.slots) fits (omega arith) in
-    let near' : to * s < 2 ^ 63 = reach (R E) to (length y.slots) fits' (omega arith) in
     let light : k * s < 2 ^ 63 = reach (R E) k (length x.slots) fits (omega arith) in
-    let fm : from * s < 2 ^ 64 = omega arith in
-    let fm' : to * s < 2 ^ 64 = omega arith in
+    let fm = near E x.slots from fits (omega arith) in
+    let fm' = near E y.slots to fits' (omega arith) in
     sets ! (of_opd ! (load ! (through ! refl (fld ! refl (stop !)))
     (look_in ! 8 (sub ! 0 refl (whole !))))) refl (tt, tt) $
     sets ! (of_opd ! (load ! (through ! refl (fld ! refl (stop !)))
     (look_in ! 2 (sub ! 0 refl (whole !))))) refl (tt, tt) $
-    first ! $ blocks ! $
-    sets ! (is ! (bin ! (get ! refl) (lit ! tt) tt)
-    (ap (vptr b) (let turned : 16 + o ≡ o + 16 = omega arith in turned))) refl (tt, tt) $
-    sets ! (of_opd ! (get ! refl)) refl (tt, tt) $
-    sets ! (is ! (bin ! (get ! refl) (size_word !)
-    (record { fits = subst (λ (k : ℕ). k < 2 ^ 64) (sym (uncapped from s fm)) fm }))
-    (ap (vint w64) (uncapped from s fm))) refl (tt, record { fits = fm }) $
-    sets ! (bin ! (get ! refl) (get ! refl) tt) refl (tt, tt) $
-    sets ! (is ! (bin ! (get ! refl) (lit ! tt) tt)
-    (ap (vptr b') (let turned : 16 + o' ≡ o' + 16 = omega arith in turned))) refl (tt, tt) $
-    sets ! (of_opd ! (get ! refl)) refl (tt, tt) $
-    sets ! (is ! (bin ! (get ! refl) (size_word !)
-    (record { fits = subst (λ (k : ℕ). k < 2 ^ 64) (sym (uncapped to s fm')) fm' }))
-    (ap (vint w64) (uncapped to s fm'))) refl (tt, record { fits = fm' }) $
-    sets ! (bin ! (get ! refl) (get ! refl) tt) refl (tt, tt) $
+    first ! $ blocks ! $ slot_found E ! b o from fm refl ((tt, tt), (tt, tt)) $
+    slot_found E ! b' o' to fm' refl ((tt, tt), (tt, tt)) $
     move ! (1 ∷ []) $ use1 𝓛
     (‵ (places (R E) (empty k) b' dst) ⊛ ‵ (around E 𝓛 b' (o' + 16) y.slots to k))
     (run_out E 𝓛 b' (o' + 16) y.slots to k target (empty k)
@@ -232,19 +218,8 @@ move_run_charging_spec 𝓤 𝓛 𝓜 𝓡 wired T A LT LA g d dd met md =
     move ! (2 ∷ 0 ∷ []) $ join ! $ join ! $
     suffices ! _ (ends_at 𝓛 En₀ hs c z vunit tt (x', (tt, (y', (tt, (tt, tt)))))
     (tt, (tt, (tt, (tt, (tt, tt)))))) $
-    says_all ! (_ ∷ _ ∷ _ ∷ _ ∷ _ ∷ _ ∷ _ ∷ _ ∷ []) (
+    says_all ! (_ ∷ _ ∷ []) (
       refl,
-      (
-        refl,
-        (
-          refl,
-          (
-            refl,
-            (
-              ap (λ (ys : List (Option T.Denot)). laid to ys y.slots) (sym items.1),
-              (refl, (refl, refl)),
-            ),
-          ),
-        ),
-      ),
+      ap (λ (ys : List (Option T.Denot)).
+          record (seen y) { slots = laid to ys y.slots; cost = cost }) (sym items.1),
     ) $ done !)))))))))))

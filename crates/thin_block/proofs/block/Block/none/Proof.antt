@@ -93,4 +93,4 @@ none_spec 𝓤 𝓛 𝓜 𝓡 wired T A LT LA g d dd met md =
     nothing ! $ move ! (1 ∷ 0 ∷ []) $ block_made E Y ! x b 0 refl $
     nothing ! $ move ! (0 ∷ 1 ∷ []) $ join ! $ move ! (1 ∷ 0 ∷ []) $ join ! $
     suffices ! _ (ends_at 𝓛 En₀ hs c z (block_val (block_ptr b 0)) x tt tt) $
-    says_all ! (_ ∷ _ ∷ _ ∷ _ ∷ []) (refl, (refl, (refl, refl))) $ done !)))
+    says_all ! (_ ∷ []) refl $ done !)))

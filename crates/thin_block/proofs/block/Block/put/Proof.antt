@@ -1,37 +1,26 @@
 -- `put` takes the room of one slot out of the row, writes the item there, and puts the filled slot
 -- back. Assumes `Logic`.
-use Rattle.std.proofs.Common.{◌≡◌, ℕ, Some, None, ◌+◌, ◌*◌, ◌^◌, ◌<◌, List, ◌∷◌, [], ◌++◌, length, refl, sym, ap, subst, arith, w64}
+use Rattle.std.proofs.Common.{◌≡◌, ℕ, Some, None, ◌+◌, ◌*◌, ◌<◌, List, ◌∷◌, [], ◌++◌, length, refl, arith, w64}
 use lib.ListN.{set, length-set, get_or}
-use mir.Syntax.{Fn}
-use mir.Val.{Val, vint, vptr, vunit}
+use mir.Val.{Val, vint, vunit}
 use mir.MapTy.{inst_fn}
-use base.Logic.{SProp}
-use base.Fml.{Lft, Share, ftrue, froom, flft}
-use prog.Wp.{Env, WpFn}
-use contract.BorrowLft.{◌⊑◌}
-use contract.Monad.{fact}
-use contract.Running.{tables}
-use types.Kit.{‵, raw, ◌⊛◌, prop, at_ret, ◌$◌, ◌∵◌, !, qed, move, keep, drop, use1, use2, split, split3, join, fsplit, fsplit3, fjoin, fjoin3, feq_i, rewrite, regoal, suffices, done}
-use types.Part.{whole, sub, look_in}
-use types.Run.{stop, fld, load, lit, bin, size_word, init, unit_lit, of_opd, assigns_last, first, blocks, exec, returns, enter}
-use types.ByLocal.{alloc_all, pass_all, free_all, look_at, through, is, sets, env, get}
-use denote.RattleType.{RattleType, owns}
+use base.Fml.{froom}
+use types.Kit.{‵, ◌$◌, !, move, keep, drop, use1, use2, fsplit, rewrite, suffices, done}
+use types.Run.{stop, init, unit_lit, of_opd, assigns_last, first, blocks, returns}
+use types.ByLocal.{alloc_all, pass_all, free_all, look_at, through, sets, get}
 use denote.Param.{layout}
-use denote.Signature.{plain, types_at}
-use denote.Steps.{nothing, heard}
-use denote.Triple.Walked.{Stays, stay_ref, stay_dropped, walk_of, Goes-dropped, Goes-ref, ends_at}
-use Rattle.std.specs.Prelude.{Option}
+use denote.Triple.Walked.{walk_of, ends_at}
 use Rattle.std.proofs.raw_atomic.Walks.{proved_at}
-use Rattle.core.proofs.alloc.Calls.{Al}
-use Rattle.core.proofs.mem.Param.{El, R, lawful, one}
+use Rattle.core.proofs.mem.Param.{R, lawful, one}
 use Rattle.core.proofs.slice.Rows.{el_in}
-use Rattle.core.proofs.slots.Leases.{uncapped}
 use Rattle.thin_block.specs.Cost.{moving}
 use Rattle.thin_block.specs.Lends.{with_slots}
 use Rattle.thin_block.specs.Ownership.{place, places}
-use Rattle.thin_block.proofs.Walks.{slot_at, after, says_all}
-use Rattle.thin_block.proofs.HeaderMemory.{args, Br, header, t, block_opens, block_closes}
-use Rattle.thin_block.proofs.SlotMemory.{sz, reach, besides, slot_out, slot_in}
+use Rattle.thin_block.proofs.Walks.{says_all}
+use Rattle.thin_block.proofs.HeaderMemory.{args, Br}
+use Rattle.thin_block.proofs.Addresses.{near, its_ptr, slot_found, takes_slot}
+use Rattle.thin_block.proofs.Methods.{item, source, others, block_stays, goes, begins_with, enters, closes_over, leaves_unit, ptr_of, opens_self, continues, word}
+use Rattle.thin_block.proofs.SlotMemory.{sz, slot_in}
 use Rattle.thin_block.specs.contracts.block.Block.put.{ended, clauses}
 use Rattle.thin_block.specs.contracts.block.Block.put.Key.{name as #self}
 use Rattle.thin_block.proofs.block.Block.put.Statement.{statement}
@@ -39,101 +28,43 @@ use Rattle.thin_block.proofs.block.Block.put.Code as compiled
 
 pub put_spec : {M : Type 1} → statement M
 put_spec 𝓤 𝓛 𝓜 𝓡 wired T A LT LA g d dd met md =
-    let H = 𝓛.H in
-    let E : El = record { row = T; laws = LT } in
-    let Y : Al = record { row = A; laws = LA; g = g; d = d; drops = dd } in
-    let B : RattleType = Br E Y in
-    let En₀ = ended T A g d dd in
-    let ps = En₀.signature.params in
-    let c = clauses T A g d dd 𝓛 𝓜.mem 𝓡.returns in
-    let fn : Fn = inst_fn (args E Y) compiled.function in
-    let hs : Stays ps En₀.kept = (
-      stay_ref (0 ∷ []) tt (plain (λ _. B)),
-      (
-        stay_dropped (slot_at 1 ps) En₀.kept.1.0,
-        (stay_dropped (slot_at 2 ps) En₀.kept.1.1.0, tt),
-      ),
-    ) in
-    let 𝓣 = tables 𝓤 H 𝓜 𝓡 𝓡.env in
-    proved_at 𝓛 En₀ hs c 𝓜 𝓡 (
-      Goes-ref 𝓛 3 0 tt (plain (λ _. B)),
-      (
-        Goes-dropped 𝓛 3 (slot_at 1 ps) En₀.kept.1.0 (λ κs x f. refl),
-        (Goes-dropped 𝓛 3 (slot_at 2 ps) En₀.kept.1.1.0 (λ κs x f. refl), tt),
-      ),
-    )
-    (#self (args E Y)) fn (compiled.unfolded 𝓤 H 𝓜 𝓡 wired (T, (A, tt)) d dd) (λ z are.
-    let Post : Val → SProp 𝓤 = (walk_of 𝓛 En₀ hs c).post z in
-    let a = z.0.3 in
-    let vss = z.0.4 in
-    let κ : Lft = z.0.0.0 in
-    let q : Share = z.0.1.0 in
-    let x = a.0.now in
-    let rb : ℕ = a.0.ref_ptr.0 in
-    let ro : ℕ = a.0.ref_ptr.1 in
-    let i : ℕ = a.1.0 in
-    let value : T.Denot = a.1.1.0 in
-    let s : ℕ = sz E in
-    let Within : Type 0 = i < length x.slots in
-    let Empty : Type 0 = get_or x.slots i None ≡ None in
-    qed 𝓛 (((‵ (flft κ q) ⊛ ‵ (flft z.0.0.1.0 z.0.1.1.0) ⊛ ‵ (flft z.0.0.1.1.0 z.0.1.1.1.0)
-    ⊛ ‵ ftrue) ⊛ ‵ (owns (types_at ps z.0.0) a vss))
-    ∷ (raw (fact 𝓤 (z.0.0.1.0 ⊑ T.lives)) ⊛ raw (fact 𝓤 (z.0.0.1.1.0 ⊑ A.lives)) ⊛ raw
-    (fact 𝓤 Within) ⊛ raw (fact 𝓤 Empty)) ∷ []) ∵
-    move ! (1 ∷ []) $ split3 ! $ drop ! $ drop ! $ split ! $
-    heard ! Within (λ within. heard ! Empty (λ empty.
-    let got = one E vss.1.1.0 ((lawful E 𝓛).typed value vss.1.1.0 are.1.1.0) in
-    let v : Val = got.0 in
-    let good = got.2 in
-    let fi = are.1.0.1 in
-    split ! $ split ! $ move ! (2 ∷ []) $ fsplit ! $ fsplit3 ! $ move ! (3 ∷ []) $ fsplit ! $
-    move ! (1 ∷ []) $ fsplit ! $ keep ! (4 ∷ 5 ∷ 6 ∷ 7 ∷ 0 ∷ []) $
+    let E = item LT in let Y = source LA g d dd in let En₀ = ended T A g d dd in
+    let c = clauses T A g d dd 𝓛 𝓜.mem 𝓡.returns in let ss = others En₀.signature.params in
+    let hs = block_stays E Y ss En₀.kept.1 in let fn = inst_fn (args E Y) compiled.function in
+    proved_at 𝓛 En₀ hs c 𝓜 𝓡 (goes E Y ss 𝓛 En₀.kept.1 ((λ κs x f. refl), ((λ κs x f. refl), tt)))
+    (#self (args E Y)) fn (compiled.unfolded 𝓤 𝓛.H 𝓜 𝓡 wired (T, (A, tt)) d dd) (λ z are.
+    let r = z.0.3.0 in let x = r.now in let i : ℕ = z.0.3.1.0 in
+    let value : T.Denot = z.0.3.1.1.0 in
+    let got = one E z.0.4.1.1.0 ((lawful E 𝓛).typed value z.0.4.1.1.0 are.1.1.0) in
+    let v : Val = got.0 in let good = got.2 in
+    begins_with E Y 𝓛 ss z.0 (_ ∷ _ ∷ _ ∷ _ ∷ []) (λ said.
+    let within : i < length x.slots = said.1.1.0 in
+    let empty : get_or x.slots i None ≡ None = said.1.1.1 in
+    move ! (4 ∷ []) $ fsplit ! $ drop ! $ fsplit ! $ keep ! (2 ∷ 3 ∷ 4 ∷ 5 ∷ 0 ∷ []) $
     rewrite ! 4 (λ (us : List Val). ‵ (T.own_val value us)) got.1 refl $
-    regoal ! (λ (us : List Val). prop (WpFn 𝓤 H 𝓣.C 𝓣.Λ fn us Post))
-    (λ k. are.0.0 k ++ (are.1.0.0 k ++ (got.1 k ++ []))) refl $
-    enter ! 𝓣.C 𝓣.Λ fn (vptr rb ro ∷ vint w64 i ∷ v ∷ []) Post $
-    alloc_all ! (λ l. pass_all ! refl ((tt, tt), ((tt, record { fits = fi }), (good, tt))) $
-    let En : Env 𝓤 H = env fn.locals l in
-    block_opens E Y ! tt x rb ro (λ b o at fits.
-    -- [the header; the slots; the block's cell; the open borrow, in three entries; the other
-    -- tokens; what the item owns]
-    let here : ℕ = i * s + (o + 16) in
-    let near : i * s < 2 ^ 63 = reach (R E) i (length x.slots) fits (omega arith) in
-    let fm : i * s < 2 ^ 64 = omega arith in
-    sets ! (of_opd ! (load ! (through ! refl (fld ! refl (stop !)))
-    (look_in ! 2 (sub ! 0 refl (whole !))))) refl (tt, tt) $
-    first ! $ blocks ! $
-    sets ! (is ! (bin ! (get ! refl) (lit ! tt) tt)
-    (ap (vptr b) (let turned : 16 + o ≡ o + 16 = omega arith in turned))) refl (tt, tt) $
-    sets ! (of_opd ! (get ! refl)) refl (tt, tt) $
-    sets ! (is ! (bin ! (get ! refl) (size_word !)
-    (record { fits = subst (λ (k : ℕ). k < 2 ^ 64) (sym (uncapped i s fm)) fm }))
-    (ap (vint w64) (uncapped i s fm))) refl (tt, record { fits = fm }) $
-    sets ! (bin ! (get ! refl) (get ! refl) tt) refl (tt, tt) $
-    move ! (1 ∷ []) $ use1 𝓛
-    (‵ (place (R E) (get_or x.slots i None) b here) ⊛ ‵ (besides E 𝓛 b (o + 16) x.slots i))
-    (slot_out E 𝓛 b (o + 16) x.slots i within) $ split ! $
-    rewrite ! 0 (λ (y : Option T.Denot). ‵ (place (R E) y b here)) empty refl $
+    enters ! fn (ptr_of r ∷ vint w64 i ∷ v ∷ [])
+    (λ k. are.0.0 k ++ (are.1.0.0 k ++ (got.1 k ++ []))) $
+    alloc_all ! (λ l. pass_all ! refl ((tt, tt), (word are.1.0.1, (good, tt))) $
+    opens_self E Y ! tt r (λ b o at fits. let fm = near E x.slots i fits (omega arith) in
+    sets ! (of_opd ! (its_ptr E Y ! refl)) refl (tt, tt) $ first ! $ blocks ! $
+    slot_found E ! b o i fm refl ((tt, tt), (tt, tt)) $
+    let here : ℕ = i * sz E + (o + 16) in
+    takes_slot E ! b (o + 16) x.slots i within empty $
     use1 𝓛 (‵ (froom (layout T) b here)) (𝓛.laws.raw-room (layout T) b here) $
     -- [the room; the other slots; the header; the cell; the open borrow, in three entries; the
     -- other tokens; what the item owns]
     sets ! (of_opd ! (get ! refl)) refl good $
     assigns_last ! (of_opd ! (get ! refl)) (through ! refl (stop !)) (init ! 0 refl good) $
-    exec ! 𝓣.C 𝓣.Λ En (after 2 fn.body) (at_ret En Post) $
+    continues ! 𝓜 𝓡 fn l 2 ((walk_of 𝓛 En₀ hs c).post z) $
     sets ! (of_opd ! (unit_lit !)) refl (tt, tt) $
     move ! (0 ∷ 8 ∷ []) $ use2 𝓛 (‵ (place (R E) (Some value) b here)) (el_in E 𝓛 b value here v) $
-    let filled : List (Option T.Denot) = set x.slots i (Some value) in
-    let long : length filled ≡ length x.slots = length-set x.slots i (Some value) in
-    let y : B.Denot = record (with_slots x filled long) { cost = moving 1 x.cost } in
-    use2 𝓛 (‵ (places (R E) filled b (o + 16)))
+    let long = length-set x.slots i (Some value) in
+    let z₀ : (Br E Y).Denot = with_slots x (set x.slots i (Some value)) long in
+    let y : (Br E Y).Denot = record z₀ { cost = moving 1 x.cost } in
+    use2 𝓛 (‵ (places (R E) y.slots b (o + 16)))
     (slot_in E 𝓛 b (o + 16) x.slots i within (Some value)) $
-    rewrite ! 1 (λ (k : ℕ). ‵ (header (t E Y) (R E) x.len k x.alloc b o)) (sym long) refl $
-    move ! (1 ∷ 0 ∷ []) $ block_closes E Y ! tt y b o rb ro at $
-    -- [the `&mut`, in two entries; its token; the other tokens]
+    closes_over E Y ! tt r y b o at long $
     returns ! (look_at ! 0 refl) $ free_all ! refl $
-    feq_i ! (List Val) vss.0 (vptr rb ro ∷ []) are.0.0 $ fjoin3 ! $ nothing ! $ nothing ! $
-    fjoin ! $ nothing ! $ fjoin ! $ move ! (1 ∷ 0 ∷ []) $ fjoin ! $
-    feq_i ! (List Val) (vunit ∷ []) (vunit ∷ []) refl $ move ! (1 ∷ 0 ∷ []) $ join ! $
-    move ! (1 ∷ 2 ∷ []) $ join ! $ join ! $
+    leaves_unit E Y ! r y 2 are.0.0 $
     suffices ! _ (ends_at 𝓛 En₀ hs c z vunit tt (y, (tt, (tt, tt))) (tt, (tt, (tt, tt)))) $
-    says_all ! (_ ∷ _ ∷ _ ∷ _ ∷ []) (refl, (refl, (refl, refl))) $ done !)))))
+    says_all ! (_ ∷ []) refl $ done !))))

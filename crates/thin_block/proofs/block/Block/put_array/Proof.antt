@@ -1,49 +1,41 @@
 -- `put_array` takes the room of a run of slots out of the row as room for one array, writes the
 -- array there, and puts the filled run back. Assumes `Logic`.
-use Rattle.std.proofs.Common.{◌≡◌, ℕ, Some, None, ◌+◌, ◌*◌, ◌^◌, ◌<◌, ◌≤◌, List, ◌∷◌, [], ◌++◌, length, refl, sym, ap, subst, ◌∙◌, arith, w64}
+use Rattle.std.proofs.Common.{◌≡◌, ℕ, Some, ◌+◌, ◌*◌, ◌≤◌, List, ◌∷◌, [], ◌++◌, length, refl, ◌∙◌, arith, w64}
 use lib.ListN.{length-map}
-use mir.Syntax.{Fn, Args, ty_array, a_type, a_number, dcons, dnil}
-use mir.Val.{Val, vint, vptr, vunit}
+use mir.Syntax.{ty_array}
+use mir.Val.{Val, vint, vunit}
 use mir.MapTy.{inst_fn}
 use base.Fraction.{full_share}
-use base.Logic.{SProp}
-use base.Fml.{Lft, Share, ftrue, froom, flft}
-use prog.Wp.{Env, WpFn}
-use contract.BorrowLft.{◌⊑◌}
-use contract.Monad.{fact}
-use contract.Running.{tables}
-use types.Kit.{‵, raw, ◌⊛◌, given, learn, prop, at_ret, ◌$◌, ◌∵◌, !, qed, move, keep, drop, use1, use2, split, split3, join, fsplit, fsplit3, fjoin, fjoin3, feq_i, rewrite, regoal, suffices, done}
-use types.Part.{whole, sub, look_in}
-use types.Run.{stop, fld, load, lit, bin, size_word, init, unit_lit, of_opd, assigns_last, first, blocks, exec, returns, enter}
-use types.ByLocal.{alloc_all, pass_all, free_all, look_at, through, is, sets, env, get}
+use base.Fml.{froom}
+use types.Kit.{‵, ◌⊛◌, given, learn, ◌$◌, !, move, keep, drop, use1, use2, split, fsplit, rewrite, suffices, done}
+use types.Run.{stop, init, unit_lit, of_opd, assigns_last, first, blocks, returns}
+use types.ByLocal.{alloc_all, pass_all, free_all, look_at, through, sets, get}
 use denote.Array.{Array}
 use denote.Memory.{part_at}
-use denote.RattleType.{RattleType, owns}
-use denote.Param.{layout, param, number, bounded}
-use denote.Signature.{plain, types_at}
-use denote.Steps.{nothing, heard}
-use denote.Triple.Walked.{Stays, stay_ref, stay_dropped, walk_of, Goes-dropped, Goes-ref, ends_at}
+use denote.RattleType.{RattleType}
+use denote.Param.{layout, param, number}
+use denote.Signature.{plain}
+use denote.Triple.Walked.{walk_of, Goes-dropped, Goes-ref, ends_at}
 use Rattle.std.specs.Prelude.{Option}
 use Rattle.std.proofs.raw_atomic.Walks.{proved_at}
-use Rattle.core.proofs.alloc.Calls.{Al}
-use Rattle.core.proofs.mem.Param.{El, R}
-use Rattle.core.proofs.slots.Leases.{uncapped}
+use Rattle.core.proofs.mem.Param.{R}
 use Rattle.thin_block.specs.Cost.{moving}
 use Rattle.thin_block.specs.Lends.{with_slots}
 use Rattle.thin_block.specs.Ownership.{places}
-use Rattle.thin_block.specs.Slots.{full, empty, slot, laid}
-use Rattle.thin_block.proofs.Walks.{slot_at, after, says_all}
+use Rattle.thin_block.specs.Slots.{full, empty, laid}
+use Rattle.thin_block.proofs.Walks.{slot_at, says_all}
 use Rattle.thin_block.proofs.SlotsLemmas.{empty-run, length-laid}
-use Rattle.thin_block.proofs.HeaderMemory.{Br, header, t, block_opens, block_closes}
-use Rattle.thin_block.proofs.SlotMemory.{sz, reach, around, run_out, run_in, of_items, to_room}
+use Rattle.thin_block.proofs.HeaderMemory.{Br}
+use Rattle.thin_block.proofs.SlotMemory.{sz, around, run_out, run_in, of_items, to_room}
 use denote.Exit.{all_rest}
 use denote.Param.{ArrayAt}
 use denote.Param.Laws.{param_laws, array_at_laws}
 use base.Logic.{via}
-use prog.Memory.{size}
 use borrow.Table.OneValue.{part_in}
 use Rattle.thin_block.proofs.Walks.{alone, nothing_left}
 use Rattle.thin_block.proofs.SlotMemory.{counted}
+use Rattle.thin_block.proofs.Methods.{item, source, others, block_stays, begins_with, enters, closes_over, args_at, leaves_unit, ptr_of, opens_self, continues, word}
+use Rattle.thin_block.proofs.Addresses.{near, its_ptr, slot_found}
 use Rattle.thin_block.specs.contracts.block.Block.put_array.{ended, clauses}
 use Rattle.thin_block.specs.contracts.block.Block.put_array.Key.{name as #self}
 use Rattle.thin_block.proofs.block.Block.put_array.Statement.{statement}
@@ -51,86 +43,39 @@ use Rattle.thin_block.proofs.block.Block.put_array.Code as compiled
 
 pub put_array_spec : {M : Type 1} → statement M
 put_array_spec 𝓤 𝓛 𝓜 𝓡 wired T A N LT LA fits_N g d dd met md =
-    let H = 𝓛.H in
-    let E : El = record { row = T; laws = LT } in
-    let Y : Al = record { row = A; laws = LA; g = g; d = d; drops = dd } in
-    let B : RattleType = Br E Y in
-    let Nr : RattleType = number N in
-    let args_N : Args = bounded (a_type ∷ a_type ∷ a_number ∷ []) (T, (A, (Nr, tt)))
-    (dcons d (dcons dd dnil)) in
-    let Arr : RattleType = ArrayAt (R E) (param 2 Nr) in
-    let En₀ = ended T A Nr g d dd in
-    let ps = En₀.signature.params in
-    let c = clauses T A Nr g d dd 𝓛 𝓜.mem 𝓡.returns in
-    let fn : Fn = inst_fn args_N compiled.function in
-    let hs : Stays ps En₀.kept = (
-      stay_ref (0 ∷ []) tt (plain (λ _. B)),
-      (
-        stay_dropped (slot_at 1 ps) En₀.kept.1.0,
-        (stay_dropped (slot_at 2 ps) En₀.kept.1.1.0, tt),
-      ),
-    ) in
-    let 𝓣 = tables 𝓤 H 𝓜 𝓡 𝓡.env in
+    let E = item LT in let Y = source LA g d dd in let En₀ = ended T A (number N) g d dd in
+    let c = clauses T A (number N) g d dd 𝓛 𝓜.mem 𝓡.returns in
+    let ss = others En₀.signature.params in let hs = block_stays E Y ss En₀.kept.1 in
+    let fn = inst_fn (args_at E Y N) compiled.function in
     proved_at 𝓛 En₀ hs c 𝓜 𝓡 (
-      Goes-ref 𝓛 4 0 tt (plain (λ _. B)),
+      Goes-ref 𝓛 4 0 tt (plain (λ _. Br E Y)),
       (
-        Goes-dropped 𝓛 4 (slot_at 1 ps) En₀.kept.1.0 (λ κs x f. refl),
+        Goes-dropped 𝓛 4 (slot_at 0 ss) En₀.kept.1.0 (λ κs x f. refl),
         ((λ κs x f vs ok. via 𝓤 _ (nothing_left 𝓛 x f) (𝓛.laws.⇛_intro _)), tt),
       ),
     )
-    (#self args_N) fn (compiled.unfolded 𝓤 H 𝓜 𝓡 wired (T, (A, (Nr, tt))) d dd) (λ z are.
-    let Post : Val → SProp 𝓤 = (walk_of 𝓛 En₀ hs c).post z in
-    let a = z.0.3 in
-    let vss = z.0.4 in
-    let κ : Lft = z.0.0.0 in
-    let q : Share = z.0.1.0 in
-    let x = a.0.now in
-    let rb : ℕ = a.0.ref_ptr.0 in
-    let ro : ℕ = a.0.ref_ptr.1 in
-    let i : ℕ = a.1.0 in
-    let values : List T.Denot = a.1.1.0 in
-    let s : ℕ = sz E in
-    let Small : Type 0 = size (layout (ArrayAt (R E) (param 2 Nr))) < 2 ^ 63 in
-    let Within : Type 0 = i + N ≤ length x.slots in
-    let Empty : Type 0 = (k : ℕ) → i ≤ k → k < i + N → slot x.slots k ≡ None in
-    qed 𝓛 (((‵ (flft κ q) ⊛ ‵ (flft z.0.0.1.0 z.0.1.1.0) ⊛ ‵ (flft z.0.0.1.1.0 z.0.1.1.1.0) ⊛ ‵
-    (flft z.0.0.1.1.1.0 z.0.1.1.1.1.0) ⊛ ‵ ftrue) ⊛ ‵ (owns (types_at ps z.0.0) a vss))
-    ∷ (raw (fact 𝓤 (z.0.0.1.0 ⊑ T.lives)) ⊛ raw (fact 𝓤 (z.0.0.1.1.0 ⊑ A.lives)) ⊛ raw
-    (fact 𝓤 (z.0.0.1.1.1.0 ⊑ Nr.lives)) ⊛ raw (fact 𝓤 Small) ⊛ raw (fact 𝓤 Within) ⊛ raw
-    (fact 𝓤 Empty)) ∷ []) ∵
-    move ! (1 ∷ []) $ split3 ! $ drop ! $ drop ! $ split3 ! $ drop ! $ drop ! $ split ! $
-    heard ! Within (λ within. heard ! Empty (λ bare.
-    let got = alone (ty_array (layout T) N) vss.1.1.0
-    (((array_at_laws 2 (R E) (param_laws 0 T LT) N).lawful 𝓛).typed values vss.1.1.0 are.1.1.0)
+    (#self (args_at E Y N)) fn
+    (compiled.unfolded 𝓤 𝓛.H 𝓜 𝓡 wired (T, (A, (number N, tt))) d dd) (λ z are.
+    let r = z.0.3.0 in let x = r.now in let i : ℕ = z.0.3.1.0 in
+    let values : List T.Denot = z.0.3.1.1.0 in
+    let Arr : RattleType = ArrayAt (R E) (param 2 (number N)) in
+    begins_with E Y 𝓛 ss z.0 (_ ∷ _ ∷ _ ∷ _ ∷ _ ∷ _ ∷ []) (λ said.
+    let within : i + N ≤ length x.slots = said.1.1.1.1.0 in let bare = said.1.1.1.1.1 in
+    let got = alone (ty_array (layout T) N) z.0.4.1.1.0
+    (((array_at_laws 2 (R E) (param_laws 0 T LT) N).lawful 𝓛).typed values z.0.4.1.1.0 are.1.1.0)
     in
     let v : Val = got.0 in
-    let is_v : vss.1.1.0 ≡ v ∷ [] = got.1.0 in
+    let is_v : z.0.4.1.1.0 ≡ v ∷ [] = got.1.0 in
     let good = got.1.1 in
-    let fi = are.1.0.1 in
-    split ! $ split ! $ move ! (2 ∷ []) $ fsplit ! $ fsplit3 ! $ move ! (3 ∷ []) $ fsplit ! $
-    move ! (1 ∷ []) $ fsplit ! $ keep ! (4 ∷ 5 ∷ 6 ∷ 7 ∷ 0 ∷ []) $
+    move ! (4 ∷ []) $ fsplit ! $ drop ! $ fsplit ! $ keep ! (2 ∷ 3 ∷ 4 ∷ 5 ∷ 0 ∷ []) $
     rewrite ! 4 (λ (us : List Val). ‵ (Arr.own_val values us)) is_v refl $
-    regoal ! (λ (us : List Val). prop (WpFn 𝓤 H 𝓣.C 𝓣.Λ fn us Post))
-    (λ k. are.0.0 k ++ (are.1.0.0 k ++ (is_v k ++ []))) refl $
-    enter ! 𝓣.C 𝓣.Λ fn (vptr rb ro ∷ vint w64 i ∷ v ∷ []) Post $
-    alloc_all ! (λ l. pass_all ! refl ((tt, tt), ((tt, record { fits = fi }), (good, tt))) $
-    let En : Env 𝓤 H = env fn.locals l in
-    block_opens E Y ! tt x rb ro (λ b o at fits.
-    -- [the header; the slots; the block's cell; the open borrow, in three entries; the other
-    -- tokens; what the array owns]
-    let here : ℕ = i * s + (o + 16) in
-    let near : i * s < 2 ^ 63 = reach (R E) i (length x.slots) fits (omega arith) in
-    let fm : i * s < 2 ^ 64 = omega arith in
-    sets ! (of_opd ! (load ! (through ! refl (fld ! refl (stop !)))
-    (look_in ! 2 (sub ! 0 refl (whole !))))) refl (tt, tt) $
-    first ! $ blocks ! $
-    sets ! (is ! (bin ! (get ! refl) (lit ! tt) tt)
-    (ap (vptr b) (let turned : 16 + o ≡ o + 16 = omega arith in turned))) refl (tt, tt) $
-    sets ! (of_opd ! (get ! refl)) refl (tt, tt) $
-    sets ! (is ! (bin ! (get ! refl) (size_word !)
-    (record { fits = subst (λ (k : ℕ). k < 2 ^ 64) (sym (uncapped i s fm)) fm }))
-    (ap (vint w64) (uncapped i s fm))) refl (tt, record { fits = fm }) $
-    sets ! (bin ! (get ! refl) (get ! refl) tt) refl (tt, tt) $
+    enters ! fn (ptr_of r ∷ vint w64 i ∷ v ∷ [])
+    (λ k. are.0.0 k ++ (are.1.0.0 k ++ (is_v k ++ []))) $
+    alloc_all ! (λ l. pass_all ! refl ((tt, tt), (word are.1.0.1, (good, tt))) $
+    opens_self E Y ! tt r (λ b o at fits. let fm = near E x.slots i fits (omega arith) in
+    sets ! (of_opd ! (its_ptr E Y ! refl)) refl (tt, tt) $ first ! $ blocks ! $
+    slot_found E ! b o i fm refl ((tt, tt), (tt, tt)) $
+    let here : ℕ = i * sz E + (o + 16) in
     sets ! (of_opd ! (get ! refl)) refl (tt, tt) $
     move ! (1 ∷ []) $ use1 𝓛
     (‵ (places (R E) (empty N) b here) ⊛ ‵ (around E 𝓛 b (o + 16) x.slots i N))
@@ -141,7 +86,7 @@ put_array_spec 𝓤 𝓛 𝓜 𝓡 wired T A N LT LA fits_N g d dd met md =
     -- other tokens; what the array owns]
     sets ! (of_opd ! (get ! refl)) refl good $
     assigns_last ! (of_opd ! (get ! refl)) (through ! refl (stop !)) (init ! 0 refl good) $
-    exec ! 𝓣.C 𝓣.Λ En (after 2 fn.body) (at_ret En Post) $
+    continues ! 𝓜 𝓡 fn l 2 ((walk_of 𝓛 En₀ hs c).post z) $
     sets ! (of_opd ! (unit_lit !)) refl (tt, tt) $
     move ! (0 ∷ 8 ∷ []) $ use2 𝓛 (‵ (part_at (Array (R E) N) full_share values b here))
     (part_in 𝓛 (Array (R E) N) refl full_share values b here v) $
@@ -151,18 +96,12 @@ put_array_spec 𝓤 𝓛 𝓜 𝓡 wired T A N LT LA fits_N g d dd met md =
     let long_full : length (full values) ≡ N = length-map values Some ∙ count in
     let long : length laid_in ≡ length x.slots = length-laid i (full values)
     x.slots (omega arith) in
-    let y : B.Denot = record (with_slots x laid_in long) { cost = moving N x.cost } in
+    let y : (Br E Y).Denot = record (with_slots x laid_in long) { cost = moving N x.cost } in
     use1 𝓛 (‵ (places (R E) (full values) b here)) (of_items E 𝓛 b N values here) $
     use2 𝓛 (‵ (places (R E) laid_in b (o + 16)))
     (run_in E 𝓛 b (o + 16) x.slots i N within (full values) long_full) $
-    rewrite ! 1 (λ (k : ℕ). ‵ (header (t E Y) (R E) x.len k x.alloc b o)) (sym long) refl $
-    move ! (1 ∷ 0 ∷ []) $ block_closes E Y ! tt y b o rb ro at $
-    -- [the `&mut`, in two entries; its token; the other tokens]
-    returns ! (look_at ! 0 refl) $ free_all ! refl $
-    feq_i ! (List Val) vss.0 (vptr rb ro ∷ []) are.0.0 $ fjoin3 ! $ nothing ! $ nothing ! $
-    fjoin ! $ nothing ! $ fjoin ! $ move ! (1 ∷ 0 ∷ []) $ fjoin ! $
-    feq_i ! (List Val) (vunit ∷ []) (vunit ∷ []) refl $ move ! (1 ∷ 0 ∷ []) $ join ! $
-    move ! (1 ∷ 2 ∷ []) $ join ! $ join ! $
+    closes_over E Y ! tt r y b o at long $
+    returns ! (look_at ! 0 refl) $ free_all ! refl $ leaves_unit E Y ! r y 2 are.0.0 $
     suffices ! _ (ends_at 𝓛 En₀ hs c z vunit tt
     (y, (tt, (all_rest (λ _. Unit {0}) (λ _. tt) values, tt))) (tt, (tt, (tt, tt)))) $
-    says_all ! (_ ∷ _ ∷ _ ∷ _ ∷ []) (refl, (refl, (refl, refl))) $ done !))))))
+    says_all ! (_ ∷ []) refl $ done !)))))

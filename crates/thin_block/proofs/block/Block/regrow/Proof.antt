@@ -1,5 +1,5 @@
 -- `regrow` moves the last items into the header's room, where the block is an array of items from
--- its start, hands that to the allocator's `grow`, and turns what comes back into a block again.
+-- its start, passes that to the allocator's `grow`, and turns what it returns into a block again.
 -- Assumes `Logic`.
 use Rattle.std.proofs.Common.{◌≡◌, ℕ, ◌+◌, ◌-◌, ◌*◌, ◌^◌, ◌<◌, ◌≤◌, List, [], ◌∷◌, ◌++◌, length, true, refl, sym, ap, subst, ◌∙◌, arith, lit<, w64, Some, None, Option, append_assoc}
 use Rattle.std.specs.Prelude.{take, drop as rest}
@@ -11,10 +11,9 @@ use base.Fraction.{full_share}
 use base.Logic.{SProp, ex}
 use base.Fml.{Lft, Share, ftrue, fat, froom, flft}
 use prog.Wp.{Env, WpFn}
-use contract.BorrowLft.{◌⊑◌, ⊑_trans}
-use contract.Monad.{fact}
+use contract.BorrowLft.{⊑_trans}
 use contract.Running.{tables}
-use types.Kit.{Post as After, ‵, raw, ◌⊛◌, some as exists, pick, later, prop, at_ret, ◌$◌, ◌∵◌, !, qed, move, keep, drop, group, use1, use2, use3, split, split3, join, regoal, rewrite, fsplit, fjoin, await, suffices, done}
+use types.Kit.{Post as After, ‵, raw, ◌⊛◌, some as exists, pick, later, prop, at_ret, ◌$◌, ◌∵◌, !, qed, move, keep, drop, group, use1, use2, use3, split, split3, join, regoal, rewrite, fsplit, await, suffices, done}
 use types.Part.{whole, sub, agg}
 use types.Match.{live, vrt, in_variant}
 use types.Run.{stop, fld, lit, bin, init, look, load, size_word, of_opd, no_more, and_then, assigns, first, blocks, switches_on, exec, returns, enter}
@@ -29,9 +28,9 @@ use denote.Builtin.{usize}
 use denote.Plain.{uint_in}
 use denote.RawPtr.{Ptr, block_ptr, lies_at}
 use denote.Signature.{types_at, type_at}
-use denote.Steps.{nothing, heard, peeks}
+use denote.Steps.{peeks}
 use denote.Triple.Call.{calls_at}
-use denote.Triple.Walked.{Stays, stay_dropped, walk_of, Goes-dropped, ends_at}
+use denote.Triple.Walked.{walk_of, ends_at}
 use borrow.Table.OneValue.{part_out, part_in}
 use Rattle.core.specs.Allocator.{array_of, block_with_items}
 use Rattle.core.proofs.alloc.Calls.{Al, token, Goes-blank}
@@ -46,14 +45,15 @@ use Rattle.std.specs.Mem.{type_size}
 use Rattle.std.specs.Align.{type_align}
 use Rattle.core.proofs.mem.Param.{El, R}
 use Rattle.thin_block.specs.Cost.{growing}
-use Rattle.thin_block.specs.Capacity.{Fits, header_items}
-use Rattle.thin_block.specs.Slots.{IsPacked, items_in, full, empty}
+use Rattle.thin_block.specs.Slots.{items_in, full, empty}
 use Rattle.thin_block.specs.Ownership.{fits_block, places, frame}
 use Rattle.thin_block.proofs.SizesLemmas.{fits_tells, opened, rounded}
 use Rattle.thin_block.proofs.Walks.{slot_at, then_runs, out_of_block, after, head, inside, arm_body, says_all}
 use Rattle.thin_block.proofs.HeaderMemory.{Br, header, t, any_some, block_val, block_had, block_made}
 use Rattle.thin_block.proofs.SlotMemory.{sz, reach}
 use Rattle.thin_block.proofs.Turning.{Headed, headed, words_out, turn_out, turn_back, turn_up, turn_down, header_apart, header_whole}
+use Rattle.thin_block.specs.Block.{seen}
+use Rattle.thin_block.proofs.Methods.{others, dropped, all_go, heard_all, blank}
 use Rattle.thin_block.specs.contracts.block.Block.regrow.{ended, clauses}
 use Rattle.thin_block.specs.contracts.block.Block.regrow.Key.{name as #self}
 use Rattle.thin_block.proofs.block.Block.regrow.Statement.{statement}
@@ -73,41 +73,26 @@ regrow_spec 𝓤 𝓛 𝓜 𝓡 wired T A N LT LA fits_N g d dd met md =
     let ps = En₀.signature.params in
     let c = clauses T A Nr g d dd 𝓛 𝓜.mem 𝓡.returns in
     let fn : Fn = inst_fn args_N compiled.function in
-    let hs : Stays ps En₀.kept = (
-      stay_dropped (slot_at 0 ps) En₀.kept.0,
-      (
-        stay_dropped (slot_at 1 ps) En₀.kept.1.0,
-        (
-          stay_dropped (slot_at 2 ps) En₀.kept.1.1.0,
-          (
-            stay_dropped (slot_at 3 ps) En₀.kept.1.1.1.0,
-            (
-              stay_dropped (slot_at 4 ps) En₀.kept.1.1.1.1.0,
-              (
-                stay_dropped (slot_at 5 ps) En₀.kept.1.1.1.1.1.0,
-                (stay_dropped (slot_at 6 ps) En₀.kept.1.1.1.1.1.1.0, tt),
-              ),
-            ),
-          ),
-        ),
-      ),
-    ) in
+    let hs = dropped ps En₀.kept in
     let 𝓣 = tables 𝓤 H 𝓜 𝓡 𝓡.env in
     let C = 𝓣.C in
     let Λ = 𝓣.Λ in
     proved_at 𝓛 En₀ hs c 𝓜 𝓡 (
       Goes-blank 𝓛 4 (slot_at 0 ps) En₀.kept.0 (λ κs x f. tt),
-      (
-        Goes-dropped 𝓛 4 (slot_at 1 ps) En₀.kept.1.0 (λ κs x f. refl),
+      all_go 𝓛 (others ps) En₀.kept.1 (
+        (λ κs x f. refl),
         (
-          Goes-dropped 𝓛 4 (slot_at 2 ps) En₀.kept.1.1.0 (λ κs x f. refl),
+          (λ κs x f. refl),
           (
-            Goes-dropped 𝓛 4 (slot_at 3 ps) En₀.kept.1.1.1.0 (λ κs x f. refl),
+            (λ κs x f. refl),
             (
-              Goes-dropped 𝓛 4 (slot_at 4 ps) En₀.kept.1.1.1.1.0 (λ κs x f. refl),
+              (λ κs x f. refl),
               (
-                Goes-dropped 𝓛 4 (slot_at 5 ps) En₀.kept.1.1.1.1.1.0 (λ κs x f. refl),
-                (Goes-dropped 𝓛 4 (slot_at 6 ps) En₀.kept.1.1.1.1.1.1.0 (λ κs x f. refl), tt),
+                (λ κs x f. refl),
+                (
+                  (λ κs x f. refl),
+                  tt,
+                ),
               ),
             ),
           ),
@@ -135,30 +120,20 @@ regrow_spec 𝓤 𝓛 𝓜 𝓡 wired T A N LT LA fits_N g d dd met md =
     let held : ℕ = a.1.1.1.1.1.0 in
     let wanted : ℕ = a.1.1.1.1.1.1.0 in
     let Out : RattleType = type_at En₀.signature.result z.0.0 in
-    let From : Type 0 = x.alloc ≡ Some h in
-    let Heads : Type 0 = header_items (type_size Rt) (type_align Rt) ≡ N in
-    let Any : Type 0 = 0 < N in
-    let Packed : Type 0 = IsPacked x.slots x.len in
-    let Len : Type 0 = len ≡ x.len in
-    let Old : Type 0 = old ≡ length x.slots in
-    let Larger : Type 0 = old ≤ cap in
-    let Small : Type 0 = Fits Rt cap in
-    let Held : Type 0 = held ≡ N + old in
-    let Wanted : Type 0 = wanted ≡ N + cap in
-    let Room : Type 0 = N ≤ len in
     let W = Resizes Y T (Grows T) 𝓛 𝓜.mem 𝓡.returns in
     qed 𝓛 (((‵ (flft κ q) ⊛ ‵ (flft κT qT) ⊛ ‵ (flft κA z.0.1.1.1.0) ⊛ ‵
     (flft z.0.0.1.1.1.0 z.0.1.1.1.1.0) ⊛ ‵ ftrue) ⊛ ‵ (owns (types_at ps z.0.0) a vss))
-    ∷ (raw (fact 𝓤 (κT ⊑ T.lives)) ⊛ raw (fact 𝓤 (κA ⊑ A.lives)) ⊛ raw
-    (fact 𝓤 (z.0.0.1.1.1.0 ⊑ Nr.lives)) ⊛ raw (fact 𝓤 From) ⊛ raw (fact 𝓤 Heads) ⊛ raw
-    (fact 𝓤 Any) ⊛ raw (fact 𝓤 Packed) ⊛ raw (fact 𝓤 Len) ⊛ raw (fact 𝓤 Old) ⊛ raw
-    (fact 𝓤 Larger) ⊛ raw (fact 𝓤 Small) ⊛ raw (fact 𝓤 Held) ⊛ raw (fact 𝓤 Wanted) ⊛ raw
-    (fact 𝓤 Room)) ∷ []) ∵
-    move ! (1 ∷ []) $ split3 ! $ heard ! (κT ⊑ T.lives) (λ leT. heard ! (κA ⊑ A.lives) (λ leA.
-    split3 ! $ drop ! $ heard ! From (λ from. split3 ! $ heard ! Heads (λ is_k. heard ! Any (λ any.
-    split3 ! $ heard ! Packed (λ packed. heard ! Len (λ len_is. split3 ! $ heard ! Old (λ old_is.
-    heard ! Larger (λ larger. split3 ! $ heard ! Small (λ small. heard ! Held (λ held_is.
-    split ! $ heard ! Wanted (λ wanted_is. heard ! Room (λ room.
+    ∷ raw ((c z.0.0 z.0.3).requires z.1) ∷ []) ∵ move ! (1 ∷ []) $
+    heard_all ! (_ ∷ _ ∷ _ ∷ _ ∷ _ ∷ _ ∷ _ ∷ _ ∷ _ ∷ _ ∷ _ ∷ _ ∷ _ ∷ _ ∷ []) (λ said.
+    let leT = said.0 in let leA = said.1.0 in let from = said.1.1.1.0 in
+    let is_k = said.1.1.1.1.0 in let any : 0 < N = said.1.1.1.1.1.0 in
+    let packed = said.1.1.1.1.1.1.0 in let len_is : len ≡ x.len = said.1.1.1.1.1.1.1.0 in
+    let old_is : old ≡ length x.slots = said.1.1.1.1.1.1.1.1.0 in
+    let larger : old ≤ cap = said.1.1.1.1.1.1.1.1.1.0 in
+    let small = said.1.1.1.1.1.1.1.1.1.1.0 in
+    let held_is : held ≡ N + old = said.1.1.1.1.1.1.1.1.1.1.1.0 in
+    let wanted_is : wanted ≡ N + cap = said.1.1.1.1.1.1.1.1.1.1.1.1.0 in
+    let room : N ≤ len = said.1.1.1.1.1.1.1.1.1.1.1.1.1 in
     let hd : Headed (type_size Rt) (type_align Rt) N =
     headed (type_size Rt) (type_align Rt) N is_k any in
     let items : List T.Denot = items_in x.slots in
@@ -311,12 +286,13 @@ regrow_spec 𝓤 𝓛 𝓜 𝓡 wired T A N LT LA fits_N g d dd met md =
       cost = growing x.len x.cost;
       sound = (omega arith, any_some news (omega arith));
     } in
-    let slots_are : news ≡ x.slots ++ empty (cap - old) =
-    sym (ap (λ (l : List (Option T.Denot)). l ++ empty (cap - old)) row
+    let changes : seen y' ≡ record (seen y') { slots = x.slots ++ empty (cap - old) } =
+    ap (λ (l : List (Option T.Denot)). record (seen y') { slots = l })
+    (sym (ap (λ (l : List (Option T.Denot)). l ++ empty (cap - old)) row
     ∙ (append_assoc (full (xs ++ ys)) (empty m) (empty (cap - old))
     ∙ ap (λ (l : List (Option T.Denot)). full (xs ++ ys) ++ l)
     (replicate-append-replicate m (cap - old) None
-    ∙ ap (λ (j : ℕ). empty j) (let e : m + (cap - old) ≡ m' = omega arith in e)))) in
+    ∙ ap (λ (j : ℕ). empty j) (let e : m + (cap - old) ≡ m' = omega arith in e))))) in
     lands_as ! e refl (tt, (record { fits = lit< tt }, (tt, tt))) $
     first ! $ switches_on ! (get_tag ! (vrt ! refl (fld ! refl (stop !))) (whole !)) $
     exec ! C Λ En (arm_body 0 both) Then $
@@ -385,12 +361,10 @@ regrow_spec 𝓤 𝓛 𝓜 𝓡 wired T A N LT LA fits_N g d dd met md =
     block_made E Y ! y' b' o' refl $
     use1 𝓛 (‵ (Out.own_val (Ok y') (live 0 (vcons (block_val p) vnil) ∷ [])))
     (ok_of 𝓛 B B y' (block_val p)) $
-    nothing ! $ nothing ! $ fjoin ! $ nothing ! $ fjoin ! $ nothing ! $ fjoin ! $ nothing ! $
-    fjoin ! $ nothing ! $ fjoin ! $ nothing ! $ fjoin ! $ nothing ! $ fjoin ! $
-    move ! (0 ∷ 1 ∷ []) $ join ! $ move ! (1 ∷ 0 ∷ []) $ join ! $
+    blank ! 7 $ move ! (0 ∷ 1 ∷ []) $ join ! $ move ! (1 ∷ 0 ∷ []) $ join ! $
     suffices ! _ (ends_at 𝓛 En₀ hs c z (live 0 (vcons (block_val p) vnil)) (Ok y')
     (tt, (tt, (tt, (tt, (tt, (tt, (tt, tt))))))) (tt, (tt, (tt, (tt, (tt, (tt, (tt, tt)))))))) $
-    says_all ! (_ ∷ _ ∷ _ ∷ _ ∷ _ ∷ []) (slots_are, (refl, (refl, (refl, tt)))) $ done !)))
+    says_all ! (_ ∷ _ ∷ []) (changes, tt) $ done !)))
     (λ e.
     lands_as ! e refl (tt, (record { fits = lit< tt }, (tt, tt))) $
     first ! $ switches_on ! (get_tag ! (vrt ! refl (fld ! refl (stop !))) (whole !)) $
@@ -455,9 +429,7 @@ regrow_spec 𝓤 𝓛 𝓜 𝓡 wired T A N LT LA fits_N g d dd met md =
     block_made E Y ! x b o at $
     use1 𝓛 (‵ (Out.own_val (Err x) (live 1 (vcons (block_val here) vnil) ∷ [])))
     (err_of 𝓛 B B x (block_val here)) $
-    nothing ! $ nothing ! $ fjoin ! $ nothing ! $ fjoin ! $ nothing ! $ fjoin ! $ nothing ! $
-    fjoin ! $ nothing ! $ fjoin ! $ nothing ! $ fjoin ! $ nothing ! $ fjoin ! $
-    move ! (0 ∷ 1 ∷ []) $ join ! $ move ! (1 ∷ 0 ∷ []) $ join ! $
+    blank ! 7 $ move ! (0 ∷ 1 ∷ []) $ join ! $ move ! (1 ∷ 0 ∷ []) $ join ! $
     suffices ! _ (ends_at 𝓛 En₀ hs c z (live 1 (vcons (block_val here) vnil)) (Err x)
     (tt, (tt, (tt, (tt, (tt, (tt, (tt, tt))))))) (tt, (tt, (tt, (tt, (tt, (tt, (tt, tt)))))))) $
-    says_all ! (_ ∷ _ ∷ _ ∷ _ ∷ _ ∷ []) (tt, (tt, (tt, (tt, refl)))) $ done !))))))))))))))))))))))
+    says_all ! (_ ∷ _ ∷ []) (tt, refl) $ done !))))))))))

@@ -1,5 +1,5 @@
 -- The run that moves is filled, and what is left is empty.
-use Rattle.std.proofs.Common.{◌≡◌, ℕ, length, List, None, sym, ap, ◌∙◌, arith, rules}
+use Rattle.std.proofs.Common.{◌≡◌, ℕ, length, List, None, sym, ap, ◌∙◌, arith}
 use Rattle.std.specs.Prelude.{Option}
 use Rattle.std.proofs.lemmas.List.{length-replicate}
 use Rattle.thin_block.specs.Slots.{empty, slot, emptied}
@@ -11,8 +11,8 @@ use Rattle.thin_block.proofs.block.Block.remake.Goals.{then-len-gt0, else-len-gt
 pub move_run_charging-requires : goal.move_run_charging-requires
 move_run_charging-requires g c κs within =
     let old = c.args.self.now.slots in
-    let bare : c.store_len.new.self.slots ≡ empty c.args.cap = c.store_len.ensures.slots
-    ∙ c.in_ok-other.ensures.slots in
+    let bare : c.store_len.new.self.slots ≡ empty c.args.cap =
+    ap (λ v. v.slots) c.store_len.ensures.changes ∙ ap (λ v. v.slots) c.in_ok-other.ensures.ok in
     let long : length c.store_len.new.self.slots ≡ c.args.cap = ap length bare
     ∙ length-replicate c.args.cap None in
     let room = c.requires.room in
@@ -41,7 +41,7 @@ release-requires-clause-empty g c =
     let gone : c.if-len-gt0.self.slots ≡ empty (length old) =
     elim c.if-len-gt0.branch [
       | then-len-gt0 w ↦ ap (λ b. b.slots) w.self-is
-          ∙ (w.move_run_charging.ensures.slots
+          ∙ (ap (λ v. v.slots) w.move_run_charging.ensures.changes
           ∙ (ap (λ (k : ℕ). emptied 0 k old) c.len-len.ensures.value
           ∙ packed-emptied old c.args.self.now.len c.requires.packed))
       | else-len-gt0 w ↦ ap (λ b. b.slots) w.self-is
@@ -52,9 +52,3 @@ release-requires-clause-empty g c =
     let left : c.replace-old.result.slots ≡ empty (length old) =
     (λ i. (c.replace-old.ensures.value i).slots) ∙ gone in
     left ∙ ap (λ (k : ℕ). empty k) (sym (ap length left ∙ length-replicate (length old) None))
-
-pub returns-clause-len : goal.returns-clause-len
-returns-clause-len g c = search rules
-
-pub returns-clause-cost : goal.returns-clause-cost
-returns-clause-cost g c = search rules

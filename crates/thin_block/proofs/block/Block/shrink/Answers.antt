@@ -1,6 +1,7 @@
 -- The slots laid in a smaller row are the first of the old ones.
-use Rattle.std.proofs.Common.{◌∙◌, arith}
+use Rattle.std.proofs.Common.{arith}
 use denote.Param.{param}
+use Rattle.thin_block.proofs.BlockLemmas.{slots-are}
 use Rattle.thin_block.proofs.CapacityLemmas.{fits-less}
 use Rattle.thin_block.proofs.SlotsLemmas.{packed-shrunk}
 use Rattle.thin_block.proofs.Outcomes.{on-ok}
@@ -14,9 +15,9 @@ remake-requires-clause-fits g c =
     fits-less (param 0 g.row.T) c.args.cap c.cap-whole.result c.cap-whole.ensures.fits (omega arith)
 
 -- the items in a smaller row are the first slots of the old one
-pub returns-clause-slots : goal.returns-clause-slots
-returns-clause-slots g c =
+pub returns-clause-ok : goal.returns-clause-ok
+returns-clause-ok g c =
     let smaller = c.requires.smaller in
     on-ok c.remake.result
-    (λ e. e ∙ packed-shrunk c.args.self.now.slots c.args.self.now.len c.requires.packed
-    c.args.cap c.requires.room (omega arith)) c.remake.ensures.slots
+    (λ e. slots-are e (packed-shrunk c.args.self.now.slots c.args.self.now.len c.requires.packed
+    c.args.cap c.requires.room (omega arith))) c.remake.ensures.ok

@@ -1,0 +1,199 @@
+-- The address of a slot, as a walk computes it, and the slot that lies there. Assumes `Logic`.
+--     its_ptr            the block's pointer is read
+--     slot_found, moves_on    `(p.add(HEADER_WORDS) as *mut T).add(i)`, and `p.add(i)`
+--     takes_slot, takes_item, takes_two    a slot comes out of the row; a filled one; two of them
+use Rattle.std.proofs.Common.{◌≡◌, ℕ, zero, Some, None, ◌+◌, ◌*◌, ◌^◌, ◌<◌, ◌≤◌, List, [], ◌∷◌, length, true, refl, sym, ap, subst, arith, w64}
+use lib.Dec.{T}
+use lib.ListN.{get_or}
+use seplogic.Ra.Ura.{Ura}
+use base.Fraction.{full_share}
+use base.Fml.{Share, ftrue, fat}
+use mir.Syntax.{Body, seq, assign, place, copy, int, op2, offset, mul, unsigned, size_of, rv_opd, deref, field}
+use mir.Val.{Val, vint, vptr, has_ty}
+use prog.Wp.{Env, Calls, Loops, spot_of}
+use types.Logic.{Logic}
+use types.Kit.{Item, Goal, Post, Seq, Step, step, ‵, ◌⊛◌, some, given, pick, learn, nth, del, runs, ◌$◌, use1, move, split, split3, rewrite}
+use types.Part.{whole, sub, look_in}
+use types.Run.{Opd, from, stop, fld, load, lit, bin, size_word, of_opd, assigns}
+use types.ByLocal.{at, set, set_at, free_needs, through, is, get}
+use denote.Memory.{lone, cell_at}
+use denote.RawPtr.{block_ptr}
+use Rattle.core.proofs.alloc.Calls.{Al}
+use Rattle.core.proofs.mem.Param.{El, R, elτ, el_x, Good}
+use Rattle.core.proofs.slice.Rows.{el_out}
+use Rattle.core.proofs.slots.Leases.{uncapped}
+use Rattle.thin_block.specs.Ownership.{fits_block, place as slot_place, places}
+use Rattle.thin_block.proofs.HeaderMemory.{Br, block_val}
+use Rattle.thin_block.proofs.SlotMemory.{Slot, sz, reach, besides, slot_out, Two}
+
+-- a slot lies no further from the first than a word can say
+pub near : (E : El) (xs : List (Slot E)) (i : ℕ) → fits_block (R E) (length xs) ≡ true
+    → i ≤ length xs → i * sz E < 2 ^ 64
+near E xs i fits le = let low = reach (R E) i (length xs) fits le in omega arith
+
+module _ (E : El) (Y : Al) {M : Type 1} {𝓤 : Ura M} {𝓛 : Logic 𝓤} {K : Type 0}
+    {Γ : List (Item 𝓤)} {h s : Item 𝓤} where
+  -- the block's pointer, read through a reference to the block
+  pub its_ptr : K → {Ev : Env 𝓤 𝓛.H} {p b o rb ro : ℕ} {q : Share}
+      → at 𝓛 p (h ∷ s ∷ ‵
+      (cell_at full_share (Br E Y).mir (block_val (block_ptr b o) ∷ []) rb ro) ∷ Γ)
+      ≡ ‵ (fat q (spot_of 𝓤 𝓛.H Ev p).0 (spot_of 𝓤 𝓛.H Ev p).1 zero (vptr rb ro))
+      → Opd K 𝓛 (h ∷ s ∷ ‵
+      (cell_at full_share (Br E Y).mir (block_val (block_ptr b o) ∷ []) rb ro) ∷ Γ) Ev
+      (copy (place p (deref (lone (Br E Y).mir) ∷ field 0 ∷ []))) (vptr b o)
+  its_ptr k e = load k (through k e (fld k refl (stop k))) (look_in k 2 (sub k 0 refl (whole k)))
+
+module _ {M : Type 1} {𝓤 : Ura M} (𝓛 : Logic 𝓤) (Ev : Env 𝓤 𝓛.H) where
+  open 𝓛 use {H}
+
+  -- a local's entry where it holds this value
+  abbrev holds : ℕ → Val → Item 𝓤
+  holds p v = ‵ (fat full_share (spot_of 𝓤 H Ev p).0 (spot_of 𝓤 H Ev p).1 zero v)
+
+  -- and where it holds any, or none
+  abbrev free : ℕ → List (Item 𝓤) → Item 𝓤
+  free p Γ = nth 𝓛 0 (free_needs 𝓛 (((spot_of 𝓤 H Ev p).0, (spot_of 𝓤 H Ev p).1) ∷ [])
+      (at 𝓛 p Γ ∷ ‵ ftrue ∷ []))
+
+  -- it may hold such a value
+  abbrev Takes : ℕ → Val → Type 0
+  Takes p v = T (has_ty (spot_of 𝓤 H Ev p).0 v)
+
+  module _ (Γ : List (Item 𝓤)) (E : El) (b o i p₃ p₄ : ℕ) where
+    -- the locals once p₃ holds the distance
+    abbrev far : List (Item 𝓤)
+    far = set 𝓛 p₃ (holds p₃ (vint w64 (i * sz E))) Γ
+
+    -- and once p₄ holds the address of the i-th item from o on
+    abbrev pub gone : List (Item 𝓤)
+    gone = set 𝓛 p₄ (holds p₄ (vptr b (i * sz E + o))) far
+
+    -- the entries that the steps meet, where the first address is in p and the number in pᵢ
+    abbrev pub goes_by : ℕ → ℕ → List (Item 𝓤)
+    goes_by p pᵢ = at 𝓛 pᵢ Γ ∷ at 𝓛 p₃ Γ ∷ at 𝓛 p far ∷ at 𝓛 p₃ far ∷ at 𝓛 p₄ far ∷ []
+
+    -- and those that they need there
+    abbrev pub goes_with : ℕ → ℕ → List (Item 𝓤)
+    goes_with p pᵢ = holds pᵢ (vint w64 i) ∷ free p₃ Γ ∷ holds p (vptr b o)
+        ∷ holds p₃ (vint w64 (i * sz E)) ∷ free p₄ far ∷ []
+
+  module _ (Γ : List (Item 𝓤)) (E : El) (b o i p₁ p₂ : ℕ) where
+    -- the locals once p₁ holds the address of the first slot
+    abbrev first : List (Item 𝓤)
+    first = set 𝓛 p₁ (holds p₁ (vptr b (o + 16))) Γ
+
+    -- and once p₂ holds it too
+    abbrev pub turned : List (Item 𝓤)
+    turned = set 𝓛 p₂ (holds p₂ (vptr b (o + 16))) first
+
+    -- the entries that the four steps meet, where the block's pointer is in p
+    abbrev pub meets : ℕ → ℕ → ℕ → ℕ → List (Item 𝓤)
+    meets p₃ p₄ p pᵢ = at 𝓛 p Γ ∷ at 𝓛 p₁ Γ ∷ at 𝓛 p₁ first ∷ at 𝓛 p₂ first
+        ∷ goes_by turned E b (o + 16) i p₃ p₄ p₂ pᵢ
+
+    -- and those that they need there
+    abbrev pub needs : ℕ → ℕ → ℕ → ℕ → List (Item 𝓤)
+    needs p₃ p₄ p pᵢ = holds p (vptr b o) ∷ free p₁ Γ ∷ holds p₁ (vptr b (o + 16)) ∷ free p₂ first
+        ∷ goes_with turned E b (o + 16) i p₃ p₄ p₂ pᵢ
+
+module _ (E : El) {M : Type 1} {𝓤 : Ura M} {𝓛 : Logic 𝓤} {K : Type 0} {Γ : List (Item 𝓤)} where
+  open 𝓛 use {H}
+
+  -- `p.add(i)`, in two steps
+  pub moves_on : K → {C : Calls 𝓤 H} {Λ : Loops 𝓤 H} {Ev : Env 𝓤 H} {q : Post 𝓤 H} {rest : Body}
+      {p pᵢ p₃ p₄ : ℕ} (b o i : ℕ) → i * sz E < 2 ^ 64
+      → goes_by 𝓛 Ev Γ E b o i p₃ p₄ p pᵢ ≡ goes_with 𝓛 Ev Γ E b o i p₃ p₄ p pᵢ
+      → Takes 𝓛 Ev p₃ (vint w64 (i * sz E)) × Takes 𝓛 Ev p₄ (vptr b (i * sz E + o))
+      → Step K 𝓛 (gone 𝓛 Ev Γ E b o i p₃ p₄) (runs C Λ Ev rest q) Γ (runs C Λ Ev
+      (seq (assign (place p₃ []) (op2 (mul unsigned) (copy (place pᵢ [])) (size_of (elτ E))))
+      (seq (assign (place p₄ []) (op2 offset (copy (place p [])) (copy (place p₃ [])))) rest)) q)
+  moves_on k {Ev = Ev} {p = p} {pᵢ = pᵢ} {p₃ = p₃} {p₄ = p₄} b o i fm met ts =
+      let s : ℕ = sz E in
+      step (λ rest.
+      assigns k (is k (bin k (get k (ap (nth 𝓛 0) met)) (size_word k)
+      (record { fits = subst (λ (n : ℕ). n < 2 ^ 64) (sym (uncapped i s fm)) fm }))
+      (ap (vint w64) (uncapped i s fm)))
+      (from k (stop k)) (set_at k p₃ (ap (nth 𝓛 1) met) (ts.0, record { fits = fm })) $
+      assigns k (bin k (get k (ap (nth 𝓛 2) met)) (get k (ap (nth 𝓛 3) met)) tt)
+      (from k (stop k)) (set_at k p₄ (ap (nth 𝓛 4) met) (ts.1, tt)) $
+      rest)
+
+module _ (E : El) {M : Type 1} {𝓤 : Ura M} {𝓛 : Logic 𝓤} {K : Type 0} {Γ : List (Item 𝓤)} where
+  open 𝓛 use {H}
+
+  -- `(p.add(HEADER_WORDS) as *mut T).add(i)`, in four
+  pub slot_found : K → {C : Calls 𝓤 H} {Λ : Loops 𝓤 H} {Ev : Env 𝓤 H} {q : Post 𝓤 H} {rest : Body}
+      {p pᵢ p₁ p₂ p₃ p₄ : ℕ} (b o i : ℕ) → i * sz E < 2 ^ 64
+      → meets 𝓛 Ev Γ E b o i p₁ p₂ p₃ p₄ p pᵢ ≡ needs 𝓛 Ev Γ E b o i p₁ p₂ p₃ p₄ p pᵢ
+      → (Takes 𝓛 Ev p₁ (vptr b (o + 16)) × Takes 𝓛 Ev p₂ (vptr b (o + 16)))
+      × (Takes 𝓛 Ev p₃ (vint w64 (i * sz E)) × Takes 𝓛 Ev p₄ (vptr b (i * sz E + (o + 16))))
+      → Step K 𝓛 (gone 𝓛 Ev (turned 𝓛 Ev Γ E b o i p₁ p₂) E b (o + 16) i p₃ p₄)
+      (runs C Λ Ev rest q) Γ (runs C Λ Ev
+      (seq (assign (place p₁ []) (op2 offset (copy (place p [])) (int w64 16)))
+      (seq (assign (place p₂ []) (rv_opd (copy (place p₁ []))))
+      (seq (assign (place p₃ []) (op2 (mul unsigned) (copy (place pᵢ [])) (size_of (elτ E))))
+      (seq (assign (place p₄ []) (op2 offset (copy (place p₂ [])) (copy (place p₃ [])))) rest)))) q)
+  slot_found k {Ev = Ev} {p₁ = p₁} {p₂ = p₂} b o i fm met ts =
+      let plus : 16 + o ≡ o + 16 = omega arith in
+      step (λ rest.
+      assigns k (is k (bin k (get k (ap (nth 𝓛 0) met)) (lit k tt) tt) (ap (vptr b) plus))
+      (from k (stop k)) (set_at k p₁ (ap (nth 𝓛 1) met) (ts.0.0, tt)) $
+      assigns k (of_opd k (get k (ap (nth 𝓛 2) met))) (from k (stop k))
+      (set_at k p₂ (ap (nth 𝓛 3) met) (ts.0.1, tt)) $
+      moves_on E k b (o + 16) i fm
+      (ap (λ Δ. del 𝓛 0 (del 𝓛 0 (del 𝓛 0 (del 𝓛 0 Δ)))) met) ts.1 $ rest)
+
+module _ (E : El) {M : Type 1} {𝓤 : Ura M} {𝓛 : Logic 𝓤} {K : Type 0} {Γ : List (Item 𝓤)}
+    {G : Goal 𝓤 𝓛.H} {h : Item 𝓤} where
+  -- from [the header; the slots] to [the slot i, and what it holds; the other slots; the header]
+  pub takes_slot : K → {x : Slot E} (b o : ℕ) (xs : List (Slot E)) (i : ℕ) → i < length xs
+      → get_or xs i None ≡ x
+      → Step K 𝓛 (‵ (slot_place (R E) x b (i * sz E + o)) ∷ ‵ (besides E 𝓛 b o xs i) ∷ h ∷ Γ) G
+      (h ∷ ‵ (places (R E) xs b o) ∷ Γ) G
+  takes_slot k b o xs i within e = step (λ rest.
+      move k (1 ∷ []) $ use1 𝓛
+      (‵ (slot_place (R E) (get_or xs i None) b (i * sz E + o)) ⊛ ‵ (besides E 𝓛 b o xs i))
+      (slot_out E 𝓛 b o xs i within) $ split k $
+      rewrite k 0 (λ (x : Slot E). ‵ (slot_place (R E) x b (i * sz E + o))) e refl $ rest)
+
+module _ (E : El) {M : Type 1} (𝓤 : Ura M) where
+  -- the bits of an item
+  abbrev Bits : ℕ → ℕ → Val → Item 𝓤
+  Bits b o v = ‵ (fat full_share (elτ E) b o v)
+
+  -- and what it owns
+  abbrev Owned : el_x E → Val → Item 𝓤
+  Owned x v = ‵ (E.row.own_val x (v ∷ []))
+
+module _ (E : El) {M : Type 1} {𝓤 : Ura M} {𝓛 : Logic 𝓤} {K : Type 0} {Γ : List (Item 𝓤)}
+    {G : Goal 𝓤 𝓛.H} {h : Item 𝓤} where
+  -- the same for a filled slot, to be read: [the item's bits; what it owns; the other slots; the
+  -- header]
+  pub takes_item : K → {x : el_x E} (b o : ℕ) (xs : List (Slot E)) (i : ℕ) → i < length xs
+      → get_or xs i None ≡ Some x
+      → ((v : Val) → Good E v → Seq K 𝓛 (Bits E 𝓤 b (i * sz E + o) v ∷ Owned E 𝓤 x v
+      ∷ ‵ (besides E 𝓛 b o xs i) ∷ h ∷ Γ) G)
+      → Seq K 𝓛 (h ∷ ‵ (places (R E) xs b o) ∷ Γ) G
+  takes_item k {x} b o xs i within e next =
+      takes_slot E k b o xs i within e $
+      use1 𝓛 (some (λ (v : Val). given (Good E v) (Bits E 𝓤 b (i * sz E + o) v ⊛ Owned E 𝓤 x v)))
+      (el_out E 𝓛 b x (i * sz E + o)) $ pick k (λ v. learn k (λ good. split k $ next v good))
+
+  -- two such slots: [the second item's bits; what it owns; the first item's bits; what it owns;
+  -- the other slots; the header]
+  pub takes_two : K → {x y : el_x E} (b o : ℕ) (xs : List (Slot E)) (i j : ℕ)
+      (p : Two E 𝓛 b o xs i j) → (get_or xs i None ≡ Some x) × (get_or xs j None ≡ Some y)
+      → ((v w : Val) → Good E v → Good E w → Seq K 𝓛 (Bits E 𝓤 b (j * sz E + o) w ∷ Owned E 𝓤 y w
+      ∷ Bits E 𝓤 b (i * sz E + o) v ∷ Owned E 𝓤 x v ∷ ‵ p.Rest ∷ h ∷ Γ) G)
+      → Seq K 𝓛 (h ∷ ‵ (places (R E) xs b o) ∷ Γ) G
+  takes_two k {x} {y} b o xs i j p e next =
+      let here : ℕ = i * sz E + o in
+      let there : ℕ = j * sz E + o in
+      move k (1 ∷ []) $ use1 𝓛 (‵ (slot_place (R E) (get_or xs i None) b here) ⊛ ‵
+      (slot_place (R E) (get_or xs j None) b there) ⊛ ‵ p.Rest) p.out $ split3 k $
+      rewrite k 0 (λ (c : Slot E). ‵ (slot_place (R E) c b here)) e.0 refl $
+      rewrite k 1 (λ (c : Slot E). ‵ (slot_place (R E) c b there)) e.1 refl $
+      use1 𝓛 (some (λ (v : Val). given (Good E v) (Bits E 𝓤 b here v ⊛ Owned E 𝓤 x v)))
+      (el_out E 𝓛 b x here) $ pick k (λ v. learn k (λ good. split k $ move k (2 ∷ []) $
+      use1 𝓛 (some (λ (w : Val). given (Good E w) (Bits E 𝓤 b there w ⊛ Owned E 𝓤 y w)))
+      (el_out E 𝓛 b y there) $ pick k (λ w. learn k (λ good'. split k $ next v w good good'))))

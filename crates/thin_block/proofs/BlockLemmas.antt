@@ -1,0 +1,15 @@
+-- What a contract sees of a block, after one change more.
+use Rattle.std.proofs.Common.{◌≡◌, ℕ, List, ap, ◌∙◌}
+use Rattle.std.specs.Prelude.{Option}
+use Rattle.thin_block.specs.Block.{Seen}
+
+module _ {T A : Type 0} where
+  -- the slots are also s
+  pub slots-are : {v w : Seen T A} {s : List (Option T)} → v ≡ w → w.slots ≡ s
+      → v ≡ record w { slots = s }
+  slots-are {w = w} e h = e ∙ ap (λ (s : List (Option T)). record w { slots = s }) h
+
+  -- a length was stored after another change
+  pub then-len : {u v w : Seen T A} {n : ℕ} → w ≡ record v { len = n } → v ≡ u
+      → w ≡ record u { len = n }
+  then-len {n = n} e h = e ∙ ap (λ (v : Seen T A). record v { len = n }) h
