@@ -1,7 +1,7 @@
--- What answers about items, each beside the last one kept, leave, as one stretch of items follows
--- another.
-use Rattle.std.proofs.Common.{◌≡◌, ℕ, zero, suc, ◌+◌, ◌<◌, ◌≤◌, Bool, true, false, List, [], ◌∷◌, ◌++◌, length, take, drop, refl, sym, ap, subst, ◌∙◌, arith, inl, inr, length-append, append_assoc}
-use Rattle.std.proofs.lemmas.List.{append-nil, drop_at, length_push, nil_from_length, replicate-append-replicate, take_at}
+-- What is left of items of which each was asked about beside the last one kept, as one stretch of
+-- items follows another.
+use Rattle.std.proofs.Common.{◌≡◌, ℕ, zero, suc, ◌+◌, ◌<◌, Bool, true, false, List, [], ◌∷◌, ◌++◌, length, take, drop, refl, sym, ap, subst, ◌∙◌, arith, inl, inr, append_assoc}
+use Rattle.std.proofs.lemmas.List.{append-nil, drop_at, length_push, replicate-append-replicate, take_at}
 use Rattle.std.specs.List.{dedup, dedup_from}
 use Rattle.std.specs.Prelude.{MatchBool, cond, if◌then◌else◌, not, replicate}
 use Rattle.thin_block.specs.Cost.{Cost, moving}
@@ -43,7 +43,7 @@ moved-all : (n : ℕ) (b : List Bool) → moved_up (replicate n true ++ b) ≡ m
 moved-all zero b = refl
 moved-all (suc n) b = moved-all n b
 
--- by the answer
+-- a fact for each of the two results of a closure
 by-answer : (b : Bool) (P Q G : Type 0) → (P → G) → (Q → G) → MatchBool b P Q → G
 by-answer true P Q G f g m = f m
 by-answer false P Q G f g m = g m
@@ -80,7 +80,7 @@ module _ {S T : Type 0} (R : OnPairs S T) where
 
   -- a stretch that begins in the state t with l as the last item kept
   module _ (t u : S) (l : T) (g : List Bool) (ws zs : List T) (m : AskedLast R t l zs g ws u) where
-    -- goes on after one that ended so
+    -- a stretch that begins in t, with l kept, goes on after one that ended so
     last-append : (xs : List T) (s : S) (k : T) (f : List Bool) (pre : List T)
         → AskedLast R s k xs f (pre ++ l ∷ []) t → AskedLast R s k (xs ++ zs) (f ++ g) (pre ++ ws) u
     last-append [] s k f pre h =
@@ -140,7 +140,7 @@ module _ {S T : Type 0} (R : OnPairs S T) where
       }
 
   module _ (m : ℕ) (s : S) (xs : List T) (t : S) (ys : List T) (h : PairStays m s xs t ys) where
-    -- where the next two stand
+    -- where the next two items stand
     pub record NextPair (b : Bool) (u : S) (zs : List T)
         (a : IsPairAskedAt R m t ys b u zs) : Type 0 where
       pub front : a.before ≡ h.pre
@@ -163,7 +163,7 @@ module _ {S T : Type 0} (R : OnPairs S T) where
         ∙ drop_at a.before (a.kept ∷ a.later ∷ a.behind) (length h.pre) n) in
         record { front = sym fronts; last = sym (cons-head rests); behind = cons-tail rests }
 
-    -- what was asked, with the next
+    -- what was asked of the next item
     next-asked : (b : Bool) (u : S) (zs : List T) (a : IsPairAskedAt R m t ys b u zs)
         → R t a.later h.last b u a.later_left a.kept_left
     next-asked b u zs a = subst (λ (k : T). R t a.later k b u a.later_left a.kept_left)
@@ -230,28 +230,6 @@ module _ {S T : Type 0} (R : OnPairs S T) where
           stops = inl (refl, refl);
         }
 
-    pub pair-end : length ys ≤ m → PairRuns R m s xs t ys
-    pair-end short =
-        let none : h.behind ≡ [] =
-        nil_from_length h.behind (omega
-        (arith, short, ap length h.now, length-append h.pre (h.last ∷ h.behind), h.kept)) in
-        record {
-          first = h.first;
-          done = h.done;
-          behind = [];
-          more = length h.pre;
-          stays = all-stay (length h.pre);
-          left = h.pre ++ h.last ∷ [];
-          over = [];
-          was = h.was ∙ ap (λ (l : List T). h.first ∷ (h.done ++ l)) none;
-          asked = h.asked;
-          kept = h.kept;
-          long = omega (arith, length_push h.pre h.last, h.kept);
-          now = h.now ∙ (ap (λ (l : List T). h.pre ++ h.last ∷ l) none
-              ∙ sym (append-nil (h.pre ++ h.last ∷ [])));
-          stops = inr (refl, (refl, refl));
-        }
-
   -- ---- what a run leaves, once its items are in front
 
   module _ (m : ℕ) (s : S) (xs : List T) (t : S) (ys : List T) (r : PairRuns R m s xs t ys) where
@@ -261,7 +239,7 @@ module _ {S T : Type 0} (R : OnPairs S T) where
     pub run-over : drop m ys ≡ r.over ++ r.behind
     run-over = ap (drop m) r.now ∙ drop_at r.left (r.over ++ r.behind) m r.long
 
-    -- the item behind the run goes, or there is none
+    -- the item after the run goes, or there is none
     pub run-goes : (value : T) (rest : List T) → drop m ys ≡ value ∷ rest → (r.behind ≡ rest)
         × (r.stays ≡ all-stay r.more ++ false ∷ [])
     run-goes value rest k =
@@ -326,7 +304,7 @@ module _ {S T : Type 0} (R : OnPairs S T) where
         (last-goes s t a.kept x y a.kept_left a.asked) gap
         (now ∙ moved (λ i. a.now i) (sym (moving-none v.cost)))
 
-    -- it stays
+    -- the next item stays
     pub thins-stays : {s t : S} (x y : T) (front : List T)
         → IsLastAsked R s x v.front false t y front → v.rest ≡ x ∷ w.rest
         → 0 < w.before → Moved (front ++ y ∷ []) (moving 1 v.cost) → Thins R s v t w
@@ -339,12 +317,12 @@ module _ {S T : Type 0} (R : OnPairs S T) where
     module _ (s t u : S) (x y z : T) (front ys zs : List T)
         (a : IsLastAsked R s x v.front false t y front) (b : Bool)
         (n : IsNextAsked R t y ys b u z zs) (whole : v.rest ≡ x ∷ ys) where
-      -- what is in front then
+      -- what is in front once two items stayed
       two-front : (front ++ z ∷ [] ≡ a.before ++ a.kept_left ∷ z ∷ [])
       two-front = ap (λ (l : List T). l ++ z ∷ []) a.now
           ∙ append_assoc a.before (a.kept_left ∷ []) (z ∷ [])
 
-      -- and the one behind it goes
+      -- the next item stays, and the one after it goes
       pub thins-two : b ≡ true → (value : T) → zs ≡ value ∷ w.rest → 0 < w.before
           → Moved (front ++ z ∷ []) (moving 1 v.cost) → Thins R s v u w
       thins-two e value rest gap now =
@@ -358,7 +336,7 @@ module _ {S T : Type 0} (R : OnPairs S T) where
           a.was (whole ∙ ap (λ (l : List T). x ∷ l)
           (n.was ∙ ap (λ (l : List T). n.later ∷ l) same)) asked gap (now ∙ moved two-front refl)
 
-      -- and so does the one behind it, with a run
+      -- the next two items stay, with a run, and the one after the run goes
       pub thins-run : b ≡ false → (m : ℕ) (q : S) (ws : List T) (r : PairRuns R m u zs q ws)
           → r.behind ≡ w.rest → suc (trues r.stays) ≡ m
           → 0 < w.before → Moved ((front ++ z ∷ []) ++ take m ws) (moving m (moving 1 v.cost))
@@ -447,7 +425,7 @@ module _ {S T : Type 0} (R : OnPairs S T) where
     abbrev RunPassed : Type 0
     RunPassed = Moved v w (take m ys) v.cost
 
-    -- the item behind the run goes, and then all others were asked about
+    -- the item after the run goes, and then all others were asked about
     pub thinned-goes : (value : T) (u : S) (z : Open T A) → RunPassed → drop m ys ≡ value ∷ w.rest
         → Thins R t w u z → z.rest ≡ [] → IsThinned R s v u z
     thinned-goes value u z p k h none =
@@ -501,7 +479,7 @@ module _ {S T : Type 0} (R : OnPairs S T) where
           });
         }
 
--- a judge that holds a closure answers as the closure does
+-- a judge that holds a closure decides as the closure does
 module _ {J S T : Type 0} (R : OnPairs S T) (inside : J → S) where
   abbrev through : OnPairs J T
   through s x k b t y l = R (inside s) x k b (inside t) y l
@@ -526,7 +504,7 @@ module _ {J S T : Type 0} (R : OnPairs S T) (inside : J → S) where
   pairs-through [] s t f ys h = (h.0, h.1, ap inside h.2)
   pairs-through (x ∷ xs) s t f ys h = last-through xs s t x f ys h
 
-  -- so a list that such a judge thinned is one that the closure thinned
+  -- a list that such a judge thinned is one that the closure thinned
   pub deduped-through : {A : Type 0} (s : J) (v w : Thin T A) (t : J) → IsDedupedTo through s v w t
       → IsDedupedBy R (inside s) v w
   deduped-through s v w t h = (
@@ -538,19 +516,6 @@ module _ {J S T : Type 0} (R : OnPairs S T) (inside : J → S) where
       cost = h.cost;
     },
   )
-
--- fewer than two items stay as they are
-few-kept : {S T : Type 0} (R : OnPairs S T) (s : S) (xs : List T)
-    → length xs < 2 → AskedPairs R s xs [] xs s
-few-kept R s [] h = (refl, refl, refl)
-few-kept R s (x ∷ []) h = (refl, refl, refl)
-few-kept R s (x ∷ y ∷ xs) h = absurd (omega (arith, h))
-
--- so such a list is thinned without a question
-pub deduped-few : {S T A : Type 0} (R : OnPairs S T) (s : S)
-    (v : Thin T A) → length v.items < 2 → IsDedupedTo R s v v s
-deduped-few R s v few =
-    record { stays = []; asked = few-kept R s v.items few; cost = sym (moving-none v.cost) }
 
 -- where a test decides, what is left and what moves are functions of the items
 module _ {S T : Type 0} (E : T → T → Bool) where

@@ -29,7 +29,7 @@ module _ {T A G : Type 0} {g : Ghosts G} {h : HoldsGhosts (Holder (Open T A)) (O
   drain_keeps_along d (x ∷ xs) later e = drain_keeps_more d e.0 later e.1.keeps
       (drain_keeps_along e.0 xs later e.2)
 
-  -- and yield the range from its first item on
+  -- calls of `next` yield the range from its first item on
   pub drains_in_order : YieldsInOrder (DrainSteps {T = T} {A = A} {G = G} {g = g} {h = h})
       drain_rest
   drains_in_order p s =
@@ -37,7 +37,7 @@ module _ {T A G : Type 0} {g : Ghosts G} {h : HoldsGhosts (Holder (Open T A)) (O
       (from_front DrainSteps (λ x. x) drain_rest (λ a b n. ap length n.gave.0)
       (λ a x b n. n.gave) p s)
 
-  -- those of `next_back` yield it from its last
+  -- calls of `next_back` yield the range from its last item on
   pub drains_in_reverse : YieldsInReverse (DrainStepsBack {T = T} {A = A} {G = G} {g = g} {h = h})
       drain_rest
   drains_in_reverse p s =

@@ -7,11 +7,12 @@ use Rattle.std.proofs.lemmas.List.Edits.{length-insert, length-remove}
 use Rattle.std.specs.Prelude.{IsSome, insert, remove}
 use Rattle.std.specs.List.{swap_remove}
 use lib.ListN.{set, length-set, replicate}
-use Rattle.thin_block.specs.Block.{IsFrom}
+use Rattle.thin_block.specs.Cost.{Cost}
 use Rattle.thin_block.specs.Slots.{full, empty, slot, items_in, front, moved}
 use Rattle.thin_block.specs.declared.block.Block.{Block}
 use Rattle.thin_vec.specs.ThinVec.{IsThin}
-use Rattle.thin_vec.proofs.ListLemmas.{IsWritten, Settled, settled, from-same, front-pop, last-item, length-full, settle-pop, thin-filled, thin-room, full-take}
+use Rattle.thin_vec.proofs.ListLemmas.{IsWritten, Settled, settle-front, front-pop, last-item, length-full, settle-pop, thin-filled, thin-room, full-take}
+use Rattle.thin_block.proofs.BlockLemmas.{slots-are}
 use Rattle.thin_block.proofs.SlotsLemmas.{same_or_not, the_item, moved_left, moved_right}
 use lib.Seq.{set-set, take-set-le}
 use mathlib.Core.Logic.{⊎_elim}
@@ -19,7 +20,7 @@ use mathlib.Core.Logic.{⊎_elim}
 -- ---- a run moves by one place
 
 module _ {T : Type 0} where
-  -- one item is taken, and those behind it close the gap
+  -- one item is taken, and those after it close the gap
   pub front-remove : (xs : List T) (c i : ℕ) {j k : ℕ} → i < length xs → length xs ≤ c → j ≡ i + 1
       → k ≡ length xs - j → moved j i k (set (front xs c) i None) ≡ front (remove xs i) c
   front-remove [] c i h l e n = absurd (omega arith)
@@ -42,15 +43,15 @@ module _ {T : Type 0} where
   -- the items from i on make room for one
   module _ (xs : List T) (c i : ℕ) {j k : ℕ} (h : i ≤ length xs) (l : length xs < c) (e : j ≡ i + 1)
       (n : k ≡ length xs - i) where
-    -- the slots behind that one
+    -- the slots after the room for the item
     behind : List (Option T)
     behind = full (drop i xs) ++ replicate (c - length xs - 1) None
 
-    -- those before it
+    -- how many slots lie before the room for the item
     before : i ≡ length (full (take i xs))
     before = omega (arith, length-full (take i xs), length-take i xs)
 
-    -- it is empty between the two
+    -- the room between the slots before it and after it is one empty slot
     apart : moved i j k (front xs c) ≡ full (take i xs) ++ (None ∷ behind)
     unfolding behind
     apart =
@@ -68,7 +69,7 @@ module _ {T : Type 0} where
         ap (λ (ys : List (Option T)). moved i j k ys) s
         ∙ moved_right i j k 1 (full a) (full b) r before e q
 
-    -- the item that goes in
+    -- the slots once the item is in
     pub front-insert : (v : T)
         → set (moved i j k (front xs c)) i (Some v) ≡ front (insert xs i v) c
     unfolding behind
@@ -82,7 +83,7 @@ module _ {T : Type 0} where
         ∙ (ap (λ (ys : List (Option T)). ys ++ r) (sym (map-append (λ (y : T). Some y) a (v ∷ b)))
         ∙ ap (λ (z : ℕ). full (insert xs i v) ++ replicate z None) m)))
 
-    -- before it does, its slot is empty
+    -- before the item is in, its slot is empty
     front-gap : slot (moved i j k (front xs c)) i ≡ None
     front-gap =
         ap (λ (ys : List (Option T)). slot ys i) apart
@@ -91,29 +92,29 @@ module _ {T : Type 0} where
 module _ {T A : Type 0} {b : Block T A} {a : A} (t : IsThin b a) where
   -- an item came out
   pub settle-remove : (b' : Block T A) (i : ℕ) {j k : ℕ} → i < length (items_in b.slots)
-      → j ≡ i + 1 → k ≡ b.len - j → IsWritten b b' (moved j i k (set b.slots i None)) (b.len - 1)
+      → j ≡ i + 1 → k ≡ b.len - j → {l : ℕ} {m : Cost} → l ≡ b.len
+      → IsWritten b b' (moved j i k (set b.slots i None)) (l - 1) m
       → Settled b' a (remove (items_in b.slots) i) (length b.slots)
-  settle-remove b' i {j} {k} h e n w =
+  settle-remove b' i {j} {k} h e n len w =
       let xs : List T = items_in b.slots in let c : ℕ = length b.slots in
-      settled b' a (remove xs i) c
-      (w.slots ∙ (ap (λ (r : List (Option T)). moved j i k (set r i None)) t.packed.row
-      ∙ front-remove xs c i h (thin-room b a t) e (omega (arith, n, t.packed.len))))
-      (omega (arith, w.len, t.packed.len, length-remove xs i h))
-      (omega (arith, thin-room b a t, length-remove xs i h)) (from-same b b' a t.from w.alloc)
+      settle-front t b' (remove xs i) c w
+      (ap (λ (r : List (Option T)). moved j i k (set r i None)) t.packed.row
+      ∙ front-remove xs c i h (thin-room b a t) e (omega (arith, n, t.packed.len)))
+      (omega (arith, len, t.packed.len, length-remove xs i h))
+      (omega (arith, thin-room b a t, length-remove xs i h))
 
   -- an item went in
   pub settle-insert : (b' : Block T A) (i : ℕ) (v : T) {j k : ℕ} → i ≤ length (items_in b.slots)
-      → b.len < length b.slots → j ≡ i + 1 → k ≡ b.len - i
-      → IsWritten b b' (set (moved i j k b.slots) i (Some v)) (b.len + 1)
+      → b.len < length b.slots → j ≡ i + 1 → k ≡ b.len - i → {l : ℕ} {m : Cost} → l ≡ b.len
+      → IsWritten b b' (set (moved i j k b.slots) i (Some v)) (l + 1) m
       → Settled b' a (insert (items_in b.slots) i v) (length b.slots)
-  settle-insert b' i v {j} {k} h o e n w =
+  settle-insert b' i v {j} {k} h o e n len w =
       let xs : List T = items_in b.slots in let c : ℕ = length b.slots in
-      settled b' a (insert xs i v) c
-      (w.slots ∙ (ap (λ (r : List (Option T)). set (moved i j k r) i (Some v)) t.packed.row
-      ∙ front-insert xs c i h (omega (arith, o, t.packed.len)) e (omega (arith, n, t.packed.len))
-      v))
-      (omega (arith, w.len, t.packed.len, length-insert xs i v h))
-      (omega (arith, o, t.packed.len, length-insert xs i v h)) (from-same b b' a t.from w.alloc)
+      settle-front t b' (insert xs i v) c w
+      (ap (λ (r : List (Option T)). set (moved i j k r) i (Some v)) t.packed.row
+      ∙ front-insert xs c i h (omega (arith, o, t.packed.len)) e (omega (arith, n, t.packed.len)) v)
+      (omega (arith, len, t.packed.len, length-insert xs i v h))
+      (omega (arith, o, t.packed.len, length-insert xs i v h))
 
   -- after a run has moved one place back, the slot that it left is empty
   pub thin-gap : (i : ℕ) {j k : ℕ} → i ≤ length (items_in b.slots) → b.len < length b.slots
@@ -131,7 +132,7 @@ module _ {T : Type 0} where
   emptying xs k i c =
       full (take k xs) ++ (empty (i - k) ++ (full (drop i xs) ++ empty (c - length xs)))
 
-  -- the item at i, and those behind it
+  -- the item at i, and those after it
   item-at : (xs : List T) (i : ℕ) → i < length xs → (x : T) × (drop i xs ≡ x ∷ drop (i + 1) xs)
   item-at [] i h = absurd (omega arith)
   item-at (x ∷ xs) zero h = (x, refl)
@@ -143,11 +144,11 @@ module _ {T : Type 0} where
             e),
       )
 
-  -- filled slots behind filled slots
+  -- filled slots after filled slots
   pub full-append : (xs ys : List T) → full (xs ++ ys) ≡ full xs ++ full ys
   full-append xs ys = map-append (λ (x : T). Some x) xs ys
 
-  -- before the first is out
+  -- with no item out, the slots are those of the list
   pub emptying-none : (xs : List T) (k c : ℕ) → emptying xs k k c ≡ front xs c
   emptying-none xs k c =
       let r : List (Option T) = empty (c - length xs) in
@@ -200,7 +201,7 @@ module _ {T : Type 0} where
         ∙ ap (λ (s : List (Option T)). s ++ post)
         (replicate-append-replicate (i - k) 1 None ∙ ap empty more))))
 
-  -- once all are out, the first k are left
+  -- once all items from k on are out, the first k are left
   pub emptying-all : (xs : List T) (k c : ℕ) → k ≤ length xs → length xs ≤ c
       → emptying xs k (length xs) c ≡ front (take k xs) c
   emptying-all xs k c order room =
@@ -246,15 +247,16 @@ module _ {T : Type 0} where
 
 module _ {T A : Type 0} where
   -- once all items are out
-  pub settle-emptied : (b b' : Block T A) (a : A) → IsFrom b a → b'.slots ≡ empty (length b.slots)
-      → b'.len ≡ 0 → b'.alloc ≡ b.alloc → Settled b' a [] (length b.slots)
-  settle-emptied b b' a from s l f = settled b' a [] (length b.slots)
-      (s ∙ front-none (length b.slots)) l (omega arith) (from-same b b' a from f)
+  pub settle-emptied : {b : Block T A} {a : A} → IsThin b a → (b' : Block T A)
+      {s : List (Option T)} {m : Cost} → IsWritten b b' s 0 m → s ≡ empty (length b.slots)
+      → Settled b' a [] (length b.slots)
+  settle-emptied {b} t b' w e =
+      settle-front t b' [] (length b.slots) w (e ∙ front-none (length b.slots)) refl (omega arith)
 
   module _ {b : Block T A} {a : A} (t : IsThin b a) (b' : Block T A) (i last : ℕ) where
     -- an item came out, and the last one went into its place
     settle-swap_remove : (v : T) {m : T} → i < last → last + 1 ≡ b.len → slot b.slots last ≡ Some m
-        → IsWritten b b' (set (set (set b.slots i None) last None) i (Some m)) last
+        → {k : Cost} → IsWritten b b' (set (set (set b.slots i None) last None) i (Some m)) last k
         → Settled b' a (swap_remove (items_in b.slots) i v) (length b.slots)
     settle-swap_remove v {m} lt n held w =
         let xs : List T = items_in b.slots in
@@ -263,18 +265,18 @@ module _ {T A : Type 0} where
         let ys : List T = take last xs in
         let long : length ys ≡ last = length-take-le last xs (omega arith) in
         let room : length (ys ++ m ∷ []) ≤ c = omega (arith, thin-room b a t, ap length at_end) in
-        let slots : b'.slots ≡ set (set (set (front (ys ++ m ∷ []) c) i None) (length ys) None) i
-        (Some m) =
-        w.slots ∙ (ap (λ (s : List (Option T)). set (set (set s i None) last None) i (Some m))
+        let slots : set (set (set b.slots i None) last None) i (Some m) ≡ set
+        (set (set (front (ys ++ m ∷ []) c) i None) (length ys) None) i (Some m) =
+        ap (λ (s : List (Option T)). set (set (set s i None) last None) i (Some m))
         (t.packed.row ∙ ap (λ (l : List T). front l c) at_end)
         ∙ ap (λ (k : ℕ). set (set (set (front (ys ++ m ∷ []) c) i None) k None) i (Some m))
-        (sym long)) in
+        (sym long) in
         let cut : length (swap_remove (ys ++ m ∷ []) i v) ≡ last =
         length-swap_remove ys i v m long (omega arith) in
         let done : Settled b' a (swap_remove (ys ++ m ∷ []) i v) c =
-        settled b' a (swap_remove (ys ++ m ∷ []) i v) c
-        (slots ∙ front-swap_remove ys c i v m (omega (arith, long)) room) (w.len ∙ sym cut)
-        (omega (arith, cut, room, length_push ys m, long)) (from-same b b' a t.from w.alloc) in
+        settle-front t b' (swap_remove (ys ++ m ∷ []) i v) c w
+        (slots ∙ front-swap_remove ys c i v m (omega (arith, long)) room) (sym cut)
+        (omega (arith, cut, room, length_push ys m, long)) in
         subst (λ (l : List T). Settled b' a (swap_remove l i v) c) (sym at_end) done
       where
         length-swap_remove : (ys : List T) (i : ℕ) (v m : T) {k : ℕ} → length ys ≡ k → i < k
@@ -292,7 +294,7 @@ module _ {T A : Type 0} where
 
     -- the last item takes the place of the i-th, which may be the last itself
     pub settle-replaced : (v : T) → i ≤ last → last + 1 ≡ b.len → slot b.slots i ≡ Some v
-        → IsWritten b b' (set (set b.slots i (slot b.slots last)) last None) last
+        → {k : Cost} → IsWritten b b' (set (set b.slots i (slot b.slots last)) last None) last k
         → Settled b' a (swap_remove (items_in b.slots) i v) (length b.slots)
     settle-replaced v le n gave w =
         let xs : List T = items_in b.slots in
@@ -301,27 +303,19 @@ module _ {T A : Type 0} where
         let short : length xs - 1 ≡ last = omega (arith, n, t.packed.len) in
         ⊎_elim (λ (same : i ≡ last).
         let popped : Settled b' a (take last xs) c =
-        settle-pop t b' v last n (sym (ap (λ (k : ℕ). slot b.slots k) same) ∙ gave) (record {
-          slots = w.slots
-              ∙ (ap (λ (k : ℕ). set (set b.slots k (slot b.slots last)) last None) same
-              ∙ set-set b.slots last (slot b.slots last) None);
-          len = w.len;
-          alloc = w.alloc;
-        }) in
+        settle-pop t b' v last n (sym (ap (λ (k : ℕ). slot b.slots k) same) ∙ gave)
+        (slots-are w (ap (λ (k : ℕ). set (set b.slots k (slot b.slots last)) last None) same
+        ∙ set-set b.slots last (slot b.slots last) None)) in
         let is : take last xs ≡ swap_remove xs i v =
         sym (ap (λ (k : ℕ). take k (set xs i (get_or xs k v))) short
         ∙ take-set-le last xs i (get_or xs last v) (omega (arith, same))) in
         subst (λ (ys : List T). Settled b' a ys c) is popped)
         (λ (apart : i ≡ last → ⊥).
         let m = the_item (slot b.slots last) (thin-filled b a last t low) in
-        settle-swap_remove v {m = m.0} (omega (arith, le, apart)) n m.1 (record {
-          slots = w.slots
-              ∙ (ap (λ (o : Option T). set (set b.slots i o) last None) m.1
-              ∙ (set_comm b.slots i last (Some m.0) None apart
-              ∙ sym (ap (λ (r : List (Option T)). set r i (Some m.0))
-              (set_comm b.slots i last None None apart)
-              ∙ set-set (set b.slots last None) i None (Some m.0))));
-          len = w.len;
-          alloc = w.alloc;
-        }))
+        settle-swap_remove v {m = m.0} (omega (arith, le, apart)) n m.1
+        (slots-are w (ap (λ (o : Option T). set (set b.slots i o) last None) m.1
+        ∙ (set_comm b.slots i last (Some m.0) None apart
+        ∙ sym (ap (λ (r : List (Option T)). set r i (Some m.0))
+        (set_comm b.slots i last None None apart)
+        ∙ set-set (set b.slots last None) i None (Some m.0))))))
         (same_or_not i last)

@@ -1,5 +1,5 @@
 -- What calls of `next` gave, and what a block and a list are once it was placed.
-use Rattle.std.proofs.Common.{true, ◌≡◌, ℕ, ◌+◌, ◌-◌, ◌<◌, ◌≤◌, List, [], ◌∷◌, ◌++◌, inl, inr, length, Option, Some, refl, sym, ap, subst, ◌∙◌, arith, false, Bool, ltb}
+use Rattle.std.proofs.Common.{true, ◌≡◌, ℕ, ◌+◌, ◌<◌, ◌≤◌, List, [], ◌∷◌, ◌++◌, inl, inr, length, Option, Some, refl, sym, ap, subst, ◌∙◌, arith, false, Bool, ltb}
 use Rattle.std.proofs.lemmas.Bool.{cases_lt, lt-ltb}
 use borrow.Author.Tests.{le-ltb}
 use Rattle.std.proofs.lemmas.List.{map-append}
@@ -14,7 +14,8 @@ use Rattle.std.specs.Prelude.{OnOk, IfErr}
 use Rattle.std.proofs.lemmas.Bool.{false≢true}
 use Rattle.std.specs.Option.{option_to_list}
 use lib.ListN.{set}
-use Rattle.thin_block.specs.Cost.{Cost, moving}
+use Rattle.thin_block.specs.Block.{Seen}
+use Rattle.thin_block.specs.Cost.{moving}
 use Rattle.thin_block.specs.Growth.{Rule, KeepsLaw, exact_capacity}
 use Rattle.thin_block.specs.Slots.{full, laid}
 use Rattle.thin_block.proofs.CapacityLemmas.{ruled-grows}
@@ -22,7 +23,7 @@ use Rattle.thin_block.proofs.SlotsLemmas.{laid-one}
 use Rattle.std.specs.Prelude.{◌⊎◌}
 use Rattle.thin_vec.specs.Extend.{GaveUp, IsCollected, IsExtendCost, IsLoose, IsNamed}
 use Rattle.thin_vec.specs.ThinVec.{Thin, capacity_for, cost_at}
-use Rattle.thin_vec.proofs.FiltersLemmas.{moving-more}
+use Rattle.thin_vec.proofs.FiltersLemmas.{moving-more, moving-none}
 use Rattle.thin_vec.proofs.ListLemmas.{length-full}
 use Rattle.thin_vec.proofs.ThinVecLemmas.{cap-kept, cost_at-more, cost_at-moves, cost_at-same}
 
@@ -51,7 +52,7 @@ module _ {S X : Type 0} (steps : S → Option X → S → Type 0) where
       → WholeRun steps s (λ p. P p.items)
   run_of s P all = (run steps s all.0 true (to_end steps s all.0 all.1), refl, refl, all.2)
 
-  -- the same, where the answer is `Ok`
+  -- calls that went on to `None`, as a run, where the result is `Ok`
   pub run_of_ok : {E : Type 0} (s : S) (P : List X → Type 0) (r : Result (Unit {0}) E)
       → OnOk r ((xs : List X) × Drains steps s xs × P xs)
       → OnOk r (WholeRun steps s (λ p. P p.items))
@@ -59,13 +60,13 @@ module _ {S X : Type 0} (steps : S → Option X → S → Type 0) where
   run_of_ok s P (Err _) all = tt
 
 module _ {S X : Type 0} (steps : S → Option X → S → Type 0) (s : S) where
-  -- what calls gave up to a refusal, as a run
+  -- what calls yielded up to a failure, as a run
   pub run_given : (xs : List X) (o : Option X) (t : S) (P : List X → Type 0)
       → GaveUp steps s xs o t → P (xs ++ option_to_list o) → SomeRun steps s (λ p. P p.items)
   run_given xs o t P gave h =
       (run steps s (xs ++ option_to_list o) false (t, gave, λ e. absurd (false≢true e)), refl, h)
 
-  -- the same, where the answer is `Err`
+  -- what calls yielded up to a failure, as a run, where the result is `Err`
   pub run_given_err : {E : Type 0} (hand : E → Option X) (rest : E → S)
       (P : List X → Type 0) (r : Result (Unit {0}) E)
       → IfErr r (λ e. (xs : List X) × P xs × GaveUp steps s xs (hand e) (rest e))
@@ -89,13 +90,25 @@ module _ {T : Type 0} where
         ∙ ap (λ (l : List (Option T)). laid i l r)
         (sym (map-append (λ (y : T). Some y) xs (x ∷ [])))))
 
--- one move more, of those since the k-th
-pub moving-since : (i k : ℕ) (now before : Cost) → k ≤ i → now ≡ moving (i - k) before
-    → moving 1 now ≡ moving (i + 1 - k) before
-moving-since i k now before order e =
-    ap (λ c. moving 1 c) e
-    ∙ (moving-more 1 (i - k) before ∙ ap (λ n. moving n before)
-    (let f : i - k + 1 ≡ i + 1 - k = omega (arith, order) in f))
+module _ {T A : Type 0} where
+  -- a block before the first item is put
+  pub put-none : (v : Seen T A) (n : ℕ) → n ≡ 0 → v ≡ record v { cost = moving n v.cost }
+  put-none v n none = λ i. record v
+      { cost = (sym (moving-none v.cost) ∙ ap (λ (k : ℕ). moving k v.cost) (sym none)) i }
+
+  -- a block after one item more is put
+  pub put-more : (u : Seen T A) {v w : Seen T A} {s : List (Option T)} (n k : ℕ) → k ≡ n + 1
+      → w ≡ record v { slots = s; cost = moving 1 v.cost }
+      → v ≡ record u { slots = v.slots; cost = moving n u.cost }
+      → w ≡ record u { slots = w.slots; cost = moving k u.cost }
+  put-more u {w = w} n k one put was = λ i. record {
+    slots = w.slots;
+    len = (ap (λ (z : Seen T A). z.len) put ∙ ap (λ (z : Seen T A). z.len) was) i;
+    alloc = (ap (λ (z : Seen T A). z.alloc) put ∙ ap (λ (z : Seen T A). z.alloc) was) i;
+    cost = (ap (λ (z : Seen T A). z.cost) put
+        ∙ (ap (λ (z : Seen T A). moving 1 z.cost) was
+        ∙ (moving-more 1 n u.cost ∙ ap (λ (m : ℕ). moving m u.cost) (sym one)))) i;
+  }
 
 -- an iterator ended where it left room
 pub short-ends : (b : Bool) (m n : ℕ) → (b ≡ true → m < n) → (b ≡ false → m ≡ n) → b ≡ ltb m n
@@ -105,7 +118,7 @@ short-ends false m n short full = sym (le-ltb m n (omega (arith, full refl)))
 -- ---- how a capacity grows over several calls
 
 module _ (rule : Rule) (R : RattleType) (law : KeepsLaw rule) where
-  -- what the rule names is above what was there
+  -- what a loose capacity grew to is not less than before
   pub loose-le : (c d : ℕ) → IsLoose rule R c d → c ≤ d
   loose-le c d (inl e) = omega arith
   loose-le c d (inr p) = let g = ruled-grows rule R c p.0 p.1 law p.2 p.3 in
@@ -158,7 +171,7 @@ module _ {T A : Type 0} where
         (omega (arith, ap (λ c. c.blocks) f), omega (arith, ap (λ c. c.grown) f));
   }
 
-  -- none came in
+  -- where no item came in, the cost is that of the room
   pub filled-reserved : (v w : Thin T A) → w.cost ≡ cost_at v w.capacity
       → w.items ≡ v.items → IsExtendCost v w
   filled-reserved v w e n =
@@ -172,11 +185,12 @@ module _ {T A : Type 0} where
             z) i;
       })) (omega (arith, ap length n))
 
-  -- without a growth
-  pub filled-spare : (v w : Thin T A) (k : ℕ) → w.cost ≡ moving k v.cost → w.capacity ≡ v.capacity
+  -- items came in without a growth
+  pub filled-spare : (v w : Thin T A) (k : ℕ)
+      → w ≡ record v { items = w.items; cost = moving k v.cost }
       → length w.items ≡ length v.items + k → IsExtendCost v w
-  filled-spare v w k e same n =
-      filled-at v w k (e ∙ ap (λ c. moving k c) (sym (cost_at-same v w.capacity same))) n
+  filled-spare v w k e n = filled-at v w k (ap (λ u. u.cost) e
+      ∙ ap (λ c. moving k c) (sym (cost_at-same v w.capacity (ap (λ u. u.capacity) e)))) n
 
   -- one step after another
   pub filled-join : {v u w : Thin T A} → IsExtendCost v u → IsExtendCost u w

@@ -9,13 +9,13 @@ use Rattle.thin_vec.specs.Filters.{Answers, Asked, stay}
 use Rattle.thin_vec.specs.Sifting.{Runs, Stops}
 use Rattle.thin_vec.proofs.FiltersLemmas.{cons-head, cons-not-nil, cons-tail}
 
--- a test that is turned round twice
+-- a test that is negated twice
 pub not-not : (b : Bool) → not (not b) ≡ b
 not-not true = refl
 not-not false = refl
 
 module _ {F T : Type 0} (R : F → T → Bool → F → T → Type 0) where
-  -- each item stays, is handed out, or is still to be asked about
+  -- each item stays, was yielded, or is still to be asked about
   pub picked-count : (s : F) (xs : List T) (item : Option T) (t : F) (kept rest : List T)
       → ExtractsNext R s xs item t kept rest → length xs ≡ length kept + length
       (option_to_list item) + length rest
@@ -43,7 +43,7 @@ module _ {F T : Type 0} (R : F → T → Bool → F → T → Type 0) where
     abbrev J : S → T → Bool → S → T → Type 0
     J s x b t y = R (of s) x (not b) (of t) y
 
-    -- the item that was picked from those behind a run that stays
+    -- the item that was picked from those after a run that stays
     module _ (between : S) (behind : List T) (item : Option T) (t : F) (rest : List T)
         (e : ExtractsNext R (of between) behind item t [] rest) where
       picked-behind : (s : S) (run left : List T) → Asked J s run (stay left) between

@@ -22,13 +22,13 @@ exact-few R (suc n) few small =
 none_some : {A B : Type 0} (x : A) → None ≡ Some x → B
 none_some x e = cc
 
--- where there is a capacity, memory was refused
+-- where a capacity was named, the cause is `OutOfMemory`
 cause-named : (named : Option ℕ) (n : ℕ) (cause : ThinVecError) → named ≡ Some n
     → IsCause named cause → cause ≡ OutOfMemory
 cause-named named n OutOfMemory here told = refl
 cause-named named n CapacityOverflow here told = none_some n (sym (told refl) ∙ here)
 
--- so a call that wants room for few items fails only because memory was refused
+-- a call that wants room for few items fails only as `OutOfMemory`
 pub few_items : {X : Type 0} (R : RattleType) (n : ℕ) (result : Result X ThinVecError)
     → n < 2 ^ 31 → type_size R < 2 ^ 31 → IfErr result (IsCause (exact_capacity R 0 n))
     → IfErr result (λ cause. cause ≡ OutOfMemory)
@@ -60,7 +60,7 @@ doubling-few R c w few small = elim (cases_lt c w) [
   | inr enough ↦ (c, ruled-same doubling R c w enough)
 ]
 
--- so a call that wants room for few items more fails only because memory was refused
+-- a call that wants room for few items more fails only as `OutOfMemory`
 pub few_more : {X : Type 0} (R : RattleType) (c w : ℕ) (result : Result X ThinVecError)
     → w < 2 ^ 30 → type_size R < 2 ^ 31 → IfErr result (IsCause (ruled_capacity doubling R c w))
     → IfErr result (λ cause. cause ≡ OutOfMemory)

@@ -65,7 +65,7 @@ closed-moves v w n paid none same count = go (eqb w.before 0) refl
         false-true : false ≡ true → ⊥
         false-true h = cc
 
--- the moves of items that went into a list, when the items behind were moved up before
+-- the moves of items that went into a list, when the items after them were moved up before
 pub run-moves : (count n k m : ℕ) (c d : Cost) → d ≡ (if eqb count 0 then c else moving n c)
     → (x : ℕ) × (moving (k + m) d ≡ moving (k + x) c) × (x ≤ n + m)
 run-moves count n k m c d e = go (eqb count 0) e
@@ -82,7 +82,7 @@ run-moves count n k m c d e = go (eqb count 0) e
     )
 
 module _ {S X : Type 0} (steps : S → Option X → S → Type 0) where
-  -- what was held, what went behind it, and one call more
+  -- what was held, what came after it, and one call more
   pub yields-held : (s t u : S) (xs ys zs : List X) (o : Option X) → Yields steps s xs t
       → zs ≡ xs ++ ys → YieldsThen steps t ys o u → YieldsThen steps s zs o u
   yields-held s t u xs ys zs o before e now = (
@@ -92,7 +92,7 @@ module _ {S X : Type 0} (steps : S → Option X → S → Type 0) where
     now.2,
   )
 
-  -- where that call gave an item
+  -- what was held and one call more, where that call gave an item
   pub yields-drawn : (s u : S) (xs : List X) (o : Option X) (x : X) → o ≡ Some x
       → YieldsThen steps s xs o u → Yields steps s (xs ++ x ∷ []) u
   yields-drawn s u xs o x is all =
@@ -154,7 +154,7 @@ pub any-err : {X E : Type 0} {Q : E → Type 0} (r : Result X E) → ((e : E) �
 any-err (Ok _) h = tt
 any-err (Err e) h = h e
 
--- how many there are once items went in
+-- how many items there are once some went in
 pub inserted-long : {T : Type 0} (xs ys : List T) (at : ℕ) → at ≤ length xs
     → length ((take at xs ++ ys) ++ drop at xs) ≡ length xs + length ys
 inserted-long xs ys at in_bounds =
@@ -269,19 +269,22 @@ unmoved true c n none = refl
 unmoved false c n none = ap (λ k. moving k c) none ∙ sym (moving-zero c)
 
 module _ {T A : Type 0} where
-  -- an open block with no item behind its front, once it is closed
-  pub closed-left : (v : Open T A) (u : Thin T A) (a : A) → v.rest ≡ [] → v.tail ≡ []
-      → u.items ≡ items_of v → u.capacity ≡ v.capacity → u.alloc ≡ a → u.cost ≡ cost_closed v
-      → u ≡ left_of v a
-  closed-left v u a none no_tail items same from paid =
-      let here : u.items ≡ v.front ++ v.tail = items ∙ ap (λ r. v.front ++ (r ++ v.tail)) none in
+  -- an open block with no item after its front, once it is closed
+  pub closed-left : (v : Open T A) (u : Thin T A) → v.rest ≡ [] → v.tail ≡ []
+      → record u { items = items_of v; capacity = v.capacity; cost = cost_closed v }
+      ≡ left_of v u.alloc
+  closed-left v u none no_tail =
       let free : cost_closed v ≡ v.cost =
       unmoved (eqb v.before 0) v.cost (length v.rest + length v.tail)
       (omega (arith, ap length none, ap length no_tail)) in
-      let cost : u.cost ≡ v.cost = paid ∙ free in
-      λ i. record { items = here i; capacity = same i; alloc = from i; cost = cost i }
+      λ i. record {
+        items = v.front ++ (none i ++ v.tail);
+        capacity = v.capacity;
+        alloc = u.alloc;
+        cost = free i;
+      }
 
-  -- more items go in behind those that went in before
+  -- more items go in after those that went in before
   pub between-more : (v : Open T A) (us xs ys : List T) (end : ℕ) → us ≡ with_between v xs
       → end ≡ length v.front + length xs
       → (take end us ++ ys) ++ drop end us ≡ with_between v (xs ++ ys)
@@ -292,13 +295,13 @@ module _ {T A : Type 0} where
       ∙ ((λ i. (take_at pre v.tail end here i ++ ys) ++ drop_at pre v.tail end here i)
       ∙ ap (λ l. l ++ v.tail) (append_assoc v.front xs ys))
 
-  -- how many there are then
+  -- how many items there are with xs in the place of the middle run
   pub between-length : (v : Open T A) (xs : List T)
       → length (with_between v xs) ≡ length v.front + length xs + length v.tail
   between-length v xs =
       omega (arith, length-append (v.front ++ xs) v.tail, length-append v.front xs)
 
-  -- with no tail, what lies in the gap lies behind all
+  -- with no tail, what lies in the gap lies after all
   pub behind-items : (v : Open T A) (xs : List T) → v.tail ≡ []
       → (v.front ++ v.tail) ++ xs ≡ with_between v xs
   behind-items v xs none =
@@ -306,7 +309,7 @@ module _ {T A : Type 0} where
       ∙ (ap (λ l. l ++ xs) (append-nil v.front)
       ∙ (sym (append-nil (v.front ++ xs)) ∙ (λ i. (v.front ++ xs) ++ sym none i)))
 
-  -- the cost of what went behind all is that of what went between
+  -- the cost of what went after all is that of what went between
   pub spliced-extended : (v w : Thin T A) (n : ℕ) → IsExtendCost v w → IsSpliced v w n
   spliced-extended v w n p =
       record {

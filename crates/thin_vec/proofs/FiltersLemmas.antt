@@ -1,4 +1,4 @@
--- What answers about items leave, as one stretch of items follows another.
+-- What is left of items that a closure was asked about, as one stretch of items follows another.
 use Rattle.std.proofs.Common.{◌≡◌, ℕ, zero, suc, ◌+◌, ◌<◌, ◌≤◌, Bool, true, false, List, [], ◌∷◌, ◌++◌, length, take, drop, refl, sym, ap, subst, ◌∙◌, arith, length-append, append_assoc}
 use Rattle.std.proofs.lemmas.Bool.{ne_eqb}
 use Rattle.std.proofs.lemmas.List.{append-nil, drop_at, length-drop, length-take-le, map-append, map_push, nil_from_length, take-append-drop, take_at}
@@ -22,28 +22,28 @@ pub moving-none : (c : Cost) → moving 0 c ≡ c
 moving-none c = let e : c.moves + 0 ≡ c.moves = omega arith in
     λ i. record { blocks = c.blocks; grown = c.grown; moves = e i }
 
--- what moves cost behind a gap; where there is none; and for no item
+-- where there is a gap, the moves are paid
 pub moving-behind : (gap k : ℕ) (c : Cost) → 0 < gap
     → (if gap == 0 then c else moving k c) ≡ moving k c
 moving-behind gap k c some =
     ap (λ (b : Bool). if b then c else moving k c)
     (ne_eqb gap 0 (λ (e : gap ≡ 0). omega (arith, e)))
 
--- with no gap nothing moves
+-- where there is no gap, nothing moves
 pub moving-before : (gap k : ℕ) (c : Cost) → (0 < gap → ⊥)
     → (if gap == 0 then c else moving k c) ≡ c
 moving-before zero k c none = refl
 moving-before (suc gap) k c none = absurd (none (omega arith))
 
--- a list of one item and more, by its parts
+-- two equal lists that begin with an item begin with equal ones
 pub cons-head : {X : Type 0} {x y : X} {xs ys : List X} → x ∷ xs ≡ y ∷ ys → x ≡ y
 cons-head e = cc
 
--- its other items
+-- two equal lists that begin with an item have equal rests
 pub cons-tail : {X : Type 0} {x y : X} {xs ys : List X} → x ∷ xs ≡ y ∷ ys → xs ≡ ys
 cons-tail e = ap (drop 1) e
 
--- it is not empty
+-- a list that begins with an item is not empty
 pub cons-not-nil : {X : Type 0} {x : X} {xs : List X} → x ∷ xs ≡ [] → ⊥
 cons-not-nil e = let n = ap length e in omega (arith, n)
 
@@ -53,36 +53,36 @@ single [] e = absurd (omega (arith, e))
 single (x ∷ []) e = (x, refl)
 single (x ∷ y ∷ xs) e = absurd (omega (arith, e))
 
--- where none is left
+-- a list of which none is left is empty
 pub none-left : {X : Type 0} (xs : List X) → (0 < length xs → ⊥) → xs ≡ []
 none-left [] none = refl
 none-left (x ∷ xs) none = absurd (none (omega arith))
 
 module _ {T : Type 0} where
-  -- those that stay of two stretches
+  -- the items that stay of two stretches
   pub left_at-append : (a b : Answers T) → left_at true (a ++ b) ≡ left_at true a ++ left_at true b
   left_at-append [] b = refl
   left_at-append ((true, x) ∷ a) b = ap (λ (l : List T). x ∷ l) (left_at-append a b)
   left_at-append ((false, x) ∷ a) b = left_at-append a b
 
-  -- how many those are
+  -- how many items stay of two stretches
   pub trues-append : (a b : Answers T) → trues (flags_of (a ++ b)) ≡ trues
       (flags_of a) + trues (flags_of b)
   trues-append [] b = omega arith
   trues-append ((true, x) ∷ a) b = let e = trues-append a b in omega arith
   trues-append ((false, x) ∷ a) b = trues-append a b
 
-  -- where each item stays
+  -- what is left of items that all stay
   pub left_at-stay : (xs : List T) → left_at true (stay xs) ≡ xs
   left_at-stay [] = refl
   left_at-stay (x ∷ xs) = ap (λ (l : List T). x ∷ l) (left_at-stay xs)
 
-  -- all of them do
+  -- how many items stay of items that all stay
   pub trues-stay : (xs : List T) → trues (flags_of (stay xs)) ≡ length xs
   trues-stay [] = refl
   trues-stay (x ∷ xs) = ap suc (trues-stay xs)
 
-  -- and none of them moves
+  -- items that all stay don't move, nor do later ones because of them
   pub moved_up-stay : (xs : List T) (a : Answers T) → moved_up (flags_of (stay xs ++ a))
       ≡ moved_up (flags_of a)
   moved_up-stay [] a = refl
@@ -91,7 +91,7 @@ module _ {T : Type 0} where
 module _ {S T : Type 0} (R : S → T → Bool → S → T → Type 0) where
   -- a stretch that begins in the state t
   module _ (t u : S) (ys : List T) (b : Answers T) (k : Asked R t ys b u) where
-    -- goes on after one that ended there
+    -- a stretch that begins in t goes on after one that ended in t
     asked-append : (xs : List T) (s : S) (a : Answers T) → Asked R s xs a t
         → Asked R s (xs ++ ys) (a ++ b) u
     asked-append [] s a h = subst (λ (c : Answers T). Asked R s ys (c ++ b) u) (sym h.0)
@@ -109,29 +109,6 @@ module _ {S T : Type 0} (R : S → T → Bool → S → T → Type 0) where
   -- one question
   pub asked-one : (s t : S) (x y : T) (b : Bool) → R s x b t y → Asked R s (x ∷ []) ((b, y) ∷ []) t
   asked-one s t x y b h = (b, y, t, [], h, (refl, refl), refl)
-
-  -- the first item was asked about
-  pub record AskedFirst (s : S) (xs : List T) (b : Bool) (t : S) (ys : List T) : Type 0 where
-    pub item : T
-    pub left : T
-    pub behind : List T
-    pub was : xs ≡ item ∷ behind
-    pub asked : R s item b t left
-    pub now : ys ≡ left ∷ behind
-
-  -- a question about the first place is about the first item
-  pub asked-first : (s : S) (xs : List T) (b : Bool) (t : S) (ys : List T)
-      → IsAskedAt R 0 s xs b t ys → AskedFirst s xs b t ys
-  asked-first s xs b t ys h =
-      let none = nil_from_length h.before h.place in
-      record {
-        item = h.item;
-        left = h.left;
-        behind = h.behind;
-        was = h.was ∙ ap (λ (l : List T). l ++ h.item ∷ h.behind) none;
-        asked = h.asked;
-        now = h.now ∙ ap (λ (l : List T). l ++ h.left ∷ h.behind) none;
-      }
 
   -- ---- a run of items that stay
 
@@ -247,7 +224,7 @@ module _ {S T : Type 0} (R : S → T → Bool → S → T → Type 0) where
           now = h.now ∙ ap (λ (l : List T). h.before ++ (h.left ++ l)) none;
         }
 
-  -- as many items are left as were asked about
+  -- one question leaves as many items as there were
   pub asked-count : (k : ℕ) (s : S) (xs : List T) (b : Bool) (t : S) (ys : List T)
       → IsAskedAt R k s xs b t ys → length ys ≡ length xs
   asked-count k s xs b t ys h =
@@ -272,7 +249,7 @@ module _ {S T : Type 0} (R : S → T → Bool → S → T → Type 0) where
   stop-count u [] t e h = ap length h.0
   stop-count u (x ∷ b) t e h = ap length h.2
 
-  -- there are as many items as before
+  -- a run that was asked about has as many items as before
   pub runs-count : (k m : ℕ) (s : S) (xs : List T) (t : S) (ys : List T) → Runs R k m s xs t ys
       → length ys ≡ length xs
   runs-count k m s xs t ys r =
@@ -288,18 +265,18 @@ module _ {S T : Type 0} (R : S → T → Bool → S → T → Type 0) where
         stop-count r.between r.behind t r.end r.stops,
       )
 
-  -- one item stays; two do
+  -- one item stays
   pub one-stays : (s : S) (xs : List T) (t : S) (ys : List T)
       → IsAskedAt R 0 s xs true t ys → Stays 0 1 s xs t ys
   one-stays s xs t ys a = stays-more 0 0 s xs s xs (stays-start 0 s xs (omega arith)) t ys a
 
-  -- then the one behind it
+  -- two items stay
   pub two-stay : (s : S) (xs : List T) (t : S) (ys : List T) (u : S) (zs : List T)
       → IsAskedAt R 0 s xs true t ys → IsAskedAt R 1 t ys true u zs → Stays 0 2 s xs u zs
   two-stay s xs t ys u zs a b = stays-more 0 1 s xs t ys (one-stays s xs t ys a) u zs b
 
   module _ (m n : ℕ) where
-    -- two runs, one behind the other
+    -- two runs, one after the other
     pub runs-join : (s : S) (xs : List T) (t : S) (ys : List T) (u : S) (zs : List T)
         → Stays 0 m s xs t ys → Runs R m n t ys u zs → Runs R 0 n s xs u zs
     runs-join s xs t ys u zs h r =
@@ -364,7 +341,7 @@ module _ {S T : Type 0} (R : S → T → Bool → S → T → Type 0) where
     pub run-end : drop m ys ≡ r.end
     run-end = ap (drop m) run-now ∙ drop_at r.left r.end m run-long
 
-    -- the item behind the run goes
+    -- the item after the run goes
     pub stop-goes : (u : S) (b e : List T) (v : T) (rest : List T) → Stops R u b t e → e ≡ v ∷ rest
         → (x : T) × (b ≡ x ∷ rest) × R u x false t v
     stop-goes u [] e v rest h k = absurd (cons-not-nil (sym k ∙ h.0))
@@ -397,7 +374,7 @@ module _ {S T : Type 0} (R : S → T → Bool → S → T → Type 0) where
               );
         }
 
-    -- there is none
+    -- no item after the run goes: none is left
     pub stop-ends : (u : S) (b e : List T) → Stops R u b t e → e ≡ [] → (b ≡ []) × (t ≡ u)
     stop-ends u [] e h k = (refl, h.1)
     stop-ends u (x ∷ b) e h k = absurd (cons-not-nil (sym h.2 ∙ k))
@@ -439,7 +416,7 @@ module _ {S T : Type 0} (R : S → T → Bool → S → T → Type 0) where
           });
         }
 
-  -- the middle run up to the first item that goes, behind a gap
+  -- the middle run up to the first item that goes, after a gap
   module _ {A : Type 0} (s t : S) (v w : Open T A) (gap : 0 < v.before)
       (h : Advances R s v t w) where
     abbrev kept : List T
@@ -448,7 +425,7 @@ module _ {S T : Type 0} (R : S → T → Bool → S → T → Type 0) where
     moved : w.cost ≡ moving h.count v.cost
     moved = ap (λ u. u.cost) h.now ∙ moving-behind v.before h.count v.cost gap
 
-    -- that item left w, and nothing else did: z is what is open then
+    -- the first item that goes left w, and nothing else did: z is what is open then
     pub advanced-goes : (value : T) (z : Open T A) → w.rest ≡ value ∷ z.rest
         → z ≡ record w { rest = z.rest; before = w.before + 1 } → Sifts R s v t z
     advanced-goes value z rest same =
@@ -459,7 +436,7 @@ module _ {S T : Type 0} (R : S → T → Bool → S → T → Type 0) where
         (same ∙ (λ i. record (h.now i)
         { before = sym (ap (λ u. u.before) same) i; rest = z.rest; cost = moved i }))
 
-    -- none goes
+    -- none of the items goes
     pub advanced-ends : w.rest ≡ [] → Sifts R s v t w
     advanced-ends none =
         sifts-of v w h.count s t kept
@@ -525,7 +502,7 @@ module _ {S T : Type 0} (R : S → T → Bool → S → T → Type 0) where
     Passed = w ≡ record v
         { front = v.front ++ take m ys; before = w.before; rest = w.rest }
 
-    -- the item behind the run goes, and then all others were asked about
+    -- the item after the run goes, and then all others were asked about
     pub sifted-goes : (value : T) (u : S) (z : Open T A) → Passed → drop m ys ≡ value ∷ w.rest
         → Sifts R t w u z → z.rest ≡ [] → IsSifted R s v u z
     unfolding part-goes
@@ -582,19 +559,19 @@ module _ {S T : Type 0} (R : S → T → Bool → S → T → Type 0) where
           });
         }
 
--- a judge that holds a closure answers as the closure does
+-- a judge that holds a closure decides as the closure does
 module _ {J S T : Type 0} (R : S → T → Bool → S → T → Type 0) (inside : J → S) where
   abbrev through : J → T → Bool → J → T → Type 0
   through s x b t y = R (inside s) x b (inside t) y
 
-  -- its answers are those of the closure
+  -- items that such a judge was asked about were asked of the closure
   pub asked-through : (xs : List T) (s t : J) (a : Answers T) → Asked through s xs a t
       → Asked R (inside s) xs a (inside t)
   asked-through [] s t a h = (h.0, ap inside h.1)
   asked-through (x ∷ xs) s t a h =
       (h.0, h.1, inside h.2, h.3, h.4, asked-through xs h.2 t h.3 h.5, h.6)
 
-  -- and what it leaves is what the closure would
+  -- what such a judge leaves of a list is what the closure leaves
   pub retained-through : {A : Type 0} (s : J) (v w : Thin T A) (t : J)
       → IsRetainedTo through s v w t → IsRetained R (inside s) v w
   retained-through s v w t h = (
@@ -609,7 +586,7 @@ module _ {J S T : Type 0} (R : S → T → Bool → S → T → Type 0) (inside 
 
 -- ---- for callers
 
--- the answers of a closure that only looks, alone
+-- what a closure that only looks returns, alone
 module _ {S T : Type 0} (R : S → T → Bool → S → Type 0) where
   told : (xs : List T) (s t : S) (a : Answers T) → Asked (Looks R) s xs a t
       → (length (flags_of a) ≡ length xs) × ReturnsInTurn R s (flags_of a) xs t
@@ -640,8 +617,8 @@ module _ {S T : Type 0} (R : S → T → Bool → S → Type 0) where
       let t = told v.items s h.0 r.answers r.asked in
       (flags_of r.answers, h.0, t.0, t.1, r.items ∙ t.2)
 
-  -- where each answer is that of a test, and the closure stays as it was, the items are those that
-  -- pass it
+  -- where the closure returns what a test does, and stays as it was, the items are those that pass
+  -- the test
   pub retained_filter : {A : Type 0} (test : T → Bool) {s : S} {v w : Thin T A}
       → ((x : T) (b : Bool) (t : S) → R s x b t → (b ≡ test x) × (t ≡ s))
       → IsRetained (Looks R) s v w → w.items ≡ filter test v.items

@@ -66,13 +66,13 @@ module _ {S T A : Type 0} {steps : S → Option T → S → Type 0} {can : S →
     filled-drains done = (rest, subst (λ b. Gives steps s p.items.0 b rest) done p.items.3)
 
     module _ (rule : Rule) (R : RattleType) (n : ℕ) (left : Count) where
-      -- what that cost
+      -- what filling the gap cost
       pub filled-taken : p.cost.0 ≤ n → HasTaken rule R (left_of v a) w n left
       filled-taken few =
           taken-spare rule R (left_of v a) w (end - length v.front) p.cost.0 n left p.cost.1
           p.capacity (omega (arith, filled-long, length-append v.front v.tail)) few p.alloc
 
-      -- the same of a list that was opened for it
+      -- what filling the gap of a list that was opened for it cost
       pub wide-taken : (u : Thin T A) (at count : ℕ) → IsWide v u at count → a ≡ u.alloc
           → p.cost.0 + (length u.items - at) ≤ n → HasTaken rule R u w n left
       wide-taken u at count wide from few =
@@ -93,11 +93,11 @@ module _ {S T A : Type 0} {steps : S → Option T → S → Type 0} {can : S →
 
   module _ {v : Open T A} {s t : S} {u : Thin T A} {xs : List T} {end : ℕ}
       (p : IsReached steps can remaining v s u xs end t) where
-    -- the tail lies behind that slot
+    -- the tail lies after the slot `end`
     pub reached-long : length u.items ≡ end + length v.tail
     reached-long = omega (arith, ap length p.items, between-length v xs, p.ends)
 
-    -- a growth changes nothing of that
+    -- a growth of the list u changes nothing of what was reached
     pub reached-grown : (w : Thin T A) → w.items ≡ u.items
         → IsReached steps can remaining v s w xs end t
     reached-grown w same = record {
@@ -110,7 +110,7 @@ module _ {S T A : Type 0} {steps : S → Option T → S → Type 0} {can : S →
       nearer = p.nearer;
     }
 
-    -- what came next, after what came before
+    -- what was taken before u, and from u on
     pub reached-taken : (rule : Rule) (R : RattleType) → KeepsLaw rule → (a : A) (w : Thin T A)
         (m n k : ℕ) → m + n ≤ k → HasTaken rule R (left_of v a) u m (remaining s)
         → HasTaken rule R u w n (remaining t) → HasTaken rule R (left_of v a) w k (remaining s)
@@ -121,7 +121,7 @@ module _ {S T A : Type 0} {steps : S → Option T → S → Type 0} {can : S →
         (λ fit same. omega (arith, fit, same, ap length p.items, long, left, p.nearer))
         before now
 
-    -- where a capacity comes from
+    -- where a capacity comes from that was named after u
     pub reached-extended : (rule : Rule) (R : RattleType) (a : A) (d n : ℕ)
         → u.capacity ≡ v.capacity → IsExtended rule R u d n (remaining t)
         → IsExtended rule R (left_of v a) d n (remaining s)
@@ -138,13 +138,13 @@ module _ {S T A : Type 0} {steps : S → Option T → S → Type 0} {can : S →
               ((ap (λ n. n + (length xs + e.0)) (length-append v.front v.tail) ∙ want) i)) ∙ e.2,
         )
 
-    -- the list opened there has the tail for its tail
+    -- the list opened at `end` has the tail for its tail
     pub reached-wide : {b : Open T A} (count : ℕ) → IsWide b u end count
         → length b.tail ≡ length v.tail
     reached-wide count wide =
         omega (arith, ap length wide.tail, length-drop end u.items, reached-long)
 
-    -- the list u was opened there, and what came next filled that gap
+    -- the list u was opened at `end`, and what came next filled that gap
     pub reached-more : {b : Open T A} {a : A} {w : Thin T A} {last : ℕ} {rest : S} {ended : Bool}
         (count : ℕ) → IsWide b u end count
         → (q : IsFilled steps can remaining b a t w last rest ended) → ended ≡ false

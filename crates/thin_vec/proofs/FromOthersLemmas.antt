@@ -1,11 +1,9 @@
 -- What a block holds while the items of a `Vec` come in, from the last to the first.
-use Rattle.std.proofs.Common.{◌≡◌, ℕ, ◌+◌, ◌-◌, ◌<◌, ◌≤◌, List, [], ◌∷◌, ◌++◌, length, take, drop, Option, Some, None, sym, ap, ◌∙◌, append_assoc, arith, get_or, length-append}
+use Rattle.std.proofs.Common.{◌≡◌, ℕ, ◌+◌, ◌<◌, ◌≤◌, List, [], ◌∷◌, ◌++◌, length, take, drop, Option, Some, None, sym, ap, ◌∙◌, append_assoc, arith, get_or, length-append}
 use Rattle.std.proofs.lemmas.List.{append-nil, length-take-le, length_push, set_at, take_more}
 use lib.ListN.{set}
-use Rattle.thin_block.specs.Cost.{Cost, moving}
 use Rattle.thin_block.specs.Slots.{full, laid}
 use Rattle.thin_block.proofs.SlotsLemmas.{laid-none}
-use Rattle.thin_vec.proofs.FiltersLemmas.{moving-more}
 
 module _ {T : Type 0} where
   -- one slot more is laid, before the others
@@ -29,7 +27,7 @@ module _ {T : Type 0} where
     pub parts : xs ≡ left ++ rest
     pub row : s ≡ laid (start + length left) (full rest) r
 
-  -- none has
+  -- no item has come in yet
   pub moving-first : (xs : List T) (start : ℕ) (s : List (Option T)) → IsMoving xs xs start s s
   moving-first xs start s =
       record {
@@ -38,7 +36,7 @@ module _ {T : Type 0} where
         row = sym (laid-none (start + length xs) s);
       }
 
-  -- the last of them goes into its slot
+  -- the last of the items left goes into its slot
   pub moving-next : {xs : List T} (left : List T) {start : ℕ} (i : ℕ) (v : T)
       {r s : List (Option T)} → IsMoving xs (left ++ v ∷ []) start r s → i ≡ start + length left
       → start + length xs ≤ length r → IsMoving xs left start r (set s i (Some v))
@@ -55,18 +53,3 @@ module _ {T : Type 0} where
             (omega (arith, next, one)) (omega (arith, next, one, all, room))
             ∙ ap (λ (n : ℕ). laid n (full (v ∷ m.rest)) r) next);
       }
-
--- a move is counted for each item that has come in
-module _ (n : ℕ) (c : Cost) where
-  -- none has come in yet
-  pub counted-none : c ≡ moving (n - n) c
-  counted-none = ap (λ m. let d : Cost = record c { moves = m } in d)
-      (let e : c.moves ≡ c.moves + (n - n) = omega arith in e)
-
-  -- one more has come in
-  pub counted-more : (left : ℕ) {more : ℕ} {d e : Cost} → more ≡ left + 1 → more ≤ n
-      → d ≡ moving (n - more) c → e ≡ moving 1 d → e ≡ moving (n - left) c
-  counted-more left {more} one low was now =
-      now ∙ (ap (λ b. moving 1 b) was
-      ∙ (moving-more 1 (n - more) c
-      ∙ ap (λ k. moving k c) (let f : n - more + 1 ≡ n - left = omega arith in f)))

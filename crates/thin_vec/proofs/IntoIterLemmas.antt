@@ -1,5 +1,5 @@
--- What a block holds whose items lie in a row with no slot filled before or behind them, after each
--- step on it; and what a walk over it gives.
+-- What a block holds whose items lie in a row with no slot filled before or after them, after each
+-- step on it; and what a walk over it yields.
 use Rattle.std.proofs.Common.{◌≡◌, ℕ, zero, suc, ◌+◌, ◌-◌, ◌<◌, ◌≤◌, List, [], ◌∷◌, ◌++◌, Option, Some, None, length, take, drop, refl, sym, ap, ◌∙◌, arith, get_or, length-append, append_assoc}
 use Rattle.std.proofs.iter.runs.Sources.{as_is, as_is_back, from_back, from_front}
 use Rattle.std.proofs.lemmas.Grind.{take_at_read}
@@ -7,7 +7,7 @@ use Rattle.std.proofs.lemmas.List.{append-nil, drop_at, nil_from_length, get_or-
 use Rattle.std.specs.Iterator.{YieldsFirst, YieldsLast}
 use Rattle.std.specs.Prelude.{IsSome, slice_range}
 use lib.ListN.{set}
-use Rattle.thin_block.specs.Block.{IsFrom}
+use Rattle.thin_block.specs.Block.{IsFrom, seen}
 use Rattle.thin_block.specs.Lends.{over, with_items as block_with_items}
 use Rattle.thin_block.specs.Slots.{empty, full, items_in, slot}
 use Rattle.thin_block.specs.declared.block.Block.{Block}
@@ -51,7 +51,7 @@ module _ {T : Type 0} where
       (row-last start k xs x) ∙ get_or_at (empty start ++ full xs) (Some x) (empty k) None
       (start + length xs) (before-last start xs)
 
-  -- it leaves
+  -- the last item leaves
   set-last : (start k : ℕ) (xs : List T) (x : T)
       → set (empty start ++ (full (xs ++ x ∷ []) ++ empty k)) (start + length xs) None ≡ empty start
       ++ (full xs ++ empty (k + 1))
@@ -155,11 +155,6 @@ module _ {T A : Type 0} where
       (drop_at (empty start) (full xs ++ behind) start (length-empty T start))
       ∙ take_at (full xs) behind (end - start) count)))
 
-  -- the list of which no item has been handed out
-  pub settle-whole : (b : Block T A) (a : A) (xs : List T) (c : ℕ) → b.slots ≡ full xs ++ empty
-      (c - length xs) → length xs ≤ c → IsFrom b a → Walking b a xs 0 (length xs) c
-  settle-whole b a xs c e h f = walking b xs 0 (length xs) e (omega arith) h f
-
   module _ (b b' : Block T A) (a : A) (start end : ℕ) (v : T) (t : IsWalked b a start end)
       (some : start < end) where
     abbrev xs : List T
@@ -168,7 +163,7 @@ module _ {T A : Type 0} where
     abbrev gap : ℕ
     gap = length b.slots - end
 
-    -- the first item was handed out
+    -- the first item was yielded
     first-of : (ys : List T) (k : ℕ) → 0 < length ys
         → slot (empty start ++ (full ys ++ empty k)) start ≡ Some v
         → (ys ≡ v ∷ drop 1 ys)
@@ -192,14 +187,15 @@ module _ {T A : Type 0} where
     pub first-item : slot b.slots start ≡ Some v → xs ≡ v ∷ drop 1 xs
     first-item e = (first e).0
 
-    pub settle-first : slot b.slots start ≡ Some v → b'.slots ≡ set b.slots start None
-        → b'.alloc ≡ b.alloc → Walking b' a (drop 1 xs) (start + 1) end (length b.slots)
-    settle-first e s f =
-        walking b' (drop 1 xs) (start + 1) end (s ∙ (first e).1)
+    pub settle-first : slot b.slots start ≡ Some v
+        → seen b' ≡ record (seen b) { slots = set b.slots start None }
+        → Walking b' a (drop 1 xs) (start + 1) end (length b.slots)
+    settle-first e w =
+        walking b' (drop 1 xs) (start + 1) end (ap (λ v. v.slots) w ∙ (first e).1)
         (omega (arith, t.len, ap length (first e).0)) (walked-room b a start end t)
-        (from-same b b' a t.from f)
+        (from-same b b' a t.from (ap (λ v. v.alloc) w))
 
-    -- the last item was handed out
+    -- the last item was yielded
     abbrev most : List T
     most = take (end - 1 - start) xs
 
@@ -221,37 +217,38 @@ module _ {T A : Type 0} where
         let same : get_or xs (end - 1 - start) v ≡ v = cc in
         whole ∙ ap (λ (x : T). most ++ x ∷ []) same
 
-    pub settle-last : b'.slots ≡ set b.slots (end - 1) None → b'.alloc ≡ b.alloc
+    pub settle-last : seen b' ≡ record (seen b) { slots = set b.slots (end - 1) None }
         → Walking b' a most start (end - 1) (length b.slots)
-    settle-last s f =
+    settle-last w =
         let more : gap + 1 ≡ length b.slots - (end - 1) =
         omega (arith, walked-room b a start end t) in
         walking b' most start (end - 1)
-        (s ∙ ((λ i. set (row i) (sym place i) None)
+        (ap (λ v. v.slots) w ∙ ((λ i. set (row i) (sym place i) None)
         ∙ (set-last start gap most _
         ∙ ap (λ (n : ℕ). empty start ++ (full most ++ empty n)) more)))
-        place (omega (arith, walked-room b a start end t)) (from-same b b' a t.from f)
+        place (omega (arith, walked-room b a start end t))
+        (from-same b b' a t.from (ap (λ v. v.alloc) w))
 
   -- what remains was written
   pub settle-written : (b b' : Block T A) (a : A) (start end : ℕ) (ws : List T)
-      → IsWalked b a start end → b'.slots ≡ over b.slots start ws → b'.alloc ≡ b.alloc
+      → IsWalked b a start end → seen b' ≡ record (seen b) { slots = over b.slots start ws }
       → Walking b' a (refill (length (items_in b.slots)) (items_in b.slots) ws)
       start end (length b.slots)
-  settle-written b b' a start end ws t s f =
+  settle-written b b' a start end ws t w =
       let xs : List T = items_in b.slots in
       let gap : ℕ = length b.slots - end in
       walking b' (refill (length xs) xs ws) start end
-      (s ∙ (ap (λ (r : List (Option T)). over r start ws) t.row
+      (ap (λ v. v.slots) w ∙ (ap (λ (r : List (Option T)). over r start ws) t.row
       ∙ (over-behind start (full xs ++ empty gap) ws
       ∙ ap (λ (r : List (Option T)). empty start ++ r) (over-front xs gap ws))))
       (omega (arith, t.len, length_refill (length xs) xs ws refl)) (walked-room b a start end t)
-      (from-same b b' a t.from f)
+      (from-same b b' a t.from (ap (λ v. v.alloc) w))
 
-  -- the iterator behind a block whose items were written
+  -- the iterator of a block whose items were written
   pub view-written : (b : Block T A) (a : A) (start end : ℕ) (ws : List T) → IsWalked b a start end
       → thin_of (block_with_items b start ws) a ≡ with_items (thin_of b a) ws
   view-written b a start end ws t =
-      let f = settle-written b (block_with_items b start ws) a start end ws t refl refl in
+      let f = settle-written b (block_with_items b start ws) a start end ws t refl in
       λ i. record { items = f.items i; capacity = f.cap i; alloc = a; cost = b.cost }
 
   -- nothing remains: every slot is empty
@@ -268,13 +265,13 @@ module _ {T A : Type 0} where
 
 -- what calls of `next`, and of `next_back`, give
 module _ (T A : Type 0) where
-  -- `next` gives what remains, in order
+  -- `next` yields what remains, in order
   pub rest_in_order : RestInOrder T A
   rest_in_order p s =
       as_is p (rest p.from)
       (from_front (YieldsFirst rest) (λ x. x) rest (λ s t h. ap length h.0) (λ s x t h. h) p s)
 
-  -- and `next_back` in reverse
+  -- `next_back` yields what remains, in reverse
   pub rest_in_reverse : RestInReverse T A
   rest_in_reverse p s =
       as_is_back p (rest p.from)

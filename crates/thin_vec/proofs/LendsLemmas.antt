@@ -2,6 +2,7 @@
 use Rattle.std.proofs.Common.{◌≡◌, ℕ, zero, suc, ◌-◌, ◌<◌, List, [], ◌∷◌, ◌++◌, length, Some, ap, arith, refl, sym, ◌∙◌}
 use Rattle.std.proofs.Math.Seq.{take-length}
 use lib.ListN.{set, length-set}
+use Rattle.thin_block.specs.Cost.{Cost}
 use Rattle.thin_block.specs.Lends.{over, with_item as block_with_item, with_items as block_with_items}
 use Rattle.thin_block.specs.Slots.{empty, full, items_in}
 use Rattle.thin_block.specs.declared.block.Block.{Block}
@@ -9,7 +10,7 @@ use Rattle.std.specs.List.{length_refill, refill}
 use Rattle.thin_vec.specs.Lends.{with_item, with_items}
 use Rattle.thin_vec.specs.ThinVec.{IsThin, thin_of}
 use Rattle.thin_vec.proofs.EditsLemmas.{full-set}
-use Rattle.thin_vec.proofs.ListLemmas.{IsWritten, Settled, from-same, settled, thin-room}
+use Rattle.thin_vec.proofs.ListLemmas.{IsWritten, Settled, settle-front, thin-room}
 
 module _ {T : Type 0} where
   -- what is written past the items is lost
@@ -23,45 +24,41 @@ module _ {T : Type 0} where
 module _ {T A : Type 0} where
   -- items were written over
   pub settle-over : {b : Block T A} {a : A} → IsThin b a → (b' : Block T A) (ws : List T)
-      → IsWritten b b' (over b.slots 0 ws) b.len
+      {k : Cost} → IsWritten b b' (over b.slots 0 ws) b.len k
       → Settled b' a (refill (length (items_in b.slots)) (items_in b.slots) ws) (length b.slots)
   settle-over {b} {a} t b' ws w =
       let xs = items_in b.slots in
       let same = sym (length_refill (length xs) xs ws refl) in
-      settled b' a (refill (length xs) xs ws) (length b.slots)
-      (w.slots ∙ (ap (λ r. over r 0 ws) t.packed.row
+      settle-front t b' (refill (length xs) xs ws) (length b.slots) w
+      (ap (λ r. over r 0 ws) t.packed.row
       ∙ (over-front xs (length b.slots - length xs) ws
-      ∙ ap (λ n. full (refill (length xs) xs ws) ++ empty (length b.slots - n)) (sym same))))
-      (w.len ∙ (t.packed.len ∙ sym same)) (omega (arith, same, thin-room b a t))
-      (from-same b b' a t.from w.alloc)
+      ∙ ap (λ n. full (refill (length xs) xs ws) ++ empty (length b.slots - n)) (sym same)))
+      (t.packed.len ∙ sym same) (omega (arith, same, thin-room b a t))
 
-  -- the list behind a block whose items were written
+  -- the list of a block whose items were written
   pub view-with_items : (b : Block T A) (a : A) (ws : List T) → IsThin b a
       → thin_of (block_with_items b 0 ws) a ≡ with_items (thin_of b a) ws
   view-with_items b a ws t =
-      let f = settle-over t (block_with_items b 0 ws) ws
-      (record { slots = refl; len = refl; alloc = refl }) in
+      let f = settle-over t (block_with_items b 0 ws) ws refl in
       λ i. record { items = f.items i; capacity = f.cap i; alloc = a; cost = b.cost }
 
-  -- and behind one of which an item was written
+  -- the list of a block of which one item was written
   pub settle-set : {b : Block T A} {a : A} → IsThin b a → (b' : Block T A) (i : ℕ) (v : T)
-      → i < length (items_in b.slots) → IsWritten b b' (set b.slots i (Some v)) b.len
+      {k : Cost} → i < length (items_in b.slots) → IsWritten b b' (set b.slots i (Some v)) b.len k
       → Settled b' a (set (items_in b.slots) i v) (length b.slots)
   settle-set {b} {a} t b' i v within w =
       let xs = items_in b.slots in
       let same = length-set xs i v in
-      settled b' a (set xs i v) (length b.slots)
-      (w.slots ∙ (ap (λ r. set r i (Some v)) t.packed.row
+      settle-front t b' (set xs i v) (length b.slots) w
+      (ap (λ r. set r i (Some v)) t.packed.row
       ∙ (full-set xs (empty (length b.slots - length xs)) i v within
-      ∙ ap (λ n. full (set xs i v) ++ empty (length b.slots - n)) (sym same))))
-      (w.len ∙ (t.packed.len ∙ sym same)) (omega (arith, same, thin-room b a t))
-      (from-same b b' a t.from w.alloc)
+      ∙ ap (λ n. full (set xs i v) ++ empty (length b.slots - n)) (sym same)))
+      (t.packed.len ∙ sym same) (omega (arith, same, thin-room b a t))
 
   -- what is seen of a list with one item written over
   pub view-with_item : (b : Block T A) (a : A) (i : ℕ) (w : T) → IsThin b a
       → i < length (items_in b.slots) → thin_of (block_with_item b i w)
       a ≡ with_item (thin_of b a) i w
   view-with_item b a i w t within =
-      let f = settle-set t (block_with_item b i w) i w within
-      (record { slots = refl; len = refl; alloc = refl }) in
+      let f = settle-set t (block_with_item b i w) i w within refl in
       λ k. record { items = f.items k; capacity = f.cap k; alloc = a; cost = b.cost }

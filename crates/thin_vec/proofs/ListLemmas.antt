@@ -1,13 +1,15 @@
 -- What a block holds whose items all lie in front, after each step on it.
 use Rattle.std.proofs.Common.{◌≡◌, ◌≢◌, ℕ, zero, suc, ◌+◌, ◌-◌, ◌<◌, ◌≤◌, List, [], ◌∷◌, ◌++◌, length, take, drop, Option, Some, None, refl, sym, ap, ◌∙◌, arith, get_or, length-append, append_assoc}
-use Rattle.std.proofs.lemmas.List.{length-replicate, length-map, take-append-drop, replicate-append-replicate, set_at, get_or_append_left, get_or-append_right, get_or-replicate, get_or-map, map_push, append-nil, length-take-le, drop_more, length_push, get_or-set_other}
+use Rattle.std.proofs.lemmas.List.{length-replicate, length-map, take-append-drop, replicate-append-replicate, set_at, get_or_append_left, get_or-map, map_push, append-nil, length-take-le, drop_more, length_push, get_or-set_other}
 use Rattle.std.proofs.Math.Seq.{drop-length, take-append_seam}
 use Rattle.std.specs.Prelude.{IsSome, slice_get, slice_range}
 use lib.ListN.{set, replicate}
 use Rattle.thin_block.specs.Slots.{IsPacked, full, empty, slot, items_in, front}
-use Rattle.thin_block.specs.Block.{IsFrom}
+use Rattle.thin_block.specs.Block.{IsFrom, seen}
+use Rattle.thin_block.specs.Cost.{Cost}
 use Rattle.thin_block.specs.declared.block.Block.{Block}
-use Rattle.thin_vec.specs.ThinVec.{IsThin}
+use Rattle.thin_block.specs.Cost.{Cost}
+use Rattle.thin_vec.specs.ThinVec.{IsThin, Thin, thin_of}
 
 -- as many empty slots as are asked for
 pub length-empty : (T : Type 0) (k : ℕ) → length (empty {T = T} k) ≡ k
@@ -24,7 +26,7 @@ module _ {T : Type 0} where
   items-full [] s = refl
   items-full (x ∷ xs) s = ap (λ (ys : List T). x ∷ ys) (items-full xs s)
 
-  -- the same with no slot behind
+  -- the items of filled slots alone
   pub items-full-alone : (xs : List T) → items_in (full xs) ≡ xs
   items-full-alone [] = refl
   items-full-alone (x ∷ xs) = ap (λ (ys : List T). x ∷ ys) (items-full-alone xs)
@@ -34,11 +36,11 @@ module _ {T : Type 0} where
   items-front xs c = items-full xs (replicate (c - length xs) None)
       ∙ (ap (λ (ys : List T). xs ++ ys) (items-empty (c - length xs)) ∙ append-nil xs)
 
-  -- as many filled slots as items
+  -- a list has as many filled slots as items
   pub length-full : (xs : List T) → length (full xs) ≡ length xs
   length-full xs = length-map xs (λ (x : T). Some x)
 
-  -- as many slots as the capacity
+  -- a list in front of c slots has c slots
   pub length-front : (xs : List T) (c : ℕ) → length xs ≤ c → length (front xs c) ≡ c
   length-front xs c h =
       let e : List (Option T) = replicate (c - length xs) None in
@@ -59,17 +61,6 @@ module _ {T : Type 0} where
   slot-full xs s i d h =
       let n : i < length (full xs) = omega (arith, length-full xs) in
       get_or_append_left (full xs) s None i n ∙ get_or-map (λ (x : T). Some x) xs i d None h
-
-  -- the slots behind the items are empty
-  pub slot-past : (xs : List T) (k i : ℕ) (s : List (Option T)) → length xs ≤ i → i < length xs + k
-      → slot (full xs ++ (replicate k None ++ s)) i ≡ None
-  slot-past xs k i s h l =
-      let m : i - length xs < length (replicate {A = Option T} k None) =
-      omega (arith, length-replicate {A = Option T} k None) in
-      let o : i - length xs < k = omega arith in
-      get_or-append_right (full xs) (replicate k None ++ s) (length xs) i None (length-full xs) h
-      ∙ (get_or_append_left (replicate k None) s None (i - length xs) m
-      ∙ get_or-replicate k (i - length xs) None None o)
 
   -- the first empty slot is filled
   pub front-push : (xs : List T) (c : ℕ) (v : T) → length xs < c → set (front xs c) (length xs)
@@ -107,7 +98,7 @@ module _ {T : Type 0} where
       ∙ (set_at (full xs) (Some v) (replicate k None) None (length xs) (length-full xs)
       ∙ ap (λ (q : ℕ). full xs ++ replicate q None) m))
 
-  -- more empty slots behind
+  -- more empty slots after those there are
   pub front-grow : (xs : List T) (c d : ℕ) → length xs ≤ c → c ≤ d
       → front xs c ++ replicate (d - c) None ≡ front xs d
   front-grow xs c d h l =
@@ -156,6 +147,24 @@ module _ {T A : Type 0} where
         cap = l;
       }
 
+  -- what is seen of a list whose block is b' afterwards, by what was seen before
+  pub thin_of-becomes : {w v : Thin T A} → w ≡ v → (b' : Block T A) {xs : List T} {c : ℕ} {k : Cost}
+      → length b'.slots ≡ c → items_in b'.slots ≡ xs → b'.cost ≡ k
+      → thin_of b' w.alloc ≡ record v { items = xs; capacity = c; cost = k }
+  thin_of-becomes is b' slots items cost = λ i. record {
+    items = items i;
+    capacity = slots i;
+    alloc = (is i).alloc;
+    cost = cost i;
+  }
+
+  -- what is seen of a list whose block is b' afterwards, of as many slots as before
+  pub thin_of-keeps : {w v : Thin T A} → w ≡ v → (b' : Block T A) {xs : List T} {k : Cost}
+      → length b'.slots ≡ w.capacity → items_in b'.slots ≡ xs → b'.cost ≡ k
+      → thin_of b' w.alloc ≡ record v { items = xs; cost = k }
+  thin_of-keeps is b' slots items cost =
+      thin_of-becomes is b' (slots ∙ ap (λ (u : Thin T A). u.capacity) is) items cost
+
   -- a thin block has room for its items
   pub thin-room : (b : Block T A) (a : A) → IsThin b a → length (items_in b.slots) ≤ length b.slots
   thin-room b a t =
@@ -172,26 +181,31 @@ module _ {T A : Type 0} where
   pub from-same : (b b' : Block T A) (a : A) → IsFrom b a → b'.alloc ≡ b.alloc → IsFrom b' a
   from-same b b' a f e = λ x h. f x (sym e ∙ h)
 
-  -- b' is b once its slots are s and its stored length is n
-  pub record IsWritten (b b' : Block T A) (s : List (Option T)) (n : ℕ) : Type 0 where
-    pub slots : b'.slots ≡ s
-    pub len : b'.len ≡ n
-    pub alloc : b'.alloc ≡ b.alloc
+  -- b' is b once its slots are s, its stored length is n and it has cost k
+  abbrev pub IsWritten : Block T A → Block T A → List (Option T) → ℕ → Cost → Type 0
+  IsWritten b b' s n k = seen b' ≡ record (seen b) { slots = s; len = n; cost = k }
 
-  -- an item went in behind
+  -- a block that was written with a list in front
+  pub settle-front : {b : Block T A} {a : A} → IsThin b a → (b' : Block T A) (xs : List T) (c : ℕ)
+      {s : List (Option T)} {n : ℕ} {k : Cost} → IsWritten b b' s n k → s ≡ front xs c
+      → n ≡ length xs → length xs ≤ c → Settled b' a xs c
+  settle-front {b} {a} t b' xs c w e n h = settled b' a xs c (ap (λ v. v.slots) w ∙ e)
+      (ap (λ v. v.len) w ∙ n) h (from-same b b' a t.from (ap (λ v. v.alloc) w))
+
+  -- an item went in at the end
   pub settle-push : {b : Block T A} {a : A} → IsThin b a → (b' : Block T A) (v : T) (i : ℕ)
-      → i ≡ b.len → i < length b.slots → IsWritten b b' (set b.slots i (Some v)) (i + 1)
+      {k : Cost} → i ≡ b.len → i < length b.slots
+      → IsWritten b b' (set b.slots i (Some v)) (i + 1) k
       → Settled b' a (items_in b.slots ++ v ∷ []) (length b.slots)
-  settle-push {b} {a} t b' v i o h w =
+  settle-push {b} t b' v i o h w =
       let xs : List T = items_in b.slots in
       let c : ℕ = length b.slots in
       let l : length xs < c = omega (arith, t.packed.len) in
-      settled b' a (xs ++ v ∷ []) c
-      (w.slots ∙ (ap (λ (q : ℕ). set b.slots q (Some v)) (o ∙ t.packed.len)
+      settle-front t b' (xs ++ v ∷ []) c w
+      (ap (λ (q : ℕ). set b.slots q (Some v)) (o ∙ t.packed.len)
       ∙ (ap (λ (r : List (Option T)). set r (length xs) (Some v)) t.packed.row
-      ∙ front-push xs c v l)))
-      (omega (arith, w.len, t.packed.len, length_push xs v)) (omega (arith, length_push xs v))
-      (from-same b b' a t.from w.alloc)
+      ∙ front-push xs c v l))
+      (omega (arith, t.packed.len, length_push xs v)) (omega (arith, length_push xs v))
 
   -- the item in the last filled slot
   pub last-item : (b : Block T A) (a : A) (v : T) (j : ℕ) → IsThin b a → j + 1 ≡ b.len
@@ -213,7 +227,8 @@ module _ {T A : Type 0} where
 
   -- the last item came out
   pub settle-pop : {b : Block T A} {a : A} → IsThin b a → (b' : Block T A) (v : T) (j : ℕ)
-      → j + 1 ≡ b.len → slot b.slots j ≡ Some v → IsWritten b b' (set b.slots j None) j
+      {k : Cost} → j + 1 ≡ b.len → slot b.slots j ≡ Some v
+      → IsWritten b b' (set b.slots j None) j k
       → Settled b' a (take j (items_in b.slots)) (length b.slots)
   settle-pop {b} {a} t b' v j o held w =
       let xs : List T = items_in b.slots in
@@ -223,11 +238,11 @@ module _ {T A : Type 0} where
       let m : length ys ≡ j = length-take-le j xs (omega arith) in
       let e : xs ≡ ys ++ v ∷ [] = last-item b a v j t o held in
       let k : length (ys ++ v ∷ []) ≤ c = omega (arith, thin-room b a t, ap length e) in
-      settled b' a ys c
-      (w.slots ∙ (ap (λ (r : List (Option T)). set r j None)
+      settle-front t b' ys c w
+      (ap (λ (r : List (Option T)). set r j None)
       (t.packed.row ∙ ap (λ (r : List T). front r c) e)
-      ∙ (ap (λ (q : ℕ). set (front (ys ++ v ∷ []) c) q None) (sym m) ∙ front-pop ys c v k)))
-      (w.len ∙ sym m) (omega (arith, length_push ys v)) (from-same b b' a t.from w.alloc)
+      ∙ (ap (λ (q : ℕ). set (front (ys ++ v ∷ []) c) q None) (sym m) ∙ front-pop ys c v k))
+      (sym m) (omega (arith, length_push ys v))
 
   -- what an item's slot holds
   thin-slot : (b : Block T A) (a : A) (i : ℕ) → IsThin b a → i < length (items_in b.slots)
@@ -251,26 +266,11 @@ module _ {T A : Type 0} where
       ∙ (ap (λ (k : ℕ). take k (front ys (length b.slots))) all ∙ take-append_seam (full ys)
       (empty (length b.slots - length ys)))))
 
-  -- and holds it
+  -- the item at i is what its slot holds
   pub thin-get : (b : Block T A) (a : A) (i : ℕ) (v : T) → IsThin b a
       → i < length (items_in b.slots) → slot b.slots i ≡ Some v
       → slice_get (items_in b.slots) i ≡ Some v
   thin-get b a i v t h e = sym (thin-slot b a i t h) ∙ e
-
-  -- the slots past the items are empty
-  pub thin-empty : (b : Block T A) (a : A) (j : ℕ) → IsThin b a → length (items_in b.slots) ≤ j
-      → slot b.slots j ≡ None
-  thin-empty b a j t h =
-      let k : ℕ = length b.slots - length (items_in b.slots) in
-      ap (λ (r : List (Option T)). slot r j) t.packed.row
-      ∙ (get_or-append_right (full (items_in b.slots)) (replicate k None)
-      (length (items_in b.slots)) j None (length-full (items_in b.slots)) h
-      ∙ get_or-empty k (j - length (items_in b.slots)))
-    where
-      get_or-empty : (n m : ℕ) → get_or (replicate {A = Option T} n None) m None ≡ None
-      get_or-empty zero m = refl
-      get_or-empty (suc n) zero = refl
-      get_or-empty (suc n) (suc m) = get_or-empty n m
 
   -- an item stays where another slot is emptied
   pub kept-filled : (b : Block T A) (a : A) (i j : ℕ) (s : List (Option T)) → IsThin b a → i < j

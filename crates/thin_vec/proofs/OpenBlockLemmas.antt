@@ -4,6 +4,7 @@ use Rattle.std.proofs.lemmas.List.{drop_at, get_or-append_right, get_or-replicat
 use Rattle.std.proofs.lemmas.List.Edits.{split_between}
 use Rattle.std.specs.Prelude.{IsSome, slice_range}
 use lib.ListN.{set}
+use Rattle.thin_block.specs.Block.{Seen, seen}
 use Rattle.thin_block.specs.Slots.{empty, front, full, items_in, laid, moved, slot}
 use Rattle.thin_block.specs.declared.block.Block.{Block}
 use Rattle.thin_block.proofs.Outcomes.{some-same}
@@ -15,12 +16,12 @@ use Rattle.thin_vec.specs.declared.open_block.OpenBlock.TheInside.{Inside}
 use Rattle.thin_vec.proofs.EditsLemmas.{full-append}
 use Rattle.thin_vec.proofs.ListLemmas.{get-some, items-front, items-full-alone, length-empty, length-full, slot-get, thin-room}
 
--- a list that is not empty, by its first item and by its last
+-- a list that is not empty, by its first item
 pub first-of : {X : Type 0} (xs : List X) → 0 < length xs → (x : X) × (ys : List X) × (xs ≡ x ∷ ys)
 first-of [] h = absurd (omega arith)
 first-of (x ∷ ys) h = (x, ys, refl)
 
--- its last item, and those before
+-- a list that is not empty, by its last item and those before
 pub last-of : {X : Type 0} (xs : List X) → 0 < length xs → (ys : List X)
     × (x : X) × (xs ≡ ys ++ x ∷ [])
 last-of [] h = absurd (omega arith)
@@ -45,7 +46,7 @@ module _ {T : Type 0} where
       ∙ (get_or_append_left (empty k) post None (j - length pre) (omega (arith, length-empty T k))
       ∙ get_or-replicate k (j - length pre) None None n)
 
-  -- one more empty slot behind a run of them
+  -- one more empty slot after a run of them
   pub empty-more : (g : ℕ) (z : List (Option T)) → empty g ++ (None ∷ z) ≡ empty (g + 1) ++ z
   empty-more g z = sym (append_assoc (empty g) (None ∷ []) z) ∙ ap (λ (e : List (Option T)). e ++ z)
       (replicate-append-replicate g 1 None)
@@ -66,15 +67,15 @@ module _ {T A : Type 0} where
   abbrev to_tail : Open T A → List (Option T)
   to_tail v = to_behind v ++ empty v.behind
 
-  -- and from there on
+  -- the row from the end of the tail on
   abbrev pub past_tail : Open T A → List (Option T)
   past_tail v = empty (v.capacity - reach v)
 
-  -- from the gap before the tail on
+  -- the row from the gap before the tail on
   abbrev pub past_behind : Open T A → List (Option T)
   past_behind v = full v.tail ++ past_tail v
 
-  -- and from the middle run's end on
+  -- the row from the end of the middle run on
   abbrev pub past_rest : Open T A → List (Option T)
   past_rest v = empty v.behind ++ past_behind v
 
@@ -89,7 +90,7 @@ module _ {T A : Type 0} where
     by_tail : h.block.slots ≡ to_tail v ++ past_behind v
     by_tail = by_behind ∙ sym (append_assoc (to_behind v) (empty v.behind) (past_behind v))
 
-    -- where each begins
+    -- how long the row up to each run is
     pub at_rest : length (to_rest v) ≡ h.rest_start
     at_rest = omega (
       arith,
@@ -203,11 +204,6 @@ module _ {T A : Type 0} where
         (omega (arith, length-full v.front, s.front))
         (omega (arith, length-full v.front, s.front, s.before))
 
-    pub behind-empty : (j : ℕ) → h.rest_end ≤ j → j < h.tail_start → slot h.block.slots j ≡ None
-    behind-empty j low high =
-        ap (λ (r : List (Option T)). slot r j) by_behind ∙ slot-in-empty (to_behind v) v.behind
-        (past_behind v) j (omega (arith, at_behind)) (omega (arith, at_behind, s.behind))
-
   -- the slots of the middle run, as a run
   pub rest-run : (h : Inside T A) (xs : List T) → full xs
       ≡ slice_range h.block.slots h.rest_start h.rest_end
@@ -216,8 +212,8 @@ module _ {T A : Type 0} where
 
   -- ---- the steps
 
-  module _ (h : Inside T A) (o : IsOpen h) (b : Block T A) (alloc : b.alloc ≡ h.block.alloc)
-      (cost : b.cost ≡ h.block.cost) (some : 0 < length (open_of h).rest) where
+  module _ (h : Inside T A) (o : IsOpen h) (b : Block T A)
+      (some : 0 < length (open_of h).rest) where
     abbrev v : Open T A
     v = open_of h
 
@@ -245,8 +241,8 @@ module _ {T A : Type 0} where
     }
 
     pub first-step : (x : T) → slot h.block.slots h.rest_start ≡ Some x
-        → b.slots ≡ set h.block.slots h.rest_start None → (ys : List T) × (v.rest ≡ x ∷ ys)
-        × Found first-left (first-seen ys)
+        → seen b ≡ record (seen h.block) { slots = set h.block.slots h.rest_start None }
+        → (ys : List T) × (v.rest ≡ x ∷ ys) × Found first-left (first-seen ys)
     first-step x is now =
         let parts = first-of v.rest some in
         let y : T = parts.0 in
@@ -259,7 +255,8 @@ module _ {T A : Type 0} where
         let reached' : v.capacity - reach v ≡ v.capacity - reach (first-seen ys) =
         omega (arith, ap length parts.2) in
         let after : b.slots ≡ row_of (first-seen ys) =
-        now ∙ (ap (λ (r : List (Option T)). set r h.rest_start None) row
+        ap (λ (z : Seen T A). z.slots) now
+        ∙ (ap (λ (r : List (Option T)). set r h.rest_start None) row
         ∙ (set_at (to_rest v) (Some y) (full ys ++ past_rest v) None h.rest_start (at_rest h v o)
         ∙ (append_assoc (full v.front) (empty v.before) (None ∷ (full ys ++ past_rest v))
         ∙ (ap (λ (r : List (Option T)). full v.front ++ r)
@@ -280,10 +277,11 @@ module _ {T A : Type 0} where
         } in (
           ys,
           parts.2 ∙ ap (λ (z : T). z ∷ ys) same,
-          found first-left (first-seen ys) shows alloc cost,
+          found first-left (first-seen ys) shows (ap (λ (z : Seen T A). z.alloc) now)
+              (ap (λ (z : Seen T A). z.cost) now),
         )
 
-    -- the last one leaves
+    -- the last item of the middle run leaves
     abbrev pub last-left : Inside T A
     last-left = record {
       block = b;
@@ -306,10 +304,9 @@ module _ {T A : Type 0} where
       cost = v.cost;
     }
 
-    pub last-step : (x : T) → slot h.block.slots (h.rest_end - 1) ≡ Some x → b.slots
-        ≡ set h.block.slots
-        (h.rest_end - 1) None → (ys : List T) × (v.rest ≡ ys ++ x ∷ [])
-        × Found last-left (last-seen ys)
+    pub last-step : (x : T) → slot h.block.slots (h.rest_end - 1) ≡ Some x
+        → seen b ≡ record (seen h.block) { slots = set h.block.slots (h.rest_end - 1) None }
+        → (ys : List T) × (v.rest ≡ ys ++ x ∷ []) × Found last-left (last-seen ys)
     last-step x is now =
         let parts = last-of v.rest some in
         let ys : List T = parts.0 in
@@ -338,7 +335,8 @@ module _ {T A : Type 0} where
         omega (arith, longer) in
         let more : suc v.behind ≡ v.behind + 1 = omega arith in
         let after : b.slots ≡ row_of (last-seen ys) =
-        now ∙ (ap (λ (r : List (Option T)). set r (h.rest_end - 1) None) row
+        ap (λ (z : Seen T A). z.slots) now
+        ∙ (ap (λ (r : List (Option T)). set r (h.rest_end - 1) None) row
         ∙ (set_at pre (Some y) (past_rest v) None (h.rest_end - 1) before
         ∙ (append_assoc (to_rest v) (full ys) (None ∷ past_rest v)
         ∙ (append_assoc (full v.front) (empty v.before) (full ys ++ (None ∷ past_rest v))
@@ -359,10 +357,11 @@ module _ {T A : Type 0} where
         } in (
           ys,
           parts.2 ∙ ap (λ (z : T). ys ++ z ∷ []) same,
-          found last-left (last-seen ys) shows alloc cost,
+          found last-left (last-seen ys) shows (ap (λ (z : Seen T A). z.alloc) now)
+              (ap (λ (z : Seen T A). z.cost) now),
         )
 
-  -- the empty slots, as one run behind the front
+  -- the empty slots, as one run after the front
   module _ (h : Inside T A) (o : IsOpen h) where
     abbrev pub joined : Inside T A
     joined = record {
@@ -446,19 +445,7 @@ module _ {T A : Type 0} where
     count-all : length (items_of (open_of h)) ≡ h.front_end + length all-behind
     count-all = omega (arith, length-append (open_of h).front all-behind, o.front)
 
-    pub all-room : length (items_of (open_of h)) ≤ length h.block.slots
-    all-room = omega (
-      arith,
-      count-all,
-      length-append (open_of h).rest (open_of h).tail,
-      o.before,
-      o.rest,
-      o.behind,
-      o.tail,
-      o.room,
-    )
-
-    -- they go to the front
+    -- the middle run and the tail go to the front as one run
     pub close-row : (open_of h).behind ≡ 0
         → moved h.rest_start h.front_end (h.len - h.rest_start) h.block.slots ≡ front
         (items_of (open_of h)) (length h.block.slots)
@@ -488,7 +475,7 @@ module _ {T A : Type 0} where
         (replicate-append-replicate w.before (w.capacity - reach w) None
         ∙ ap (λ (k : ℕ). empty k) left))))
 
-    -- where there is no empty slot before them, they are there already
+    -- the middle run and the tail are in front already where no empty slot lies before them
     pub closed-row : (open_of h).behind ≡ 0 → h.front_end ≡ h.rest_start
         → h.block.slots ≡ front (items_of (open_of h)) (length h.block.slots)
     closed-row none here =
@@ -572,7 +559,7 @@ module _ {T A : Type 0} where
               omega (arith, all, thin-room b a t);
         }) refl refl
 
-  -- items go into the empty slots behind the front
+  -- items go into the empty slots after the front
   module _ (h : Inside T A) (o : IsOpen h) (b : Block T A) (xs : List T) (end : ℕ)
       (ends : end ≡ h.front_end + length xs) (fits : end ≤ h.rest_start) where
     abbrev pub filled : Inside T A
@@ -669,7 +656,7 @@ module _ {T A : Type 0} where
           cost = b.cost;
         }
 
-    -- the slots behind the tail
+    -- the slots after the tail
     spare : h.block.slots ≡ to_tail (open_of h)
         ++ (full (open_of h).tail
         ++ (empty count ++ empty ((open_of h).capacity - reach (open_of h) - count)))
@@ -721,20 +708,3 @@ module _ {T A : Type 0} where
           room = room;
         } in
         found widened widened-seen shows refl refl
-
-    pub past-empty : (j : ℕ) → h.len ≤ j → j < h.len + count → slot h.block.slots j ≡ None
-    past-empty j low high =
-        let v : Open T A = open_of h in
-        let pre : List (Option T) = to_tail v ++ full v.tail in
-        let end : List (Option T) = empty (v.capacity - reach v - count) in
-        let start : length pre ≡ h.len =
-        omega (
-          arith,
-          length-append (to_tail v) (full v.tail),
-          at_tail h v o,
-          length-full v.tail,
-          o.tail,
-        ) in
-        ap (λ (r : List (Option T)). slot r j)
-        (spare ∙ sym (append_assoc (to_tail v) (full v.tail) (empty count ++ end)))
-        ∙ slot-in-empty pre count end j (omega (arith, start)) (omega (arith, start))

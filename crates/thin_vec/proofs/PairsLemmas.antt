@@ -3,6 +3,9 @@ use Rattle.std.proofs.Common.{◌≡◌, ◌≢◌, ℕ, zero, suc, ◌+◌, ◌
 use Rattle.std.proofs.lemmas.List.{drop_at, get_or_at, get_or-set_other, length-drop, length-take-le, length_push, set_at, take_at}
 use Rattle.std.specs.Prelude.{IsSome, slice_range}
 use lib.ListN.{set}
+use Rattle.thin_block.proofs.BlockLemmas.{slots-are}
+use Rattle.thin_block.specs.Block.{Seen, seen}
+use Rattle.thin_block.specs.Cost.{Cost}
 use Rattle.thin_block.specs.Lends.{over, with_item}
 use Rattle.thin_block.specs.Slots.{empty, full, slot}
 use Rattle.thin_block.specs.declared.block.Block.{Block}
@@ -23,7 +26,7 @@ module _ {T : Type 0} where
   over-none (None ∷ s) = refl
   over-none (Some x ∷ s) = refl
 
-  -- they are what is lent, and what is written is what the slots hold
+  -- two items side by side are what is lent, and what is written is what their slots hold
   pub record Neighbours (s : List (Option T)) (i : ℕ) (k x k' x' : T) : Type 0 where
     pub first : slot s i ≡ Some k
     pub second : slot s (suc i) ≡ Some x
@@ -48,7 +51,7 @@ module _ {T : Type 0} where
       let h = neighbours s i k x k' x' e in
       record { first = h.first; second = h.second; now = ap (λ (r : List (Option T)). p ∷ r) h.now }
 
-  -- as the two parts of a slice of two
+  -- two items side by side, as the two parts of a slice of two
   module _ (s : List (Option T)) (i : ℕ) (all a b : List T) (within : i + 2 ≤ length s)
       (lent : full all ≡ slice_range s i (i + 2)) (cut : all ≡ a ++ b) (one : length a ≡ 1) where
     pub parts-of : {k x : T} (k' x' : T) → k ≡ get_or a 0 k → x ≡ get_or b 0 x
@@ -80,7 +83,7 @@ module _ {T : Type 0} where
 module _ {T A : Type 0} where
   -- ---- on a block that is open
 
-  -- two items of the middle run were written, one behind the other
+  -- two items of the middle run were written, one after the other
   pub record WrittenTwo (h : Inside T A) (o : IsOpen h) (k : ℕ) (b : Block T A)
       (x y x' y' : T) : Type 0 where
     pub pre : List T
@@ -96,9 +99,9 @@ module _ {T A : Type 0} where
       len = h.len;
     }) (record (open_of h) { rest = pre ++ x' ∷ y' ∷ post })
 
-  module _ (h : Inside T A) (o : IsOpen h) (b : Block T A) (alloc : b.alloc ≡ h.block.alloc)
-      (cost : b.cost ≡ h.block.cost) where
-    -- writing to them changes nothing else
+  module _ (h : Inside T A) (o : IsOpen h) (b : Block T A)
+      (kept : seen b ≡ record (seen h.block) { slots = b.slots }) where
+    -- writing to two items of the middle run changes nothing else
     pub write-two-step : (k : ℕ) {x y : T} (x' y' : T) → suc k < length (open_of h).rest
         → slot h.block.slots (h.rest_start + k) ≡ Some x
         → slot h.block.slots (suc (h.rest_start + k)) ≡ Some y
@@ -107,13 +110,13 @@ module _ {T A : Type 0} where
         → WrittenTwo h o k b x y x' y'
     write-two-step k {x} {y} x' y' low first second now =
         let c : Block T A = with_item h.block (h.rest_start + k) x' in
-        let one = write-step h o c refl refl k (omega arith) x x' first refl in
-        let m : Inside T A = written h o c refl refl k (omega arith) in
+        let one = write-step h o c k (omega arith) x x' first refl in
+        let m : Inside T A = written h o c k (omega arith) in
         let next : suc (h.rest_start + k) ≡ h.rest_start + suc k = omega arith in
         let apart : suc (h.rest_start + k) ≢ h.rest_start + k = λ e. let n : suc (h.rest_start + k)
         ≡ h.rest_start + k =
         e in omega (arith, n) in
-        let seen : (open_of m).rest ≡ one.pre ++ x' ∷ one.post = ap (λ v. v.rest) one.shown.view in
+        let rest : (open_of m).rest ≡ one.pre ++ x' ∷ one.post = ap (λ v. v.rest) one.shown.view in
         let count : length (one.pre ++ x' ∷ one.post) ≡ length (open_of h).rest =
         omega (
           arith,
@@ -125,10 +128,10 @@ module _ {T A : Type 0} where
         ap (slot c.slots) (sym next)
         ∙ (get_or-set_other h.block.slots (h.rest_start + k) (suc (h.rest_start + k)) (Some x')
         None apart ∙ second) in
-        let two = write-step m one.shown.lies b alloc cost (suc k)
-        (omega (arith, low, ap length seen, count)) y y' there
-        (now ∙ ap (λ (n : ℕ). set c.slots n (Some y')) next) in
-        let same : one.pre ++ x' ∷ one.post ≡ two.pre ++ y ∷ two.post = sym seen ∙ two.was in
+        let two = write-step m one.shown.lies b (suc k)
+        (omega (arith, low, ap length rest, count)) y y' there
+        (slots-are kept (now ∙ ap (λ (n : ℕ). set c.slots n (Some y')) next)) in
+        let same : one.pre ++ x' ∷ one.post ≡ two.pre ++ y ∷ two.post = sym rest ∙ two.was in
         let long : length (one.pre ++ x' ∷ []) ≡ suc k =
         omega (arith, length_push one.pre x', one.place) in
         let same' : (one.pre ++ x' ∷ []) ++ one.post ≡ two.pre ++ y ∷ two.post =
@@ -167,12 +170,12 @@ module _ {T A : Type 0} where
       len = h.len;
     }) (record (open_of h) { front = pre ++ y ∷ [] })
 
-  -- writing to it changes nothing else
+  -- writing to the last item in front changes nothing else
   pub write-last-step : (h : Inside T A) (o : IsOpen h) (b : Block T A) {x : T} (y : T)
-      → (b.alloc ≡ h.block.alloc) × (b.cost ≡ h.block.cost) → 0 < length (open_of h).front
-      → slot h.block.slots (h.front_end - 1) ≡ Some x
-      → b.slots ≡ set h.block.slots (h.front_end - 1) (Some y) → WrittenLast h b x y
-  write-last-step h o b {x} y same_block some is now =
+      → 0 < length (open_of h).front → slot h.block.slots (h.front_end - 1) ≡ Some x
+      → seen b ≡ record (seen h.block) { slots = set h.block.slots (h.front_end - 1) (Some y) }
+      → WrittenLast h b x y
+  write-last-step h o b {x} y some is now =
       let v : Open T A = open_of h in
       let p = last-of v.front some in
       let pre : List T = p.0 in
@@ -189,7 +192,8 @@ module _ {T A : Type 0} where
       omega (arith, length_push pre y, ap length p.2, length_push pre p.1) in
       let left : v.capacity - reach v ≡ w.capacity - reach w = omega (arith, count) in
       let after : b.slots ≡ row_of w =
-      now ∙ (ap (λ (r : List (Option T)). set r (h.front_end - 1) (Some y)) row
+      ap (λ (z : Seen T A). z.slots) now
+      ∙ (ap (λ (r : List (Option T)). set r (h.front_end - 1) (Some y)) row
       ∙ (set_at (full pre) (Some p.1) z (Some y) (h.front_end - 1) here
       ∙ (sym (row-at [] pre y [] z)
       ∙ ap (λ (r : List (Option T)). full (pre ++ y ∷ [])
@@ -215,12 +219,15 @@ module _ {T A : Type 0} where
       record {
         pre = pre;
         was = p.2 ∙ ap (λ (q : T). pre ++ q ∷ []) same;
-        shown = found i w shows same_block.0 same_block.1;
+        shown = found i w shows (ap (λ (z : Seen T A). z.alloc) now)
+            (ap (λ (z : Seen T A). z.cost) now);
       }
 
-  -- an item goes behind the front
-  pub put-step : (h : Inside T A) (o : IsOpen h) (b : Block T A) (x : T) → b.alloc ≡ h.block.alloc
-      → 0 < (open_of h).before → b.slots ≡ set h.block.slots h.front_end (Some x)
+  -- an item goes after the front
+  pub put-step : (h : Inside T A) (o : IsOpen h) (b : Block T A) (x : T) {c : Cost}
+      → 0 < (open_of h).before
+      → seen b ≡ record (seen h.block)
+      { slots = set h.block.slots h.front_end (Some x); cost = c }
       → Found (record {
         block = b;
         front_end = h.front_end + 1;
@@ -234,7 +241,7 @@ module _ {T A : Type 0} where
             (open_of h).before - 1;
         cost = b.cost;
       })
-  put-step h o b x alloc gap now =
+  put-step h o b x gap now =
       let v : Open T A = open_of h in
       let g : ℕ = v.before - 1 in
       let wide : v.before ≡ suc g = omega arith in
@@ -243,7 +250,8 @@ module _ {T A : Type 0} where
       let longer : length w.front ≡ length v.front + 1 = length_push v.front x in
       let left : v.capacity - reach v ≡ w.capacity - reach w = omega (arith, longer, wide) in
       let after : b.slots ≡ row_of w =
-      now ∙ (ap (λ (r : List (Option T)). set r h.front_end (Some x))
+      ap (λ (z : Seen T A). z.slots) now
+      ∙ (ap (λ (r : List (Option T)). set r h.front_end (Some x))
       (o.row ∙ ap (λ (n : ℕ). full v.front ++ (empty n ++ z)) wide)
       ∙ (set_at (full v.front) None (empty g ++ z) (Some x) h.front_end
       (length-full v.front ∙ o.front)
@@ -270,9 +278,9 @@ module _ {T A : Type 0} where
             o.tail;
         room = o.room;
       } in
-      found i w shows alloc refl
+      found i w shows (ap (λ (z : Seen T A). z.alloc) now) refl
 
-  -- which slots those are
+  -- the slot of the last item in front is filled
   pub last-filled : (h : Inside T A) (o : IsOpen h) → 0 < length (open_of h).front
       → IsSome (slot h.block.slots (h.front_end - 1))
   last-filled h o some =

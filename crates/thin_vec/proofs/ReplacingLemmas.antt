@@ -103,7 +103,7 @@ module _ {T A : Type 0} (h : Inside T A) (o : IsOpen h) (b : Block T A) (k : ℕ
     len = h.len - k;
   }
 
-  -- so the tail is shorter, and the front longer
+  -- what is seen of the block then: the tail is shorter, and the front longer
   abbrev pub brought-seen : Open T A
   brought-seen = record {
     front = v.front ++ drop (length v.tail - k) v.tail;
@@ -116,7 +116,7 @@ module _ {T A : Type 0} (h : Inside T A) (o : IsOpen h) (b : Block T A) (k : ℕ
     cost = b.cost;
   }
 
-  -- that is how the slots lie once they have moved
+  -- the slots lie so once the last items of the tail have moved
   pub bring-step : b.slots ≡ moved (h.len - k) h.front_end k h.block.slots
       → Found brought brought-seen
   bring-step now =
@@ -239,7 +239,7 @@ at-most-more {n} {m} {k} {c} {d} {e} h few is = record {
   cost = is ∙ (ap (λ q. moving m q) h.cost ∙ moving-add m h.moves c);
 }
 
--- they are within any larger bound
+-- a bound on the moves may be any larger number
 pub at-most-le : {n m : ℕ} {c d : Cost} → MovesAtMost n c d → n ≤ m → MovesAtMost m c d
 at-most-le {n} {m} {c} {d} h le = record {
   moves = h.moves;
@@ -247,22 +247,22 @@ at-most-le {n} {m} {c} {d} h le = record {
   cost = h.cost;
 }
 
--- none, or a known number
+-- a bound on moves that are none, or a known number
 pub at-most-if : (b : Bool) (n : ℕ) (c d : Cost) → d ≡ (if b then c else moving n c)
     → MovesAtMost n c d
 at-most-if true n c d is = record { moves = 0; few = omega arith; cost = is ∙ moving-zero c }
 at-most-if false n c d is = record { moves = n; few = omega arith; cost = is }
 
--- none is no more than n
+-- what is added where a test fails is no more than what is always added
 pub if-le : (b : Bool) (k n : ℕ) → k + (if b then 0 else n) ≤ k + n
 if-le true k n = omega arith
 if-le false k n = omega arith
 
 -- of k clones that come in beside a range of r items, k1 go to its places, and k2 are more
 pub record IsParted (k r k1 k2 : ℕ) : Type 0 where
-  -- as many as there are places
+  -- as many clones go to places as there are places
   pub first : k1 ≡ min k r
-  -- and each is one or the other
+  -- each clone goes to a place or is one more
   pub all : k1 + k2 ≡ k
 
 -- the moves of such clones, with t items after the range: k2 of them come in after the range, and

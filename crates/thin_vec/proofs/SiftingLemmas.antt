@@ -3,6 +3,8 @@
 use Rattle.std.proofs.Common.{◌≡◌, ℕ, zero, suc, ◌+◌, ◌-◌, ◌<◌, ◌≤◌, List, [], ◌∷◌, ◌++◌, Option, Some, None, length, take, drop, refl, sym, ap, ◌∙◌, arith, length-append, append_assoc}
 use Rattle.std.proofs.lemmas.List.{get_or_at, length-drop, length-take-le, set_at, take-append-drop}
 use lib.ListN.{set}
+use Rattle.thin_block.specs.Block.{Seen, seen}
+use Rattle.thin_block.specs.Cost.{Cost}
 use Rattle.thin_block.specs.Slots.{empty, full, moved, slot}
 use Rattle.thin_block.specs.declared.block.Block.{Block}
 use Rattle.thin_block.proofs.SlotsLemmas.{moved_left}
@@ -34,13 +36,13 @@ module _ {T : Type 0} where
       ∙ sym (append_assoc a (full pre) (Some x ∷ (full post ++ z))))
 
 module _ {T A : Type 0} where
-  -- the row from the middle run on, where as many slots lie behind it
+  -- the row from the middle run on, where as many slots lie after it
   pub same-past : (v w : Open T A) → w.behind ≡ v.behind → w.tail ≡ v.tail
       → v.capacity - reach v ≡ w.capacity - reach w → past_rest v ≡ past_rest w
   same-past v w b t n = λ i. empty (sym b i) ++ (full (sym t i) ++ empty (n i))
 
-  module _ (h : Inside T A) (o : IsOpen h) (b : Block T A) (alloc : b.alloc ≡ h.block.alloc)
-      (cost : b.cost ≡ h.block.cost) (k : ℕ) (low : k < length (open_of h).rest) where
+  module _ (h : Inside T A) (o : IsOpen h) (b : Block T A) (k : ℕ)
+      (low : k < length (open_of h).rest) where
     abbrev v : Open T A
     v = open_of h
 
@@ -58,7 +60,8 @@ module _ {T A : Type 0} where
     abbrev pub written-seen : List T → Open T A
     written-seen ys = record v { rest = ys }
 
-    -- the run and the item, which lies in its slot; and what the block shows with another one there
+    -- the middle run and its item at k, which lies in its slot; and what the block shows with
+    -- another item there
     pub record Written (x y : T) : Type 0 where
       pub pre : List T
       pub post : List T
@@ -67,7 +70,8 @@ module _ {T A : Type 0} where
       pub shown : Found written (written-seen (pre ++ y ∷ post))
 
     pub write-step : (x y : T) → slot h.block.slots (h.rest_start + k) ≡ Some x
-        → b.slots ≡ set h.block.slots (h.rest_start + k) (Some y) → Written x y
+        → seen b ≡ record (seen h.block)
+        { slots = set h.block.slots (h.rest_start + k) (Some y) } → Written x y
     write-step x y is now =
         let p = split-at v.rest k low in
         let pre : List T = p.0 in
@@ -93,7 +97,8 @@ module _ {T A : Type 0} where
         let w : Open T A = written-seen (pre ++ y ∷ post) in
         let left : v.capacity - reach v ≡ w.capacity - reach w = omega (arith, count) in
         let after : b.slots ≡ row_of w =
-        now ∙ (ap (λ (r : List (Option T)). set r (h.rest_start + k) (Some y)) row
+        ap (λ (z : Seen T A). z.slots) now
+        ∙ (ap (λ (r : List (Option T)). set r (h.rest_start + k) (Some y)) row
         ∙ (set_at (to_rest v ++ full pre) (Some p.1) (full post ++ past_rest v)
         (Some y) (h.rest_start + k) here
         ∙ (sym (row-at (to_rest v) pre y post (past_rest v))
@@ -118,7 +123,8 @@ module _ {T A : Type 0} where
           place = p.3;
           was = p.4 ∙ ap (λ (z : T). pre ++ z ∷ post)
               same;
-          shown = found written w shows alloc cost;
+          shown = found written w shows (ap (λ (z : Seen T A). z.alloc) now)
+              (ap (λ (z : Seen T A). z.cost) now);
         }
 
   -- the first k items of the middle run go to the front
@@ -126,8 +132,8 @@ module _ {T A : Type 0} where
     abbrev u : Open T A
     u = open_of h
 
-    abbrev pub lowered : Block T A → Inside T A
-    lowered b = record {
+    abbrev pub moved_down : Block T A → Inside T A
+    moved_down b = record {
       block = b;
       front_end = h.front_end + k;
       rest_start = h.rest_start + k;
@@ -136,17 +142,17 @@ module _ {T A : Type 0} where
       len = h.len;
     }
 
-    abbrev pub lowered-seen : Block T A → Open T A
-    lowered-seen b = record u
+    abbrev pub moved_down-seen : Block T A → Open T A
+    moved_down-seen b = record u
         { front = u.front ++ take k u.rest; rest = drop k u.rest; cost = b.cost }
 
     -- the items that went are the run's, and none is new
-    lowered-shows : (b : Block T A)
+    moved_down-shows : (b : Block T A)
         → b.slots ≡ full u.front
         ++ (full (take k u.rest) ++ (empty u.before ++ (full (drop k u.rest) ++ past_rest u)))
-        → b.alloc ≡ h.block.alloc → Found (lowered b) (lowered-seen b)
-    lowered-shows b now alloc =
-        let w : Open T A = lowered-seen b in
+        → b.alloc ≡ h.block.alloc → Found (moved_down b) (moved_down-seen b)
+    moved_down-shows b now alloc =
+        let w : Open T A = moved_down-seen b in
         let few : length (take k u.rest) ≡ k = length-take-le k u.rest low in
         let rest : length (drop k u.rest) ≡ length u.rest - k = length-drop k u.rest in
         let more : length w.front ≡ length u.front + k =
@@ -160,7 +166,7 @@ module _ {T A : Type 0} where
         (sym (full-append u.front (take k u.rest)))
         ∙ ap (λ (r : List (Option T)). full w.front ++ (empty u.before ++ (full w.rest ++ r)))
         (same-past u w refl refl left))) in
-        found (lowered b) w
+        found (moved_down b) w
         (record {
           row = after;
           front = omega (arith, o.front, more);
@@ -172,7 +178,7 @@ module _ {T A : Type 0} where
         })
         alloc refl
 
-    -- the middle run, by what goes
+    -- the slots from the middle run on, cut after its first k items
     cut : full u.rest ++ past_rest u ≡ full (take k u.rest) ++ (full (drop k u.rest) ++ past_rest u)
     cut =
         ap (λ (l : List T). full l ++ past_rest u) (sym (take-append-drop k u.rest))
@@ -184,34 +190,38 @@ module _ {T A : Type 0} where
         ++ (empty u.before ++ (full (take k u.rest) ++ (full (drop k u.rest) ++ past_rest u)))
     parted = o.row ∙ ap (λ (r : List (Option T)). full u.front ++ (empty u.before ++ r)) cut
 
-    -- with no empty slot between they are there already
-    pub pass-step : u.before ≡ 0 → Found (lowered h.block) (lowered-seen h.block)
+    -- the first k items of the middle run join the front where no empty slot lies between
+    pub pass-step : u.before ≡ 0 → Found (moved_down h.block) (moved_down-seen h.block)
     pass-step none =
-        lowered-shows h.block
+        moved_down-shows h.block
         (parted ∙ (ap (λ (n : ℕ). full u.front
         ++ (empty n ++ (full (take k u.rest) ++ (full (drop k u.rest) ++ past_rest u)))) none
         ∙ ap (λ (n : ℕ). full u.front
         ++ (full (take k u.rest) ++ (empty n ++ (full (drop k u.rest) ++ past_rest u))))
         (sym none))) refl
 
-    -- they move as a run
-    pub lower-step : (b : Block T A) → b.slots ≡ moved h.rest_start h.front_end k h.block.slots
-        → b.alloc ≡ h.block.alloc → Found (lowered b) (lowered-seen b)
-    lower-step b now alloc =
+    -- the first k items of the middle run move to the front as one run
+    pub move_run_down-step : (b : Block T A) {c : Cost}
+        → seen b ≡ record (seen h.block)
+        { slots = moved h.rest_start h.front_end k h.block.slots; cost = c }
+        → Found (moved_down b) (moved_down-seen b)
+    move_run_down-step b now =
         let few : length (full (take k u.rest)) ≡ k = length-full (take k u.rest)
         ∙ length-take-le k u.rest low in
-        lowered-shows b
-        (now ∙ (ap (moved h.rest_start h.front_end k) parted
+        moved_down-shows b
+        (ap (λ (z : Seen T A). z.slots) now ∙ (ap (moved h.rest_start h.front_end k) parted
         ∙ moved_left h.rest_start h.front_end k u.before (full u.front) (full (take k u.rest))
         (full (drop k u.rest) ++ past_rest u) (sym (length-full u.front ∙ o.front))
-        (sym o.before) (sym few))) alloc
+        (sym o.before) (sym few))) (ap (λ (z : Seen T A). z.alloc) now)
 
   -- one item moves to the front, in line
-  pub lower-one-step : (h : Inside T A) (o : IsOpen h) (some : 1 ≤ length (open_of h).rest)
-      → 0 < (open_of h).before → (b : Block T A) {x : T} → slot h.block.slots h.rest_start ≡ Some x
-      → b.slots ≡ set (set h.block.slots h.rest_start None) h.front_end (Some x)
-      → b.alloc ≡ h.block.alloc → Found (lowered h o 1 some b) (lowered-seen h o 1 some b)
-  lower-one-step h o some gap b {x} is now alloc =
+  pub move_one_down-step : (h : Inside T A) (o : IsOpen h) (some : 1 ≤ length (open_of h).rest)
+      → 0 < (open_of h).before → (b : Block T A) {x : T} {c : Cost}
+      → slot h.block.slots h.rest_start ≡ Some x
+      → seen b ≡ record (seen h.block)
+      { slots = set (set h.block.slots h.rest_start None) h.front_end (Some x); cost = c }
+      → Found (moved_down h o 1 some b) (moved_down-seen h o 1 some b)
+  move_one_down-step h o some gap b {x} is now =
       let w : Open T A = open_of h in
       let parts = first-of w.rest some in
       let y : T = parts.0 in
@@ -230,15 +240,17 @@ module _ {T A : Type 0} where
       ∙ (set_at (to_rest w) (Some y) z None h.rest_start (at_rest h w o)
       ∙ (append_assoc (full w.front) (empty w.before) (None ∷ z)
       ∙ ap (λ (n : ℕ). full w.front ++ (empty n ++ (None ∷ z))) wide)) in
-      lowered-shows h o 1 some b
-      (now ∙ (ap (λ (r : List (Option T)). set r h.front_end (Some x)) opened
+      moved_down-shows h o 1 some b
+      (ap (λ (z : Seen T A). z.slots) now
+      ∙ (ap (λ (r : List (Option T)). set r h.front_end (Some x)) opened
       ∙ (set_at (full w.front) None (empty g ++ (None ∷ z)) (Some x) h.front_end
       (length-full w.front ∙ o.front)
       ∙ (ap (λ (r : List (Option T)). full w.front ++ (Some x ∷ r))
       (empty-more g z ∙ ap (λ (n : ℕ). empty n ++ z) wide')
       ∙ (λ i. full w.front
       ++ (full (take 1 (firsts same parts.2 i))
-      ++ (empty w.before ++ (full (drop 1 (firsts same parts.2 i)) ++ past_rest w)))))))) alloc
+      ++ (empty w.before ++ (full (drop 1 (firsts same parts.2 i)) ++ past_rest w))))))))
+      (ap (λ (z : Seen T A). z.alloc) now)
     where
       firsts : {x y : T} {ys xs : List T} → y ≡ x → xs ≡ y ∷ ys → x ∷ ys ≡ xs
       firsts {x} {y} {ys} e f = ap (λ (a : T). a ∷ ys) (sym e) ∙ sym f

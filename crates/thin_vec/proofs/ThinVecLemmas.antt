@@ -24,7 +24,7 @@ module _ {T A : Type 0} (R : RattleType) (b : Block T A) (a : A) where
       in
       subst (IsWithin R) is here
 
-  -- and so it is after a step that left it a capacity that fits
+  -- a list is within its capacity after a step that left it one that fits
   pub within-settled : (xs : List T) (c : ℕ) → Fits R c → Settled b a xs c
       → IsWithin R (thin_of b a)
   within-settled xs c fits after =
@@ -73,7 +73,7 @@ module _ {T A : Type 0} (R : RattleType) (w : Thin T A) where
 
 -- what a list has cost once its capacity is c
 module _ {T A : Type 0} (v : Thin T A) (c : ℕ) where
-  -- the same capacity costs nothing
+  -- what a list has cost stays at the same capacity
   pub cost_at-same : c ≡ v.capacity → cost_at v c ≡ v.cost
   cost_at-same e = let t : eqb c v.capacity ≡ true = grind (arith, nat_tests) in rw t refl
 
@@ -81,7 +81,7 @@ module _ {T A : Type 0} (v : Thin T A) (c : ℕ) where
   pub cost_at-more : v.capacity < c → cost_at v c ≡ growing (length v.items) v.cost
   cost_at-more e = let t : eqb c v.capacity ≡ false = grind (arith, nat_tests) in rw t refl
 
-  -- no growth is a move
+  -- a growth adds no move
   pub cost_at-moves : (cost_at v c).moves ≡ v.cost.moves
   cost_at-moves = go (eqb c v.capacity)
     where
@@ -120,12 +120,12 @@ module _ {T A : Type 0} (rule : Rule) (R : RattleType) (law : KeepsLaw rule)
   pub cap-kept : length v.items + k ≤ v.capacity → capacity_for rule R v k ≡ Some c → c ≡ v.capacity
   cap-kept room e = some-same (sym e ∙ ruled-same rule R v.capacity (length v.items + k) room)
 
-  -- with room, nothing is paid
+  -- where there is room, nothing is paid
   pub cost_at-kept : length v.items + k ≤ v.capacity
       → capacity_for rule R v k ≡ Some c → cost_at v c ≡ v.cost
   cost_at-kept room e = cost_at-same v c (cap-kept room e)
 
-  -- where there is none, the capacity grows, and each item is copied
+  -- where there is no room, the capacity grows, and each item is copied
   pub cap-grown : v.capacity < length v.items + k → capacity_for rule R v k ≡ Some c
       → (length v.items + k ≤ c) × (2 * v.capacity ≤ c)
   cap-grown more e = let g = ruled-grows rule R v.capacity (length v.items + k) c law more e in

@@ -1,12 +1,14 @@
--- What two blocks hold once the last items of one went behind those of the other.
+-- What two blocks hold once the last items of one went after those of the other.
 use Rattle.std.proofs.Common.{◌≡◌, ℕ, ◌+◌, ◌-◌, ◌≤◌, List, ◌++◌, length, take, drop, Option, None, sym, ap, ◌∙◌, arith, length-append, append_assoc}
 use Rattle.std.proofs.lemmas.List.{length-drop, length-replicate, length-take-le, take-append-drop, replicate-append-replicate}
+use Rattle.thin_block.specs.Cost.{Cost}
 use Rattle.thin_block.specs.Slots.{empty, emptied, front, full, items_in, laid, run}
 use Rattle.thin_block.specs.declared.block.Block.{Block}
+use Rattle.thin_block.proofs.BlockLemmas.{slots-are}
 use Rattle.thin_block.proofs.SlotsLemmas.{laid-at, run-at}
 use Rattle.thin_vec.specs.ThinVec.{IsThin}
 use Rattle.thin_vec.proofs.EditsLemmas.{full-append}
-use Rattle.thin_vec.proofs.ListLemmas.{IsWritten, Settled, from-same, length-full, settled, thin-room}
+use Rattle.thin_vec.proofs.ListLemmas.{IsWritten, Settled, length-full, settle-front, thin-room}
 
 module _ {T : Type 0} where
   -- ys go into the first empty slots
@@ -46,7 +48,7 @@ module _ {T : Type 0} where
     front-run = ap (λ (s : List (Option T)). run i k s) parted ∙ run-at i k (full (take i ys))
         (full (drop i ys)) (empty (c - length ys)) before within
 
-    -- what is left without them
+    -- what is left without the items from i on
     pub front-cut : emptied i k (front ys c) ≡ front (take i ys) c
     front-cut =
         let long : length (empty {T = T} k) ≡ length (full (drop i ys)) =
@@ -60,25 +62,24 @@ module _ {T : Type 0} where
         (replicate-append-replicate k (c - length ys) None ∙ ap (λ (m : ℕ). empty m) bare))
 
 module _ {T A : Type 0} where
-  -- items that are laid behind those of a list
+  -- items that are laid after those of a list
   pub settle-more : {b : Block T A} {a : A} → IsThin b a → (b' : Block T A) (xs : List T) (n : ℕ)
-      → n ≡ b.len → n + length xs ≤ length b.slots
-      → IsWritten b b' (laid n (full xs) b.slots) (n + length xs)
+      → n ≡ b.len → n + length xs ≤ length b.slots → {l : ℕ} {k : Cost} → l ≡ n + length xs
+      → IsWritten b b' (laid n (full xs) b.slots) l k
       → Settled b' a (items_in b.slots ++ xs) (length b.slots)
-  settle-more {b} {a} t b' xs n len room w =
+  settle-more {b} t b' xs n len room new w =
       let ys : List T = items_in b.slots in
       let end : n ≡ length ys = len ∙ t.packed.len in
-      settled b' a (ys ++ xs) (length b.slots)
-      (w.slots ∙ ((λ m. laid (end m) (full xs) (t.packed.row m)) ∙ front-more ys xs (length b.slots)
-      (omega (arith, room, end))))
-      (omega (arith, w.len, end, length-append ys xs))
-      (omega (arith, room, end, length-append ys xs)) (from-same b b' a t.from w.alloc)
+      settle-front t b' (ys ++ xs) (length b.slots) w
+      ((λ m. laid (end m) (full xs) (t.packed.row m))
+      ∙ front-more ys xs (length b.slots) (omega (arith, room, end)))
+      (omega (arith, new, end, length-append ys xs)) (omega (arith, room, end, length-append ys xs))
 
   module _ {b o : Block T A} {a p : A} (t : IsThin b a) (u : IsThin o p) where
     -- the list that the items from i on of another go to
     pub settle-joined : (b' : Block T A) (i : ℕ) {k n : ℕ} → i ≤ length (items_in o.slots)
         → k ≡ o.len - i → n ≡ b.len → n + k ≤ length b.slots
-        → IsWritten b b' (laid n (run i k o.slots) b.slots) (n + k)
+        → {m : Cost} → IsWritten b b' (laid n (run i k o.slots) b.slots) (n + k) m
         → Settled b' a (items_in b.slots ++ drop i (items_in o.slots)) (length b.slots)
     settle-joined b' i {k} {n} order count len room w =
         let ys : List T = items_in o.slots in
@@ -86,22 +87,19 @@ module _ {T A : Type 0} where
         let more : length (drop i ys) ≡ k = omega (arith, all, length-drop i ys) in
         let same : run i k o.slots ≡ full (drop i ys) = ap (λ (r : List (Option T)). run i k r)
         u.packed.row ∙ front-run ys (length o.slots) i k order (thin-room o p u) all in
-        settle-more t b' (drop i ys) n len (omega (arith, room, more)) (record {
-          slots = w.slots ∙ ap (λ (r : List (Option T)). laid n r b.slots) same;
-          len = omega (arith, w.len, more);
-          alloc = w.alloc;
-        })
+        settle-more t b' (drop i ys) n len (omega (arith, room, more)) (omega (arith, more))
+        (slots-are w (ap (λ (r : List (Option T)). laid n r b.slots) same))
 
-  -- and the one that they left
+  -- the list whose items from i on left it
   pub settle-cut : {o : Block T A} {p : A} → IsThin o p → (o' : Block T A) (i : ℕ) {k : ℕ}
-      → i ≤ length (items_in o.slots) → k ≡ o.len - i → IsWritten o o' (emptied i k o.slots) i
+      {m : Cost} → i ≤ length (items_in o.slots) → k ≡ o.len - i
+      → IsWritten o o' (emptied i k o.slots) i m
       → Settled o' p (take i (items_in o.slots)) (length o.slots)
   settle-cut {o} {p} u o' i {k} order count w =
       let ys : List T = items_in o.slots in
       let few : length (take i ys) ≡ i = length-take-le i ys order in
-      settled o' p (take i ys) (length o.slots)
-      (w.slots ∙ (ap (λ (r : List (Option T)). emptied i k r) u.packed.row
-      ∙ front-cut ys (length o.slots)
-      i k order (thin-room o p u) (omega (arith, count, u.packed.len))))
-      (w.len ∙ sym few) (omega (arith, few, thin-room o p u, order))
-      (from-same o o' p u.from w.alloc)
+      settle-front u o' (take i ys) (length o.slots) w
+      (ap (λ (r : List (Option T)). emptied i k r) u.packed.row
+      ∙ front-cut ys (length o.slots) i k order (thin-room o p u)
+      (omega (arith, count, u.packed.len)))
+      (sym few) (omega (arith, few, thin-room o p u, order))

@@ -3,14 +3,14 @@ use Rattle.std.proofs.Common.{◌≡◌, ℕ, zero, suc, ◌≤◌, List, [], �
 use Rattle.std.specs.Prelude.{Some, insert, remove, slice_get}
 
 module _ {T : Type 0} where
-  -- the items are as before
+  -- an item that was put in and removed leaves the items as before
   pub remove-insert : (xs : List T) (i : ℕ) (x : T) → i ≤ length xs → remove (insert xs i x) i ≡ xs
   remove-insert [] zero x h = refl
   remove-insert (y ∷ xs) zero x h = refl
   remove-insert [] (suc i) x h = absurd (omega arith)
   remove-insert (y ∷ xs) (suc i) x h = ap (λ l. y ∷ l) (remove-insert xs i x (omega arith))
 
-  -- and the item is the one that went in
+  -- the item that was put in is there
   pub slice_get-insert : (xs : List T) (i : ℕ) (x : T) → i ≤ length xs
       → slice_get (insert xs i x) i ≡ Some x
   slice_get-insert [] zero x h = refl

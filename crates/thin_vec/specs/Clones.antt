@@ -1,4 +1,4 @@
--- What the calls that clone items say of clones, and of a clone that is refused. (std: `Clone`)
+-- What the calls that clone items say of clones, and of a clone that fails. (std: `Clone`)
 use Rattle.std.specs.Prelude.{◌≡◌, ℕ, ◌<◌, ◌≤◌, List, [], ◌∷◌, ◌++◌, All, HoldsAt, Option, Some, length, take}
 use Rattle.std.specs.Borrow.{RattleType}
 use Rattle.std.specs.List.{AllZip}
@@ -22,7 +22,7 @@ module _ {T : Type 0} (clones : T → T → Type 0) where
     pub cloned : AllZip clones (take n sources) copies
     pub slots : s' ≡ laid i (full copies) s
 
--- ys is xs, and behind it n clones of x
+-- ys is xs, and after it n clones of x
 pub record AppendsRepeats {T : Type 0} (clones : T → T → Type 0) (x : T) (n : ℕ)
     (xs ys : List T) : Type 0 where
   pub copies : List T
@@ -30,7 +30,7 @@ pub record AppendsRepeats {T : Type 0} (clones : T → T → Type 0) (x : T) (n 
   pub count : length copies ≡ n
   pub items : ys ≡ xs ++ copies
 
--- ys is xs at the length n: cut short, or with clones of x behind it, the last one x itself
+-- ys is xs at the length n: cut short, or with clones of x after it, the last one x itself
 pub record IsResized {T : Type 0} (clones : T → T → Type 0) (xs : List T) (n : ℕ) (x : T)
     (ys : List T) : Type 0 where
   pub shorter : n ≤ length xs → ys ≡ take n xs
@@ -38,7 +38,7 @@ pub record IsResized {T : Type 0} (clones : T → T → Type 0) (xs : List T) (n
       × (ys ≡ xs ++ (copies ++ x ∷ []))
   pub len : length ys ≡ n
 
--- the clone of the source at `at` may be refused, and there was one move for each source before it
+-- the clone of the source at `at` may fail, and there was one move for each source before it
 pub record StopsAtClone {T : Type 0} (infallible : T → Type 0) (sources : List T)
     (before after : Cost) : Type 0 where
   pub at : ℕ
@@ -47,7 +47,7 @@ pub record StopsAtClone {T : Type 0} (infallible : T → Type 0) (sources : List
   pub cost : after ≡ moving at before
 
 -- there was room for k items more than those of v, or it was made, and then the clone of a source
--- was refused
+-- failed
 pub record IsCloneRefused {T A : Type 0} (rule : Rule) (R : RattleType) (infallible : T → Type 0)
     (sources : List T) (k : ℕ) (v w : Thin T A) : Type 0 where
   pub capacity : capacity_for rule R v k ≡ Some w.capacity

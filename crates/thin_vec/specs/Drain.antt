@@ -20,13 +20,15 @@ module _ {T A G : Type 0} {g : Ghosts G} {h : HoldsGhosts (Holder (Open T A)) (O
   abbrev pub drain_kept : Drain T A G (Holder (Open T A)) g h → List T
   drain_kept d = d.holder.value.front ++ d.holder.value.tail
 
-  -- its capacity then, its allocator, and what it has cost
+  -- the capacity of the list once the `Drain` is dropped
   abbrev pub drain_capacity : Drain T A G (Holder (Open T A)) g h → ℕ
   drain_capacity d = d.holder.value.capacity
 
+  -- the allocator of the list
   abbrev pub drain_alloc : Drain T A G (Holder (Open T A)) g h → A
   drain_alloc d = d.list.now.alloc
 
+  -- what the list has cost once the `Drain` is dropped
   abbrev pub drain_cost : Drain T A G (Holder (Open T A)) g h → Cost
   drain_cost d = cost_drained d.holder.value
 
@@ -61,10 +63,10 @@ module _ {T A G : Type 0} {g : Ghosts G} {h : HoldsGhosts (Holder (Open T A)) (O
   DrainKeepsAlong first = (items : List T) (later : Drain T A G (Holder (Open T A)) g h)
       → Yields DrainSteps first items later → DrainKeeps first later
 
-  -- however often `next` is called, it gives what remains, in order
+  -- however often `next` is called, it yields what remains, in order
   abbrev pub DrainsInOrder : Drain T A G (Holder (Open T A)) g h → Type 0
   DrainsInOrder d = YieldsInOrder DrainSteps drain_rest
 
-  -- and so does `next_back`, in reverse
+  -- however often `next_back` is called, it yields what remains, in reverse
   abbrev pub DrainsInReverse : Drain T A G (Holder (Open T A)) g h → Type 0
   DrainsInReverse d = YieldsInReverse DrainStepsBack drain_rest

@@ -18,7 +18,7 @@ IsLoose rule R c d =
 abbrev pub IsRuled : Rule → RattleType → ℕ → ℕ → Type 0
 IsRuled rule R d n = (e w : ℕ) × (e < w) × (w ≤ n) × (ruled_capacity rule R e w ≡ Some d)
 
--- the same, or d is c
+-- d is c, or the capacity that the rule names for a want of at most n, after a lesser one
 abbrev pub IsNamed : Rule → RattleType → ℕ → ℕ → ℕ → Type 0
 IsNamed rule R c d n = (d ≡ c) ⊎ IsRuled rule R d n
 
@@ -30,7 +30,8 @@ IsExtended rule R v d n left =
     IsNamed rule R v.capacity d n
     ⊎ ((h : ℕ) × IsWithinCount h left × (capacity_for rule R v h ≡ Some d))
 
--- the same of a new list, which begins with exactly as many places as a hint says
+-- the capacity d of a new list of at most n items, of an iterator that has `left` to give: one that
+-- the rule names, or exactly as many places as a hint allows
 abbrev pub IsCollected : Rule → RattleType → ℕ → ℕ → Count → Type 0
 IsCollected rule R d n left =
     IsRuled rule R d n ⊎ ((h : ℕ) × IsWithinCount h left × (exact_capacity R 0 h ≡ Some d))
@@ -53,7 +54,8 @@ module _ {T A : Type 0} where
   Overflows rule R v (Some x) left = capacity_for rule R v 1 ≡ None
   Overflows rule R v None left = (h : ℕ) × IsWithinCount h left × (capacity_for rule R v h ≡ None)
 
-  -- the same of a new list, which takes exactly what the hint says
+  -- a new list, which takes exactly what the hint says, found no capacity: for one place more, for
+  -- the item in hand, or, where no item was drawn, for as many as some hint allows
   abbrev pub OverflowsNew : Rule → RattleType → Thin T A → Option T → Count → Type 0
   OverflowsNew rule R v (Some x) left = capacity_for rule R v 1 ≡ None
   OverflowsNew rule R v None left = (h : ℕ) × IsWithinCount h left × (exact_capacity R 0 h ≡ None)

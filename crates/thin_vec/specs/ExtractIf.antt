@@ -5,7 +5,6 @@ use Rattle.std.specs.List.Retain.{ExtractsNext}
 use Rattle.std.specs.Option.{option_to_list}
 use Rattle.thin_block.specs.Cost.{Cost, moving}
 use Rattle.thin_block.specs.declared.growth.Growth.{Ghosts}
-use Rattle.thin_vec.specs.Open.{cost_closed, items_of}
 use Rattle.thin_vec.specs.declared.extract_if.ExtractIf.{ExtractIf}
 use Rattle.thin_vec.specs.declared.extract_if.Extracting.{Extracting}
 use Rattle.thin_vec.specs.declared.holds.Holder.{Holder}
@@ -23,11 +22,11 @@ module _ {T F A G : Type 0} {g : Ghosts G}
   abbrev pub extract_rest : ExtractIf T F A G (Holder (Extracting T F A)) g h → List T
   extract_rest e = e.holder.value.block.rest
 
-  -- the items behind the range
+  -- the items after the range
   abbrev pub extract_tail : ExtractIf T F A G (Holder (Extracting T F A)) g h → List T
   extract_tail e = e.holder.value.block.tail
 
-  -- how many items were handed out
+  -- how many items were yielded
   abbrev pub extract_gone : ExtractIf T F A G (Holder (Extracting T F A)) g h → ℕ
   extract_gone e = e.holder.value.block.before
 
@@ -39,28 +38,21 @@ module _ {T F A G : Type 0} {g : Ghosts G}
   abbrev pub extract_cost : ExtractIf T F A G (Holder (Extracting T F A)) g h → Cost
   extract_cost e = e.holder.value.block.cost
 
-  -- what the list has once the `ExtractIf` is dropped: its items, its capacity, its allocator, and
-  -- what it has cost, a move more for each item that was not asked about or stands behind the
-  -- range, where an item was handed out
-  abbrev pub extract_kept : ExtractIf T F A G (Holder (Extracting T F A)) g h → List T
-  extract_kept e = items_of e.holder.value.block
-
+  -- the capacity of the list once the `ExtractIf` is dropped
   abbrev pub extract_capacity : ExtractIf T F A G (Holder (Extracting T F A)) g h → ℕ
   extract_capacity e = e.holder.value.block.capacity
 
+  -- the allocator of the list
   abbrev pub extract_alloc : ExtractIf T F A G (Holder (Extracting T F A)) g h → A
   extract_alloc e = e.list.now.alloc
-
-  abbrev pub extract_cost_left : ExtractIf T F A G (Holder (Extracting T F A)) g h → Cost
-  extract_cost_left e = cost_closed e.holder.value.block
 
   -- the ghost name of the reference to the list
   abbrev pub extract_lender : ExtractIf T F A G (Holder (Extracting T F A)) g h → GName
   extract_lender e = e.list.ghost_name
 
-  -- `next` took old to new, and gave the item. It asked about items up to the first that goes,
+  -- `next` took old to new, and returned the item. It asked about items up to the first that goes,
   -- which is that item, or up to the end. `kept` are those that stay, as the closure left them:
-  -- they stand in front, for a move each where items were handed out before
+  -- they stand in front, for a move each where items were yielded before
   pub record ExtractSteps (R : F → T → Bool → F → T → Type 0)
       (old : ExtractIf T F A G (Holder (Extracting T F A)) g h) (item : Option T)
       (new : ExtractIf T F A G (Holder (Extracting T F A)) g h) : Type 0 where

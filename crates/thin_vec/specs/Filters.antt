@@ -10,19 +10,19 @@ trues [] = zero
 trues (true ∷ flags) = suc (trues flags)
 trues (false ∷ flags) = trues flags
 
--- a flag an item says whether it stays: how many stay and change their place, which are those
--- behind the first that goes
+-- flags say of each item whether it stays: how many of those that stay change their place, which
+-- are those after the first that goes
 abbrev pub moved_up : List Bool → ℕ
 moved_up [] = zero
 moved_up (true ∷ stays) = moved_up stays
 moved_up (false ∷ stays) = trues stays
 
--- answers to a question about each item, each beside the item as it was left by then
+-- what a closure returned of each item, beside the item as the closure left it
 abbrev pub Answers : Type 0 → Type 0
 Answers T = List (Bool × T)
 
 module _ {T : Type 0} where
-  -- the items of which the answer was the given one, as they were left
+  -- the items of which the closure returned the given flag, as it left them
   abbrev pub left_at : Bool → Answers T → List T
   left_at b [] = []
   left_at true ((true, x) ∷ answers) = x ∷ left_at true answers
@@ -34,11 +34,12 @@ module _ {T : Type 0} where
   abbrev pub stay : List T → Answers T
   stay xs = map (λ (x : T). (true, x)) xs
 
-  -- the answers alone
+  -- what the closure returned of each item, alone
   abbrev pub flags_of : Answers T → List Bool
   flags_of answers = map (λ (answer : Bool × T). answer.0) answers
 
--- R relates a state, an item, the answer, the state afterwards and the item as it was left
+-- R relates a state, an item, what the closure returns, the state afterwards and the item as it was
+-- left
 module _ {S T : Type 0} (R : S → T → Bool → S → T → Type 0) where
   -- from the state s on, each item was asked about once, in order; t is the state afterwards
   abbrev pub Asked : S → List T → Answers T → S → Type 0
@@ -47,15 +48,15 @@ module _ {S T : Type 0} (R : S → T → Bool → S → T → Type 0) where
       (b : Bool) × (y : T) × (u : S) × (rest : Answers T) × R s x b u y × Asked u xs rest t
       × (answers ≡ (b, y) ∷ rest)
 
-  -- w is what is left of the list v: the items whose answer was true, as they were left, for one
-  -- move each that has changed its place; t is the last state
+  -- w is what is left of the list v: the items of which the closure returned true, as it left them,
+  -- for one move each that has changed its place; t is the last state
   pub record IsRetainedTo {A : Type 0} (s : S) (v w : Thin T A) (t : S) : Type 0 where
     pub answers : Answers T
     pub asked : Asked s v.items answers t
     pub items : w.items ≡ left_at true answers
     pub cost : w.cost ≡ moving (moved_up (flags_of answers)) v.cost
 
-  -- the same with some last state
+  -- w is what is left of the list v by such a closure, from the state s on
   abbrev pub IsRetained : {A : Type 0} → S → Thin T A → Thin T A → Type 0
   IsRetained s v w = (t : S) × IsRetainedTo s v w t
 
@@ -77,7 +78,9 @@ module _ {S T : Type 0} (R : S → T → T → Bool → S → T → T → Type 0
       × MatchBool b (AskedLast u k' xs rest ys t)
       ((zs : List T) × AskedLast u x' xs rest zs t × (ys ≡ k' ∷ zs))
 
-  -- the same from the first item on, which stays
+  -- the first item stays; from the state s on, each other one was asked about once beside the last
+  -- one kept by then. The flags say which of those stay, ys is all that stay, as they were left,
+  -- and t is the state afterwards
   abbrev pub AskedPairs : S → List T → List Bool → List T → S → Type 0
   AskedPairs s [] stays ys t = (stays ≡ []) × (ys ≡ []) × (t ≡ s)
   AskedPairs s (x ∷ xs) stays ys t = AskedLast s x xs stays ys t
@@ -89,7 +92,7 @@ module _ {S T : Type 0} (R : S → T → T → Bool → S → T → T → Type 0
     pub asked : AskedPairs s v.items stays w.items t
     pub cost : w.cost ≡ moving (moved_up stays) v.cost
 
-  -- the same with some last state
+  -- w is what is left of the list v by such a closure, from the state s on
   abbrev pub IsDedupedBy : {A : Type 0} → S → Thin T A → Thin T A → Type 0
   IsDedupedBy s v w = (t : S) × IsDedupedTo s v w t
 
@@ -104,7 +107,8 @@ module _ {T : Type 0} (E : T → T → Bool) where
   unlike_from k [] = []
   unlike_from k (x ∷ xs) = if E x k then false ∷ unlike_from k xs else true ∷ unlike_from x xs
 
-  -- the same of all items but the first, which stays
+  -- of each item but the first, which stays, whether it stays, as E tells it from the last one kept
+  -- by then
   abbrev pub unlike : List T → List Bool
   unlike [] = []
   unlike (x ∷ xs) = unlike_from x xs

@@ -21,10 +21,10 @@ module _ {T A : Type 0} where
   rest v = v.items
 
 module _ (T A : Type 0) where
-  -- however often `next` is called, it gives what remained, in order
+  -- however often `next` is called, it yields what remained, in order
   abbrev pub RestInOrder : Type 0
   RestInOrder = YieldsInOrder (YieldsFirst (rest {T = T} {A = A})) rest
 
-  -- and so does `next_back`, in reverse
+  -- however often `next_back` is called, it yields what remained, in reverse
   abbrev pub RestInReverse : Type 0
   RestInReverse = YieldsInReverse (YieldsLast (rest {T = T} {A = A})) rest

@@ -6,8 +6,8 @@ use Rattle.std.specs.declared.option.Option.TheVariants.{Some}
 use Rattle.thin_block.specs.Cost.{Cost, cost_code, moving}
 use Rattle.thin_block.specs.Slots.{empty, full}
 
--- the items that stay in front; how many empty slots lie behind them; the items of the middle run;
--- how many empty slots lie behind those; the items that the edit has not reached; how many slots
+-- the items that stay in front; how many empty slots lie after them; the items of the middle run;
+-- how many empty slots lie after those; the items that the edit has not reached; how many slots
 -- there are; the allocator that the memory came from; the cost
 pub record Open (T A : Type 0) : Type 0 where
   pub front : List T
@@ -19,6 +19,7 @@ pub record Open (T A : Type 0) : Type 0 where
   pub alloc : Option A
   pub cost : Cost
 
+-- an open block is stored as the tuple of its eight parts
 abbrev pub open_code : {T A : Type 0} → Coded T → Coded A → Coded (Open T A)
 open_code {T} {A} t a =
     code_by (List T × (ℕ × (List T × (ℕ × (List T × (ℕ × (Option A × Cost)))))))
@@ -58,7 +59,7 @@ module _ {T A : Type 0} where
   abbrev pub items_of : Open T A → List T
   items_of v = v.front ++ (v.rest ++ v.tail)
 
-  -- what it has cost once the empty slots behind the front are closed: a move for each item behind
+  -- what it has cost once the empty slots after the front are closed: a move for each item after
   -- them, where there are any
   abbrev pub cost_closed : Open T A → Cost
   cost_closed v = if v.before == 0 then v.cost else moving (length v.rest + length v.tail) v.cost

@@ -5,6 +5,7 @@ use Rattle.thin_vec.specs.Open.{Open, row_of}
 use Rattle.thin_vec.specs.declared.open_block.OpenBlock.TheInside.{Inside}
 
 module _ {T A : Type 0} where
+  -- an open block as a contract sees it
   abbrev pub open_of : Inside T A → Open T A
   open_of h =
       record {

@@ -9,8 +9,8 @@ use Rattle.thin_vec.specs.Open.{Open}
 -- R relates a state, a later item, the last item kept, whether the later one goes, the state
 -- afterwards and both items as they were left
 module _ {S T : Type 0} (R : S → T → T → Bool → S → T → T → Type 0) where
-  -- the item at k was asked about beside the one before it, in the state s: the answer is b, the
-  -- state afterwards t, and ys is xs with both as they were left
+  -- the item at k was asked about beside the one before it, in the state s: b says whether it goes,
+  -- t is the state afterwards, and ys is xs with both as they were left
   pub record IsPairAskedAt (k : ℕ) (s : S) (xs : List T) (b : Bool) (t : S)
       (ys : List T) : Type 0 where
     pub before : List T

@@ -4,9 +4,9 @@ use Rattle.std.specs.Range.Bound.{end_index, start_index}
 use Rattle.std.specs.declared.option.Option.TheVariants.{None, Some}
 use Rattle.std.specs.declared.ops.Bound.{Bound}
 
--- the first index and the one behind the last, of a range between these bounds in a list of len
--- items: None where it begins behind its end, or ends behind the list. Numbers here have no limit,
--- so nothing wraps
+-- the first index and the one after the last, of a range between these bounds in a list of len
+-- items: None where it begins after its end, or ends after the list. Numbers here have no limit, so
+-- nothing wraps
 abbrev pub range_between : Bound ℕ → Bound ℕ → ℕ → Option (ℕ × ℕ)
 range_between start end len =
     if nat_le (start_index start) (end_index end len) && nat_le (end_index end len) len

@@ -13,8 +13,8 @@ module _ {T A : Type 0} where
   abbrev pub moves_replacing : Thin T A → ℕ → ℕ → ℕ → ℕ
   moves_replacing v i j k = k + (if k == j - i then 0 else length v.items - j)
 
-  -- the same for clones, which are made beside the old items: those that go to the places of the
-  -- range move once more
+  -- k clones come in where the items from i up to j go out, and are made beside those: the moves
+  -- that replacing takes, and one more for each clone that goes to a place of the range
   abbrev pub moves_cloning : Thin T A → ℕ → ℕ → ℕ → ℕ
   moves_cloning v i j k = moves_replacing v i j k + min k (j - i)
 

@@ -11,13 +11,13 @@ use Rattle.thin_block.specs.Slots.{empty, full, items_in}
 abbrev pub shape : ℕ → ℕ → List Bool
 shape n m = replicate n true ++ replicate m false
 
--- a list of answers by its first: none, yes or no, as a number
+-- a list of flags by its first: none, true or false, as a number
 head_of : List Bool → ℕ
 head_of [] = 0
 head_of (true ∷ bs) = 1
 head_of (false ∷ bs) = 2
 
--- the answers but for the first
+-- the flags but for the first
 abbrev tail_of : List Bool → List Bool
 tail_of [] = []
 tail_of (b ∷ bs) = bs

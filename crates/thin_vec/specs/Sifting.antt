@@ -6,8 +6,8 @@ use Rattle.thin_vec.specs.Filters.{Answers, Asked, flags_of, left_at, moved_up, 
 use Rattle.thin_vec.specs.Open.{Open}
 
 module _ {S T : Type 0} (R : S → T → Bool → S → T → Type 0) where
-  -- the item at k was asked about, in the state s: the answer is b, the state afterwards t, and ys
-  -- is xs with the item as it was left
+  -- the item at k was asked about, in the state s: b says whether it stays, t is the state
+  -- afterwards, and ys is xs with the item as it was left
   pub record IsAskedAt (k : ℕ) (s : S) (xs : List T) (b : Bool) (t : S) (ys : List T) : Type 0 where
     pub before : List T
     pub item : T

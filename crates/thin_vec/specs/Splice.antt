@@ -10,7 +10,7 @@ use Rattle.thin_vec.specs.declared.holds.Holds.{Ghosts as HoldsGhosts}
 
 module _ {I T A G H : Type 0} {g : Ghosts G} {h : HoldsGhosts H (Open T A)} where
   -- the list's block: in front the items before the range, in the middle what is still to come of
-  -- it, and then the items behind it
+  -- it, and then the items after it
   abbrev pub splice_block : Splice I T A G H g h → Open T A
   splice_block s = h.inner s.holder
 
@@ -38,7 +38,7 @@ module _ {I T A G H : Type 0} {g : Ghosts G} {h : HoldsGhosts H (Open T A)} wher
   abbrev pub splice_replaced : Splice I T A G H g h → List T → List T
   splice_replaced s xs = with_between (splice_block s) xs
 
-  -- both borrow the same list, and have the same iterator, and the same items before and behind the
+  -- both borrow the same list, and have the same iterator, and the same items before and after the
   -- range
   pub record SpliceKeeps (old new : Splice I T A G H g h) : Type 0 where
     pub lender : splice_lender new ≡ splice_lender old
@@ -58,7 +58,7 @@ module _ {I T A G H : Type 0} {g : Ghosts G} {h : HoldsGhosts H (Open T A)} wher
         (λ x. (splice_block old).rest ≡ x ∷ (splice_block new).rest)
     pub keeps : SpliceKeeps old new
 
-  -- `next_back` did, and gave the last one
+  -- `next_back` took old to new, and gave the last item, or `None` where there is none
   pub record SpliceStepsBack (old : Splice I T A G H g h) (item : Option T)
       (new : Splice I T A G H g h) : Type 0 where
     pub gave : MatchOption item

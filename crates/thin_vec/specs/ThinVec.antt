@@ -67,7 +67,7 @@ module _ {T A : Type 0} where
   abbrev pub capacity_for : Rule → RattleType → Thin T A → ℕ → Option ℕ
   capacity_for rule R v k = ruled_capacity rule R v.capacity (length v.items + k)
 
-  -- the same where it is to have room for exactly so many
+  -- the capacity where v is to have room for exactly k more items of R: None where it does not fit
   abbrev pub exact_for : RattleType → Thin T A → ℕ → Option ℕ
   exact_for R v k = exact_capacity R v.capacity (length v.items + k)
 
@@ -76,17 +76,16 @@ module _ {T A : Type 0} where
   abbrev pub cost_at : Thin T A → ℕ → Cost
   cost_at v c = if c == v.capacity then v.cost else growing (length v.items) v.cost
 
-  -- what v has cost once its capacity is c, which is no greater than before: at 0 its block is
-  -- given back
+  -- what v has cost once its capacity is c, no greater than before: at 0 its block is freed
   abbrev pub cost_shrunk_to : Thin T A → ℕ → Cost
   cost_shrunk_to v c = if c == v.capacity then v.cost else
       (if c == 0 then no_cost else growing (length v.items) v.cost)
 
-  -- the same once its capacity is its length
+  -- what v has cost once its capacity is its length
   abbrev pub cost_shrunk : Thin T A → Cost
   cost_shrunk v = cost_shrunk_to v (length v.items)
 
--- it was refused as an overflow only where no capacity was named
+-- the cause is `CapacityOverflow` only where no capacity was named
 abbrev pub IsCause : Option ℕ → ThinVecError → Type 0
 IsCause named cause = cause ≡ CapacityOverflow → named ≡ None
 

@@ -19,7 +19,7 @@ impl<A: Allocator> ThinVec<u8, A> {
     /// Makes a list of the text's bytes, with exactly that capacity. An empty text needs no
     /// allocation.
     ///
-    /// It fails where that capacity does not fit or memory is refused.
+    /// It fails where that capacity does not fit or the allocator fails.
     pub fn from_str(alloc: A, text: &str) -> Result<ThinVec<u8, A>, ThinVecError>
         ensures succeeds_empty { length text.now ≡ 0 → IsOk result }
         ensures overflow { exact_capacity u8 0 (length text.now) ≡ None

@@ -17,8 +17,7 @@ impl<T, A: Allocator, G: Growth> ThinVec<T, A, G> {
     /// Makes room for `additional` more items: where there is not room enough, the capacity becomes
     /// the ruled one.
     ///
-    /// It is refused where that capacity overflows, or where memory is refused, and then nothing
-    /// changes.
+    /// It fails where that capacity overflows, or the allocator fails, and then nothing changes.
     pub fn reserve(&mut self, additional: usize) -> Result<(), ThinVecError>
         ensures succeeds { HasRoomFor self.old additional → IsOk result }
         ensures succeeds_empty { additional ≡ 0 → IsOk result }
@@ -46,8 +45,8 @@ impl<T, A: Allocator, G: Growth> ThinVec<T, A, G> {
     /// Makes room for `additional` more items and no further one: where there is not room enough,
     /// the capacity becomes the length and `additional`.
     ///
-    /// It is refused where that capacity does not fit, or where memory is refused, and then nothing
-    /// changes. A list that grows by this call alone copies its items each time: see `reserve`.
+    /// It fails where that capacity does not fit, or the allocator fails, and then nothing changes.
+    /// A list that grows by this call alone copies its items each time: see `reserve`.
     #[tactic(auto, using(thin_block::proofs::CapacityLemmas::exact))]
     pub fn reserve_exact(&mut self, additional: usize) -> Result<(), ThinVecError>
         ensures succeeds { HasRoomFor self.old additional → IsOk result }
@@ -84,11 +83,13 @@ impl<T, A: Allocator, G: Growth> ThinVec<T, A, G> {
         ensures overflow { exact_capacity T.row 0 capacity ≡ None
             → IsErrOf result ThinVecError.CapacityOverflow }
         ensures cause { IfErr result (IsCause (exact_capacity T.row 0 capacity)) }
-        ensures items { self.new.items ≡ self.old.items }
+        ensures changes { self.new ≡ record self.old {
+          capacity = self.new.capacity;
+          cost = self.new.cost;
+        } }
         ensures capacity { OnOk result
             (exact_capacity T.row 0 capacity ≡ Some self.new.capacity) }
         ensures had_room { capacity ≡ 0 → self.new.capacity ≡ self.old.capacity }
-        ensures alloc { self.new.alloc ≡ self.old.alloc }
         ensures cost { OnOk result (self.new.cost ≡ cost_at self.old self.new.capacity) }
         ensures err { OnErr result (self.new ≡ self.old) }
         ensures within { IsWithin T.row self.new }
@@ -112,12 +113,14 @@ impl<T, A: Allocator, G: Growth> ThinVec<T, A, G> {
         ensures overflow { capacity_for G.rule T.row self.old additional ≡ None
             → IsErrOf result ThinVecError.CapacityOverflow }
         ensures cause { IfErr result (IsCause (capacity_for G.rule T.row self.old additional)) }
-        ensures items { self.new.items ≡ self.old.items }
+        ensures changes { self.new ≡ record self.old {
+          capacity = self.new.capacity;
+          cost = self.new.cost;
+        } }
         ensures capacity { OnOk result
             (capacity_for G.rule T.row self.old additional ≡ Some self.new.capacity) }
         ensures had_room { HasRoomFor self.old additional → self.new.capacity ≡ self.old.capacity }
         ensures room { OnOk result (HasRoomFor self.new additional) }
-        ensures alloc { self.new.alloc ≡ self.old.alloc }
         ensures cost { OnOk result (self.new.cost ≡ cost_at self.old self.new.capacity) }
         ensures err { OnErr result (self.new ≡ self.old) }
         ensures cheap { IsCheap self.old → IsCheap self.new }
@@ -152,12 +155,14 @@ impl<T, A: Allocator, G: Growth> ThinVec<T, A, G> {
         ensures overflow { capacity_for G.rule T.row self.old additional ≡ None
             → IsErrOf result ThinVecError.CapacityOverflow }
         ensures cause { IfErr result (IsCause (capacity_for G.rule T.row self.old additional)) }
-        ensures items { self.new.items ≡ self.old.items }
+        ensures changes { self.new ≡ record self.old {
+          capacity = self.new.capacity;
+          cost = self.new.cost;
+        } }
         ensures capacity { OnOk result
             (capacity_for G.rule T.row self.old additional ≡ Some self.new.capacity) }
         ensures grown { OnOk result
             (Grows T.row self.old.capacity (length self.old.items + additional) self.new.capacity) }
-        ensures alloc { self.new.alloc ≡ self.old.alloc }
         ensures cost { OnOk result (self.new.cost ≡ growing (length self.old.items) self.old.cost) }
         ensures err { OnErr result (self.new ≡ self.old) }
         ensures within { IsWithin T.row self.old × IsWithin T.row self.new }
@@ -190,9 +195,11 @@ impl<T, A: Allocator, G: Growth> ThinVec<T, A, G> {
         requires larger { self.old.capacity < cap }
         requires fits { Fits T.row cap }
         requires within { IsWithin T.row self.old }
-        ensures items { self.new.items ≡ self.old.items }
+        ensures changes { self.new ≡ record self.old {
+          capacity = self.new.capacity;
+          cost = self.new.cost;
+        } }
         ensures capacity { OnOk result (self.new.capacity ≡ cap) }
-        ensures alloc { self.new.alloc ≡ self.old.alloc }
         ensures cost { OnOk result (self.new.cost ≡ growing (length self.old.items) self.old.cost) }
         ensures err { OnErr result (self.new ≡ self.old) }
         ensures cause { IfErr result (λ cause. cause ≡ ThinVecError.OutOfMemory) }
@@ -235,7 +242,7 @@ impl<T, A: Allocator> ThinVec<T, A> {
 
     /// An empty list with room for exactly `capacity` items. At 0 it owns no block.
     ///
-    /// It is refused where that capacity does not fit, or where memory is refused.
+    /// It fails where that capacity does not fit, or the allocator fails.
     #[tactic(auto, using(thin_block::proofs::CapacityLemmas::exact))]
     pub fn with_capacity(alloc: A, capacity: usize) -> Result<ThinVec<T, A>, ThinVecError>
         ensures succeeds { capacity ≡ 0 → IsOk result }

@@ -47,7 +47,7 @@ impl<T: Copy, A: Allocator, G: Growth> ThinVec<T, A, G> {
 
     /// `clone` of items that are copied: they come over as one run.
     ///
-    /// It fails only where memory is refused.
+    /// It fails only where the allocator does.
     pub fn clone_copies(&self, alloc: A) -> Result<ThinVec<T, A, G>, ThinVecError>
         ensures succeeds_empty { length self.now.items ≡ 0 → IsOk result }
         ensures cause { IfErr result (λ cause. cause ≡ ThinVecError.OutOfMemory) }
@@ -134,8 +134,8 @@ impl<T: Clone, A: Allocator, G: Growth> ThinVec<T, A, G> {
     /// capacity is the length: the clone of an empty list allocates nothing. Items that are `Copy`
     /// come over faster by `clone_copies`.
     ///
-    /// It fails where memory is refused or the clone of an item fails, and then the clones made
-    /// before are dropped.
+    /// It fails where the allocator or the clone of an item fails, and then the clones made before
+    /// are dropped.
     pub fn clone(&self, alloc: A) -> Result<ThinVec<T, A, G>, ThinVecError>
         ensures succeeds_empty { length self.now.items ≡ 0 → IsOk result }
         ensures cause { IfErr result (λ cause. cause ≡ ThinVecError.OutOfMemory) }
@@ -187,9 +187,10 @@ impl<T: Clone, A: Allocator, G: Growth> ThinVec<T, A, G> {
         ensures in_bounds { result ≤ length items.now }
         ensures items { AppendsClones T.is_clone self.old.items self.new.items
             (take result items.now) }
-        ensures capacity { self.new.capacity ≡ self.old.capacity }
-        ensures alloc { self.new.alloc ≡ self.old.alloc }
-        ensures cost { self.new.cost ≡ moving result self.old.cost }
+        ensures changes { self.new ≡ record self.old {
+          items = self.new.items;
+          cost = moving result self.old.cost;
+        } }
         ensures refused { result < length items.now
             → HoldsAt (λ x. ¬ (T.is_infallible x)) items.now result }
         ensures within { IsWithin T.row self.old × IsWithin T.row self.new }

@@ -18,7 +18,7 @@ impl<T, A: Allocator, G: Growth> ThinVec<T, A, G> {
     /// Puts `value` at `index`, and moves the items from there on one place back. The list owns it
     /// afterwards.
     ///
-    /// It is refused as `push` is.
+    /// It fails as `push` does.
     pub fn insert(&mut self, index: usize, value: T) -> Result<(), Rejected<T>>
         requires in_bounds { index ≤ length self.old.items }
         ensures succeeds { HasRoomFor self.old 1 → IsOk result }
@@ -37,7 +37,7 @@ impl<T, A: Allocator, G: Growth> ThinVec<T, A, G> {
         ensures alloc { self.new.alloc ≡ self.old.alloc }
         ensures cheap { IsCheap self.old → IsCheap self.new }
 
-        // Refused, the caller has the value back, and nothing changed.
+        // Where it fails, the caller has the value back, and nothing changed.
         ensures err { OnErr result (self.new ≡ self.old) }
         ensures value_returned { IfErr result (λ refused. refused.value ≡ value) }
         ensures never_less { self.old.capacity ≤ self.new.capacity }
@@ -50,7 +50,7 @@ impl<T, A: Allocator, G: Growth> ThinVec<T, A, G> {
         Ok(())
     }
 
-    /// `insert` into room that the caller has shown to be there: it answers no `Result`.
+    /// `insert` into room that the caller has shown to be there: it returns no `Result`.
     pub fn insert_reserved(&mut self, index: usize, value: T)
         requires in_bounds { index ≤ length self.old.items }
         requires room { HasRoomFor self.old 1 }
@@ -108,7 +108,7 @@ impl<T, A: Allocator, G: Growth> ThinVec<T, A, G> {
         Ok(&mut self[index])
     }
 
-    /// Removes the item at `index` and hands it out. The items behind it move one place forward.
+    /// Removes the item at `index` and returns it. The items after it move one place forward.
     pub fn remove(&mut self, index: usize) -> T
         requires in_bounds { index < length self.old.items }
         ensures value { slice_get self.old.items index ≡ Some result }
@@ -125,8 +125,8 @@ impl<T, A: Allocator, G: Growth> ThinVec<T, A, G> {
         value
     }
 
-    /// Removes the item at `index` and hands it out. The last item takes its place: none moves but
-    /// this one.
+    /// Removes the item at `index` and returns it. The last item takes its place, and no other
+    /// moves.
     pub fn swap_remove(&mut self, index: usize) -> T
         requires in_bounds { index < length self.old.items }
         ensures value { slice_get self.old.items index ≡ Some result }
@@ -149,9 +149,7 @@ impl<T, A: Allocator, G: Growth> ThinVec<T, A, G> {
     pub fn pop_if<P: FnOnce(&mut T) -> bool>(&mut self, predicate: P) -> Option<T>
         requires callable { P.IsAlwaysCallable predicate }
         ensures popped { PopsIf P.FnOnce self.old.items self.new.items predicate result }
-        ensures capacity { self.new.capacity ≡ self.old.capacity }
-        ensures alloc { self.new.alloc ≡ self.old.alloc }
-        ensures cost { self.new.cost ≡ self.old.cost }
+        ensures changes { self.new ≡ record self.old { items = self.new.items } }
         ensures within { IsWithin T.row self.old × IsWithin T.row self.new }
     {
         let len = self.len();
@@ -171,9 +169,7 @@ impl<T: Drop, A: Allocator, G: Growth> ThinVec<T, A, G> {
     /// Keeps the first `len` items and drops the rest. The capacity stays.
     pub fn truncate(&mut self, len: usize)
         ensures items { self.new.items ≡ take len self.old.items }
-        ensures capacity { self.new.capacity ≡ self.old.capacity }
-        ensures alloc { self.new.alloc ≡ self.old.alloc }
-        ensures cost { self.new.cost ≡ self.old.cost }
+        ensures changes { self.new ≡ record self.old { items = self.new.items } }
         ensures within { IsWithin T.row self.old × IsWithin T.row self.new }
     {
         let old = self.block.len();
@@ -189,9 +185,7 @@ impl<T: Drop, A: Allocator, G: Growth> ThinVec<T, A, G> {
     /// Drops every item. The capacity stays.
     pub fn clear(&mut self)
         ensures items { self.new.items ≡ [] }
-        ensures capacity { self.new.capacity ≡ self.old.capacity }
-        ensures alloc { self.new.alloc ≡ self.old.alloc }
-        ensures cost { self.new.cost ≡ self.old.cost }
+        ensures changes { self.new ≡ record self.old { items = self.new.items } }
         ensures within { IsWithin T.row self.old × IsWithin T.row self.new }
     {
         self.truncate(0);

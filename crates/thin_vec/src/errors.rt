@@ -26,7 +26,7 @@ pub struct ExtendRefused<T, I> {
     pub cause: ThinVecError,
     /// The item that was drawn, and for which there was no room.
     pub in_hand: Option<T>,
-    /// The iterator, which gives the items that were not drawn.
+    /// The iterator, which yields the items that were not drawn.
     pub rest: I,
 }
 
@@ -39,7 +39,7 @@ pub struct CollectRefused<T, I, A: Allocator = Global> {
     pub cause: ThinVecError,
     /// The item that was drawn, and for which there was no room.
     pub in_hand: Option<T>,
-    /// The iterator, which gives the items that were not drawn.
+    /// The iterator, which yields the items that were not drawn.
     pub rest: I,
 }
 
@@ -53,7 +53,7 @@ pub struct SpliceRefused<T, I, A: Allocator = Global> {
     pub held: Vec<T, A>,
     /// The item that was drawn after those, and for which there was no room.
     pub in_hand: Option<T>,
-    /// The iterator, which gives the items that were not drawn. With nothing in hand and something
+    /// The iterator, which yields the items that were not drawn. With nothing in hand and something
     /// held it has ended, and is not to be asked again; else it may be.
     pub rest: I,
 }
@@ -158,7 +158,7 @@ impl<T: Drop, I: Drop, A: Allocator> From<SpliceRefused<T, I, A>> for io::Error 
     }
 }
 
-// The texts tell the cause alone, so that nothing is asked of what is handed back.
+// The texts tell the cause alone, so that what the error returns need not be printable.
 impl<S> fmt::Debug for Rejected<S> {
     fn fmt<W: fmt::Write>(&self, f: &mut fmt::Formatter<W>) -> fmt::Result {
         f.debug_struct("Rejected")

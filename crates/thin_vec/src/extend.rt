@@ -140,11 +140,11 @@ impl<T, A: Allocator, G: Growth> ThinVec<T, A, G> {
         requires finite { IsFinite (I.remaining iter) }
         ensures items { (xs : List T) × (self.new.items ≡ self.old.items ++ xs)
             × YieldsThen I.next_gives iter xs result.1 result.0 }
-        ensures capacity { self.new.capacity ≡ self.old.capacity }
+        ensures changes { self.new ≡ record self.old {
+          items = self.new.items;
+          cost = moving (length self.new.items - length self.old.items) self.old.cost;
+        } }
         ensures room { length self.new.items ≤ self.new.capacity }
-        ensures alloc { self.new.alloc ≡ self.old.alloc }
-        ensures cost { self.new.cost ≡ moving (length self.new.items - length self.old.items)
-            self.old.cost }
         ensures cheap { IsCheap self.old → IsCheap self.new }
         ensures rest { OnSome result.1 (I.can_next result.0 × IsFinite (I.remaining result.0)) }
         ensures nearer { OnSome result.1
@@ -167,11 +167,11 @@ impl<T, A: Allocator, G: Growth> ThinVec<T, A, G> {
         requires finite { IsFinite (I.remaining iter) }
         ensures items { (xs : List T) × (self.new.items ≡ self.old.items ++ xs)
             × Gives I.next_gives iter xs result.1 result.0 }
-        ensures capacity { self.new.capacity ≡ self.old.capacity }
+        ensures changes { self.new ≡ record self.old {
+          items = self.new.items;
+          cost = moving (length self.new.items - length self.old.items) self.old.cost;
+        } }
         ensures room { length self.new.items ≤ self.new.capacity }
-        ensures alloc { self.new.alloc ≡ self.old.alloc }
-        ensures cost { self.new.cost ≡ moving (length self.new.items - length self.old.items)
-            self.old.cost }
         ensures cheap { IsCheap self.old → IsCheap self.new }
         ensures rest { result.1 ≡ false → I.can_next result.0 × IsFinite (I.remaining result.0) }
         ensures nearer { result.1 ≡ false → length self.new.items + size (I.remaining result.0)

@@ -19,15 +19,15 @@ use std::iter::Iterator;
 use thin_block::{Growth, ThinVecError};
 
 impl<T, A: Allocator> OpenBlock<T, A> {
-    // Puts what `iter` gives after the front. Returns the iterator, and whether it ended before the
-    // gap was full.
+    // Puts what `iter` yields after the front. Returns the iterator, and whether it ended before
+    // the gap was full.
     fn fill<I: Iterator<Item = T>>(&mut self, iter: I) -> (I, bool)
         requires can_next { I.can_next iter }
         requires finite { IsFinite (I.remaining iter) }
         ensures front { (xs : List T) × (self.new.front ≡ self.old.front ++ xs)
             × (self.new.before + length xs ≡ self.old.before)
             × Gives I.next_gives iter xs result.1 result.0 }
-        ensures same { self.new ≡ record self.old {
+        ensures changes { self.new ≡ record self.old {
           front = self.new.front;
           before = self.new.before;
           cost = moving (self.old.before - self.new.before) self.old.cost;
@@ -83,7 +83,7 @@ impl<T, A: Allocator, G: Growth> ThinVec<T, A, G> {
 }
 
 impl<T: Drop, A: Allocator, G: Growth> ThinVec<T, A, G> {
-    // What `iter` gives is held in a vector on `alloc`, and then goes before the item at `at` as
+    // What `iter` yields is held in a vector on `alloc`, and then goes before the item at `at` as
     // one run. It is not asked for a hint.
     fn insert_held<I: Iterator<Item = T>>(
         &mut self,
@@ -135,10 +135,10 @@ impl<T: Drop, A: Allocator, G: Growth> ThinVec<T, A, G> {
     fn insert_vec(&mut self, at: usize, held: Vec<T, A>)
         requires in_bounds { at ≤ length self.old.items }
         requires room { HasRoomFor self.old (length held.items) }
-        ensures items { self.new.items ≡ (take at self.old.items ++ held.items)
-            ++ drop at self.old.items }
-        ensures capacity { self.new.capacity ≡ self.old.capacity }
-        ensures alloc { self.new.alloc ≡ self.old.alloc }
+        ensures changes { self.new ≡ record self.old {
+          items = (take at self.old.items ++ held.items) ++ drop at self.old.items;
+          cost = self.new.cost;
+        } }
         ensures cost { (m : ℕ) × (self.new.cost ≡ moving (length held.items + m) self.old.cost)
             × (m ≤ length self.old.items - at) }
     {
@@ -151,9 +151,9 @@ impl<T: Drop, A: Allocator, G: Growth> ThinVec<T, A, G> {
         self.close(block);
     }
 
-    // Fills the gap with what `iter` gives, and makes room before the tail for what it gives beyond
-    // that: room for what its hint says, into which the tail moves up as one run, and once more for
-    // the rest.
+    // Fills the gap with what `iter` yields, and makes room before the tail for what it yields
+    // beyond that: room for what its hint says, into which the tail moves up as one run, and once
+    // more for the rest.
     pub(crate) fn fill_between<I: Iterator<Item = T>>(
         &mut self,
         block: OpenBlock<T, A>,
@@ -191,7 +191,7 @@ impl<T: Drop, A: Allocator, G: Growth> ThinVec<T, A, G> {
         self.insert_held(last, beyond, alloc)
     }
 
-    // What `iter` gives goes after the items in front, as by `extend`: there are none after the
+    // Appends what `iter` yields to the items in front, as `extend` does: there are none after the
     // gap.
     pub(crate) fn fill_behind<I: Iterator<Item = T>>(
         &mut self,

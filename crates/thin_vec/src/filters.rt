@@ -56,8 +56,10 @@ impl<T: Drop, A: Allocator, G: Growth> ThinVec<T, A, G> {
     fn keep_those<J: Asks<T>>(&mut self, judge: &mut J)
         requires ready { J.ready judge.old }
         ensures retained { IsRetainedTo J.asks judge.old self.old self.new judge.new }
-        ensures capacity { self.new.capacity ≡ self.old.capacity }
-        ensures alloc { self.new.alloc ≡ self.old.alloc }
+        ensures changes { self.new ≡ record self.old {
+          items = self.new.items;
+          cost = self.new.cost;
+        } }
         ensures within { IsWithin T.row self.old × IsWithin T.row self.new }
     {
         let len = self.len();
@@ -91,8 +93,10 @@ impl<T: Drop, A: Allocator, G: Growth> ThinVec<T, A, G> {
     fn merge_those<J: AsksPairs<T>>(&mut self, judge: &mut J)
         requires ready { J.ready judge.old }
         ensures deduped { IsDedupedTo J.asks judge.old self.old self.new judge.new }
-        ensures capacity { self.new.capacity ≡ self.old.capacity }
-        ensures alloc { self.new.alloc ≡ self.old.alloc }
+        ensures changes { self.new ≡ record self.old {
+          items = self.new.items;
+          cost = self.new.cost;
+        } }
         ensures within { IsWithin T.row self.old × IsWithin T.row self.new }
     {
         let len = self.len();
@@ -183,7 +187,7 @@ struct Merging<F> {
     same: F,
 }
 
-// A closure that gives the key by which two items are the same.
+// A closure that returns the key by which two items are the same.
 struct Keying<F> {
     key: F,
 }

@@ -20,9 +20,9 @@ impl<T, A: Allocator> ThinVec<T, A> {
     /// Makes a list of the array's items, with exactly that capacity. An empty array needs no
     /// allocation.
     ///
-    /// It fails where N does not fit or memory is refused, and then returns the array. Code that is
-    /// generic in T shows that its array takes fewer than 2^63 bytes: `thin_vec!` asks nothing of
-    /// the size of an item.
+    /// It fails where N does not fit or the allocator fails, and then returns the array. Code that
+    /// is generic in T shows that its array takes fewer than 2^63 bytes: `thin_vec!` asks nothing
+    /// of the size of an item.
     pub fn from_array<const N: usize>(
         alloc: A,
         items: [T; N],
@@ -56,7 +56,8 @@ impl<T, A: Allocator> ThinVec<T, A> {
     /// Makes a list of the vector's items, with exactly that capacity. An empty vector needs no
     /// allocation.
     ///
-    /// It fails where that capacity does not fit or memory is refused, and then returns the vector.
+    /// It fails where that capacity does not fit or the allocator fails, and then returns the
+    /// vector.
     pub fn from_vec<B: Allocator>(
         alloc: A,
         items: Vec<T, B>,
@@ -90,7 +91,7 @@ impl<T, A: Allocator> ThinVec<T, A> {
     /// Makes a list of the items of a boxed slice, with exactly that capacity. An empty slice needs
     /// no allocation.
     ///
-    /// It fails where that capacity does not fit or memory is refused, and then returns the boxed
+    /// It fails where that capacity does not fit or the allocator fails, and then returns the boxed
     /// slice.
     pub fn from_boxed_slice<B: Allocator>(
         alloc: A,
@@ -128,10 +129,10 @@ impl<T, A: Allocator> ThinVec<T, A> {
         requires empty { self.old.items ≡ [] }
         requires room { length items.items ≤ self.old.capacity }
         requires within { IsWithin T.row self.old }
-        ensures items { self.new.items ≡ items.items }
-        ensures capacity { self.new.capacity ≡ self.old.capacity }
-        ensures alloc { self.new.alloc ≡ self.old.alloc }
-        ensures cost { self.new.cost ≡ moving (length items.items) self.old.cost }
+        ensures changes { self.new ≡ record self.old {
+          items = items.items;
+          cost = moving (length items.items) self.old.cost;
+        } }
         ensures within { IsWithin T.row self.new }
     {
         let len = items.len();
@@ -143,7 +144,7 @@ impl<T, A: Allocator> ThinVec<T, A> {
 impl<T: Copy, A: Allocator> ThinVec<T, A> {
     /// `from_slice` of items that are copied: they come in as one run.
     ///
-    /// It fails where a capacity of their number does not fit or memory is refused.
+    /// It fails where a capacity of their number does not fit or the allocator fails.
     pub fn from_copies(alloc: A, items: &[T]) -> Result<ThinVec<T, A>, ThinVecError>
         ensures succeeds_empty { length items.now ≡ 0 → IsOk result }
         ensures overflow { exact_capacity T.row 0 (length items.now) ≡ None
@@ -171,7 +172,7 @@ impl<T: Clone, A: Allocator> ThinVec<T, A> {
     /// Makes a list of a clone of each of `items`, in order, with exactly that capacity. An empty
     /// slice needs no allocation. Items that are `Copy` come in faster by `from_copies`.
     ///
-    /// It fails where that capacity does not fit, memory is refused or the clone of an item fails,
+    /// It fails where that capacity does not fit, or the allocator or the clone of an item fails,
     /// and then the clones made before are dropped.
     pub fn from_slice(alloc: A, items: &[T]) -> Result<ThinVec<T, A>, ThinVecError>
         ensures succeeds_empty { length items.now ≡ 0 → IsOk result }

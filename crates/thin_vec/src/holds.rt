@@ -1,18 +1,18 @@
 //! How an edit holds what it took out of a list.
 //!
 //! An edit lends a list and owns its block. A struct that has a raw pointer in a declared field
-//! beside a `&mut` can't say, in the contract of its drop, what the `&mut` then leads to. So what
-//! an edit owns stands behind a type parameter.
+//! beside a `&mut` can't say, in the contract of its drop, what the `&mut` then leads to. So a type
+//! parameter hides what an edit owns.
 ghost use Rattle.std.specs.Prelude.{◌≡◌};
 
-/// Something that holds one value, and gives it up.
+/// Something that holds one value, and can be turned into it.
 pub trait Holds {
     /// What it holds.
     type Inner;
 
     ghost inner: { Self → Self.Inner };
 
-    /// Gives the value up.
+    /// Returns the value.
     fn into_inner(self) -> Self::Inner
         ensures value { result ≡ inner self };
 }

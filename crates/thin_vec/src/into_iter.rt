@@ -97,9 +97,7 @@ impl<T, A: Allocator, G: Growth> IntoIter<T, A, G> {
     pub fn next(&mut self) -> Option<T>
         ensures variant { IsSome result ↔ (0 < length self.old.items) }
         ensures items { self.old.items ≡ option_to_list result ++ self.new.items }
-        ensures capacity { self.new.capacity ≡ self.old.capacity }
-        ensures alloc { self.new.alloc ≡ self.old.alloc }
-        ensures cost { self.new.cost ≡ self.old.cost }
+        ensures changes { self.new ≡ record self.old { items = self.new.items } }
     {
         if self.start == self.end {
             return None;
@@ -111,9 +109,7 @@ impl<T, A: Allocator, G: Growth> IntoIter<T, A, G> {
     pub fn next_back(&mut self) -> Option<T>
         ensures variant { IsSome result ↔ (0 < length self.old.items) }
         ensures items { self.old.items ≡ self.new.items ++ option_to_list result }
-        ensures capacity { self.new.capacity ≡ self.old.capacity }
-        ensures alloc { self.new.alloc ≡ self.old.alloc }
-        ensures cost { self.new.cost ≡ self.old.cost }
+        ensures changes { self.new ≡ record self.old { items = self.new.items } }
     {
         if self.start == self.end {
             return None;
@@ -125,9 +121,7 @@ impl<T, A: Allocator, G: Growth> IntoIter<T, A, G> {
     fn take_first(&mut self) -> T
         requires some { 0 < length self.old.items }
         ensures items { self.old.items ≡ result ∷ self.new.items }
-        ensures capacity { self.new.capacity ≡ self.old.capacity }
-        ensures alloc { self.new.alloc ≡ self.old.alloc }
-        ensures cost { self.new.cost ≡ self.old.cost }
+        ensures changes { self.new ≡ record self.old { items = self.new.items } }
     {
         let first = self.start;
         self.start += 1;
@@ -138,9 +132,7 @@ impl<T, A: Allocator, G: Growth> IntoIter<T, A, G> {
     fn take_last(&mut self) -> T
         requires some { 0 < length self.old.items }
         ensures items { self.old.items ≡ self.new.items ++ result ∷ [] }
-        ensures capacity { self.new.capacity ≡ self.old.capacity }
-        ensures alloc { self.new.alloc ≡ self.old.alloc }
-        ensures cost { self.new.cost ≡ self.old.cost }
+        ensures changes { self.new ≡ record self.old { items = self.new.items } }
     {
         self.end -= 1;
         self.block.take(self.end)
@@ -185,8 +177,8 @@ impl<T: Clone, A: Allocator, G: Growth> IntoIter<T, A, G> {
     /// An iterator on `alloc` over a clone of each item that remains, in order. Its capacity is
     /// their number: where none remains, it allocates nothing.
     ///
-    /// It fails where memory is refused or the clone of an item fails, and then the clones made
-    /// before are dropped.
+    /// It fails where the allocator or the clone of an item fails, and then the clones made before
+    /// are dropped.
     pub fn clone(&self, alloc: A) -> Result<IntoIter<T, A, G>, ThinVecError>
         ensures succeeds_empty { length self.now.items ≡ 0 → IsOk result }
         ensures cause { IfErr result (λ cause. cause ≡ ThinVecError.OutOfMemory) }

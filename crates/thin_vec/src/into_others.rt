@@ -13,7 +13,7 @@ impl<T, A: Allocator, G: Growth> ThinVec<T, A, G> {
     /// The items, in order, as a `Vec` on `alloc` whose capacity is their number. The list's block
     /// is freed.
     ///
-    /// It fails only where memory is refused, and then returns the list. An empty list needs no
+    /// It fails only where the allocator does, and then returns the list. An empty list needs no
     /// allocation.
     pub fn into_vec(self, alloc: A) -> Result<Vec<T, A>, Rejected<ThinVec<T, A, G>>>
         ensures succeeds_empty { length self.items ≡ 0 → IsOk result }
@@ -51,7 +51,7 @@ impl<T, A: Allocator, G: Growth> ThinVec<T, A, G> {
 
     /// The items, in order, as a boxed slice on `alloc`. The list's block is freed.
     ///
-    /// It fails only where memory is refused, and then returns the list. An empty list needs no
+    /// It fails only where the allocator does, and then returns the list. An empty list needs no
     /// allocation.
     pub fn into_boxed_slice(self, alloc: A) -> Result<BoxedSlice<T, A>, Rejected<ThinVec<T, A, G>>>
         ensures succeeds_empty { length self.items ≡ 0 → IsOk result }

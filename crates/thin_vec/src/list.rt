@@ -44,7 +44,7 @@ impl<T, A: Allocator> ThinVec<T, A> {
         ThinVec::ruled(alloc)
     }
 
-    /// The same as `new`, in place of the trait `Default`, which has no allocator to give.
+    /// `new`, in place of the trait `Default`, which has no allocator to pass.
     pub fn default_in(alloc: A) -> ThinVec<T, A>
         ensures new { IsNew result alloc }
         ensures within { IsWithin T.row result }
@@ -116,7 +116,7 @@ impl<T, A: Allocator, G: Growth> ThinVec<T, A, G> {
     /// Appends `value`, which the list owns afterwards.
     ///
     /// It fails only where there is no spare room, and then because the ruled capacity overflows,
-    /// or because memory is refused.
+    /// or the allocator fails.
     pub fn push(&mut self, value: T) -> Result<(), Rejected<T>>
         ensures succeeds { HasRoomFor self.old 1 → IsOk result }
         ensures overflow { capacity_for G.rule T.row self.old 1 ≡ None
@@ -184,9 +184,7 @@ impl<T, A: Allocator, G: Growth> ThinVec<T, A, G> {
     pub fn pop(&mut self) -> Option<T>
         ensures variant { IsSome result ↔ (0 < length self.old.items) }
         ensures items { self.old.items ≡ self.new.items ++ option_to_list result }
-        ensures capacity { self.new.capacity ≡ self.old.capacity }
-        ensures alloc { self.new.alloc ≡ self.old.alloc }
-        ensures cost { self.new.cost ≡ self.old.cost }
+        ensures changes { self.new ≡ record self.old { items = self.new.items } }
         ensures within { IsWithin T.row self.old × IsWithin T.row self.new }
     {
         if self.is_empty() {
@@ -199,9 +197,7 @@ impl<T, A: Allocator, G: Growth> ThinVec<T, A, G> {
     pub(crate) fn pop_last(&mut self) -> T
         requires some { 0 < length self.old.items }
         ensures items { self.old.items ≡ self.new.items ++ result ∷ [] }
-        ensures capacity { self.new.capacity ≡ self.old.capacity }
-        ensures alloc { self.new.alloc ≡ self.old.alloc }
-        ensures cost { self.new.cost ≡ self.old.cost }
+        ensures changes { self.new ≡ record self.old { items = self.new.items } }
     {
         let last = self.block.len() - 1;
         let value = self.block.take(last);

@@ -15,7 +15,7 @@ use thin_block::ThinVecError;
 /// `resize(k, x)`: clones of x, and x itself as the last of k, at the capacity that `Doubling`
 /// names for k items.
 ///
-/// Each form gives a `Result<ThinVec<T, A>, ThinVecError>`, and is used inside a function's body,
+/// Each form is a `Result<ThinVec<T, A>, ThinVecError>`, and is used inside a function's body,
 /// whatever that function returns. A trailing comma is allowed, but not after k. `alloc` is
 /// evaluated once and first. Items that are written out are evaluated once each, in order, and only
 /// where the memory was granted; x and then k are evaluated before it is asked for, and where that

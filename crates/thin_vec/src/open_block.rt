@@ -57,10 +57,7 @@ impl<T, A: Allocator, G: Growth> ThinVec<T, A, G> {
         ensures other_capacity { result.capacity ≡ self.old.capacity }
         ensures from { IsOf result.alloc self.old.alloc }
         ensures other_cost { result.cost ≡ self.old.cost }
-        ensures items { self.new.items ≡ [] }
-        ensures capacity { self.new.capacity ≡ 0 }
-        ensures alloc { self.new.alloc ≡ self.old.alloc }
-        ensures cost { self.new.cost ≡ no_cost }
+        ensures changes { self.new ≡ record self.old { items = []; capacity = 0; cost = no_cost } }
     {
         let len = self.block.len();
         let block = mem::replace(&mut self.block, Block::none());
@@ -88,8 +85,7 @@ impl<T, A: Allocator, G: Growth> ThinVec<T, A, G> {
         ensures from { IsOf result.alloc self.old.alloc }
         ensures other_cost { result.cost ≡ (if count == 0 then self.old.cost else moving
             (length self.old.items - at) self.old.cost) }
-        ensures items { self.new.items ≡ [] }
-        ensures alloc { self.new.alloc ≡ self.old.alloc }
+        ensures changes { self.new ≡ record self.old { items = []; capacity = 0; cost = no_cost } }
     {
         let mut block = self.open(at, at);
         if count == 0 {
@@ -100,15 +96,16 @@ impl<T, A: Allocator, G: Growth> ThinVec<T, A, G> {
         block
     }
 
-    // Closes the gap by one move of all items behind it, and makes the block the list's again.
+    // Closes the gap by one move of all items after it, and makes the block the list's again.
     pub(crate) fn close(&mut self, block: OpenBlock<T, A>)
         requires empty { self.old.items ≡ [] }
         requires behind { block.behind ≡ 0 }
         requires from { IsOf block.alloc self.old.alloc }
-        ensures items { self.new.items ≡ items_of block }
-        ensures capacity { self.new.capacity ≡ block.capacity }
-        ensures alloc { self.new.alloc ≡ self.old.alloc }
-        ensures cost { self.new.cost ≡ cost_closed block }
+        ensures changes { self.new ≡ record self.old {
+          items = items_of block;
+          capacity = block.capacity;
+          cost = cost_closed block;
+        } }
         ensures room { length self.new.items ≤ self.new.capacity }
     {
         let none = mem::replace(&mut self.block, block.into_closed());
@@ -136,7 +133,7 @@ impl<T, A: Allocator> OpenBlock<T, A> {
     pub(crate) fn take_first(&mut self) -> T
         requires some { 0 < length self.old.rest }
         ensures rest { self.old.rest ≡ result ∷ self.new.rest }
-        ensures same { self.new ≡ record self.old {
+        ensures changes { self.new ≡ record self.old {
           rest = self.new.rest;
           before = self.old.before
               + 1;
@@ -151,7 +148,7 @@ impl<T, A: Allocator> OpenBlock<T, A> {
     pub(crate) fn take_last(&mut self) -> T
         requires some { 0 < length self.old.rest }
         ensures rest { self.old.rest ≡ self.new.rest ++ result ∷ [] }
-        ensures same { self.new ≡ record self.old {
+        ensures changes { self.new ≡ record self.old {
           rest = self.new.rest;
           behind = self.old.behind
               + 1;
@@ -176,7 +173,7 @@ impl<T, A: Allocator> OpenBlock<T, A> {
         self.tail_start < self.len
     }
 
-    // Whether there is a gap behind the front.
+    // Whether there is a gap after the front.
     pub(crate) fn has_gap(&self) -> bool
         ensures value { IsTrue result ↔ (0 < self.now.before) }
     {

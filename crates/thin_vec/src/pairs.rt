@@ -1,6 +1,7 @@
 //! Steps on a block that is open: each item of its middle run is asked about beside the last one
 //! that stays.
 ghost use Rattle.std.specs.Prelude.{◌≡◌, ◌+◌, ◌-◌, ◌^◌, ◌<◌, ◌≤◌, ◌∷◌, ◌++◌, [], Bool, length};
+ghost use Rattle.thin_block.specs.Block.{seen};
 ghost use Rattle.thin_block.specs.Cost.{moving};
 ghost use Rattle.thin_block.specs.Slots.{AreFilled};
 ghost use Rattle.thin_vec.specs.Pairs.{AreAskedIn};
@@ -11,11 +12,11 @@ use thin_block::Block;
 
 /// What says of two items whether the later one goes, and may write to both.
 pub(crate) trait AsksPairs<T> {
-    /// From one state to the next: a later item, the last one kept, the answer, and both as they
-    /// are left.
+    /// From one state to the next: a later item, the last one kept, whether the later one goes, and
+    /// both as they are left.
     ghost asks: { Self → T → T → Bool → Self → T → T → Type 0 };
 
-    /// It can be asked about any two items, and again after each answer.
+    /// It can be asked about any two items, and again after each two.
     ghost ready: { Self → Type 0 };
 
     fn ask(&mut self, later: &mut T, kept: &mut T) -> bool
@@ -35,7 +36,7 @@ impl<T, A: Allocator> OpenBlock<T, A> {
         ensures asked { IsPairAskedAt J.asks k judge.old self.old.rest result judge.new
             self.new.rest }
         ensures ready { J.ready judge.new }
-        ensures same { self.new ≡ record self.old { rest = self.new.rest } }
+        ensures changes { self.new ≡ record self.old { rest = self.new.rest } }
     {
         let kept = self.rest_start + (k - 1);
         ask_neighbours(&mut self.block, kept, judge)
@@ -48,7 +49,7 @@ impl<T, A: Allocator> OpenBlock<T, A> {
         ensures asked { IsLastAsked J.asks judge.old later.old self.old.front result judge.new
             later.new self.new.front }
         ensures ready { J.ready judge.new }
-        ensures same { self.new ≡ record self.old { front = self.new.front } }
+        ensures changes { self.new ≡ record self.old { front = self.new.front } }
     {
         judge.ask(later, self.block.slot_mut(self.front_end - 1))
     }
@@ -60,12 +61,12 @@ impl<T, A: Allocator> OpenBlock<T, A> {
         ensures asked { IsNextAsked J.asks judge.old kept.old self.old.rest result judge.new
             kept.new self.new.rest }
         ensures ready { J.ready judge.new }
-        ensures same { self.new ≡ record self.old { rest = self.new.rest } }
+        ensures changes { self.new ≡ record self.old { rest = self.new.rest } }
     {
         judge.ask(self.block.slot_mut(self.rest_start), kept)
     }
 
-    // `value` goes behind the front.
+    // Puts `value` after the front.
     pub(crate) fn put_front(&mut self, value: T)
         requires gap { 0 < self.old.before }
         ensures { self.new ≡ record self.old {
@@ -82,14 +83,14 @@ impl<T, A: Allocator> OpenBlock<T, A> {
 impl<T, A: Allocator> OpenBlock<T, A> {
     ghost use Rattle.thin_vec.specs.Pairs.{PairRuns};
 
-    // The first item of the middle run stays: asks about those behind it, in place, up to the first
-    // that goes or to the end, and answers how many stay.
+    // The first item of the middle run stays. Asks about those after it, in place, up to the first
+    // that goes or to the end, and returns how many stay.
     fn ask_pairs<J: AsksPairs<T>>(&mut self, judge: &mut J) -> usize
         requires some { 0 < length self.old.rest }
         requires ready { J.ready judge.old }
         ensures asked { PairRuns J.asks result judge.old self.old.rest judge.new self.new.rest }
         ensures ready { J.ready judge.new }
-        ensures same { self.new ≡ record self.old { rest = self.new.rest } }
+        ensures changes { self.new ≡ record self.old { rest = self.new.rest } }
     {
         let mut kept = 1;
         while kept < self.rest_len() {
@@ -122,7 +123,7 @@ impl<T: Drop, A: Allocator> OpenBlock<T, A> {
         }
     }
 
-    // The same behind the first item that goes.
+    // `thin_out` of the items after the first that goes: there is a gap.
     fn thin_behind<J: AsksPairs<T>>(&mut self, judge: &mut J)
         requires some { 0 < length self.old.front }
         requires gap { 0 < self.old.before }
@@ -136,7 +137,7 @@ impl<T: Drop, A: Allocator> OpenBlock<T, A> {
         self.thin_last(judge);
     }
 
-    // Of two items and more, asks about the next one, and where it stays, about those behind it up
+    // Of two items and more, asks about the next one, and where it stays, about those after it up
     // to the first that goes. The first of them moves by itself: two items with empty slots between
     // them can't both be lent.
     fn thin_two<J: AsksPairs<T>>(&mut self, judge: &mut J)
@@ -161,7 +162,7 @@ impl<T: Drop, A: Allocator> OpenBlock<T, A> {
             return;
         }
         let kept = self.ask_pairs(judge);
-        self.lower(kept);
+        self.move_down(kept);
         if self.rest_len() > 0 {
             drop(self.take_first());
         }
@@ -200,9 +201,7 @@ fn ask_neighbours<T, A: Allocator, J: AsksPairs<T>>(
     requires ready { J.ready judge.old }
     ensures asked { AreAskedIn J.asks judge.old i block.old.slots result judge.new block.new.slots }
     ensures ready { J.ready judge.new }
-    ensures len { block.new.len ≡ block.old.len }
-    ensures alloc { block.new.alloc ≡ block.old.alloc }
-    ensures cost { block.new.cost ≡ block.old.cost }
+    ensures changes { seen block.new ≡ record (seen block.old) { slots = block.new.slots } }
 {
     let (kept, later) = block.slice_mut(i, i + 2).split_at_mut(1);
     judge.ask(&mut later[0], &mut kept[0])

@@ -2,6 +2,7 @@
 ghost use Rattle.std.specs.Iterator.{IsFinite, size};
 ghost use Rattle.std.specs.List.{FoldsTo};
 ghost use Rattle.std.specs.Prelude.{true, false, ◌≡◌, ℕ, ◌+◌, ◌-◌, ◌<◌, ◌≤◌, List, HoldsAt, length, replicate};
+ghost use Rattle.thin_block.specs.Block.{seen};
 ghost use Rattle.thin_block.specs.Cost.{moving};
 ghost use Rattle.thin_block.specs.Slots.{AreEmpty, IsPacked, empty, full, laid, slot};
 ghost use Rattle.thin_vec.specs.Clones.{LaysClones};
@@ -14,16 +15,16 @@ use thin_block::Block;
 // Drops the first `len` items of a block, which are all that it has.
 pub(crate) fn drop_items<T: Drop, A: Allocator>(block: &mut Block<T, A>, len: usize)
     requires packed { IsPacked block.old.slots len }
-    ensures slots { block.new.slots ≡ empty (length block.old.slots) }
-    ensures alloc { block.new.alloc ≡ block.old.alloc }
+    ensures changes { seen block.new
+        ≡ record (seen block.old) { slots = empty (length block.old.slots) } }
 {
     for i in 0..len {
         drop(block.take(i));
     }
 }
 
-// Moves the items of `items` into the empty slots from `start` on. A `Vec` gives its items up from
-// the last on.
+// Moves the items of `items` into the empty slots from `start` on. They leave the `Vec` from the
+// last on.
 pub(crate) fn put_vec<T, A: Allocator, B: Allocator>(
     block: &mut Block<T, A>,
     start: usize,
@@ -31,10 +32,10 @@ pub(crate) fn put_vec<T, A: Allocator, B: Allocator>(
 )
     requires in_bounds { start + length items.items ≤ length block.old.slots }
     requires empty { AreEmpty block.old.slots start (length items.items) }
-    ensures slots { block.new.slots ≡ laid start (full items.items) block.old.slots }
-    ensures len { block.new.len ≡ block.old.len }
-    ensures alloc { block.new.alloc ≡ block.old.alloc }
-    ensures cost { block.new.cost ≡ moving (length items.items) block.old.cost }
+    ensures changes { seen block.new ≡ record (seen block.old) {
+      slots = laid start (full items.items) block.old.slots;
+      cost = moving (length items.items) block.old.cost;
+    } }
 {
     // No capacity is past `isize::MAX`, so no index is.
     let _whole = block.cap();
@@ -55,9 +56,10 @@ pub(crate) fn put_clones<T: Clone, A: Allocator>(
     requires empty { AreEmpty block.old.slots start (length items.now) }
     ensures in_bounds { result ≤ length items.now }
     ensures slots { LaysClones T.is_clone items.now result start block.old.slots block.new.slots }
-    ensures len { block.new.len ≡ block.old.len }
-    ensures alloc { block.new.alloc ≡ block.old.alloc }
-    ensures cost { block.new.cost ≡ moving result block.old.cost }
+    ensures changes { seen block.new ≡ record (seen block.old) {
+      slots = block.new.slots;
+      cost = moving result block.old.cost;
+    } }
     ensures refused { result < length items.now
         → HoldsAt (λ x. ¬ (T.is_infallible x)) items.now result }
 {
@@ -85,9 +87,10 @@ pub(crate) fn put_repeated<T: Clone, A: Allocator>(
     ensures in_bounds { result ≤ count }
     ensures slots { LaysClones T.is_clone (replicate count value.now) result start block.old.slots
         block.new.slots }
-    ensures len { block.new.len ≡ block.old.len }
-    ensures alloc { block.new.alloc ≡ block.old.alloc }
-    ensures cost { block.new.cost ≡ moving result block.old.cost }
+    ensures changes { seen block.new ≡ record (seen block.old) {
+      slots = block.new.slots;
+      cost = moving result block.old.cost;
+    } }
     ensures refused { result < count → ¬ (T.is_infallible value.now) }
 {
     // No capacity is past `isize::MAX`, so no index is.
@@ -113,9 +116,10 @@ pub(crate) fn put_results<T, A: Allocator, F: FnMut() -> T>(
     requires callable { F.IsAlwaysCallable make }
     ensures slots { (xs : List T) × (last : F) × (length xs ≡ count) × FoldsTo F.step make xs last
         × (block.new.slots ≡ laid start (full xs) block.old.slots) }
-    ensures len { block.new.len ≡ block.old.len }
-    ensures alloc { block.new.alloc ≡ block.old.alloc }
-    ensures cost { block.new.cost ≡ moving count block.old.cost }
+    ensures changes { seen block.new ≡ record (seen block.old) {
+      slots = block.new.slots;
+      cost = moving count block.old.cost;
+    } }
 {
     // No capacity is past `isize::MAX`, so no index is.
     let _whole = block.cap();
@@ -140,9 +144,10 @@ pub(crate) fn put_iter<T, A: Allocator, I: Iterator<Item = T>>(
     ensures slots { (xs : List T) × (block.new.slots ≡ laid start (full xs) block.old.slots)
         × (result.1 ≡ start + length xs) × Gives I.next_gives iter xs result.2 result.0 }
     ensures within { result.1 ≤ end }
-    ensures len { block.new.len ≡ block.old.len }
-    ensures alloc { block.new.alloc ≡ block.old.alloc }
-    ensures cost { block.new.cost ≡ moving (result.1 - start) block.old.cost }
+    ensures changes { seen block.new ≡ record (seen block.old) {
+      slots = block.new.slots;
+      cost = moving (result.1 - start) block.old.cost;
+    } }
     ensures rest { result.2 ≡ false → I.can_next result.0 × IsFinite (I.remaining result.0) }
     ensures nearer { result.2 ≡ false → result.1 + size (I.remaining result.0) ≤ start + size
         (I.remaining iter) }

@@ -1,7 +1,7 @@
-//! A range of a list's items gives way to others, all or nothing.
+//! A range of a list's items is replaced by others, all or nothing.
 ghost use Rattle.std.specs.Prelude.{◌≡◌, ◌+◌, ◌-◌, ◌==◌, ◌<◌, ◌≤◌, ◌++◌, [], IfErr, IsErrOf, IsOk, None, OnErr, OnOk, Some, drop, if◌then◌else◌, length, take};
 ghost use Rattle.std.specs.List.{replace_range};
-ghost use Rattle.thin_block.specs.Cost.{moving};
+ghost use Rattle.thin_block.specs.Cost.{moving, no_cost};
 ghost use Rattle.thin_vec.specs.Cheap.{IsCheap};
 ghost use Rattle.thin_vec.specs.Open.{IsOf};
 ghost use Rattle.thin_vec.specs.Replacing.{moves_replacing};
@@ -63,11 +63,10 @@ impl<T: Copy, A: Allocator, G: Growth> ThinVec<T, A, G> {
         requires in_bounds { end ≤ length self.old.items }
         requires room { HasRoomFor self.old (length items.now - (end - start)) }
         requires within { IsWithin T.row self.old }
-        ensures items { self.new.items ≡ replace_range self.old.items start end items.now }
-        ensures capacity { self.new.capacity ≡ self.old.capacity }
-        ensures alloc { self.new.alloc ≡ self.old.alloc }
-        ensures cost { self.new.cost ≡ moving (moves_replacing self.old start end
-            (length items.now)) self.old.cost }
+        ensures changes { self.new ≡ record self.old {
+          items = replace_range self.old.items start end items.now;
+          cost = moving (moves_replacing self.old start end (length items.now)) self.old.cost;
+        } }
         ensures within { IsWithin T.row self.new }
     {
         let mut block = self.open_range(start, end, items.len());
@@ -113,9 +112,7 @@ impl<T: Drop, A: Allocator, G: Growth> ThinVec<T, A, G> {
 
         // The other list keeps its block.
         ensures other_items { OnOk result (other.new.items ≡ []) }
-        ensures other_capacity { other.new.capacity ≡ other.old.capacity }
-        ensures other_cost { other.new.cost ≡ other.old.cost }
-        ensures other_alloc { other.new.alloc ≡ other.old.alloc }
+        ensures other_changes { other.new ≡ record other.old { items = other.new.items } }
 
         // When it fails, nothing has changed.
         ensures err { OnErr result (self.new ≡ self.old) }
@@ -139,16 +136,12 @@ impl<T: Drop, A: Allocator, G: Growth> ThinVec<T, A, G> {
         requires room { HasRoomFor self.old (length other.old.items - (end - start)) }
         requires within { IsWithin T.row self.old }
         requires other_within { IsWithin T.row other.old }
-        ensures items { self.new.items ≡ replace_range self.old.items start end other.old.items }
-        ensures capacity { self.new.capacity ≡ self.old.capacity }
-        ensures alloc { self.new.alloc ≡ self.old.alloc }
-        ensures cost { self.new.cost ≡ moving (moves_replacing self.old start end
-            (length other.old.items)) self.old.cost }
+        ensures changes { self.new ≡ record self.old {
+          items = replace_range self.old.items start end other.old.items;
+          cost = moving (moves_replacing self.old start end (length other.old.items)) self.old.cost;
+        } }
         ensures within { IsWithin T.row self.new }
-        ensures other_items { other.new.items ≡ [] }
-        ensures other_capacity { other.new.capacity ≡ other.old.capacity }
-        ensures other_cost { other.new.cost ≡ other.old.cost }
-        ensures other_alloc { other.new.alloc ≡ other.old.alloc }
+        ensures other_changes { other.new ≡ record other.old { items = [] } }
         ensures other_within { IsWithin T.row other.new }
     {
         let mut block = self.open_range(start, end, other.len());
@@ -173,8 +166,7 @@ impl<T: Drop, A: Allocator, G: Growth> ThinVec<T, A, G> {
         ensures other_cost { result.cost ≡ (if count -
             (end - start) == 0 then self.old.cost else moving
             (length self.old.items - end) self.old.cost) }
-        ensures items { self.new.items ≡ [] }
-        ensures alloc { self.new.alloc ≡ self.old.alloc }
+        ensures changes { self.new ≡ record self.old { items = []; capacity = 0; cost = no_cost } }
     {
         let mut block = self.open(start, end);
         block.drop_rest();
@@ -191,15 +183,12 @@ impl<T, A: Allocator> OpenBlock<T, A> {
     // block.
     fn fill_from_list<G: Growth>(&mut self, other: &mut ThinVec<T, A, G>)
         requires room { length other.old.items ≤ self.old.before }
-        ensures same { self.new ≡ record self.old {
+        ensures changes { self.new ≡ record self.old {
           front = self.old.front ++ other.old.items;
           before = self.old.before - length other.old.items;
           cost = moving (length other.old.items) self.old.cost;
         } }
-        ensures other_items { other.new.items ≡ [] }
-        ensures other_capacity { other.new.capacity ≡ other.old.capacity }
-        ensures other_cost { other.new.cost ≡ other.old.cost }
-        ensures other_alloc { other.new.alloc ≡ other.old.alloc }
+        ensures other_changes { other.new ≡ record other.old { items = [] } }
     {
         let count = other.block.len();
         other

@@ -1,4 +1,4 @@
-//! A range of a list's items gives way to clones of others, all or nothing.
+//! A range of a list's items is replaced by clones of others, all or nothing.
 ghost use Rattle.std.specs.Prelude.{◌≡◌, ◌⊎◌, ◌+◌, ◌-◌, ◌*◌, ◌==◌, ◌<◌, ◌≤◌, ◌++◌, All, HoldsAt, IfErr, IsErrOf, IsOk, List, None, OnErr, OnOk, Some, drop, if◌then◌else◌, length, take};
 ghost use Rattle.std.specs.List.{AllZip, replace_range};
 ghost use Rattle.thin_block.specs.Cost.{moving};
@@ -81,8 +81,10 @@ impl<T: Clone, A: Allocator, G: Growth> ThinVec<T, A, G> {
             self.new.items) }
         ensures cost { OnOk result (self.new.cost
             ≡ moving (moves_cloning self.old start end (length items.now)) self.old.cost) }
-        ensures capacity { self.new.capacity ≡ self.old.capacity }
-        ensures alloc { self.new.alloc ≡ self.old.alloc }
+        ensures changes { self.new ≡ record self.old {
+          items = self.new.items;
+          cost = self.new.cost;
+        } }
         ensures err_items { OnErr result (self.new.items ≡ self.old.items) }
         ensures refused { OnErr result (MovesAtMost (length items.now + 3 *
             (length self.old.items - end)) self.old.cost self.new.cost) }
@@ -110,8 +112,10 @@ impl<T: Clone, A: Allocator, G: Growth> ThinVec<T, A, G> {
             self.new.items) }
         ensures cost { OnOk result (self.new.cost
             ≡ moving (moves_replacing self.old at at (length items.now)) self.old.cost) }
-        ensures capacity { self.new.capacity ≡ self.old.capacity }
-        ensures alloc { self.new.alloc ≡ self.old.alloc }
+        ensures changes { self.new ≡ record self.old {
+          items = self.new.items;
+          cost = self.new.cost;
+        } }
         ensures err_items { OnErr result (self.new.items ≡ self.old.items) }
         ensures refused { OnErr result (MovesAtMost (length items.now + 3 *
             (length self.old.items - at)) self.old.cost self.new.cost) }
@@ -135,10 +139,10 @@ impl<T: Drop, A: Allocator, G: Growth> ThinVec<T, A, G> {
         requires start_le_end { start ≤ end }
         requires in_bounds { end ≤ length self.old.items }
         requires within { IsWithin T.row self.old }
-        ensures items { self.new.items ≡ take start self.old.items ++ drop end self.old.items }
-        ensures capacity { self.new.capacity ≡ self.old.capacity }
-        ensures alloc { self.new.alloc ≡ self.old.alloc }
-        ensures cost { self.new.cost ≡ moving (moves_replacing self.old start end 0) self.old.cost }
+        ensures changes { self.new ≡ record self.old {
+          items = take start self.old.items ++ drop end self.old.items;
+          cost = moving (moves_replacing self.old start end 0) self.old.cost;
+        } }
         ensures within { IsWithin T.row self.new }
     {
         let mut block = self.open(start, end);
@@ -152,19 +156,18 @@ impl<T: Drop, A: Allocator, G: Growth> ThinVec<T, A, G> {
         requires few { count ≤ end - start }
         requires in_bounds { end + count ≤ length self.old.items }
         requires within { IsWithin T.row self.old }
-        ensures items { self.new.items ≡ (take start self.old.items ++ drop
-            (length self.old.items - count) self.old.items) ++ take
-            (length self.old.items - count - end) (drop end self.old.items) }
-        ensures capacity { self.new.capacity ≡ self.old.capacity }
-        ensures alloc { self.new.alloc ≡ self.old.alloc }
-        ensures cost { self.new.cost ≡ moving (count +
-            (if count == end - start then 0 else length self.old.items - count - end))
-            self.old.cost }
+        ensures changes { self.new ≡ record self.old {
+          items = (take start self.old.items ++ drop (length self.old.items - count) self.old.items)
+              ++ take (length self.old.items - count - end) (drop end self.old.items);
+          cost = moving
+              (count + (if count == end - start then 0 else length self.old.items - count - end))
+              self.old.cost;
+        } }
         ensures within { IsWithin T.row self.new }
     {
         let mut block = self.open(start, end);
         block.drop_rest();
-        block.lower_last(count);
+        block.move_last_down(count);
         self.close(block);
     }
 }
@@ -177,7 +180,7 @@ impl<T: Clone, A: Allocator> OpenBlock<T, A> {
         ensures in_bounds { result ≤ length items.now }
         ensures front { (copies : List T) × AllZip T.is_clone (take result items.now) copies
             × (self.new.front ≡ self.old.front ++ copies) }
-        ensures same { self.new ≡ record self.old {
+        ensures changes { self.new ≡ record self.old {
           front = self.new.front;
           before = self.old.before - result;
           cost = moving result self.old.cost;
@@ -193,7 +196,7 @@ impl<T: Clone, A: Allocator> OpenBlock<T, A> {
 
 impl<T, A: Allocator> OpenBlock<T, A> {
     // The last `count` items of the tail move after the front, as one run.
-    fn lower_last(&mut self, count: usize)
+    fn move_last_down(&mut self, count: usize)
         requires room { count ≤ self.old.before }
         requires in_bounds { count ≤ length self.old.tail }
         ensures { self.new ≡ record self.old {

@@ -76,8 +76,10 @@ impl<T: Clone, A: Allocator, G: Growth> ThinVec<T, A, G> {
         ensures items_if_clones_equal { OnOk result (CloneEquals T.is_clone value
             → self.new.items ≡ self.old.items ++ replicate count value) }
         ensures cost { OnOk result (self.new.cost ≡ moving count self.old.cost) }
-        ensures capacity { self.new.capacity ≡ self.old.capacity }
-        ensures alloc { self.new.alloc ≡ self.old.alloc }
+        ensures changes { self.new ≡ record self.old {
+          items = self.new.items;
+          cost = self.new.cost;
+        } }
         ensures err_items { OnErr result (self.new.items ≡ self.old.items) }
         ensures refused { OnErr result
             (StopsAtClone T.is_infallible (replicate (count - 1) value) self.old.cost
@@ -100,9 +102,10 @@ impl<T: Clone, A: Allocator, G: Growth> ThinVec<T, A, G> {
         requires room { HasRoomFor self.old count }
         ensures in_bounds { result ≤ count }
         ensures items { AppendsRepeats T.is_clone value.now result self.old.items self.new.items }
-        ensures capacity { self.new.capacity ≡ self.old.capacity }
-        ensures alloc { self.new.alloc ≡ self.old.alloc }
-        ensures cost { self.new.cost ≡ moving result self.old.cost }
+        ensures changes { self.new ≡ record self.old {
+          items = self.new.items;
+          cost = moving result self.old.cost;
+        } }
         ensures refused { result < count → ¬ (T.is_infallible value.now) }
         ensures within { IsWithin T.row self.old × IsWithin T.row self.new }
     {
@@ -162,9 +165,10 @@ impl<T: Drop, A: Allocator, G: Growth> ThinVec<T, A, G> {
         requires callable { F.IsAlwaysCallable make }
         ensures items { AppendsResults F.step self.old.items self.new.items make }
         ensures len { length self.new.items ≡ length self.old.items + count }
-        ensures capacity { self.new.capacity ≡ self.old.capacity }
-        ensures alloc { self.new.alloc ≡ self.old.alloc }
-        ensures cost { self.new.cost ≡ moving count self.old.cost }
+        ensures changes { self.new ≡ record self.old {
+          items = self.new.items;
+          cost = moving count self.old.cost;
+        } }
         ensures cheap { IsCheap self.old → IsCheap self.new }
         ensures within { IsWithin T.row self.old × IsWithin T.row self.new }
     {

@@ -13,8 +13,8 @@ impl<T, A: Allocator, G: Growth> ThinVec<T, A, G> {
     /// Makes the capacity `min_capacity`, or the length where that is greater. A list of no greater
     /// capacity stays as it is.
     ///
-    /// It fails only where memory is refused, and then nothing changes. At 0 an empty list gives
-    /// its block back, and begins its counters again.
+    /// It fails only where the allocator does, and then nothing changes. At 0 an empty list frees
+    /// its block, and begins its counters again.
     pub fn shrink_to(&mut self, min_capacity: usize) -> Result<(), ThinVecError>
         ensures succeeds { self.old.capacity ≤ max min_capacity (length self.old.items)
             → IsOk result }
@@ -39,10 +39,10 @@ impl<T, A: Allocator, G: Growth> ThinVec<T, A, G> {
         self.shrink_block(wanted)
     }
 
-    /// Makes the capacity the length: a full list stays, and an empty one gives its block back.
+    /// Makes the capacity the length: a full list stays, and an empty one frees its block.
     ///
-    /// It fails only where memory is refused, and then nothing changes. An empty list that gives its
-    /// block back begins its counters again.
+    /// It fails only where the allocator does, and then nothing changes. An empty list that frees
+    /// its block begins its counters again.
     pub fn shrink_to_fit(&mut self) -> Result<(), ThinVecError>
         ensures succeeds_empty { length self.old.items ≡ 0 → IsOk result }
         ensures succeeds_full { length self.old.items ≡ self.old.capacity → IsOk result }
@@ -63,9 +63,11 @@ impl<T, A: Allocator, G: Growth> ThinVec<T, A, G> {
         requires room { length self.old.items ≤ cap }
         requires smaller { cap < self.old.capacity }
         requires within { IsWithin T.row self.old }
-        ensures items { self.new.items ≡ self.old.items }
+        ensures changes { self.new ≡ record self.old {
+          capacity = self.new.capacity;
+          cost = self.new.cost;
+        } }
         ensures capacity { OnOk result (self.new.capacity ≡ cap) }
-        ensures alloc { self.new.alloc ≡ self.old.alloc }
         ensures cost { OnOk result (self.new.cost ≡ growing (length self.old.items) self.old.cost) }
         ensures err { OnErr result (self.new ≡ self.old) }
         ensures cause { IfErr result (λ cause. cause ≡ ThinVecError.OutOfMemory) }
@@ -75,13 +77,10 @@ impl<T, A: Allocator, G: Growth> ThinVec<T, A, G> {
         Ok(())
     }
 
-    // The block of an empty list is given back.
+    // The block of an empty list is freed.
     fn give_block_back(&mut self)
         requires empty { self.old.items ≡ [] }
-        ensures items { self.new.items ≡ [] }
-        ensures capacity { self.new.capacity ≡ 0 }
-        ensures alloc { self.new.alloc ≡ self.old.alloc }
-        ensures cost { self.new.cost ≡ no_cost }
+        ensures changes { self.new ≡ record self.old { items = []; capacity = 0; cost = no_cost } }
         ensures within { IsWithin T.row self.new }
     {
         let block = mem::replace(&mut self.block, Block::none());

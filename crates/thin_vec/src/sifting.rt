@@ -13,10 +13,10 @@ const FEW: usize = 8;
 
 /// What says of one item after another whether it stays, and may write to it.
 pub(crate) trait Asks<T> {
-    /// From one state to the next: an item, the answer, and the item as it is left.
+    /// From one state to the next: an item, whether it stays, and the item as it is left.
     ghost asks: { Self → T → Bool → Self → T → Type 0 };
 
-    /// It can be asked about any item, and again after each answer.
+    /// It can be asked about any item, and again after each.
     ghost ready: { Self → Type 0 };
 
     fn ask(&mut self, item: &mut T) -> bool
@@ -34,7 +34,7 @@ impl<T, A: Allocator> OpenBlock<T, A> {
         requires ready { J.ready judge.old }
         ensures asked { IsAskedAt J.asks k judge.old self.old.rest result judge.new self.new.rest }
         ensures ready { J.ready judge.new }
-        ensures same { self.new ≡ record self.old { rest = self.new.rest } }
+        ensures changes { self.new ≡ record self.old { rest = self.new.rest } }
     {
         judge.ask(self.block.slot_mut(self.rest_start + k))
     }
@@ -56,7 +56,7 @@ impl<T, A: Allocator> OpenBlock<T, A> {
     }
 
     // The first item of the middle run moves to the front.
-    pub(crate) fn lower_one(&mut self)
+    pub(crate) fn move_one_down(&mut self)
         requires some { 0 < length self.old.rest }
         requires gap { 0 < self.old.before }
         ensures { self.new ≡ record self.old {
@@ -74,7 +74,7 @@ impl<T, A: Allocator> OpenBlock<T, A> {
     // The first `k` items of the middle run move to the front: two or a few in line, and more as
     // one run.
     #[inline(always)]
-    pub(crate) fn lower(&mut self, k: usize)
+    pub(crate) fn move_down(&mut self, k: usize)
         requires in_bounds { k ≤ length self.old.rest }
         requires gap { 0 < self.old.before }
         ensures { self.new ≡ record self.old {
@@ -84,23 +84,23 @@ impl<T, A: Allocator> OpenBlock<T, A> {
         } }
     {
         if k == 2 {
-            self.lower_one();
-            self.lower_one();
+            self.move_one_down();
+            self.move_one_down();
             return;
         }
         if k >= FEW {
-            self.lower_run(k);
+            self.move_run_down(k);
             return;
         }
         for done in 0..k {
-            self.lower_one();
+            self.move_one_down();
         }
     }
 
-    // The first `k` items of the middle run move to the front as one run. The block is handed over
-    // for it, so that all that is open can stay in registers.
+    // The first `k` items of the middle run move to the front as one run. The block is passed by
+    // value for it, so that all that is open can stay in registers.
     #[inline(always)]
-    fn lower_run(&mut self, k: usize)
+    fn move_run_down(&mut self, k: usize)
         requires in_bounds { k ≤ length self.old.rest }
         requires gap { 0 < self.old.before }
         ensures { self.new ≡ record self.old {
@@ -110,15 +110,15 @@ impl<T, A: Allocator> OpenBlock<T, A> {
         } }
     {
         let block = mem::replace(&mut self.block, Block::none());
-        let lowered = block.close_gap(self.front_end, self.rest_start - self.front_end, k);
-        let none = mem::replace(&mut self.block, lowered);
+        let closed = block.close_gap(self.front_end, self.rest_start - self.front_end, k);
+        let none = mem::replace(&mut self.block, closed);
         none.forget_none();
         self.front_end += k;
         self.rest_start += k;
     }
 
-    // Whether the middle run has more than one item, behind a gap. (The last place of the run
-    // stays in a register.)
+    // Whether the middle run has more than one item, where there is a gap before it. (The last
+    // place of the run stays in a register.)
     pub(crate) fn has_two(&self) -> bool
         requires gap { 0 < self.now.before }
         ensures value { IsTrue result ↔ (1 < length self.now.rest) }
@@ -127,13 +127,13 @@ impl<T, A: Allocator> OpenBlock<T, A> {
     }
 
     // Asks about the items of the middle run from `k` on, up to the first that goes or to the end,
-    // and answers where that is.
+    // and returns where that is.
     pub(crate) fn ask_run<J: Asks<T>>(&mut self, k: usize, judge: &mut J) -> usize
         requires in_bounds { k ≤ length self.old.rest }
         requires ready { J.ready judge.old }
         ensures asked { Runs J.asks k result judge.old self.old.rest judge.new self.new.rest }
         ensures ready { J.ready judge.new }
-        ensures same { self.new ≡ record self.old { rest = self.new.rest } }
+        ensures changes { self.new ≡ record self.old { rest = self.new.rest } }
     {
         let mut at = k;
         while at < self.rest_len() {
@@ -149,7 +149,7 @@ impl<T, A: Allocator> OpenBlock<T, A> {
 impl<T, A: Allocator> OpenBlock<T, A> {
     ghost use Rattle.thin_vec.specs.Sifting.{Advances};
 
-    // Asks about the items of the middle run up to the first that goes, and answers whether there
+    // Asks about the items of the middle run up to the first that goes, and returns whether there
     // is one. Those before it join the front: they move there where there is a gap.
     pub(crate) fn advance<J: Asks<T>>(&mut self, judge: &mut J) -> bool
         requires ready { J.ready judge.old }
@@ -165,7 +165,7 @@ impl<T, A: Allocator> OpenBlock<T, A> {
         self.rest_len() > 0
     }
 
-    // The same behind a gap.
+    // `advance` where there is a gap: the items before the first that goes move to the front.
     fn advance_behind<J: Asks<T>>(&mut self, judge: &mut J) -> bool
         requires gap { 0 < self.old.before }
         requires ready { J.ready judge.old }
@@ -180,8 +180,8 @@ impl<T, A: Allocator> OpenBlock<T, A> {
         }
     }
 
-    // The same of two items and more, behind a gap. A run of none or of one is found with nothing
-    // counted.
+    // `advance` of two items and more, where there is a gap. A run of none or of one is found with
+    // nothing counted.
     fn advance_two<J: Asks<T>>(&mut self, judge: &mut J) -> bool
         requires two { 1 < length self.old.rest }
         requires gap { 0 < self.old.before }
@@ -194,15 +194,15 @@ impl<T, A: Allocator> OpenBlock<T, A> {
             return true;
         }
         if !self.ask(1, judge) {
-            self.lower_one();
+            self.move_one_down();
             return true;
         }
         let count = self.ask_run(2, judge);
-        self.lower(count);
+        self.move_down(count);
         self.rest_len() > 0
     }
 
-    // The same of one item or none, behind a gap.
+    // `advance` of one item or none, where there is a gap.
     fn advance_last<J: Asks<T>>(&mut self, judge: &mut J) -> bool
         requires short { length self.old.rest ≤ 1 }
         requires gap { 0 < self.old.before }
@@ -215,7 +215,7 @@ impl<T, A: Allocator> OpenBlock<T, A> {
             return false;
         }
         if self.ask(0, judge) {
-            self.lower_one();
+            self.move_one_down();
             return false;
         }
         true
@@ -240,7 +240,7 @@ impl<T: Drop, A: Allocator> OpenBlock<T, A> {
         }
     }
 
-    // The same behind the first item that goes.
+    // `sift` of the items after the first that goes: there is a gap.
     fn sift_behind<J: Asks<T>>(&mut self, judge: &mut J)
         requires gap { 0 < self.old.before }
         requires ready { J.ready judge.old }

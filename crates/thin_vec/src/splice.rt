@@ -123,13 +123,13 @@ impl<
 > Splice<'a, I, T, A, G, H> {
     ghost use Rattle.thin_vec.specs.Splice.{splice_alloc, splice_block, splice_iter, splice_left, splice_range, splice_replaced};
 
-    /// Drops what is left of the range, and puts the items in its place that the iterator gives
+    /// Drops what is left of the range, and puts the items in its place that the iterator yields
     /// before its first `None`. After that it is not asked again.
     ///
     /// With no item after the range this is an `extend`. With some, the range's places are filled
     /// first. Then the iterator's hint is asked, once, and room is made for its lower bound. What
-    /// it gives beyond that is held in a vector on `alloc`, and goes in as one run. Where the
-    /// iterator gives at most as many items as the range has, no memory is taken, and nothing can
+    /// it yields beyond that is held in a vector on `alloc`, and goes in as one run. Where the
+    /// iterator yields at most as many items as the range has, no memory is taken, and nothing can
     /// fail.
     ///
     /// When it fails, the list has what was placed, and the error has the rest.

@@ -35,9 +35,7 @@ impl<T, A: Allocator, G: Growth> ThinVec<T, A, G> {
 
         // The other list keeps its block.
         ensures other_items { OnOk result (other.new.items ≡ []) }
-        ensures other_capacity { other.new.capacity ≡ other.old.capacity }
-        ensures other_cost { other.new.cost ≡ other.old.cost }
-        ensures other_alloc { other.new.alloc ≡ other.old.alloc }
+        ensures other_changes { other.new ≡ record other.old { items = other.new.items } }
 
         // Where it fails, nothing changed.
         ensures err { OnErr result (self.new ≡ self.old) }
@@ -57,16 +55,14 @@ impl<T, A: Allocator, G: Growth> ThinVec<T, A, G> {
     /// Cuts the list at `at`: it keeps the first `at` items and its capacity, and the others are
     /// returned, with exactly the capacity that they need.
     ///
-    /// It fails only where memory is refused, and then nothing changes. At the length it needs no
+    /// It fails only where the allocator does, and then nothing changes. At the length it needs no
     /// allocation.
     pub fn split_off(&mut self, alloc: A, at: usize) -> Result<ThinVec<T, A, G>, ThinVecError>
         requires in_bounds { at ≤ length self.old.items }
         ensures succeeds { at ≡ length self.old.items → IsOk result }
         ensures cause { IfErr result (λ cause. cause ≡ ThinVecError.OutOfMemory) }
         ensures items { OnOk result (self.new.items ≡ take at self.old.items) }
-        ensures capacity { self.new.capacity ≡ self.old.capacity }
-        ensures cost { self.new.cost ≡ self.old.cost }
-        ensures alloc { self.new.alloc ≡ self.old.alloc }
+        ensures changes { self.new ≡ record self.old { items = self.new.items } }
         ensures err { OnErr result (self.new ≡ self.old) }
 
         // The second list.
@@ -93,9 +89,7 @@ impl<T, A: Allocator, G: Growth> ThinVec<T, A, G> {
         ensures cost { self.new.cost ≡ moving (length other.old.items) self.old.cost }
         ensures cheap { IsCheap self.old → IsCheap self.new }
         ensures other_items { other.new.items ≡ [] }
-        ensures other_capacity { other.new.capacity ≡ other.old.capacity }
-        ensures other_cost { other.new.cost ≡ other.old.cost }
-        ensures other_alloc { other.new.alloc ≡ other.old.alloc }
+        ensures other_changes { other.new ≡ record other.old { items = other.new.items } }
         ensures within { IsWithin T.row self.old × IsWithin T.row self.new }
         ensures other_within { IsWithin T.row other.old × IsWithin T.row other.new }
     {
@@ -107,14 +101,13 @@ impl<T, A: Allocator, G: Growth> ThinVec<T, A, G> {
     fn append_from(&mut self, other: &mut ThinVec<T, A, G>, start: usize)
         requires in_bounds { start ≤ length other.old.items }
         requires room { HasRoomFor self.old (length other.old.items - start) }
-        ensures items { self.new.items ≡ self.old.items ++ drop start other.old.items }
-        ensures capacity { self.new.capacity ≡ self.old.capacity }
-        ensures cost { self.new.cost ≡ moving (length other.old.items - start) self.old.cost }
-        ensures alloc { self.new.alloc ≡ self.old.alloc }
-        ensures other_items { other.new.items ≡ take start other.old.items }
-        ensures other_capacity { other.new.capacity ≡ other.old.capacity }
-        ensures other_cost { other.new.cost ≡ other.old.cost }
-        ensures other_alloc { other.new.alloc ≡ other.old.alloc }
+        ensures changes { self.new ≡ record self.old {
+          items = self.old.items ++ drop start other.old.items;
+          cost = moving (length other.old.items - start) self.old.cost;
+        } }
+        ensures other_changes { other.new ≡ record other.old {
+          items = take start other.old.items;
+        } }
         ensures within { IsWithin T.row self.old × IsWithin T.row self.new }
         ensures other_within { IsWithin T.row other.old × IsWithin T.row other.new }
     {

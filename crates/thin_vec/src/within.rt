@@ -66,8 +66,10 @@ impl<T: Clone, A: Allocator, G: Growth> ThinVec<T, A, G> {
         ensures items_if_clones_equal { OnOk result (ClonesEqual T.is_clone
             → self.new.items ≡ self.old.items ++ slice_range self.old.items start end) }
         ensures cost { OnOk result (self.new.cost ≡ moving (end - start) self.old.cost) }
-        ensures capacity { self.new.capacity ≡ self.old.capacity }
-        ensures alloc { self.new.alloc ≡ self.old.alloc }
+        ensures changes { self.new ≡ record self.old {
+          items = self.new.items;
+          cost = self.new.cost;
+        } }
         ensures err_items { OnErr result (self.new.items ≡ self.old.items) }
         ensures refused { OnErr result (StopsAtClone T.is_infallible
             (slice_range self.old.items start end) self.old.cost self.new.cost) }
@@ -93,9 +95,10 @@ impl<T: Clone, A: Allocator, G: Growth> ThinVec<T, A, G> {
         ensures items { AppendsClones T.is_clone self.old.items self.new.items
             (take result (slice_range self.old.items start end)) }
         ensures len { length self.new.items ≡ length self.old.items + result }
-        ensures capacity { self.new.capacity ≡ self.old.capacity }
-        ensures alloc { self.new.alloc ≡ self.old.alloc }
-        ensures cost { self.new.cost ≡ moving result self.old.cost }
+        ensures changes { self.new ≡ record self.old {
+          items = self.new.items;
+          cost = moving result self.old.cost;
+        } }
         ensures refused { result < end - start → HoldsAt (λ x. ¬ (T.is_infallible x))
             (slice_range self.old.items start end) result }
         ensures within { IsWithin T.row self.new }

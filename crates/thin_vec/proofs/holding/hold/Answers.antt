@@ -1,4 +1,4 @@
--- What the spare room took goes behind what was held, and the item that found none behind that.
+-- What the spare room took goes after what was held, and the item that found none after that.
 use Rattle.std.proofs.Common.{ap, arith, length, subst}
 use Rattle.std.proofs.lemmas.List.{length_push}
 use Rattle.std.specs.Iterator.{YieldsThen}

@@ -1,4 +1,4 @@
--- One item more goes behind those that were drawn.
+-- One item more goes after those that were drawn.
 use Rattle.std.proofs.Common.{◌∷◌, ◌++◌, [], ◌∙◌, ap, append_assoc, arith, length}
 use Rattle.std.proofs.lemmas.List.{length_push}
 use Rattle.thin_vec.proofs.ExtendLemmas.{yields-more}

@@ -1,4 +1,4 @@
--- The vector holds what the iterator has given, behind its own items.
+-- The vector holds what the iterator has yielded, after its own items.
 use Rattle.std.proofs.Common.{◌≡◌, ◌+◌, ◌≤◌, List, ◌++◌, length}
 use Rattle.std.specs.Iterator.{IsFinite, Yields, size}
 use Rattle.thin_vec.proofs.holding.hold_spare.Given as goal

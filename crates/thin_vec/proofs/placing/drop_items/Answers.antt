@@ -1,4 +1,5 @@
 -- The slots are emptied one by one.
+use Rattle.thin_block.proofs.BlockLemmas.{slots-are}
 use Rattle.std.proofs.Common.{◌≡◌, ◌≤◌, ◌-◌, sym, ap, ◌∙◌, length, arith, None, refl}
 use lib.ListN.{set}
 use Rattle.thin_block.proofs.SlotsLemmas.{packed-le}
@@ -9,16 +10,13 @@ use Rattle.thin_vec.proofs.placing.drop_items.Goals as goal
 pub loop-i-init : goal.loop-i-init
 loop-i-init g c =
     let old = c.args.block.now.slots in
-    record {
-      slots = c.requires.packed.row ∙ sym (emptying-none (items_in old) 0 (length old));
-      alloc = refl;
-    }
+    slots-are refl (c.requires.packed.row ∙ sym (emptying-none (items_in old) 0 (length old)))
 
 pub take-requires : goal.take-requires
 take-requires g c =
     let old = c.args.block.now.slots in
     record {
-      filled = rw c.loop-i.invariant.slots
+      filled = rw (ap (λ v. v.slots) c.loop-i.invariant)
           (emptying-filled (items_in old) 0 c.loop-i.i (length old) (omega arith)
           (omega (arith, c.loop-i-test.true, c.requires.packed.len)));
     }
@@ -27,15 +25,14 @@ pub loop-i-preserved : goal.loop-i-preserved
 loop-i-preserved g c =
     let old = c.args.block.now.slots in
     let h = c.loop-i.invariant in
-    record {
-      slots = c.take.ensures.slots
-          ∙ (ap (λ s. set s c.loop-i.i None) h.slots ∙ emptying-take (items_in old) 0 c.loop-i.i
-          (length old) (omega arith) (omega (arith, c.loop-i-test.true, c.requires.packed.len)));
-      alloc = c.take.ensures.alloc ∙ h.alloc;
-    }
+    slots-are
+    (c.take.ensures.changes
+    ∙ (λ i. let v = h i in record v { slots = set v.slots c.loop-i.i None }))
+    (emptying-take (items_in old) 0 c.loop-i.i (length old) (omega arith)
+    (omega (arith, c.loop-i-test.true, c.requires.packed.len)))
 
-pub returns-clause-slots : goal.returns-clause-slots
-returns-clause-slots g c =
+pub returns : goal.returns
+returns g c =
     let old = c.args.block.now.slots in
     let cap = length old in
     let end : c.loop-i.i ≡ length (items_in old) =
@@ -43,6 +40,8 @@ returns-clause-slots g c =
     let room : length (items_in old) ≤ cap =
     omega (arith, packed-le old c.args.len c.requires.packed, c.requires.packed.len) in
     let none : cap - 0 ≡ cap = omega arith in
-    c.loop-i.invariant.slots
-    ∙ (ap (λ k. emptying (items_in old) 0 k cap) end
-    ∙ (emptying-all (items_in old) 0 cap (omega arith) room ∙ ap (λ k. empty k) none))
+    record {
+      changes = slots-are c.loop-i.invariant
+          (ap (λ k. emptying (items_in old) 0 k cap) end
+          ∙ (emptying-all (items_in old) 0 cap (omega arith) room ∙ ap (λ k. empty k) none));
+    }

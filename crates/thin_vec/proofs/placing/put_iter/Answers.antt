@@ -1,7 +1,8 @@
 -- One item more is laid.
-use Rattle.std.proofs.Common.{◌∷◌, ◌++◌, [], ◌∙◌, arith}
+use Rattle.thin_block.specs.Block.{seen}
+use Rattle.std.proofs.Common.{◌∷◌, ◌++◌, [], ◌∙◌, arith, ap, ◌+◌, ◌-◌}
 use Rattle.std.proofs.lemmas.List.{length_push}
-use Rattle.thin_vec.proofs.ExtendLemmas.{laid-more, moving-since, yields-more}
+use Rattle.thin_vec.proofs.ExtendLemmas.{laid-more, put-more, yields-more}
 use Rattle.std.proofs.lemmas.Grind.{common_steps}
 use Rattle.thin_vec.proofs.placing.put_iter.Goals as goal
 
@@ -18,16 +19,15 @@ loop-i-preserved g c =
         xs ++ x ∷ [],
         laid-more c.loop-i.block.slots c.put.new.self.slots c.args.block.now.slots c.args.start
             c.loop-i.i xs x held.placed.1 held.placed.2
-            (omega (arith, c.loop-i-test.true, c.requires.in_bounds)) c.put.ensures.slots,
+            (omega (arith, c.loop-i-test.true, c.requires.in_bounds))
+            (ap (λ v. v.slots) c.put.ensures.changes),
         omega (arith, held.placed.2, length_push xs x),
         yields-more g.I.Iterator.next_gives c.args.iter c.loop-i.rest c.next.new.self xs x
             held.placed.3 c.in-Some.ensures.steps,
       );
       within = omega (arith, c.loop-i-test.true);
-      len = c.put.ensures.len ∙ held.len;
-      alloc = c.put.ensures.alloc ∙ held.alloc;
-      cost = c.put.ensures.cost ∙ moving-since c.loop-i.i c.args.start c.loop-i.block.cost
-          c.args.block.now.cost (omega (arith, held.placed.2)) held.cost;
+      same = put-more (seen c.args.block.now) _ (c.loop-i.i + 1 - c.args.start)
+          (omega (arith, held.placed.2)) c.put.ensures.changes held.same;
       nearer = omega (arith, held.nearer, goes.2);
     }
 

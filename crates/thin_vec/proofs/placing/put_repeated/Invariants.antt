@@ -1,5 +1,6 @@
 -- So many clones are laid.
 use Rattle.std.proofs.Common.{◌≡◌, replicate}
+use Rattle.thin_block.specs.Block.{seen}
 use Rattle.thin_block.specs.Cost.{moving}
 use Rattle.thin_vec.specs.Clones.{LaysClones}
 use Rattle.thin_vec.proofs.placing.put_repeated.Given as goal
@@ -10,7 +11,6 @@ invariant-loop-i g l =
     record {
       slots : LaysClones g.T.Clone.is_clone (replicate l.count l.value)
           l.i l.start l.fn.block.slots l.block.slots;
-      len : l.block.len ≡ l.fn.block.len;
-      alloc : l.block.alloc ≡ l.fn.block.alloc;
-      cost : l.block.cost ≡ moving l.i l.fn.block.cost;
+      same : seen l.block ≡ record (seen l.fn.block)
+          { slots = l.block.slots; cost = moving l.i l.fn.block.cost };
     }

@@ -1,21 +1,19 @@
 -- One result more is laid.
+use Rattle.thin_block.specs.Block.{seen}
 use Rattle.std.proofs.Common.{◌≡◌, [], ◌∷◌, ◌+◌, ◌++◌, ap, arith, drop, of_calls, refl, sym, take, ◌∙◌}
 use Rattle.std.proofs.SliceLists.{chained_more}
 use Rattle.std.proofs.iter.Next.{called}
 use Rattle.std.proofs.lemmas.List.{length_push, take-append-drop}
 use Rattle.std.specs.Fn.{Called}
-use Rattle.thin_block.specs.Cost.{Cost, moving}
 use Rattle.thin_block.specs.Slots.{full, slot}
 use Rattle.thin_block.proofs.SlotsLemmas.{slot-laid}
-use Rattle.thin_vec.proofs.FiltersLemmas.{moving-more}
-use Rattle.thin_vec.proofs.ExtendLemmas.{laid-more}
+use Rattle.thin_vec.proofs.ExtendLemmas.{laid-more, put-more, put-none}
 use Rattle.thin_vec.proofs.ListLemmas.{length-full}
 use Rattle.thin_vec.proofs.placing.put_results.Goals as goal
 
 pub loop-i-init : goal.loop-i-init
 loop-i-init g c =
     let s = c.args.block.now.slots in
-    let cost = c.args.block.now.cost in
     let start = c.args.start in
     record {
       placed = (
@@ -25,10 +23,7 @@ loop-i-init g c =
         refl,
         refl,
       );
-      len = refl;
-      alloc = refl;
-      cost = ap (λ m. let d : Cost = record cost { moves = m } in d)
-          (let e : cost.moves ≡ cost.moves + 0 = omega arith in e);
+      same = put-none (seen c.args.block.now) 0 refl;
       callable = search of_calls;
     }
 
@@ -54,14 +49,12 @@ loop-i-preserved g c =
         xs ++ x ∷ [],
         laid-more c.loop-i.block.slots _ old.slots c.args.start (c.args.start + i) xs x
             was.placed.1 (omega (arith, was.placed.2)) (omega (arith, c.requires.in_bounds))
-            c.put.ensures.slots,
+            (ap (λ v. v.slots) c.put.ensures.changes),
         omega (arith, was.placed.2, length_push xs x),
         chained_more (λ f y f'. Called g.F.FnMut f tt y f') c.args.make xs c.loop-i.make x _
             was.placed.3 (called g.F.FnMut c.make.ensures refl),
       );
-      len = c.put.ensures.len ∙ was.len;
-      alloc = c.put.ensures.alloc ∙ was.alloc;
-      cost = c.put.ensures.cost ∙ (ap (λ d. moving 1 d) was.cost ∙ moving-more 1 i old.cost);
+      same = put-more (seen old) i (i + 1) refl c.put.ensures.changes was.same;
       callable = search of_calls;
     }
 

@@ -1,15 +1,18 @@
 -- One item more has come in, from the last on.
-use Rattle.std.proofs.Common.{◌+◌, ◌∙◌, ap, arith, length, length-append, refl, subst, sym}
+use Rattle.std.proofs.lemmas.Grind.{common_steps}
+use Rattle.thin_block.specs.Cost.{moving}
+use Rattle.thin_block.specs.Slots.{full, laid}
+use Rattle.thin_vec.proofs.ExtendLemmas.{put-more, put-none}
+use Rattle.thin_block.specs.Block.{seen}
+use Rattle.std.proofs.Common.{◌+◌, ◌∙◌, ap, arith, length, length-append, subst, sym, ◌≡◌, ◌-◌}
 use Rattle.std.proofs.lemmas.List.{length_push}
-use Rattle.thin_vec.proofs.FromOthersLemmas.{IsMoving, counted-more, counted-none, moving-first, moving-next}
+use Rattle.thin_vec.proofs.FromOthersLemmas.{IsMoving, moving-first, moving-next}
 use Rattle.thin_vec.proofs.placing.put_vec.Goals as goal
 
 pub loop-item-init : goal.loop-item-init
 loop-item-init g c = record {
   slots = moving-first c.args.items.items c.args.start c.args.block.now.slots;
-  len = refl;
-  alloc = refl;
-  cost = counted-none (length c.args.items.items) c.args.block.now.cost;
+  same = put-none (seen c.args.block.now) _ (omega arith);
 }
 
 pub loop-item-preserved : goal.loop-item-preserved
@@ -22,19 +25,30 @@ loop-item-preserved g c =
     let before = subst (λ l. IsMoving xs l start old c.loop-item.block.slots)
     c.in-Some.ensures.items was.slots in
     record {
-      slots = subst (λ s. IsMoving xs left start old s) (sym c.put.ensures.slots)
+      slots = subst (λ s. IsMoving xs left start old s)
+          (ap (λ v. v.slots) (sym c.put.ensures.changes))
           (moving-next left (start + c.len.result) c.in-Some.item before
           (ap (λ n. start + n) (c.len.ensures ∙ c.pop.new.self.ok.0)) c.requires.in_bounds);
-      len = c.put.ensures.len ∙ was.len;
-      alloc = c.put.ensures.alloc ∙ was.alloc;
-      cost = counted-more (length xs) c.args.block.now.cost (length left)
-          (ap length c.in-Some.ensures.items ∙ length_push left c.in-Some.item)
+      same = put-more (seen c.args.block.now) _ (length xs - length left)
           (omega (
             arith,
+            ap length c.in-Some.ensures.items,
+            length_push left c.in-Some.item,
             ap length was.slots.parts,
             length-append c.loop-item.items.items was.slots.rest,
-          )) was.cost c.put.ensures.cost;
+          ))
+          c.put.ensures.changes was.same;
     }
 
-pub returns-clause-slots : goal.returns-clause-slots
-returns-clause-slots g c = search (arith, ◌∙◌)
+pub returns : goal.returns
+returns g c =
+    let xs = c.args.items.items in
+    let old = c.args.block.now in
+    let slots : c.loop-item.block.slots ≡ laid c.args.start (full xs) old.slots =
+    search (arith, ◌∙◌) in
+    let all : length xs - length c.loop-item.items.items ≡ length xs =
+    grind (arith, common_steps) in
+    record {
+      changes = c.loop-item.invariant.same
+          ∙ (λ i. record (seen old) { slots = slots i; cost = moving (all i) old.cost });
+    }

@@ -1,5 +1,6 @@
 -- The items that the `Vec` has given up lie in their slots, and as many moves are counted.
 use Rattle.std.proofs.Common.{◌≡◌, ◌-◌, length}
+use Rattle.thin_block.specs.Block.{seen}
 use Rattle.thin_block.specs.Cost.{moving}
 use Rattle.thin_vec.proofs.FromOthersLemmas.{IsMoving}
 use Rattle.thin_vec.proofs.placing.put_vec.Given as goal
@@ -7,9 +8,10 @@ use Rattle.thin_vec.proofs.placing.put_vec.Given as goal
 abbrev pub invariant-loop-item : goal.invariant-loop-item
 invariant-loop-item g l = record {
   slots : IsMoving l.fn.items.items l.items.items l.start l.fn.block.slots l.block.slots;
-  len : l.block.len ≡ l.fn.block.len;
-  alloc : l.block.alloc ≡ l.fn.block.alloc;
-  cost : l.block.cost ≡ moving (length l.fn.items.items - length l.items.items) l.fn.block.cost;
+  same : seen l.block ≡ record (seen l.fn.block) {
+    slots = l.block.slots;
+    cost = moving (length l.fn.items.items - length l.items.items) l.fn.block.cost;
+  };
 }
 
 abbrev pub decreases-loop-item : goal.decreases-loop-item

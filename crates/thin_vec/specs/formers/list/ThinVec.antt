@@ -55,7 +55,7 @@ the_empty Z Q z q = record { items = []; capacity = 0; alloc = z; cost = no_cost
 abbrev pub the_items : (Z Q X : Type 0) → Thin X Z → List X
 the_items Z Q X v = v.items
 
--- they are those below it
+-- the items of a list are those below it
 pub the_items_listed : (Z Q X : Type 0) (v : Thin X Z)
     → listed _ (children (the_former this Z Q) X v) ≡ the_items Z Q X v
 the_items_listed Z Q X v = list-listed X v.items
@@ -74,22 +74,22 @@ module _ {X Y : Type 0} (h : X → Y) where
   items_in-map (None ∷ s) = items_in-map s
   items_in-map (Some x ∷ s) = ap (λ l. h x ∷ l) (items_in-map s)
 
-  -- the same slots are filled
+  -- the images fill the slots that the items fill
   there-map : (s : List (Option X)) → map there (map (on_slot h) s) ≡ map there s
   there-map [] = refl
   there-map (None ∷ s) = ap (λ l. there {X = X} None ∷ l) (there-map s)
   there-map (Some x ∷ s) = ap (λ l. there (Some x) ∷ l) (there-map s)
 
-  -- as many items as before
+  -- there are as many images as items
   count-map : (s : List (Option X)) → length (items_in (map (on_slot h) s)) ≡ length (items_in s)
   count-map s = ap length (items_in-map s) ∙ length-map (items_in s) h
 
-  -- as many empty slots as before
+  -- the images leave as many slots empty as the items
   left-map : (s : List (Option X)) → length (map (on_slot h) s) - length
       (items_in (map (on_slot h) s)) ≡ length s - length (items_in s)
   left-map s = λ i. length-map s (on_slot h) i - count-map s i
 
-  -- items in front stay there
+  -- where the items lie in front, so do the images
   packed_to : (s : List (Option X)) (n : ℕ) → IsPacked s n → IsPacked (map (on_slot h) s) n
   packed_to s n p = record {
     row = from_there (map (on_slot h) s) _
@@ -97,7 +97,7 @@ module _ {X Y : Type 0} (h : X → Y) where
     len = p.len ∙ sym (count-map s);
   }
 
-  -- and were
+  -- where the images lie in front, so do the items
   packed_from : (s : List (Option X)) (n : ℕ) → IsPacked (map (on_slot h) s) n → IsPacked s n
   packed_from s n p = record {
     row = from_there s _

@@ -1,4 +1,4 @@
--- The items behind the range close up to those in front of it.
+-- The items after the range close up to those in front of it.
 use Rattle.std.proofs.Common.{arith, ◌∙◌}
 use Rattle.thin_vec.proofs.drain.Drain.drop.Goals as goal
 

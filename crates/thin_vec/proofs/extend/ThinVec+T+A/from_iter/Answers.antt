@@ -1,6 +1,6 @@
--- What was refused of a new list, and the whole run of the iterator.
+-- What was taken where it fails, the capacity, and the whole run of the iterator.
 use Rattle.std.specs.Option.{option_to_list}
-use Rattle.std.proofs.Common.{None, [], refl, Some, inr, ◌+◌, ◌++◌, ◌≡◌, ◌∙◌, ap, arith, length, sym}
+use Rattle.std.proofs.Common.{None, [], refl, Some, inr, ◌++◌, ◌≡◌, ◌∙◌, ap, arith, sym}
 use denote.Param.{param}
 use Rattle.thin_block.specs.Growth.{doubling}
 use Rattle.thin_block.specs.GrowthLaws.{doubling_law}
@@ -19,7 +19,7 @@ returns-in-Ok-extend_unhinted-clause-runs g c =
       filled.0,
       filled.1,
       filled.2 ∙ ap (λ old. old ++ filled.0)
-          (c.reserve_first.ensures.items ∙ c.new-list.ensures.new.items),
+          (ap (λ v. v.items) c.reserve_first.ensures.changes ∙ c.new-list.ensures.new.items),
     )
 
 pub returns-in-Err-clause-err_named : goal.returns-in-Err-clause-err_named
@@ -40,7 +40,8 @@ returns-in-Err-extend_unhinted-clause-err_named g c =
 
 pub returns-in-Err-clause-runs_err : goal.returns-in-Err-clause-runs_err
 returns-in-Err-clause-runs_err g c =
-    let none = c.reserve_first.ensures.items ∙ c.new-list.ensures.new.items in
+    let none = ap (λ v. v.items) c.reserve_first.ensures.changes
+    ∙ c.new-list.ensures.new.items in
     run_given g.I.Iterator.next_gives c.args.iter [] None c.args.iter
     (λ l. l ≡ c.reserve_first.new.self.items ++ []) refl
     (ap (λ l. l ++ []) (sym none))
@@ -49,7 +50,7 @@ pub returns-in-Err-extend_unhinted-clause-runs_err : goal.returns-in-Err-extend_
 returns-in-Err-extend_unhinted-clause-runs_err g c =
     let placed = c.in-Err-extend_unhinted.ensures.placed in
     let items = placed.1 ∙ ap (λ old. old ++ placed.0)
-    (c.reserve_first.ensures.items ∙ c.new-list.ensures.new.items) in
+    (ap (λ v. v.items) c.reserve_first.ensures.changes ∙ c.new-list.ensures.new.items) in
     let hand = c.in-Err-extend_unhinted.refused.in_hand in
     run_given g.I.Iterator.next_gives c.args.iter placed.0 hand
     c.in-Err-extend_unhinted.refused.rest

@@ -1,4 +1,4 @@
--- Refused, what was placed is what the first calls gave.
+-- Where it fails, what was placed is what the first calls yielded.
 use Rattle.std.proofs.Common.{arith, ◌∙◌}
 use Rattle.thin_vec.proofs.ExtendLemmas.{yields-first}
 use Rattle.thin_vec.proofs.extend.ThinVecExtend.extend.Goals as goal

@@ -1,4 +1,4 @@
--- The items are those that the iterator gives from its start.
+-- The items are those that the iterator yields from its start.
 use Rattle.std.proofs.Common.{arith, ◌∙◌}
 use Rattle.thin_vec.proofs.extend.ThinVecFromIterator.from_iter.Goals as goal
 

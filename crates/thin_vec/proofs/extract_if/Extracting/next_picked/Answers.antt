@@ -26,7 +26,7 @@ returns-then-advance-clause-extracts g c =
       tail = search rules;
       capacity = search rules;
       alloc = search rules;
-      cost = ap (λ w. w.cost) c.take_first.ensures.same
+      cost = ap (λ w. w.cost) c.take_first.ensures.changes
           ∙ (ap (λ w. w.cost) a.now ∙ cost-of v.block.before v.block.cost a.count a.left
           (picked-room R (λ s. s.pick) a.count v.picks v.block.rest t a.left a.run));
     }

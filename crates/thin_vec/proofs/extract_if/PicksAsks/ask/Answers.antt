@@ -1,10 +1,10 @@
--- An item goes where the closure answers true: its answer is turned round twice.
+-- An item goes where the closure returns true: what it returns is negated twice.
 use Rattle.std.proofs.Common.{Bool, rules, sym, subst}
 use Rattle.std.specs.Fn.{CalledAtMut}
 use Rattle.thin_vec.proofs.ExtractLemmas.{not-not}
 use Rattle.thin_vec.proofs.extract_if.PicksAsks.ask.Goals as goal
 
--- the closure's answer is turned round twice
+-- what the closure returns is negated twice
 pub returns-clause-asked : goal.returns-clause-asked
 returns-clause-asked g c =
     let called : CalledAtMut g.F.FnMut c.args.self.now.pick c.args.item.now c.pick.result

@@ -1,4 +1,4 @@
--- The later item is handed first, and then the one that was kept.
+-- The later item is passed first, and then the one that was kept.
 use Rattle.std.proofs.Common.{arith, ◌∙◌}
 use Rattle.thin_vec.proofs.filters.MergingAsksPairs.ask.Goals as goal
 

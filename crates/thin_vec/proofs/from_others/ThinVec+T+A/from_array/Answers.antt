@@ -1,6 +1,7 @@
 -- The array's items lie in front.
 use Rattle.std.proofs.lemmas.Grind.{common_steps}
 use Rattle.std.proofs.Common.{◌++◌, ap, arith, length, sym, ◌∙◌}
+use Rattle.thin_block.proofs.BlockLemmas.{then-len}
 use Rattle.thin_block.specs.Slots.{items_in}
 use Rattle.thin_vec.proofs.TwoListsLemmas.{settle-more}
 use Rattle.thin_vec.proofs.ListLemmas.{Settled}
@@ -20,11 +21,8 @@ facts g c =
       c.in-Ok.ensures.capacity,
       ap (λ v. v.capacity) c.list.view_is,
     ))
-    (record {
-      slots = c.set_len.ensures.slots ∙ c.put_array.ensures.slots;
-      len = omega (arith, c.set_len.ensures.len, c.count-len.ensures.length);
-      alloc = c.set_len.ensures.alloc ∙ c.put_array.ensures.alloc;
-    })
+    (omega (arith, c.count-len.ensures.length))
+    (then-len c.set_len.ensures.changes c.put_array.ensures.changes)
 
 pub invariant_of-list : goal.invariant_of-list
 invariant_of-list g c = (facts g c).thin

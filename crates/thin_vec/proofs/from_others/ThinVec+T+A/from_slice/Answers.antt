@@ -1,4 +1,4 @@
--- A refusal is that of the room.
+-- It fails as making room does, or as a clone does.
 use Rattle.std.proofs.Common.{◌∙◌, arith}
 use Rattle.thin_vec.proofs.from_others.ThinVec+T+A.from_slice.Goals as goal
 

@@ -23,7 +23,7 @@ invariant_of-self-lent g c = λ w.
     let within : c.args.index < length (items_in c.self.inside.block.slots) =
     omega (arith, c.requires, ap (λ v. length v.items) c.self.view_is) in
     (settle-set c.self.invariant (block_with_item c.self.inside.block c.args.index w) c.args.index w
-    within (record { slots = refl; len = refl; alloc = refl })).thin
+    within refl).thin
 
 pub returns : goal.returns
 returns g c =

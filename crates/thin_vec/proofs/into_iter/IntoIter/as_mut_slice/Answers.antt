@@ -13,7 +13,7 @@ pub invariant_of-self-lent : goal.invariant_of-self-lent
 invariant_of-self-lent g c = λ w.
     (settle-written c.self.inside.block (block_with_items c.self.inside.block c.self.inside.start w)
     c.self.inside.alloc c.self.inside.start c.self.inside.end w
-    c.self.invariant refl refl).walked
+    c.self.invariant refl).walked
 
 pub returns : goal.returns
 returns g c = (

@@ -1,7 +1,8 @@
 -- The first slot that remains is filled, and then empty.
-use Rattle.std.proofs.Common.{◌+◌, ◌<◌, ◌∷◌, ap, sym, ◌∙◌, arith, drop, length}
+use Rattle.std.proofs.Common.{◌+◌, ◌<◌, ◌∷◌, ap, sym, ◌∙◌, arith, drop, length, refl, rules}
 use Rattle.thin_block.specs.Slots.{items_in}
 use Rattle.thin_vec.proofs.IntoIterLemmas.{Walking, first-item, settle-first, walked-filled}
+use Rattle.thin_vec.proofs.ListLemmas.{thin_of-keeps}
 use Rattle.thin_vec.proofs.into_iter.IntoIter.take_first.Goals as goal
 
 some : (g : _) (c : goal.After-take g) → c.self.inside.start < c.self.inside.end
@@ -31,7 +32,7 @@ facts : (g : _) (c : goal.After-take g) → Walking c.take.new.self c.self.insid
 facts g c =
     settle-first c.self.inside.block c.take.new.self c.self.inside.alloc c.self.inside.start
     c.self.inside.end c.take.result c.self.invariant (some g c)
-    c.take.ensures.value c.take.ensures.slots c.take.ensures.alloc
+    c.take.ensures.value c.take.ensures.changes
 
 pub invariant_of-self : goal.invariant_of-self
 invariant_of-self g c = (facts g c).walked
@@ -42,3 +43,7 @@ returns-clause-items g c =
     ∙ (first-item c.self.inside.block c.take.new.self c.self.inside.alloc c.self.inside.start
     c.self.inside.end c.take.result c.self.invariant (some g c) c.take.ensures.value
     ∙ ap (λ xs. c.take.result ∷ xs) (sym (facts g c).items))
+
+pub returns-clause-changes : goal.returns-clause-changes
+returns-clause-changes g c =
+    thin_of-keeps c.self.view_is c.take.new.self (facts g c).cap refl (search rules)

@@ -1,7 +1,8 @@
 -- The last item that remains leaves its slot, and the walk ends one slot sooner.
-use Rattle.std.proofs.Common.{◌-◌, ◌<◌, ◌≤◌, ◌∷◌, ◌++◌, [], ap, sym, ◌∙◌, arith, length, take}
+use Rattle.std.proofs.Common.{◌-◌, ◌<◌, ◌≤◌, ◌∷◌, ◌++◌, [], ap, sym, ◌∙◌, arith, length, take, refl, rules}
 use Rattle.thin_block.specs.Slots.{items_in}
 use Rattle.thin_vec.proofs.IntoIterLemmas.{Walking, last-item, settle-last, walked-filled}
+use Rattle.thin_vec.proofs.ListLemmas.{thin_of-keeps}
 use Rattle.thin_vec.proofs.into_iter.IntoIter.take_last.Goals as goal
 
 -- an item remains
@@ -13,7 +14,7 @@ some g c = omega (
   ap (λ v. length v.items) c.self.view_is,
 )
 
--- so the slot before the end is filled
+-- the slot before the end is filled
 pub take-requires : goal.take-requires
 take-requires g c =
     let it = c.self.inside in
@@ -34,8 +35,7 @@ facts : (g : _) (c : goal.After-take g)
 facts g c =
     let it = c.self.inside in
     settle-last it.block c.take.new.self it.alloc it.start it.end c.take.result
-    c.self.invariant (some g c)
-    c.take.ensures.slots c.take.ensures.alloc
+    c.self.invariant (some g c) c.take.ensures.changes
 
 pub invariant_of-self : goal.invariant_of-self
 invariant_of-self g c = (facts g c).walked
@@ -47,3 +47,7 @@ returns-clause-items g c =
     c.self.invariant (some g c) c.take.ensures.value in
     sym (ap (λ v. v.items) c.self.view_is)
     ∙ (parted ∙ ap (λ xs. xs ++ c.take.result ∷ []) (sym (facts g c).items))
+
+pub returns-clause-changes : goal.returns-clause-changes
+returns-clause-changes g c =
+    thin_of-keeps c.self.view_is c.take.new.self (facts g c).cap refl (search rules)

@@ -1,8 +1,9 @@
 -- The one list is cut, and the other has the items that left it.
-use Rattle.std.proofs.Common.{◌-◌, ◌++◌, ◌∙◌, ap, arith, drop, length, take}
+use Rattle.std.proofs.Common.{◌-◌, ◌++◌, ◌∙◌, ap, arith, drop, length, take, rules}
+use Rattle.thin_block.proofs.BlockLemmas.{then-len}
 use Rattle.thin_block.specs.Slots.{items_in}
 use Rattle.thin_vec.proofs.TwoListsLemmas.{settle-cut, settle-joined}
-use Rattle.thin_vec.proofs.ListLemmas.{Settled, thin-filled}
+use Rattle.thin_vec.proofs.ListLemmas.{Settled, thin-filled, thin_of-keeps}
 use Rattle.thin_vec.proofs.ThinVecLemmas.{within-kept}
 use Rattle.thin_vec.proofs.list.ThinVec.append_from.Goals as goal
 
@@ -25,11 +26,7 @@ cut g c =
     settle-cut c.other.invariant c.set_len.new.self c.args.start
     (omega (arith, c.requires.in_bounds, ap (λ v. length v.items) c.other.view_is))
     (ap (λ n. n - c.args.start) c.len.ensures.value)
-    (record {
-      slots = c.set_len.ensures.slots ∙ c.move_run_to.ensures.slots;
-      len = c.set_len.ensures.len;
-      alloc = c.set_len.ensures.alloc ∙ c.move_run_to.ensures.alloc;
-    })
+    (then-len c.set_len.ensures.changes c.move_run_to.ensures.changes)
 
 joined : (g : _) (c : goal.After-set_len-2 g)
     → Settled c.set_len-2.new.self c.self.inside.alloc
@@ -50,25 +47,13 @@ joined g c =
       ap (λ v. length v.items) c.other.view_is,
       ap (λ v. v.capacity) c.self.view_is,
     ))
-    (record {
-      slots = c.set_len-2.ensures.slots ∙ c.move_run_to.ensures.other_slots;
-      len = c.set_len-2.ensures.len;
-      alloc = c.set_len-2.ensures.alloc ∙ c.move_run_to.ensures.other_alloc;
-    })
+    (then-len c.set_len-2.ensures.changes c.move_run_to.ensures.other_changes)
 
 pub invariant_of-self : goal.invariant_of-self
 invariant_of-self g c = (joined g c).thin
 
 pub invariant_of-other : goal.invariant_of-other
 invariant_of-other g c = (cut g c).thin
-
-pub returns-clause-items : goal.returns-clause-items
-returns-clause-items g c = (joined g c).items
-    ∙ (λ i. (c.self.view_is i).items ++ drop c.args.start (c.other.view_is i).items)
-
-pub returns-clause-other_items : goal.returns-clause-other_items
-returns-clause-other_items g c = (cut g c).items
-    ∙ ap (λ v. take c.args.start v.items) c.other.view_is
 
 pub returns-clause-within : goal.returns-clause-within
 returns-clause-within g c =
@@ -78,8 +63,13 @@ pub returns-clause-other_within : goal.returns-clause-other_within
 returns-clause-other_within g c =
     within-kept _ _ _ _ _ _ c.other.invariant c.other.view_is c.len.ensures.slots_fit (cut g c)
 
-pub returns-clause-alloc : goal.returns-clause-alloc
-returns-clause-alloc g c = search (arith, ◌∙◌)
+pub returns-clause-changes : goal.returns-clause-changes
+returns-clause-changes g c =
+    thin_of-keeps c.self.view_is c.set_len-2.new.self (joined g c).cap
+    ((joined g c).items
+    ∙ (λ i. (c.self.view_is i).items ++ drop c.args.start (c.other.view_is i).items)) (search rules)
 
-pub returns-clause-other_alloc : goal.returns-clause-other_alloc
-returns-clause-other_alloc g c = search (arith, ◌∙◌)
+pub returns-clause-other_changes : goal.returns-clause-other_changes
+returns-clause-other_changes g c =
+    thin_of-keeps c.other.view_is c.set_len.new.self (cut g c).cap
+    ((cut g c).items ∙ ap (λ v. take c.args.start v.items) c.other.view_is) (search rules)

@@ -15,7 +15,7 @@ slice_mut-requires-clause-filled g c = λ i low high.
 pub invariant_of-self-lent : goal.invariant_of-self-lent
 invariant_of-self-lent g c =
     λ w. (settle-over c.self.invariant (block_with_items c.self.inside.block 0 w) w
-    (record { slots = refl; len = refl; alloc = refl })).thin
+    refl).thin
 
 pub returns : goal.returns
 returns g c = (

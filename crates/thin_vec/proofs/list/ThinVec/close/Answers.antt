@@ -1,8 +1,7 @@
 -- The items lie in front of the block that was closed.
-use Rattle.std.proofs.lemmas.Grind.{common_steps}
-use Rattle.std.proofs.Common.{arith, ap, sym, ◌∙◌}
+use Rattle.std.proofs.Common.{ap, sym, ◌∙◌, rules}
 use Rattle.thin_vec.specs.Open.{items_of}
-use Rattle.thin_vec.proofs.ListLemmas.{Settled, settled, thin-room}
+use Rattle.thin_vec.proofs.ListLemmas.{Settled, settled, thin-room, thin_of-becomes}
 use Rattle.thin_vec.proofs.list.ThinVec.close.Goals as goal
 
 facts : (g : _) (c : goal.After-release g) → Settled c.replace-none.new.dest c.self.inside.alloc
@@ -19,14 +18,10 @@ facts g c =
 pub invariant_of-self : goal.invariant_of-self
 invariant_of-self g c = (facts g c).thin
 
-pub returns-clause-items : goal.returns-clause-items
-returns-clause-items g c = (facts g c).items
-
 pub returns-clause-room : goal.returns-clause-room
 returns-clause-room g c = thin-room c.replace-none.new.dest c.self.inside.alloc (facts g c).thin
 
-pub returns-clause-alloc : goal.returns-clause-alloc
-returns-clause-alloc g c = search (arith, ◌∙◌)
-
-pub returns-clause-capacity : goal.returns-clause-capacity
-returns-clause-capacity g c = grind (arith, common_steps)
+pub returns-clause-changes : goal.returns-clause-changes
+returns-clause-changes g c =
+    thin_of-becomes c.self.view_is c.replace-none.new.dest (facts g c).cap (facts g c).items
+    (search rules)

@@ -1,4 +1,4 @@
--- What went in lies behind the front, and the tail moves where the gap was not full by then.
+-- What went in lies after the front, and the tail moves where the gap was not full by then.
 use Rattle.std.proofs.Common.{◌≡◌, ◌+◌, ◌-◌, ◌++◌, ◌∙◌, ap, arith, length, length-append}
 use Rattle.thin_vec.proofs.FillingLemmas.{closed-moves}
 use Rattle.thin_vec.proofs.list.ThinVec.close_filled.Goals as goal
@@ -8,7 +8,8 @@ returns g c =
     let v = c.args.block in
     let block = c.fill-rest.new.self in
     let gave = c.fill-rest.ensures.front in
-    let same = c.fill-rest.ensures.same in
+    let same = c.fill-rest.ensures.changes in
+    let closed = c.close.ensures.changes in
     let none = ap (λ z. z.rest) same ∙ c.requires.none in
     let tail = ap (λ z. z.tail) same in
     let ends : c.front_len-end.result ≡ length v.front + length gave.0 =
@@ -18,15 +19,15 @@ returns g c =
     record {
       items = (
         gave.0,
-        c.close.ensures.items ∙ (λ i. gave.1 i ++ (none i ++ tail i)),
+        ap (λ z. z.items) closed ∙ (λ i. gave.1 i ++ (none i ++ tail i)),
         ends,
         gave.3,
       );
-      capacity = c.close.ensures.capacity ∙ ap (λ z. z.capacity) same;
-      alloc = c.close.ensures.alloc;
+      capacity = ap (λ z. z.capacity) closed ∙ ap (λ z. z.capacity) same;
+      alloc = ap (λ z. z.alloc) closed;
       cost = (
         put.0,
-        c.close.ensures.cost ∙ put.1,
+        ap (λ z. z.cost) closed ∙ put.1,
         put.2,
         λ full. put.3 (c.fill-rest.ensures.full full),
       );

@@ -1,6 +1,7 @@
--- The copies lie behind the items.
+-- The copies lie after the items.
 use Rattle.std.proofs.lemmas.Grind.{common_steps}
-use Rattle.std.proofs.Common.{◌++◌, ◌∙◌, ap, arith, length}
+use Rattle.std.proofs.Common.{◌++◌, ◌∙◌, ap, arith, length, refl}
+use Rattle.thin_block.proofs.BlockLemmas.{then-len}
 use Rattle.thin_block.specs.Slots.{items_in}
 use Rattle.thin_vec.proofs.TwoListsLemmas.{settle-more}
 use Rattle.thin_vec.proofs.ListLemmas.{Settled}
@@ -19,11 +20,7 @@ facts g c =
       ap (λ v. length v.items) c.self.view_is,
       ap (λ v. v.capacity) c.self.view_is,
     ))
-    (record {
-      slots = c.store_len.ensures.slots ∙ c.copy_in.ensures.slots;
-      len = c.store_len.ensures.len;
-      alloc = c.store_len.ensures.alloc ∙ c.copy_in.ensures.alloc;
-    })
+    refl (then-len c.store_len.ensures.changes c.copy_in.ensures.changes)
 
 pub invariant_of-self : goal.invariant_of-self
 invariant_of-self g c = (facts g c).thin

@@ -1,4 +1,4 @@
--- No clone is refused where none can be; clones that are equal are the items.
+-- No clone fails where none can; clones that are equal are the items.
 use Rattle.std.proofs.Common.{arith, ◌++◌, ap, take_all, ◌∙◌}
 use Rattle.std.proofs.lemmas.List.Elements.{same_from_all_zip}
 use Rattle.thin_vec.proofs.ClonesLemmas.{not-all}

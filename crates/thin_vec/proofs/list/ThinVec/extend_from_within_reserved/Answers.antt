@@ -1,4 +1,4 @@
--- No clone is refused where none can be; clones that are equal are the items of the range.
+-- No clone fails where none can; clones that are equal are the items of the range.
 use Rattle.std.proofs.Common.{◌++◌, ap, arith, take_all, ◌∙◌}
 use Rattle.std.proofs.lemmas.List.Elements.{same_from_all_zip}
 use Rattle.std.specs.Prelude.{slice_range}

@@ -1,4 +1,4 @@
--- The iterator has ended, or gives one item more, for which there is no room.
+-- The iterator has ended, or yields one item more, for which there is no room.
 use Rattle.std.proofs.Common.{◌∙◌, arith}
 use Rattle.thin_vec.proofs.list.ThinVec.extend_reserved.Goals as goal
 

@@ -51,7 +51,7 @@ returns-in_default-clause-named g c =
     let u = c.loop-item.self in let w = c.extend_reserved-left.new.self in
     let now = c.extend_reserved-left.ensures.items in
     named-more g.G.Growth.rule (param 0 g.row.T) g.met.G.Growth.law c.args.self.now.capacity
-    (length u.items) (length w.items) c.extend_reserved-left.ensures.capacity
+    (length u.items) (length w.items) (ap (λ z. z.capacity) c.extend_reserved-left.ensures.changes)
     (omega (arith, ap length now.1, length-append u.items now.0)) c.loop-item.invariant.named
 
 pub returns-in-Err-clause-named : goal.returns-in-Err-clause-named
@@ -60,7 +60,7 @@ returns-in-Err-clause-named g c =
     let now = c.extend_reserved-left.ensures.items in
     rw c.in-Err.ensures.err
     (named-more g.G.Growth.rule (param 0 g.row.T) g.met.G.Growth.law c.args.self.now.capacity
-    (length u.items) (length w.items) c.extend_reserved-left.ensures.capacity
+    (length u.items) (length w.items) (ap (λ z. z.capacity) c.extend_reserved-left.ensures.changes)
     (omega (arith, ap length now.1, length-append u.items now.0)) c.loop-item.invariant.named)
 
 pub loop-item-preserved : goal.loop-item-preserved
@@ -82,13 +82,13 @@ loop-item-preserved g c =
     let v = c.args.self.now in let u = c.loop-item.self in
     let w = c.extend_reserved-left.new.self in let z = c.push.new.self in
     let pushed = c.in-Ok.ensures in
+    let kept = ap (λ y. y.capacity) c.extend_reserved-left.ensures.changes in
     let long = ap length pushed.items ∙ length_push w.items c.in-Some.item in
     let more = ap length now.1 ∙ length-append u.items now.0 in
     let some = ap length before.1 ∙ length-append v.items before.0 in
     let grown = loose-ruled rule T law w 1 z.capacity pushed.capacity in
     let spare = filled-spare u w (length w.items - length u.items)
-    c.extend_reserved-left.ensures.cost c.extend_reserved-left.ensures.capacity
-    (omega (arith, more)) in
+    c.extend_reserved-left.ensures.changes (omega (arith, more)) in
     let push = filled-at w z 1 pushed.cost long in
     let high = loose-le rule T law w.capacity z.capacity grown in
     let low = loose-le rule T law v.capacity u.capacity held.capacity in
@@ -103,12 +103,12 @@ loop-item-preserved g c =
       );
       nearer = omega (arith, held.nearer, nearer, long);
       capacity = loose-join rule T law v.capacity u.capacity z.capacity held.capacity
-          (subst (λ n. IsLoose rule T n z.capacity) c.extend_reserved-left.ensures.capacity grown);
+          (subst (λ n. IsLoose rule T n z.capacity) kept grown);
       never_less = omega (
         arith,
         held.never_less,
         pushed.never_less,
-        c.extend_reserved-left.ensures.capacity,
+        kept,
       );
       had_room = λ fit. let same = held.had_room fit in
           pushed.had_room (omega (
@@ -117,13 +117,13 @@ loop-item-preserved g c =
             held.nearer,
             nearer,
             same,
-            c.extend_reserved-left.ensures.capacity,
+            kept,
           ))
-          ∙ (c.extend_reserved-left.ensures.capacity ∙ same);
+          ∙ (kept ∙ same);
       cost = filled-join held.cost
-          (filled-join spare push (omega (arith, c.extend_reserved-left.ensures.capacity)) high
+          (filled-join spare push (omega (arith, kept)) high
           (omega (arith, more)))
-          low (omega (arith, high, c.extend_reserved-left.ensures.capacity)) (omega (arith, some));
+          low (omega (arith, high, kept)) (omega (arith, some));
       named = let full = at-some c.in-Some.is c.extend_reserved-left.ensures.full in
           inr (
             w.capacity,
@@ -132,7 +132,8 @@ loop-item-preserved g c =
             omega (arith, long),
             pushed.capacity,
           );
-      alloc = pushed.alloc ∙ (c.extend_reserved-left.ensures.alloc ∙ held.alloc);
+      alloc = pushed.alloc
+          ∙ (ap (λ y. y.alloc) c.extend_reserved-left.ensures.changes ∙ held.alloc);
       cheap = λ first. pushed.cheap (c.extend_reserved-left.ensures.cheap (held.cheap first));
     }
 
@@ -143,7 +144,14 @@ returns-in-Err-clause-succeeds g c = λ fit.
     let low = loose-le g.G.Growth.rule (param 0 g.row.T) g.met.G.Growth.law c.args.self.now.capacity
     c.loop-item.self.capacity held.capacity in
     c.in-Err.ensures.succeeds
-    (omega (arith, fit, held.nearer, nearer, low, c.extend_reserved-left.ensures.capacity))
+    (omega (
+      arith,
+      fit,
+      held.nearer,
+      nearer,
+      low,
+      ap (λ z. z.capacity) c.extend_reserved-left.ensures.changes,
+    ))
 
 pub returns-in-Err-clause-overflow : goal.returns-in-Err-clause-overflow
 returns-in-Err-clause-overflow g c =
@@ -162,11 +170,10 @@ returns-in-Err-clause-cost g c =
     let low = loose-le g.G.Growth.rule (param 0 g.row.T) g.met.G.Growth.law v.capacity
     u.capacity held.capacity in
     let spare = filled-spare u w (length w.items - length u.items)
-    c.extend_reserved-left.ensures.cost c.extend_reserved-left.ensures.capacity
-    (omega (arith, more)) in
+    c.extend_reserved-left.ensures.changes (omega (arith, more)) in
+    let kept = ap (λ z. z.capacity) c.extend_reserved-left.ensures.changes in
     rw c.in-Err.ensures.err
-    (filled-join held.cost spare low (omega (arith, c.extend_reserved-left.ensures.capacity))
-    (omega (arith, some)))
+    (filled-join held.cost spare low (omega (arith, kept)) (omega (arith, some)))
 
 pub returns-in-Err-clause-alloc : goal.returns-in-Err-clause-alloc
 returns-in-Err-clause-alloc g c = search (arith, ◌∙◌)

@@ -1,4 +1,4 @@
--- With no item behind the gap, the closed list is what is left, and `extend` says the rest.
+-- With no item after the gap, the closed list is what is left, and `extend` says the rest.
 use Rattle.std.proofs.Common.{◌≡◌, ◌*◌, ◌++◌, ◌∙◌, ap, arith, length, length-append, subst, sym}
 use Rattle.std.specs.Iterator.{size}
 use denote.Param.{param}
@@ -15,9 +15,8 @@ use Rattle.thin_vec.proofs.list.ThinVec.fill_behind.Goals as goal
 left : (g : _) (c : After-extend g)
     → c.close.new.self ≡ left_of c.args.block c.args.self.now.alloc
 left g c =
-    closed-left c.args.block c.close.new.self c.args.self.now.alloc c.requires.none
-    c.requires.no_tail c.close.ensures.items c.close.ensures.capacity c.close.ensures.alloc
-    c.close.ensures.cost
+    c.close.ensures.changes
+    ∙ closed-left c.args.block c.args.self.now c.requires.none c.requires.no_tail
 
 -- what became of that
 taken : (g : _) (c : After-extend g)

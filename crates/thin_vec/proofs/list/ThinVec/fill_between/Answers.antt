@@ -20,7 +20,7 @@ reached g c =
     reached-grown (filled-reached c.close_filled-end.ensures c.if-ended.false) c.reserve.new.self
     c.reserve.ensures.items
 
--- the list is opened behind that
+-- the list is opened after what filled the gap
 wide : (g : _) (c : After-close_filled-last g)
     → IsWide c.open_wide-wide.result c.reserve.new.self c.close_filled-end.result.0
     c.size_hint-hint.result.0
@@ -123,7 +123,7 @@ returns-then-over g c =
     tt tt tt
     (reached-taken here rule T law a w 0 n n (omega arith) (grown g at)
     (wide-taken q rule T n (g.I.Iterator.remaining c.close_filled-end.result.1) z
-    c.close_filled-end.result.0 hint there c.open_wide-wide.ensures.alloc
+    c.close_filled-end.result.0 hint there (ap (λ v. v.alloc) c.open_wide-wide.ensures.changes)
     (omega (arith, q.cost.2, reached-wide here hint there, reached-long here))))
     (named g at w.capacity (length w.items) (inl (q.capacity ∙ there.capacity)))
 
@@ -148,7 +148,7 @@ returns g c =
     (omega (arith, reached-long last))
     (reached-taken here rule T law a y 0 n n (omega arith) (grown g at)
     (wide-taken q rule T n (g.I.Iterator.remaining c.close_filled-end.result.1) z
-    c.close_filled-end.result.0 hint there c.open_wide-wide.ensures.alloc
+    c.close_filled-end.result.0 hint there (ap (λ v. v.alloc) c.open_wide-wide.ensures.changes)
     (omega (
       arith,
       q.cost.3 c.if-over.false,

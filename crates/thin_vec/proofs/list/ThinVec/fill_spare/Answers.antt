@@ -1,12 +1,13 @@
--- What the iterator gave lies behind the items, and the stored length counts both.
+-- What the iterator yielded lies after the items, and the stored length counts both.
+use Rattle.thin_block.proofs.BlockLemmas.{slots-are, then-len}
 use Rattle.std.proofs.lemmas.Grind.{common_steps}
-use Rattle.std.proofs.Common.{◌++◌, ◌-◌, ◌≡◌, ◌∙◌, ap, arith, length, length-append, ltb, subst}
+use Rattle.std.proofs.Common.{◌++◌, ◌-◌, ◌≡◌, ◌∙◌, ap, arith, length, length-append, ltb, subst, refl}
 use Rattle.thin_block.specs.Cost.{moving}
 use Rattle.thin_block.specs.Slots.{items_in}
 use Rattle.thin_vec.specs.Extend.{Gives}
 use Rattle.thin_vec.proofs.ExtendLemmas.{short-ends}
 use Rattle.thin_vec.proofs.TwoListsLemmas.{settle-more}
-use Rattle.thin_vec.proofs.ListLemmas.{Settled, thin-room}
+use Rattle.thin_vec.proofs.ListLemmas.{Settled, thin-room, thin_of-keeps}
 use Rattle.thin_vec.proofs.ThinVecLemmas.{within-kept}
 use Rattle.thin_vec.proofs.list.ThinVec.fill_spare.Goals as goal
 
@@ -16,12 +17,8 @@ facts : (g : _) (c : goal.After-set_len g) → Settled c.set_len.new.self c.self
 facts g c =
     let gave = c.put_iter-rest.ensures.slots in
     settle-more c.self.invariant c.set_len.new.self gave.0 c.len-len.result c.len-len.ensures.value
-    (omega (arith, gave.2, c.put_iter-rest.ensures.within, c.cap-cap.ensures.value))
-    (record {
-      slots = c.set_len.ensures.slots ∙ gave.1;
-      len = c.set_len.ensures.len ∙ gave.2;
-      alloc = c.set_len.ensures.alloc ∙ c.put_iter-rest.ensures.alloc;
-    })
+    (omega (arith, gave.2, c.put_iter-rest.ensures.within, c.cap-cap.ensures.value)) gave.2
+    (then-len c.set_len.ensures.changes (slots-are c.put_iter-rest.ensures.changes gave.1))
 
 -- where the items end
 ends : (g : _) (c : goal.After-set_len g) → length (items_in c.set_len.new.self.slots)
@@ -66,12 +63,13 @@ returns-clause-rest g c = λ left. c.put_iter-rest.ensures.rest (ended g c ∙ l
 pub returns-clause-room : goal.returns-clause-room
 returns-clause-room g c = thin-room c.set_len.new.self c.self.inside.alloc (facts g c).thin
 
-pub returns-clause-cost : goal.returns-clause-cost
-returns-clause-cost g c =
-    c.set_len.ensures.cost
-    ∙ (c.put_iter-rest.ensures.cost
+pub returns-clause-changes : goal.returns-clause-changes
+returns-clause-changes g c =
+    thin_of-keeps c.self.view_is c.set_len.new.self (facts g c).cap refl
+    (ap (λ v. v.cost) c.set_len.ensures.changes
+    ∙ (ap (λ v. v.cost) c.put_iter-rest.ensures.changes
     ∙ (ap (λ v. moving (c.put_iter-rest.result.1 - c.len-len.result) v.cost) c.self.view_is
-    ∙ ap (λ k. moving k c.args.self.now.cost) (omega (arith, ends g c, begins g c))))
+    ∙ ap (λ k. moving k c.args.self.now.cost) (omega (arith, ends g c, begins g c)))))
 
 pub returns-clause-nearer : goal.returns-clause-nearer
 returns-clause-nearer g c =
@@ -89,12 +87,6 @@ returns-clause-full g c = λ left. omega (
 pub returns-clause-within : goal.returns-clause-within
 returns-clause-within g c =
     within-kept _ _ _ _ _ _ c.self.invariant c.self.view_is c.len-len.ensures.slots_fit (facts g c)
-
-pub returns-clause-alloc : goal.returns-clause-alloc
-returns-clause-alloc g c = search (arith, ◌∙◌)
-
-pub returns-clause-capacity : goal.returns-clause-capacity
-returns-clause-capacity g c = grind (arith, common_steps)
 
 pub returns-clause-cheap : goal.returns-clause-cheap
 returns-clause-cheap g c = grind (arith, common_steps)

@@ -17,10 +17,10 @@ closed g c =
     let xs = c.args.self.now.items in
     let front : block.front ≡ take c.args.at xs ++ put.front.0 =
     put.front.2 ∙ ap (λ l. l ++ put.front.0) c.open_wide-block.ensures.front in
-    let rest : block.rest ≡ [] = ap (λ v. v.rest) put.same ∙ c.open_wide-block.ensures.rest in
+    let rest : block.rest ≡ [] = ap (λ v. v.rest) put.changes ∙ c.open_wide-block.ensures.rest in
     let tail : block.tail ≡ drop c.args.at xs =
-    ap (λ v. v.tail) put.same ∙ c.open_wide-block.ensures.tail in
-    c.close.ensures.items ∙ (λ i. front i ++ (rest i ++ tail i))
+    ap (λ v. v.tail) put.changes ∙ c.open_wide-block.ensures.tail in
+    ap (λ v. v.items) c.close.ensures.changes ∙ (λ i. front i ++ (rest i ++ tail i))
 
 count : (g : _) (c : goal.After-drop_range g)
     → length c.fill_from_clones-placed.ensures.front.0 ≡ c.fill_from_clones-placed.result
@@ -37,7 +37,7 @@ returns-then-placed-items-clause-succeeds g c = λ all. absurd
 
 pub returns-then-placed-items-clause-err_items : goal.returns-then-placed-items-clause-err_items
 returns-then-placed-items-clause-err_items g c =
-    c.drop_range.ensures.items
+    ap (λ v. v.items) c.drop_range.ensures.changes
     ∙ put-and-gone c.args.self.now.items c.fill_from_clones-placed.ensures.front.0 c.args.at
     c.requires.in_bounds
     (count g c) (closed g c)
@@ -49,18 +49,18 @@ returns-then-placed-items-clause-refused g c =
     let block = c.fill_from_clones-placed.new.self in
     let opened = at-most-if (eqb (length c.args.items.now) 0) (length xs - c.args.at)
     c.args.self.now.cost c.open_wide-block.result.cost c.open_wide-block.ensures.other_cost in
-    let filled = at-most-more opened put.in_bounds (ap (λ v. v.cost) put.same) in
+    let filled = at-most-more opened put.in_bounds (ap (λ v. v.cost) put.changes) in
     let behind : length block.rest + length block.tail ≡ length xs - c.args.at =
     omega (
       arith,
-      ap (λ v. length v.rest) put.same,
+      ap (λ v. length v.rest) put.changes,
       ap length c.open_wide-block.ensures.rest,
-      ap (λ v. length v.tail) put.same,
+      ap (λ v. length v.tail) put.changes,
       ap length c.open_wide-block.ensures.tail,
       length-drop c.args.at xs,
     ) in
     let shut = at-most-if (eqb block.before 0) (length block.rest + length block.tail) block.cost
-    c.close.new.self.cost c.close.ensures.cost in
+    c.close.new.self.cost (ap (λ v. v.cost) c.close.ensures.changes) in
     let joined = at-most-more filled shut.few shut.cost in
     let long : length c.close.new.self.items ≡ length xs + c.fill_from_clones-placed.result =
     omega (
@@ -76,5 +76,5 @@ returns-then-placed-items-clause-refused g c =
     let gone = at-most-more joined
     (if-le (eqb 0 (c.args.at + c.fill_from_clones-placed.result - c.args.at)) 0
     (length c.close.new.self.items - (c.args.at + c.fill_from_clones-placed.result)))
-    c.drop_range.ensures.cost in
+    (ap (λ v. v.cost) c.drop_range.ensures.changes) in
     at-most-le gone (omega (arith, behind, long))

@@ -15,7 +15,7 @@ use Rattle.thin_vec.proofs.list.ThinVec.insert_held.Goals as goal
 count : (g : _) (c : In-Err g) → c.len.result ≡ length c.hold-held.result.0.items
 count g c = c.len.ensures ∙ c.hold-held.result.0.ok.0
 
--- room is refused for some items alone
+-- making room fails for some items alone: for none it succeeds
 more : (g : _) (c : In-Err g) → 0 < length c.hold-held.result.0.items
 more g c = elim (cases_lt 0 (length c.hold-held.result.0.items)) [
   | inl some ↦ some
@@ -27,7 +27,7 @@ more g c = elim (cases_lt 0 (length c.hold-held.result.0.items)) [
 long : (g : _) (c : After-drop-rest g) → length c.insert_vec.new.self.items
     ≡ length c.reserve.new.self.items + length c.hold-held.result.0.items
 long g c =
-    ap length c.insert_vec.ensures.items
+    ap (λ v. length v.items) c.insert_vec.ensures.changes
     ∙ inserted-long c.reserve.new.self.items c.hold-held.result.0.items c.args.at
     (omega (arith, ap length c.reserve.ensures.items, c.requires.in_bounds))
 
@@ -88,7 +88,8 @@ pub returns-clause-named : goal.returns-clause-named
 returns-clause-named g c =
     let rule = g.G.Growth.rule in let T = param 0 g.row.T in
     let v = c.args.self.now in let u = c.reserve.new.self in let w = c.insert_vec.new.self in
-    subst (λ d. IsNamed rule T v.capacity d (length w.items)) (sym c.insert_vec.ensures.capacity)
+    let kept = c.insert_vec.ensures.changes in
+    subst (λ d. IsNamed rule T v.capacity d (length w.items)) (ap (λ z. z.capacity) (sym kept))
     (named-ruled rule T g.met.G.Growth.law v c.len.result u.capacity (length w.items)
     c.in_default-reserve.ensures.capacity
     (omega (
@@ -106,15 +107,15 @@ returns-clause-taken g c =
     let n = length v.items - c.args.at in
     let old = ap length c.reserve.ensures.items in
     let count = c.len.ensures ∙ c.hold-held.result.0.ok.0 in
-    let paid = c.insert_vec.ensures.cost in
+    let kept = c.insert_vec.ensures.changes in let paid = c.insert_vec.ensures.cost in
     taken-join rule T law v u c.insert_vec.new.self 0 n n left left (omega arith)
     (omega (arith, old)) (λ fit same. omega (arith, fit, same, old))
     (taken-reserved rule T law v u c.len.result left c.in_default-reserve.ensures.capacity
     c.reserve.ensures.items c.reserve.ensures.alloc c.in_default-reserve.ensures.cost
     c.reserve.ensures.cheap (omega (arith, count, c.hold-held.ensures.fewer)))
     (taken-spare rule T u c.insert_vec.new.self (length c.hold-held.result.0.items) paid.0 n left
-    paid.1 c.insert_vec.ensures.capacity (long g c) (omega (arith, paid.2, old))
-    c.insert_vec.ensures.alloc)
+    paid.1 (ap (λ z. z.capacity) kept) (long g c) (omega (arith, paid.2, old))
+    (ap (λ z. z.alloc) kept))
 
 pub returns-clause-items : goal.returns-clause-items
 returns-clause-items g c = search (arith, ◌∙◌)

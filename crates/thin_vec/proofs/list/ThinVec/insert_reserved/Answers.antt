@@ -3,6 +3,8 @@ use Rattle.std.proofs.Common.{Some, ◌+◌, ◌-◌, ap, ◌∙◌, length, ari
 use lib.ListN.{set}
 use Rattle.std.specs.Prelude.{insert}
 use Rattle.thin_vec.proofs.ListLemmas.{Settled, thin-filled}
+use Rattle.thin_block.specs.Block.{Seen}
+use Rattle.thin_block.specs.Cost.{moving}
 use Rattle.thin_block.specs.Slots.{items_in, slot}
 use Rattle.thin_vec.proofs.ThinVecLemmas.{within-kept}
 use Rattle.thin_vec.proofs.list.ThinVec.insert_reserved.Goals.{After-put_and_store}
@@ -24,7 +26,7 @@ move_run-requires-clause-filled g c = λ j low high.
 
 pub put_and_store-requires-clause-empty : goal.put_and_store-requires-clause-empty
 put_and_store-requires-clause-empty g c =
-    ap (λ s. slot s c.args.index) c.move_run.ensures.slots
+    ap (λ v. slot v.slots c.args.index) c.move_run.ensures.changes
     ∙ thin-gap c.self.invariant c.args.index
     (omega (arith, c.requires.in_bounds, ap (λ v. length v.items) c.self.view_is))
     (omega (
@@ -49,12 +51,12 @@ facts g c =
       ap (λ v. length v.items) c.self.view_is,
       ap (λ v. v.capacity) c.self.view_is,
     ))
-    refl (ap (λ n. n - c.args.index) c.len-len.ensures.value) (record {
-      slots = c.put_and_store.ensures.slots
-          ∙ ap (λ s. set s c.args.index (Some c.args.value)) c.move_run.ensures.slots;
-      len = c.put_and_store.ensures.len ∙ ap (λ n. n + 1) c.len-len.ensures.value;
-      alloc = c.put_and_store.ensures.alloc ∙ c.move_run.ensures.alloc;
-    })
+    refl (ap (λ n. n - c.args.index) c.len-len.ensures.value) c.len-len.ensures.value
+    (c.put_and_store.ensures.changes ∙ ap {A = Seen _ _} (λ v. record v {
+      slots = set v.slots c.args.index (Some c.args.value);
+      len = c.len-len.result + 1;
+      cost = moving 1 v.cost;
+    }) c.move_run.ensures.changes)
 
 pub invariant_of-self : goal.invariant_of-self
 invariant_of-self g c = (facts g c).thin

@@ -1,4 +1,4 @@
--- The moves of the items behind, and of those that went in.
+-- The moves of the items after the place, and of those that went in.
 use Rattle.std.proofs.Common.{◌≡◌, ◌-◌, ◌∙◌, ap, arith, length}
 use Rattle.thin_block.specs.Cost.{moving}
 use Rattle.thin_vec.proofs.FillingLemmas.{closed-moves, run-moves}
@@ -23,6 +23,6 @@ returns-clause-cost g c =
     let moves = run-moves c.len.result (length v.items - c.args.at) k put.0 v.cost block.cost
     c.open_wide-block.ensures.other_cost in (
       moves.0,
-      c.close.ensures.cost ∙ (put.1 ∙ moves.1),
+      ap (λ z. z.cost) c.close.ensures.changes ∙ (put.1 ∙ moves.1),
       omega (arith, moves.2, put.3 none),
     )

@@ -1,8 +1,9 @@
 -- The block is the one that the list had, its items cut into three runs with no slot between.
-use Rattle.std.proofs.Common.{◌≡◌, ◌≤◌, ap, sym, ◌∙◌, subst, arith, drop, length, take}
+use Rattle.std.proofs.Common.{◌≡◌, ◌≤◌, ap, sym, ◌∙◌, subst, arith, drop, length, take, rules}
 use Rattle.std.specs.Prelude.{slice_range}
 use Rattle.thin_block.specs.Slots.{items_in}
 use Rattle.thin_vec.specs.ThinVec.{IsThin}
+use Rattle.thin_vec.proofs.ListLemmas.{thin_of-becomes}
 use Rattle.thin_vec.proofs.OpenBlockLemmas.{Found, open-step, opened, opened-seen}
 use Rattle.thin_vec.proofs.list.ThinVec.open.Goals as goal
 
@@ -46,3 +47,10 @@ returns-clause-rest g c = ap (λ v. v.rest) (facts g c).view
 pub returns-clause-tail : goal.returns-clause-tail
 returns-clause-tail g c = ap (λ v. v.tail) (facts g c).view
     ∙ ap (λ xs. drop c.args.end xs) (same g c)
+
+pub returns-clause-changes : goal.returns-clause-changes
+returns-clause-changes g c =
+    let none = ap (λ b. b.slots) c.replace-block.ensures.after
+    ∙ ap (λ v. v.slots) c.none.ensures.new in
+    thin_of-becomes c.self.view_is c.replace-block.new.dest (ap length none) (ap items_in none)
+    (search rules)

@@ -1,7 +1,8 @@
 -- The last slot is filled, and then empty.
-use Rattle.std.proofs.Common.{◌≡◌, ◌+◌, ◌++◌, ◌∷◌, [], sym, ap, ◌∙◌, length, take, arith, ◌-◌}
-use Rattle.thin_vec.proofs.ListLemmas.{Settled, last-item, settle-pop, thin-filled}
+use Rattle.std.proofs.Common.{◌≡◌, ◌+◌, ◌++◌, ◌∷◌, [], sym, ap, ◌∙◌, length, take, arith, ◌-◌, refl, rules}
+use Rattle.thin_vec.proofs.ListLemmas.{Settled, last-item, settle-pop, thin-filled, thin_of-keeps}
 use Rattle.thin_block.specs.Slots.{items_in}
+use Rattle.thin_block.proofs.BlockLemmas.{then-len}
 use Rattle.thin_vec.proofs.list.ThinVec.pop_last.Goals as goal
 
 pub take-value-requires : goal.take-value-requires
@@ -31,11 +32,8 @@ facts : (g : _) (c : goal.After-store_len g) → Settled c.store_len.new.self c.
     (length c.self.inside.block.slots)
 facts g c =
     settle-pop c.self.invariant c.store_len.new.self c.take-value.result (c.len-last.result - 1)
-    (stored g c) c.take-value.ensures.value (record {
-      slots = c.store_len.ensures.slots ∙ c.take-value.ensures.slots;
-      len = c.store_len.ensures.len;
-      alloc = c.store_len.ensures.alloc ∙ c.take-value.ensures.alloc;
-    })
+    (stored g c) c.take-value.ensures.value
+    (then-len c.store_len.ensures.changes c.take-value.ensures.changes)
 
 pub invariant_of-self : goal.invariant_of-self
 invariant_of-self g c = (facts g c).thin
@@ -46,3 +44,7 @@ returns-clause-items g c =
     ∙ (last-item c.self.inside.block c.self.inside.alloc c.take-value.result (c.len-last.result - 1)
     c.self.invariant (stored g c) c.take-value.ensures.value
     ∙ ap (λ xs. xs ++ c.take-value.result ∷ []) (sym (facts g c).items))
+
+pub returns-clause-changes : goal.returns-clause-changes
+returns-clause-changes g c =
+    thin_of-keeps c.self.view_is c.store_len.new.self (facts g c).cap refl (search rules)

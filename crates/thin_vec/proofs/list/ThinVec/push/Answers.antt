@@ -1,4 +1,4 @@
--- Refused, nothing changed, and the item comes back.
+-- Where it fails, nothing changed, and the item comes back.
 use Rattle.std.proofs.Common.{arith, ◌∙◌}
 use Rattle.thin_vec.proofs.list.ThinVec.push.Goals as goal
 

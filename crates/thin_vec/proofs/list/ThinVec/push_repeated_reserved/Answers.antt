@@ -1,10 +1,11 @@
--- The clones lie behind the items.
-use Rattle.std.proofs.Common.{◌≡◌, ◌++◌, ap, arith, length, ◌∙◌}
+-- The clones lie after the items.
+use Rattle.std.proofs.Common.{◌≡◌, ◌++◌, ap, arith, length, ◌∙◌, refl, rules}
 use Rattle.std.proofs.lemmas.List.{length-replicate}
+use Rattle.thin_block.proofs.BlockLemmas.{slots-are, then-len}
 use Rattle.thin_block.specs.Slots.{items_in}
 use Rattle.thin_vec.proofs.ClonesLemmas.{all-repeated, length-copies}
 use Rattle.thin_vec.proofs.TwoListsLemmas.{settle-more}
-use Rattle.thin_vec.proofs.ListLemmas.{Settled}
+use Rattle.thin_vec.proofs.ListLemmas.{Settled, thin_of-keeps}
 use Rattle.thin_vec.proofs.ThinVecLemmas.{within-kept}
 use Rattle.thin_vec.proofs.list.ThinVec.push_repeated_reserved.Goals as goal
 
@@ -32,11 +33,9 @@ facts g c =
       ap (λ v. length v.items) c.self.view_is,
       ap (λ v. v.capacity) c.self.view_is,
     ))
-    (record {
-      slots = c.set_len.ensures.slots ∙ put.slots.slots;
-      len = omega (arith, c.set_len.ensures.len, many g c);
-      alloc = c.set_len.ensures.alloc ∙ put.alloc;
-    })
+    (omega (arith, many g c))
+    (then-len c.set_len.ensures.changes
+    (slots-are put.changes put.slots.slots))
 
 pub invariant_of-self : goal.invariant_of-self
 invariant_of-self g c = (facts g c).thin
@@ -56,5 +55,6 @@ pub returns-clause-within : goal.returns-clause-within
 returns-clause-within g c =
     within-kept _ _ _ _ _ _ c.self.invariant c.self.view_is c.len-len.ensures.slots_fit (facts g c)
 
-pub returns-clause-alloc : goal.returns-clause-alloc
-returns-clause-alloc g c = search (arith, ◌∙◌)
+pub returns-clause-changes : goal.returns-clause-changes
+returns-clause-changes g c =
+    thin_of-keeps c.self.view_is c.set_len.new.self (facts g c).cap refl (search rules)

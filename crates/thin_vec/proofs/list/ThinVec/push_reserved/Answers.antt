@@ -1,4 +1,4 @@
--- The value lies behind the items.
+-- The value lies after the items.
 use Rattle.std.proofs.Common.{◌++◌, ◌∷◌, [], ap, ◌∙◌, length, arith}
 use Rattle.thin_vec.proofs.ListLemmas.{Settled, settle-push}
 use Rattle.thin_block.specs.Slots.{items_in}
@@ -19,11 +19,7 @@ facts g c =
       ap (λ v. length v.items) c.self.view_is,
       ap (λ v. v.capacity) c.self.view_is,
     ))
-    (record {
-      slots = c.put_and_store.ensures.slots;
-      len = c.put_and_store.ensures.len;
-      alloc = c.put_and_store.ensures.alloc;
-    })
+    c.put_and_store.ensures.changes
 
 pub invariant_of-self : goal.invariant_of-self
 invariant_of-self g c = (facts g c).thin

@@ -1,7 +1,10 @@
--- One slot is emptied, and those behind it close the gap.
+-- One slot is emptied, and those after it close the gap.
 use Rattle.std.proofs.Common.{◌+◌, ◌-◌, ap, ◌∙◌, length, arith, refl}
 use Rattle.std.specs.Prelude.{remove}
 use Rattle.thin_vec.proofs.ListLemmas.{Settled, thin-filled, thin-get, kept-filled}
+use Rattle.thin_block.proofs.BlockLemmas.{then-len}
+use Rattle.thin_block.specs.Block.{Seen}
+use Rattle.thin_block.specs.Cost.{moving}
 use Rattle.thin_block.specs.Slots.{items_in, moved}
 use Rattle.thin_vec.proofs.ThinVecLemmas.{within-kept}
 use Rattle.thin_vec.proofs.list.ThinVec.remove.Goals.{After-store_len}
@@ -20,7 +23,7 @@ pub move_down-requires-clause-filled : goal.move_down-requires-clause-filled
 move_down-requires-clause-filled g c = λ j low high.
     kept-filled c.self.inside.block c.self.inside.alloc c.args.index j _ c.self.invariant
     (omega arith) (omega (arith, high, c.len-len.ensures.value, c.self.invariant.packed.len))
-    c.take-value.ensures.slots
+    (ap (λ v. v.slots) c.take-value.ensures.changes)
 
 pub returns-clause-value : goal.returns-clause-value
 returns-clause-value g c =
@@ -36,13 +39,12 @@ facts g c =
     let behind = c.len-len.result - (c.args.index + 1) in
     settle-remove c.self.invariant c.store_len.new.self c.args.index
     (omega (arith, c.requires.in_bounds, ap (λ v. length v.items) c.self.view_is)) refl
-    (ap (λ n. n - (c.args.index + 1)) c.len-len.ensures.value) (record {
-      slots = c.store_len.ensures.slots ∙ (c.move_down.ensures.slots
-          ∙ ap (λ s. moved (c.args.index + 1) c.args.index behind s) c.take-value.ensures.slots);
-      len = c.store_len.ensures.len ∙ ap (λ n. n - 1) c.len-len.ensures.value;
-      alloc = c.store_len.ensures.alloc
-          ∙ (c.move_down.ensures.alloc ∙ c.take-value.ensures.alloc);
-    })
+    (ap (λ n. n - (c.args.index + 1)) c.len-len.ensures.value) c.len-len.ensures.value
+    (then-len c.store_len.ensures.changes (c.move_down.ensures.changes
+    ∙ ap {A = Seen _ _} (λ v. record v {
+      slots = moved (c.args.index + 1) c.args.index behind v.slots;
+      cost = moving behind v.cost;
+    }) c.take-value.ensures.changes))
 
 pub invariant_of-self : goal.invariant_of-self
 invariant_of-self g c = (facts g c).thin

@@ -15,7 +15,7 @@ returns-clause-capacity g c =
     ∙ (ruled-at _ _ c.args.self.now.capacity
     (length c.args.self.now.items + c.saturating_sub.result) refl refl g.G.Growth.rule
     ∙ (c.in-Ok.ensures.capacity
-    ∙ ap (λ n. Some n) (sym c.replace_reserved_from_copies.ensures.capacity)))
+    ∙ ap (λ n. Some n) (ap (λ v. v.capacity) (sym c.replace_reserved_from_copies.ensures.changes))))
 
 pub returns-clause-overflow : goal.returns-clause-overflow
 returns-clause-overflow g c = λ none. absurd (none-some none (returns-clause-capacity g c))

@@ -25,7 +25,7 @@ extend_from_slice_reserved-requires g c =
                 c.in_ok-insert_clones_reserved.ensures.items,
             c.split_at.ensures.back_len,
             c.split_at.ensures.front_len,
-            c.in_ok-insert_clones_reserved.ensures.capacity,
+            ap (λ v. v.capacity) c.insert_clones_reserved.ensures.changes,
             c.requires.room,
           );
     }
@@ -44,7 +44,7 @@ drop_range-requires-clause-in_bounds g c =
 pub returns-in-Err-clause-err_items : goal.returns-in-Err-clause-err_items
 returns-in-Err-clause-err_items g c =
     let put = c.in_ok-insert_clones_reserved.ensures.items in
-    c.drop_range.ensures.items
+    ap (λ v. v.items) c.drop_range.ensures.changes
     ∙ put-and-gone c.args.self.now.items put.copies c.args.end c.requires.in_bounds
     (sym (length_all_zip g.T.Clone.is_clone c.split_at.result.1.now put.copies put.cloned))
     (c.in-Err.ensures.err_items ∙ put.items)
@@ -69,7 +69,7 @@ returns-in-Err-clause-refused g c =
     let gone = at-most-more tried
     (if-le (eqb 0 (c.args.end + k2 - c.args.end)) 0
     (length c.extend_from_slice_reserved.new.self.items - (c.args.end + k2)))
-    c.drop_range.ensures.cost in
+    (ap (λ v. v.cost) c.drop_range.ensures.changes) in
     at-most-le gone
     (omega (
       arith,
@@ -105,7 +105,7 @@ returns-clause-items g c =
           (all_zip-append g.T.Clone.is_clone c.split_at.result.0.now c.split_at.result.1.now
           more.0 put.copies more.2 put.cloned);
       items =
-          c.replace_by_last.ensures.items
+          ap (λ v. v.items) c.replace_by_last.ensures.changes
           ∙ brought-in c.args.self.now.items c.args.start c.args.end c.requires.start_le_end
           c.requires.in_bounds more.0 put.copies
           (sym (length_all_zip g.T.Clone.is_clone c.split_at.result.0.now more.0 more.2))
@@ -137,7 +137,7 @@ returns-clause-cost g c =
     let past : w - k1 - c.args.end ≡ n - c.args.end + k2 =
     omega (arith, all, c.requires.in_bounds) in
     let sum = cloning-moves parted (n - c.args.end) none past in
-    c.replace_by_last.ensures.cost
+    ap (λ v. v.cost) c.replace_by_last.ensures.changes
     ∙ (ap (λ q. moving (k1 + (if eqb k1 (c.args.end - c.args.start) then 0
     else w - k1 - c.args.end)) q)
     (c.in_default.ensures.cost ∙ (ap (λ q. moving k1 q)

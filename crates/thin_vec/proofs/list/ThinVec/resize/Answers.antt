@@ -1,4 +1,4 @@
--- The list is shorter, or clones and the value lie behind the items.
+-- The list is shorter, or clones and the value lie after the items.
 use Rattle.std.proofs.lemmas.Grind.{common_steps}
 use Rattle.std.proofs.Common.{◌≡◌, ◌+◌, ◌-◌, ◌++◌, ap, arith, inr, length, replicate, subst, sym, take, take_all, ◌∙◌}
 use Rattle.std.specs.Prelude.{OnOk, Some}
@@ -46,7 +46,7 @@ returns-clause-refused g c =
     let old = c.len-old.ensures.value in
     let grown = c.reserve.new.self in
     let new = c.resize_reserved.new.self in
-    let capacity = sym c.resize_reserved.ensures.capacity in
+    let capacity = sym (ap (λ w. w.capacity) c.resize_reserved.ensures.changes) in
     let paid : grown.cost ≡ cost_at v new.capacity = c.in_ok-reserve.ensures.cost
     ∙ ap (λ n. cost_at v n) capacity in
     on-err c.resize_reserved.result (λ stops. inr (record {

@@ -6,7 +6,8 @@ use Rattle.thin_vec.proofs.list.ThinVec.ruled.Goals as goal
 
 pub returns-clause-within : goal.returns-clause-within
 returns-clause-within g c =
-    within-none _ _ (ap items_in c.none.ensures.slots) (ap length c.none.ensures.slots)
+    within-none _ _ (ap (λ v. items_in v.slots) c.none.ensures.new)
+    (ap (λ v. length v.slots) c.none.ensures.new)
 
 pub returns-clause-new : goal.returns-clause-new
 returns-clause-new g c = search (arith, ◌∙◌)

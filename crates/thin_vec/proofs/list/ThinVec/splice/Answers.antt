@@ -1,4 +1,4 @@
--- The range goes out, and what lies behind it stays behind.
+-- The range goes out, and what lies after it stays there.
 use Rattle.std.proofs.Common.{arith, ◌∙◌}
 use Rattle.std.proofs.lemmas.Grind.{common_steps}
 use Rattle.thin_vec.proofs.list.ThinVec.splice.Goals as goal

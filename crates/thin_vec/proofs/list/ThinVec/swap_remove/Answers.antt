@@ -1,6 +1,7 @@
 -- One slot is emptied, and the last item takes it.
 use Rattle.std.proofs.Common.{◌-◌, sym, ap, ◌∙◌, length, arith}
 use Rattle.std.specs.List.{slice_get, swap_remove}
+use Rattle.thin_block.proofs.BlockLemmas.{then-len}
 use Rattle.thin_block.specs.Slots.{items_in}
 use Rattle.thin_vec.proofs.EditsLemmas.{settle-replaced}
 use Rattle.thin_vec.proofs.ListLemmas.{Settled, thin-filled, thin-get}
@@ -45,11 +46,7 @@ facts g c =
       long,
     ))
     c.take_replacing-value.ensures.value
-    (record {
-      slots = c.store_len.ensures.slots ∙ c.take_replacing-value.ensures.slots;
-      len = c.store_len.ensures.len;
-      alloc = c.store_len.ensures.alloc ∙ c.take_replacing-value.ensures.alloc;
-    })
+    (then-len c.store_len.ensures.changes c.take_replacing-value.ensures.changes)
 
 pub invariant_of-self : goal.invariant_of-self
 invariant_of-self g c = (facts g c).thin

@@ -2,6 +2,7 @@
 use Rattle.std.proofs.Common.{[], ◌∙◌, ap, arith, length, subst}
 use denote.Param.{param}
 use Rattle.thin_block.specs.Capacity.{Fits}
+use Rattle.thin_block.proofs.BlockLemmas.{then-len}
 use Rattle.thin_block.specs.Slots.{items_in}
 use Rattle.thin_block.proofs.CapacityLemmas.{fits-bytes}
 use Rattle.thin_block.proofs.SlotsLemmas.{packed-emptied, packed-filled, packed-le, packed-run}
@@ -29,11 +30,9 @@ facts : (g : _) (c : goal.After-set_len g) → Settled c.set_len.new.self c.self
 facts g c =
     let packed = thin-packed c.self.inside.block c.self.inside.alloc g.row.N c.self.invariant
     (ap (λ v. length v.items) c.self.view_is ∙ c.requires.all) in
-    settle-emptied c.self.inside.block c.set_len.new.self c.self.inside.alloc c.self.invariant.from
-    (c.set_len.ensures.slots
-    ∙ (c.take_array-items.ensures.slots
-    ∙ packed-emptied c.self.inside.block.slots g.row.N packed))
-    c.set_len.ensures.len (c.set_len.ensures.alloc ∙ c.take_array-items.ensures.alloc)
+    settle-emptied c.self.invariant c.set_len.new.self
+    (then-len c.set_len.ensures.changes c.take_array-items.ensures.changes)
+    (packed-emptied c.self.inside.block.slots g.row.N packed)
 
 pub invariant_of-self : goal.invariant_of-self
 invariant_of-self g c = (facts g c).thin

@@ -1,7 +1,7 @@
 -- The items from `len` on leave one by one; once all have left, the list is the shorter one.
 use Rattle.std.proofs.Common.{◌≡◌, ◌≤◌, sym, ap, ◌∙◌, length, take, arith, None}
 use lib.ListN.{set}
-use Rattle.thin_block.specs.Slots.{front}
+use Rattle.thin_block.specs.Slots.{front, items_in}
 use Rattle.thin_vec.proofs.EditsLemmas.{emptying, emptying-none, emptying-filled, emptying-take, emptying-all}
 use Rattle.thin_vec.proofs.ListLemmas.{Settled, settled, thin-room}
 use Rattle.std.proofs.lemmas.List.{length-take, length-take-le}
@@ -11,14 +11,15 @@ use Rattle.thin_vec.proofs.list.ThinVec.truncate.Goals as goal
 pub loop-i-init : goal.loop-i-init
 loop-i-init g c =
     let row = ap (λ v. front v.items v.capacity) c.self.view_is in
+    let stored = c.store_len.ensures.changes in
     record {
-      slots = c.store_len.ensures.slots
+      slots = ap (λ v. v.slots) stored
           ∙ (c.self.invariant.packed.row
           ∙ (row ∙ sym (emptying-none c.args.self.now.items c.args.len c.args.self.now.capacity)));
-      len = c.store_len.ensures.len;
-      from = λ x e. c.self.invariant.from x (sym c.store_len.ensures.alloc ∙ e);
+      len = ap (λ v. v.len) stored;
+      from = λ x e. c.self.invariant.from x (sym (ap (λ v. v.alloc) stored) ∙ e);
       alloc = ap (λ v. v.alloc) c.self.view_is;
-      cost = c.store_len.ensures.cost ∙ ap (λ v. v.cost) c.self.view_is;
+      cost = ap (λ v. v.cost) stored ∙ ap (λ v. v.cost) c.self.view_is;
     }
 
 pub take-requires : goal.take-requires
@@ -36,15 +37,16 @@ loop-i-preserved g c =
     let n : c.len-old.result ≡ length c.args.self.now.items = c.len-old.ensures.value
     ∙ (c.self.invariant.packed.len ∙ ap (λ v. length v.items) c.self.view_is) in
     let h = c.loop-i.invariant in
+    let took = c.take.ensures.changes in
     record {
-      slots = c.take.ensures.slots
+      slots = ap (λ v. v.slots) took
           ∙ (ap (λ s. set s c.loop-i.i None) h.slots
           ∙ emptying-take c.args.self.now.items c.args.len c.loop-i.i c.args.self.now.capacity
           c.loop-i.auto.i (omega (arith, c.loop-i-test.true, n)));
-      len = c.take.ensures.len ∙ h.len;
-      from = λ x e. h.from x (sym c.take.ensures.alloc ∙ e);
+      len = ap (λ v. v.len) took ∙ h.len;
+      from = λ x e. h.from x (sym (ap (λ v. v.alloc) took) ∙ e);
       alloc = h.alloc;
-      cost = c.take.ensures.cost ∙ h.cost;
+      cost = ap (λ v. v.cost) took ∙ h.cost;
     }
 
 facts : (g : _) (c : goal.After-loop-i g)
@@ -90,3 +92,11 @@ returns-clause-within g c =
             before.room,
           )),
     )
+
+pub returns-clause-changes : goal.returns-clause-changes
+returns-clause-changes g c = λ i. record {
+  items = items_in c.loop-i.self-inside.block.slots;
+  capacity = (facts g c).cap i;
+  alloc = c.loop-i.invariant.alloc i;
+  cost = c.loop-i.invariant.cost i;
+}

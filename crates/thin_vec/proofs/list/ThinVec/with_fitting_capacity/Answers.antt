@@ -7,8 +7,8 @@ use Rattle.thin_vec.proofs.CapacityLemmas.{settle-new}
 use Rattle.thin_vec.proofs.list.ThinVec.with_fitting_capacity.Goals as goal
 
 facts : (g : _) (c : In_ok-block g) → Settled c.in_ok-block.block c.args.alloc [] c.args.capacity
-facts g c = settle-new c.in_ok-block.block c.args.alloc c.args.capacity c.in_ok-block.ensures.slots
-    c.in_ok-block.ensures.len c.in_ok-block.ensures.alloc
+facts g c =
+    settle-new c.in_ok-block.block c.args.alloc c.args.capacity c.in_ok-block.ensures.ok
 
 pub invariant_of-result : goal.invariant_of-result
 invariant_of-result g c = (facts g c).thin

@@ -11,12 +11,12 @@ returns-clause-advances g c =
     let run = c.ask_run-count in
     let none : 0 < v.before → ⊥ =
     λ some. false≢true (sym c.if-has_gap.false ∙ c.has_gap.ensures.value.1 some) in
-    let run-cost : run.new.self.cost ≡ v.cost = ap (λ u. u.cost) run.ensures.same in
+    let run-cost : run.new.self.cost ≡ v.cost = ap (λ u. u.cost) run.ensures.changes in
     record {
       count = run.result;
       left = run.new.self.rest;
       run = run.ensures.asked;
-      now = c.pass.ensures ∙ (λ i. let u = run.ensures.same i in record u {
+      now = c.pass.ensures ∙ (λ i. let u = run.ensures.changes i in record u {
         front = u.front ++ take run.result run.new.self.rest;
         rest = drop run.result run.new.self.rest;
         cost = (run-cost ∙ sym (moving-before v.before run.result v.cost none)) i;

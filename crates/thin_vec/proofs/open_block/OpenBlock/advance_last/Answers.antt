@@ -36,10 +36,10 @@ returns-then-ask-clause-advances g c =
       left = ys;
       run = stays-end R 0 1 s v.rest t ys (one-stays R s v.rest t ys (search rules))
           (omega (arith, c.requires.short, asked-count R 0 _ _ _ _ _ c.ask.ensures.asked));
-      now = c.lower_one.ensures ∙ (λ i. let u = c.ask.ensures.same i in record u {
+      now = c.move_one_down.ensures ∙ (λ i. let u = c.ask.ensures.changes i in record u {
         front = u.front ++ take 1 ys;
         rest = drop 1 ys;
-        cost = (ap (λ w. moving 1 w.cost) c.ask.ensures.same
+        cost = (ap (λ w. moving 1 w.cost) c.ask.ensures.changes
             ∙ sym (moving-behind v.before 1 v.cost c.requires.gap)) i;
       });
     }
@@ -57,15 +57,15 @@ returns-clause-advances g c =
       left = ys;
       run = stays-goes R 0 0 s v.rest s v.rest (stays-start R 0 s v.rest (omega arith)) t ys
           (search rules);
-      now = c.ask.ensures.same ∙ (λ i. record v {
+      now = c.ask.ensures.changes ∙ (λ i. record v {
         front = sym (append-nil v.front) i;
         rest = ys;
         cost = (sym (moving-none v.cost) ∙ sym (moving-behind v.before 0 v.cost c.requires.gap)) i;
       });
     }
 
-pub lower_one-requires-clause-some : goal.lower_one-requires-clause-some
-lower_one-requires-clause-some g c = grind (arith, common_steps)
+pub move_one_down-requires-clause-some : goal.move_one_down-requires-clause-some
+move_one_down-requires-clause-some g c = grind (arith, common_steps)
 
 pub returns-then-ask-clause-goes : goal.returns-then-ask-clause-goes
 returns-then-ask-clause-goes g c = grind (arith, common_steps)

@@ -1,4 +1,4 @@
--- The first item goes, or the second, or both stay and are one run with those behind them.
+-- The first item goes, or the second, or both stay and are one run with those after them.
 use Rattle.std.proofs.Common.{◌≡◌, ◌++◌, ◌∙◌, ap, arith, drop, rules, sym, take}
 use Rattle.std.proofs.lemmas.List.{append-nil}
 use Rattle.thin_block.specs.Cost.{moving}
@@ -19,7 +19,7 @@ returns-then-not-ask-clause-advances g c =
       left = ys;
       run = stays-goes R 0 0 s v.rest s v.rest (stays-start R 0 s v.rest (omega arith)) t ys
           (search rules);
-      now = c.ask.ensures.same ∙ (λ i. record v {
+      now = c.ask.ensures.changes ∙ (λ i. record v {
         front = sym (append-nil v.front) i;
         rest = ys;
         cost = (sym (moving-none v.cost) ∙ sym (moving-behind v.before 0 v.cost c.requires.gap)) i;
@@ -41,7 +41,7 @@ returns-then-not-ask-2-clause-advances g c =
       run = stays-goes R 0 1 s v.rest c.ask.new.judge c.ask.new.self.rest
           (one-stays R s v.rest c.ask.new.judge c.ask.new.self.rest (search rules)) t ys
           (search rules);
-      now = c.lower_one.ensures ∙ (λ i. let u = asked i in record u {
+      now = c.move_one_down.ensures ∙ (λ i. let u = asked i in record u {
         front = u.front ++ take 1 ys;
         rest = drop 1 ys;
         cost = (ap (λ w. moving 1 w.cost) asked
@@ -65,7 +65,7 @@ returns-clause-advances g c =
       run = runs-join R 2 n s v.rest c.ask-2.new.judge c.ask-2.new.self.rest t ys
           (two-stay R s v.rest c.ask.new.judge c.ask.new.self.rest c.ask-2.new.judge
           c.ask-2.new.self.rest (search rules) (search rules)) c.ask_run-count.ensures.asked;
-      now = c.lower.ensures ∙ (λ i. let u = asked i in record u {
+      now = c.move_down.ensures ∙ (λ i. let u = asked i in record u {
         front = u.front ++ take n ys;
         rest = drop n ys;
         cost = (ap (λ w. moving n w.cost) asked
@@ -79,11 +79,11 @@ returns-then-not-ask-clause-goes g c = grind (arith, common_steps)
 pub ask-requires-2-clause-in_bounds : goal.ask-requires-2-clause-in_bounds
 ask-requires-2-clause-in_bounds g c = grind (arith, common_steps)
 
-pub lower_one-requires-clause-some : goal.lower_one-requires-clause-some
-lower_one-requires-clause-some g c = grind (arith, common_steps)
+pub move_one_down-requires-clause-some : goal.move_one_down-requires-clause-some
+move_one_down-requires-clause-some g c = grind (arith, common_steps)
 
 pub ask_run-count-requires-clause-in_bounds : goal.ask_run-count-requires-clause-in_bounds
 ask_run-count-requires-clause-in_bounds g c = grind (arith, common_steps)
 
-pub lower-requires-clause-in_bounds : goal.lower-requires-clause-in_bounds
-lower-requires-clause-in_bounds g c = grind (arith, common_steps)
+pub move_down-requires-clause-in_bounds : goal.move_down-requires-clause-in_bounds
+move_down-requires-clause-in_bounds g c = grind (arith, common_steps)

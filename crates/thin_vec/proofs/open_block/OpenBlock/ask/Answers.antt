@@ -21,12 +21,10 @@ low g c = omega (arith, c.requires.in_bounds, ap (λ v. length v.rest) c.self.vi
 -- the item that was asked about, and what the block shows afterwards
 facts : (g : _) (c : goal.After-self-1 g) → Written c.self.inside c.self.invariant
     (with_item c.self.inside.block (c.self.inside.rest_start + c.args.k) c.ask.new.item)
-    refl refl c.args.k
-    (low g c) c.slot_mut.result.now c.ask.new.item
+    c.args.k (low g c) c.slot_mut.result.now c.ask.new.item
 facts g c = write-step c.self.inside c.self.invariant
     (with_item c.self.inside.block (c.self.inside.rest_start + c.args.k) c.ask.new.item)
-    refl refl c.args.k
-    (low g c) c.slot_mut.result.now c.ask.new.item c.slot_mut.ensures.value refl
+    c.args.k (low g c) c.slot_mut.result.now c.ask.new.item c.slot_mut.ensures.value refl
 
 pub invariant_of-self : goal.invariant_of-self
 invariant_of-self g c = (facts g c).shown.lies
@@ -45,6 +43,6 @@ returns-clause-asked g c =
       now = ap (λ v. v.rest) f.shown.view;
     }
 
-pub returns-clause-same : goal.returns-clause-same
-returns-clause-same g c = let seen = (facts g c).shown.view in
+pub returns-clause-changes : goal.returns-clause-changes
+returns-clause-changes g c = let seen = (facts g c).shown.view in
     seen ∙ (λ i. record (c.self.view_is i) { rest = (sym seen i).rest })

@@ -18,7 +18,7 @@ facts : (g : _) (c : goal.After-self-1 g) → WrittenLast c.self.inside
 facts g c =
     write-last-step c.self.inside c.self.invariant
     (with_item c.self.inside.block (c.self.inside.front_end - 1) c.ask.new.kept)
-    c.ask.new.kept (refl, refl)
+    c.ask.new.kept
     (omega (arith, c.requires.some, ap (λ v. length v.front) c.self.view_is))
     c.slot_mut.ensures.value refl
 
@@ -37,6 +37,6 @@ returns-clause-asked g c =
       now = ap (λ v. v.front) f.shown.view;
     }
 
-pub returns-clause-same : goal.returns-clause-same
-returns-clause-same g c = let seen = (facts g c).shown.view in
+pub returns-clause-changes : goal.returns-clause-changes
+returns-clause-changes g c = let seen = (facts g c).shown.view in
     seen ∙ (λ i. record (c.self.view_is i) { front = (sym seen i).front })

@@ -1,4 +1,5 @@
 -- The first slot of the middle run is filled, and then holds its item as it was left.
+use Rattle.thin_block.proofs.BlockLemmas.{slots-are}
 use Rattle.std.proofs.Common.{◌≡◌, ◌<◌, ◌+◌, refl, ap, sym, ◌∙◌, arith, length}
 use Rattle.thin_vec.specs.OpenBlock.{open_of}
 use Rattle.std.proofs.Common.{◌++◌, ◌∷◌, Some}
@@ -24,16 +25,15 @@ low g c = omega (arith, c.requires.some, ap (λ v. length v.rest) c.self.view_is
 
 -- what the block shows afterwards
 facts : (g : _) (c : goal.After-self-1 g) → Written c.self.inside c.self.invariant
-    (with_item c.self.inside.block c.self.inside.rest_start c.ask.new.later) refl refl 0 (low g c)
+    (with_item c.self.inside.block c.self.inside.rest_start c.ask.new.later) 0 (low g c)
     c.slot_mut.result.now c.ask.new.later
 facts g c =
     let h = c.self.inside in
     let here : h.rest_start ≡ h.rest_start + 0 = omega arith in
-    write-step h c.self.invariant (with_item h.block h.rest_start c.ask.new.later) refl refl 0
-    (low g c)
+    write-step h c.self.invariant (with_item h.block h.rest_start c.ask.new.later) 0 (low g c)
     c.slot_mut.result.now c.ask.new.later
     (ap (λ n. slot h.block.slots n) (sym here) ∙ c.slot_mut.ensures.value)
-    (ap (λ n. set h.block.slots n (Some c.ask.new.later)) here)
+    (slots-are refl (ap (λ n. set h.block.slots n (Some c.ask.new.later)) here))
 
 pub invariant_of-self : goal.invariant_of-self
 invariant_of-self g c = (facts g c).shown.lies
@@ -52,6 +52,6 @@ returns-clause-asked g c =
       now = ap (λ v. v.rest) f.shown.view ∙ ap (λ l. l ++ c.ask.new.later ∷ f.post) none;
     }
 
-pub returns-clause-same : goal.returns-clause-same
-returns-clause-same g c = let seen = (facts g c).shown.view in
+pub returns-clause-changes : goal.returns-clause-changes
+returns-clause-changes g c = let seen = (facts g c).shown.view in
     seen ∙ (λ i. record (c.self.view_is i) { rest = (sym seen i).rest })

@@ -26,7 +26,7 @@ facts : (g : _) (c : goal.After-ask_neighbours g) → WrittenTwo c.self.inside c
 facts g c =
     let a = c.ask_neighbours.ensures.asked in
     write-two-step c.self.inside c.self.invariant c.ask_neighbours.new.block
-    c.ask_neighbours.ensures.alloc c.ask_neighbours.ensures.cost (c.args.k - 1) a.kept_left
+    c.ask_neighbours.ensures.changes (c.args.k - 1) a.kept_left
     a.later_left
     (omega (arith, c.requires.in_bounds, c.requires.some, ap (λ v. length v.rest) c.self.view_is))
     a.first a.second a.now
@@ -51,6 +51,6 @@ returns-clause-asked g c =
       now = ap (λ v. v.rest) f.shown.view;
     }
 
-pub returns-clause-same : goal.returns-clause-same
-returns-clause-same g c = let seen = (facts g c).shown.view in
+pub returns-clause-changes : goal.returns-clause-changes
+returns-clause-changes g c = let seen = (facts g c).shown.view in
     seen ∙ (λ i. record (c.self.view_is i) { rest = (sym seen i).rest })

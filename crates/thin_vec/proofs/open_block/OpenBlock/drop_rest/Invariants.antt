@@ -1,4 +1,4 @@
--- Each item that was dropped has left an empty slot behind the front.
+-- Each item that was dropped has left an empty slot after the front.
 use Rattle.std.proofs.Common.{◌≡◌, ◌+◌, length}
 use Rattle.thin_vec.proofs.open_block.OpenBlock.drop_rest.Given as goal
 

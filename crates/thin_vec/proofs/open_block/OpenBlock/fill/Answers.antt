@@ -1,4 +1,4 @@
--- What the iterator gave lies behind the front, and so much less of the gap is left.
+-- What the iterator yielded lies after the front, and so much less of the gap is left.
 use Rattle.std.proofs.Common.{◌≡◌, ◌-◌, ◌++◌, ◌∙◌, ap, arith, sym}
 use Rattle.thin_block.specs.Cost.{moving}
 use Rattle.thin_vec.proofs.OpenBlockLemmas.{fill-step}
@@ -27,8 +27,8 @@ returns-clause-front g c =
       gave.3,
     )
 
-pub returns-clause-same : goal.returns-clause-same
-returns-clause-same g c =
+pub returns-clause-changes : goal.returns-clause-changes
+returns-clause-changes g c =
     let gave = c.put_iter-rest.ensures.slots in
     let seen = (fill-step c.self.inside c.self.invariant c.put_iter-rest.new.block gave.0 _ gave.2
     c.put_iter-rest.ensures.within gave.1).view in
@@ -46,6 +46,6 @@ returns-clause-same g c =
       front = (sym seen i).front;
       before = (sym seen i).before;
       alloc = alloc i;
-      cost = (c.put_iter-rest.ensures.cost
+      cost = (ap (λ v. v.cost) c.put_iter-rest.ensures.changes
           ∙ (λ j. moving (many j) (c.self.view_is j).cost)) i;
     })

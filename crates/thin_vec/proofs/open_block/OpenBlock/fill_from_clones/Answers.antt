@@ -51,8 +51,8 @@ returns-clause-front g c =
       ap (λ v. v.front) (facts g c).view ∙ ap (λ v. v.front ++ lays.copies) c.self.view_is,
     )
 
-pub returns-clause-same : goal.returns-clause-same
-returns-clause-same g c =
+pub returns-clause-changes : goal.returns-clause-changes
+returns-clause-changes g c =
     let old = c.args.self.now in
     let seen = (facts g c).view in
     let alloc : c.put_clones-placed.new.block.alloc ≡ old.alloc = search (arith, ◌∙◌) in

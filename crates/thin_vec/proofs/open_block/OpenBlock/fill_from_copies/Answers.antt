@@ -29,7 +29,7 @@ facts g c =
       ap (λ v. v.before) c.self.view_is,
       c.self.invariant.before,
     ))
-    c.copy_in.ensures.slots
+    (ap (λ v. v.slots) c.copy_in.ensures.changes)
 
 pub invariant_of-self : goal.invariant_of-self
 invariant_of-self g c = (facts g c).lies

@@ -1,10 +1,11 @@
 -- The items of the other list lie after the front, and its own slots are empty.
+use Rattle.thin_block.proofs.BlockLemmas.{then-len}
 use Rattle.thin_block.specs.Cost.{moving}
 use Rattle.thin_block.specs.Slots.{full, items_in, laid, run}
-use Rattle.std.proofs.Common.{◌≡◌, ◌+◌, ◌-◌, ◌++◌, ◌∙◌, List, Option, ap, arith, length, take}
+use Rattle.std.proofs.Common.{◌≡◌, ◌+◌, ◌-◌, ◌++◌, ◌∙◌, List, Option, ap, arith, length, take, rules}
 use Rattle.thin_vec.specs.OpenBlock.{open_of}
 use Rattle.thin_vec.proofs.OpenBlockLemmas.{Found, fill-step}
-use Rattle.thin_vec.proofs.ListLemmas.{Settled, thin-filled, thin-room}
+use Rattle.thin_vec.proofs.ListLemmas.{Settled, thin-filled, thin-room, thin_of-keeps}
 use Rattle.thin_vec.proofs.TwoListsLemmas.{front-run, settle-cut}
 use Rattle.thin_vec.proofs.open_block.OpenBlock.fill_from_list.Goals as goal
 
@@ -32,7 +33,7 @@ lies g c =
     c.other.invariant.packed.row
     ∙ front-run (items_in o.slots) (length o.slots) 0 c.len-count.result (omega arith)
     (thin-room o c.other.inside.alloc c.other.invariant) (omega (arith, count g c)) in
-    c.move_run_to.ensures.other_slots
+    ap (λ v. v.slots) c.move_run_to.ensures.other_changes
     ∙ ap (λ (r : List (Option g.row.T.Denot)). laid c.self.inside.front_end r
     c.self.inside.block.slots) row
 
@@ -69,11 +70,8 @@ cut : (g : _) (c : goal.After-self-1 g) → Settled c.set_len.new.self c.other.i
     (take 0 (items_in c.other.inside.block.slots)) (length c.other.inside.block.slots)
 cut g c =
     settle-cut c.other.invariant c.set_len.new.self 0 {k = c.len-count.result} (omega arith)
-    (omega (arith, c.len-count.ensures.value)) (record {
-      slots = c.set_len.ensures.slots ∙ c.move_run_to.ensures.slots;
-      len = c.set_len.ensures.len;
-      alloc = c.set_len.ensures.alloc ∙ c.move_run_to.ensures.alloc;
-    })
+    (omega (arith, c.len-count.ensures.value))
+    (then-len c.set_len.ensures.changes c.move_run_to.ensures.changes)
 
 pub invariant_of-self : goal.invariant_of-self
 invariant_of-self g c = (facts g c).lies
@@ -81,15 +79,16 @@ invariant_of-self g c = (facts g c).lies
 pub invariant_of-other : goal.invariant_of-other
 invariant_of-other g c = (cut g c).thin
 
-pub returns-clause-other_items : goal.returns-clause-other_items
-returns-clause-other_items g c = (cut g c).items
+pub returns-clause-other_changes : goal.returns-clause-other_changes
+returns-clause-other_changes g c =
+    thin_of-keeps c.other.view_is c.set_len.new.self (cut g c).cap (cut g c).items (search rules)
 
-pub returns-clause-same : goal.returns-clause-same
-returns-clause-same g c =
+pub returns-clause-changes : goal.returns-clause-changes
+returns-clause-changes g c =
     let old = c.args.self.now in
     let alloc : c.move_run_to.new.other.alloc ≡ old.alloc = search (arith, ◌∙◌) in
     let spent : c.move_run_to.new.other.cost ≡ moving (length c.args.other.now.items) old.cost =
-    c.move_run_to.ensures.other_cost
+    ap (λ v. v.cost) c.move_run_to.ensures.other_changes
     ∙ (λ i. moving (same g c i) (c.self.view_is i).cost) in
     let left : c.self.inside.rest_start - (c.self.inside.front_end + c.len-count.result)
     ≡ old.before - length c.args.other.now.items =

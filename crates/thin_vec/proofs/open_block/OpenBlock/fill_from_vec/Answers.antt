@@ -1,4 +1,4 @@
--- The items of the `Vec` lie behind the front.
+-- The items of the `Vec` lie after the front.
 use Rattle.thin_block.specs.Cost.{moving}
 use Rattle.std.proofs.Common.{◌≡◌, ◌+◌, ◌-◌, ◌++◌, ◌∙◌, ap, arith, length}
 use Rattle.thin_vec.specs.OpenBlock.{open_of}
@@ -34,7 +34,7 @@ facts g c =
       ap (λ v. v.before) c.self.view_is,
       c.self.invariant.before,
     ))
-    c.put_vec.ensures.slots
+    (ap (λ v. v.slots) c.put_vec.ensures.changes)
 
 pub invariant_of-self : goal.invariant_of-self
 invariant_of-self g c = (facts g c).lies

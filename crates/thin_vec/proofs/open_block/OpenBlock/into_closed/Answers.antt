@@ -1,4 +1,4 @@
--- What lies behind the gap goes to the front, or is there already.
+-- What lies after the gap goes to the front, or is there already.
 use Rattle.std.proofs.Common.{◌≡◌, ◌+◌, ◌-◌, ap, arith, ◌∙◌}
 use Rattle.thin_block.specs.Slots.{front, moved}
 use Rattle.thin_vec.specs.OpenBlock.{open_of}
@@ -21,7 +21,7 @@ close_gap-closed-requires-clause-filled g c = λ j low high.
 pub returns-then-front_end-rest_start-clause-slots : goal.returns-then-front_end-rest_start-clause-slots
 returns-then-front_end-rest_start-clause-slots g c =
     let none = ap (λ v. v.behind) c.self.view_is ∙ c.requires.behind in
-    c.set_len.ensures.slots
+    ap (λ v. v.slots) c.set_len.ensures.changes
     ∙ (closed-row c.self.inside c.self.invariant none c.if-front_end-rest_start.true
     ∙ ap (λ v. front (items_of v) v.capacity) c.self.view_is)
 
@@ -31,8 +31,8 @@ returns-clause-slots g c =
     let o = c.self.invariant in
     let none = ap (λ v. v.behind) c.self.view_is ∙ c.requires.behind in
     let same : h.front_end + (h.rest_start - h.front_end) ≡ h.rest_start = omega (arith, o.before) in
-    c.store_len.ensures.slots
-    ∙ (c.close_gap-closed.ensures.slots
+    ap (λ v. v.slots) c.store_len.ensures.changes
+    ∙ (ap (λ v. v.slots) c.close_gap-closed.ensures.changes
     ∙ (ap (λ n. moved n h.front_end (h.len - h.rest_start) h.block.slots) same
     ∙ (close-row h o none ∙ ap (λ v. front (items_of v) v.capacity) c.self.view_is)))
 

@@ -1,15 +1,15 @@
--- With no empty slot between, the first items of the middle run lie behind the front already.
+-- With no empty slot between, the first items of the middle run lie after the front already.
 use Rattle.std.proofs.Common.{◌≤◌, ◌++◌, ap, ◌∙◌, arith, length, take, drop}
 use Rattle.thin_vec.specs.OpenBlock.{open_of}
 use Rattle.thin_vec.proofs.OpenBlockLemmas.{Found}
-use Rattle.thin_vec.proofs.SiftingLemmas.{lowered, lowered-seen, pass-step}
+use Rattle.thin_vec.proofs.SiftingLemmas.{moved_down, moved_down-seen, pass-step}
 use Rattle.thin_vec.proofs.open_block.OpenBlock.pass.Goals as goal
 
 facts : (g : _) (c : goal.After-self-2-1 g)
     → let low : c.args.k ≤ length (open_of c.self.inside).rest =
     omega (arith, c.requires.in_bounds, ap (λ v. length v.rest) c.self.view_is) in
-    Found (lowered c.self.inside c.self.invariant c.args.k low c.self.inside.block)
-    (lowered-seen c.self.inside c.self.invariant c.args.k low c.self.inside.block)
+    Found (moved_down c.self.inside c.self.invariant c.args.k low c.self.inside.block)
+    (moved_down-seen c.self.inside c.self.invariant c.args.k low c.self.inside.block)
 facts g c =
     let low : c.args.k ≤ length (open_of c.self.inside).rest =
     omega (arith, c.requires.in_bounds, ap (λ v. length v.rest) c.self.view_is) in

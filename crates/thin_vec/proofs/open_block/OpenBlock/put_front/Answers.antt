@@ -1,4 +1,4 @@
--- The first empty slot takes the value, which then lies behind the front.
+-- The first empty slot takes the value, which then lies after the front.
 use Rattle.std.proofs.Common.{◌≡◌, ◌+◌, ◌-◌, ap, ◌∙◌, arith, rules}
 use Rattle.thin_block.specs.Cost.{moving}
 use Rattle.thin_vec.specs.OpenBlock.{open_of}
@@ -21,8 +21,8 @@ facts : (g : _) (c : goal.After-self-1 g)
       before = (open_of c.self.inside).before - 1;
       cost = c.put.new.self.cost;
     })
-facts g c = put-step c.self.inside c.self.invariant c.put.new.self c.args.value c.put.ensures.alloc
-    (omega (arith, c.requires.gap, ap (λ v. v.before) c.self.view_is)) c.put.ensures.slots
+facts g c = put-step c.self.inside c.self.invariant c.put.new.self c.args.value
+    (omega (arith, c.requires.gap, ap (λ v. v.before) c.self.view_is)) c.put.ensures.changes
 
 pub invariant_of-self : goal.invariant_of-self
 invariant_of-self g c = (facts g c).lies

@@ -1,4 +1,4 @@
--- Some first items stay; then none is left, or one goes and all behind it were asked about.
+-- Some first items stay; then none is left, or one goes and all after it were asked about.
 use Rattle.std.proofs.Common.{◌≡◌, [], ap, sym, ◌∙◌, arith, rules}
 use Rattle.std.proofs.lemmas.List.{nil_from_length}
 use Rattle.thin_vec.proofs.FiltersLemmas.{sifted-ends, sifted-goes}

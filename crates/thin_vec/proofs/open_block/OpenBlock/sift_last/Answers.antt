@@ -10,7 +10,7 @@ pub returns-then-advance_last-clause-sifts : goal.returns-then-advance_last-clau
 returns-then-advance_last-clause-sifts g c =
     advanced-goes g.J.Asks.asks c.args.judge.now c.advance_last.new.judge c.args.self.now
     c.advance_last.new.self c.requires.gap c.advance_last.ensures.advances c.take_first.result
-    c.take_first.new.self c.take_first.ensures.rest c.take_first.ensures.same
+    c.take_first.new.self c.take_first.ensures.rest c.take_first.ensures.changes
 
 -- none goes
 pub returns-else-advance_last-clause-sifts : goal.returns-else-advance_last-clause-sifts

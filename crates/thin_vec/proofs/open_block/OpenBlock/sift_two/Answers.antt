@@ -9,7 +9,7 @@ pub returns-then-advance_two-clause-sifts : goal.returns-then-advance_two-clause
 returns-then-advance_two-clause-sifts g c =
     advanced-goes g.J.Asks.asks c.args.judge.now c.advance_two.new.judge c.args.self.now
     c.advance_two.new.self c.requires.gap c.advance_two.ensures.advances c.take_first.result
-    c.take_first.new.self c.take_first.ensures.rest c.take_first.ensures.same
+    c.take_first.new.self c.take_first.ensures.rest c.take_first.ensures.changes
 
 -- none goes
 pub returns-else-advance_two-clause-sifts : goal.returns-else-advance_two-clause-sifts

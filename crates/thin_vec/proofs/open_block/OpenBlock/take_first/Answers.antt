@@ -19,12 +19,10 @@ some g c = omega (arith, c.requires.some, ap (λ v. length v.rest) c.self.view_i
 -- the block afterwards, and what was taken
 facts : (g : _) (c : goal.After-take g) → (ys : List g.row.T.Denot)
     × ((open_of c.self.inside).rest ≡ c.take.result ∷ ys)
-    × Found (first-left c.self.inside c.self.invariant c.take.new.self c.take.ensures.alloc
-    c.take.ensures.cost (some g c))
-    (first-seen c.self.inside c.self.invariant c.take.new.self c.take.ensures.alloc
-    c.take.ensures.cost (some g c) ys)
-facts g c = first-step c.self.inside c.self.invariant c.take.new.self c.take.ensures.alloc
-    c.take.ensures.cost (some g c) c.take.result c.take.ensures.value c.take.ensures.slots
+    × Found (first-left c.self.inside c.self.invariant c.take.new.self (some g c))
+    (first-seen c.self.inside c.self.invariant c.take.new.self (some g c) ys)
+facts g c = first-step c.self.inside c.self.invariant c.take.new.self (some g c) c.take.result
+    c.take.ensures.value c.take.ensures.changes
 
 pub invariant_of-self : goal.invariant_of-self
 invariant_of-self g c = (facts g c).2.lies
@@ -35,7 +33,7 @@ returns-clause-rest g c =
     ∙ ((facts g c).1 ∙ ap (λ xs. c.take.result ∷ xs)
     (sym (ap (λ v. v.rest) (facts g c).2.view)))
 
-pub returns-clause-same : goal.returns-clause-same
-returns-clause-same g c = let seen = (facts g c).2.view in
+pub returns-clause-changes : goal.returns-clause-changes
+returns-clause-changes g c = let seen = (facts g c).2.view in
     seen ∙ (λ i. let v = c.self.view_is i in
     record v { rest = (sym seen i).rest; before = v.before + 1 })

@@ -20,12 +20,10 @@ some g c = omega (arith, c.requires.some, ap (λ v. length v.rest) c.self.view_i
 -- the block afterwards, and what was taken
 facts : (g : _) (c : goal.After-take g) → (ys : List g.row.T.Denot)
     × ((open_of c.self.inside).rest ≡ ys ++ c.take.result ∷ [])
-    × Found (last-left c.self.inside c.self.invariant c.take.new.self c.take.ensures.alloc
-    c.take.ensures.cost (some g c))
-    (last-seen c.self.inside c.self.invariant c.take.new.self c.take.ensures.alloc
-    c.take.ensures.cost (some g c) ys)
-facts g c = last-step c.self.inside c.self.invariant c.take.new.self c.take.ensures.alloc
-    c.take.ensures.cost (some g c) c.take.result c.take.ensures.value c.take.ensures.slots
+    × Found (last-left c.self.inside c.self.invariant c.take.new.self (some g c))
+    (last-seen c.self.inside c.self.invariant c.take.new.self (some g c) ys)
+facts g c = last-step c.self.inside c.self.invariant c.take.new.self (some g c) c.take.result
+    c.take.ensures.value c.take.ensures.changes
 
 pub invariant_of-self : goal.invariant_of-self
 invariant_of-self g c = (facts g c).2.lies
@@ -36,7 +34,7 @@ returns-clause-rest g c =
     ∙ ((facts g c).1 ∙ ap (λ xs. xs ++ c.take.result ∷ [])
     (sym (ap (λ v. v.rest) (facts g c).2.view)))
 
-pub returns-clause-same : goal.returns-clause-same
-returns-clause-same g c = let seen = (facts g c).2.view in
+pub returns-clause-changes : goal.returns-clause-changes
+returns-clause-changes g c = let seen = (facts g c).2.view in
     seen ∙ (λ i. let v = c.self.view_is i in
     record v { rest = (sym seen i).rest; behind = v.behind + 1 })

@@ -1,4 +1,4 @@
--- Some first items stay; then none is left, or one goes and rounds ask about those behind it.
+-- Some first items stay; then none is left, or one goes and rounds ask about those after it.
 use Rattle.std.proofs.Common.{◌≡◌, [], sym, ap, ◌∙◌, arith, rules}
 use Rattle.thin_vec.proofs.DedupLemmas.{thinned-ends, thinned-goes}
 use Rattle.std.proofs.lemmas.List.{nil_from_length}

@@ -12,7 +12,7 @@ returns-then-ask_last-clause-thins g c =
     c.take_first-later.result c.ask_last.new.later c.ask_last.new.self.front
     (search rules) (search rules) (search rules) (search rules)
 
--- it stays, and the one behind it goes
+-- the next item stays, and the one after it goes
 pub returns-then-goes-clause-thins : goal.returns-then-goes-clause-thins
 returns-then-goes-clause-thins g c =
     thins-two g.J.AsksPairs.asks c.args.self.now c.take_first.new.self c.args.judge.now
@@ -22,7 +22,7 @@ returns-then-goes-clause-thins g c =
     c.ask_next-goes.result c.ask_next-goes.ensures.asked (search rules)
     c.if-goes.true c.take_first.result (search rules) (search rules) (search rules)
 
--- both stay, with a run, and the one behind that goes
+-- the next two items stay, with a run, and the one after the run goes
 pub returns-then-rest_len-gt0-clause-thins : goal.returns-then-rest_len-gt0-clause-thins
 returns-then-rest_len-gt0-clause-thins g c =
     let R = g.J.AsksPairs.asks in
@@ -31,7 +31,7 @@ returns-then-rest_len-gt0-clause-thins g c =
     let goes = run-goes R c.ask_pairs-kept.result c.ask_next-goes.new.judge
     c.put_front.new.self.rest c.ask_pairs-kept.new.judge c.ask_pairs-kept.new.self.rest r
     c.take_first-then-rest_len-gt0.result w.rest
-    (sym (ap (λ v. v.rest) c.lower.ensures) ∙ c.take_first-then-rest_len-gt0.ensures.rest) in
+    (sym (ap (λ v. v.rest) c.move_down.ensures) ∙ c.take_first-then-rest_len-gt0.ensures.rest) in
     thins-run R c.args.self.now w c.args.judge.now c.ask_last.new.judge c.ask_next-goes.new.judge
     c.take_first-later.result c.ask_last.new.later c.ask_next-goes.new.kept
     c.ask_last.new.self.front c.ask_last.new.self.rest c.put_front.new.self.rest (search rules)
@@ -40,17 +40,17 @@ returns-then-rest_len-gt0-clause-thins g c =
     c.ask_pairs-kept.new.self.rest r goes.0 (run-count R _ _ _ _ _ r (false ∷ []) refl goes.1)
     (search rules) (search rules)
 
--- and so do all others
+-- the next two items stay, and so do all others
 pub returns-else-rest_len-gt0-clause-thins : goal.returns-else-rest_len-gt0-clause-thins
 returns-else-rest_len-gt0-clause-thins g c =
     let R = g.J.AsksPairs.asks in
     let r = c.ask_pairs-kept.ensures.asked in
-    let w = c.lower.new.self in
+    let w = c.move_down.new.self in
     let none : w.rest ≡ [] =
     nil_from_length w.rest (omega (arith, c.rest_len.ensures.value, c.if-rest_len-gt0.false)) in
     let ends = run-ends R c.ask_pairs-kept.result c.ask_next-goes.new.judge
     c.put_front.new.self.rest c.ask_pairs-kept.new.judge c.ask_pairs-kept.new.self.rest r
-    (sym (ap (λ v. v.rest) c.lower.ensures) ∙ none) in
+    (sym (ap (λ v. v.rest) c.move_down.ensures) ∙ none) in
     thins-run R c.args.self.now w c.args.judge.now c.ask_last.new.judge c.ask_next-goes.new.judge
     c.take_first-later.result c.ask_last.new.later c.ask_next-goes.new.kept
     c.ask_last.new.self.front c.ask_last.new.self.rest c.put_front.new.self.rest (search rules)
@@ -66,8 +66,8 @@ returns-then-ask_last-clause-some g c = grind (arith, common_steps)
 pub returns-then-goes-clause-some : goal.returns-then-goes-clause-some
 returns-then-goes-clause-some g c = grind (arith, common_steps)
 
-pub lower-requires-clause-in_bounds : goal.lower-requires-clause-in_bounds
-lower-requires-clause-in_bounds g c = grind (arith, common_steps)
+pub move_down-requires-clause-in_bounds : goal.move_down-requires-clause-in_bounds
+move_down-requires-clause-in_bounds g c = grind (arith, common_steps)
 
 pub returns-then-rest_len-gt0-clause-some : goal.returns-then-rest_len-gt0-clause-some
 returns-then-rest_len-gt0-clause-some g c = grind (arith, common_steps)

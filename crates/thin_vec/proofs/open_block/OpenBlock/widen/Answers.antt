@@ -1,4 +1,4 @@
--- The tail has room behind it, and once it is up, as many more empty slots before it.
+-- The tail has room after it, and once it is up, as many more empty slots before it.
 use Rattle.std.proofs.Common.{◌≡◌, ℕ, ◌+◌, ◌≤◌, ◌∙◌, ap, arith, length}
 use Rattle.thin_block.specs.Cost.{moving}
 use Rattle.thin_vec.specs.OpenBlock.{Shows, open_of}
@@ -7,7 +7,7 @@ use Rattle.thin_vec.specs.declared.open_block.OpenBlock.TheInside.{Inside}
 use Rattle.thin_vec.proofs.OpenBlockLemmas.{Found, reached, tail-filled, widen-step, widened, widened-seen}
 use Rattle.thin_vec.proofs.open_block.OpenBlock.widen.Goals as goal
 
--- the tail has room behind it
+-- the tail has room after it
 fits : {T A : Type 0} (h : Inside T A) (v : Open T A) (k : ℕ) → Shows h (open_of h) → open_of h ≡ v
     → reach v + k ≤ v.capacity → h.len + k ≤ (open_of h).capacity
 fits h v k shows is room =
@@ -24,7 +24,7 @@ facts : (g : _) (c : goal.After-self-2-1 g)
     (widened-seen c.self.inside c.self.invariant c.move_run.new.self c.args.count room)
 facts g c = widen-step c.self.inside c.self.invariant c.move_run.new.self c.args.count
     (fits c.self.inside c.args.self.now c.args.count c.self.invariant c.self.view_is
-    c.requires.room) c.move_run.ensures.slots
+    c.requires.room) (ap (λ v. v.slots) c.move_run.ensures.changes)
 
 pub invariant_of-self : goal.invariant_of-self
 invariant_of-self g c = (facts g c).lies

@@ -1,5 +1,5 @@
 -- What filling the gap says, of the range that was dropped before.
-use Rattle.std.proofs.Common.{[], ◌≡◌, ◌+◌, ◌∙◌, arith, length, length-append, subst}
+use Rattle.std.proofs.Common.{[], ◌≡◌, ◌+◌, ◌∙◌, ap, arith, length, length-append, subst}
 use denote.Param.{param}
 use Rattle.thin_vec.specs.Finish.{IsFinished}
 use Rattle.thin_vec.specs.Splice.{splice_alloc, splice_block, splice_iter, splice_replaced}
@@ -28,7 +28,7 @@ returns g c =
     (λ b. IsFinished steps g.I.Iterator.can_next g.I.Iterator.remaining rule T b a s w r) dropped
     (subst
     (λ o. IsFinished steps g.I.Iterator.can_next g.I.Iterator.remaining rule T
-    c.drop_rest.new.self o s w r) c.clear.ensures.alloc said) in
+    c.drop_rest.new.self o s w r) (ap (λ v. v.alloc) c.clear.ensures.changes) said) in
     record {
       succeeds = f.succeeds;
       succeeds_behind = f.succeeds_behind;

@@ -1,21 +1,22 @@
--- The first slots of the middle run are filled, and their items then lie behind the front.
+-- The first slots of the middle run are filled, and their items then lie after the front.
+use Rattle.thin_block.specs.Block.{seen}
 use Rattle.std.proofs.Common.{◌≡◌, ◌≤◌, ◌+◌, ◌-◌, ◌++◌, ap, sym, subst, ◌∙◌, arith, length, take, drop}
 use Rattle.std.specs.Prelude.{IsSome}
 use Rattle.thin_block.specs.Cost.{moving}
 use Rattle.thin_block.specs.Slots.{moved, slot}
 use Rattle.thin_vec.specs.OpenBlock.{open_of}
 use Rattle.thin_vec.proofs.OpenBlockLemmas.{Found, before-empty, rest-filled}
-use Rattle.thin_vec.proofs.SiftingLemmas.{lowered, lowered-seen, lower-step}
-use Rattle.thin_vec.proofs.open_block.OpenBlock.lower_run.Goals as goal
+use Rattle.thin_vec.proofs.SiftingLemmas.{moved_down, moved_down-seen, move_run_down-step}
+use Rattle.thin_vec.proofs.open_block.OpenBlock.move_run_down.Goals as goal
 
-pub close_gap-lowered-requires-clause-empty : goal.close_gap-lowered-requires-clause-empty
-close_gap-lowered-requires-clause-empty g c = λ j low high.
+pub close_gap-closed-requires-clause-empty : goal.close_gap-closed-requires-clause-empty
+close_gap-closed-requires-clause-empty g c = λ j low high.
     let o = c.self.invariant in
     ap (λ b. slot b.slots j) c.replace-block.ensures.value
     ∙ before-empty c.self.inside (open_of c.self.inside) o j low (omega (arith, high, o.before))
 
-pub close_gap-lowered-requires-clause-filled : goal.close_gap-lowered-requires-clause-filled
-close_gap-lowered-requires-clause-filled g c = λ j low high.
+pub close_gap-closed-requires-clause-filled : goal.close_gap-closed-requires-clause-filled
+close_gap-closed-requires-clause-filled g c = λ j low high.
     let o = c.self.invariant in
     subst (λ b. IsSome (slot b.slots j)) (sym c.replace-block.ensures.value)
     (rest-filled c.self.inside (open_of c.self.inside) o j (omega (arith, low, o.before)) (omega (
@@ -30,20 +31,21 @@ close_gap-lowered-requires-clause-filled g c = λ j low high.
 facts : (g : _) (c : goal.After-self-2-1 g)
     → let low : c.args.k ≤ length (open_of c.self.inside).rest =
     omega (arith, c.requires.in_bounds, ap (λ v. length v.rest) c.self.view_is) in
-    Found (lowered c.self.inside c.self.invariant c.args.k low c.replace-none.new.dest)
-    (lowered-seen c.self.inside c.self.invariant c.args.k low c.replace-none.new.dest)
+    Found (moved_down c.self.inside c.self.invariant c.args.k low c.replace-none.new.dest)
+    (moved_down-seen c.self.inside c.self.invariant c.args.k low c.replace-none.new.dest)
 facts g c =
     let h = c.self.inside in
     let o = c.self.invariant in
     let low : c.args.k ≤ length (open_of h).rest =
     omega (arith, c.requires.in_bounds, ap (λ v. length v.rest) c.self.view_is) in
     let same : h.front_end + (h.rest_start - h.front_end) ≡ h.rest_start = omega (arith, o.before) in
-    lower-step h o c.args.k low c.replace-none.new.dest
-    (ap (λ b. b.slots) c.replace-none.ensures.after
-    ∙ (c.close_gap-lowered.ensures.slots
-    ∙ (λ i. moved (same i) h.front_end c.args.k (c.replace-block.ensures.value i).slots)))
-    (ap (λ b. b.alloc) c.replace-none.ensures.after
-    ∙ (c.close_gap-lowered.ensures.alloc ∙ ap (λ b. b.alloc) c.replace-block.ensures.value))
+    move_run_down-step h o c.args.k low c.replace-none.new.dest
+    (ap seen c.replace-none.ensures.after
+    ∙ (c.close_gap-closed.ensures.changes
+    ∙ (λ i. let v = seen (c.replace-block.ensures.value i) in record v {
+      slots = moved (same i) h.front_end c.args.k v.slots;
+      cost = moving c.args.k v.cost;
+    })))
 
 pub invariant_of-self : goal.invariant_of-self
 invariant_of-self g c = (facts g c).lies
@@ -52,7 +54,7 @@ pub returns : goal.returns
 returns g c =
     let spent : c.replace-none.new.dest.cost ≡ moving c.args.k c.args.self.now.cost =
     ap (λ b. b.cost) c.replace-none.ensures.after
-    ∙ (c.close_gap-lowered.ensures.cost
+    ∙ (ap (λ v. v.cost) c.close_gap-closed.ensures.changes
     ∙ (ap (λ b. moving c.args.k b.cost) c.replace-block.ensures.value
     ∙ ap (λ v. moving c.args.k v.cost) c.self.view_is)) in
     (facts g c).view ∙ (λ i. let v = c.self.view_is i in record v

@@ -1,12 +1,13 @@
--- The first slot of the middle run is filled, and its item then lies behind the front.
+-- The first slot of the middle run is filled, and its item then lies after the front.
+use Rattle.thin_block.specs.Block.{Seen}
 use Rattle.std.proofs.Common.{Some, ◌≤◌, ◌++◌, ap, ◌∙◌, arith, length, take, drop, rules, ◌≡◌}
 use lib.ListN.{set}
 use Rattle.thin_block.specs.Cost.{moving}
 use Rattle.thin_vec.specs.OpenBlock.{open_of}
 use Rattle.thin_vec.proofs.OpenBlockLemmas.{Found, rest-filled}
-use Rattle.thin_vec.proofs.SiftingLemmas.{lowered, lowered-seen, lower-one-step}
+use Rattle.thin_vec.proofs.SiftingLemmas.{moved_down, moved_down-seen, move_one_down-step}
 use Rattle.std.proofs.lemmas.Grind.{common_steps}
-use Rattle.thin_vec.proofs.open_block.OpenBlock.lower_one.Goals as goal
+use Rattle.thin_vec.proofs.open_block.OpenBlock.move_one_down.Goals as goal
 
 pub take-value-requires : goal.take-value-requires
 take-value-requires g c =
@@ -20,17 +21,18 @@ take-value-requires g c =
 facts : (g : _) (c : goal.After-self-2-1 g)
     → let some : 1 ≤ length (open_of c.self.inside).rest =
     omega (arith, c.requires.some, ap (λ v. length v.rest) c.self.view_is) in
-    Found (lowered c.self.inside c.self.invariant 1 some c.put.new.self)
-    (lowered-seen c.self.inside c.self.invariant 1 some c.put.new.self)
+    Found (moved_down c.self.inside c.self.invariant 1 some c.put.new.self)
+    (moved_down-seen c.self.inside c.self.invariant 1 some c.put.new.self)
 facts g c =
     let some : 1 ≤ length (open_of c.self.inside).rest =
     omega (arith, c.requires.some, ap (λ v. length v.rest) c.self.view_is) in
-    lower-one-step c.self.inside c.self.invariant some
+    move_one_down-step c.self.inside c.self.invariant some
     (omega (arith, c.requires.gap, ap (λ v. v.before) c.self.view_is))
     c.put.new.self c.take-value.ensures.value
-    (c.put.ensures.slots ∙ ap (λ s. set s c.self.inside.front_end (Some c.take-value.result))
-    c.take-value.ensures.slots)
-    (c.put.ensures.alloc ∙ c.take-value.ensures.alloc)
+    (c.put.ensures.changes ∙ ap {A = Seen _ _} (λ v. record v {
+      slots = set v.slots c.self.inside.front_end (Some c.take-value.result);
+      cost = moving 1 v.cost;
+    }) c.take-value.ensures.changes)
 
 pub invariant_of-self : goal.invariant_of-self
 invariant_of-self g c = (facts g c).lies

@@ -4,7 +4,7 @@ use Rattle.thin_block.specs.Cost.{moving}
 use Rattle.thin_vec.specs.OpenBlock.{open_of}
 use Rattle.thin_vec.proofs.OpenBlockLemmas.{Found, tail-filled}
 use Rattle.thin_vec.proofs.ReplacingLemmas.{bring-step, brought, brought-seen}
-use Rattle.thin_vec.proofs.open_block.OpenBlock.lower_last.Goals as goal
+use Rattle.thin_vec.proofs.open_block.OpenBlock.move_last_down.Goals as goal
 
 pub move_run-requires-clause-filled : goal.move_run-requires-clause-filled
 move_run-requires-clause-filled g c = λ j low high.
@@ -26,7 +26,7 @@ facts g c =
     let room : c.args.count ≤ (open_of c.self.inside).before =
     omega (arith, c.requires.room, ap (λ v. v.before) c.self.view_is) in
     bring-step c.self.inside c.self.invariant c.move_run.new.self c.args.count few room
-    c.move_run.ensures.slots
+    (ap (λ v. v.slots) c.move_run.ensures.changes)
 
 pub invariant_of-self : goal.invariant_of-self
 invariant_of-self g c = (facts g c).lies

@@ -1,7 +1,7 @@
 -- So far as many items went to the front as there were turns.
 use Rattle.std.proofs.Common.{◌≡◌, ◌++◌, drop, take}
 use Rattle.thin_block.specs.Cost.{moving}
-use Rattle.thin_vec.proofs.open_block.OpenBlock.lower.Given as goal
+use Rattle.thin_vec.proofs.open_block.OpenBlock.move_down.Given as goal
 
 abbrev pub invariant-loop-done : goal.invariant-loop-done
 invariant-loop-done g l = l.self ≡ record l.fn.self {

@@ -4,14 +4,14 @@ use Rattle.std.proofs.Math.Seq.{take-add}
 use Rattle.std.proofs.lemmas.List.{drop-drop}
 use Rattle.thin_block.specs.Cost.{moving}
 use Rattle.thin_vec.proofs.FiltersLemmas.{moving-more}
-use Rattle.thin_vec.proofs.open_block.OpenBlock.lower.Goals as goal
+use Rattle.thin_vec.proofs.open_block.OpenBlock.move_down.Goals as goal
 
 -- one item more went to the front
 pub loop-done-preserved : goal.loop-done-preserved
 loop-done-preserved g c =
     let n = c.loop-done.done in
     let old = c.args.self.now in
-    c.lower_one-in-loop-done.ensures ∙ ((λ i. let v = c.loop-done.invariant i in record v
+    c.move_one_down-in-loop-done.ensures ∙ ((λ i. let v = c.loop-done.invariant i in record v
     { front = v.front ++ take 1 v.rest; rest = drop 1 v.rest; cost = moving 1 v.cost })
     ∙ (λ i. record old {
       front = (append_assoc old.front (take n old.rest) (take 1 (drop n old.rest))

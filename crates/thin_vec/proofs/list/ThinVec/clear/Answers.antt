@@ -1,9 +1,0 @@
--- The length alone changes, and no item moves.
-use Rattle.std.proofs.Common.{arith, ◌∙◌}
-use Rattle.thin_vec.proofs.list.ThinVec.clear.Goals as goal
-
-pub returns-clause-capacity : goal.returns-clause-capacity
-returns-clause-capacity g c = search (arith, ◌∙◌)
-
-pub returns-clause-cost : goal.returns-clause-cost
-returns-clause-cost g c = search (arith, ◌∙◌)
