@@ -42,10 +42,10 @@ use crate::calls::slices::{
 use crate::calls::splices::Spliced;
 use crate::samples::Sample;
 use crate::sweep::{Scope, sweep};
-use other_rules::ruled::Ruled;
 use std::fmt::Debug;
 use std::hash::Hash;
 use std::process::Abort;
+use thin_testing::Ruled;
 use thin_vec::{Doubling, PowerBytes};
 
 /// Sweeps the calls for which a list may grow.

@@ -4,11 +4,10 @@ use crate::assertions::{At, assert_out, same, same_item, same_items};
 use crate::ledger::Ledger;
 use crate::samples::Sample;
 use crate::shapes::Shape;
-use other_rules::ruled::Ruled;
-use refusing::Refusing;
 use std::alloc::Global;
 use std::mem;
 use std::process::Abort;
+use thin_testing::{Refusing, Ruled};
 use thin_vec::{Growth, Rejected, ThinVec, ThinVecError};
 
 /// A list of a test: its block is the ledger's.
@@ -20,14 +19,14 @@ pub enum Verdict {
     Done,
     /// The capacity overflows: no request is made.
     Overflow,
-    /// The block is refused: nothing changes.
+    /// The allocator fails: nothing changes.
     NoRoom,
-    /// The clone of an item is refused, and those made before it are dropped.
+    /// The clone of an item fails, and those made before it are dropped.
     NoClone,
 }
 
 impl Verdict {
-    /// What the call has to answer.
+    /// What the call has to return.
     pub fn answer(self) -> Result<(), ThinVecError> {
         match self {
             Verdict::Done => Ok(()),
@@ -109,7 +108,7 @@ impl<T: Sample, G: Ruled> Case<T, G> {
         verdict
     }
 
-    /// The same of one growth among several of a call: whether it is granted.
+    /// One growth among several of a call: whether it is granted.
     pub fn grows(&mut self, capacity: Option<usize>) -> bool {
         let Some(capacity) = capacity else {
             return false;
@@ -169,12 +168,12 @@ impl<T: Sample, G: Ruled> Case<T, G> {
         }
     }
 
-    /// Asserts that the call answered as it had to.
+    /// Asserts that the call returned what it had to.
     pub fn answered<R: Abort>(&self, rt: &R, answer: Result<(), ThinVecError>, verdict: Verdict) {
         same(rt, &self.at, "answer", answer, verdict.answer());
     }
 
-    /// What a call answered that puts an item at `index`: the item is there, or is handed back.
+    /// Checks a call that puts an item at `index`: the item is there, or was returned.
     pub fn put<R: Abort>(
         &mut self,
         rt: &R,
@@ -197,18 +196,18 @@ impl<T: Sample, G: Ruled> Case<T, G> {
         }
     }
 
-    /// Asserts that an item that was handed out or back is the one of that number.
+    /// Asserts that an item that a call returned is the one of that number.
     pub fn handed<R: Abort>(&self, rt: &R, item: &T, number: u64) {
         same(rt, &self.at, "item", item.told(), T::telling(number));
     }
 
-    /// The same of an item, if there was to be one.
+    /// Asserts that a call returned the item of that number, or none if there was to be none.
     pub fn handed_or_none<R: Abort>(&self, rt: &R, item: Option<T>, number: Option<u64>) {
         same_item(rt, &self.at, item, number);
     }
 
-    /// So many items, numbered from `first` on, have come in after the others, where the call was
-    /// not refused.
+    /// So many items, numbered from `first` on, have come in after the others, where the call did
+    /// not fail.
     pub fn add<R: Abort>(&mut self, rt: &R, first: u64, count: usize, verdict: Verdict) {
         if verdict == Verdict::Done {
             let mut new = numbers(rt, self.ledger, first, count);
@@ -239,7 +238,7 @@ impl<T: Sample, G: Ruled> Case<T, G> {
         );
     }
 
-    /// What a call answered that makes a second list: it has the items of these numbers, and this
+    /// Checks a call that makes a second list: it has the items of these numbers, and this
     /// capacity.
     pub fn second<H: Growth, R: Abort>(
         &self,

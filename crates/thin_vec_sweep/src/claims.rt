@@ -5,7 +5,7 @@ ghost use Rattle.std.specs.Iterator.{at_most};
 use crate::ledger::{Ledger, count};
 use crate::samples::Counted;
 
-/// Gives its items from the last on, and then `None` for good. Its lower bound is the same at each
+/// Yields its items from the last on, and then `None` for good. Its lower bound is the same at each
 /// turn, whatever is left. It is counted itself, until it is dropped.
 #[derive(Drop)]
 pub struct Claims<T> {
@@ -26,7 +26,7 @@ impl<T> Claims<T> {
         }
     }
 
-    /// The items that were not given, from the last on.
+    /// The items that were not yielded, from the last on.
     pub fn into_items(self) -> Vec<T> {
         let Claims {
             items,

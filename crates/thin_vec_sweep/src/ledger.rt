@@ -1,8 +1,8 @@
 //! What a test counts: requests and blocks, and what its items tell of themselves.
-use refusing::Refusing;
 use std::alloc::Global;
 use std::cell::Cell;
 use std::process::Abort;
+use thin_testing::Refusing;
 
 /// The allocator of a test's lists, and the counts that its items keep.
 pub struct Ledger {

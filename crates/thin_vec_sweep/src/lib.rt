@@ -1,11 +1,12 @@
 //! The calls that `calls.rt` lists, swept over lists of a small scope, against a reference made of
-//! std's `Vec` and a number.
+//! std's `Vec` and a number; and runs of commands, against the definition written as a program
+//! (`runs.rt`).
 //!
 //! A sweep makes the call on each shape of a list (`shapes.rt`), with each argument, with memory in
 //! plenty and with its first request refused, its second, and so on until none is. After each it
-//! compares what the call answered and handed back, the items, the capacity, how many requests and
-//! clones were made, how many items stand, and how many blocks are out: then, and once the list is
-//! gone. With memory in plenty no call may be refused but by an overflow.
+//! compares what the call returned, the items, the capacity, how many requests and clones were
+//! made, how many items stand, and how many blocks are out: then, and once the list is gone. With
+//! memory in plenty no call may fail but by an overflow.
 //!
 //! How a call joins: a struct in a file of `calls/`, with an impl of `Call` (`sweep.rt`), and a
 //! line in `calls.rt`. Its `arguments` says how many arguments are tried on a list of a shape;
@@ -16,17 +17,15 @@
 //! after a test of what it requires; `answered`, and the same edit of `case.items`. A call that
 //! appends a slice's items has an impl of `AppendsSlice` (`calls/slices.rt`) in the place of `run`,
 //! and one that makes a second list an impl of `MakesSecond` (`calls/seconds.rt`). What a closure
-//! answers is in `answers.rt`, steps from both ends are in `walks.rt`: on lists and ranges of up to
-//! 6 items all there are. An iterator that a call is given is one of `claims.rt`, which counts how
-//! often it is asked.
+//! returns is in `closures.rt`, steps from both ends are in `walks.rt`: on lists and ranges of up
+//! to 6 items all there are. An iterator that a call is given is one of `claims.rt`, which counts
+//! how often it is asked.
 //!
-//! A growth rule joins by an impl of `Ruled` (`other_rules`) and a test, and an item type by an
+//! A growth rule joins by an impl of `Ruled` (`thin_testing`) and a test, and an item type by an
 //! impl of `Sample` (`samples.rt`) and tests. A `Scope` (`sweep.rt`) says which shapes a test
 //! sweeps: so few calls a test that each ends within seconds.
 #![tactic(auto)]
 
-#[cfg(test)]
-mod answers;
 #[cfg(test)]
 mod assertions;
 #[cfg(test)]
@@ -36,7 +35,11 @@ mod case;
 #[cfg(test)]
 mod claims;
 #[cfg(test)]
+mod closures;
+#[cfg(test)]
 mod ledger;
+#[cfg(test)]
+mod runs;
 #[cfg(test)]
 mod samples;
 #[cfg(test)]

@@ -4,9 +4,9 @@ ghost use Rattle.std.specs.Cmp.Rules.{comparing};
 ghost use Rattle.std.specs.Prelude.{◌==◌};
 
 use crate::ledger::{Ledger, count};
-use refusing::Refusing;
 use std::alloc::{AllocError, Global};
 use std::process::Abort;
+use thin_testing::Refusing;
 use thin_vec::ThinVec;
 
 /// A type of items that can be told apart by a number, as far as it has different values.

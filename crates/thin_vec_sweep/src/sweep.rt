@@ -4,9 +4,9 @@ use crate::case::Case;
 use crate::ledger::Ledger;
 use crate::samples::Sample;
 use crate::shapes::Shape;
-use other_rules::ruled::Ruled;
 use std::ops::Range;
 use std::process::Abort;
+use thin_testing::Ruled;
 
 /// What a test sweeps over.
 #[derive(Drop)]
@@ -27,7 +27,7 @@ pub trait Call<T: Sample, G: Ruled> {
         1
     }
 
-    /// Makes the call on the list of the case and on its reference, and compares what it answers.
+    /// Makes the call on the list of the case and on its reference, and compares what it returns.
     /// What stands afterwards is compared by whoever calls this.
     fn run<R: Abort>(rt: &R, case: &mut Case<T, G>, argument: usize);
 }
@@ -65,7 +65,7 @@ fn until_granted<C: Call<T, G>, T: Sample, G: Ruled, R: Abort>(
     }
 }
 
-// One case. Answers how many requests the call made.
+// One case. Returns how many requests the call made.
 #[inline(never)]
 fn case<C: Call<T, G>, T: Sample, G: Ruled, R: Abort>(
     rt: &R,

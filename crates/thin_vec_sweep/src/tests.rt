@@ -11,10 +11,9 @@ use crate::ledger::Ledger;
 use crate::samples::{Counted, Inner, Sample};
 use crate::shapes::{ALL, LONGEST, SHAPES, SHORT};
 use crate::sweep::Scope;
-use other_rules::ruled::Ruled;
-use other_rules::{Fourfold, Threefold};
 use std::alloc::Global;
 use std::process::Abort;
+use thin_testing::{Fourfold, Ruled, Threefold};
 use thin_vec::{Doubling, PowerBytes};
 
 // Every shape, and of items that each own a block those of at most 40.
@@ -64,7 +63,7 @@ fn readings<T: Sample, R: Abort>(rt: &R, alloc: Global)
     every_array::<T, R>(rt, &scope);
 }
 
-// The same of items that can be copied.
+// How lists of items that can be copied are read and made.
 fn readings_and_copies<T: Sample + Copy, R: Abort>(rt: &R, alloc: Global)
     requires small { 6 * type_size T.row < 2 ^ 63 }
 {
@@ -77,7 +76,7 @@ fn replacings<T: Sample, G: Ruled, R: Abort>(rt: &R, alloc: Global) {
     every_replacing::<T, G, R>(rt, &short(rt, alloc));
 }
 
-// The same by copies.
+// How ranges of them give way to copies.
 fn replacings_by_copies<T: Sample + Copy, R: Abort>(rt: &R, alloc: Global) {
     every_replacing_by_copies::<T, Doubling, R>(rt, &short(rt, alloc));
 }

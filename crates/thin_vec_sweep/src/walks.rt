@@ -1,4 +1,4 @@
-//! Steps from both ends of what hands its items out, and what has to come at each.
+//! Steps from both ends of what yields items, and what has to come at each.
 use crate::shapes::Cases;
 
 /// How many walks over k items there are of at most k + 1 steps.

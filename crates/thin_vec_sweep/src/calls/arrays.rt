@@ -9,9 +9,9 @@ use crate::ledger::Ledger;
 use crate::samples::Sample;
 use crate::shapes::{SHAPES, Shape};
 use crate::sweep::{Call, Scope};
-use refusing::Refusing;
 use std::alloc::{Allocator, Global};
 use std::process::Abort;
+use thin_testing::Refusing;
 use thin_vec::{Doubling, ThinVec, ThinVecError, thin_vec};
 
 /// `thin_vec![alloc => x, y]`, with as many items as the shape has: one to three.
@@ -87,7 +87,7 @@ fn arrays<T: Sample, const N: usize, R: Abort>(rt: &R, ledger: &'static Ledger)
     }
 }
 
-// A list of N items becomes an array, and that a list; one of another length is handed back.
+// A list of N items becomes an array, and that a list; one of another length is returned.
 fn array<T: Sample, const N: usize, R: Abort>(rt: &R, ledger: &'static Ledger, at: At)
     requires small { N * type_size T.row < 2 ^ 63 }
 {
@@ -114,7 +114,7 @@ fn array<T: Sample, const N: usize, R: Abort>(rt: &R, ledger: &'static Ledger, a
 }
 
 // The list that an array was made from and turned into, whether there was one, and why the way back
-// was refused.
+// failed.
 fn there_and_back<T: Sample, A: Allocator, const N: usize, R: Abort>(
     rt: &R,
     at: &At,

@@ -1,12 +1,12 @@
 //! The calls that clone an item of the list, or one that they are passed: `extend_from_within`,
 //! `resize`; and `resize_with`.
-use crate::answers::{Questions, number_at};
 use crate::case::{Case, Verdict, numbers, source};
+use crate::closures::{Questions, number_at};
 use crate::samples::Sample;
 use crate::shapes::{Cases, Shape};
 use crate::sweep::Call;
-use other_rules::ruled::Ruled;
 use std::process::Abort;
+use thin_testing::Ruled;
 
 // The number of the first item that comes in.
 const FRESH: u64 = 80_000;
@@ -46,7 +46,8 @@ fn length(shape: Shape, argument: usize) -> (usize, usize) {
     }
 }
 
-/// To the same lengths. The closure owns a vector, whose items it gives from the last on.
+/// `resize_with` to the lengths of `Resize`. The closure owns a vector, whose items it returns from
+/// the last on.
 pub struct ResizeWith {}
 
 impl<T: Sample, G: Ruled> Call<T, G> for ResizeWith {

@@ -4,11 +4,11 @@ use crate::case::{Case, List, filled};
 use crate::samples::Sample;
 use crate::shapes::Shape;
 use crate::sweep::Call;
-use other_rules::ruled::Ruled;
 use std::alloc::Global;
 use std::fmt::Debug;
 use std::hash::{DefaultHasher, Hash, Hasher};
 use std::process::Abort;
+use thin_testing::Ruled;
 
 /// With a list of the same items, of one less or one more, or of another last item, and of other
 /// spare room.

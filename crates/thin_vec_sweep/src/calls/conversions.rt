@@ -4,10 +4,9 @@ use crate::case::{Case, List, Verdict, numbers};
 use crate::samples::Sample;
 use crate::shapes::Shape;
 use crate::sweep::Call;
-use other_rules::ruled::Ruled;
-use refusing::Refusing;
 use std::alloc::Global;
 use std::process::Abort;
+use thin_testing::{Refusing, Ruled};
 use thin_vec::{Doubling, Rejected, ThinVec, ThinVecError, thin_vec};
 
 // The number of an item that comes in.
@@ -228,7 +227,7 @@ impl<T: Sample> Call<T, Doubling> for New {
     }
 }
 
-/// The list that a call answered comes into the case.
+/// The list that a call returned comes into the case.
 pub fn made<T: Sample, R: Abort>(
     rt: &R,
     case: &mut Case<T, Doubling>,

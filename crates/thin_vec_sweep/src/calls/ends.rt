@@ -4,17 +4,18 @@ use crate::case::{Case, Verdict};
 use crate::samples::Sample;
 use crate::shapes::Shape;
 use crate::sweep::Call;
-use other_rules::ruled::Ruled;
 use std::mem;
 use std::process::Abort;
+use thin_testing::Ruled;
 use thin_vec::Rejected;
 
 // The number of an item that comes in.
 const FRESH: u64 = 70_000;
 
-// And of one in whose place that comes.
+// The number of an item that is overwritten at once.
 const PASSED: u64 = 71_000;
 
+/// After the other items.
 pub struct Push {}
 
 impl<T: Sample, G: Ruled> Call<T, G> for Push {
@@ -52,8 +53,8 @@ impl<T: Sample, G: Ruled> Call<T, G> for PushMut {
     }
 }
 
-// What a call answered that lends the place at `index`: the item that it was given is in hand, or
-// is handed back.
+// Checks a call that lends the place at `index`: the item that it was given is in hand, or was
+// returned.
 fn lent<T: Sample, G: Ruled, R: Abort>(
     rt: &R,
     case: &mut Case<T, G>,
@@ -91,6 +92,7 @@ impl<T: Sample, G: Ruled> Call<T, G> for PushReserved {
     }
 }
 
+/// At each index.
 pub struct Insert {}
 
 impl<T: Sample, G: Ruled> Call<T, G> for Insert {
@@ -165,6 +167,7 @@ impl<T: Sample, G: Ruled> Call<T, G> for InsertReserved {
     }
 }
 
+/// The last item, if there is one.
 pub struct Pop {}
 
 impl<T: Sample, G: Ruled> Call<T, G> for Pop {
@@ -178,6 +181,7 @@ impl<T: Sample, G: Ruled> Call<T, G> for Pop {
     }
 }
 
+/// At each index that has an item.
 pub struct Remove {}
 
 impl<T: Sample, G: Ruled> Call<T, G> for Remove {
@@ -200,6 +204,7 @@ impl<T: Sample, G: Ruled> Call<T, G> for Remove {
     }
 }
 
+/// At each index that has an item.
 pub struct SwapRemove {}
 
 impl<T: Sample, G: Ruled> Call<T, G> for SwapRemove {
@@ -245,6 +250,7 @@ impl<T: Sample, G: Ruled> Call<T, G> for Truncate {
     }
 }
 
+/// All items at once.
 pub struct Clear {}
 
 impl<T: Sample, G: Ruled> Call<T, G> for Clear {

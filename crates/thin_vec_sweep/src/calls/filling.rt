@@ -7,10 +7,10 @@ use crate::ledger::Ledger;
 use crate::samples::Sample;
 use crate::shapes::Shape;
 use crate::sweep::Call;
-use other_rules::ruled::Ruled;
 use std::alloc::Global;
 use std::iter;
 use std::process::Abort;
+use thin_testing::Ruled;
 use thin_vec::{Doubling, ThinVec};
 
 // The number of the last item that comes in: they come from it down.
@@ -45,14 +45,14 @@ pub struct Ending {
     pub held: usize,
     /// How many are in hand after those: at most one.
     pub in_hand: usize,
-    /// How often the iterator answers `None`: at most once.
+    /// How often the iterator returns `None`: at most once.
     pub ends: usize,
     /// How often its hint is asked.
     pub hints: u64,
 }
 
 impl Ending {
-    /// Of a filling that is refused. Behind those that were placed so many items were drawn.
+    /// Of a filling that fails. After those that were placed so many items were drawn.
     pub fn refused(verdict: Verdict, placed: usize, in_hand: usize) -> Ending {
         Ending {
             verdict,
@@ -137,8 +137,8 @@ pub fn asked<T: Sample, G: Ruled, R: Abort>(rt: &R, case: &Case<T, G>, ending: &
     );
 }
 
-/// What a refusal hands back: the item in hand, and the items that were not drawn. No item of
-/// `count` is lost.
+/// What an error returns: the item in hand, and the items that were not drawn. No item of `count`
+/// is lost.
 pub fn back<T: Sample, G: Ruled, R: Abort>(
     rt: &R,
     case: &Case<T, G>,
@@ -169,6 +169,7 @@ pub fn claims<T: Sample, G: Ruled, R: Abort>(
     Claims::new(source(rt, case.ledger, last, count), lower, case.ledger)
 }
 
+/// By each count of items, under each hint. Where it fails, it returns what it did not place.
 pub struct Extend {}
 
 impl<T: Sample, G: Ruled> Call<T, G> for Extend {

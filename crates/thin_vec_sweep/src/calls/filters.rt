@@ -1,19 +1,20 @@
-//! Calls that keep some items, by what a closure answers of them: each is asked in turn, and may
-//! write.
-use crate::answers::{PATTERNS, Questions, number_at, stays};
+//! Calls that keep some items, by what a closure returns of them: each is asked about in turn, and
+//! may be written.
 use crate::case::Case;
+use crate::closures::{PATTERNS, Questions, number_at, stays};
 use crate::samples::{Counted, Sample};
 use crate::shapes::Shape;
 use crate::sweep::Call;
-use other_rules::ruled::Ruled;
 use std::alloc::Global;
 use std::cell::Cell;
 use std::mem;
 use std::process::Abort;
+use thin_testing::Ruled;
 
 // The number of an item that comes in.
 const FRESH: u64 = 70_000;
 
+/// The closure only looks at the items.
 pub struct Retain {}
 
 impl<T: Sample, G: Ruled> Call<T, G> for Retain {

@@ -5,10 +5,10 @@ use crate::samples::Sample;
 use crate::shapes::Shape;
 use crate::sweep::Call;
 use crate::walks::{Remaining, WALKS, Walk};
-use other_rules::ruled::Ruled;
 use std::alloc::Allocator;
 use std::mem;
 use std::process::Abort;
+use thin_testing::Ruled;
 use thin_vec::Growth;
 
 // The number of an item that comes in.

@@ -3,8 +3,8 @@ use crate::case::{Case, Verdict, filled, numbers};
 use crate::samples::Sample;
 use crate::shapes::Shape;
 use crate::sweep::Call;
-use other_rules::ruled::Ruled;
 use std::process::Abort;
+use thin_testing::Ruled;
 
 // The number of the other list's first item.
 const FRESH: u64 = 80_000;

@@ -1,17 +1,18 @@
 //! Calls by which the items of a range go out, given up after any steps, and the test for ranges.
-use crate::answers::{number_at, stays};
 use crate::assertions::{At, same, same_item, same_items};
 use crate::case::Case;
+use crate::closures::{number_at, stays};
 use crate::samples::Sample;
 use crate::shapes::{Cases, Ranged, Shape};
 use crate::sweep::Call;
 use crate::walks::{Remaining, WALKS, Walk, some_steps};
-use other_rules::ruled::Ruled;
 use std::alloc::{Allocator, Global};
 use std::ops::Bound;
 use std::process::Abort;
+use thin_testing::Ruled;
 use thin_vec::{Drain, Growth, ThinVec, bounds};
 
+/// `drain` of each range, by each walk of steps from both ends.
 pub struct Drained {}
 
 impl<T: Sample, G: Ruled> Call<T, G> for Drained {
@@ -78,9 +79,10 @@ fn step_through<'a, T: Sample, A: Allocator, G: Growth, R: Abort>(
     remaining.of(numbers)
 }
 
-// Each number of calls up to k + 1, with each pattern of answers about k items.
+// Each number of calls up to k + 1, with each pattern of what the closure returns of k items.
 const EXTRACTIONS: Cases = [2, 6, 16, 40, 96, 224, 512];
 
+/// `extract_if` of each range, dropped after each number of calls, by each pattern of answers.
 pub struct Extracted {}
 
 impl<T: Sample, G: Ruled> Call<T, G> for Extracted {
@@ -105,11 +107,11 @@ impl<T: Sample, G: Ruled> Call<T, G> for Extracted {
 struct Extraction {
     // How often `next` is called.
     calls: usize,
-    // The pattern of answers.
+    // The pattern of what the closure returns.
     pattern: usize,
     // How many questions are asked.
     asked: usize,
-    // The number of each item that is handed out.
+    // The number of each item that is yielded.
     given: Vec<u64, Global>,
     // The number of each item of the list afterwards.
     left: Vec<u64, Global>,
@@ -146,7 +148,7 @@ impl Extraction {
     }
 }
 
-// How many calls of `next` are made on so many items, and with which answers.
+// How many calls of `next` are made on so many items, and what the closure returns.
 fn calls_and_pattern(width: usize, number: usize) -> (usize, usize) {
     if width >= EXTRACTIONS.len() {
         return (some_steps(width, number % 5), number / 5);

@@ -4,9 +4,9 @@ use crate::case::{Case, List};
 use crate::samples::Sample;
 use crate::shapes::Shape;
 use crate::sweep::Call;
-use other_rules::ruled::Ruled;
 use std::mem;
 use std::process::Abort;
+use thin_testing::Ruled;
 
 // The number of an item that comes in.
 const FRESH: u64 = 70_000;
@@ -62,7 +62,7 @@ impl<T: Sample, G: Ruled> Call<T, G> for Iterate {
     }
 }
 
-// The first place at which an iteration gives another item than the one of that number.
+// The first place at which an iteration yields another item than the one of that number.
 fn difference<T: Sample, G: Ruled>(list: &List<T, G>, numbers: &[u64]) -> Option<usize> {
     let mut index: usize = 0;
     for item in list {

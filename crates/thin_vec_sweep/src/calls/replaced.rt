@@ -1,11 +1,11 @@
 //! Ranges that give way to other items: `replace_range` and its kin.
-use crate::answers::number_at;
 use crate::case::{Case, Verdict, filled, numbers, source};
+use crate::closures::number_at;
 use crate::samples::Sample;
 use crate::shapes::{Cases, Ranged, Shape};
 use crate::sweep::Call;
-use other_rules::ruled::Ruled;
 use std::process::Abort;
+use thin_testing::Ruled;
 
 // The number of the first item that comes in.
 const FRESH: u64 = 80_000;

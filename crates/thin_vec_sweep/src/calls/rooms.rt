@@ -4,8 +4,8 @@ use crate::case::Case;
 use crate::samples::Sample;
 use crate::shapes::Shape;
 use crate::sweep::Call;
-use other_rules::ruled::Ruled;
 use std::process::Abort;
+use thin_testing::Ruled;
 
 /// By each count, by the numbers about the greatest that fits, and by `usize::MAX`.
 pub struct Reserve {}
@@ -79,6 +79,7 @@ impl<T: Sample, G: Ruled> Call<T, G> for ShrinkTo {
     }
 }
 
+/// To the length.
 pub struct ShrinkToFit {}
 
 impl<T: Sample, G: Ruled> Call<T, G> for ShrinkToFit {

@@ -3,11 +3,10 @@
 use crate::case::{Case, List};
 use crate::samples::Sample;
 use crate::sweep::Call;
-use other_rules::ruled::Ruled;
-use refusing::Refusing;
 use std::alloc::Global;
 use std::marker::PhantomData;
 use std::process::Abort;
+use thin_testing::{Refusing, Ruled};
 use thin_vec::{Doubling, ThinVec, ThinVecError};
 
 /// A call that makes a second list of the items of a list of `T` under the rule `G`.
@@ -16,7 +15,7 @@ pub trait MakesSecond<T: Sample, G: Ruled> {
     const NAME: &'static str;
 
     /// Whether it clones each item.
-    const CLONES: bool;
+    const CLONES: bool = false;
 
     /// Makes the call, on that allocator.
     fn second(
@@ -77,12 +76,11 @@ impl<T: Sample, G: Ruled> MakesSecond<T, G> for CloneAsTrait {
     }
 }
 
+/// As a run of bytes, on an allocator that is passed.
 pub struct CloneCopies {}
 
 impl<T: Sample + Copy, G: Ruled> MakesSecond<T, G> for CloneCopies {
     const NAME: &'static str = "clone_copies";
-
-    const CLONES: bool = false;
 
     fn second(
         list: &List<T, G>,
@@ -92,6 +90,7 @@ impl<T: Sample + Copy, G: Ruled> MakesSecond<T, G> for CloneCopies {
     }
 }
 
+/// Of clones of the items.
 pub struct FromSlice {}
 
 impl<T: Sample> MakesSecond<T, Doubling> for FromSlice {
@@ -107,12 +106,11 @@ impl<T: Sample> MakesSecond<T, Doubling> for FromSlice {
     }
 }
 
+/// Of copies of the items.
 pub struct FromCopies {}
 
 impl<T: Sample + Copy> MakesSecond<T, Doubling> for FromCopies {
     const NAME: &'static str = "from_copies";
-
-    const CLONES: bool = false;
 
     fn second(
         list: &List<T, Doubling>,

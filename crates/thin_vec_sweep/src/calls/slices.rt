@@ -5,10 +5,10 @@ use crate::case::{Case, List, source};
 use crate::samples::Sample;
 use crate::shapes::Shape;
 use crate::sweep::Call;
-use other_rules::ruled::Ruled;
 use std::io::{Error, ErrorKind, Write};
 use std::marker::PhantomData;
 use std::process::Abort;
+use thin_testing::Ruled;
 use thin_vec::ThinVecError;
 
 // The number of the first item that comes in.
@@ -20,10 +20,10 @@ pub trait AppendsSlice<T: Sample, G: Ruled> {
     const NAME: &'static str;
 
     /// Whether it clones each item.
-    const CLONES: bool;
+    const CLONES: bool = false;
 
     /// Whether it is for spare room alone.
-    const IS_RESERVED: bool;
+    const IS_RESERVED: bool = false;
 
     /// Makes the call.
     fn append<R: Abort>(
@@ -66,14 +66,13 @@ impl<T: Sample, G: Ruled, C: AppendsSlice<T, G>> Call<T, G> for AppendSlice<C> {
     }
 }
 
+/// By clones.
 pub struct ExtendFromSlice {}
 
 impl<T: Sample, G: Ruled> AppendsSlice<T, G> for ExtendFromSlice {
     const NAME: &'static str = "extend_from_slice";
 
     const CLONES: bool = true;
-
-    const IS_RESERVED: bool = false;
 
     fn append<R: Abort>(
         _rt: &R,
@@ -85,14 +84,11 @@ impl<T: Sample, G: Ruled> AppendsSlice<T, G> for ExtendFromSlice {
     }
 }
 
+/// By copies.
 pub struct ExtendFromCopies {}
 
 impl<T: Sample + Copy, G: Ruled> AppendsSlice<T, G> for ExtendFromCopies {
     const NAME: &'static str = "extend_from_copies";
-
-    const CLONES: bool = false;
-
-    const IS_RESERVED: bool = false;
 
     fn append<R: Abort>(
         _rt: &R,
@@ -104,6 +100,7 @@ impl<T: Sample + Copy, G: Ruled> AppendsSlice<T, G> for ExtendFromCopies {
     }
 }
 
+/// By clones, into spare room.
 pub struct ExtendFromSliceReserved {}
 
 impl<T: Sample, G: Ruled> AppendsSlice<T, G> for ExtendFromSliceReserved {
@@ -127,12 +124,11 @@ impl<T: Sample, G: Ruled> AppendsSlice<T, G> for ExtendFromSliceReserved {
     }
 }
 
+/// By copies, into spare room.
 pub struct ExtendFromCopiesReserved {}
 
 impl<T: Sample + Copy, G: Ruled> AppendsSlice<T, G> for ExtendFromCopiesReserved {
     const NAME: &'static str = "extend_from_copies_reserved";
-
-    const CLONES: bool = false;
 
     const IS_RESERVED: bool = true;
 
@@ -150,14 +146,11 @@ impl<T: Sample + Copy, G: Ruled> AppendsSlice<T, G> for ExtendFromCopiesReserved
     }
 }
 
+/// `write`, which takes all bytes that it is passed.
 pub struct WriteSome {}
 
 impl<G: Ruled> AppendsSlice<u8, G> for WriteSome {
     const NAME: &'static str = "write";
-
-    const CLONES: bool = false;
-
-    const IS_RESERVED: bool = false;
 
     fn append<R: Abort>(
         rt: &R,
@@ -175,14 +168,11 @@ impl<G: Ruled> AppendsSlice<u8, G> for WriteSome {
     }
 }
 
+/// `write_all`, and `flush`.
 pub struct WriteAll {}
 
 impl<G: Ruled> AppendsSlice<u8, G> for WriteAll {
     const NAME: &'static str = "write_all, flush";
-
-    const CLONES: bool = false;
-
-    const IS_RESERVED: bool = false;
 
     fn append<R: Abort>(
         rt: &R,
@@ -199,7 +189,7 @@ impl<G: Ruled> AppendsSlice<u8, G> for WriteAll {
     }
 }
 
-// The cause of a refused write: there is one kind for both.
+// The cause of a write that failed: there is one kind for both.
 fn cause<R: Abort>(rt: &R, at: &At, error: &Error) -> ThinVecError {
     let kind = error.kind() == ErrorKind::OutOfMemory;
     same(rt, at, "the error's kind is OutOfMemory", kind, true);

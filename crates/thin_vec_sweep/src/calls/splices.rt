@@ -4,18 +4,18 @@ ghost use Rattle.std.specs.Iterator.{IsFinite};
 ghost use Rattle.std.specs.Prelude.{◌≤◌, length};
 ghost use Rattle.thin_vec.specs.Splice.{SpliceKeeps};
 
-use crate::answers::number_at;
 use crate::assertions::{is_item, same};
 use crate::calls::filling::{Ending, asked, back, claims, coming, fill};
 use crate::case::{Case, Verdict, numbers};
 use crate::claims::Claims;
+use crate::closures::number_at;
 use crate::samples::Sample;
 use crate::shapes::{Cases, Ranged, Shape};
 use crate::sweep::Call;
 use crate::walks::{Remaining, Walk};
-use other_rules::ruled::Ruled;
 use std::alloc::{Allocator, Global};
 use std::process::Abort;
+use thin_testing::Ruled;
 use thin_vec::{Growth, Splice, SpliceRefused, ThinVec};
 
 // How many hints are tried.
@@ -183,6 +183,7 @@ fn hold<T: Sample, G: Ruled>(case: &mut Case<T, G>, count: usize) -> usize {
     count
 }
 
+/// `splice` of each range by each count of items under each hint, after some steps.
 pub struct Spliced {}
 
 impl<T: Sample, G: Ruled> Call<T, G> for Spliced {
@@ -282,7 +283,7 @@ fn walk<T: Sample, A: Allocator, G: Growth, I>(
     }
 }
 
-// What a refusal hands back: what is held, what is in hand, and the rest of `count` items.
+// What an error returns: what is held, what is in hand, and the rest of `count` items.
 fn given_back<T: Sample, A: Allocator, G: Ruled, R: Abort>(
     rt: &R,
     case: &Case<T, G>,

@@ -1,1 +1,0 @@
--- No word of its own.

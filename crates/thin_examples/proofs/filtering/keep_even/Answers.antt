@@ -1,0 +1,8 @@
+-- The closure answers as the test does, so the items left are those that pass it.
+use Rattle.std.proofs.Common.{rules}
+use Rattle.thin_vec.proofs.FiltersLemmas.{retained_filter}
+use Rattle.thin_examples.proofs.filtering.keep_even.Goals as goal
+
+pub returns-clause-items : goal.returns-clause-items
+returns-clause-items g c = retained_filter _ _
+    (λ x b t k. search rules) c.retain.ensures.retained

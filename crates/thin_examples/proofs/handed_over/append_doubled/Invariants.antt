@@ -1,0 +1,9 @@
+-- What came in, and room for what is to come.
+use Rattle.std.proofs.Common.{◌≡◌, ◌+◌, ◌*◌, ◌++◌, ◌≤◌, length, map, take}
+use Rattle.thin_examples.proofs.handed_over.append_doubled.Given as goal
+
+abbrev pub invariant-loop-number : goal.invariant-loop-number
+invariant-loop-number g l =
+    (l.list.items
+    ≡ l.fn.list.items ++ map (λ number. 2 * number) (take l.number-index l.numbers))
+    × (length l.list.items + length l.numbers ≤ l.list.capacity + l.number-index)

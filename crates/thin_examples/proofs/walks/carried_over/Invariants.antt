@@ -1,0 +1,9 @@
+-- What came over, and what is to come, are all the items.
+use Rattle.std.proofs.Common.{◌≡◌, ◌++◌, length}
+use Rattle.thin_examples.proofs.walks.carried_over.Given as goal
+
+abbrev pub invariant-loop-item : goal.invariant-loop-item
+invariant-loop-item l = l.fn.list.items ≡ l.vec.items ++ l.items.items
+
+abbrev pub decreases-loop-item : goal.decreases-loop-item
+decreases-loop-item l = length l.items.items

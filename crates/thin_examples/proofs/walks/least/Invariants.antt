@@ -1,0 +1,7 @@
+-- The least of those that were handed out so far.
+use Rattle.std.proofs.Common.{◌≡◌, min}
+use Rattle.std.specs.List.{fold}
+use Rattle.thin_examples.proofs.walks.least.Given as goal
+
+abbrev pub invariant-loop-item : goal.invariant-loop-item
+invariant-loop-item l = l.least ≡ fold min l.start l.yielded

@@ -1,0 +1,28 @@
+//! Callers to copy from, a file each, and the worked rows: functions that compare what the calls
+//! give with figures worked out by hand. The program that runs the rows is `thin_bench`.
+#![tactic(auto)]
+
+pub mod checks;
+pub mod filtering;
+pub mod first_list;
+pub mod growing;
+pub mod handed_over;
+pub mod indices;
+pub mod last_digits;
+pub mod moved_range;
+pub mod moves;
+pub mod own_error;
+pub mod refused_push;
+pub mod replaced_range;
+pub mod reporting;
+pub mod reserved_room;
+pub mod rows;
+pub mod shown_room;
+pub mod sorting;
+pub mod sparse_counts;
+pub mod spliced;
+pub mod std_errors;
+pub mod std_names;
+pub mod style_lists;
+pub mod syntax_tree;
+pub mod walks;

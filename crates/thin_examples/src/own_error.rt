@@ -1,0 +1,59 @@
+//! `?` in functions that return an error type of their own.
+ghost use Rattle.std.specs.Prelude.{◌≡◌, ◌↔◌, [], ◌∷◌, ◌++◌, ◌<◌, IsErrOf, IsOk, OnErr, OnOk, length};
+ghost use Rattle.thin_vec.specs.ThinVec.{HasRoomFor};
+
+use std::alloc::Allocator;
+use thin_vec::{Growth, Rejected, ThinVec, ThinVecError};
+use thiserror::Error;
+
+/// Why an order was not taken.
+#[derive(Debug, Drop, Error)]
+pub enum OrderError {
+    /// It is for no piece.
+    #[error("an order for no piece")]
+    NoPiece,
+    /// The list of orders has no room for it, and gets none.
+    #[error("no room for the order: {0}")]
+    NoRoom(#[from] ThinVecError),
+}
+
+impl<S: Drop> From<Rejected<S>> for OrderError {
+    ghost use Rattle.thin_examples.specs.declared.own_error.OrderError.{OrderError};
+
+    ghost from_gives = { λ refused error. error ≡ OrderError.NoRoom refused.cause };
+
+    // The value is dropped.
+    fn from(refused: Rejected<S>) -> OrderError {
+        OrderError::NoRoom(refused.cause)
+    }
+}
+
+/// Appends an order for so many pieces.
+pub fn take_order<A: Allocator, G: Growth>(
+    orders: &mut ThinVec<u32, A, G>,
+    pieces: u32,
+) -> Result<(), OrderError>
+    ensures succeeds { HasRoomFor orders.old 1 → 0 < pieces → IsOk result }
+    ensures no_piece { IsErrOf result OrderError.NoPiece ↔ (pieces ≡ 0) }
+    ensures items { OnOk result (orders.new.items ≡ orders.old.items ++ pieces ∷ []) }
+    ensures err { OnErr result (orders.new ≡ orders.old) }
+{
+    if pieces == 0 {
+        return Err(OrderError::NoPiece);
+    }
+    orders.push(pieces)?;
+    Ok(())
+}
+
+/// Appends the orders of another list, or none of them.
+pub fn take_orders<A: Allocator, G: Growth>(
+    orders: &mut ThinVec<u32, A, G>,
+    other: &mut ThinVec<u32, A, G>,
+) -> Result<(), OrderError>
+    ensures succeeds { HasRoomFor orders.old (length other.old.items) → IsOk result }
+    ensures items { OnOk result (orders.new.items ≡ orders.old.items ++ other.old.items) }
+    ensures err { OnErr result (orders.new ≡ orders.old) }
+{
+    orders.append(other)?;
+    Ok(())
+}

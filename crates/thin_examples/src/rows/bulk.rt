@@ -1,0 +1,93 @@
+//! Rows of the calls on many items at once.
+use crate::checks::Checks;
+use crate::rows::{Outcome, listed};
+use std::alloc::Allocator;
+use thin_runner::hinted::Hinted;
+use thin_vec::{ExtendRefused, ThinVec, ThinVecError};
+
+/// The items, by an iterator that claims `lower` of them at each turn.
+pub fn claiming<A: Allocator, const N: usize>(
+    alloc: A,
+    items: [i32; N],
+    lower: usize,
+) -> Result<Hinted<i32, A>, ThinVecError> {
+    match Vec::from_array(alloc, items) {
+        Ok(items) => Ok(Hinted::new(items, lower)),
+        Err(_refused) => Err(ThinVecError::OutOfMemory),
+    }
+}
+
+/// A list is split in two and joined again, and split off at its end.
+pub fn row_15<A: Allocator + Copy>(alloc: A) -> Outcome {
+    let mut checks = Checks::new();
+    let mut list = listed(alloc, [1, 2, 3, 4, 5, 6])?;
+    let mut tail = list.split_off(alloc, 4)?;
+    checks.holds(&list, &[1, 2, 3, 4], 6);
+    checks.holds(&tail, &[5, 6], 2);
+    list.append(&mut tail)?;
+    checks.holds(&list, &[1, 2, 3, 4, 5, 6], 6);
+    checks.holds(&tail, &[], 2);
+    checks.holds(&list.split_off(alloc, 6)?, &[], 0);
+    Ok(checks)
+}
+
+/// `extend` by five items, of which the hint claims none, some, all, or more.
+pub fn row_24<A: Allocator + Copy>(alloc: A) -> Outcome {
+    let mut checks = Checks::new();
+    for (lower, capacity) in [(0, 8), (3, 8), (5, 5), (9, 9)] {
+        let mut list = ThinVec::new(alloc);
+        list.extend(claiming(alloc, [1, 2, 3, 4, 5], lower)?)?;
+        checks.holds(&list, &[1, 2, 3, 4, 5], capacity);
+    }
+    Ok(checks)
+}
+
+// What is refused hands back the items, of which none was asked for.
+fn check_refused<A: Allocator>(checks: &mut Checks, refused: ExtendRefused<i32, Hinted<i32, A>>) {
+    let ExtendRefused {
+        cause,
+        in_hand,
+        mut rest,
+    } = refused;
+    checks.same((cause, in_hand), (ThinVecError::CapacityOverflow, None));
+    checks.items(
+        &[rest.next(), rest.next(), rest.next()],
+        &[Some(2), Some(3), None],
+    );
+}
+
+/// `extend` by a hint that overflows takes no item.
+pub fn row_25<A: Allocator + Copy>(alloc: A) -> Outcome {
+    let mut checks = Checks::new();
+    let mut list = listed(alloc, [1])?;
+    match list.extend(claiming(alloc, [2, 3], usize::MAX)?) {
+        Ok(()) => checks.is(false),
+        Err(refused) => check_refused(&mut checks, refused),
+    }
+    checks.holds(&list, &[1], 1);
+    Ok(checks)
+}
+
+/// `from_iter` makes room for as many items as there are.
+pub fn row_27<A: Allocator + Copy>(alloc: A) -> Outcome {
+    let mut checks = Checks::new();
+    for count in 0..20 {
+        let list = ThinVec::from_iter(alloc, 0..count)?;
+        checks.same((list.len(), list.capacity()), (count, count));
+    }
+    Ok(checks)
+}
+
+/// `resize` to more items and to fewer.
+pub fn row_28<A: Allocator + Copy>(alloc: A) -> Outcome {
+    let mut checks = Checks::new();
+    let mut words = listed(alloc, ["hello"])?;
+    words.resize(3, "world")?;
+    checks.holds(&words, &["hello", "world", "world"], 3);
+    let mut numbers = listed(alloc, [1, 2, 3, 4])?;
+    for item in [0, 9] {
+        numbers.resize(2, item)?;
+        checks.holds(&numbers, &[1, 2], 4);
+    }
+    Ok(checks)
+}

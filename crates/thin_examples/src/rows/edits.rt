@@ -1,0 +1,109 @@
+//! Rows of edits: calls that stay beside the list while they work, and the test for their ranges.
+use crate::checks::Checks;
+use crate::rows::{Outcome, listed};
+use std::alloc::Allocator;
+use std::fmt::Debug;
+use std::ops::Bound;
+use thin_vec::{ThinVecError, bounds};
+
+/// A `drain` from both ends, dropped before it has ended.
+pub fn row_7<A: Allocator + Copy>(alloc: A) -> Outcome {
+    let mut checks = Checks::new();
+    let mut list = listed(alloc, [1, 2, 3, 4, 5, 6])?;
+    let mut drain = list.drain(1, 5);
+    checks.items(&[drain.next(), drain.next_back()], &[Some(2), Some(5)]);
+    drop(drain);
+    checks.holds(&list, &[1, 6], 6);
+    Ok(checks)
+}
+
+fn is_even(item: i32) -> bool {
+    item.wrapping_rem(2) == 0
+}
+
+/// An `extract_if` of a range, dropped after its first item.
+pub fn row_8<A: Allocator + Copy>(alloc: A) -> Outcome {
+    let mut checks = Checks::new();
+    let mut list = listed(alloc, [1, 2, 3, 4, 5, 6])?;
+    let mut extract = list.extract_if(1, 5, |item: &mut i32| is_even(*item));
+    checks.same(extract.size_hint(), (0, Some(4)));
+    checks.same(extract.next(), Some(2));
+    checks.same(extract.size_hint(), (0, Some(3)));
+    drop(extract);
+    checks.holds(&list, &[1, 3, 4, 5, 6], 6);
+    Ok(checks)
+}
+
+/// An `extract_if` that writes the items it asks about.
+pub fn row_9<A: Allocator + Copy>(alloc: A) -> Outcome {
+    let mut checks = Checks::new();
+    let mut list = listed(alloc, [1, 2, 3, 4])?;
+    let mut extract = list.extract_if(0, 4, |item: &mut i32| {
+        *item = item.wrapping_add(1);
+        *item == 3
+    });
+    checks.same(extract.size_hint(), (0, Some(4)));
+    checks.same(extract.next(), Some(3));
+    checks.same(extract.size_hint(), (0, Some(2)));
+    drop(extract);
+    checks.holds(&list, &[2, 3, 4], 4);
+    Ok(checks)
+}
+
+/// Which ranges in Rust's forms a list of five items has.
+pub fn row_18<A: Allocator + Copy>(_alloc: A) -> Outcome {
+    let mut checks = Checks::new();
+    for (start, end, wanted) in [
+        (Bound::Excluded(usize::MAX), Bound::Unbounded, None),
+        (Bound::Unbounded, Bound::Included(usize::MAX), None),
+        (Bound::Included(5), Bound::Included(5), None),
+        (Bound::Included(3), Bound::Excluded(2), None),
+        (Bound::Included(1), Bound::Included(3), Some((1, 4))),
+        (Bound::Excluded(1), Bound::Excluded(3), Some((2, 3))),
+        (Bound::Included(5), Bound::Unbounded, Some((5, 5))),
+    ] {
+        checks.same(bounds(start, end, 5), wanted);
+    }
+    Ok(checks)
+}
+
+/// An `extract_if` to its end.
+pub fn row_33<A: Allocator + Copy>(alloc: A) -> Outcome {
+    let mut checks = Checks::new();
+    let mut list = listed(alloc, [1, 2, 3, 4, 5, 6, 8, 9, 11, 13, 14, 15])?;
+    let mut extract = list.extract_if(0, 12, |item: &mut i32| is_even(*item));
+    for wanted in [Some(2), Some(4), Some(6), Some(8), Some(14), None] {
+        checks.same(extract.next(), wanted);
+    }
+    drop(extract);
+    checks.holds(&list, &[1, 3, 5, 9, 11, 13, 15], 12);
+    Ok(checks)
+}
+
+// Compares what `{:?}` writes.
+fn check_text<T: Debug, A: Allocator>(
+    checks: &mut Checks,
+    alloc: A,
+    value: &T,
+    text: &str,
+) -> Result<(), ThinVecError> {
+    checks.is(format!(in alloc; "{value:?}")?.as_str() == text);
+    Ok(())
+}
+
+/// What `{:?}` writes of a list, a `Drain` and an `IntoIter`.
+pub fn row_35<A: Allocator + Copy>(alloc: A) -> Outcome {
+    let mut checks = Checks::new();
+    let mut list = listed(alloc, [1, 2, 3])?;
+    check_text(&mut checks, alloc, &list, "[1, 2, 3]")?;
+    check_text(
+        &mut checks,
+        alloc,
+        &list.clone(alloc)?.drain(1, 2),
+        "Drain([2])",
+    )?;
+    let mut items = list.into_iter();
+    checks.same(items.next(), Some(1));
+    check_text(&mut checks, alloc, &items, "IntoIter([2, 3])")?;
+    Ok(checks)
+}

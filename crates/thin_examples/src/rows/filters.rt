@@ -1,0 +1,62 @@
+//! Rows of the calls that keep some items.
+use crate::checks::Checks;
+use crate::rows::{Outcome, listed};
+use std::alloc::Allocator;
+
+/// `dedup_by` compares an item with the last one that stayed.
+pub fn row_13<A: Allocator + Copy>(alloc: A) -> Outcome {
+    let mut checks = Checks::new();
+    let mut list = listed(alloc, [1i32, 2, 3, 5])?;
+    list.dedup_by(|later, kept| later.wrapping_sub(*kept) <= 1);
+    checks.holds(&list, &[1, 3, 5], 4);
+    Ok(checks)
+}
+
+// Adds the count of a later word to that of the one before, where they are the same.
+fn add_count(later: &mut (&'static str, i32), kept: &mut (&'static str, i32)) -> bool {
+    let same = later.0 == kept.0;
+    if same {
+        kept.1 = kept.1.wrapping_add(later.1);
+    }
+    same
+}
+
+/// `dedup_by` and `retain_mut` with closures that write.
+pub fn row_14<A: Allocator + Copy>(alloc: A) -> Outcome {
+    let mut checks = Checks::new();
+    let mut counts = listed(
+        alloc,
+        [
+            ("foo", 1i32),
+            ("foo", 2),
+            ("bar", 3),
+            ("bar", 4),
+            ("bar", 5),
+        ],
+    )?;
+    counts.dedup_by(|later, kept| add_count(later, kept));
+    checks.holds(&counts, &[("foo", 3), ("bar", 12)], 5);
+    let mut numbers = listed(alloc, [9, 9, 9, 9])?;
+    let mut number = 0i32;
+    numbers.retain_mut(|item| {
+        number = number.wrapping_add(1);
+        *item = number;
+        number != 4
+    });
+    checks.holds(&numbers, &[1, 2, 3], 4);
+    Ok(checks)
+}
+
+/// `dedup_by_key` and `dedup`.
+pub fn row_34<A: Allocator + Copy>(alloc: A) -> Outcome {
+    let mut checks = Checks::new();
+    let mut tens = listed(alloc, [10, 20, 21, 30, 20])?;
+    tens.dedup_by_key(|item| *item / 10);
+    checks.holds(&tens, &[10, 20, 30, 20], 5);
+    let mut digits = listed(alloc, [1, 2, 2, 3, 2])?;
+    digits.dedup();
+    checks.holds(&digits, &[1, 2, 3, 2], 5);
+    checks.same(tens.pop(), Some(20));
+    checks.same(digits.pop(), Some(2));
+    Ok(checks)
+}

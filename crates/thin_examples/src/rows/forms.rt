@@ -1,0 +1,118 @@
+//! Rows of lists in other forms: repeated, walked, compared, written to and converted.
+use crate::checks::Checks;
+use crate::rows::{Outcome, listed};
+use std::alloc::Allocator;
+use std::cmp::Ordering;
+use std::hash::{DefaultHasher, Hash, Hasher};
+use std::io;
+use std::io::Write;
+use thin_vec::{ThinVec, ThinVecError, thin_vec};
+
+/// `thin_vec!` of a repeated item, of items written out, and of none.
+pub fn row_3<A: Allocator + Copy>(alloc: A) -> Outcome {
+    let mut checks = Checks::new();
+    let repeated = thin_vec![alloc => 7; 2]?;
+    checks.holds(&repeated, &[7, 7], 4);
+    let written_out = thin_vec![alloc => 7, 7]?;
+    checks.holds(&written_out, &[7, 7], 2);
+    checks.is(repeated == written_out);
+    let nothing = thin_vec![alloc =>]?;
+    checks.holds::<i32, A, _>(&nothing, &[], 0);
+    Ok(checks)
+}
+
+/// `into_array` of another length gives the list back; the clone of an empty list is without a
+/// block.
+pub fn row_20<A: Allocator + Copy>(alloc: A) -> Outcome {
+    let mut checks = Checks::new();
+    let digits = [0, 1, 2, 3, 4, 5, 6, 7, 8, 9];
+    match listed(alloc, digits)?.into_array::<4>() {
+        Ok(_first) => checks.is(false),
+        Err(list) => checks.holds(&list, &digits, 10),
+    }
+    let mut list = ThinVec::new(alloc);
+    list.push(0)?;
+    checks.same(list.pop(), Some(0));
+    checks.holds(&list, &[], 4);
+    let clone = list.clone(alloc)?;
+    checks.holds(&clone, &[], 0);
+    checks.is(!clone.has_capacity());
+    Ok(checks)
+}
+
+/// `into_iter` from both ends, with a clone in between.
+pub fn row_29<A: Allocator + Copy>(alloc: A) -> Outcome {
+    let mut checks = Checks::new();
+    let mut items = listed(alloc, [1, 2, 3])?.into_iter();
+    checks.items(&[items.next(), items.next_back()], &[Some(1), Some(3)]);
+    checks.same(items.len(), 1);
+    checks.items(items.clone(alloc)?.as_slice(), &[2]);
+    let rest = [items.next(), items.next(), items.next_back()];
+    checks.items(&rest, &[Some(2), None, None]);
+    Ok(checks)
+}
+
+fn hash_of<A: Allocator>(list: &ThinVec<i32, A>) -> u64 {
+    let mut hasher = DefaultHasher::new();
+    list.hash(&mut hasher);
+    hasher.finish()
+}
+
+// Compares lists of these items.
+fn check_order<A: Allocator + Copy>(
+    checks: &mut Checks,
+    alloc: A,
+    left: &[i32],
+    right: &[i32],
+    order: Ordering,
+) -> Result<(), ThinVecError> {
+    let left = ThinVec::from_copies(alloc, left)?;
+    let right = ThinVec::from_copies(alloc, right)?;
+    checks.same(left.cmp(&right), order);
+    Ok(())
+}
+
+/// Lists are compared and hashed by their items alone.
+pub fn row_30<A: Allocator + Copy>(alloc: A) -> Outcome {
+    let mut checks = Checks::new();
+    let list = listed(alloc, [1, 2])?;
+    let mut roomy = ThinVec::with_capacity(alloc, 10)?;
+    roomy.extend_from_slice(&[1, 2])?;
+    checks.is(list == roomy);
+    checks.same(hash_of(&list), hash_of(&roomy));
+    checks.same(roomy.capacity(), 10);
+    check_order(&mut checks, alloc, &[1, 2], &[1, 2, 0], Ordering::Less)?;
+    check_order(&mut checks, alloc, &[2], &[1, 9], Ordering::Greater)?;
+    Ok(checks)
+}
+
+// What writes to a list reply.
+fn check_writes<A: Allocator>(checks: &mut Checks, bytes: &mut ThinVec<u8, A>) -> io::Result<()> {
+    bytes.write_all(&[3, 4, 5])?;
+    checks.holds(bytes, &[1, 2, 3, 4, 5], 5);
+    checks.same(bytes.write(&[])?, 0);
+    checks.same(bytes.write(&[6])?, 1);
+    checks.holds(bytes, &[1, 2, 3, 4, 5, 6], 10);
+    Ok(())
+}
+
+/// Bytes that are written after others.
+pub fn row_31<A: Allocator + Copy>(alloc: A) -> Outcome {
+    let mut checks = Checks::new();
+    let mut bytes = listed(alloc, [1, 2])?;
+    match check_writes(&mut checks, &mut bytes) {
+        Ok(()) => Ok(checks),
+        Err(_refused) => Err(ThinVecError::OutOfMemory),
+    }
+}
+
+/// A list that becomes a `Vec`, and one made of a text.
+pub fn row_36<A: Allocator + Copy>(alloc: A) -> Outcome {
+    let mut checks = Checks::new();
+    let list = ThinVec::from_array(alloc, [1, 2, 3])?;
+    checks.same(list.capacity(), 3);
+    checks.items(list.into_vec(alloc)?.as_slice(), &[1, 2, 3]);
+    let bytes = ThinVec::from_str(alloc, "123")?;
+    checks.holds(&bytes, &[49, 50, 51], 3);
+    Ok(checks)
+}

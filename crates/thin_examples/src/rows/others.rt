@@ -1,0 +1,75 @@
+//! A row of the growth rule that fills powers of two, and one of the sparse table.
+use crate::checks::Checks;
+use crate::rows::Outcome;
+use std::alloc::Allocator;
+use thin_rows::Rows;
+use thin_vec::{PowerBytes, ThinVec, ThinVecError};
+
+/// The capacities that `PowerBytes` gives.
+pub fn row_21<A: Allocator + Copy>(alloc: A) -> Outcome {
+    let mut checks = Checks::new();
+    let mut list: ThinVec<u32, A, PowerBytes> = ThinVec::ruled(alloc);
+    for capacity in [4, 12, 28] {
+        for _ in list.len()..capacity {
+            list.push(7)?;
+            checks.same(list.capacity(), capacity);
+        }
+    }
+    checks.same(list.len(), 28);
+    Ok(checks)
+}
+
+// Puts a value in the row 1, and compares what was there.
+fn set<A: Allocator>(
+    checks: &mut Checks,
+    table: &mut Rows<char, A>,
+    column: usize,
+    value: char,
+    before: Option<char>,
+) -> Result<(), ThinVecError> {
+    if table.rows() == 3 {
+        checks.same(table.set(1, column, value)?, before);
+    }
+    Ok(())
+}
+
+// Takes a value out of the row 1, and compares it.
+fn remove<A: Allocator>(
+    checks: &mut Checks,
+    table: &mut Rows<char, A>,
+    column: usize,
+    value: char,
+) {
+    if table.rows() == 3 {
+        checks.same(table.remove(1, column), Some(value));
+    }
+}
+
+// Compares the entries of the row 1, and whether it owns a block.
+fn check_entries<A: Allocator>(
+    checks: &mut Checks,
+    table: &Rows<char, A>,
+    entries: &[(usize, char)],
+    owns_block: bool,
+) {
+    checks.same(table.rows(), 3);
+    checks.same(table.len(), entries.len());
+    if table.rows() == 3 {
+        checks.items(table.row(1), entries);
+        checks.same(table.owns_block(1), owns_block);
+    }
+}
+
+/// Values of the sparse table, set and removed.
+pub fn row_40<A: Allocator + Copy>(alloc: A) -> Outcome {
+    let mut checks = Checks::new();
+    let mut table = Rows::with_rows(alloc, 3)?;
+    set(&mut checks, &mut table, 7, 'a', None)?;
+    set(&mut checks, &mut table, 2, 'b', None)?;
+    check_entries(&mut checks, &table, &[(2, 'b'), (7, 'a')], true);
+    set(&mut checks, &mut table, 7, 'c', Some('a'))?;
+    remove(&mut checks, &mut table, 2, 'b');
+    remove(&mut checks, &mut table, 7, 'c');
+    check_entries(&mut checks, &table, &[], false);
+    Ok(checks)
+}

@@ -1,0 +1,135 @@
+//! Rows of `splice`.
+use crate::checks::Checks;
+use crate::rows::bulk::claiming;
+use crate::rows::{Outcome, listed};
+use std::alloc::Allocator;
+use std::iter::{empty, once};
+use thin_runner::hinted::Hinted;
+use thin_vec::{SpliceRefused, ThinVec, ThinVecError};
+
+/// A splice by a hint that claims too many items, and by a true one.
+pub fn row_10<A: Allocator + Copy>(alloc: A) -> Outcome {
+    let mut checks = Checks::new();
+    for (claim, capacity) in [(1000, 1005), (3, 10)] {
+        let mut list = listed(alloc, [1, 2, 3, 4, 5])?;
+        let items = claiming(alloc, [10, 11, 12], claim)?;
+        list.splice(2, 4, items).finish(alloc)?;
+        checks.holds(&list, &[1, 2, 10, 11, 12, 5], capacity);
+    }
+    Ok(checks)
+}
+
+// What is refused hands back the item for which there was no room, and holds none.
+fn check_refused<A: Allocator>(
+    checks: &mut Checks,
+    refused: SpliceRefused<i32, Hinted<i32, A>, A>,
+) {
+    let SpliceRefused {
+        cause,
+        held,
+        in_hand,
+        mut rest,
+    } = refused;
+    checks.same(cause, ThinVecError::CapacityOverflow);
+    checks.items(held.as_slice(), &[]);
+    checks.same(in_hand, None);
+    checks.items(&[rest.next(), rest.next()], &[Some(12), None]);
+}
+
+/// A splice by a hint that overflows fills the range's places alone.
+pub fn row_11<A: Allocator + Copy>(alloc: A) -> Outcome {
+    let mut checks = Checks::new();
+    let mut list = listed(alloc, [1, 2, 3, 4, 5])?;
+    let items = claiming(alloc, [10, 11, 12], usize::MAX)?;
+    match list.splice(2, 4, items).finish(alloc) {
+        Ok(()) => checks.is(false),
+        Err(refused) => check_refused(&mut checks, refused),
+    }
+    checks.holds(&list, &[1, 2, 10, 11, 5], 5);
+    Ok(checks)
+}
+
+// Compares what a `Drain` and a `Splice` of nothing give on an empty list.
+fn check_edits_of_nothing<A: Allocator + Copy>(
+    checks: &mut Checks,
+    alloc: A,
+    list: &mut ThinVec<i32, A>,
+) -> Result<(), ThinVecError> {
+    let mut drain = list.drain(0, 0);
+    checks.items(&[drain.next(), drain.next_back()], &[None, None]);
+    drop(drain);
+    list.splice(0, 0, empty()).finish(alloc)?;
+    checks.holds(list, &[], 0);
+    Ok(())
+}
+
+// Counts the questions of the calls that ask about items.
+fn count_questions<A: Allocator>(list: &mut ThinVec<i32, A>) -> u32 {
+    let mut calls = 0u32;
+    list.retain(|_item| {
+        calls = calls.wrapping_add(1);
+        true
+    });
+    list.dedup_by(|_later, _kept| {
+        calls = calls.wrapping_add(1);
+        true
+    });
+    calls
+}
+
+/// Calls on an empty list, which ask for no memory and call no closure.
+pub fn row_22<A: Allocator + Copy>(alloc: A) -> Outcome {
+    let mut checks = Checks::new();
+    let mut list = ThinVec::new(alloc);
+    checks.is(!list.has_capacity());
+    list.shrink_to_fit()?;
+    check_edits_of_nothing(&mut checks, alloc, &mut list)?;
+    checks.holds(&list.split_off(alloc, 0)?, &[], 0);
+    checks.holds(&list.clone(alloc)?, &[], 0);
+    checks.same(count_questions(&mut list), 0);
+    checks.holds(&list, &[], 0);
+    Ok(checks)
+}
+
+// A range that is handed out whole, and nothing that takes its place, leave an empty list.
+fn check_emptied<A: Allocator + Copy>(checks: &mut Checks, alloc: A) -> Result<(), ThinVecError> {
+    let mut list = listed(alloc, [1, 2, 3, 4, 5])?;
+    let mut splice = list.splice(0, 5, empty());
+    for wanted in 1..6 {
+        checks.same(splice.next(), Some(wanted));
+    }
+    splice.finish(alloc)?;
+    checks.holds(&list, &[], 5);
+    Ok(())
+}
+
+// A splice of the numbers from 1 to 5 hands out two items, and puts three in; a second one hands
+// out what the first put in.
+fn check_spliced_twice<A: Allocator + Copy>(
+    checks: &mut Checks,
+    alloc: A,
+) -> Result<(), ThinVecError> {
+    let mut list = listed(alloc, [1, 2, 3, 4, 5])?;
+    let mut splice = list.splice(2, 4, 10..13);
+    checks.items(&[splice.next(), splice.next_back()], &[Some(3), Some(4)]);
+    splice.finish(alloc)?;
+    checks.holds(&list, &[1, 2, 10, 11, 12, 5], 10);
+    if list.len() >= 3 {
+        let mut again = list.splice(1, 3, once(20));
+        checks.items(&[again.next(), again.next()], &[Some(2), Some(10)]);
+        again.finish(alloc)?;
+    }
+    checks.holds(&list, &[1, 20, 11, 12, 5], 10);
+    Ok(())
+}
+
+/// Splices of an empty list, of one list twice, and of a whole list by nothing.
+pub fn row_32<A: Allocator + Copy>(alloc: A) -> Outcome {
+    let mut checks = Checks::new();
+    let mut list = ThinVec::new(alloc);
+    list.splice(0, 0, 10..13).finish(alloc)?;
+    checks.holds(&list, &[10, 11, 12], 4);
+    check_spliced_twice(&mut checks, alloc)?;
+    check_emptied(&mut checks, alloc)?;
+    Ok(checks)
+}

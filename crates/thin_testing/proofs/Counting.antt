@@ -1,0 +1,107 @@
+-- `granted` and `returned` at a call: what each is handed, and what a caller has of it. Assumes
+-- `Logic`.
+use Rattle.std.proofs.Common.{◌≡◌, ℕ, List, [], ◌∷◌, refl, ap}
+use seplogic.Ra.Ura.{Ura}
+use mir.Val.{Val, vunit, vptr}
+use base.Logic.{SProp, ent, sep, emp, guard, id⊢}
+use base.Fml.{Lft, Share, ftrue, fsep, flft}
+use prog.Memory.{Memory}
+use prog.Routine.{Routine}
+use types.Logic.{Logic, sem}
+use contract.Monad.{Fun}
+use types.Kit.{‵, raw, ◌⊛◌, some, later, ◌$◌, ◌∵◌, !, qed, move, keep, use0, use1, split, join, pick, fjoin, feq_i, feq_l, check, await, updating, now as at_once, done}
+use denote.RattleType.{RattleType}
+use denote.Memory.{hidden_shr}
+use denote.Builtin.{unit}
+use denote.Steps.{nothing, only}
+use denote.Triple.Statement.{Contract}
+use denote.Triple.Spec.{triple_of}
+use Rattle.std.proofs.alloc.Calls.{Answer}
+use Rattle.thin_testing.specs.contracts.refusing.Counts as CT
+use Rattle.thin_testing.specs.contracts.refusing.granted as GR
+use Rattle.thin_testing.specs.contracts.refusing.returned as RE
+
+-- the type of the counts
+abbrev pub Row : RattleType
+Row = CT.the_row
+
+module _ {M : Type 1} {𝓤 : Ura M} (𝓛 : Logic 𝓤) (at_mem : Memory → SProp 𝓤)
+    (run : Routine → Fun 𝓤) where
+  -- the contract of counting a grant
+  abbrev pub Granted : Contract 𝓤
+  Granted = triple_of 𝓛 GR.signature (GR.spec 𝓛 at_mem run)
+
+  -- the contract of counting a return
+  abbrev pub Returned : Contract 𝓤
+  Returned = triple_of 𝓛 RE.signature (RE.spec 𝓛 at_mem run)
+
+  -- the call for the counts k, which lie at c, and the answer y, whose value is v
+  abbrev pub at_granted : Lft → Share → ℕ × ℕ → Row.Denot → Answer.Denot → Val → Granted.Ghost
+  at_granted κ q c k y v = (
+    (
+      (κ, tt),
+      (q, tt),
+      tt,
+      (record { ref_ptr = c; now = k }, (y, tt)),
+      (vptr c.0 c.1 ∷ [], (v ∷ [], tt)),
+    ),
+    tt,
+  )
+
+  -- the call for the counts k, which lie at c
+  abbrev pub at_returned : Lft → Share → ℕ × ℕ → Row.Denot → Returned.Ghost
+  at_returned κ q c k =
+      (((κ, tt), (q, tt), tt, (record { ref_ptr = c; now = k }, tt), (vptr c.0 c.1 ∷ [], tt)), tt)
+
+module _ {M : Type 1} {𝓤 : Ura M} (𝓛 : Logic 𝓤) (at_mem : Memory → SProp 𝓤) (run : Routine → Fun 𝓤)
+    (κ : Lft) (q : Share) (c : ℕ × ℕ) (k : Row.Denot) where
+  open 𝓛 use {H, A}
+
+  -- it may be called
+  pub Granted-goes : (y : Answer.Denot) (v : Val)
+      → ent 𝓤 (emp 𝓤) (sem 𝓛 (Answer.own_val y (v ∷ [])))
+      → ent 𝓤 (sep 𝓤 (sem 𝓛 (hidden_shr Row κ k c.0 c.1)) (A.lft κ q))
+      ((Granted 𝓛 at_mem run).pre (at_granted 𝓛 at_mem run κ q c k y v))
+  Granted-goes y v owned =
+      qed 𝓛 (‵ (hidden_shr Row κ k c.0 c.1) ∷ ‵ (flft κ q) ∷ []) ∵ feq_i ! (List Val)
+      (vptr c.0 c.1 ∷ []) (vptr c.0 c.1 ∷ []) refl $ fjoin ! $
+      use0 𝓛 (‵ (Answer.own_val y (v ∷ []))) owned $ nothing ! $ move ! (1 ∷ []) $ fjoin ! $
+      move ! (1 ∷ []) $ fjoin ! $
+      nothing ! $ move ! (2 ∷ []) $ join ! $ join ! $ nothing ! $ move ! (1 ∷ []) $ done !
+
+  -- what it gives
+  pub Granted-gives : (y : Answer.Denot) (w v : Val)
+      → ent 𝓤 ((Granted 𝓛 at_mem run).post (at_granted 𝓛 at_mem run κ q c k y w) v)
+      (H.⇛ (guard 𝓤 (v ≡ vunit) (A.lft κ q)))
+  Granted-gives y w v =
+      qed 𝓛 (raw ((Granted 𝓛 at_mem run).post (at_granted 𝓛 at_mem run κ q c k y w) v) ∷ [])
+      ∵ updating ! $
+      use1 𝓛 (later (some
+      (λ (r : Unit {0}). ((‵ (flft κ q) ⊛ ‵ ftrue) ⊛ ‵ (unit.own_val r (v ∷ []))) ⊛ some
+      (λ (ws : Unit {0} × (Unit {0} × Unit {0})). ‵ (fsep ftrue (fsep ftrue ftrue))
+      ⊛ ‵ ftrue)))) (id⊢ 𝓤 _) $ await ! tt $ pick ! (λ r.
+      split ! $ split ! $ move ! (1 ∷ []) $
+      feq_l ! (λ e. split ! $ at_once ! $ check ! (ap only e) $ keep ! (0 ∷ []) $ done !))
+
+  -- it may be called
+  pub Returned-goes : ent 𝓤 (sep 𝓤 (sem 𝓛 (hidden_shr Row κ k c.0 c.1)) (A.lft κ q))
+      ((Returned 𝓛 at_mem run).pre (at_returned 𝓛 at_mem run κ q c k))
+  Returned-goes =
+      qed 𝓛 (‵ (hidden_shr Row κ k c.0 c.1) ∷ ‵ (flft κ q) ∷ []) ∵ feq_i ! (List Val)
+      (vptr c.0 c.1 ∷ []) (vptr c.0 c.1 ∷ []) refl $ fjoin ! $
+      nothing ! $ move ! (1 ∷ []) $ fjoin ! $ nothing ! $ move ! (2 ∷ []) $ join ! $ join ! $
+      nothing ! $ move ! (1 ∷ []) $ done !
+
+  -- what it gives
+  pub Returned-gives : (v : Val)
+      → ent 𝓤 ((Returned 𝓛 at_mem run).post (at_returned 𝓛 at_mem run κ q c k) v)
+      (H.⇛ (guard 𝓤 (v ≡ vunit) (A.lft κ q)))
+  Returned-gives v =
+      qed 𝓛 (raw ((Returned 𝓛 at_mem run).post (at_returned 𝓛 at_mem run κ q c k) v) ∷ [])
+      ∵ updating ! $
+      use1 𝓛 (later (some
+      (λ (r : Unit {0}). ((‵ (flft κ q) ⊛ ‵ ftrue) ⊛ ‵ (unit.own_val r (v ∷ []))) ⊛ some
+      (λ (ws : Unit {0} × Unit {0}). ‵ (fsep ftrue ftrue) ⊛ ‵ ftrue)))) (id⊢ 𝓤 _) $
+      await ! tt $ pick ! (λ r.
+      split ! $ split ! $ move ! (1 ∷ []) $
+      feq_l ! (λ e. split ! $ at_once ! $ check ! (ap only e) $ keep ! (0 ∷ []) $ done !))

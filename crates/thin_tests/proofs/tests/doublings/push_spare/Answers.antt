@@ -1,0 +1,10 @@
+-- The places are as many as before, so that nothing is paid.
+use Rattle.std.proofs.Common.{arith}
+use Rattle.thin_vec.proofs.ThinVecLemmas.{costs}
+use Rattle.thin_tests.proofs.tests.doublings.push_spare.Goals as goal
+
+pub returns-clause-grown : goal.returns-clause-grown
+returns-clause-grown g c = grind (arith, costs)
+
+pub returns-clause-blocks : goal.returns-clause-blocks
+returns-clause-blocks g c = grind (arith, costs)

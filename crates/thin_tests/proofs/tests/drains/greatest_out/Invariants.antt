@@ -1,0 +1,7 @@
+-- The greatest of those that were handed out so far, and of `least`.
+use Rattle.std.proofs.Common.{◌≡◌, max}
+use Rattle.std.specs.List.{fold}
+use Rattle.thin_tests.proofs.tests.drains.greatest_out.Given as goal
+
+abbrev pub invariant-loop-item : goal.invariant-loop-item
+invariant-loop-item l = l.greatest ≡ fold max l.least l.yielded

@@ -1,0 +1,108 @@
+//! What a call makes is on the allocator that it was passed, and not on the list's own; also what
+//! it makes of nothing.
+use crate::tests::assertions::{assert_counts, assert_len, assert_same};
+use crate::tests::claims::Claims;
+use crate::tests::items::{list_of, refusing_nth};
+use std::alloc::{Allocator, Global};
+use std::process::Abort;
+use thin_examples::spliced::splice_by;
+use thin_vec::ThinVec;
+
+// Pushes an item to a `Vec`, which has then one more.
+fn pushed<A: Allocator>(rt: &impl Abort, mut vec: Vec<i32, A>, len: usize) -> Vec<i32, A> {
+    vec.push(9).ok().expect(rt, "memory");
+    assert_same(rt, vec.len(), len.saturating_add(1));
+    vec
+}
+
+// The list in a `Vec` on `alloc`, and one item more.
+fn in_vec<A: Allocator>(rt: &impl Abort, list: ThinVec<i32, A>, alloc: A) -> Vec<i32, A> {
+    let len = list.len();
+    let vec = list.into_vec(alloc).ok().expect(rt, "memory");
+    pushed(rt, vec, len)
+}
+
+// The same, but by a boxed slice.
+fn in_boxed_slice<A: Allocator>(rt: &impl Abort, list: ThinVec<i32, A>, alloc: A) -> Vec<i32, A> {
+    let len = list.len();
+    let boxed = list.into_boxed_slice(alloc).ok().expect(rt, "memory");
+    pushed(rt, boxed.into_vec(), len)
+}
+
+// The same, but by a list that is split off.
+fn in_split_list<A: Allocator + Copy>(
+    rt: &impl Abort,
+    mut list: ThinVec<i32, A>,
+    alloc: A,
+) -> Vec<i32, A> {
+    let tail = list.split_off(alloc, 0).expect(rt, "memory");
+    drop(list);
+    in_vec(rt, tail, alloc)
+}
+
+// The same, but by a clone.
+fn in_clone<A: Allocator + Copy>(rt: &impl Abort, list: ThinVec<i32, A>, alloc: A) -> Vec<i32, A> {
+    let clone = list.clone(alloc).expect(rt, "memory");
+    drop(list);
+    in_vec(rt, clone, alloc)
+}
+
+// The same, but by a copy.
+fn in_copy<A: Allocator + Copy>(rt: &impl Abort, list: ThinVec<i32, A>, alloc: A) -> Vec<i32, A> {
+    let copy = list.clone_copies(alloc).expect(rt, "memory");
+    drop(list);
+    in_vec(rt, copy, alloc)
+}
+
+// The same, but by a clone of what the list becomes.
+fn in_second_iter<A: Allocator + Copy>(
+    rt: &impl Abort,
+    list: ThinVec<i32, A>,
+    alloc: A,
+) -> Vec<i32, A> {
+    let items = list.into_iter();
+    let clone = items.clone(alloc).expect(rt, "memory");
+    drop(items);
+    let mut list = ThinVec::new(alloc);
+    list.extend(clone).ok().expect(rt, "memory");
+    in_vec(rt, list, alloc)
+}
+
+// Each way for a list of these items: nothing of it stays on its own allocator, and one block comes
+// from the other.
+fn assert_moved(rt: &impl Abort, alloc: Global, items: &[i32]) {
+    let own = refusing_nth(rt, alloc, 0);
+    let other = refusing_nth(rt, alloc, 0);
+    for way in 0..6 {
+        let list = list_of(rt, own, items);
+        let made = match way {
+            0 => in_vec(rt, list, other),
+            1 => in_boxed_slice(rt, list, other),
+            2 => in_split_list(rt, list, other),
+            3 => in_clone(rt, list, other),
+            4 => in_copy(rt, list, other),
+            _ => in_second_iter(rt, list, other),
+        };
+        assert_same(rt, (way, own.blocks(), other.blocks()), (way, 0, 1));
+        drop(made);
+    }
+    assert_counts(rt, own, if items.is_empty() { 0 } else { 6 }, 0);
+}
+
+#[test]
+fn what_a_call_makes_is_on_the_allocator_passed(rt: HostRuntime) {
+    assert_moved(&rt, rt.alloc(), &[]);
+    assert_moved(&rt, rt.alloc(), &[1, 2, 3]);
+}
+
+#[test]
+fn a_splice_holds_on_the_allocator_passed(rt: HostRuntime) {
+    let own = refusing_nth(&rt, rt.alloc(), 0);
+    let other = refusing_nth(&rt, rt.alloc(), 0);
+    let mut list = list_of(&rt, own, &[1, 2, 3]);
+    assert_len(&rt, &list, 3);
+    let answer = splice_by(&mut list, (1, 2), Claims::new(&[7, 8, 9], 0), other);
+    answer.ok().expect(&rt, "memory");
+    assert_counts(&rt, own, 2, 1);
+    assert_counts(&rt, other, 1, 0);
+}

@@ -1,0 +1,89 @@
+//! Which capacity a list has after each call, against numbers worked out by hand.
+use crate::tests::assertions::{assert_list, assert_same};
+use crate::tests::items::{push_all, refusing_nth};
+use std::alloc::Global;
+use std::ops::Range;
+use std::process::Abort;
+use thin_testing::Refusing;
+use thin_vec::{ThinVec, ThinVecError};
+
+#[test]
+fn test_clear(rt: HostRuntime) {
+    let mut list = ThinVec::new(rt.alloc());
+    list.clear();
+    assert_list(&rt, &list, &[], 0);
+    push_all(&rt, &mut list, 1..3);
+    assert_list(&rt, &list, &[1, 2], 4);
+    list.clear();
+    assert_list(&rt, &list, &[], 4);
+    push_all(&rt, &mut list, 3..5);
+    assert_list(&rt, &list, &[3, 4], 4);
+    for _ in 0..2 {
+        list.clear();
+        assert_list(&rt, &list, &[], 4);
+    }
+}
+
+// Pushes these items, and asserts the capacity then.
+fn assert_pushed(rt: &impl Abort, list: &mut ThinVec<i32>, items: Range<i32>, capacity: usize) {
+    push_all(rt, list, items);
+    assert_same(rt, list.capacity(), capacity);
+}
+
+// Reserves room, and asserts the capacity then.
+fn assert_reserved(rt: &impl Abort, list: &mut ThinVec<i32>, additional: usize, capacity: usize) {
+    list.reserve(additional).expect(rt, "memory");
+    assert_same(rt, list.capacity(), capacity);
+}
+
+// The same by `reserve_exact`.
+fn assert_reserved_exact(
+    rt: &impl Abort,
+    list: &mut ThinVec<i32>,
+    additional: usize,
+    capacity: usize,
+) {
+    list.reserve_exact(additional).expect(rt, "memory");
+    assert_same(rt, list.capacity(), capacity);
+}
+
+#[test]
+fn test_reserve(rt: HostRuntime) {
+    let mut list = ThinVec::new(rt.alloc());
+    assert_reserved(&rt, &mut list, 2, 4);
+    assert_pushed(&rt, &mut list, 0..16, 16);
+    assert_reserved(&rt, &mut list, 16, 32);
+    assert_pushed(&rt, &mut list, 16..17, 32);
+    assert_reserved(&rt, &mut list, 16, 64);
+}
+
+#[test]
+fn test_reserve_exact(rt: HostRuntime) {
+    let mut list = ThinVec::new(rt.alloc());
+    assert_reserved_exact(&rt, &mut list, 2, 2);
+    assert_pushed(&rt, &mut list, 0..16, 16);
+    assert_reserved_exact(&rt, &mut list, 16, 32);
+    assert_pushed(&rt, &mut list, 16..17, 32);
+    assert_reserved_exact(&rt, &mut list, 16, 33);
+}
+
+// Asserts that no list of so many places is made.
+fn assert_overflows<T: Drop>(rt: &impl Abort, alloc: &'static Refusing<Global>, capacity: usize) {
+    let refused = ThinVec::<T, &'static Refusing<Global>>::with_capacity(alloc, capacity).err();
+    let overflow = Some(ThinVecError::CapacityOverflow);
+    assert_same(rt, (capacity, refused), (capacity, overflow));
+}
+
+// No request is made: each overflow is found before.
+#[test]
+fn test_capacity_overflow(rt: HostRuntime) {
+    let refusing = refusing_nth(&rt, rt.alloc(), 0);
+    let most = isize::MAX as usize;
+    for capacity in [most - 16, most - 2, most, most + 1] {
+        assert_overflows::<u8>(&rt, refusing, capacity);
+    }
+    for capacity in [most / 2 + 1, most + 1] {
+        assert_overflows::<u16>(&rt, refusing, capacity);
+    }
+    assert_same(&rt, refusing.requests(), 0);
+}

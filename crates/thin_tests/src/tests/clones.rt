@@ -1,0 +1,71 @@
+//! The calls that clone, also where a clone is refused.
+use crate::tests::assertions::{assert_list, assert_same};
+use crate::tests::items::{boxes_of, push_all};
+use crate::tests::scarce::Scarce;
+use std::alloc::Global;
+use std::cell::Cell;
+use std::process::Abort;
+use thin_vec::{ThinVec, ThinVecError, thin_vec};
+
+// A list of these items, and its clone.
+fn assert_cloned(rt: &impl Abort, alloc: Global, items: &[i32]) {
+    let list = ThinVec::from_slice(alloc, items).expect(rt, "memory");
+    assert_list(rt, &list, items, items.len());
+    let clone = list.clone(alloc).expect(rt, "memory");
+    assert_list(rt, &clone, items, items.len());
+}
+
+#[test]
+fn test_clone(rt: HostRuntime) {
+    let alloc = rt.alloc();
+    assert_cloned(&rt, alloc, &[]);
+    assert_cloned(&rt, alloc, &[1, 2, 3]);
+
+    let mut list = ThinVec::new(alloc);
+    push_all(&rt, &mut list, 0..1);
+    assert_same(&rt, list.pop(), Some(0));
+    let clone = list.clone(alloc).expect(&rt, "memory");
+    assert_same(&rt, clone.has_capacity(), false);
+    assert_same(&rt, (list.capacity(), clone.capacity()), (4, 0));
+}
+
+#[test]
+fn test_clone_from(rt: HostRuntime) {
+    let alloc = rt.alloc();
+    let three = boxes_of(alloc, &[1, 2, 3]).expect(&rt, "memory");
+    let two = boxes_of(alloc, &[4, 5]).expect(&rt, "memory");
+    let mut list = ThinVec::new(alloc);
+    for source in [&three, &three, &two, &three] {
+        list = source.clone(alloc).expect(&rt, "memory");
+        assert_same(&rt, list.as_slice(), source.as_slice());
+    }
+}
+
+// Appends clones, and asserts the answer, and how many items there are then in 4 places.
+fn extend_scarcely<'a>(
+    rt: &impl Abort,
+    list: &mut ThinVec<Scarce<'a>, Global>,
+    items: &[Scarce<'a>],
+    answer: Result<(), ThinVecError>,
+    len: usize,
+) {
+    assert_same(rt, list.extend_from_slice(items), answer);
+    assert_same(rt, (list.len(), list.capacity()), (len, 4));
+}
+
+#[test]
+fn row_37_clone_refused(rt: HostRuntime) {
+    let drops = Cell::new(0);
+    let granted = Cell::new(1);
+    let item = || Scarce::new(&drops, &granted);
+    let three = [item(), item(), item()];
+    {
+        let mut list = thin_vec![rt.alloc() => item()].expect(&rt, "memory");
+        extend_scarcely(&rt, &mut list, &three, Err(ThinVecError::OutOfMemory), 1);
+        assert_same(&rt, drops.get(), 1);
+        granted.set(3);
+        extend_scarcely(&rt, &mut list, &three, Ok(()), 4);
+        assert_same(&rt, drops.get(), 1);
+    }
+    assert_same(&rt, drops.get(), 5);
+}

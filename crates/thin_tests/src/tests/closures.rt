@@ -1,0 +1,70 @@
+//! What a closure owns is dropped with it, once its call ends.
+use crate::tests::assertions::{assert_items, assert_len, assert_same};
+use crate::tests::counted::Counted;
+use crate::tests::items::list_of;
+use std::cell::Cell;
+use std::process::Abort;
+use std::rc::Rc;
+use thin_vec::ThinVec;
+
+// Whether an item is not 2. The value that is lent is owned by the closure that asks.
+fn is_not_two(_owned: &Counted<'_>, item: i32) -> bool {
+    item != 2
+}
+
+// Asserts what a list is that lost its 2, and that the closure's value was dropped, once.
+fn assert_without_two(rt: &impl Abort, list: &ThinVec<i32>, drops: &Cell<u32>) {
+    assert_items(rt, list.as_slice(), &[1, 3]);
+    assert_same(rt, drops.get(), 1);
+}
+
+#[test]
+fn retain_drops_its_closure(rt: HostRuntime) {
+    let drops = Cell::new(0);
+    let owned = Counted::new(&drops);
+    let mut list = list_of(&rt, rt.alloc(), &[1, 2, 3]);
+    list.retain(move |item| is_not_two(&owned, *item));
+    assert_without_two(&rt, &list, &drops);
+}
+
+#[test]
+fn retain_mut_drops_its_closure(rt: HostRuntime) {
+    let drops = Cell::new(0);
+    let owned = Counted::new(&drops);
+    let mut list = list_of(&rt, rt.alloc(), &[1, 2, 3]);
+    list.retain_mut(move |item| is_not_two(&owned, *item));
+    assert_without_two(&rt, &list, &drops);
+}
+
+#[test]
+fn dedup_by_drops_its_closure(rt: HostRuntime) {
+    let drops = Cell::new(0);
+    let owned = Counted::new(&drops);
+    let mut list = list_of(&rt, rt.alloc(), &[1, 2, 3]);
+    list.dedup_by(move |later, _kept| !is_not_two(&owned, *later));
+    assert_without_two(&rt, &list, &drops);
+}
+
+#[test]
+fn dedup_by_key_drops_its_closure(rt: HostRuntime) {
+    let drops = Cell::new(0);
+    let owned = Counted::new(&drops);
+    let mut list = list_of(&rt, rt.alloc(), &[1, 2, 3]);
+    list.dedup_by_key(move |item| is_not_two(&owned, *item) && *item == 3);
+    assert_without_two(&rt, &list, &drops);
+}
+
+// The closure owns a counted reference: one that borrows the borrow checker does not cover here.
+#[test]
+fn extract_if_drops_its_closure(rt: HostRuntime) {
+    let kept = Rc::new(rt.alloc(), 2).ok().expect(&rt, "memory");
+    let owned = kept.clone().expect(&rt, "memory");
+    let mut list = list_of(&rt, rt.alloc(), &[1, 2, 3]);
+    assert_len(&rt, &list, 3);
+    let mut twos = list.extract_if(0, 3, move |item: &mut i32| *item == *owned.as_ref());
+    assert_same(&rt, twos.next(), Some(2));
+    assert_same(&rt, Rc::strong_count(&kept), 2);
+    drop(twos);
+    assert_same(&rt, Rc::strong_count(&kept), 1);
+    assert_items(&rt, list.as_slice(), &[1, 3]);
+}

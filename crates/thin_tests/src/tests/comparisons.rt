@@ -1,0 +1,13 @@
+//! How lists are compared.
+use crate::tests::assertions::assert_same;
+use crate::tests::items::list_of;
+
+#[test]
+fn test_partial_eq(rt: HostRuntime) {
+    let alloc = rt.alloc();
+    let (zero, one) = (list_of(&rt, alloc, &[0]), list_of(&rt, alloc, &[1]));
+    assert_same(&rt, zero == list_of(&rt, alloc, &[0]), true);
+    assert_same(&rt, zero != one, true);
+    let less = list_of(&rt, alloc, &[1, 2]) < list_of(&rt, alloc, &[1, 3]);
+    assert_same(&rt, less, true);
+}

@@ -1,0 +1,39 @@
+//! An item that counts its drops.
+use crate::tests::items::push;
+use std::alloc::Global;
+use std::cell::Cell;
+use std::process::Abort;
+use thin_vec::ThinVec;
+
+/// It adds 1 to the cell as it is dropped.
+pub struct Counted<'a> {
+    drops: &'a Cell<u32>,
+}
+
+impl<'a> Counted<'a> {
+    /// One that adds its drop to that cell.
+    pub fn new(drops: &'a Cell<u32>) -> Counted<'a> {
+        Counted { drops }
+    }
+}
+
+impl Drop for Counted<'_> {
+    fn drop(self) {
+        let Counted { drops } = self;
+        drops.set(drops.get().saturating_add(1));
+    }
+}
+
+/// A list of so many items that count their drops in one cell.
+pub fn counted_list<'a>(
+    rt: &impl Abort,
+    alloc: Global,
+    drops: &'a Cell<u32>,
+    len: u32,
+) -> ThinVec<Counted<'a>> {
+    let mut list = ThinVec::new(alloc);
+    for _ in 0..len {
+        push(rt, &mut list, Counted::new(drops));
+    }
+    list
+}

@@ -1,0 +1,251 @@
+//! `drain`: what a program may promise of it, and how it ends.
+ghost use Rattle.std.specs.Prelude.{◌≡◌, ◌+◌, ◌≤◌, ◌++◌, IfOk, IfSome, OnErr, OnOk, drop, length, max, reverse, slice_range, take};
+ghost use Rattle.std.specs.List.{fold, remove_range};
+ghost use Rattle.thin_vec.specs.Drain.{drain_lender};
+
+use crate::tests::assertions::{assert_items, assert_len, assert_same};
+use crate::tests::items::{list_of, push};
+use std::alloc::{AllocError, Allocator, Global};
+use std::mem;
+use std::ops::Bound;
+use std::process::Abort;
+use thin_vec::{Drain, Growth, ThinVec, ThinVecError, bounds};
+
+/// Takes the items from `start` up to `end` out of the list, and returns the greatest of them, or
+/// `least` where that is more.
+pub fn greatest_out(list: &mut ThinVec<u32, Global>, start: usize, end: usize, least: u32) -> u32
+    requires start_le_end { start ≤ end }
+    requires in_bounds { end ≤ length list.old.items }
+    ensures value { result ≡ fold max least (slice_range list.old.items start end) }
+    ensures items { list.new.items ≡ remove_range list.old.items start end }
+    ensures capacity { list.new.capacity ≡ list.old.capacity }
+{
+    let mut greatest = least;
+    for item in list.drain(start, end) {
+        greatest = greatest.max(item);
+    }
+    greatest
+}
+
+/// Takes the items from `start` up to `end` out, and gives up after one of them. Those before and
+/// after them stay.
+pub fn without<T: Drop, A: Allocator, G: Growth>(
+    list: &mut ThinVec<T, A, G>,
+    start: usize,
+    end: usize,
+) -> Option<T>
+    requires start_le_end { start ≤ end }
+    requires in_bounds { end ≤ length list.old.items }
+    ensures items { list.new.items ≡ take start list.old.items ++ drop end list.old.items }
+    ensures capacity { list.new.capacity ≡ list.old.capacity }
+{
+    let mut drain = list.drain(start, end);
+    drain.next()
+}
+
+/// Appends the items from `start` up to `end` of `list` to `other`, by one call. It uses the
+/// `Drain` up: what `list` has then is seen by a test alone.
+pub fn extend_by_range(
+    list: &mut ThinVec<u32, Global>,
+    start: usize,
+    end: usize,
+    other: &mut ThinVec<u32, Global>,
+) -> Result<(), ThinVecError>
+    requires start_le_end { start ≤ end }
+    requires in_bounds { end ≤ length list.old.items }
+    ensures other_items { OnOk result
+        (other.new.items ≡ other.old.items ++ slice_range list.old.items start end) }
+{
+    match other.extend(list.drain(start, end)) {
+        Ok(()) => Ok(()),
+        Err(refused) => Err(refused.cause),
+    }
+}
+
+/// The items from `start` up to `end`, in a `Vec`.
+pub fn collected(
+    list: &mut ThinVec<u32, Global>,
+    start: usize,
+    end: usize,
+    alloc: Global,
+) -> Result<Vec<u32>, AllocError>
+    requires start_le_end { start ≤ end }
+    requires in_bounds { end ≤ length list.old.items }
+    ensures items { IfOk result (λ vec. vec.items ≡ slice_range list.old.items start end) }
+{
+    list.drain(start, end).collect(alloc)
+}
+
+/// The same, last first.
+pub fn reversed(
+    list: &mut ThinVec<u32, Global>,
+    start: usize,
+    end: usize,
+    alloc: Global,
+) -> Result<Vec<u32>, AllocError>
+    requires start_le_end { start ≤ end }
+    requires in_bounds { end ≤ length list.old.items }
+    ensures items { IfOk result
+        (λ vec. vec.items ≡ reverse (slice_range list.old.items start end)) }
+{
+    list.drain(start, end).rev().collect(alloc)
+}
+
+/// `drain` of a range in one of Rust's forms, or `None` where the list has no such range.
+pub fn drain_between<T: Drop, A: Allocator, G: Growth>(
+    list: &mut ThinVec<T, A, G>,
+    start: Bound<usize>,
+    end: Bound<usize>,
+) -> Option<Drain<'_, T, A, G>>
+    ensures same_reference { IfSome result (λ drain. drain_lender drain ≡ list.entry.ghost_name) }
+{
+    let (start, end) = bounds(start, end, list.len())?;
+    Some(list.drain(start, end))
+}
+
+// What a drain gives from the front, or from the back, and the slice of the list that it leaves.
+fn assert_drained<T: PartialEq + std::fmt::Debug + Drop, A: Allocator>(
+    rt: &impl Abort,
+    mut list: ThinVec<T, A>,
+    range: (Bound<usize>, Bound<usize>),
+    is_reverse: bool,
+    given: &[T],
+    left: &[T],
+) {
+    let capacity = list.capacity();
+    {
+        let mut drain = drain_between(&mut list, range.0, range.1).expect(rt, "a range");
+        assert_given(rt, &mut drain, is_reverse, given);
+    }
+    assert_items(rt, list.as_slice(), left);
+    assert_same(rt, list.capacity(), capacity);
+}
+
+// What it gives until it has ended.
+fn assert_given<T: PartialEq + std::fmt::Debug + Drop, A: Allocator>(
+    rt: &impl Abort,
+    drain: &mut Drain<'_, T, A>,
+    is_reverse: bool,
+    given: &[T],
+) {
+    assert_items(rt, drain.as_slice(), given);
+    assert_same(rt, drain.size_hint(), (given.len(), Some(given.len())));
+    let mut items = given.iter();
+    for _ in 0..given.len() {
+        if is_reverse {
+            assert_same(rt, drain.next_back().as_ref(), items.next_back());
+        } else {
+            assert_same(rt, drain.next().as_ref(), items.next());
+        }
+    }
+    let ended = (drain.len(), drain.next(), drain.next_back());
+    assert_same(rt, ended, (0, None, None));
+}
+
+const ALL: (Bound<usize>, Bound<usize>) = (Bound::Unbounded, Bound::Unbounded);
+
+#[test]
+fn test_drain_items(rt: HostRuntime) {
+    let list = list_of(&rt, rt.alloc(), &[1, 2, 3]);
+    assert_drained(&rt, list, ALL, false, &[1, 2, 3], &[]);
+}
+
+#[test]
+fn test_drain_items_reverse(rt: HostRuntime) {
+    let list = list_of(&rt, rt.alloc(), &[1, 2, 3]);
+    assert_drained(&rt, list, ALL, true, &[1, 2, 3], &[]);
+}
+
+#[test]
+fn test_drain_items_zero_sized(rt: HostRuntime) {
+    let list = list_of(&rt, rt.alloc(), &[(), (), ()]);
+    assert_drained(&rt, list, ALL, false, &[(), (), ()], &[]);
+}
+
+#[test]
+fn test_drain_range(rt: HostRuntime) {
+    let from_four = (Bound::Included(4), Bound::Unbounded);
+    let numbers = list_of(&rt, rt.alloc(), &[1, 2, 3, 4, 5]);
+    assert_drained(&rt, numbers, from_four, false, &[5], &[1, 2, 3, 4]);
+}
+
+const INNER: (Bound<usize>, Bound<usize>) = (Bound::Included(1), Bound::Excluded(4));
+
+#[test]
+fn test_drain_range_of_texts(rt: HostRuntime) {
+    let texts = list_of(&rt, rt.alloc(), &["1", "2", "3", "4", "5"]);
+    assert_drained(&rt, texts, INNER, false, &["2", "3", "4"], &["1", "5"]);
+}
+
+#[test]
+fn test_drain_range_of_texts_reverse(rt: HostRuntime) {
+    let texts = list_of(&rt, rt.alloc(), &["1", "2", "3", "4", "5"]);
+    assert_drained(&rt, texts, INNER, true, &["2", "3", "4"], &["1", "5"]);
+}
+
+#[test]
+fn test_drain_range_zero_sized(rt: HostRuntime) {
+    let units = list_of(&rt, rt.alloc(), &[(), (), (), (), ()]);
+    assert_drained(&rt, units, INNER, false, &[(), (), ()], &[(), ()]);
+}
+
+#[test]
+fn test_drain_inclusive_range(rt: HostRuntime) {
+    let letters = list_of(&rt, rt.alloc(), &['a', 'b', 'c', 'd', 'e']);
+    let inner = (Bound::Included(1), Bound::Included(3));
+    assert_drained(&rt, letters, inner, false, &['b', 'c', 'd'], &['a', 'e']);
+}
+
+#[test]
+fn test_drain_inclusive_range_to_the_first(rt: HostRuntime) {
+    let texts = list_of(&rt, rt.alloc(), &["0", "1"]);
+    let first = (Bound::Unbounded, Bound::Included(0));
+    assert_drained(&rt, texts, first, false, &["0"], &["1"]);
+}
+
+#[test]
+fn test_drain_inclusive_range_of_texts(rt: HostRuntime) {
+    let all = ["0", "1", "2", "3", "4", "5"];
+    for &(first, last, given, left) in &[
+        (1, 5, &all[1..], &all[..1]),
+        (0, 5, &all[..], &all[..0]),
+        (0, 3, &all[..4], &all[4..]),
+    ] {
+        let texts = ThinVec::from_slice(rt.alloc(), &all).expect(&rt, "memory");
+        let range = (Bound::Included(first), Bound::Included(last));
+        assert_drained(&rt, texts, range, false, given, left);
+    }
+}
+
+#[test]
+fn what_an_extend_by_a_drain_leaves(rt: HostRuntime) {
+    let mut list = list_of(&rt, rt.alloc(), &[1, 2, 3, 4]);
+    let mut other = list_of(&rt, rt.alloc(), &[9]);
+    assert_len(&rt, &list, 4);
+    extend_by_range(&mut list, 1, 3, &mut other).expect(&rt, "memory");
+    assert_items(&rt, list.as_slice(), &[1, 4]);
+    assert_items(&rt, other.as_slice(), &[9, 2, 3]);
+}
+
+#[test]
+fn collects_what_it_drains(rt: HostRuntime) {
+    let alloc = rt.alloc();
+    let mut list = list_of(&rt, alloc, &[1u32, 2, 3, 4, 5, 6]);
+    assert_len(&rt, &list, 6);
+    let front = collected(&mut list, 1, 3, alloc).expect(&rt, "memory");
+    assert_items(&rt, front.as_slice(), &[2, 3]);
+    assert_items(&rt, list.as_slice(), &[1, 4, 5, 6]);
+    assert_len(&rt, &list, 4);
+    let back = reversed(&mut list, 0, 2, alloc).expect(&rt, "memory");
+    assert_items(&rt, back.as_slice(), &[4, 1]);
+    assert_items(&rt, list.as_slice(), &[5, 6]);
+}
+
+#[test]
+fn a_forgotten_drain_leaves_a_list(rt: HostRuntime) {
+    let mut list = list_of(&rt, rt.alloc(), &[1, 2, 3]);
+    assert_len(&rt, &list, 3);
+    mem::forget(list.drain(1, 2));
+    push(&rt, &mut list, 9);
+    assert_same(&rt, list.as_slice().last(), Some(&9));
+}

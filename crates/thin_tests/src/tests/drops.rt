@@ -1,0 +1,53 @@
+//! Each item is dropped once, by the list or by whoever it was handed out to, and each block is
+//! given back.
+use crate::tests::assertions::assert_same;
+use crate::tests::counted::{Counted, counted_list};
+use crate::tests::items::{push, refusing_nth};
+use std::alloc::Global;
+use std::cell::Cell;
+use thin_vec::ThinVec;
+
+#[test]
+fn test_vec_truncate_drop(rt: HostRuntime) {
+    let drops = Cell::new(0);
+    {
+        let mut list = counted_list(&rt, rt.alloc(), &drops, 5);
+        for &(len, dropped) in &[(3, 2), (0, 5)] {
+            list.truncate(len);
+            assert_same(&rt, drops.get(), dropped);
+        }
+    }
+    assert_same(&rt, drops.get(), 5);
+}
+
+#[derive(Drop)]
+struct TwoLists<'a> {
+    early: ThinVec<Counted<'a>, Global>,
+    late: ThinVec<Counted<'a>, Global>,
+}
+
+#[test]
+fn test_double_drop(rt: HostRuntime) {
+    let early_drops = Cell::new(0);
+    let late_drops = Cell::new(0);
+    {
+        let mut lists = TwoLists {
+            early: ThinVec::new(rt.alloc()),
+            late: ThinVec::new(rt.alloc()),
+        };
+        push(&rt, &mut lists.early, Counted::new(&early_drops));
+        push(&rt, &mut lists.late, Counted::new(&late_drops));
+        drop(lists.early);
+        assert_same(&rt, (early_drops.get(), late_drops.get()), (1, 0));
+    }
+    assert_same(&rt, (early_drops.get(), late_drops.get()), (1, 1));
+}
+
+#[test]
+fn test_drop_empty(rt: HostRuntime) {
+    let refusing = refusing_nth(&rt, rt.alloc(), 1);
+    {
+        let _list = ThinVec::<u64, _>::new(refusing);
+    }
+    assert_same(&rt, refusing.requests(), 0);
+}

@@ -1,0 +1,93 @@
+//! `?` after a refused call: whatever error it becomes, each value that was handed back is dropped
+//! once.
+use crate::tests::assertions::assert_same;
+use crate::tests::counted::{Counted, counted_list};
+use std::alloc::{AllocError, Global};
+use std::cell::Cell;
+use std::io;
+use std::process::Abort;
+use thin_vec::{CollectRefused, ExtendRefused, Rejected, SpliceRefused, ThinVecError};
+
+// Returns the error that `?` makes of a refusal.
+fn passed_on<R, E: From<R>>(refused: R) -> Result<(), E> {
+    Err(refused)?;
+    Ok(())
+}
+
+// Asserts that the error keeps nothing of a refusal, which holds so many counted values.
+fn assert_let_go<E: From<R> + Drop, R: Drop>(
+    rt: &impl Abort,
+    drops: &Cell<u32>,
+    refused: R,
+    held: u32,
+) {
+    assert_same(rt, drops.take(), 0);
+    assert_same(rt, passed_on::<R, E>(refused).is_err(), true);
+    assert_same(rt, drops.take(), held);
+}
+
+const CAUSE: ThinVecError = ThinVecError::OutOfMemory;
+
+// Passes a value on, and what a refused `extend` holds. The iterator counts its drop too.
+fn let_one_go<'a, E>(rt: &impl Abort, drops: &'a Cell<u32>)
+where
+    E: From<Rejected<Counted<'a>>> + From<ExtendRefused<Counted<'a>, Counted<'a>>> + Drop,
+{
+    let value = Counted::new(drops);
+    let rejected = Rejected {
+        value,
+        cause: CAUSE,
+    };
+    assert_let_go::<E, _>(rt, drops, rejected, 1);
+    let extend = ExtendRefused {
+        cause: CAUSE,
+        in_hand: Some(Counted::new(drops)),
+        rest: Counted::new(drops),
+    };
+    assert_let_go::<E, _>(rt, drops, extend, 2);
+}
+
+// The same of what a refused `from_iter` and a refused `finish` hold.
+fn let_many_go<'a, E>(rt: &impl Abort, alloc: Global, drops: &'a Cell<u32>)
+where
+    E: From<CollectRefused<Counted<'a>, Counted<'a>>>
+        + From<SpliceRefused<Counted<'a>, Counted<'a>>>
+        + Drop,
+{
+    let collect = CollectRefused {
+        list: counted_list(rt, alloc, drops, 3),
+        cause: CAUSE,
+        in_hand: Some(Counted::new(drops)),
+        rest: Counted::new(drops),
+    };
+    assert_let_go::<E, _>(rt, drops, collect, 5);
+    let held = counted_list(rt, alloc, drops, 4).into_vec(alloc);
+    let splice = SpliceRefused {
+        cause: CAUSE,
+        held: held.ok().expect(rt, "memory"),
+        in_hand: Some(Counted::new(drops)),
+        rest: Counted::new(drops),
+    };
+    assert_let_go::<E, _>(rt, drops, splice, 6);
+}
+
+#[test]
+fn a_cause_keeps_nothing_of_a_refusal(rt: HostRuntime) {
+    let drops = Cell::new(0);
+    let_one_go::<ThinVecError>(&rt, &drops);
+    let_many_go::<ThinVecError>(&rt, rt.alloc(), &drops);
+}
+
+#[test]
+fn an_alloc_error_keeps_nothing_of_a_refusal(rt: HostRuntime) {
+    let drops = Cell::new(0);
+    let_one_go::<AllocError>(&rt, &drops);
+    let_many_go::<AllocError>(&rt, rt.alloc(), &drops);
+}
+
+#[test]
+fn an_io_error_keeps_nothing_of_a_refusal(rt: HostRuntime) {
+    let drops = Cell::new(0);
+    let_one_go::<io::Error>(&rt, &drops);
+    let_many_go::<io::Error>(&rt, rt.alloc(), &drops);
+}

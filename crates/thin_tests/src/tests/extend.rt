@@ -1,0 +1,96 @@
+//! `extend` and `from_iter`: the Rust crate's own cases, and what a refusal hands back.
+use crate::tests::assertions::{assert_counts, assert_list, assert_same};
+use crate::tests::claims::Claims;
+use crate::tests::counted::Counted;
+use crate::tests::items::{list_of, refusing_nth};
+use std::alloc::Global;
+use std::cell::Cell;
+use std::iter::once;
+use std::process::Abort;
+use thin_vec::{ExtendRefused, ThinVec, ThinVecError};
+
+// Extends a list by an item that counts its drop.
+fn extend_counted(rt: &impl Abort, alloc: Global, drops: &Cell<u32>) {
+    let mut counted = ThinVec::new(alloc);
+    counted
+        .extend(once(Counted::new(drops)))
+        .ok()
+        .expect(rt, "memory");
+}
+
+// Extends a list by items without size.
+fn extend_units(rt: &impl Abort, alloc: Global) {
+    let mut units = ThinVec::new(alloc);
+    units.extend((0..2).map(|_| ())).ok().expect(rt, "memory");
+    assert_same(rt, (units.len(), units.capacity()), (2, 4));
+}
+
+#[test]
+fn test_extend(rt: HostRuntime) {
+    let alloc = rt.alloc();
+    let mut list = ThinVec::new(alloc);
+    for items in [0..0, 0..3, 3..10] {
+        list.extend(items).ok().expect(&rt, "memory");
+    }
+    let clone = list.clone(alloc).expect(&rt, "memory");
+    list.extend(clone.as_slice().iter().copied())
+        .ok()
+        .expect(&rt, "memory");
+    let twice = [0, 1, 2, 3, 4, 5, 6, 7, 8, 9, 0, 1, 2, 3, 4, 5, 6, 7, 8, 9];
+    assert_list(&rt, &list, &twice, 20);
+
+    let drops = Cell::new(0);
+    extend_counted(&rt, alloc, &drops);
+    assert_same(&rt, drops.get(), 1);
+    extend_units(&rt, alloc);
+}
+
+#[test]
+fn test_collect_capacity(rt: HostRuntime) {
+    for count in 0..20 {
+        let list = ThinVec::from_iter(rt.alloc(), 0..count)
+            .ok()
+            .expect(&rt, "memory");
+        assert_same(&rt, (list.len(), list.capacity()), (count, count));
+    }
+}
+
+#[test]
+fn row_26_extend_refused(rt: HostRuntime) {
+    let refusing = refusing_nth(&rt, rt.alloc(), 2);
+    let mut list = ThinVec::new(refusing);
+    let refused = list
+        .extend(Claims::new(&[1, 2, 3, 4, 5], 0))
+        .err()
+        .expect(&rt, "accepted");
+    assert_list(&rt, &list, &[1, 2, 3, 4], 4);
+    assert_counts(&rt, refusing, 2, 1);
+    let ExtendRefused {
+        cause,
+        in_hand,
+        mut rest,
+    } = refused;
+    assert_same(
+        &rt,
+        (cause, in_hand, rest.next()),
+        (ThinVecError::OutOfMemory, Some(5), None),
+    );
+}
+
+// Three items, and then so many more, of which the hint says nothing.
+fn extended_blindly(rt: &impl Abort, alloc: Global, count: i32) -> ThinVec<i32> {
+    let mut list = list_of(rt, alloc, &[1, 2, 3]);
+    let more = (0..count).filter(|_| true);
+    list.extend(more).ok().expect(rt, "memory");
+    list
+}
+
+#[test]
+fn a_long_extend_is_not_refused(rt: HostRuntime) {
+    for count in 0..301 {
+        let list = extended_blindly(&rt, rt.alloc(), count);
+        let len = usize::try_from(count).unwrap_or(0).saturating_add(3);
+        let last = (0..count).last().unwrap_or(3);
+        assert_same(&rt, (list.len(), list.last()), (len, Some(&last)));
+    }
+}

@@ -1,0 +1,92 @@
+//! `retain` and `dedup`, in their forms: what no clause says, and the cases of the Rust crate's own
+//! tests.
+use crate::tests::assertions::{assert_items, assert_list, assert_same};
+use crate::tests::items::{boxes_of, list_of};
+use std::alloc::Global;
+use std::process::Abort;
+use thin_vec::ThinVec;
+
+#[test]
+fn test_retain(rt: HostRuntime) {
+    let mut list = list_of(&rt, rt.alloc(), &[1, 2, 3, 4]);
+    list.retain(|item| item % 2 == 0);
+    assert_list(&rt, &list, &[2, 4], 4);
+}
+
+// What is written stays on the items that stay.
+#[test]
+fn test_retain_mut(rt: HostRuntime) {
+    let mut list = list_of(&rt, rt.alloc(), &[9, 9, 9, 9]);
+    let mut number: i32 = 0;
+    list.retain_mut(|item| {
+        number = number.saturating_add(1);
+        *item = number;
+        number != 4
+    });
+    assert_list(&rt, &list, &[1, 2, 3], 4);
+}
+
+fn deduped(rt: &impl Abort, alloc: Global, items: &[i32], wanted: &[i32]) {
+    let mut list = ThinVec::from_slice(alloc, items).expect(rt, "memory");
+    list.dedup();
+    assert_list(rt, &list, wanted, items.len());
+}
+
+#[test]
+fn test_dedup(rt: HostRuntime) {
+    let alloc = rt.alloc();
+    deduped(&rt, alloc, &[], &[]);
+    deduped(&rt, alloc, &[1], &[1]);
+    deduped(&rt, alloc, &[1, 1], &[1]);
+    deduped(&rt, alloc, &[1, 2, 3], &[1, 2, 3]);
+    deduped(&rt, alloc, &[1, 1, 2, 3], &[1, 2, 3]);
+    deduped(&rt, alloc, &[1, 2, 2, 3], &[1, 2, 3]);
+    deduped(&rt, alloc, &[1, 2, 3, 3], &[1, 2, 3]);
+    deduped(&rt, alloc, &[1, 1, 2, 2, 2, 3, 3], &[1, 2, 3]);
+    deduped(&rt, alloc, &[1, 2, 2, 3, 2], &[1, 2, 3, 2]);
+}
+
+fn deduped_boxes(rt: &impl Abort, alloc: Global, items: &[i32]) {
+    let mut list = boxes_of(alloc, items).expect(rt, "memory");
+    list.dedup();
+    assert_same(rt, list.len(), 3);
+    for (boxed, wanted) in list.iter().zip([1, 2, 3]) {
+        assert_same(rt, **boxed, wanted);
+    }
+}
+
+#[test]
+fn test_dedup_unique(rt: HostRuntime) {
+    let alloc = rt.alloc();
+    deduped_boxes(&rt, alloc, &[1, 2, 3]);
+    deduped_boxes(&rt, alloc, &[1, 1, 2, 3]);
+    deduped_boxes(&rt, alloc, &[1, 2, 2, 3]);
+    deduped_boxes(&rt, alloc, &[1, 2, 3, 3]);
+    deduped_boxes(&rt, alloc, &[1, 1, 2, 2, 2, 3, 3]);
+}
+
+fn deduped_by_tens(rt: &impl Abort, alloc: Global, items: &[i32], wanted: &[i32]) {
+    let mut list = ThinVec::from_slice(alloc, items).expect(rt, "memory");
+    list.dedup_by_key(|item| *item / 10);
+    assert_list(rt, &list, wanted, items.len());
+}
+
+#[test]
+fn test_dedup_by_key(rt: HostRuntime) {
+    let alloc = rt.alloc();
+    deduped_by_tens(&rt, alloc, &[], &[]);
+    deduped_by_tens(&rt, alloc, &[10], &[10]);
+    deduped_by_tens(&rt, alloc, &[10, 11], &[10]);
+    deduped_by_tens(&rt, alloc, &[10, 20, 30], &[10, 20, 30]);
+    deduped_by_tens(&rt, alloc, &[10, 11, 20, 30], &[10, 20, 30]);
+    deduped_by_tens(&rt, alloc, &[10, 20, 21, 30], &[10, 20, 30]);
+    deduped_by_tens(&rt, alloc, &[10, 20, 30, 31], &[10, 20, 30]);
+    deduped_by_tens(&rt, alloc, &[10, 11, 20, 21, 22, 30, 31], &[10, 20, 30]);
+}
+
+#[test]
+fn test_dedup_by(rt: HostRuntime) {
+    let mut list = list_of(&rt, rt.alloc(), &["foo", "bar", "Bar", "baz", "bar"]);
+    list.dedup_by(|later, kept| later.eq_ignore_ascii_case(*kept));
+    assert_items(&rt, list.as_slice(), &["foo", "bar", "baz", "bar"]);
+}

@@ -1,0 +1,25 @@
+//! Which capacities lists have under `PowerBytes`, at items that the sweep does not make too.
+use crate::tests::assertions::assert_same;
+use crate::tests::items::push;
+use std::alloc::Global;
+use std::process::Abort;
+use thin_vec::{PowerBytes, ThinVec};
+
+// Pushes until each of these capacities is full, and asserts the capacity at every length.
+fn assert_grows<T: Copy + Drop>(rt: &impl Abort, alloc: Global, item: T, capacities: &[usize]) {
+    let mut list = ThinVec::<T, Global, PowerBytes>::ruled(alloc);
+    for &capacity in capacities {
+        for _ in list.len()..capacity {
+            push(rt, &mut list, item);
+            assert_same(rt, list.capacity(), capacity);
+        }
+    }
+}
+
+#[test]
+fn blocks_fill_powers_of_two(rt: HostRuntime) {
+    let alloc = rt.alloc();
+    assert_grows(&rt, alloc, 7_u64, &[2, 6, 14]);
+    assert_grows(&rt, alloc, [7_u64, 8, 9], &[2, 4, 10]);
+    assert_grows(&rt, alloc, (), &[4, 8, 16]);
+}

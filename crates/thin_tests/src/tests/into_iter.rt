@@ -1,0 +1,110 @@
+//! Walks over a list that is used up: what remains, and how they end.
+use crate::tests::assertions::{assert_items, assert_list, assert_same};
+use crate::tests::items::{list_of, refusing_nth};
+use std::alloc::{Allocator, Global};
+use std::process::Abort;
+use thin_examples::walks::{carried_over, collected, count, least, reversed, reversed_singly};
+use thin_vec::{IntoIter, ThinVec};
+
+#[test]
+fn test_into_iter_as_slice(rt: HostRuntime) {
+    let mut items = list_of(&rt, rt.alloc(), &['a', 'b', 'c']).into_iter();
+    assert_items(&rt, items.as_slice(), &['a', 'b', 'c']);
+    assert_same(&rt, items.next(), Some('a'));
+    assert_items(&rt, items.as_slice(), &['b', 'c']);
+    assert_same(&rt, items.next_back(), Some('c'));
+    assert_same(&rt, items.next_back(), Some('b'));
+    assert_same(&rt, items.next_back(), None);
+    assert_same(&rt, items.next(), None);
+    assert_items(&rt, items.as_slice(), &[]);
+}
+
+#[test]
+fn test_into_iter_as_mut_slice(rt: HostRuntime) {
+    let mut items = list_of(&rt, rt.alloc(), &['a', 'b', 'c']).into_iter();
+    assert_eq!(rt; items.len(), 3);
+    items.as_mut_slice()[0] = 'x';
+    items.as_mut_slice()[1] = 'y';
+    assert_same(&rt, items.next(), Some('x'));
+    assert_items(&rt, items.as_slice(), &['y', 'c']);
+}
+
+#[test]
+fn test_into_iter_count(rt: HostRuntime) {
+    let items = list_of(&rt, rt.alloc(), &[1, 2, 3]).into_iter();
+    assert_same(&rt, items.count(), 3);
+}
+
+// Clones what remains, and asserts the items of the clone.
+fn assert_cloned<A: Allocator>(
+    rt: &impl Abort,
+    items: &IntoIter<i32, A>,
+    alloc: A,
+    wanted: &[i32],
+) {
+    let clone = items.clone(alloc).expect(rt, "memory");
+    assert_items(rt, clone.as_slice(), wanted);
+}
+
+// Clones what remains of a walk over 1, 2, 3, before a step and after it, and walks to the end.
+fn clone_between_steps<A: Allocator + Copy>(
+    rt: &impl Abort,
+    items: &mut IntoIter<i32, A>,
+    alloc: A,
+) {
+    assert_cloned(rt, items, alloc, &[1, 2, 3]);
+    assert_same(rt, items.next(), Some(1));
+    assert_cloned(rt, items, alloc, &[2, 3]);
+    assert_same(rt, (items.next_back(), items.next()), (Some(3), Some(2)));
+}
+
+#[test]
+fn test_into_iter_clone(rt: HostRuntime) {
+    let refusing = refusing_nth(&rt, rt.alloc(), 2);
+    let mut items = list_of(&rt, refusing, &[1, 2, 3]).into_iter();
+    assert_same(&rt, items.clone(refusing).is_err(), true);
+    assert_same(&rt, refusing.blocks(), 1);
+    clone_between_steps(&rt, &mut items, refusing);
+    refusing.refuse(1);
+    assert_cloned(&rt, &items, refusing, &[]);
+}
+
+// A list to which the items were moved, in order and then last first.
+fn moved_twice<T: Copy + Drop>(rt: &impl Abort, alloc: Global, items: &[T]) -> ThinVec<T> {
+    let mut moved = ThinVec::new(alloc);
+    let list = list_of(rt, alloc, items);
+    moved.extend(list.into_iter()).ok().expect(rt, "memory");
+    let list = list_of(rt, alloc, items);
+    moved
+        .extend(list.into_iter().rev())
+        .ok()
+        .expect(rt, "memory");
+    moved
+}
+
+#[test]
+fn test_move_items(rt: HostRuntime) {
+    let moved = moved_twice(&rt, rt.alloc(), &[1, 2, 3]);
+    assert_list(&rt, &moved, &[1, 2, 3, 3, 2, 1], 8);
+    let units = moved_twice(&rt, rt.alloc(), &[(), (), ()]);
+    assert_same(&rt, units.len(), 6);
+}
+
+fn three(rt: &impl Abort, alloc: Global) -> ThinVec<u32, Global> {
+    list_of(rt, alloc, &[4, 3, 5])
+}
+
+#[test]
+fn walks_by_value(rt: HostRuntime) {
+    let alloc = rt.alloc();
+    assert_same(&rt, count(three(&rt, alloc)), 3);
+    assert_same(&rt, least(three(&rt, alloc), 9), 3);
+    for (walked, wanted) in [
+        (collected(three(&rt, alloc), alloc), [4, 3, 5]),
+        (reversed(three(&rt, alloc), alloc), [5, 3, 4]),
+        (reversed_singly(three(&rt, alloc), alloc), [5, 3, 4]),
+        (carried_over(three(&rt, alloc), alloc), [4, 3, 5]),
+    ] {
+        assert_items(&rt, walked.expect(&rt, "memory").as_slice(), &wanted);
+    }
+}

@@ -1,0 +1,77 @@
+//! The limits of a block, at the types that Rust has, against numbers worked out by hand.
+ghost use Rattle.std.specs.Prelude.{◌≡◌, IsTrue, IsFalse, ◌^◌, ◌-◌, ◌+◌};
+ghost use Rattle.thin_block.specs.Capacity.{items_offset, fits as fits_at};
+
+use crate::tests::assertions::assert_same;
+use std::alloc::AllocError;
+use thin_block::{Growth, PowerBytes, ThinVecError, first_capacity, fits, next_capacity};
+
+#[test]
+fn the_greatest_capacity_that_fits(rt: HostRuntime) {
+    for &(fitting, past) in &[
+        (fits::<u8>((1 << 63) - 24), fits::<u8>((1 << 63) - 23)),
+        (fits::<u16>((1 << 62) - 12), fits::<u16>((1 << 62) - 11)),
+        (fits::<u32>((1 << 61) - 6), fits::<u32>((1 << 61) - 5)),
+        (fits::<u64>((1 << 60) - 3), fits::<u64>((1 << 60) - 2)),
+        (fits::<()>((1 << 63) - 1), fits::<()>(1 << 63)),
+    ] {
+        assert_same(&rt, (fitting, past), (true, false));
+    }
+}
+
+#[test]
+fn the_next_capacity(rt: HostRuntime) {
+    assert_same(&rt, first_capacity::<u8>(), 4);
+    for &(cap, want, next) in &[(0, 1, 4), (3, 4, 6), (3, 13, 13), (4, 4, 4)] {
+        let answer = (cap, want, next_capacity::<i32>(cap, want));
+        assert_same(&rt, answer, (cap, want, Some(next)));
+    }
+    assert_same(
+        &rt,
+        [
+            next_capacity::<u8>((1 << 62) - 12, (1 << 62) - 11),
+            next_capacity::<u8>(1 << 62, (1 << 62) + 1),
+            next_capacity::<()>(1 << 62, (1 << 62) + 1),
+        ],
+        [Some((1 << 63) - 24), None, None],
+    );
+}
+
+// The greatest want that a block of 2 ^ 62 bytes has room for, and the next one.
+#[test]
+fn the_last_power_of_two(rt: HostRuntime) {
+    let last = (1 << 62) - 16;
+    for &(want, of_powers, doubled) in &[
+        (last, Some(last), Some(last)),
+        (last + 1, None, Some(last + 1)),
+    ] {
+        let next = PowerBytes::next_capacity::<u8>(0, want);
+        assert_same(&rt, (want, next), (want, of_powers));
+        assert_same(&rt, (want, next_capacity::<u8>(0, want)), (want, doubled));
+    }
+}
+
+#[test]
+fn the_errors(rt: HostRuntime) {
+    for &(error, wanted) in &[
+        (ThinVecError::CapacityOverflow, "capacity overflow"),
+        (ThinVecError::OutOfMemory, "out of memory"),
+    ] {
+        let text = format!(in rt.alloc(); "{error}").expect(&rt, "memory");
+        assert_same(&rt, text.as_str(), wanted);
+    }
+    let cause = ThinVecError::from(AllocError);
+    assert_same(&rt, cause, ThinVecError::OutOfMemory);
+}
+
+// No type of the language has an alignment above 16, so no run can show these.
+#[tactic(auto, unfolding(thin_block::specs::Capacity::fits))]
+fn the_limits_at_greater_alignments()
+    ensures byte_items { items_offset 1 ≡ 16 }
+    ensures items_at_32 { items_offset 32 ≡ 32 }
+    ensures items_at_256 { items_offset 256 ≡ 256 }
+    ensures fits_at_32 { IsTrue (fits_at 1 32 (2 ^ 63 - 64)) }
+    ensures past_32 { IsFalse (fits_at 1 32 (2 ^ 63 - 63)) }
+    ensures fits_at_256 { IsTrue (fits_at 1 256 (2 ^ 63 - 512)) }
+    ensures past_256 { IsFalse (fits_at 1 256 (2 ^ 63 - 511)) }
+{}

@@ -1,0 +1,16 @@
+//! Lists that are written out, and lists made from an array.
+use crate::tests::assertions::{assert_counts, assert_same};
+use crate::tests::counted::Counted;
+use std::cell::Cell;
+use thin_testing::Refusing;
+use thin_vec::{ThinVecError, thin_vec};
+
+#[test]
+fn a_refused_list_written_out_makes_no_item(rt: HostRuntime) {
+    let refusing = Refusing::new(rt.alloc(), 1);
+    let drops = Cell::new(0);
+    let refused = thin_vec![&refusing => Counted::new(&drops), Counted::new(&drops)].err();
+    let wanted = Some(ThinVecError::OutOfMemory);
+    assert_same(&rt, (refused, drops.get()), (wanted, 0));
+    assert_counts(&rt, &refusing, 1, 0);
+}

@@ -1,0 +1,58 @@
+//! The names that a program takes from the crate, and the traits that it relies on: of each is one
+//! use.
+use crate::tests::assertions::assert_same;
+use std::alloc::{AllocError, Allocator, Global};
+use std::convert::AsSlice;
+use std::error::Error;
+use std::fmt::Debug;
+use std::hash::Hash;
+use std::io::Write;
+use std::iter::{ExactSizeIterator, FusedIterator};
+use std::ops::{DerefSlice, DerefSliceMut, Index, IndexMut};
+use thin_vec::{
+    Doubling, ExtractIf, Growth, IntoIter, Rejected, ThinVec, ThinVecError, fits, thin_vec,
+};
+
+// What a list of items that are cloned, compared, hashed and printed is.
+fn is_a_list<L>(_list: &L)
+where
+    L: Clone + Eq + Ord + Hash + Debug + Drop,
+    L: AsSlice<u8> + DerefSlice<Elem = u8> + DerefSliceMut,
+    L: Index<usize, Output = u8> + IndexMut<usize> + IntoIterator<Item = u8> + Write,
+{}
+
+// What the iterator that it becomes is, and a `Drain`.
+fn is_an_iterator<I>(_items: &I)
+where
+    I: DoubleEndedIterator + ExactSizeIterator + FusedIterator + Iterator<Item = u8> + Debug + Drop,
+{}
+
+// What the cause of a refusal is.
+fn is_a_cause<E>(_cause: &E)
+where
+    E: Error + Copy + Eq + From<AllocError> + From<Rejected<u8>>,
+{}
+
+fn is_an_extraction<F>(_items: &ExtractIf<'_, u8, F>) {}
+
+fn of_a_rule<G: Growth, A: Allocator>(list: &ThinVec<u8, A, G>) -> usize {
+    list.capacity()
+}
+
+#[test]
+fn names_and_traits_are_there(rt: HostRuntime) {
+    let list: ThinVec<u8, Global, Doubling> = thin_vec![rt.alloc() => 1, 2].expect(&rt, "memory");
+    is_a_list(&list);
+    assert_same(&rt, of_a_rule::<Doubling, Global>(&list), 2);
+    is_a_cause(&ThinVecError::OutOfMemory);
+    assert_same(&rt, fits::<u8>(3), true);
+}
+
+#[test]
+fn iterators_and_their_traits_are_there(rt: HostRuntime) {
+    let mut bytes = ThinVec::new(rt.alloc());
+    is_an_iterator(&bytes.drain(0, 0));
+    is_an_extraction(&bytes.extract_if(0, 0, |_item: &mut u8| true));
+    let items: IntoIter<u8, Global, Doubling> = bytes.into_iter();
+    is_an_iterator(&items);
+}

@@ -1,0 +1,200 @@
+//! What is reported, where all goes well and where a write or a request is refused.
+use std::alloc::{Allocator, Global};
+use std::io;
+use std::io::{ErrorKind, Write};
+use std::process::{Abort, ExitCode};
+use thin_examples::checks::Checks;
+use thin_examples::reporting::{Status, report, report_rows, write_row};
+use thin_examples::rows::Outcome;
+use thin_testing::Refusing;
+use thin_vec::ThinVecError;
+
+// It holds what was written, and refuses one call.
+#[derive(Drop)]
+struct Failing<'a> {
+    text: &'a mut String,
+    calls: usize,
+    failing: usize,
+}
+
+impl Write for Failing<'_> {
+    fn write(&mut self, buf: &[u8]) -> io::Result<usize> {
+        self.calls = self.calls.saturating_add(1);
+        if self.calls == self.failing {
+            return Err(io::Error::from(ErrorKind::BrokenPipe));
+        }
+        let text = std::str::from_utf8(buf).unwrap_or("?");
+        match self.text.push_str(text) {
+            Ok(()) => Ok(buf.len()),
+            Err(_refused) => Err(io::Error::from(ErrorKind::OutOfMemory)),
+        }
+    }
+
+    fn flush(&mut self) -> io::Result<()> {
+        Ok(())
+    }
+}
+
+const REPORT: &str =
+    "row 1 ok\nrow 2 ok\nrow 3 ok\nrow 4 ok\nrow 5 ok\nrow 6 ok\nrow 7 ok\nrow 8 ok\n\
+    row 9 ok\nrow 10 ok\nrow 11 ok\nrow 13 ok\nrow 14 ok\nrow 15 ok\nrow 17 ok\nrow 18 ok\n\
+    row 19 ok\nrow 20 ok\nrow 21 ok\nrow 22 ok\nrow 23 ok\nrow 24 ok\nrow 25 ok\nrow 27 ok\n\
+    row 28 ok\nrow 29 ok\nrow 30 ok\nrow 31 ok\nrow 32 ok\nrow 33 ok\nrow 34 ok\nrow 35 ok\n\
+    row 36 ok\nrow 40 ok\nrow 41 ok\n\
+    35 rows ok\n";
+
+// What the program ends with, as the text of the code, which has no other reader.
+const EVERY_ROW_OK: &str = "ExitCode(unix_exit_status(0))";
+
+const OUT_OF_MEMORY: &str = "ExitCode(unix_exit_status(2))";
+
+const NOT_WRITTEN: &str = "ExitCode(unix_exit_status(3))";
+
+// Reports into `text`, of which the call of that number is refused, or none at 0. Asserts that the
+// report ends so, and returns how many calls it made.
+fn report_into<A: Allocator + Copy, R: Abort>(
+    rt: &R,
+    alloc: A,
+    text: &mut String,
+    failing: usize,
+    end: &str,
+) -> usize {
+    let global = *text.allocator();
+    let mut out = Failing {
+        text,
+        calls: 0,
+        failing,
+    };
+    let code = report(alloc, &mut out);
+    let shown = format!(in global; "{code:?}").expect(rt, "memory");
+    assert!(rt; shown.as_str() == end, "not {end}");
+    out.calls
+}
+
+// Asserts that a report whose call of that number is refused wrote the whole report up to there.
+fn assert_written_until<R: Abort>(rt: &R, alloc: Global, failing: usize) {
+    let mut text = String::new(alloc);
+    let calls = report_into(rt, alloc, &mut text, failing, NOT_WRITTEN);
+    assert!(rt;
+        calls == failing && REPORT.starts_with(text.as_str()),
+        "at call {failing}"
+    );
+}
+
+#[test]
+fn reports_until_a_line_is_refused(rt: HostRuntime) {
+    let alloc = rt.alloc();
+    let mut whole = String::new(alloc);
+    let calls = report_into(&rt, alloc, &mut whole, 0, EVERY_ROW_OK);
+    assert!(rt; whole.as_str() == REPORT);
+    for failing in 1..calls.saturating_add(1) {
+        assert_written_until(&rt, alloc, failing);
+    }
+}
+
+// Asserts that a report whose request of that number is refused wrote the whole report up to there,
+// and why it ends, and gave each block back.
+fn assert_reported_until<R: Abort>(rt: &R, alloc: Global, nth: u64) {
+    let refusing = Refusing::new(alloc, nth);
+    let mut text = String::new(alloc);
+    let _calls = report_into(rt, &refusing, &mut text, 0, OUT_OF_MEMORY);
+    let rows = text.as_str().strip_suffix("out of memory\n");
+    assert!(rt;
+        REPORT.starts_with(rows.unwrap_or("another end")) && refusing.blocks() == 0,
+        "at request {nth}"
+    );
+}
+
+#[test]
+fn reports_memory_refused_at_any_request(rt: HostRuntime) {
+    let granted = Refusing::new(rt.alloc(), 0);
+    let mut whole = String::new(rt.alloc());
+    let _calls = report_into(&rt, &granted, &mut whole, 0, EVERY_ROW_OK);
+    let requests = granted.requests();
+    assert!(rt; requests > 0);
+    for nth in 1..requests.saturating_add(1) {
+        assert_reported_until(&rt, rt.alloc(), nth);
+    }
+}
+
+// What is written of these rows, and the status.
+fn reported(rt: &impl Abort, alloc: Global, rows: &[u32], wanted: &str, status: Status) {
+    let mut text = String::new(alloc);
+    {
+        let mut out = Failing {
+            text: &mut text,
+            calls: 0,
+            failing: 0,
+        };
+        assert!(rt; report_rows(alloc, rows, &mut out) == status);
+    }
+    assert!(rt; text.as_str() == wanted, "not {wanted}");
+}
+
+#[test]
+fn counts_the_rows_that_failed(rt: HostRuntime) {
+    // There is no row 0, which therefore fails.
+    for (rows, text) in [
+        ([0, 1].as_slice(), "row 0 failed\nrow 1 ok\n1 rows failed\n"),
+        (
+            [1, 0, 5].as_slice(),
+            "row 1 ok\nrow 0 failed\nrow 5 ok\n1 rows failed\n",
+        ),
+        (
+            [0, 1, 0].as_slice(),
+            "row 0 failed\nrow 1 ok\nrow 0 failed\n2 rows failed\n",
+        ),
+    ] {
+        reported(&rt, rt.alloc(), rows, text, Status::RowFailed);
+    }
+    reported(
+        &rt,
+        rt.alloc(),
+        &[1, 6],
+        "row 1 ok\nrow 6 ok\n2 rows ok\n",
+        Status::EveryRowOk,
+    );
+}
+
+// Asserts that the row 7, where it ends so, is written as that line, and gives that status.
+fn assert_row<R: Abort>(rt: &R, alloc: Global, outcome: Outcome, line: &str, status: Status) {
+    let mut text = String::new(alloc);
+    {
+        let mut out = Failing {
+            text: &mut text,
+            calls: 0,
+            failing: 0,
+        };
+        let told = write_row(7, outcome, &mut out);
+        assert!(rt; told.ok() == Some(status), "{line}");
+    }
+    assert!(rt; text.as_str() == line, "not {line}");
+}
+
+// One value is compared, which is right or not.
+fn compared(right: bool) -> Checks {
+    let mut checks = Checks::new();
+    checks.is(right);
+    checks
+}
+
+#[test]
+fn a_row_that_overflows_or_compares_nothing_has_failed(rt: HostRuntime) {
+    for (outcome, line, status) in [
+        (Ok(compared(true)), "row 7 ok\n", Status::EveryRowOk),
+        (Ok(compared(false)), "row 7 failed\n", Status::RowFailed),
+        (Ok(Checks::new()), "row 7 failed\n", Status::RowFailed),
+        (
+            Err(ThinVecError::CapacityOverflow),
+            "row 7 failed\n",
+            Status::RowFailed,
+        ),
+        (
+            Err(ThinVecError::OutOfMemory),
+            "out of memory\n",
+            Status::OutOfMemory,
+        ),
+    ] {
+        assert_row(&rt, rt.alloc(), outcome, line, status);
+    }
+}

@@ -1,0 +1,63 @@
+//! Which requests `Refusing` refuses, and what it counts.
+use crate::tests::assertions::{assert_counts, assert_same};
+use crate::tests::items::refusing_nth;
+use std::alloc::{Allocator, Global};
+use std::process::Abort;
+use thin_testing::Refusing;
+
+// Pushes, and asserts whether that was granted.
+fn assert_push<A: Allocator>(rt: &impl Abort, items: &mut Vec<u8, A>, item: u8, granted: bool) {
+    assert_same(rt, items.push(item).is_ok(), granted);
+}
+
+// Reserves room for many more, and asserts whether that was granted.
+fn assert_reserve<A: Allocator>(rt: &impl Abort, items: &mut Vec<u8, A>, granted: bool) {
+    assert_same(rt, items.reserve(1000).is_ok(), granted);
+}
+
+// Asserts how many blocks are out.
+fn assert_blocks(rt: &impl Abort, refusing: &Refusing<Global>, blocks: u64) {
+    assert_same(rt, refusing.blocks(), blocks);
+}
+
+// Pushes to a `Vec` of its own, and asserts how many blocks are out by the refusal, and by the push
+// after it.
+fn assert_blocks_by_pushes(rt: &impl Abort, refusing: &Refusing<Global>) {
+    let mut other = Vec::new(refusing);
+    assert_push(rt, &mut other, 2, false);
+    assert_blocks(rt, refusing, 1);
+    assert_push(rt, &mut other, 2, true);
+    assert_blocks(rt, refusing, 2);
+}
+
+#[test]
+fn counts_the_blocks_that_are_out(rt: HostRuntime) {
+    let refusing = refusing_nth(&rt, rt.alloc(), 0);
+    {
+        let mut one = Vec::new(refusing);
+        assert_blocks(&rt, refusing, 0);
+        assert_push(&rt, &mut one, 1, true);
+        assert_blocks(&rt, refusing, 1);
+        assert_reserve(&rt, &mut one, true);
+        assert_blocks(&rt, refusing, 1);
+
+        refusing.refuse(1);
+        assert_blocks_by_pushes(&rt, refusing);
+    }
+    assert_blocks(&rt, refusing, 0);
+}
+
+#[test]
+fn each_number_refuses_its_own_request(rt: HostRuntime) {
+    for refused in 1..9 {
+        let refusing = refusing_nth(&rt, rt.alloc(), refused);
+        let mut kept = Vec::new(rt.alloc());
+        for request in 1..10 {
+            let mut one = Vec::new(refusing);
+            let answer = (refused, request, one.push(request).is_ok());
+            assert_same(&rt, answer, (refused, request, request != refused));
+            kept.push(one).ok().expect(&rt, "memory");
+        }
+        assert_counts(&rt, refusing, 9, 8);
+    }
+}

@@ -1,0 +1,94 @@
+//! What each row compares and asks memory for, and that a comparison sees a wrong value.
+use std::alloc::Global;
+use std::process::Abort;
+use thin_examples::checks::Checks;
+use thin_examples::rows::{ROWS, row};
+use thin_testing::Refusing;
+use thin_vec::thin_vec;
+
+// How many values each row compares, and how many requests it makes, counted by hand: a row that
+// compares less, or does another's work, has another line. The requests of row 35 are those of
+// the kit's `format!`, and not told.
+const COUNTS: &str = "\
+    1: 5, 0\n\
+    2: 12, 2\n\
+    3: 11, 2\n\
+    4: 3, 6\n\
+    5: 7, 2\n\
+    6: 11, 1\n\
+    7: 7, 1\n\
+    8: 10, 1\n\
+    9: 8, 1\n\
+    10: 16, 6\n\
+    11: 13, 2\n\
+    13: 5, 1\n\
+    14: 9, 2\n\
+    15: 22, 2\n\
+    17: 6, 1\n\
+    18: 7, 0\n\
+    19: 12, 1\n\
+    20: 18, 2\n\
+    21: 29, 3\n\
+    22: 13, 0\n\
+    23: 16, 2\n\
+    24: 28, 10\n\
+    25: 8, 2\n\
+    27: 20, 19\n\
+    28: 13, 3\n\
+    29: 10, 2\n\
+    30: 5, 6\n\
+    31: 17, 3\n\
+    32: 33, 4\n\
+    33: 15, 1\n\
+    34: 14, 2\n\
+    35: 4, 0\n\
+    36: 10, 3\n\
+    40: 15, 2\n\
+    41: 6, 5\n";
+
+// Asserts that a row is ok and leaves no block, and writes its line.
+fn put_counts<R: Abort>(rt: &R, alloc: Global, number: u32, lines: &mut String) {
+    let refusing = Refusing::new(alloc, 0);
+    let checks = row(&refusing, number).ok().expect(rt, "no refusal");
+    assert!(rt; checks.is_ok() && refusing.blocks() == 0, "row {number}");
+    let requests = if number == 35 { 0 } else { refusing.requests() };
+    let values = checks.compared();
+    let line = format!(in alloc; "{number}: {values}, {requests}\n").expect(rt, "memory");
+    lines.push_str(line.as_str()).ok().expect(rt, "memory");
+}
+
+#[test]
+fn each_row_compares_its_values_and_makes_its_requests(rt: HostRuntime) {
+    let mut lines = String::new(rt.alloc());
+    for number in &ROWS {
+        put_counts(&rt, rt.alloc(), *number, &mut lines);
+    }
+    assert_eq!(rt; lines.as_str(), COUNTS);
+}
+
+// Asserts that one value more was found wrong.
+fn assert_wrong(rt: &impl Abort, checks: Checks, values: u32) {
+    assert!(rt; checks.compared() == values && !checks.is_ok());
+}
+
+// The list 1, 2 is compared with these items and this capacity.
+fn held(rt: &impl Abort, alloc: Global, items: &[u32], capacity: usize) -> Checks {
+    let list = thin_vec![alloc => 1, 2].expect(rt, "memory");
+    let mut checks = Checks::new();
+    checks.holds(&list, items, capacity);
+    checks
+}
+
+#[test]
+fn each_comparison_sees_a_wrong_value(rt: HostRuntime) {
+    let alloc = rt.alloc();
+    assert!(rt; held(&rt, alloc, &[1, 2], 2).is_ok());
+    assert_wrong(&rt, held(&rt, alloc, &[1, 3], 2), 4);
+    assert_wrong(&rt, held(&rt, alloc, &[1, 2, 3], 2), 4);
+    assert_wrong(&rt, held(&rt, alloc, &[1], 2), 3);
+    assert_wrong(&rt, held(&rt, alloc, &[1, 2], 3), 4);
+    let mut checks = Checks::new();
+    checks.same(1, 2);
+    checks.is(true);
+    assert_wrong(&rt, checks, 2);
+}

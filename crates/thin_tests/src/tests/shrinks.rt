@@ -1,0 +1,45 @@
+//! `shrink_to_fit`: what it leaves.
+use crate::tests::assertions::assert_same;
+use crate::tests::items::{push, push_all};
+use std::alloc::Global;
+use std::process::Abort;
+use thin_vec::ThinVec;
+
+// Asserts whether the list owns a block.
+fn assert_owns_block<T>(rt: &impl Abort, list: &ThinVec<T>, owns_block: bool) {
+    assert_same(rt, list.has_capacity(), owns_block);
+}
+
+// By `has_capacity`.
+#[test]
+fn test_alloc(rt: HostRuntime) {
+    let alloc = rt.alloc();
+    let mut list = ThinVec::new(alloc);
+    assert_owns_block(&rt, &list, false);
+    push_all(&rt, &mut list, 0..1);
+    assert_owns_block(&rt, &list, true);
+    assert_same(&rt, list.pop(), Some(0));
+    assert_owns_block(&rt, &list, true);
+    list.shrink_to_fit().expect(&rt, "memory");
+    assert_owns_block(&rt, &list, false);
+    list.reserve(64).expect(&rt, "memory");
+    assert_owns_block(&rt, &list, true);
+
+    for &(capacity, owns_block) in &[(64, true), (0, false)] {
+        let list = ThinVec::<u32, Global>::with_capacity(alloc, capacity).expect(&rt, "memory");
+        assert_same(&rt, (capacity, list.has_capacity()), (capacity, owns_block));
+    }
+}
+
+// No type of the language has a greater alignment than u128.
+#[test]
+fn overaligned_allocations(rt: HostRuntime) {
+    let mut list = ThinVec::new(rt.alloc());
+    push(&rt, &mut list, 273u128);
+    for i in 0..4096 {
+        list.reserve_exact(i).expect(&rt, "memory");
+        assert_same(&rt, (i, list.as_slice()), (i, &[273]));
+        list.shrink_to_fit().expect(&rt, "memory");
+        assert_same(&rt, (i, list.as_slice()), (i, &[273]));
+    }
+}

@@ -1,0 +1,162 @@
+//! `splice`: what a program may promise of it, and what `finish` leaves, wherever it is refused.
+ghost use Rattle.std.specs.Prelude.{◌≡◌, ◌≤◌, ◌++◌, OnOk, drop, length, take};
+
+use crate::tests::assertions::{assert_items, assert_len, assert_list, assert_same};
+use crate::tests::claims::Claims;
+use crate::tests::items::{list_of, refusing_nth};
+use std::alloc::{Allocator, Global};
+use std::iter::empty;
+use std::process::Abort;
+use thin_examples::spliced::splice_by;
+use thin_vec::{Growth, SpliceRefused, ThinVec, ThinVecError};
+
+/// Puts the numbers in the place of the items from `start` up to `end`. Refused, those that found
+/// no room are dropped.
+pub fn replace<A: Allocator, G: Growth>(
+    list: &mut ThinVec<u32, A, G>,
+    start: usize,
+    end: usize,
+    numbers: &[u32],
+    alloc: A,
+) -> Result<(), ThinVecError>
+    requires start_le_end { start ≤ end }
+    requires in_bounds { end ≤ length list.old.items }
+    ensures items { OnOk result (list.new.items ≡ (take start list.old.items ++ numbers.now)
+        ++ drop end list.old.items) }
+{
+    match splice_by(list, (start, end), numbers.iter().copied(), alloc) {
+        Ok(()) => Ok(()),
+        Err(refused) => Err(refused.cause),
+    }
+}
+
+/// Puts the numbers in the place of the items from `start` up to `end`, and then takes that back:
+/// the list is as before.
+pub fn replace_and_undo<A: Allocator + Copy, G: Growth>(
+    list: &mut ThinVec<u32, A, G>,
+    start: usize,
+    end: usize,
+    numbers: &[u32],
+    alloc: A,
+) -> Result<(), ThinVecError>
+    requires start_le_end { start ≤ end }
+    requires in_bounds { end ≤ length list.old.items }
+    ensures items { OnOk result (list.new.items ≡ list.old.items) }
+{
+    let gone = ThinVec::from_copies(alloc, &list.as_slice()[start..end])?;
+    replace(list, start, end, numbers, alloc)?;
+    let _len = list.len();
+    replace(list, start, start + numbers.len(), gone.as_slice(), alloc)
+}
+
+#[test]
+fn a_splice_is_undone(rt: HostRuntime) {
+    for &(numbers, capacity) in &[(&[][..], 3), (&[7][..], 3), (&[7, 8, 9][..], 6)] {
+        let mut list = list_of(&rt, rt.alloc(), &[1, 2, 3]);
+        assert_len(&rt, &list, 3);
+        let undone = replace_and_undo(&mut list, 1, 2, numbers, rt.alloc());
+        undone.expect(&rt, "memory");
+        assert_same(
+            &rt,
+            (list.as_slice(), list.capacity()),
+            (&[1, 2, 3][..], capacity),
+        );
+    }
+}
+
+// What a refused `finish` hands back: the cause, what is held, what is in hand, and what the rest
+// gives.
+fn assert_refused<A: Allocator>(
+    rt: &impl Abort,
+    refused: SpliceRefused<i32, Claims<'_>, A>,
+    wanted: (ThinVecError, &[i32], Option<i32>, &[i32]),
+) {
+    let SpliceRefused {
+        cause,
+        held,
+        in_hand,
+        mut rest,
+    } = refused;
+    assert_same(rt, (cause, in_hand), (wanted.0, wanted.2));
+    assert_items(rt, held.as_slice(), wanted.1);
+    for item in wanted.3 {
+        assert_same(rt, rest.next(), Some(*item));
+    }
+    assert_same(rt, rest.next(), None);
+}
+
+// Puts what `iter` gives in the place of a range of the items, and asserts what their list has by
+// the refusal, and what that hands back.
+fn assert_range_refused<A: Allocator + Copy>(
+    rt: &impl Abort,
+    alloc: A,
+    items: &[i32],
+    range: (usize, usize),
+    iter: Claims<'_>,
+    left: (&[i32], usize),
+    wanted: (ThinVecError, &[i32], Option<i32>, &[i32]),
+)
+    requires start_le_end { range.0 ≤ range.1 }
+    requires in_bounds { range.1 ≤ length items.now }
+{
+    let mut list = list_of(rt, alloc, items);
+    assert_len(rt, &list, items.len());
+    let refused = splice_by(&mut list, range, iter, alloc)
+        .err()
+        .expect(rt, "accepted");
+    assert_list(rt, &list, left.0, left.1);
+    assert_refused(rt, refused, wanted);
+}
+
+#[test]
+fn row_12_splice_refused(rt: HostRuntime) {
+    let refusing = refusing_nth(&rt, rt.alloc(), 2);
+    let iter = Claims::new(&[10, 11, 12], 0);
+    let left = (&[1, 2, 10, 11, 5][..], 5);
+    let wanted = (ThinVecError::OutOfMemory, &[][..], Some(12), &[][..]);
+    assert_range_refused(&rt, refusing, &[1, 2, 3, 4, 5], (2, 4), iter, left, wanted);
+}
+
+#[test]
+fn row_39_splice_refused(rt: HostRuntime) {
+    // The list's first memory, the vector's, and then the list's growth.
+    let refusing = refusing_nth(&rt, rt.alloc(), 3);
+    let iter = Claims::new(&[7, 8, 9], 0);
+    let left = (&[1, 7, 3][..], 3);
+    let wanted = (ThinVecError::OutOfMemory, &[8, 9][..], None, &[][..]);
+    assert_range_refused(&rt, refusing, &[1, 2, 3], (1, 2), iter, left, wanted);
+}
+
+// Puts so many numbers in the place of the second item.
+fn splice_long(rt: &impl Abort, list: &mut ThinVec<i32>, count: i32, alloc: Global)
+    requires in_bounds { 2 ≤ length list.old.items }
+{
+    list.splice(1, 2, (0..count).filter(|_| true))
+        .finish(alloc)
+        .ok()
+        .expect(rt, "memory");
+}
+
+#[test]
+fn a_long_splice_is_not_refused(rt: HostRuntime) {
+    let alloc = rt.alloc();
+    for count in 0..301 {
+        let mut list = list_of(&rt, alloc, &[-1, -2, -3]);
+        assert_len(&rt, &list, 3);
+        splice_long(&rt, &mut list, count, alloc);
+        let len = usize::try_from(count).unwrap_or(0);
+        assert_same(&rt, list.len(), len.saturating_add(2));
+        assert_same(&rt, (list.first(), list.last()), (Some(&-1), Some(&-3)));
+    }
+}
+
+#[test]
+fn test_splice_items_zero_sized(rt: HostRuntime) {
+    let alloc = rt.alloc();
+    let mut list = list_of(&rt, alloc, &[(), (), ()]);
+    assert_len(&rt, &list, 3);
+    let mut splice = list.splice(1, 2, empty());
+    assert_same(&rt, (splice.next(), splice.next()), (Some(()), None));
+    splice.finish(alloc).ok().expect(&rt, "memory");
+    assert_same(&rt, list.len(), 2);
+}

@@ -1,0 +1,273 @@
+//! What no clause says of the table of `thin_rows`: when memory is asked for and given back, and
+//! texts. And many random calls, beside a map of std's that takes the same calls.
+ghost use Rattle.std.specs.Prelude.{◌<◌, length};
+
+use crate::tests::assertions::{assert_counts, assert_same};
+use crate::tests::counted::Counted;
+use crate::tests::items::refusing_nth;
+use crate::tests::texts::assert_texts;
+use std::alloc::{Allocator, Global};
+use std::cell::Cell;
+use std::collections::BTreeMap;
+use std::process::Abort;
+use thin_rows::{Rows, ThinVecError};
+use thin_testing::Refusing;
+
+// Asserts that the table has the row, which its calls ask for.
+fn assert_row<V, A: Allocator>(rt: &impl Abort, table: &Rows<V, A>, row: usize)
+    ensures in_bounds { row < length table.now }
+{
+    assert!(rt; row < table.rows());
+}
+
+// Asserts what the row holds.
+fn assert_entries<A: Allocator>(
+    rt: &impl Abort,
+    table: &Rows<u32, A>,
+    row: usize,
+    entries: &[(usize, u32)],
+) {
+    assert_row(rt, table, row);
+    assert_same(rt, table.row(row), entries);
+    assert_same(rt, table.owns_block(row), !entries.is_empty());
+}
+
+// Sets, and asserts what was there.
+fn assert_set<A: Allocator>(
+    rt: &impl Abort,
+    table: &mut Rows<u32, A>,
+    place: (usize, usize),
+    value: u32,
+    old: Option<u32>,
+) {
+    assert_row(rt, table, place.0);
+    let was = table.set(place.0, place.1, value).ok();
+    assert_same(rt, was.expect(rt, "memory"), old);
+}
+
+// Removes, and asserts what was there.
+fn assert_removed<A: Allocator>(
+    rt: &impl Abort,
+    table: &mut Rows<u32, A>,
+    place: (usize, usize),
+    old: Option<u32>,
+) {
+    assert_row(rt, table, place.0);
+    assert_same(rt, table.remove(place.0, place.1), old);
+}
+
+// Asserts what is there.
+fn assert_value<A: Allocator>(
+    rt: &impl Abort,
+    table: &Rows<u32, A>,
+    place: (usize, usize),
+    value: Option<u32>,
+) {
+    assert_row(rt, table, place.0);
+    assert_same(rt, table.get(place.0, place.1).copied(), value);
+}
+
+#[test]
+fn a_refused_table_is_none(rt: HostRuntime) {
+    let refusing = refusing_nth(&rt, rt.alloc(), 1);
+    let refused = Rows::<u32, &Refusing<Global>>::with_rows(refusing, 3).err();
+    assert_same(&rt, refused, Some(ThinVecError::OutOfMemory));
+    assert_counts(&rt, refusing, 1, 0);
+    for rows in [usize::MAX, 1 << 60] {
+        let refused = Rows::<u32, Global>::with_rows(rt.alloc(), rows).err();
+        assert_same(&rt, refused, Some(ThinVecError::CapacityOverflow));
+    }
+}
+
+// Sets values that count their drops in the first row: the fourth takes the place of one.
+fn set_counted<'a>(rt: &impl Abort, table: &mut Rows<Counted<'a>>, drops: &'a Cell<u32>) {
+    for column in [3, 1, 2, 1] {
+        assert_row(rt, table, 0);
+        let value = Counted::new(drops);
+        table.set(0, column, value).ok().expect(rt, "memory");
+    }
+}
+
+#[test]
+fn drops_each_value_once(rt: HostRuntime) {
+    let drops = Cell::new(0);
+    {
+        let mut table = Rows::with_rows(rt.alloc(), 2).expect(&rt, "memory");
+        set_counted(&rt, &mut table, &drops);
+        assert_same(&rt, drops.get(), 1);
+        assert_row(&rt, &table, 0);
+        drop(table.remove(0, 3));
+        assert_same(&rt, drops.get(), 2);
+    }
+    assert_same(&rt, drops.get(), 4);
+}
+
+#[test]
+fn a_value_may_have_no_size(rt: HostRuntime) {
+    let mut table = Rows::with_rows(rt.alloc(), 1).expect(&rt, "memory");
+    for column in [2, 1, 2] {
+        assert_row(&rt, &table, 0);
+        table.set(0, column, ()).ok().expect(&rt, "memory");
+    }
+    assert_row(&rt, &table, 0);
+    assert_same(&rt, table.row(0), [(1, ()), (2, ())].as_slice());
+}
+
+#[test]
+fn prints_each_row_as_a_map(rt: HostRuntime) {
+    let alloc = rt.alloc();
+    let mut table = Rows::with_rows(alloc, 2).expect(&rt, "memory");
+    assert_set(&rt, &mut table, (1, 7), 10, None);
+    assert_set(&rt, &mut table, (1, 2), 20, None);
+    let lines = "[\n    {},\n    {\n        2: 20,\n        7: 10,\n    },\n]";
+    let texts = [
+        "[{}, {2: 20, 7: 10}]",
+        lines,
+        "[{}, {0002: 0020, 0007: 0010}]",
+    ];
+    assert_texts(&rt, alloc, &table, texts);
+}
+
+// Sets an entry in each of so many columns of the row 0, the last column first.
+fn fill_columns<A: Allocator>(rt: &impl Abort, table: &mut Rows<u32, A>, columns: usize) {
+    for column in (0..columns).rev() {
+        assert_set(rt, table, (0, column), 7, None);
+    }
+}
+
+// Beside the table's own block, one for each capacity from 4 up to 4096.
+#[test]
+fn a_row_takes_thousands_of_columns(rt: HostRuntime) {
+    let refusing = refusing_nth(&rt, rt.alloc(), 0);
+    let mut table = Rows::with_rows(refusing, 1).expect(&rt, "memory");
+    fill_columns(&rt, &mut table, 4000);
+    assert_counts(&rt, refusing, 12, 2);
+    assert_same(&rt, table.len(), 4000);
+    assert_value(&rt, &table, (0, 3999), Some(7));
+}
+
+#[test]
+fn a_full_row_makes_no_request_for_an_entry_that_is_there(rt: HostRuntime) {
+    let refusing = refusing_nth(&rt, rt.alloc(), 0);
+    let mut table = Rows::with_rows(refusing, 1).expect(&rt, "memory");
+    fill_columns(&rt, &mut table, 4);
+    refusing.refuse(1);
+    assert_set(&rt, &mut table, (0, 3), 8, Some(7));
+    assert_removed(&rt, &mut table, (0, 0), Some(7));
+    assert_removed(&rt, &mut table, (0, 9), None);
+    assert_value(&rt, &table, (0, 3), Some(8));
+    assert_counts(&rt, refusing, 0, 2);
+    assert_entries(&rt, &table, 0, &[(1, 7), (2, 7), (3, 8)]);
+}
+
+// Numbers that are the same in each run.
+#[derive(Drop)]
+struct Numbers {
+    state: u64,
+}
+
+impl Numbers {
+    // A number below the bound, or 0 where that is 0.
+    fn below(&mut self, bound: usize) -> usize {
+        self.state = self
+            .state
+            .wrapping_mul(6364136223846793005)
+            .wrapping_add(1442695040888963407);
+        (self.state >> 33).checked_rem(bound as u64).unwrap_or(0) as usize
+    }
+}
+
+type Reference = BTreeMap<(usize, usize), u32>;
+
+// One random call of a table and of the reference, whose answers are the same. A refused call
+// changes neither.
+fn call_both<A: Allocator>(
+    rt: &impl Abort,
+    table: &mut Rows<u32, A>,
+    reference: &mut Reference,
+    numbers: &mut Numbers,
+) {
+    let row = numbers.below(table.rows());
+    let column = numbers.below(24);
+    match numbers.below(4) {
+        0 | 1 => {
+            let value = u32::try_from(numbers.below(1000)).unwrap_or(0);
+            set_both(rt, table, reference, (row, column), value);
+        }
+        2 => {
+            let was = reference.remove(&(row, column));
+            assert_removed(rt, table, (row, column), was);
+        }
+        _ => {
+            let is = reference.get(&(row, column)).copied();
+            assert_value(rt, table, (row, column), is);
+        }
+    }
+}
+
+fn set_both<A: Allocator>(
+    rt: &impl Abort,
+    table: &mut Rows<u32, A>,
+    reference: &mut Reference,
+    place: (usize, usize),
+    value: u32,
+) {
+    assert_row(rt, table, place.0);
+    match table.set(place.0, place.1, value) {
+        Ok(old) => {
+            let was = reference.insert(place, value).ok().expect(rt, "memory");
+            assert_same(rt, old, was);
+        }
+        Err(refused) => {
+            assert_same(
+                rt,
+                (refused.value, refused.cause),
+                (value, ThinVecError::OutOfMemory),
+            );
+            assert_same(rt, reference.get(&place).copied(), None);
+        }
+    }
+}
+
+// Asserts that both hold the same: as many entries, and each of the table's.
+fn assert_both<A: Allocator>(rt: &impl Abort, table: &Rows<u32, A>, reference: &Reference) {
+    assert_same(rt, table.len(), reference.len());
+    for row in 0..table.rows() {
+        let entries = table.row(row);
+        assert_same(rt, table.owns_block(row), !entries.is_empty());
+        for &(column, value) in entries {
+            assert_same(rt, reference.get(&(row, column)).copied(), Some(value));
+        }
+    }
+}
+
+// As many random calls of a table of as many rows, and what both hold every now and then.
+fn run_both(rt: &impl Abort, refusing: &Refusing<Global>, alloc: Global, rows: usize, calls: u32) {
+    let mut numbers = Numbers { state: rows as u64 };
+    let mut reference = BTreeMap::new(alloc);
+    let mut table = match Rows::with_rows(refusing, rows) {
+        Ok(table) => table,
+        Err(_cause) => return,
+    };
+    for call in 0..calls {
+        if rows > 0 {
+            call_both(rt, &mut table, &mut reference, &mut numbers);
+        }
+        if call % 64 == 0 {
+            assert_both(rt, &table, &reference);
+        }
+    }
+    assert_both(rt, &table, &reference);
+}
+
+#[test]
+fn holds_it_where_any_request_is_refused(rt: HostRuntime) {
+    let refusing = refusing_nth(&rt, rt.alloc(), 0);
+    for rows in 0..6 {
+        for nth in 1..40 {
+            refusing.refuse(nth);
+            run_both(&rt, refusing, rt.alloc(), rows, 200);
+            assert_same(&rt, refusing.blocks(), 0);
+        }
+    }
+}

@@ -1,0 +1,107 @@
+//! How a list, and what walks over it, are printed: in one line, in many, and with a width.
+use crate::tests::assertions::{assert_len, assert_same, assert_text};
+use crate::tests::items::list_of;
+use std::alloc::Global;
+use std::fmt::{Debug, Display};
+use std::process::Abort;
+use thin_vec::{CollectRefused, ExtendRefused, Rejected, SpliceRefused, ThinVec, ThinVecError};
+
+/// Asserts the three texts of a value: in one line, in many, and with items of four digits.
+pub fn assert_texts<D: Debug>(rt: &impl Abort, alloc: Global, value: &D, texts: [&str; 3]) {
+    assert_text(rt, alloc, value, texts[0]);
+    let lines = format!(in alloc; "{value:#?}").expect(rt, "memory");
+    assert_same(rt, lines.as_str(), texts[1]);
+    let wide = format!(in alloc; "{value:04?}").expect(rt, "memory");
+    assert_same(rt, wide.as_str(), texts[2]);
+}
+
+#[test]
+fn prints_a_list_in_each_form(rt: HostRuntime) {
+    let alloc = rt.alloc();
+    let list = list_of(&rt, alloc, &[1, 2]);
+    let texts = ["[1, 2]", "[\n    1,\n    2,\n]", "[0001, 0002]"];
+    assert_texts(&rt, alloc, &list, texts);
+    let empty = ThinVec::<i32, Global>::new(alloc);
+    assert_texts(&rt, alloc, &empty, ["[]", "[]", "[]"]);
+    let words = list_of(&rt, alloc, &["a\"b"]);
+    assert_text(&rt, alloc, &words, "[\"a\\\"b\"]");
+}
+
+#[test]
+fn test_into_iter_debug(rt: HostRuntime) {
+    let alloc = rt.alloc();
+    let letters = list_of(&rt, alloc, &['a', 'b', 'c']).into_iter();
+    assert_text(&rt, alloc, &letters, "IntoIter(['a', 'b', 'c'])");
+    let mut items = list_of(&rt, alloc, &[1, 2]).into_iter();
+    let lines = "IntoIter(\n    [\n        1,\n        2,\n    ],\n)";
+    let texts = ["IntoIter([1, 2])", lines, "IntoIter([0001, 0002])"];
+    assert_texts(&rt, alloc, &items, texts);
+    assert_same(&rt, (items.next(), items.next()), (Some(1), Some(2)));
+    assert_text(&rt, alloc, &items, "IntoIter([])");
+}
+
+#[test]
+fn test_drain_debug(rt: HostRuntime) {
+    let alloc = rt.alloc();
+    let mut list = list_of(&rt, alloc, &[1, 2, 3]);
+    assert_len(&rt, &list, 3);
+    let drain = list.drain(1, 3);
+    let lines = "Drain(\n    [\n        2,\n        3,\n    ],\n)";
+    assert_texts(
+        &rt,
+        alloc,
+        &drain,
+        ["Drain([2, 3])", lines, "Drain([0002, 0003])"],
+    );
+}
+
+// Asserts that a refusal is printed so, and tells its cause.
+fn assert_told<E: Debug + Display>(rt: &impl Abort, alloc: Global, refused: &E, line: &str) {
+    assert_text(rt, alloc, refused, line);
+    let told = format!(in alloc; "{refused}").expect(rt, "memory");
+    assert_same(rt, told.as_str(), "out of memory");
+}
+
+#[test]
+fn a_refusal_tells_its_cause(rt: HostRuntime) {
+    let alloc = rt.alloc();
+    let cause = ThinVecError::OutOfMemory;
+    let (value, in_hand, rest) = (1, Some(1), 2);
+    let rejected = Rejected { value, cause };
+    assert_told(&rt, alloc, &rejected, "Rejected { cause: OutOfMemory, .. }");
+    let extend = ExtendRefused {
+        cause,
+        in_hand,
+        rest,
+    };
+    assert_told(
+        &rt,
+        alloc,
+        &extend,
+        "ExtendRefused { cause: OutOfMemory, .. }",
+    );
+    let collect = CollectRefused {
+        list: list_of(&rt, alloc, &[1]),
+        cause,
+        in_hand,
+        rest,
+    };
+    assert_told(
+        &rt,
+        alloc,
+        &collect,
+        "CollectRefused { cause: OutOfMemory, .. }",
+    );
+    let splice = SpliceRefused {
+        cause,
+        held: Vec::new(alloc),
+        in_hand,
+        rest,
+    };
+    assert_told(
+        &rt,
+        alloc,
+        &splice,
+        "SpliceRefused { cause: OutOfMemory, .. }",
+    );
+}

@@ -1,0 +1,226 @@
+//! Each command with each of its replies, and runs that are worked out by hand.
+use crate::runs::compared::both;
+use crate::runs::judges::{EACH_SECOND, Evens};
+use crate::runs::model::Model;
+use crate::runs::orders::{Kind, Order};
+use crate::runs::random::{Done, assert_alike};
+use crate::runs::samples::{Lender, Sample, put};
+use crate::runs::shown::Form;
+use std::alloc::{AllocError, Global};
+use std::process::Abort;
+use std::test::Fail;
+use thin_runner::judge::Judge;
+use thin_testing::{Refusing, Ruled};
+use thin_vec::{Doubling, PowerBytes, ThinVec, ThinVecError};
+
+// Every reply of every command.
+const REPLIES: &str = "\
+    Push Done None\n\
+    Push Returned Some(OutOfMemory)\n\
+    Pop Item None\n\
+    Insert Done None\n\
+    Insert Returned Some(OutOfMemory)\n\
+    Insert OutOfRange None\n\
+    Remove Item None\n\
+    Remove OutOfRange None\n\
+    SwapRemove Item None\n\
+    SwapRemove OutOfRange None\n\
+    Set Item None\n\
+    Set OutOfRange None\n\
+    Truncate Done None\n\
+    Clear Done None\n\
+    Reserve Done None\n\
+    Reserve Refused Some(CapacityOverflow)\n\
+    Reserve Refused Some(OutOfMemory)\n\
+    ReserveExact Done None\n\
+    ReserveExact Refused Some(CapacityOverflow)\n\
+    ReserveExact Refused Some(OutOfMemory)\n\
+    ShrinkToFit Done None\n\
+    ShrinkToFit Refused Some(OutOfMemory)\n\
+    Resize Done None\n\
+    Resize Refused Some(CapacityOverflow)\n\
+    Resize Refused Some(OutOfMemory)\n\
+    ExtendFromSlice Done None\n\
+    ExtendFromSlice Refused Some(OutOfMemory)\n\
+    Extend Done None\n\
+    Extend Stopped Some(CapacityOverflow)\n\
+    Extend Stopped Some(OutOfMemory)\n\
+    Append Other None\n\
+    Append Other Some(OutOfMemory)\n\
+    SplitOff List None\n\
+    SplitOff Refused Some(OutOfMemory)\n\
+    SplitOff OutOfRange None\n\
+    Clone List None\n\
+    Clone Refused Some(OutOfMemory)\n\
+    Retain Done None\n\
+    RetainMut Done None\n\
+    Dedup Done None\n\
+    DedupBy Done None\n\
+    DedupByKey Done None\n\
+    Drain Answers None\n\
+    Drain Refused Some(OutOfMemory)\n\
+    Drain OutOfRange None\n\
+    ExtractIf Answers None\n\
+    ExtractIf Refused Some(OutOfMemory)\n\
+    ExtractIf OutOfRange None\n\
+    Splice Answers None\n\
+    Splice Refused Some(OutOfMemory)\n\
+    Splice Stopped Some(CapacityOverflow)\n\
+    Splice Stopped Some(OutOfMemory)\n\
+    Splice OutOfRange None\n";
+
+// A command and its reply.
+type Replied = (Kind, Form, Option<ThinVecError>);
+
+fn has(replies: &[Replied], one: Replied) -> bool {
+    for reply in replies {
+        if *reply == one {
+            return true;
+        }
+    }
+    false
+}
+
+// Puts the replies to these commands after the others, but for those that are there.
+fn put_new(replies: &mut Vec<Replied, Global>, done: &[Done]) -> Result<(), AllocError> {
+    for (order, _, form, cause) in done {
+        let one = (order.kind, *form, *cause);
+        if !has(replies.as_slice(), one) {
+            put(replies, one)?;
+        }
+    }
+    Ok(())
+}
+
+// Asserts that a command has that reply.
+fn assert_listed<R: Abort>(rt: &R, alloc: Global, replied: &Replied) {
+    let (kind, form, cause) = replied;
+    let line = format!(in alloc; "{kind:?} {form:?} {cause:?}\n").expect(rt, "memory");
+    assert!(rt; REPLIES.contains(line.as_str()), "{line}");
+}
+
+#[test]
+fn each_command_has_each_of_its_replies(rt: HostRuntime) {
+    let refusing = Refusing::new(rt.alloc(), 0);
+    let mut replies = Vec::new(rt.alloc());
+    let mut done = Vec::new(rt.alloc());
+    for seed in 40_000..45_000 {
+        assert_alike::<u64, Doubling, Evens, _>(&rt, &refusing, seed, &mut done);
+        put_new(&mut replies, done.as_slice())
+            .ok()
+            .expect(&rt, "memory");
+    }
+    for replied in &replies {
+        assert_listed(&rt, rt.alloc(), replied);
+    }
+    assert_eq!(rt; replies.len(), REPLIES.lines().count());
+}
+
+// An order that has no walk.
+const fn plain(kind: Kind, at: usize, to: usize, count: usize, lower: usize, number: u64) -> Order {
+    Order {
+        kind,
+        at,
+        to,
+        count,
+        lower,
+        steps: 0,
+        number,
+    }
+}
+
+// With `Evens` as the judge.
+fn worked_orders() -> [Order; 6] {
+    let walked = Order {
+        steps: 1,
+        ..plain(Kind::Splice, 1, 3, 1, 1, 9)
+    };
+    [
+        plain(Kind::Extend, 0, 0, 6, 6, 1),
+        walked,
+        plain(Kind::ExtractIf, 0, 5, 2, 0, 0),
+        plain(Kind::SplitOff, 3, 0, 0, 0, 0),
+        plain(Kind::Splice, 2, 1, 1, 1, 7),
+        plain(Kind::Pop, 0, 0, 0, 0, 0),
+    ]
+}
+
+// The items and the capacity of the list after each.
+const WORKED: [(&[u64], usize); 6] = [
+    (&[1, 2, 3, 4, 5, 6], 6),
+    (&[1, 9, 4, 5, 6], 6),
+    (&[1, 9, 5], 6),
+    (&[1, 9, 5], 6),
+    (&[1, 9, 5], 6),
+    (&[1, 9], 6),
+];
+
+// Under `PowerBytes`: a block of 32, 64 or 128 bytes has room for 4, 12 or 28 items of 4 bytes
+// after its header.
+fn worked_powers() -> [Order; 9] {
+    [
+        plain(Kind::Push, 0, 0, 0, 0, 1),
+        plain(Kind::Extend, 0, 0, 4, 0, 2),
+        plain(Kind::Reserve, 0, 0, 0, 7, 0),
+        plain(Kind::Reserve, 0, 0, 0, 8, 0),
+        plain(Kind::Truncate, 2, 0, 0, 0, 0),
+        plain(Kind::ShrinkToFit, 0, 0, 0, 0, 0),
+        plain(Kind::Resize, 0, 0, 0, 3, 6),
+        plain(Kind::Splice, 1, 2, 3, 2, 7),
+        plain(Kind::ReserveExact, 0, 0, 0, 15, 0),
+    ]
+}
+
+const WORKED_POWERS: [(&[u32], usize); 9] = [
+    (&[1], 4),
+    (&[1, 2, 3, 4, 5], 12),
+    (&[1, 2, 3, 4, 5], 12),
+    (&[1, 2, 3, 4, 5], 28),
+    (&[1, 2], 28),
+    (&[1, 2], 2),
+    (&[1, 2, 6], 4),
+    (&[1, 7, 8, 9, 6], 12),
+    (&[1, 7, 8, 9, 6], 20),
+];
+
+// Asserts that the commands do what the definition says, and that the items and the capacity are
+// after each what is worked out.
+fn assert_worked<'a, T: Sample<Lender<'a>>, G: Ruled, J: Judge<T>, R: Abort>(
+    rt: &R,
+    alloc: Lender<'a>,
+    judge: &J,
+    orders: &[Order],
+    worked: &[(&[T], usize)],
+) {
+    let mut list = ThinVec::<T, Lender<'a>, G>::ruled(alloc);
+    let mut model = Model::new(alloc);
+    for (order, (items, capacity)) in orders.iter().zip(worked) {
+        let (form, _cause) = both(alloc, &mut list, &mut model, *order, judge, 0)
+            .ok()
+            .expect(rt, "memory");
+        assert!(rt;
+            form != Form::Never && list.as_slice() == *items && list.capacity() == *capacity,
+            "{order:?}"
+        );
+    }
+}
+
+#[test]
+fn a_worked_run(rt: HostRuntime) {
+    let refusing = Refusing::new(rt.alloc(), 0);
+    let orders = worked_orders();
+    assert_worked::<u64, Doubling, _, _>(&rt, &refusing, &Evens, orders.as_slice(), &WORKED);
+}
+
+#[test]
+fn a_worked_run_under_power_bytes(rt: HostRuntime) {
+    let refusing = Refusing::new(rt.alloc(), 0);
+    let orders = worked_powers();
+    assert_worked::<u32, PowerBytes, _, _>(
+        &rt,
+        &refusing,
+        &EACH_SECOND,
+        orders.as_slice(),
+        &WORKED_POWERS,
+    );
+}

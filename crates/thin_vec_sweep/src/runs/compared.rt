@@ -1,0 +1,65 @@
+//! A command by the runner, and by the definition written as a program.
+use crate::runs::model::Model;
+use crate::runs::orders::{Order, command_of};
+use crate::runs::samples::{Lender, Sample};
+use crate::runs::shown::{Form, Shown, show};
+use std::alloc::AllocError;
+use thin_runner::judge::Judge;
+use thin_runner::runner::step;
+use thin_testing::Ruled;
+use thin_vec::{ThinVec, ThinVecError};
+
+// Whether as many blocks are out as the list, what it is compared with, and their items have.
+fn has_its_blocks<'a, T: Sample<Lender<'a>>, G: Ruled>(
+    alloc: Lender<'a>,
+    list: &ThinVec<T, Lender<'a>, G>,
+    model: &Model<T, Lender<'a>, G>,
+) -> bool {
+    let mut blocks = u64::from(list.has_capacity());
+    if T::OWNS_BLOCK {
+        let items = list.len() as u64;
+        blocks = blocks.saturating_add(items.saturating_mul(2));
+    }
+    if model.items.capacity() > 0 {
+        blocks = blocks.saturating_add(1);
+    }
+    blocks == alloc.blocks()
+}
+
+// What the runner's reply shows to a command of which the request of that number is refused, and
+// whether that request was reached.
+fn shown_by_runner<'a, T: Sample<Lender<'a>>, G: Ruled, J: Judge<T>>(
+    alloc: Lender<'a>,
+    list: &mut ThinVec<T, Lender<'a>, G>,
+    order: Order,
+    judge: &J,
+    nth: u64,
+) -> Result<(Shown<T, Lender<'a>>, bool), AllocError> {
+    let command = command_of(alloc, order)?;
+    alloc.refuse(nth);
+    let reply = step(alloc, list, command, judge);
+    let refused = nth > 0 && alloc.requests() >= nth;
+    alloc.refuse(0);
+    Ok((show(alloc, reply)?, refused))
+}
+
+/// A command by both, of which the request of that number is refused, or none at 0. Answers the
+/// reply, `Never` where they differ, and whether the request was reached.
+pub fn both<'a, T: Sample<Lender<'a>>, G: Ruled, J: Judge<T>>(
+    alloc: Lender<'a>,
+    list: &mut ThinVec<T, Lender<'a>, G>,
+    model: &mut Model<T, Lender<'a>, G>,
+    order: Order,
+    judge: &J,
+    nth: u64,
+) -> Result<(Form, Option<ThinVecError>), AllocError> {
+    let (given, refused) = shown_by_runner(alloc, list, order, judge, nth)?;
+    let (form, cause) = model.follow(alloc, order, judge, &given, nth)?;
+    drop(given);
+    let told = cause == Some(ThinVecError::OutOfMemory);
+    if told == refused && model.is(list) && has_its_blocks(alloc, list, model) {
+        Ok((form, cause))
+    } else {
+        Ok((Form::Never, cause))
+    }
+}

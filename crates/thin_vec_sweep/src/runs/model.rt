@@ -1,0 +1,372 @@
+//! The definition written as a program, short and slow, over a `Vec` and a number.
+mod filling;
+mod refused;
+
+use crate::runs::orders::{Kind, Order, command_of, steps_of};
+use crate::runs::samples::{Sample, one, put, samples};
+use crate::runs::shown::{Form, Shown, show};
+use std::alloc::{AllocError, Allocator};
+use std::marker::PhantomData;
+use std::mem;
+use thin_runner::command::{Command, Reply, Step};
+use thin_runner::judge::Judge;
+use thin_testing::Ruled;
+use thin_vec::{ThinVec, ThinVecError};
+
+// Past so many items a capacity overflows: no test asks for a number between this one and what a
+// block may hold.
+const LIMIT: usize = 1_000_000_000_000;
+
+/// A list as the definition has it.
+#[derive(Drop)]
+pub struct Model<T, A: Allocator, G> {
+    pub items: Vec<T, A>,
+    pub capacity: usize,
+    rule: PhantomData<G>,
+}
+
+// What the steps of an order's walk over the items answer.
+fn walked<T: Drop, A: Allocator + Copy>(
+    alloc: A,
+    items: Vec<T, A>,
+    order: Order,
+) -> Result<Vec<Option<T>, A>, AllocError> {
+    let mut walk = items.into_iter();
+    let mut answers = Vec::new(alloc);
+    for step in steps_of(alloc, order)? {
+        let item = match step {
+            Step::Front => walk.next(),
+            Step::Back => walk.next_back(),
+        };
+        put(&mut answers, item)?;
+    }
+    Ok(answers)
+}
+
+// Where a command that exchanges a range works on a list of that length: from where to where items
+// go out, and how many come in for them.
+fn range_of(len: usize, order: Order) -> (usize, usize, usize) {
+    let at = order.at;
+    match order.kind {
+        Kind::Push => (len, len, 1),
+        Kind::Insert => (at, at, 1),
+        Kind::Set => (at, at.saturating_add(1), 1),
+        Kind::Remove => (at, at.saturating_add(1), 0),
+        Kind::Pop => (len.saturating_sub(1), len, 0),
+        Kind::Truncate | Kind::SplitOff => (at.min(len), len, 0),
+        Kind::Clear => (0, len, 0),
+        Kind::Drain => (at, order.to, 0),
+        _ => (len, len, order.count),
+    }
+}
+
+// What such a command replies where these items went out.
+fn shown_out<T: Drop, A: Allocator + Copy>(
+    alloc: A,
+    order: Order,
+    out: Vec<T, A>,
+) -> Result<Shown<T, A>, AllocError> {
+    let mut out = out;
+    match order.kind {
+        Kind::Pop | Kind::Remove | Kind::Set => {
+            let answers = one(alloc, out.pop())?;
+            Ok(Shown::with_answers(Form::Item, alloc, answers))
+        }
+        Kind::Drain => Ok(Shown::with_answers(Form::Answers, alloc, walked(alloc, out, order)?)),
+        Kind::SplitOff => {
+            let capacity = out.len();
+            Ok(Shown::with_items(Form::List, None, alloc, out, capacity))
+        }
+        Kind::Append => Ok(Shown::with_items(Form::Other, None, alloc, out, order.count)),
+        _ => Ok(Shown::plain(alloc, Form::Done, None)),
+    }
+}
+
+// What a command replies for which room was made, or overflowed.
+fn shown_room<T: Drop, A: Allocator + Copy>(alloc: A, made: bool) -> Shown<T, A> {
+    if made {
+        Shown::plain(alloc, Form::Done, None)
+    } else {
+        Shown::plain(alloc, Form::Refused, Some(ThinVecError::CapacityOverflow))
+    }
+}
+
+// What a command replies by whose questions these items went out.
+fn shown_sifted<T: Drop, A: Allocator + Copy>(
+    alloc: A,
+    order: Order,
+    answers: Vec<Option<T>, A>,
+) -> Result<Shown<T, A>, AllocError> {
+    if order.kind != Kind::ExtractIf {
+        return Ok(shown_room(alloc, true));
+    }
+    let mut answers = answers;
+    for _ in answers.len()..order.count {
+        put(&mut answers, None)?;
+    }
+    Ok(Shown::with_answers(Form::Answers, alloc, answers))
+}
+
+// Whether an item stays, by the question that the command asks.
+fn stays<T, J: Judge<T>>(judge: &mut J, kind: Kind, item: &mut T) -> bool {
+    match kind {
+        Kind::Retain => judge.look(item),
+        Kind::RetainMut => judge.keep(item),
+        _ => !judge.take(item),
+    }
+}
+
+// Whether a later item is the same as the last one kept, by the question that the command asks.
+fn is_same<T: Eq, J: Judge<T>>(judge: &mut J, kind: Kind, later: &mut T, kept: &mut T) -> bool {
+    match kind {
+        Kind::Dedup => *later == *kept,
+        Kind::DedupBy => judge.same(later, kept),
+        _ => {
+            let key = judge.key(later);
+            key == judge.key(kept)
+        }
+    }
+}
+
+impl<T: Sample<A>, A: Allocator + Copy, G: Ruled> Model<T, A, G> {
+    /// A new list.
+    pub fn new(alloc: A) -> Model<T, A, G> {
+        Model {
+            items: Vec::new(alloc),
+            capacity: 0,
+            rule: PhantomData,
+        }
+    }
+
+    fn len(&self) -> usize {
+        self.items.len()
+    }
+
+    // Every item, of which none is left.
+    fn take_items(&mut self, alloc: A) -> Vec<T, A> {
+        mem::replace(&mut self.items, Vec::new(alloc))
+    }
+
+    // The items from `start` up to `end`, which are there, go out, and `new` comes in for them.
+    fn replace(
+        &mut self,
+        start: usize,
+        end: usize,
+        new: Vec<T, A>,
+    ) -> Result<Vec<T, A>, AllocError> {
+        let mut new = new;
+        if start > end || end > self.items.len() {
+            return Err(AllocError);
+        }
+        let mut tail = self.items.split_off(end)?;
+        let out = self.items.split_off(start)?;
+        self.items.append(&mut new)?;
+        self.items.append(&mut tail)?;
+        Ok(out)
+    }
+
+    // Whether there is, or could be made, room for so many items.
+    fn make_room(&mut self, want: usize) -> bool {
+        if want > self.capacity {
+            let capacity = G::named(T::SIZE, self.capacity, want);
+            if capacity > LIMIT {
+                return false;
+            }
+            self.capacity = capacity;
+        }
+        true
+    }
+
+    // A command that changes the capacity alone.
+    fn change_room(&mut self, order: Order) -> bool {
+        let want = self.len().saturating_add(order.lower);
+        match order.kind {
+            Kind::Reserve => self.make_room(want),
+            Kind::ReserveExact => {
+                let fits = want <= LIMIT;
+                if fits {
+                    self.capacity = self.capacity.max(want);
+                }
+                fits
+            }
+            _ => {
+                self.capacity = self.len();
+                true
+            }
+        }
+    }
+
+    // A command that exchanges a range.
+    fn exchange(&mut self, alloc: A, order: Order) -> Result<Shown<T, A>, AllocError> {
+        let len = self.len();
+        let (start, end, count) = range_of(len, order);
+        let left = len.saturating_sub(end.saturating_sub(start));
+        let _made = self.make_room(left.saturating_add(count));
+        let new = samples(alloc, count, order.number)?;
+        let out = self.replace(start, end, new)?;
+        shown_out(alloc, order, out)
+    }
+
+    fn swap_remove(&mut self, alloc: A, at: usize) -> Result<Shown<T, A>, AllocError> {
+        if at >= self.items.len() {
+            return Ok(Shown::plain(alloc, Form::Never, None));
+        }
+        let out = self.items.swap_remove(at);
+        let answers = one(alloc, Some(out))?;
+        Ok(Shown::with_answers(Form::Item, alloc, answers))
+    }
+
+    fn resize(&mut self, alloc: A, order: Order) -> Result<Shown<T, A>, AllocError> {
+        let made = self.make_room(order.lower);
+        if made {
+            self.items.truncate(order.lower);
+            for _ in self.items.len()..order.lower {
+                put(&mut self.items, T::sample(alloc, order.number)?)?;
+            }
+        }
+        Ok(shown_room(alloc, made))
+    }
+
+    fn copy(&self, alloc: A) -> Result<Shown<T, A>, AllocError> {
+        let copy = self.items.clone()?;
+        let capacity = copy.len();
+        Ok(Shown::with_items(Form::List, None, alloc, copy, capacity))
+    }
+
+    // An item goes out into `answers` if it is asked about and doesn't stay, and otherwise comes in
+    // at the end.
+    fn sift_one<J: Judge<T>>(
+        &mut self,
+        asked: Option<Kind>,
+        judge: &mut J,
+        answers: &mut Vec<Option<T>, A>,
+        item: T,
+    ) -> Result<(), AllocError> {
+        let mut item = item;
+        if let Some(kind) = asked
+            && !stays(judge, kind, &mut item)
+        {
+            put(answers, Some(item))
+        } else {
+            put(&mut self.items, item)
+        }
+    }
+
+    // The items go out that the judge doesn't keep, or takes: of `ExtractIf` those of its range,
+    // until they are as many as it asks for.
+    fn sift<J: Judge<T>>(
+        &mut self,
+        alloc: A,
+        order: Order,
+        judge: &J,
+    ) -> Result<Shown<T, A>, AllocError> {
+        let mut judge = *judge;
+        let mut answers = Vec::new(alloc);
+        let mut index: usize = 0;
+        for item in self.take_items(alloc) {
+            let is_asked = order.kind != Kind::ExtractIf
+                || order.at <= index && index < order.to && answers.len() < order.count;
+            let asked = if is_asked { Some(order.kind) } else { None };
+            self.sift_one(asked, &mut judge, &mut answers, item)?;
+            index = index.saturating_add(1);
+        }
+        shown_sifted(alloc, order, answers)
+    }
+
+    // An item comes in at the end, unless it is found the same as the last one.
+    fn put_other<J: Judge<T>>(
+        &mut self,
+        kind: Kind,
+        judge: &mut J,
+        item: T,
+    ) -> Result<(), AllocError> {
+        let mut later = item;
+        if let Some(last) = self.items.pop() {
+            let mut kept = last;
+            let same = is_same(judge, kind, &mut later, &mut kept);
+            put(&mut self.items, kept)?;
+            if same {
+                return Ok(());
+            }
+        }
+        put(&mut self.items, later)
+    }
+
+    fn dedup<J: Judge<T>>(
+        &mut self,
+        alloc: A,
+        kind: Kind,
+        judge: &J,
+    ) -> Result<Shown<T, A>, AllocError> {
+        let mut judge = *judge;
+        for item in self.take_items(alloc) {
+            self.put_other(kind, &mut judge, item)?;
+        }
+        Ok(shown_room(alloc, true))
+    }
+
+    fn is_in_range(&self, order: Order) -> bool {
+        let len = self.len();
+        match order.kind {
+            Kind::Insert | Kind::SplitOff => order.at <= len,
+            Kind::Remove | Kind::SwapRemove | Kind::Set => order.at < len,
+            Kind::Drain | Kind::ExtractIf | Kind::Splice => order.at <= order.to && order.to <= len,
+            _ => true,
+        }
+    }
+
+    // What a command does, and replies, where no request is refused.
+    fn step<J: Judge<T>>(
+        &mut self,
+        alloc: A,
+        order: Order,
+        judge: &J,
+    ) -> Result<Shown<T, A>, AllocError> {
+        if !self.is_in_range(order) {
+            let command: Command<T, A, G> = command_of(alloc, order)?;
+            return show(alloc, Reply::OutOfRange(command));
+        }
+        match order.kind {
+            Kind::SwapRemove => self.swap_remove(alloc, order.at),
+            Kind::Reserve | Kind::ReserveExact | Kind::ShrinkToFit => {
+                Ok(shown_room(alloc, self.change_room(order)))
+            }
+            Kind::Resize => self.resize(alloc, order),
+            Kind::Clone => self.copy(alloc),
+            Kind::Retain | Kind::RetainMut | Kind::ExtractIf => self.sift(alloc, order, judge),
+            Kind::Dedup | Kind::DedupBy | Kind::DedupByKey => {
+                self.dedup(alloc, order.kind, judge)
+            }
+            Kind::Extend | Kind::Splice => self.splice(alloc, self.placed(order)),
+            _ => self.exchange(alloc, order),
+        }
+    }
+
+    /// Does a command, of which what its reply shows tells whether a request was refused to it, and
+    /// which one that was if items are cloned. Answers what the reply is, or `Never`.
+    pub fn follow<J: Judge<T>>(
+        &mut self,
+        alloc: A,
+        order: Order,
+        judge: &J,
+        given: &Shown<T, A>,
+        nth: u64,
+    ) -> Result<(Form, Option<ThinVecError>), AllocError> {
+        let wanted = if given.cause == Some(ThinVecError::OutOfMemory) {
+            self.refuse(alloc, order, given, nth)?
+        } else {
+            self.step(alloc, order, judge)?
+        };
+        let form = if given.is(&wanted) {
+            given.form
+        } else {
+            Form::Never
+        };
+        Ok((form, given.cause))
+    }
+
+    /// Whether the list is this one.
+    pub fn is(&self, list: &ThinVec<T, A, G>) -> bool {
+        list.as_slice() == self.items.as_slice() && list.capacity() == self.capacity
+    }
+}

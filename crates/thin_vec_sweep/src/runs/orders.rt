@@ -1,0 +1,178 @@
+//! Commands as data.
+use crate::runs::samples::{Sample, put, samples};
+use std::alloc::{AllocError, Allocator};
+use thin_runner::command::{Command, Step};
+use thin_vec::{Growth, ThinVec};
+
+/// Which command.
+#[derive(Clone, Copy, Debug, PartialEq, Eq)]
+pub enum Kind {
+    Push,
+    Pop,
+    Insert,
+    Remove,
+    SwapRemove,
+    Set,
+    Truncate,
+    Clear,
+    Reserve,
+    ReserveExact,
+    ShrinkToFit,
+    Resize,
+    ExtendFromSlice,
+    Extend,
+    Append,
+    SplitOff,
+    Clone,
+    Retain,
+    RetainMut,
+    Dedup,
+    DedupBy,
+    DedupByKey,
+    Drain,
+    ExtractIf,
+    Splice,
+}
+
+/// Every command.
+pub const KINDS: [Kind; 25] = [
+    Kind::Push,
+    Kind::Pop,
+    Kind::Insert,
+    Kind::Remove,
+    Kind::SwapRemove,
+    Kind::Set,
+    Kind::Truncate,
+    Kind::Clear,
+    Kind::Reserve,
+    Kind::ReserveExact,
+    Kind::ShrinkToFit,
+    Kind::Resize,
+    Kind::ExtendFromSlice,
+    Kind::Extend,
+    Kind::Append,
+    Kind::SplitOff,
+    Kind::Clone,
+    Kind::Retain,
+    Kind::RetainMut,
+    Kind::Dedup,
+    Kind::DedupBy,
+    Kind::DedupByKey,
+    Kind::Drain,
+    Kind::ExtractIf,
+    Kind::Splice,
+];
+
+/// A command by numbers: both what is tested and what it is compared with are made from them.
+#[derive(Clone, Copy, Debug)]
+pub struct Order {
+    pub kind: Kind,
+    /// The index, or where the range starts.
+    pub at: usize,
+    /// Where the range ends.
+    pub to: usize,
+    /// How many items come in, or how many calls of `next` are made.
+    pub count: usize,
+    /// How many items are claimed or reserved, or how many there are to be.
+    pub lower: usize,
+    /// How many steps a walk has.
+    pub steps: usize,
+    /// The first item. Where its last binary digits are 1, a step takes the first item, in turn.
+    pub number: u64,
+}
+
+/// The steps of a walk.
+pub fn steps_of<A: Allocator>(alloc: A, order: Order) -> Result<Vec<Step, A>, AllocError> {
+    let mut steps = Vec::new(alloc);
+    let mut digits = order.number;
+    for _ in 0..order.steps {
+        let step = if digits % 2 == 1 {
+            Step::Front
+        } else {
+            Step::Back
+        };
+        put(&mut steps, step)?;
+        digits /= 2;
+    }
+    Ok(steps)
+}
+
+// A list of the items of an order that has no room to spare.
+fn listed<T: Sample<A>, A: Allocator + Copy, G: Growth>(
+    alloc: A,
+    order: Order,
+) -> Result<ThinVec<T, A, G>, AllocError> {
+    let mut list = ThinVec::ruled(alloc);
+    if list.reserve_exact(order.count).is_err() {
+        return Err(AllocError);
+    }
+    match list.extend(samples(alloc, order.count, order.number)?.into_iter()) {
+        Ok(()) => Ok(list),
+        Err(_refused) => Err(AllocError),
+    }
+}
+
+// The command of an order whose command has an item.
+fn with_item<T: Drop, A: Allocator, G: Growth>(order: Order, item: T) -> Command<T, A, G> {
+    match order.kind {
+        Kind::Insert => Command::Insert(order.at, item),
+        Kind::Set => Command::Set(order.at, item),
+        Kind::Resize => Command::Resize(order.lower, item),
+        _ => Command::Push(item),
+    }
+}
+
+// The command of an order whose command has items.
+fn with_items<T: Drop, A: Allocator, G: Growth>(
+    order: Order,
+    steps: Vec<Step, A>,
+    items: Vec<T, A>,
+) -> Command<T, A, G> {
+    match order.kind {
+        Kind::Splice => Command::Splice(order.at, order.to, steps, items, order.lower),
+        Kind::Extend => Command::Extend(items, order.lower),
+        _ => Command::ExtendFromSlice(items),
+    }
+}
+
+// The command of an order whose command has neither items nor a walk.
+fn with_none<T, A: Allocator, G: Growth>(order: Order) -> Command<T, A, G> {
+    match order.kind {
+        Kind::Remove => Command::Remove(order.at),
+        Kind::SwapRemove => Command::SwapRemove(order.at),
+        Kind::Truncate => Command::Truncate(order.at),
+        Kind::Clear => Command::Clear,
+        Kind::Reserve => Command::Reserve(order.lower),
+        Kind::ReserveExact => Command::ReserveExact(order.lower),
+        Kind::ShrinkToFit => Command::ShrinkToFit,
+        Kind::SplitOff => Command::SplitOff(order.at),
+        Kind::Clone => Command::Clone,
+        Kind::Retain => Command::Retain,
+        Kind::RetainMut => Command::RetainMut,
+        Kind::Dedup => Command::Dedup,
+        Kind::DedupBy => Command::DedupBy,
+        Kind::DedupByKey => Command::DedupByKey,
+        Kind::ExtractIf => Command::ExtractIf(order.at, order.to, order.count),
+        _ => Command::Pop,
+    }
+}
+
+/// The command of an order.
+pub fn command_of<T: Sample<A>, A: Allocator + Copy, G: Growth>(
+    alloc: A,
+    order: Order,
+) -> Result<Command<T, A, G>, AllocError> {
+    match order.kind {
+        Kind::Push | Kind::Insert | Kind::Set | Kind::Resize => {
+            Ok(with_item(order, T::sample(alloc, order.number)?))
+        }
+        Kind::ExtendFromSlice | Kind::Extend | Kind::Splice => {
+            let steps = steps_of(alloc, order)?;
+            let items = samples(alloc, order.count, order.number)?;
+            Ok(with_items(order, steps, items))
+        }
+        Kind::Append => Ok(Command::Append(listed(alloc, order)?)),
+        Kind::Drain => Ok(Command::Drain(order.at, order.to, steps_of(alloc, order)?)),
+        _ => Ok(with_none(order)),
+    }
+}

@@ -1,0 +1,207 @@
+//! Random runs: each command is done by `step`, and by the definition written as a program.
+use crate::runs::compared::both;
+use crate::runs::judges::{Digits, EACH_SECOND};
+use crate::runs::model::Model;
+use crate::runs::orders::{KINDS, Kind, Order};
+use crate::runs::samples::{Lender, Sample, put};
+use crate::runs::shown::Form;
+use std::alloc::{AllocError, Global};
+use std::process::Abort;
+use thin_runner::judge::Judge;
+use thin_testing::{Fourfold, Refusing, Ruled, Threefold};
+use thin_vec::{Doubling, PowerBytes, ThinVec, ThinVecError};
+
+// Numbers that look random.
+#[derive(Drop)]
+struct Dice {
+    state: u64,
+}
+
+impl Dice {
+    // A number below `limit`.
+    fn below(&mut self, limit: u64) -> u64 {
+        self.state = self
+            .state
+            .wrapping_mul(6364136223846793005)
+            .wrapping_add(1442695040888963407);
+        if limit == 0 {
+            return 0;
+        }
+        (self.state >> 33) % limit
+    }
+
+    fn index(&mut self, limit: u64) -> usize {
+        usize::try_from(self.below(limit)).unwrap_or(0)
+    }
+
+    // How much is claimed or reserved: rarely what no block holds.
+    fn claim(&mut self) -> usize {
+        if self.below(9) == 0 {
+            usize::MAX
+        } else {
+            self.index(12)
+        }
+    }
+
+    // Which request is refused, or none at 0: mostly one of the first, which is made.
+    fn refused(&mut self) -> u64 {
+        let few = self.below(4);
+        if self.below(2) == 0 {
+            few
+        } else {
+            few.saturating_add(self.below(8))
+        }
+    }
+
+    // What a judge answers by.
+    fn digits(&mut self) -> u64 {
+        if self.below(4) == 0 {
+            EACH_SECOND.digits
+        } else {
+            self.state >> 20
+        }
+    }
+
+    // A command on a list of that length.
+    fn order(&mut self, len: usize) -> Order {
+        let near = u64::try_from(len).unwrap_or(0).min(12).saturating_add(2);
+        let kind = self.index(25);
+        Order {
+            kind: KINDS.get(kind).copied().unwrap_or(Kind::Pop),
+            at: self.index(near),
+            to: self.index(near),
+            count: self.index(12),
+            lower: self.claim(),
+            steps: self.index(5),
+            number: self.below(1000),
+        }
+    }
+}
+
+/// A command, its request that was refused, and its reply.
+pub type Done = (Order, u64, Form, Option<ThinVecError>);
+
+// A run of up to 30 commands. Answers whether both did the same, and no block is out. What was done
+// is put into `done`.
+fn runs_alike<'a, T: Sample<Lender<'a>>, G: Ruled, J: Judge<T> + From<u64>>(
+    alloc: Lender<'a>,
+    seed: u64,
+    done: &mut Vec<Done, Global>,
+) -> Result<bool, AllocError> {
+    let mut dice = Dice { state: seed };
+    let mut list = ThinVec::ruled(alloc);
+    let mut model: Model<T, Lender<'a>, G> = Model::new(alloc);
+    let commands = dice.below(31);
+    done.clear();
+    for _ in 0..commands {
+        let order = dice.order(model.items.len());
+        let nth = dice.refused();
+        let judge = J::from(dice.digits());
+        let (form, cause) = both(alloc, &mut list, &mut model, order, &judge, nth)?;
+        put(done, (order, nth, form, cause))?;
+        if form == Form::Never {
+            return Ok(false);
+        }
+    }
+    drop(list);
+    drop(model);
+    Ok(alloc.blocks() == 0)
+}
+
+/// Asserts that the run of a seed is done alike. What was done is put into `done`.
+pub fn assert_alike<'a, T: Sample<Lender<'a>>, G: Ruled, J: Judge<T> + From<u64>, R: Abort>(
+    rt: &R,
+    alloc: Lender<'a>,
+    seed: u64,
+    done: &mut Vec<Done, Global>,
+) {
+    let alike = runs_alike::<T, G, J>(alloc, seed, done).unwrap_or(false);
+    assert!(rt; alike, "seed {seed}, done {done:?}");
+}
+
+// How many runs there are at each type of items under a growth rule: with eight types under two
+// rules, and two of them under two more, 100,000.
+const RUNS: u64 = 5_000;
+
+// Asserts that all runs from a seed on are alike.
+fn assert_all_from<'a, T: Sample<Lender<'a>>, G: Ruled, R: Abort>(
+    rt: &R,
+    alloc: Lender<'a>,
+    global: Global,
+    first: u64,
+) {
+    let mut done = Vec::new(global);
+    for seed in first..first.saturating_add(RUNS) {
+        assert_alike::<T, G, Digits, R>(rt, alloc, seed, &mut done);
+    }
+}
+
+// Asserts that all runs are alike, under the rules that `thin_vec` has.
+fn assert_all_alike<'a, T: Sample<Lender<'a>>, R: Abort>(
+    rt: &R,
+    alloc: Lender<'a>,
+    global: Global,
+) {
+    assert_all_from::<T, Doubling, R>(rt, alloc, global, 0);
+    assert_all_from::<T, PowerBytes, R>(rt, alloc, global, 10_000);
+}
+
+// The same under two rules of the tests' own.
+fn assert_alike_by_other_rules<'a, T: Sample<Lender<'a>>, R: Abort>(
+    rt: &R,
+    alloc: Lender<'a>,
+    global: Global,
+) {
+    assert_all_from::<T, Threefold, R>(rt, alloc, global, 20_000);
+    assert_all_from::<T, Fourfold, R>(rt, alloc, global, 30_000);
+}
+
+#[test]
+fn random_runs_at_u8(rt: HostRuntime) {
+    let refusing = Refusing::new(rt.alloc(), 0);
+    assert_all_alike::<u8, _>(&rt, &refusing, rt.alloc());
+}
+
+#[test]
+fn random_runs_at_u16(rt: HostRuntime) {
+    let refusing = Refusing::new(rt.alloc(), 0);
+    assert_all_alike::<u16, _>(&rt, &refusing, rt.alloc());
+}
+
+#[test]
+fn random_runs_at_u32(rt: HostRuntime) {
+    let refusing = Refusing::new(rt.alloc(), 0);
+    assert_all_alike::<u32, _>(&rt, &refusing, rt.alloc());
+    assert_alike_by_other_rules::<u32, _>(&rt, &refusing, rt.alloc());
+}
+
+#[test]
+fn random_runs_at_u64(rt: HostRuntime) {
+    let refusing = Refusing::new(rt.alloc(), 0);
+    assert_all_alike::<u64, _>(&rt, &refusing, rt.alloc());
+}
+
+#[test]
+fn random_runs_at_nothing(rt: HostRuntime) {
+    let refusing = Refusing::new(rt.alloc(), 0);
+    assert_all_alike::<(), _>(&rt, &refusing, rt.alloc());
+}
+
+#[test]
+fn random_runs_at_pairs(rt: HostRuntime) {
+    let refusing = Refusing::new(rt.alloc(), 0);
+    assert_all_alike::<(u8, u64), _>(&rt, &refusing, rt.alloc());
+}
+
+#[test]
+fn random_runs_at_boxes(rt: HostRuntime) {
+    let refusing = Refusing::new(rt.alloc(), 0);
+    assert_all_alike::<Box<u64, Lender<'_>>, _>(&rt, &refusing, rt.alloc());
+    assert_alike_by_other_rules::<Box<u64, Lender<'_>>, _>(&rt, &refusing, rt.alloc());
+}
+
+#[test]
+fn random_runs_at_vectors(rt: HostRuntime) {
+    let refusing = Refusing::new(rt.alloc(), 0);
+    assert_all_alike::<Vec<u64, Lender<'_>>, _>(&rt, &refusing, rt.alloc());
+}

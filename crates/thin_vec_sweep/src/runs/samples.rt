@@ -1,0 +1,131 @@
+//! The items of the lists that commands are done on.
+use std::alloc::{AllocError, Allocator, Global};
+use thin_testing::Refusing;
+
+/// The allocator of a test, which can refuse a request.
+pub type Lender<'a> = &'a Refusing<Global>;
+
+/// An item that is made from a number.
+pub trait Sample<A: Allocator>: Clone + Eq {
+    /// How many bytes an item takes.
+    const SIZE: usize;
+
+    /// Whether each owns a block, so that its clone is a request.
+    const OWNS_BLOCK: bool;
+
+    /// The item of that number, which others may share.
+    fn sample(alloc: A, number: u64) -> Result<Self, AllocError>;
+}
+
+impl<A: Allocator> Sample<A> for u8 {
+    const SIZE: usize = 1;
+
+    const OWNS_BLOCK: bool = false;
+
+    fn sample(_alloc: A, number: u64) -> Result<Self, AllocError> {
+        Ok(u8::try_from(number / 2 % 5).unwrap_or(0))
+    }
+}
+
+impl<A: Allocator> Sample<A> for u16 {
+    const SIZE: usize = 2;
+
+    const OWNS_BLOCK: bool = false;
+
+    fn sample(_alloc: A, number: u64) -> Result<Self, AllocError> {
+        Ok(u16::try_from(number / 3 % 500).unwrap_or(0))
+    }
+}
+
+impl<A: Allocator> Sample<A> for u32 {
+    const SIZE: usize = 4;
+
+    const OWNS_BLOCK: bool = false;
+
+    fn sample(_alloc: A, number: u64) -> Result<Self, AllocError> {
+        Ok(u32::try_from(number).unwrap_or(0))
+    }
+}
+
+impl<A: Allocator> Sample<A> for u64 {
+    const SIZE: usize = 8;
+
+    const OWNS_BLOCK: bool = false;
+
+    fn sample(_alloc: A, number: u64) -> Result<Self, AllocError> {
+        Ok(number)
+    }
+}
+
+impl<A: Allocator> Sample<A> for () {
+    const SIZE: usize = 0;
+
+    const OWNS_BLOCK: bool = false;
+
+    fn sample(_alloc: A, _number: u64) -> Result<Self, AllocError> {
+        Ok(())
+    }
+}
+
+impl<A: Allocator> Sample<A> for (u8, u64) {
+    const SIZE: usize = 16;
+
+    const OWNS_BLOCK: bool = false;
+
+    fn sample(_alloc: A, number: u64) -> Result<Self, AllocError> {
+        Ok((u8::try_from(number % 5).unwrap_or(0), number))
+    }
+}
+
+impl<'a> Sample<Lender<'a>> for Box<u64, Lender<'a>> {
+    const SIZE: usize = 16;
+
+    const OWNS_BLOCK: bool = true;
+
+    fn sample(alloc: Lender<'a>, number: u64) -> Result<Self, AllocError> {
+        match Box::new(alloc, number) {
+            Ok(made) => Ok(made),
+            Err(_refused) => Err(AllocError),
+        }
+    }
+}
+
+impl<'a> Sample<Lender<'a>> for Vec<u64, Lender<'a>> {
+    const SIZE: usize = 32;
+
+    const OWNS_BLOCK: bool = true;
+
+    fn sample(alloc: Lender<'a>, number: u64) -> Result<Self, AllocError> {
+        one(alloc, number)
+    }
+}
+
+/// Puts an item after the others.
+pub fn put<T: Drop, A: Allocator>(items: &mut Vec<T, A>, item: T) -> Result<(), AllocError> {
+    match items.push(item) {
+        Ok(()) => Ok(()),
+        Err(_refused) => Err(AllocError),
+    }
+}
+
+/// That item alone.
+pub fn one<T: Drop, A: Allocator>(alloc: A, item: T) -> Result<Vec<T, A>, AllocError> {
+    let mut items = Vec::new(alloc);
+    put(&mut items, item)?;
+    Ok(items)
+}
+
+/// So many items, from that number on.
+pub fn samples<T: Sample<A>, A: Allocator + Copy>(
+    alloc: A,
+    count: usize,
+    number: u64,
+) -> Result<Vec<T, A>, AllocError> {
+    let mut items = Vec::new(alloc);
+    let mut next = number;
+    for _ in 0..count {
+        put(&mut items, T::sample(alloc, next)?)?;
+        next = next.wrapping_add(1);
+    }
+    Ok(items)
+}

@@ -1,9 +1,0 @@
--- What came over, and room for what is to come.
-use Rattle.std.proofs.Common.{◌≡◌, ◌+◌, ◌++◌, ◌≤◌, length}
-use Rattle.thin_vec.specs.Drain.{drain_rest}
-use Rattle.thin_vec_uses.proofs.handed_over.hand_over.Given as goal
-
-abbrev pub invariant-loop-item : goal.invariant-loop-item
-invariant-loop-item g l =
-    (l.other.items ≡ l.fn.other.items ++ l.yielded)
-    × (length l.other.items + length (drain_rest l.item-iterator) ≤ l.other.capacity)

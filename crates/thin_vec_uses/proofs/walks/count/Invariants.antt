@@ -1,6 +1,0 @@
--- As many as were handed out.
-use Rattle.std.proofs.Common.{◌≡◌, length}
-use Rattle.thin_vec_uses.proofs.walks.count.Given as goal
-
-abbrev pub invariant-loop-item : goal.invariant-loop-item
-invariant-loop-item g l = l.count ≡ length l.yielded
