@@ -74,6 +74,7 @@ length-texts_along [] text = refl
 length-texts_along (change ∷ changes) text =
     ap (λ (n : ℕ). suc n) (length-texts_along changes (changed change text))
 
+-- there is a text for each change
 pub length-texts_of : (changes : List Change) (text : List ℕ)
     → length (texts_of changes text) ≡ length changes
 length-texts_of changes text =
@@ -109,12 +110,14 @@ reverse-drop m changes =
 
 -- changes whose first m are forgotten
 module _ (m : ℕ) (changes : List Change) (text : List ℕ) where
+  -- the texts of the changes that are left are the last ones
   pub texts_of-drop : texts_of (drop m changes) text
       ≡ take (length changes - m) (texts_of changes text)
   texts_of-drop =
       ap (λ (cs : List Change). texts_along cs text) (reverse-drop m changes)
       ∙ texts_along-take (length changes - m) (reverse changes) text
 
+  -- the changes that are left still fit
   pub AllFit-drop : AllFit changes text → AllFit (drop m changes) text
   AllFit-drop all =
       subst (λ (cs : List Change). FitAlong cs text) (sym (reverse-drop m changes))

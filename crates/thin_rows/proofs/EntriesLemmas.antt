@@ -1,4 +1,5 @@
--- What a search among the entries of a row finds, and what an edit at the place found does to the row.
+-- What a search among the entries of a row finds, and what an edit at the place found does to the
+-- row.
 use Rattle.std.proofs.Common.{◌≡◌, ℕ, zero, suc, ◌+◌, ◌<◌, ◌≤◌, ◌≢◌, Bool, true, false, cond, not, ◌&&◌, T, List, [], ◌∷◌, length, map, get_or, set, Some, None, Result, Ok, Err, IfOk, IfErr, refl, sym, ap, ◌∙◌, nat_cmp, is_lt, is_eq, Less, Equal, Greater, insert, remove, arith}
 use Rattle.std.specs.FinMap.{find, put}
 use Rattle.std.specs.FinMap.Entries.{below_all, by_order, where_key}
@@ -46,7 +47,7 @@ module _ {V : Type 0} where
   all_above c (e ∷ entries) h (suc k) d inside =
       all_above c entries (both_hold _ _ h).1 k d (omega arith)
 
-  -- each column is below those behind it
+  -- each column is below those after it
   pub columns_rise : (entries : List (ℕ × V)) → IsRising entries → (i k : ℕ) (d : ℕ × V) → i < k
       → k < length entries → column_at entries i d < column_at entries k d
   columns_rise [] h i k d before inside = absurd (omega arith)
@@ -57,7 +58,7 @@ module _ {V : Type 0} where
   columns_rise (e ∷ entries) h (suc i) (suc k) d before inside =
       columns_rise entries (both_hold _ _ h).1 i k d (omega arith) (omega arith)
 
-  -- the same in std's words
+  -- the columns are strictly increasing, as std says it
   pub columns_increase : (entries : List (ℕ × V)) → IsRising entries
       → IsStrictlyIncreasing (map (λ entry. entry.0) entries)
   columns_increase (e ∷ entries) h k inside =
@@ -70,7 +71,7 @@ module _ {V : Type 0} where
   columns_increase [] h k inside = absurd (omega arith)
 
   module _ (c : ℕ) where
-    -- what is left of a place, or of a gap, behind the first entry
+    -- what is left of a place, or of a gap, after the first entry
     place_behind : (e : ℕ × V) (entries : List (ℕ × V)) (at : ℕ)
         → IsPlaceOf (e ∷ entries) c (suc at) → IsPlaceOf entries c at
     place_behind e entries at p = record { in_bounds = omega (arith, p.in_bounds); same = p.same }

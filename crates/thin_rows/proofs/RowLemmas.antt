@@ -20,7 +20,7 @@ module _ {V : Type 0} (es : List (ℕ × V)) (rising : IsRising es) where
   abbrev row : map.FinMap nat_cmp V
   row = from_sorted es
 
-  -- it has as many entries
+  -- the row has as many entries as the list
   pub len_is : map.len row ≡ length es
   len_is = len-entries row ∙ ap length (entries-from_sorted nat_cmp es rising)
 
@@ -35,7 +35,7 @@ module _ {V : Type 0} (es : List (ℕ × V)) (rising : IsRising es) where
           ∙ (sym is_put ∙ (ap (put nat_cmp c v) (sym (entries-from_sorted nat_cmp es rising))
           ∙ sym (entries-insert nat_cmp_total row c v))))
 
-    -- other entries, which are these but for the one at c
+    -- the entries without the one at c
     module _ (new : List (ℕ × V)) (is_left : where_key nat_cmp (stays c) es ≡ new) where
       left_rises : IsRising new
       left_rises = subst IsRising is_left (is_sorted-where_key nat_cmp (stays c) es rising)
@@ -52,7 +52,7 @@ module _ {V : Type 0} (es : List (ℕ × V)) (rising : IsRising es) where
       left_is = same_map nat_cmp_total nat_cmp-IsAntisymmetric (from_sorted new)
           (map.remove row c) left_finds
 
-    -- where there is an entry of the column c, at a place
+    -- at a place of the column c, where there is an entry
     module _ (at : ℕ) (place : IsPlaceOf es c at) where
       pub get_at : (d : ℕ × V) → map.get row c ≡ Some (get_or es at d).1
       get_at d = get-from_sorted nat_cmp es c rising ∙ find_at c es at d rising place
@@ -69,7 +69,7 @@ module _ {V : Type 0} (es : List (ℕ × V)) (rising : IsRising es) where
       pub remove_is : from_sorted (remove es at) ≡ map.remove row c
       remove_is = left_is _ (without_at c es at rising place)
 
-    -- where there is none, and a gap for it
+    -- at a gap for the column c, where there is none
     module _ (at : ℕ) (gap : IsGapFor es c at) where
       pub get_gap : map.get row c ≡ None
       get_gap = get-from_sorted nat_cmp es c rising ∙ find_gap c es at gap

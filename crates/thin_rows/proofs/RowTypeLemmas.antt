@@ -5,20 +5,20 @@ use Rattle.std.specs.Mem.{type_size}
 use Rattle.std.specs.Align.{type_align}
 use Rattle.thin_vec.specs.Growth.{Rule, exact_capacity, ruled_capacity}
 
--- so an exact capacity is the same for two types of one size and alignment
+-- an exact capacity is the same for two types of one size and alignment
 pub exact_of_same : (R S : RattleType) (c w : ℕ) → type_size R ≡ type_size S
     → type_align R ≡ type_align S → exact_capacity R c w ≡ exact_capacity S c w
 unfolding exact_capacity
 exact_of_same R S c w size align = rw (size, align) refl
 
--- the same of a ruled capacity
+-- a ruled capacity is the same for two types of one size and alignment
 pub ruled_of_same : (rule : Rule) (R S : RattleType) (c d v w : ℕ) → type_size R ≡ type_size S
     → type_align R ≡ type_align S → c ≡ d → v ≡ w
     → ruled_capacity rule R c v ≡ ruled_capacity rule S d w
 unfolding ruled_capacity
 ruled_of_same rule R S c d v w size align capacity want = rw (size, align, capacity, want) refl
 
--- an error is passed on, whatever the answer would have been
+-- an error is passed on, whatever would have been returned without it
 pub error_passes : {X Y E : Type 0} (cause e : E) → IsErrOf {T = X} (Err cause) e
     → IsErrOf {T = Y} (Err cause) e
 error_passes cause e same = let equal : cause ≡ e = cc in ap Err equal

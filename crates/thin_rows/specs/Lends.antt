@@ -12,7 +12,7 @@ module _ (V A : RattleType) (allocator : AllocatorGhosts A.Denot) where
   abbrev pub LendsColumn : MutBor (Columns V.Denot) → ℕ → MutBor V.Denot → Fml
   LendsColumn row column r = Lends (the_row V A allocator) V row r (insert row.now column)
 
-  -- the same, or there is no entry, and the row stays as it is
+  -- r is the value of the row at a column, or there is no entry, and the row stays as it is
   abbrev pub LendsIfThere : MutBor (Columns V.Denot) → ℕ → Option (MutBor V.Denot) → Fml
   LendsIfThere row column r = LendsIf (the_row V A allocator) V row r
       (insert row.now column) row.now

@@ -132,7 +132,7 @@ impl<V, A: Allocator> Row<V, A> {
         }
     }
 
-    // Removes the entry at a column, if there is one. The last one gives the block back.
+    // Removes the entry at a column, if there is one. With the last one the block is freed.
     pub(crate) fn remove(&mut self, column: usize) -> Option<V>
         ensures value { result ≡ map.get self.old column }
         ensures columns { self.new ≡ map.remove self.old column }
@@ -158,8 +158,7 @@ impl<V: fmt::Debug, A: Allocator> fmt::Debug for Row<V, A> {
     }
 }
 
-// A list that is empty by now gives its block back. No memory is asked for, so this can't be
-// refused.
+// Frees the block of a list that is empty by now. No memory is asked for, so this can't fail.
 fn give_block_back<T, A: Allocator>(list: &mut ThinVec<T, A>)
     ensures items { list.new.items ≡ list.old.items }
     ensures block { (0 < list.new.capacity) ↔ (0 < length list.new.items) }

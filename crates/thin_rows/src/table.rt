@@ -14,8 +14,8 @@ use thin_vec::{Rejected, ThinVec, ThinVecError};
 /// A sparse table: a finite map from row and column to value, whose number of rows is fixed.
 ///
 /// A row keeps its entries by rising columns, in one block, and a row without entries owns none: it
-/// costs a pointer, beside its allocator. A call that names a row past the end is no refusal: it is
-/// a condition on the caller.
+/// costs a pointer, beside its allocator. A call does not fail where it names a row past the end:
+/// that there is such a row is a condition on the caller.
 #[derive(Drop)]
 pub struct Rows<V, A: Allocator = Global> {
     rows: ThinVec<Row<V, A>, A>,
@@ -40,7 +40,7 @@ impl<V, A: Allocator + Copy> Rows<V, A> {
 
     /// A table of `rows` rows without entries. It asks for one block, and for none at 0.
     ///
-    /// It is refused where so many rows don't fit into a block, or where memory is refused.
+    /// It fails where so many rows don't fit into a block, or the allocator fails.
     pub fn with_rows(alloc: A, rows: usize) -> Result<Rows<V, A>, ThinVecError>
         ensures succeeds { rows ≡ 0 → IsOk result }
         ensures overflow { exact_capacity (row_type V.row A.row A.Allocator) 0 rows ≡ None
@@ -130,8 +130,8 @@ impl<V, A: Allocator> Rows<V, A> {
         self.rows[row].set(column, value)
     }
 
-    /// Removes the entry at a row and a column, if there is one, and hands its value out. It takes
-    /// no memory. The last entry of a row gives the row's block back.
+    /// Removes the entry at a row and a column, if there is one, and returns its value. It takes no
+    /// memory. With its last entry a row frees its block.
     pub fn remove(&mut self, row: usize, column: usize) -> Option<V>
         requires in_bounds { row < length self.old }
         ensures value { result ≡ value_at self.old row column }

@@ -19,8 +19,8 @@ use Rattle.thin_runner.specs.declared.command.Reply.{Reply}
 use Rattle.thin_runner.specs.declared.command.Reply.TheVariants.{Done, Item, Returned, OutOfRange}
 use Rattle.thin_runner.proofs.PaidLemmas.{IsPaid, step-paid}
 
--- after m accepted pushes: the list is cheap, holds at most m items, and its growths have copied
--- fewer than 2m, or none
+-- after m pushes that succeeded: the list is cheap, holds at most m items, and its growths have
+-- copied fewer than 2m, or none
 pub record IsAmortised {T A : Type 0} (m : ℕ) (v : Thin T A) : Type 0 where
   pub paid : IsPaid v
   pub items : length v.items ≤ m
@@ -41,7 +41,7 @@ module _ {T A : Type 0} where
         room = omega (arith, ap length new.items);
       }
 
-  -- and no push was accepted
+  -- a new list has seen no push
   pub new-amortised : (v : Thin T A) → IsNew v v.alloc → IsAmortised 0 v
   new-amortised v new = record {
     paid = new-paid v new;
@@ -73,7 +73,7 @@ copied-kept m more (inl few) same = inl (omega (arith, few, same))
 copied-kept m more (inr none) same = inr (same ∙ none)
 
 module _ {T A G J : Type 0} (here : Setting T A J) (law : KeepsLaw here.rule) where
-  -- a push or a pop keeps it so
+  -- a push or a pop keeps an amortised list amortised
   step-amortised : (m : ℕ) (v w : Thin T A) (command : Command T A G) (reply : Reply T A G)
       → IsPushOrPop command → IsAmortised m v → Steps here v command reply w
       → IsAmortised (m + accepted (command ∷ []) (reply ∷ [])) w
@@ -111,7 +111,7 @@ module _ {T A G J : Type 0} (here : Setting T A J) (law : KeepsLaw here.rule) wh
   step-amortised m v w Pop reply only a s = absurd s.1
   step-amortised m v w command reply only a s = absurd only
 
-  -- what the steps of a run count, and how many of its pushes were accepted, are one
+  -- what the steps of a run count, and how many of its pushes succeeded, are one
   accepted-counted : (commands : List (Command T A G)) (replies : List (Reply T A G))
       → counted (λ c r. accepted (c ∷ []) (r ∷ [])) commands replies ≡ accepted commands replies
   accepted-counted (Push x ∷ commands) (Done ∷ replies) =
@@ -120,7 +120,7 @@ module _ {T A G J : Type 0} (here : Setting T A J) (law : KeepsLaw here.rule) wh
       omega (arith, accepted-counted commands replies)
   accepted-counted commands replies = refl
 
-  -- and so does a run of them
+  -- a run of pushes and pops keeps an amortised list amortised
   pub runs-amortised : (v w : Thin T A) (commands : List (Command T A G))
       (replies : List (Reply T A G)) → All IsPushOrPop commands → IsAmortised 0 v
       → Runs here v commands replies w → IsAmortised (0 + accepted commands replies) w

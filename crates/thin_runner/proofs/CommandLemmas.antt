@@ -28,7 +28,7 @@ module _ {T A : Type 0} where
   }
 
   module _ (rule : Rule) where
-    -- nothing changed, or there was room and a clone was refused
+    -- nothing changed, or there was room and a clone failed
     pub refuses-clone : {R : RattleType} {infallible : T → Type 0} {sources : List T} {k : ℕ}
         {v w : Thin T A} → w.items ≡ v.items → w.alloc ≡ v.alloc
         → (w ≡ v) ⊎ IsCloneRefused rule R infallible sources k v w

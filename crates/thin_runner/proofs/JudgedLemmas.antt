@@ -1,4 +1,4 @@
--- Calls of a closure whose answers are those of a judge, asked about the items of a list.
+-- Calls of a closure that returns what a judge decides, asked about the items of a list.
 use Rattle.std.proofs.Common.{◌≡◌, ℕ, suc, ◌≤◌, ◌==◌, length, refl, arith, List, [], ◌∷◌, Bool, true, false, ap, subst, ◌∙◌}
 use denote.MutBor.{MutBor}
 use denote.Param.Members.{Mut}
@@ -12,14 +12,14 @@ use Rattle.thin_runner.specs.commands.Filters.{asked, asked_last, asked_pairs, s
 
 module _ {S T J : Type 0} (R : S → T → Bool → S → T → Type 0) (judge_of : S → J)
     (ask : J → T → Bool × T × J) where
-  -- the state of the closure has a judge, and each call answers as that judge does
+  -- the state of the closure has a judge, and each call returns what that judge decides
   abbrev pub AsksJudge : Type 0
   AsksJudge = (s : S) (x : T) (b : Bool) (u : S) (y : T) → R s x b u y
       → (b, y, judge_of u) ≡ ask (judge_of s) x
 
 module _ {S T J : Type 0} (R : S → T → Bool → S → T → Type 0) (judge_of : S → J)
     (ask : J → T → Bool × T × J) (told : AsksJudge R judge_of ask) where
-  -- the answers to the questions about xs are those of the judge
+  -- what the closure returned of xs is what the judge decides
   pub asked-by : (s t : S) (xs : List T) (answers : Answers T) → Asked R s xs answers t
       → answers ≡ asked ask (judge_of s) xs
   asked-by s t [] answers a = a.0
@@ -40,11 +40,11 @@ module _ {S T J : Type 0} (R : S → T → Bool → S → T → Type 0) (judge_o
 -- what questions about pairs have told: which of the later items stay, and what is left
 module _ {T : Type 0} where
   -- ys are the items that stay by the answers b, and the flags say of each later one whether it
-  -- does
+  -- stays
   abbrev pub Leaves : List Bool → List T → T × Answers T → Type 0
   Leaves flags ys b = (flags ≡ flags_of b.1) × (ys ≡ b.0 ∷ left_at true b.1)
 
--- the same of questions about two items
+-- a closure asked about two items, which returns what a judge decides
 module _ {S T J : Type 0} (R : S → T → T → Bool → S → T → T → Type 0) (judge_of : S → J)
     (same : J → T → T → Bool × T × T × J)
     (told : (s : S) (x k : T) (b : Bool) (u : S) (x' k' : T) → R s x k b u x' k'
@@ -87,7 +87,7 @@ module _ {S T J : Type 0} (R : S → T → T → Bool → S → T → T → Type
       let cost = r.1.cost ∙ ap (λ m. moving m v.cost) by.0 in
       λ i. record { items = by.1 i; capacity = capacity i; alloc = alloc i; cost = cost i }
 
--- the list that is left, where a closure of such a judge gave the keys
+-- the list that is left, where a closure of such a judge returned the keys
 module _ {F T A J : Type 0} (g : Mut F (MutBor T × Unit {0}) (ℕ × (MutBor T × Unit {0})))
     (judge_of : F → J) (key : J → T → ℕ × T × J)
     (told : (f : F) (x : T) (k : ℕ) (f' : F) (x' : T) → CalledAtMut g f x k f' x'
@@ -112,7 +112,7 @@ module _ {T J : Type 0} (look : J → T → Bool × J) where
   abbrev pub looks : J → T → Bool × T × J
   looks j x = let a = look j x in (a.0, x, a.1)
 
-  -- an answer that left the item is the answer to that
+  -- a question that left the item is asked with the item as it was
   pub looked : (j u : J) (x y : T) (b : Bool) → (b, u) ≡ look j x → y ≡ x → (b, y, u) ≡ looks j x
   looked j u x y b told same = ap (λ z. (b, z, u)) same ∙ ap (λ a. (a.0, x, a.1)) told
 
@@ -128,24 +128,24 @@ module _ {T : Type 0} where
   abbrev next : Bool → T → T → T × Answers T → T × Answers T
   next b x k a = if b then (a.0, (false, x) ∷ a.1) else (k, (true, a.0) ∷ a.1)
 
-  -- there is an answer for it, whether it goes or stays
+  -- one item more is said to stay or to go
   one-answer : (b : Bool) (x k : T) (a : T × Answers T) → length (next b x k a).1 ≡ suc (length a.1)
   one-answer true x k a = refl
   one-answer false x k a = refl
 
 module _ {T J : Type 0} where
-  -- there is an answer for each item
+  -- of each item it is said whether it stays
   pub asked-length : (ask : J → T → Bool × T × J) (j : J) (xs : List T) → length (asked ask j xs)
       ≡ length xs
   asked-length ask j [] = refl
   asked-length ask j (x ∷ xs) = ap suc (asked-length ask (ask j x).2 xs)
 
-  -- so no more of them stay
+  -- no more items stay than were asked about
   pub few-asked : (ask : J → T → Bool × T × J) (j : J) (xs : List T)
       → length (left_at true (asked ask j xs)) ≤ length xs
   few-asked ask j xs = omega (arith, few-left (asked ask j xs), asked-length ask j xs)
 
-  -- of each later item there is an answer, and of all where the first one stays
+  -- of each later item it is said whether it stays, and of all where the first one stays
   last-length : (same : J → T → T → Bool × T × T × J) (j : J) (k : T) (xs : List T)
       → length (asked_last same j k xs).1 ≡ length xs
   last-length same j k [] = refl
@@ -159,18 +159,18 @@ module _ {T J : Type 0} where
   pairs-length same j [] = refl
   pairs-length same j (x ∷ xs) = ap suc (last-length same j x xs)
 
-  -- nor do of those that were asked about in pairs
+  -- no more items stay than were asked about in pairs
   pub few-pairs : (same : J → T → T → Bool × T × T × J) (j : J) (xs : List T)
       → length (left_at true (asked_pairs same j xs)) ≤ length xs
   few-pairs same j xs = omega (arith, few-left (asked_pairs same j xs), pairs-length same j xs)
 
--- where a test decides that has no state, what `dedup` leaves is what its answers leave
+-- where a test decides that has no state, what `dedup` leaves is what the test leaves
 module _ {T J : Type 0} (E : T → T → Bool) (j : J) where
-  -- what the test answers of two items, which it leaves as they are
+  -- what the test says of two items, which it leaves as they are
   abbrev pub tells : J → T → T → Bool × T × T × J
   tells j later kept = (E later kept, later, kept, j)
 
-  -- behind an item that is kept
+  -- the items after one that is kept
   dedup-last : (k : T) (xs : List T) → Leaves (unlike_from E k xs) (dedup_from E k xs)
       (asked_last tells j k xs)
   dedup-last k [] = (refl, refl)
@@ -185,7 +185,7 @@ module _ {T J : Type 0} (E : T → T → Bool) (j : J) where
       told by true = let h = by k in (ap (λ l. false ∷ l) h.0, h.1)
       told by false = let h = by x in (ap (λ l. true ∷ l) h.0, ap (λ l. k ∷ l) h.1)
 
-  -- from the first item on, which stays
+  -- the items from the first on, which stays
   dedup-pairs : (xs : List T)
       → (moved_up (unlike E xs) ≡ moved_up (flags_of (asked_pairs tells j xs)))
       × (dedup E xs ≡ left_at true (asked_pairs tells j xs))

@@ -5,9 +5,9 @@ mod RunLemmas
 mod SplicesLemmas
 mod JudgedLemmas
 mod WalkLemmas
-mod ExtractLemmas
+mod JudgedExtractLemmas
 mod MoveLemmas
-pub mod ClonesLemmas
+pub mod WeakerClonesLemmas
 mod PaidLemmas
 mod AmortisedLemmas
 mod HeadlineLemmas

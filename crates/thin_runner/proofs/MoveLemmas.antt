@@ -28,16 +28,16 @@ few-repeats : {T : Type 0} (k : ℕ) (x : T) → length (replicate (k - 1) x) �
 few-repeats k x = omega (arith, length-replicate (k - 1) x)
 
 module _ {T A : Type 0} (v w : Thin T A) where
-  -- no move more
+  -- where the moves stay, they are at most k more
   same-moves : (u : Thin T A) (k : ℕ) → w ≡ u → u.cost.moves ≡ v.cost.moves
       → w.cost.moves ≤ v.cost.moves + k
   same-moves u k e same = omega (arith, ap (λ z. z.cost.moves) e, same)
 
-  -- as many as an edit makes
+  -- an edit by m moves makes m moves
   edited-moves : (xs : List T) (m : ℕ) → w ≡ edited v xs m → w.cost.moves ≤ v.cost.moves + m
   edited-moves xs m e = omega (arith, ap (λ z. z.cost.moves) e)
 
-  -- the same after a growth
+  -- an edit by m moves after a growth makes m moves
   grown-moves : (xs : List T) (m : ℕ) → w ≡ grown v w.capacity xs m
       → w.cost.moves ≤ v.cost.moves + m
   grown-moves xs m e = omega (arith, ap (λ z. z.cost.moves) e, cost_at-moves v w.capacity)
@@ -57,7 +57,8 @@ module _ {T A : Type 0} (v w : Thin T A) where
           few,
         )
 
-    -- the same where it was stopped: no more came in than there were
+    -- a splice that stopped: at most two for each item after the range, and one for each that might
+    -- come
     stopped-moves : (xs held : List T) (lower : ℕ) (cause : ThinVecError) (in_hand : Option T)
         (rest : Hinted T A) → StopsBetween rule R v a b xs held lower cause in_hand rest w
         → w.cost.moves ≤ v.cost.moves + (2 * (length v.items - b) + length xs)
@@ -66,7 +67,7 @@ module _ {T A : Type 0} (v w : Thin T A) where
         spliced-moves s.placed (lower + length xs) (length xs) s.filled
         (omega (arith, ap length s.all, length-append s.placed others))
 
--- a `shrink_to_fit` makes none
+-- a `shrink_to_fit` makes no move
 shrunk-moves : {T A : Type 0} (v : Thin T A) → (cost_shrunk v).moves ≤ v.cost.moves
 shrunk-moves v = go (length v.items == v.capacity) (length v.items == 0)
   where
@@ -77,7 +78,7 @@ shrunk-moves v = go (length v.items == v.capacity) (length v.items == 0)
     go false false = omega arith
 
 module _ {T A J : Type 0} (here : Setting T A J) (v w : Thin T A) where
-  -- where a clone was refused, one for each that was not
+  -- where a clone failed, one move for each that did not
   refused-moves : (k : ℕ) (sources : List T) (cause : ThinVecError) → length sources ≤ k
       → RefusesClone here v k sources cause w → w.cost.moves ≤ v.cost.moves + k
   refused-moves k sources cause few r = stopped r.2
@@ -151,7 +152,7 @@ module _ {T A G J : Type 0} (here : Setting T A J) where
   step-moves v w (Splice a b steps xs lower) (Refused cause) s = same-moves v w v 0 s.1.2 refl
   step-moves v w command reply s = absurd s.1
 
-  -- and a run at most as many as its steps
+  -- a run makes at most as many moves as its commands and replies say
   pub runs-moves : (v w : Thin T A) (commands : List (Command T A G))
       (replies : List (Reply T A G)) (run : Runs here v commands replies w)
       → w.cost.moves ≤ v.cost.moves + run_may_move here v w commands replies run

@@ -6,7 +6,7 @@ use Rattle.std.proofs.lemmas.List.Edits.{length-insert}
 use Rattle.std.specs.List.{AllZip, AppendsClones, remove_range, swap_remove, slice_index_or}
 use Rattle.thin_vec.specs.Clones.{IsResized}
 use Rattle.thin_runner.specs.commands.Filters.{same_key}
-use Rattle.thin_runner.proofs.ExtractLemmas.{few-extracted}
+use Rattle.thin_runner.proofs.JudgedExtractLemmas.{few-extracted}
 use Rattle.thin_runner.proofs.JudgedLemmas.{few-asked, few-pairs, looks, tells}
 use Rattle.thin_runner.proofs.RunLemmas.{runs-keep}
 use Rattle.std.specs.Prelude.{◌⊎◌, All, HoldsAt, drop, remove, slice_set, take}
@@ -220,7 +220,7 @@ module _ {T A G J : Type 0} (here : Setting T A J) (law : KeepsLaw here.rule) wh
   step-paid v w (Splice i j steps xs lower) (Refused cause) keeps a s = same-paid v w a s.1.2
   step-paid v w command reply keeps a s = absurd s.1
 
-  -- and so does a run
+  -- a run keeps a list cheap
   pub runs-paid : (v w : Thin T A) (commands : List (Command T A G)) (replies : List (Reply T A G))
       → All KeepsCheap commands → IsPaid v → Runs here v commands replies w → IsPaid w
   runs-paid v w commands replies only a run =

@@ -26,7 +26,7 @@ module _ {T A G J : Type 0} (here : Setting T A J) where
     pub appended : after ≡ before ++ replies
     pub ran : Runs here old done replies new
 
-  -- at the start none has run
+  -- at the start no command has run
   pub HasRun-none : (old : Thin T A) (commands left : List (Command T A G))
       (before after : List (Reply T A G)) → left ≡ commands → after ≡ before
       → HasRun old commands left before after old
@@ -41,7 +41,7 @@ module _ {T A G J : Type 0} (here : Setting T A J) where
   -- a step from mid to new
   module _ (mid new : Thin T A) (command : Command T A G) (reply : Reply T A G)
       (stepped : Steps here mid command reply new) where
-    -- is one more of a run that led to mid
+    -- the step is one more of a run that led to mid
     runs-push : (old : Thin T A) (commands : List (Command T A G))
         (replies : List (Reply T A G)) → Runs here old commands replies mid
         → Runs here old (commands ++ command ∷ []) (replies ++ reply ∷ []) new
@@ -51,7 +51,7 @@ module _ {T A G J : Type 0} (here : Setting T A J) where
         (ran.0, (ran.1.0, runs-push ran.0 commands replies ran.1.1))
     runs-push old commands replies ran = absurd ran
 
-    -- and its command is the first of those that were left
+    -- the step's command is the first of those that were left
     pub HasRun-push : {old : Thin T A} {commands left left' : List (Command T A G)}
         {before after after' : List (Reply T A G)} → HasRun old commands left before after mid
         → left ≡ command ∷ left' → after' ≡ after ++ reply ∷ []
@@ -74,7 +74,7 @@ module _ {T A G J : Type 0} (here : Setting T A J) where
       (step : (n : ℕ) (v w : Thin T A) (command : Command T A G) (reply : Reply T A G)
       → Only command → Holds n v → Steps here v command reply w
       → Holds (n + count command reply) w) where
-    -- as many as its steps count
+    -- a run keeps what its steps keep, with as many counted as its steps count
     pub runs-keep : (n : ℕ) (v w : Thin T A) (commands : List (Command T A G))
         (replies : List (Reply T A G)) → All Only commands → Holds n v
         → Runs here v commands replies w → Holds (n + counted count commands replies) w

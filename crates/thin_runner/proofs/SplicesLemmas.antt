@@ -1,4 +1,4 @@
--- What `finish` gives of the words of a splice that a command makes.
+-- What `finish` says of a splice that a command makes, in the words of the definition.
 use Rattle.std.proofs.Common.{◌≡◌, ℕ, ◌-◌, ◌*◌, ◌<◌, List, [], ◌∷◌, ◌++◌, None, Option, Some, ap, append_assoc, arith, drop, inl, inr, length, refl, subst, sym, take, ◌∙◌}
 use Rattle.std.proofs.lemmas.Bool.{false≢true}
 use Rattle.std.proofs.Math.Seq.{drop-length, take-length}
@@ -32,12 +32,12 @@ no-items (x ∷ xs) none = absurd (omega (arith, none))
 
 module _ {T A : Type 0} (s rest : Hinted T A) (placed held : List T)
     (in_hand : Option T) where
-  -- what a `Hinted` gave that a refused `finish` drew from
+  -- what a `Hinted` yielded that a failed `finish` drew from
   abbrev pub Broke : Type 0
   Broke = Stopped (HintedSteps {T = T} {A = A}) (can_next-default (Hinted T A) T) hinted_count s
       placed held in_hand rest
 
-  -- what a refused `finish` placed, what it holds, the item in hand and the rest are what there was
+  -- what a failed `finish` placed, what it holds, the item in hand and the rest are what there was
   pub stopped-items : Broke → hinted_items s ≡ placed
       ++ (held ++ (option_to_list in_hand ++ hinted_items rest))
   stopped-items (inl gave) =
@@ -51,7 +51,7 @@ module _ {T A : Type 0} (s rest : Hinted T A) (placed held : List T)
       ∙ (ap (λ (l : List T). (placed ++ held) ++ l) (ended.2.2.0.0 ∙ sym left)
       ∙ append_assoc placed held (option_to_list in_hand ++ hinted_items rest))
 
-  -- and the rest claims what there was
+  -- the rest of a failed `finish` claims what there was
   pub stopped-claim : Broke → hinted_claim rest ≡ hinted_claim s
   stopped-claim (inl gave) = yields-claim s rest ((placed ++ held) ++ option_to_list in_hand) gave.0
   stopped-claim (inr ended) =
@@ -107,7 +107,7 @@ module _ {T A : Type 0} (old : Thin T A) (a b : ℕ) where
         subst (λ (n : Count). of (cut old a b) n) count
         (subst (λ (v : Thin T A). of v left) left-is is_named)
 
-    -- where there is room for what may come, there is for what the iterator may give
+    -- where there is room for what may come, there is for what the iterator may yield
     pub room-left : (most size : ℕ) → size ≡ most → HasRoomFor (cut old a b) most
         → HasRoomFor (left_of block alloc) size
     room-left most size count room =
@@ -136,18 +136,18 @@ module _ {T A : Type 0} (old : Thin T A) where
   pub cut-end : cut old (length old.items) (length old.items) ≡ old
   cut-end = λ i. record old { items = take-append-drop (length old.items) old.items i }
 
-  -- and there is room where there is room without them
+  -- there is room where there is with an empty range cut out at the end
   room-end : (most : ℕ) → HasRoomFor (cut old (length old.items) (length old.items)) most
       → HasRoomFor old most
   room-end most = subst (λ (v : Thin T A). HasRoomFor v most) cut-end
 
-  -- there are places for none, or where there is room
+  -- nothing is wanted at the end where no item comes, or where there is room
   pub places-end : (P : Type 0) (most : ℕ) → (most ≡ 0 → P) → (HasRoomFor old most → P)
       → HasPlacesFor old (length old.items) (length old.items) most → P
   places-end P most none fits (inl few) = none (omega (arith, few))
   places-end P most none fits (inr room) = fits (room-end most room.1)
 
--- what went in behind the items of a list took the place of none
+-- what went in after the items of a list took the place of none
 module _ {T A : Type 0} (rule : Rule) (R : RattleType) (old new : Thin T A) where
   -- what `extend` says of the list that it filled, where `most` items might come
   pub record IsFilled (placed : List T) (most : ℕ) : Type 0 where
@@ -187,7 +187,7 @@ module _ {T A : Type 0} (rule : Rule) (R : RattleType) (old new : Thin T A) wher
         alloc = f.alloc;
       }
 
-  -- the cause of a refused `extend`, which holds no item and has no tail
+  -- the cause of a failed `extend`, which holds no item and has no tail
   pub stop-cause-end : (tail held : List T) (in_hand : Option T) (left : Count)
       (cause : ThinVecError) → length tail ≡ 0 → held ≡ []
       → (cause ≡ CapacityOverflow → Overflows rule R new in_hand left)

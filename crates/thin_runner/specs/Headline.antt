@@ -9,6 +9,7 @@ use Rattle.thin_runner.specs.declared.command.Command.{Command}
 use Rattle.thin_runner.specs.declared.command.Reply.{Reply}
 
 module _ {T A G J : Type 0} (here : Setting T A J) where
+  -- what a run of commands from the list old, with the replies before, gives: after and new
   pub record Headline (old : Thin T A) (commands : List (Command T A G))
       (before after : List (Reply T A G)) (new : Thin T A) : Type 0 where
     -- the items, the capacity and the replies are those that the short definition of a run allows
@@ -21,8 +22,8 @@ module _ {T A G J : Type 0} (here : Setting T A J) where
     -- capacity c other than 0 has cost fewer than c copied items and at most as many blocks as c
     -- has binary digits
     pub stays_cheap : All KeepsCheap commands → IsCheap old → IsCheap new
-    -- from a new list, by pushes and pops alone, m accepted pushes have cost fewer than 2m copied
-    -- items
+    -- from a new list, by pushes and pops alone, m pushes that succeeded have cost fewer than 2m
+    -- copied items
     pub amortised : All IsPushOrPop commands → IsNew old old.alloc
         → 0 < accepted commands replies → new.cost.grown < 2 * accepted commands replies
     -- the moves, growth aside, are at most those of the commands, as they were replied to

@@ -17,7 +17,7 @@ module _ {T A : Type 0} where
   abbrev pub hinted_count : Hinted T A → Count
   hinted_count h = at_most (hinted_claim h + length (hinted_items h))
 
-  -- a call gave the first of the items that are left, if there is one, and the claim stays
+  -- a call returned the first of the items that are left, if there is one, and the claim stays
   abbrev pub HintedSteps : Hinted T A → Option T → Hinted T A → Type 0
   HintedSteps old item new =
       YieldsFirst hinted_items old item new × (hinted_claim new ≡ hinted_claim old)

@@ -1,8 +1,8 @@
--- What a judge answers: a function of its state and the items for each question.
+-- What a judge decides: for each question a function of its state and the items.
 use Rattle.std.specs.Prelude.{ℕ, Bool}
 
--- from the judge's state and the items to its answer, the items as it leaves them, and its next
--- state
+-- from the judge's state and the items to what it decides, the items as it leaves them, and its
+-- next state
 pub record Judging (T J : Type 0) : Type 0 where
   pub look : J → T → Bool × J
   pub keep : J → T → Bool × T × J

@@ -5,7 +5,7 @@ use Rattle.thin_runner.specs.declared.command.Reply.{Reply}
 use Rattle.thin_runner.specs.declared.command.Reply.TheVariants.{Other, Returned, Refused, Stopped}
 
 module _ {T A G : Type 0} where
-  -- why the call was refused, if it was; a command that is out of range is none that was refused
+  -- why the call failed, if it did; a command that is out of range makes no call
   abbrev pub refusal_of : Reply T A G → Option ThinVecError
   refusal_of (Other back refused) = refused
   refusal_of (Returned v cause) = Some cause

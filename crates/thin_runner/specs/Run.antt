@@ -12,7 +12,7 @@ use Rattle.thin_runner.specs.declared.command.Reply.{Reply}
 use Rattle.thin_runner.specs.declared.command.Reply.TheVariants.{Answers, Done, Item, OutOfRange, Other, Refused}
 
 module _ {T A G : Type 0} where
-  -- how many of the commands are pushes that were accepted
+  -- how many of the commands are pushes that succeeded
   abbrev pub accepted : List (Command T A G) → List (Reply T A G) → ℕ
   accepted (Push v ∷ commands) (Done ∷ replies) = 1 + accepted commands replies
   accepted (command ∷ commands) (reply ∷ replies) = accepted commands replies
@@ -39,8 +39,8 @@ module _ {T A G J : Type 0} (here : Setting T A J) where
   Runs old commands replies new = ⊥
 
   -- the moves that a command with this reply may make in a list of the items xs, growth aside: of
-  -- one that filters, as many as items stay and change their place. What is stopped half way, or
-  -- refused a clone, may make fewer
+  -- one that filters, as many as items stay and change their place. What fails half way, or at a
+  -- clone, may make fewer
   abbrev pub may_move : List T → Command T A G → Reply T A G → ℕ
   may_move xs command (OutOfRange back) = 0
   may_move xs (Push v) Done = 1

@@ -1,16 +1,17 @@
 -- What a run stands in: what is known of its item type, its growth rule and its judge, and the
--- allocator and the judge handed in.
+-- allocator and the judge passed in.
 use Rattle.std.specs.Prelude.{Bool}
 use Rattle.std.specs.Borrow.{RattleType}
 use Rattle.thin_vec.specs.Growth.{Rule}
 use Rattle.thin_runner.specs.Judge.{Judging}
 
+-- the setting of a run at items T, an allocator A and a judge J
 pub record Setting (T A J : Type 0) : Type 1 where
-  -- y is a clone of x; the clone of x is never refused; x equals y, as `==` says
+  -- y is a clone of x; the clone of x never fails; x equals y, as `==` says
   pub clones : T → T → Type 0
   pub infallible : T → Type 0
   pub eq : T → T → Bool
-  -- how the judge answers, how the capacity grows, and how large an item is
+  -- how the judge decides, how the capacity grows, and how large an item is
   pub judging : Judging T J
   pub rule : Rule
   pub R : RattleType
@@ -18,7 +19,7 @@ pub record Setting (T A J : Type 0) : Type 1 where
   pub alloc : A
   pub judge : J
 
--- the same, by its parts
+-- a setting, by its parts
 abbrev pub setting : {T A J : Type 0} → (T → T → Type 0) → (T → Type 0) → (T → T → Bool)
     → Judging T J → Rule → RattleType → A → J → Setting T A J
 setting clones infallible eq judging rule R alloc judge =

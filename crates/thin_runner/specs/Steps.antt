@@ -100,7 +100,7 @@ module _ {T A G J : Type 0} (here : Setting T A J) where
       × (new ≡ edited old (remove_range old.items a b) m)
   Does old (Drain a b steps) (Refused cause) new =
       (0 < length steps.items) × (cause ≡ OutOfMemory) × (new ≡ old)
-  -- it hands out those that go, from the front
+  -- an `extract_if` yields those that go, from the front
   Does old (ExtractIf a b k) (Answers answers) new =
       let asked = extracting here.judging.take here.judge k (slice_range old.items a b) in
       (answers.items ≡ walked (left_at false asked) (replicate k Front))
@@ -119,7 +119,7 @@ module _ {T A G J : Type 0} (here : Setting T A J) where
       MatchOption (answered here old.items command) ⊥ (λ answers. new ≡ sifted old answers)
   Does old command reply new = ⊥
 
-  -- one step: a command whose index is none of the list is handed back, and nothing changes
+  -- one step: a command whose index is none of the list is returned, and nothing changes
   abbrev pub Steps : Thin T A → Command T A G → Reply T A G → Thin T A → Type 0
   Steps old command (OutOfRange back) new =
       (back ≡ command) × ¬ (IsInRange old.items command) × (new ≡ old)

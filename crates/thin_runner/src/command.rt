@@ -73,34 +73,34 @@ pub enum Command<T, A: Allocator = Global, G: Growth = Doubling> {
     Splice(usize, usize, Vec<Step, A>, Vec<T, A>, usize),
 }
 
-/// What a command answers. It owns what the call handed out or back.
+/// What a command replies. It owns what the call returned.
 #[derive(Drop)]
 pub enum Reply<T, A: Allocator = Global, G: Growth = Doubling> {
-    /// The call was accepted.
+    /// The call succeeded.
     Done,
-    /// The item that the call took out, if there was one.
+    /// The item that the call removed, if there was one.
     Item(Option<T>),
-    /// What each step of a walk answered.
+    /// What each step of a walk returned.
     Answers(Vec<Option<T>, A>),
     /// The list that the call made.
     List(ThinVec<T, A, G>),
-    /// The list that was appended, now empty, or, where that was refused, as it was.
+    /// The list that was appended, now empty, or, where that failed, as it was.
     Other(ThinVec<T, A, G>, Option<ThinVecError>),
-    /// The value that a refused call hands back, and why it was refused.
+    /// The value that a failed call returns, and why it failed.
     Returned(T, ThinVecError),
-    /// Why the call was refused.
+    /// Why the call failed.
     Refused(ThinVecError),
-    /// What a call hands back that was refused half way.
+    /// What a call returns that failed half way.
     Stopped {
-        /// What the walk gave before.
+        /// What the walk yielded before.
         answers: Vec<Option<T>, A>,
-        /// Why it was refused.
+        /// Why it failed.
         cause: ThinVecError,
         /// Items that were drawn, and for which there was no room.
         held: Vec<T, A>,
         /// The item that was drawn last, for which there was no room either.
         in_hand: Option<T>,
-        /// The iterator, which gives the items that were not drawn.
+        /// The iterator, which yields the items that were not drawn.
         rest: Hinted<T, A>,
     },
     /// The command, whose index or range is past the end.
@@ -110,8 +110,7 @@ pub enum Reply<T, A: Allocator = Global, G: Growth = Doubling> {
 impl<T, A: Allocator, G: Growth> Reply<T, A, G> {
     ghost use Rattle.thin_runner.specs.Replies.{refusal_of};
 
-    /// Why the call was refused, if it was. A command that is out of range is none that was
-    /// refused.
+    /// Why the call failed, if it did. A command that is out of range makes no call.
     pub fn refusal(&self) -> Option<ThinVecError>
         ensures value { result ≡ refusal_of self.now }
     {

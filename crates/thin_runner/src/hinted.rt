@@ -7,7 +7,8 @@ ghost use Rattle.std.specs.Iterator.SizeHint.{IsWithinCount};
 use std::alloc::{Allocator, Global};
 use std::vec::IntoIter;
 
-/// Gives its items in order and then `None` for good, and claims the same lower bound at each turn.
+/// Yields its items in order and then `None` for good, and claims the same lower bound at each
+/// turn.
 ///
 /// The claim may be past the truth. So that it keeps the rule of `size_hint`, it says that as many
 /// items may come as are left and as it claims.
@@ -20,7 +21,7 @@ pub struct Hinted<T, A: Allocator = Global> {
 impl<T, A: Allocator> Hinted<T, A> {
     ghost use Rattle.thin_runner.specs.Hinted.{HintedSteps, hinted_claim, hinted_items};
 
-    /// Gives the items of `items`, which it owns, and claims at least `lower` at each turn.
+    /// Yields the items of `items`, which it owns, and claims at least `lower` at each turn.
     pub fn new(items: Vec<T, A>, lower: usize) -> Hinted<T, A>
         ensures items { hinted_items result ≡ items.items }
         ensures claim { hinted_claim result ≡ lower }

@@ -1,8 +1,7 @@
-//! Who answers what a command asks about the items.
+//! What decides about items, for the commands that ask.
 ghost use Rattle.std.specs.Prelude.{◌≡◌};
 
-/// Answers questions about items. Each command that asks begins with a copy of the judge as it was
-/// handed in.
+/// Decides about items. Each command that asks begins with a copy of the judge as it was passed in.
 pub trait Judge<T>: Copy {
     ghost use Rattle.thin_runner.specs.Judge.{Judging};
 
@@ -24,7 +23,7 @@ pub trait Judge<T>: Copy {
     fn key(&mut self, item: &mut T) -> u64
         ensures value { (result, item.new, self.new) ≡ judging.key self.old item.old };
 
-    /// Whether `extract_if` hands the item out, which it may write.
+    /// Whether `extract_if` yields the item, which it may write.
     fn take(&mut self, item: &mut T) -> bool
         ensures value { (result, item.new, self.new) ≡ judging.take self.old item.old };
 }

@@ -31,7 +31,7 @@ fn is_in_range<T, A: Allocator, G: Growth>(
     }
 }
 
-/// Does one command. The reply owns what the call handed out or back.
+/// Does one command. The reply owns what the call returned.
 ///
 /// What the command makes is made on `alloc`. A command that asks about items begins with a copy of
 /// `judge`.
@@ -86,8 +86,8 @@ pub fn step<T: Clone + Eq, A: Allocator + Copy, G: Growth, J: Judge<T>>(
 
 /// Does the commands in order, and appends a reply for each.
 ///
-/// Room for all replies is taken first. Where that is refused, which is the one refusal, no command
-/// is done and the commands are dropped.
+/// Room for all replies is made first. Only that may fail: then no command is done, and the
+/// commands are dropped.
 pub fn run<T: Clone + Eq, A: Allocator + Copy, G: Growth, J: Judge<T>>(
     alloc: A,
     list: &mut ThinVec<T, A, G>,

@@ -69,7 +69,7 @@ pub trait Numbers: List<u64> {
     /// Extends by the numbers below `end`. The iterator knows how many they are.
     fn extend_hinted(&mut self, end: usize) -> Result<(), AllocError>;
 
-    /// The same where the iterator knows nothing.
+    /// Extends by the numbers below `end`. The iterator knows nothing of how many they are.
     fn extend_unhinted(&mut self, end: usize) -> Result<(), AllocError>;
 
     /// Extends by those of the items that are even, by a filter.
@@ -104,7 +104,8 @@ pub trait Numbers: List<u64> {
     /// many they are.
     fn splice_hinted(&mut self, alloc: Global, end: usize) -> Result<(), AllocError>;
 
-    /// The same where the iterator knows nothing.
+    /// Splices the numbers below `end` into the place of the middle half. The iterator knows
+    /// nothing of how many they are.
     fn splice_unhinted(&mut self, alloc: Global, end: usize) -> Result<(), AllocError>;
 
     fn dedup(&mut self);

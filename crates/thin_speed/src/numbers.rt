@@ -4,7 +4,7 @@ ghost use Rattle.std.specs.Iterator.{at_most};
 
 use std::alloc::{AllocError, Global};
 
-/// The sum of a run, or that a call was refused.
+/// The sum of a run, or that a call failed.
 pub type Outcome = Result<u64, AllocError>;
 
 /// A sum with one number more.

@@ -15,13 +15,13 @@ module _ {T J : Type 0} where
       let a = key j later in let b = key a.2 kept in (a.0 == b.0, a.1, b.1, b.2)
 
 module _ {T J : Type 0} (ask : J → T → Bool × T × J) where
-  -- the answer at each item, in order, and the item as it is left
+  -- what `ask` says of each item, in order, and the item as it is left
   abbrev pub asked : J → List T → Answers T
   asked j [] = []
   asked j (x ∷ xs) = let a = ask j x in (a.0, a.1) ∷ asked a.2 xs
 
   -- as many calls of `next` as the number says: whether each item stays, and how it is left. No
-  -- item is asked about after the last one handed out
+  -- item is asked about after the last one yielded
   abbrev pub extracting : J → ℕ → List T → Answers T
   extracting j zero xs = stay xs
   extracting j (suc k) [] = []
@@ -37,7 +37,8 @@ module _ {T J : Type 0} (same : J → T → T → Bool × T × T × J) where
       let a = same j x k in let b = asked_last a.3 (if a.0 then a.2 else a.1) xs in
       if a.0 then (b.0, (false, a.1) ∷ b.1) else (a.2, (true, b.0) ∷ b.1)
 
-  -- the same from the first item on, which stays
+  -- the first item stays, and each later one is asked about beside the last one kept: of each item
+  -- whether it stays, and how it is left
   abbrev pub asked_pairs : J → List T → Answers T
   asked_pairs j [] = []
   asked_pairs j (x ∷ xs) = let b = asked_last j x xs in (true, b.0) ∷ b.1
@@ -47,14 +48,14 @@ module _ {T : Type 0} where
   abbrev pub around : List T → ℕ → ℕ → Answers T → Answers T
   around xs a b answers = stay (take a xs) ++ (answers ++ stay (drop b xs))
 
-  -- old with those items whose answer was true, as they were left; each that has another place has
-  -- moved once
+  -- old with those items that stay by the answers, as they were left; each that has another place
+  -- has moved once
   abbrev pub sifted : {A : Type 0} → Thin T A → Answers T → Thin T A
   sifted old answers = edited old (left_at true answers) (moved_up (flags_of answers))
 
 module _ {T A G J : Type 0} (here : Setting T A J) where
-  -- a command that leaves those items of which the answer is true: what it is answered about each,
-  -- and how it leaves them. `Retain` only looks at an item, and `Dedup` asks no judge
+  -- a command that filters: of each item whether it stays, and how it is left. `Retain` only looks
+  -- at an item, and `Dedup` asks no judge
   abbrev pub answered : List T → Command T A G → Option (Answers T)
   answered xs Retain =
       Some (asked (λ j x. let a = here.judging.look j x in (a.0, x, a.1)) here.judge xs)

@@ -7,7 +7,7 @@ use Rattle.thin_runner.specs.Setting.{Setting}
 use Rattle.thin_runner.specs.commands.Edits.{Grows}
 
 module _ {T A J : Type 0} (here : Setting T A J) where
-  -- room for k items more is refused, or the clone of one of the sources, and the items stay
+  -- making room for k items more fails, or the clone of one of the sources, and the items stay
   abbrev pub RefusesClone : Thin T A → ℕ → List T → ThinVecError → Thin T A → Type 0
   RefusesClone old k sources cause new =
       ((capacity_for here.rule here.R old k ≡ None) ↔ (cause ≡ CapacityOverflow))

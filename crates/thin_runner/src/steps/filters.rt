@@ -1,5 +1,5 @@
 //! Items that go by what the judge says of them, each command on a copy of the judge that was
-//! handed in.
+//! passed in.
 ghost use Rattle.std.specs.Prelude.{◌≡◌};
 ghost use Rattle.thin_runner.specs.Setting.{setting};
 ghost use Rattle.thin_runner.specs.Steps.{Steps};

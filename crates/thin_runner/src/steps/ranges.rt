@@ -13,7 +13,7 @@ use std::alloc::Allocator;
 use thin_vec::{Drain, Growth, ThinVec, ThinVecError};
 
 impl<T: Clone + Eq, A: Allocator + Copy, G: Growth, J: Judge<T>> Setting<T, A, G, J> {
-    // Room for the answers is taken first, and none where there is no step.
+    // Room for what the steps return is made first, and none where there is no step.
     pub(crate) fn drain(
         self,
         list: &mut ThinVec<T, A, G>,
@@ -38,7 +38,7 @@ impl<T: Clone + Eq, A: Allocator + Copy, G: Growth, J: Judge<T>> Setting<T, A, G
         Reply::Answers(answers)
     }
 
-    // Room for the answers is taken first, and none where no call of `next` is wanted.
+    // Room for what calls of `next` return is made first, and none where no call is wanted.
     pub(crate) fn extract_if(
         self,
         list: &mut ThinVec<T, A, G>,
@@ -77,7 +77,7 @@ impl<T: Clone + Eq, A: Allocator + Copy, G: Growth, J: Judge<T>> Setting<T, A, G
     }
 }
 
-// The answers of a walk over what a `Drain` has left go behind those that are there.
+// Appends what the steps of a walk over a `Drain` return.
 fn walk<T: Drop, A: Allocator, G: Growth>(
     drain: &mut Drain<'_, T, A, G>,
     steps: Vec<Step, A>,

@@ -1,4 +1,4 @@
-//! Room that is made, or given back, and lists that have no room to spare.
+//! Room that is made, or given up, and lists that have no room to spare.
 ghost use Rattle.std.specs.Prelude.{◌≤◌, length};
 ghost use Rattle.thin_runner.specs.Setting.{setting};
 ghost use Rattle.thin_runner.specs.Steps.{Steps};

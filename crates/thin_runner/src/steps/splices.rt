@@ -14,7 +14,7 @@ use std::alloc::Allocator;
 use thin_vec::{Growth, Splice, SpliceRefused, ThinVec, ThinVecError};
 
 impl<T: Clone + Eq, A: Allocator + Copy, G: Growth, J: Judge<T>> Setting<T, A, G, J> {
-    // Room for the answers is taken first, and none where there is no step.
+    // Room for what the steps return is made first, and none where there is no step.
     pub(crate) fn splice(
         self,
         list: &mut ThinVec<T, A, G>,
@@ -62,7 +62,7 @@ impl<T: Clone + Eq, A: Allocator + Copy, G: Growth, J: Judge<T>> Setting<T, A, G
     }
 }
 
-// The answers of a walk over what a `Splice` has left of its range go behind those that are there.
+// Appends what the steps of a walk over a `Splice` return.
 fn walk<T: Drop, A: Allocator, G: Growth>(
     splice: &mut Splice<'_, Hinted<T, A>, T, A, G>,
     steps: Vec<Step, A>,

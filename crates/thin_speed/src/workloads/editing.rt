@@ -1,9 +1,55 @@
 //! Workloads in which items move within a list, or leave it by their place.
-use crate::lists::Numbers;
-use crate::numbers::{Count, InTurn, Outcome, mixed, seen};
-use crate::workloads::shapes::{Work, filled, refill};
+use crate::lists::{Family, Numbers};
+use crate::numbers::{Count, InTurn, One, Outcome, Two, mixed, seen};
+use crate::workloads::shapes::{Work, filled, refill, refilled, repeated};
 use std::alloc::Global;
 use std::marker::PhantomData;
+
+/// The workloads of this file.
+#[derive(Clone, Copy)]
+pub enum Editing {
+    InsertFront,
+    RemoveFront,
+    RemoveMiddle,
+    SwapRemove,
+    SplitAppend,
+    Drain,
+    DrainTwo,
+    DrainTen,
+    DrainInner,
+    SpliceTwo,
+    SpliceAway,
+    SpliceHinted,
+    SpliceUnhinted,
+}
+
+/// Runs one of them.
+pub fn run_editing<F: Family>(
+    alloc: Global,
+    workload: Editing,
+    size: usize,
+    times: usize,
+) -> Outcome {
+    match workload {
+        Editing::InsertFront => repeated::<F::Numbers, InsertFirst>(alloc, size, times),
+        Editing::RemoveFront => repeated::<F::Numbers, Remove<false>>(alloc, size, times),
+        Editing::RemoveMiddle => repeated::<F::Numbers, Remove<true>>(alloc, size, times),
+        Editing::SwapRemove => swap_remove::<F::Numbers>(alloc, size, times),
+        Editing::SplitAppend => split_append::<F::Numbers>(alloc, size, times),
+        Editing::Drain => refilled::<F::Numbers, _, InTurn, Drain>(alloc, size, times),
+        Editing::DrainTwo => repeated::<F::Numbers, DrainFew<0, 2>>(alloc, size, times),
+        Editing::DrainTen => repeated::<F::Numbers, DrainFew<0, 10>>(alloc, size, times),
+        Editing::DrainInner => repeated::<F::Numbers, DrainFew<3, 5>>(alloc, size, times),
+        Editing::SpliceTwo => repeated::<F::Numbers, SpliceFew<Two, 3, 5>>(alloc, size, times),
+        Editing::SpliceAway => repeated::<F::Numbers, SpliceFew<One, 5, 7>>(alloc, size, times),
+        Editing::SpliceHinted => {
+            refilled::<F::Numbers, _, InTurn, SpliceHinted>(alloc, size, times)
+        }
+        Editing::SpliceUnhinted => {
+            refilled::<F::Numbers, _, InTurn, SpliceUnhinted>(alloc, size, times)
+        }
+    }
+}
 
 /// Inserts at the front.
 pub struct InsertFirst;
@@ -119,7 +165,7 @@ impl<L: Numbers> Work<L, u64> for SpliceHinted {
     }
 }
 
-/// The same where that isn't known.
+/// Puts all numbers in the place of the middle half, and doesn't know how many there are.
 pub struct SpliceUnhinted;
 
 impl<L: Numbers> Work<L, u64> for SpliceUnhinted {

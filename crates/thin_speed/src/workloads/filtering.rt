@@ -1,9 +1,74 @@
 //! Workloads in which a closure says which items leave the list.
-use crate::lists::{List, Numbers};
-use crate::numbers::{Item, Outcome, Pick};
-use crate::workloads::shapes::Work;
+use crate::lists::{Family, List, Numbers};
+use crate::numbers::{
+    All, Even, InARun, InTurn, Item, NotOne, Nothing, Outcome, Pairs, Pick, Random, ThreeOfFour,
+    Wides,
+};
+use crate::workloads::shapes::{Work, refilled};
 use std::alloc::Global;
 use std::marker::PhantomData;
+
+/// The workloads of this file.
+#[derive(Clone, Copy)]
+pub enum Filtering {
+    RetainHalf,
+    RetainRandom,
+    RetainThree,
+    RetainButOne,
+    RetainRuns,
+    RetainAll,
+    RetainNone,
+    WideHalf,
+    WideRandom,
+    WideButOne,
+    WideRuns,
+    Dedup,
+    DedupByKey,
+    ExtractIf,
+    ExtractRandom,
+}
+
+/// Runs one of them.
+pub fn run_filtering<F: Family>(
+    alloc: Global,
+    workload: Filtering,
+    size: usize,
+    times: usize,
+) -> Outcome {
+    match workload {
+        Filtering::RetainHalf => {
+            refilled::<F::Numbers, _, InTurn, Retain<Even>>(alloc, size, times)
+        }
+        Filtering::RetainRandom => {
+            refilled::<F::Numbers, _, InTurn, Retain<Random>>(alloc, size, times)
+        }
+        Filtering::RetainThree => {
+            refilled::<F::Numbers, _, InTurn, Retain<ThreeOfFour>>(alloc, size, times)
+        }
+        Filtering::RetainButOne => {
+            refilled::<F::Numbers, _, InTurn, Retain<NotOne>>(alloc, size, times)
+        }
+        Filtering::RetainRuns => {
+            refilled::<F::Numbers, _, InTurn, Retain<InARun>>(alloc, size, times)
+        }
+        Filtering::RetainAll => refilled::<F::Numbers, _, InTurn, Retain<All>>(alloc, size, times),
+        Filtering::RetainNone => {
+            refilled::<F::Numbers, _, InTurn, Retain<Nothing>>(alloc, size, times)
+        }
+        Filtering::WideHalf => refilled::<F::Wides, _, Wides, Retain<Even>>(alloc, size, times),
+        Filtering::WideRandom => refilled::<F::Wides, _, Wides, Retain<Random>>(alloc, size, times),
+        Filtering::WideButOne => refilled::<F::Wides, _, Wides, Retain<NotOne>>(alloc, size, times),
+        Filtering::WideRuns => refilled::<F::Wides, _, Wides, Retain<InARun>>(alloc, size, times),
+        Filtering::Dedup => refilled::<F::Numbers, _, Pairs, Dedup>(alloc, size, times),
+        Filtering::DedupByKey => refilled::<F::Numbers, _, InTurn, DedupByKey>(alloc, size, times),
+        Filtering::ExtractIf => {
+            refilled::<F::Numbers, _, InTurn, Extract<Even>>(alloc, size, times)
+        }
+        Filtering::ExtractRandom => {
+            refilled::<F::Numbers, _, InTurn, Extract<Random>>(alloc, size, times)
+        }
+    }
+}
 
 /// Keeps the items that are picked.
 pub struct Retain<P> {

@@ -1,9 +1,67 @@
 //! Workloads in which a list grows, or is read to its end.
-use crate::lists::{List, Numbers};
-use crate::numbers::{Item, Outcome, SIXTEEN, Source, mixed, seen};
-use crate::workloads::shapes::{Make, filled};
+use crate::lists::{Family, List, Numbers};
+use crate::numbers::{
+    InTurn, Item, Outcome, Pairs, SIXTEEN, Source, Triples, Turned, Wides, Words, mixed, seen,
+};
+use crate::workloads::shapes::{Idle, Make, filled, made_anew, refilled};
 use std::alloc::{AllocError, Global};
 use std::io::Write;
+
+/// The workloads of this file.
+#[derive(Clone, Copy)]
+pub enum Growing {
+    Push,
+    PushFew,
+    PushTriples,
+    PushWide,
+    PushStrings,
+    PushReserved,
+    PushPop,
+    ExtendHinted,
+    ExtendUnhinted,
+    ExtendFilter,
+    CollectFew,
+    ExtendSlice,
+    ExtendSixteen,
+    Resize,
+    Clone,
+    WriteFive,
+    IntoIter,
+    Refill,
+    RefillPairs,
+    RefillWide,
+}
+
+/// Runs one of them.
+pub fn run_growing<F: Family>(
+    alloc: Global,
+    workload: Growing,
+    size: usize,
+    times: usize,
+) -> Outcome {
+    match workload {
+        Growing::Push => push::<F::Numbers, _, InTurn>(alloc, size, times),
+        Growing::PushFew => push::<F::Numbers, _, Turned>(alloc, size, times),
+        Growing::PushTriples => push::<F::Triples, _, Triples>(alloc, size, times),
+        Growing::PushWide => push::<F::Wides, _, Wides>(alloc, size, times),
+        Growing::PushStrings => push::<F::Strings, _, Words>(alloc, size, times),
+        Growing::PushReserved => made_anew::<F::Numbers, Reserved>(alloc, size, times),
+        Growing::PushPop => push_pop::<F::Numbers>(alloc, size, times),
+        Growing::ExtendHinted => made_anew::<F::Numbers, ExtendHinted>(alloc, size, times),
+        Growing::ExtendUnhinted => made_anew::<F::Numbers, ExtendUnhinted>(alloc, size, times),
+        Growing::ExtendFilter => made_anew::<F::Numbers, ExtendFilter>(alloc, size, times),
+        Growing::CollectFew => made_anew::<F::Numbers, Collect>(alloc, size, times),
+        Growing::ExtendSlice => made_anew::<F::Numbers, ExtendSlice>(alloc, size, times),
+        Growing::ExtendSixteen => made_anew::<F::Numbers, ExtendSixteen>(alloc, size, times),
+        Growing::Resize => made_anew::<F::Numbers, Resize>(alloc, size, times),
+        Growing::Clone => made_anew::<F::Numbers, Copied>(alloc, size, times),
+        Growing::WriteFive => write_five::<F::Bytes>(alloc, size, times),
+        Growing::IntoIter => into_iter::<F::Numbers>(alloc, size, times),
+        Growing::Refill => refilled::<F::Numbers, _, InTurn, Idle>(alloc, size, times),
+        Growing::RefillPairs => refilled::<F::Numbers, _, Pairs, Idle>(alloc, size, times),
+        Growing::RefillWide => refilled::<F::Wides, _, Wides, Idle>(alloc, size, times),
+    }
+}
 
 /// Pushes onto a new list.
 #[inline(never)]

@@ -3,6 +3,27 @@ use crate::lists::{Family, List};
 use crate::numbers::{Outcome, mixed};
 use std::alloc::{AllocError, Global};
 
+/// The workloads of this file.
+#[derive(Clone, Copy)]
+pub enum Many {
+    EmptyLists,
+    SparseLists,
+    Styles,
+    Undo,
+    Tree,
+}
+
+/// Runs one of them.
+pub fn run_many<F: Family>(alloc: Global, workload: Many, size: usize, times: usize) -> Outcome {
+    match workload {
+        Many::EmptyLists => empty_lists::<F::Lists, F::Numbers>(alloc, size, times),
+        Many::SparseLists => sparse_lists::<F::Lists, F::Numbers>(alloc, size, times),
+        Many::Styles => styles::<F::Styles, F::Style>(alloc, size, times),
+        Many::Undo => undo::<F::Steps, F::Bytes>(alloc, size, times),
+        Many::Tree => tree::<F>(alloc, size, times),
+    }
+}
+
 /// Makes a list of so many empty lists, and walks over all.
 #[inline(never)]
 pub fn empty_lists<L: List<N>, N: List<u64>>(alloc: Global, size: usize, times: usize) -> Outcome {
@@ -17,7 +38,7 @@ pub fn empty_lists<L: List<N>, N: List<u64>>(alloc: Global, size: usize, times: 
     Ok(sum)
 }
 
-/// The same of lists of which every sixteenth has three items.
+/// Makes a list of so many lists, of which every sixteenth has three items, and walks over all.
 #[inline(never)]
 pub fn sparse_lists<L: List<N>, N: List<u64>>(alloc: Global, size: usize, times: usize) -> Outcome {
     let mut sum = 0;

@@ -1,10 +1,10 @@
--- The closure answers an entry's column, and columns rise: the search ends at the place or the gap.
+-- The closure returns an entry's column, and columns rise: the search ends at the place or the gap.
 use Rattle.std.proofs.Common.{rules}
 use Rattle.std.proofs.lemmas.List.Sorted.{answers_always}
 use Rattle.thin_rows.proofs.EntriesLemmas.{searched}
 use Rattle.thin_rows.proofs.row.place.Goals as goal
 
--- the closure answers an entry's column
+-- the closure returns an entry's column
 pub returns : goal.returns
 returns g c =
     let told = c.binary_search_by_key.ensures in

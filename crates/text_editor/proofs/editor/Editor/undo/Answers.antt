@@ -1,4 +1,4 @@
--- Where memory is refused, there was a change to make.
+-- Where the allocator fails, there was a change to make.
 use Rattle.std.proofs.Common.{ap, rules, ◌∙◌}
 use Rattle.text_editor.proofs.ChangesLemmas.{no_text}
 use Rattle.text_editor.specs.History.{History}

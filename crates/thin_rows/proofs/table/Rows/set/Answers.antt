@@ -11,7 +11,7 @@ use Rattle.thin_rows.specs.EntryType.{entry_type}
 use Rattle.thin_rows.specs.Table.{row_of}
 use Rattle.thin_rows.proofs.table.Rows.set.Goals as goal
 
--- a refused call left its row as it was, and so the table
+-- a call that fails leaves its row as it was, and so the table
 left : {X Y E : Type 0} (result : Result Y E) (xs : List X) (i : ℕ) (old new : X)
     → slice_get xs i ≡ Some old → OnErr result (new ≡ old) → OnErr result (slice_set xs i new ≡ xs)
 left (Ok _) xs i old new there same = tt

@@ -1,4 +1,4 @@
--- A list that comes back says itself whether it was refused.
+-- A reply with the list that was to be appended says itself whether the call failed.
 use Rattle.std.proofs.Common.{rules}
 use Rattle.thin_runner.proofs.command.Reply.refusal.Goals as goal
 

@@ -1,4 +1,4 @@
--- A run gives the items that are left, since each call takes the first of them.
+-- A run yields the items that are left, since each call takes the first of them.
 use Rattle.std.proofs.Common.{length, ap, rules}
 use Rattle.std.proofs.iter.runs.Sources.{from_front, as_is}
 use Rattle.thin_runner.specs.Hinted.{HintedSteps, hinted_items}

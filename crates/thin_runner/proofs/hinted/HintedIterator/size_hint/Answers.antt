@@ -1,4 +1,4 @@
--- The claim is answered as it was made.
+-- The claim is returned as it was made.
 use Rattle.std.proofs.Common.{rules}
 use Rattle.thin_runner.proofs.hinted.HintedIterator.size_hint.Goals as goal
 

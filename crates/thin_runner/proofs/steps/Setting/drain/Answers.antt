@@ -1,4 +1,4 @@
--- The walk's answers are those of the range, and what is left are the items around it.
+-- What the walk returns is what walking the range does, and what is left are the items around it.
 use Rattle.std.proofs.Common.{rules}
 use Rattle.thin_runner.proofs.steps.Setting.drain.Goals as goal
 

@@ -1,10 +1,11 @@
--- Each call of `next` asks the judge that the closure holds, and the drop leaves the rest where it is.
+-- Each call of `next` asks the judge that the closure holds, and the drop leaves the rest where it
+-- is.
 use Rattle.std.proofs.Common.{ℕ, ◌≡◌, ◌+◌, ◌-◌, ◌++◌, ◌∷◌, [], false, suc, take, slice_range, ap, arith, refl, rules, sym, ◌∙◌, append_assoc}
 use Rattle.std.proofs.lemmas.List.{append-nil}
 use Rattle.thin_vec.specs.ExtractIf.{extract_callee, extract_rest, extract_tail}
 use Rattle.thin_vec.specs.Filters.{left_at, stay}
 use Rattle.thin_runner.specs.commands.Filters.{extracting}
-use Rattle.thin_runner.proofs.ExtractLemmas.{extracting-ends, extracting-none, extracting-step, extracts-by, goes, handed-by, handed_out}
+use Rattle.thin_runner.proofs.JudgedExtractLemmas.{extracting-ends, extracting-none, extracting-step, extracts-by, goes, handed-by, handed_out}
 use Rattle.thin_runner.proofs.steps.Setting.extract_if.Goals as goal
 
 pub loop-init : goal.loop-init

@@ -1,4 +1,4 @@
--- What the call ensures, done or refused, is what the command may do.
+-- What the call ensures, done or failed, is what the command may do.
 use Rattle.std.proofs.Common.{rules}
 use Rattle.thin_runner.proofs.steps.Setting.push.Goals as goal
 

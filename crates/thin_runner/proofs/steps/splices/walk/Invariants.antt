@@ -1,4 +1,5 @@
--- The answers so far, and those of the steps that are left, are those of the whole walk.
+-- What the steps returned so far, and what those that are left return, is what the whole walk
+-- returns.
 use Rattle.std.proofs.Common.{◌≡◌, ◌++◌, ◌≤◌, ◌+◌, length, vec_len}
 use Rattle.std.specs.Vec.{vec_capacity}
 use Rattle.std.specs.Vec.Iter.{into_iter_items}

@@ -1,4 +1,4 @@
--- What the closure answers is what the judge says.
+-- What the closure returns is what the judge says.
 use Rattle.std.proofs.Common.{rules}
 use Rattle.thin_runner.proofs.steps.fn.Setting.dedup_by.dedup_by.Goals as goal
 

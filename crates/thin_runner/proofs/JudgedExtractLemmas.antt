@@ -1,4 +1,4 @@
--- Calls of `next` of an `ExtractIf` whose closure answers as a judge does.
+-- Calls of `next` of an `ExtractIf` whose closure decides as a judge does.
 use Rattle.std.proofs.Common.{◌≡◌, ℕ, zero, suc, ◌+◌, ◌-◌, ◌≤◌, ◌==◌, Bool, true, false, List, [], ◌∷◌, ◌++◌, Option, None, Some, length, take, drop, refl, arith, ap, subst, sym, ◌∙◌, append_assoc}
 use Rattle.std.proofs.Math.Dec.{eqb-suc-zero}
 use Rattle.std.proofs.lemmas.List.{append-nil, length-append, length-drop, length-map, length-take}
@@ -20,7 +20,7 @@ module _ {T : Type 0} where
   goes None = []
   goes (Some x) = (false, x) ∷ []
 
-  -- so many answers: the items, and then `None`
+  -- what so many calls return: the items, and then `None`
   abbrev pub handed_out : ℕ → List T → List (Option T)
   handed_out k xs = walked xs (replicate k Front)
 
@@ -102,7 +102,7 @@ module _ {S T J : Type 0} (R : S → T → Bool → S → T → Type 0) (judge_o
             ap (λ l. (true, e.2) ∷ l) (by m.0 m.1)
             ∙ sym (ap (λ l. stay l ++ (goes item ++ extracting ask (judge_of t) k rest)) m.2)
 
-    -- where no item is handed out, none is left to be asked about
+    -- where no item was yielded, none is left to be asked about
     rest-none : (s : S) (xs kept : List T) → ExtractsNext R s xs item t kept rest
         → item ≡ None → rest ≡ []
     rest-none s [] kept e none = e.3
@@ -115,7 +115,7 @@ module _ {S T J : Type 0} (R : S → T → Bool → S → T → Type 0) (judge_o
         answered true by m = let wrong = m.0 in absurd (none-some (sym none ∙ wrong))
         answered false by m = by m.0 m.1
 
-    -- the answer of this call, before those of the calls that are left
+    -- what this call returned, before what the calls that are left return
     pub handed-by : (s : S) (xs kept : List T) → ExtractsNext R s xs item t kept rest
         → handed_out (suc k) (left_at false (extracting ask (judge_of s) (suc k) xs))
         ≡ item ∷ handed_out k (left_at false (extracting ask (judge_of t) k rest))
@@ -151,7 +151,7 @@ pub record Stand (T : Type 0) : Type 0 where
   pub left : Answers T
   -- the items in front
   pub front : List T
-  -- how many were handed out
+  -- how many were yielded
   pub out : ℕ
   -- what was paid
   pub paid : Cost
@@ -239,7 +239,7 @@ module _ {T A : Type 0} (v w : Thin T A) (a b : ℕ) (asked : Answers T) where
     pub capacity : w.capacity ≡ v.capacity
     pub alloc : w.alloc ≡ v.alloc
 
-  -- so the definition's list and cost are those that the calls left
+  -- the list and its cost that the definition names are those that the calls left
   pub extracting-ends : (at : Stand T) (rest tail : List T)
       → IsExtracting asked (take a v.items) v.cost at → at.left ≡ stay rest → tail ≡ drop b v.items
       → IsLeft at rest tail → w ≡ sifted v (around v.items a b asked)
