@@ -33,13 +33,13 @@ module _ (change : Change) (n : ℕ) (text new : List ℕ) (fits : Fits change t
       let xs : List ℕ = change.characters.items in
       let front : take s ((take s text ++ xs) ++ drop e text) ≡ take s text =
       rw append_assoc (take_at (take s text) (xs ++ drop e text) s short) in
-      let behind : drop (s + n) ((take s text ++ xs) ++ drop e text) ≡ drop e text =
+      let last : drop (s + n) ((take s text ++ xs) ++ drop e text) ≡ drop e text =
       drop_at (take s text ++ xs) (drop e text) (s + n)
       (omega (arith, short, length-append (take s text) xs)) in
       let more : s + (e - s) ≡ e = omega (arith, fits.start_le_end) in
       let rest : drop (e - s) (drop s text) ≡ drop e text =
       drop-drop (e - s) s text ∙ ap (λ (k : ℕ). drop k text) more in
-      rw (made, is, front, behind, ← rest)
+      rw (made, is, front, last, ← rest)
       (sym (append_assoc (take s text) (take (e - s) (drop s text)) (drop (e - s) (drop s text))
       ∙ (ap (λ (l : List ℕ). take s text ++ l) (take-append-drop (e - s) (drop s text))
       ∙ take-append-drop s text)))

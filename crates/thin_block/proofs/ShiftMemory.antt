@@ -91,7 +91,7 @@ module _ (E : El) {M : Type 1} {𝓤 : Ura M} (𝓛 : Logic 𝓤) (b o : ℕ) (s
       ∙ (λ m. gap m ++ (ap (λ (i : ℕ). run i k slots) (sym apart) ∙ items) m) in
       let at : src ≡ length (empty {T = el_x E} d) * s + dst = further to d from s o turned
       ∙ ap (λ (m : ℕ). m * s + dst) (sym (empty-long d)) in
-      let behind : k * s + dst ≡ length (full xs) * s + dst =
+      let beyond : k * s + dst ≡ length (full xs) * s + dst =
       ap (λ (m : ℕ). m * s + dst) (sym full-long) in
       let long_new : length new ≡ n =
       omega (arith, length-append (full xs) (empty d), full-long, empty-long d) in
@@ -119,7 +119,7 @@ module _ (E : El) {M : Type 1} {𝓤 : Ura M} (𝓛 : Logic 𝓤) (b o : ℕ) (s
             (of_items E 𝓛 b k xs dst) $ move ! (1 ∷ []) $
             use1 𝓛 (‵ (Row (k * s + dst) (empty d))) (of_room E 𝓛 b d (k * s + dst)) $
             move ! (1 ∷ 0 ∷ []) $
-            use2 𝓛 (‵ (Row dst new)) (glue E 𝓛 b (full xs) (empty d) dst (k * s + dst) behind) $
+            use2 𝓛 (‵ (Row dst new)) (glue E 𝓛 b (full xs) (empty d) dst (k * s + dst) beyond) $
             use2 𝓛 (‵ (Row o (laid to new slots))) (run_in E 𝓛 b o slots to n le new long_new) $
             rewrite ! 0 (λ (l : S). ‵ (Row o l)) result refl $ done !;
       }
@@ -137,7 +137,7 @@ module _ (E : El) {M : Type 1} {𝓤 : Ura M} (𝓛 : Logic 𝓤) (b o : ℕ) (s
       let old : S = full xs ++ empty d in
       let new : S = empty d ++ full xs in
       let is : run from n slots ≡ old = run-split slots from k d ∙ (λ m. items m ++ gap m) in
-      let behind : k * s + src ≡ length (full xs) * s + src =
+      let beyond : k * s + src ≡ length (full xs) * s + src =
       ap (λ (m : ℕ). m * s + src) (sym full-long) in
       let at : dst ≡ length (empty {T = el_x E} d) * s + src = further from d to s o turned
       ∙ ap (λ (m : ℕ). m * s + src) (sym (empty-long d)) in
@@ -159,7 +159,7 @@ module _ (E : El) {M : Type 1} {𝓤 : Ura M} (𝓛 : Logic 𝓤) (b o : ℕ) (s
             (‵ (Row src old) ⊛ ‵ (around E 𝓛 b o slots from n))
             (run_out E 𝓛 b o slots from n le old is) $ split ! $
             use1 𝓛 (‵ (Row src (full xs)) ⊛ ‵ (Row (k * s + src) (empty d)))
-            (cut E 𝓛 b (full xs) (empty d) src (k * s + src) behind) $ split ! $
+            (cut E 𝓛 b (full xs) (empty d) src (k * s + src) beyond) $ split ! $
             use1 𝓛 (‵ (Items src)) (to_items E 𝓛 b k xs src long) $ move ! (1 ∷ []) $
             use1 𝓛 (‵ (Room d (k * s + src))) (to_room E 𝓛 b d (k * s + src)) $
             move ! (1 ∷ 0 ∷ []) $ fjoin ! $ done !;

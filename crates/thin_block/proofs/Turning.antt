@@ -190,8 +190,8 @@ module _ {M : Type 1} {𝓤 : Ura M} (𝓛 : Logic 𝓤) (E : El) (b : ℕ) wher
         use1 𝓛 (‵ (froom (units k) b o) ⊛ raw (wand 𝓤 (H.room (units k) b o) (H.room two b o)))
         (𝓛.laws.room_as two (units k) b o hd.room dv) $ split ! $ keep ! (0 ∷ []) $ done !
 
-    behind : past τ k o ≡ o + 16
-    behind = past_is τ k o ∙ ap (λ (n : ℕ). o + n) hd.room
+    beyond : past τ k o ≡ o + 16
+    beyond = past_is τ k o ∙ ap (λ (n : ℕ). o + n) hd.room
 
     module _ (c : ℕ) where
       abbrev block : Ty
@@ -204,14 +204,14 @@ module _ {M : Type 1} {𝓤 : Ura M} (𝓛 : Logic 𝓤) (E : El) (b : ℕ) wher
           use1 𝓛 (‵ (froom (units k) b o) ⊛ ‵ (froom (units c) b (past τ k o)))
           (room_cut 𝓛 τ k c b o) $ split ! $
           use1 𝓛 (‵ (froom word b o) ⊛ ‵ (froom word b (o + 8))) words_out $ split ! $
-          move ! (2 ∷ []) $ rewrite ! 0 (λ (n : ℕ). ‵ (froom (units c) b n)) behind refl $
+          move ! (2 ∷ []) $ rewrite ! 0 (λ (n : ℕ). ‵ (froom (units c) b n)) beyond refl $
           use1 𝓛 (‵ (froom (array_of (R E) c) b (o + 16))) (𝓛.laws.room-raw (units c) b (o + 16)) $
           keep ! (1 ∷ 2 ∷ 0 ∷ []) $ done !
 
       pub array_in : ent 𝓤 (sem 𝓛 (parts (R E) c b o)) (H.room block b o)
       array_in = qed 𝓛 (‵ (parts (R E) c b o) ∷ []) ∵ fsplit3 ! $ move ! (2 ∷ []) $
           use1 𝓛 (‵ (froom (units c) b (o + 16))) (𝓛.laws.raw-room (units c) b (o + 16)) $
-          rewrite ! 0 (λ (n : ℕ). ‵ (froom (units c) b n)) (sym behind) refl $
+          rewrite ! 0 (λ (n : ℕ). ‵ (froom (units c) b n)) (sym beyond) refl $
           move ! (1 ∷ 2 ∷ 0 ∷ []) $ use2 𝓛 (‵ (froom (units k) b o)) words_in $
           use2 𝓛 (‵ (froom (units (k + c)) b o)) (room_glue 𝓛 τ k c b o) $
           by ! (𝓛.laws.room-raw (units (k + c)) b o)

@@ -1,4 +1,4 @@
--- A closure that calls a judge answers as the judge does.
+-- A closure that calls a judge returns what the judge does.
 use Rattle.std.proofs.Common.{◌≡◌, Bool, true, List, [], ◌∷◌, sym, ap, ◌∙◌}
 use Rattle.thin_vec.specs.Filters.{Asked, IsRetained, left_at}
 use Rattle.thin_vec.specs.ThinVec.{Thin}

@@ -1,4 +1,4 @@
--- A closure that only looks at the items, and always answers true.
+-- A closure that only looks at the items, and always returns true.
 use Rattle.std.proofs.Common.{◌≡◌, Bool, true, List, [], ◌∷◌, ap, sym, ◌∙◌}
 use Rattle.std.proofs.lemmas.List.{append-nil}
 use Rattle.thin_vec.proofs.FiltersLemmas.{left_at-stay, moved_up-stay, moving-none}

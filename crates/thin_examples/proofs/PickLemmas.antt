@@ -1,4 +1,4 @@
--- Calls of `next` of an `ExtractIf` whose closure answers as a test does, and changes no item.
+-- Calls of `next` of an `ExtractIf` whose closure returns what a test does, and changes no item.
 use Rattle.std.proofs.Common.{◌≡◌, Bool, true, false, List, [], ◌∷◌, ◌++◌, Option, None, Some, ap, sym, ◌∙◌}
 use Rattle.std.specs.List.Retain.{ExtractsNext}
 use Rattle.std.specs.Option.{option_to_list}

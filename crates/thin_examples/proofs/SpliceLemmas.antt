@@ -4,7 +4,7 @@ use Rattle.std.specs.Iterator.Runs.{WholeRun}
 use Rattle.std.specs.Prelude.{OnOk}
 use Rattle.std.specs.declared.result.Result.{Result}
 
--- what a whole run gave stands between the items before and behind a range, under other names
+-- what a whole run gave stands between the items before and after a range, under other names
 pub run_between : {S T X E : Type 0} (steps : S → Option T → S → Type 0) (r : Result X E)
     (items : List T) {s s' : S} {front front' tail tail' : List T} → s ≡ s' → front ≡ front'
     → tail ≡ tail' → OnOk r (WholeRun steps s (λ p. items ≡ (front ++ p.items) ++ tail))

@@ -26,9 +26,9 @@ pub fn keep_distinct<A: Allocator, G: Growth>(list: &mut ThinVec<u32, A, G>)
     list.dedup();
 }
 
-/// Answers about items, from a state of its own.
+/// Says of items whether they stay, from a state of its own.
 pub trait Judge<T>: Copy {
-    /// What it answers, how it leaves the item, and its next state.
+    /// What it says, how it leaves the item, and its next state.
     ghost judges: { Self → T → Bool × (T × Self) };
 
     /// Whether the item stays. It may be written.
@@ -36,7 +36,7 @@ pub trait Judge<T>: Copy {
         ensures { judges self.old item.old ≡ (result, (item.new, self.new)) };
 }
 
-/// Keeps the items at which a copy of the judge answers true, as it left them.
+/// Keeps the items at which a copy of the judge returns true, as it left them.
 pub fn keep_judged<T: Copy, A: Allocator, G: Growth, J: Judge<T>>(
     list: &mut ThinVec<T, A, G>,
     judge: &J,

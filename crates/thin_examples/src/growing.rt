@@ -5,7 +5,7 @@ ghost use Rattle.thin_vec.specs.ThinVec.{HasRoomFor, IsCause, capacity_for};
 use std::alloc::{AllocError, Allocator};
 use thin_vec::{Growth, ThinVec, ThinVecError};
 
-/// A list of half of each number, in order, or `None` where it is refused.
+/// A list of half of each number, in order, or `None` where memory fails.
 pub fn halves<A: Allocator>(alloc: A, numbers: &[u32]) -> Option<ThinVec<u32, A>>
     ensures succeeds_empty { length numbers.now ≡ 0 → IsSome result }
     ensures items { IfSome result (λ list. list.items ≡ map (λ number. number / 2) numbers.now) }
@@ -36,8 +36,8 @@ pub fn extend_below<A: Allocator, G: Growth>(
     }
 }
 
-/// Room for eight numbers. So little is no overflow, as a lemma says: the only cause is that memory
-/// was refused.
+/// Room for eight numbers. So little is no overflow, as a lemma says: the only cause is that the
+/// allocator failed.
 #[tactic(auto, using(thin_vec::proofs::FewLemmas::few_items))]
 pub fn room_for_eight<A: Allocator>(alloc: A) -> Result<ThinVec<u64, A>, ThinVecError>
     ensures capacity { IfOk result (λ list. list.capacity ≡ 8) }
@@ -86,7 +86,7 @@ pub fn continued<A: Allocator, G: Growth>(
 }
 
 /// Appends the numbers, and returns how many went in after the old items: all, or those before the
-/// one that was refused.
+/// one that failed.
 pub fn extend_by_number<A: Allocator, G: Growth>(
     list: &mut ThinVec<u32, A, G>,
     numbers: &[u32],

@@ -40,7 +40,7 @@ pub fn drained_middle<T: Drop, A: Allocator, G: Growth>(list: &mut ThinVec<T, A,
 }
 
 /// Takes no item out after the last of six: nothing moves.
-pub fn drained_behind<T: Drop, A: Allocator, G: Growth>(list: &mut ThinVec<T, A, G>)
+pub fn drained_at_end<T: Drop, A: Allocator, G: Growth>(list: &mut ThinVec<T, A, G>)
     requires six { length list.old.items ≡ 6 }
     ensures items { list.new.items ≡ list.old.items }
     ensures no_move { list.new.cost ≡ list.old.cost }

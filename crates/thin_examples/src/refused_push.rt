@@ -1,11 +1,11 @@
-//! A refused push hands its value back.
+//! A push that fails returns its value.
 ghost use Rattle.std.specs.Prelude.{◌≡◌, [], ◌∷◌, ◌++◌, IfNone, IfSome, IsNone, OnSome};
 ghost use Rattle.thin_vec.specs.ThinVec.{HasRoomFor};
 
 use std::alloc::Allocator;
 use thin_vec::{Growth, ThinVec};
 
-/// Appends `value`, or hands it back where the push is refused: no value is lost.
+/// Appends `value`, or returns it where the push fails: no value is lost.
 pub fn push_or_return<T: Drop, A: Allocator, G: Growth>(
     list: &mut ThinVec<T, A, G>,
     value: T,

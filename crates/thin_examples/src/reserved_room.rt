@@ -1,11 +1,11 @@
-//! Two pushes into reserved room, which no allocator can refuse.
+//! Two pushes into reserved room, which can't fail.
 ghost use Rattle.std.specs.Prelude.{◌≡◌, ◌++◌, [], ◌∷◌, IfErr, IsErrOf, IsOk, None, OnErr, OnOk};
 ghost use Rattle.thin_vec.specs.ThinVec.{HasRoomFor, IsCause, capacity_for};
 
 use std::alloc::Allocator;
 use thin_vec::{Growth, ThinVec, ThinVecError};
 
-/// Appends both items, or neither. Memory is asked for once: no push into reserved room is refused.
+/// Appends both items, or neither. Memory is asked for once: no push into reserved room fails.
 pub fn push_both<T: Drop, A: Allocator, G: Growth>(
     list: &mut ThinVec<T, A, G>,
     first: T,

@@ -29,7 +29,7 @@ pub const ROWS: [u32; 35] = [
     30, 31, 32, 33, 34, 35, 36, 40, 41,
 ];
 
-/// What a row compared, or why a call of it was refused that is not to be.
+/// What a row compared, or why a call of it failed that is not to.
 pub type Outcome = Result<Checks, ThinVecError>;
 
 /// Does the row of that number. Where there is none, nothing is compared.

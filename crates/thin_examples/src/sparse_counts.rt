@@ -10,7 +10,7 @@ use thin_rows::Rows;
 use thin_vec::ThinVecError;
 
 /// A table for each day of the week. So few rows are no overflow, as a lemma says: the only cause
-/// is that memory was refused.
+/// is that the allocator failed.
 #[tactic(auto, using(thin_vec::proofs::FewLemmas::few_items))]
 pub fn for_a_week(alloc: Global) -> Result<Rows<u32>, ThinVecError>
     ensures table { IfOk result (λ counts. counts ≡ replicate 7 columns.empty) }

@@ -1,5 +1,5 @@
 //! The list where std's traits and errors are asked for: `collect`, and `?` in functions that
-//! answer them.
+//! return them.
 ghost use Rattle.std.specs.Prelude.{◌≡◌, ◌+◌, ◌*◌, ◌++◌, [], ◌∷◌, IfErr, IfOk, IsOk, OnOk, length, map, take};
 ghost use Rattle.std.specs.IoError.{error_kind};
 ghost use Rattle.thin_vec.specs.ThinVec.{HasRoomFor};
@@ -35,8 +35,7 @@ pub fn write_line<A: Allocator, G: Growth>(
     Ok(())
 }
 
-/// The numbers of `list`, and then `more`. What was placed is dropped with the rest where it is
-/// refused.
+/// The numbers of `list`, and then `more`. On failure what was placed is dropped with the rest.
 pub fn with_numbers<A: Allocator, G: Growth>(
     mut list: ThinVec<u32, A, G>,
     more: &[u32],

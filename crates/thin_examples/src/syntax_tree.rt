@@ -27,8 +27,8 @@ impl Node {
         }
     }
 
-    /// Appends `child`, which this node owns afterwards. Refused, it is handed back with all that
-    /// is below it.
+    /// Appends `child`, which this node owns afterwards. On failure it is returned with all that is
+    /// below it.
     pub fn add_child(&mut self, child: Node) -> Result<(), Rejected<Node>>
         ensures succeeds { HasRoomFor (children_of self.old) 1 → IsOk result }
         ensures kind { kind_of self.new ≡ kind_of self.old }

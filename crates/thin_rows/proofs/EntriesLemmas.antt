@@ -72,13 +72,13 @@ module _ {V : Type 0} where
 
   module _ (c : ℕ) where
     -- what is left of a place, or of a gap, after the first entry
-    place_behind : (e : ℕ × V) (entries : List (ℕ × V)) (at : ℕ)
+    place_after : (e : ℕ × V) (entries : List (ℕ × V)) (at : ℕ)
         → IsPlaceOf (e ∷ entries) c (suc at) → IsPlaceOf entries c at
-    place_behind e entries at p = record { in_bounds = omega (arith, p.in_bounds); same = p.same }
+    place_after e entries at p = record { in_bounds = omega (arith, p.in_bounds); same = p.same }
 
-    gap_behind : (e : ℕ × V) (entries : List (ℕ × V)) (at : ℕ) → IsGapFor (e ∷ entries) c (suc at)
+    gap_after : (e : ℕ × V) (entries : List (ℕ × V)) (at : ℕ) → IsGapFor (e ∷ entries) c (suc at)
         → IsGapFor entries c at
-    gap_behind e entries at g = record {
+    gap_after e entries at g = record {
       in_bounds = omega (arith, g.in_bounds);
       smaller = λ k d before. g.smaller (suc k) d (omega arith);
       greater = λ k d from inside. g.greater (suc k) d (omega arith) (omega arith);
@@ -98,7 +98,7 @@ module _ {V : Type 0} where
     find_at (e ∷ entries) (suc at) d h p = ap
         (λ o. cond (is_eq o) (Some e.1) (find nat_cmp c entries))
         (is_more c e.0 (before_place e entries at h p))
-        ∙ find_at entries at d (both_hold _ _ h).1 (place_behind e entries at p)
+        ∙ find_at entries at d (both_hold _ _ h).1 (place_after e entries at p)
 
     pub put_at : (entries : List (ℕ × V)) (at : ℕ) (v : V) → IsRising entries
         → IsPlaceOf entries c at → put nat_cmp c v entries ≡ set entries at (c, v)
@@ -111,7 +111,7 @@ module _ {V : Type 0} where
         ap (λ o. by_order o ((c, v) ∷ e ∷ entries) ((e.0, v) ∷ entries)
         (e ∷ put nat_cmp c v entries)) (is_more c e.0 (before_place e entries at h p))
         ∙ ap (λ rest. e ∷ rest) (put_at entries at v (both_hold _ _ h).1
-        (place_behind e entries at p))
+        (place_after e entries at p))
 
     all_stay : (entries : List (ℕ × V)) → ((k : ℕ) (d : ℕ × V) → k < length entries
         → column_at entries k d ≢ c) → where_key nat_cmp (stays c) entries ≡ entries
@@ -133,7 +133,7 @@ module _ {V : Type 0} where
         (λ o. cond (not (is_eq o)) (e ∷ where_key nat_cmp (stays c) entries)
         (where_key nat_cmp (stays c) entries)) (is_more c e.0 (before_place e entries at h p))
         ∙ ap (λ rest. e ∷ rest) (without_at entries at (both_hold _ _ h).1
-        (place_behind e entries at p))
+        (place_after e entries at p))
 
     pub find_gap : (entries : List (ℕ × V)) (at : ℕ) → IsGapFor entries c at
         → find nat_cmp c entries ≡ None
@@ -148,7 +148,7 @@ module _ {V : Type 0} where
     find_gap (e ∷ entries) (suc at) g =
         ap (λ o. cond (is_eq o) (Some e.1) (find nat_cmp c entries))
         (is_more c e.0 (g.smaller 0 e (omega arith)))
-        ∙ find_gap entries at (gap_behind e entries at g)
+        ∙ find_gap entries at (gap_after e entries at g)
 
     pub without_gap : (entries : List (ℕ × V)) (at : ℕ) → IsGapFor entries c at
         → where_key nat_cmp (stays c) entries ≡ entries
@@ -165,7 +165,7 @@ module _ {V : Type 0} where
     put_gap (e ∷ entries) (suc at) v g =
         ap (λ o. by_order o ((c, v) ∷ e ∷ entries) ((e.0, v) ∷ entries)
         (e ∷ put nat_cmp c v entries)) (is_more c e.0 (g.smaller 0 e (omega arith)))
-        ∙ ap (λ rest. e ∷ rest) (put_gap entries at v (gap_behind e entries at g))
+        ∙ ap (λ rest. e ∷ rest) (put_gap entries at v (gap_after e entries at g))
 
     -- what a binary search asks: the comparisons with c rise along the entries
     comparisons_rise : (entries : List (ℕ × V)) → IsRising entries

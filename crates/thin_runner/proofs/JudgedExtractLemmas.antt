@@ -33,9 +33,9 @@ module _ {T : Type 0} where
   gone-stay [] = refl
   gone-stay (x ∷ xs) = gone-stay xs
 
-  gone-behind : (xs : List T) (a : Answers T) → left_at false (stay xs ++ a) ≡ left_at false a
-  gone-behind [] a = refl
-  gone-behind (x ∷ xs) a = gone-behind xs a
+  gone-after : (xs : List T) (a : Answers T) → left_at false (stay xs ++ a) ≡ left_at false a
+  gone-after [] a = refl
+  gone-after (x ∷ xs) a = gone-after xs a
 
   none-some : {x : T} → None ≡ Some x → ⊥
   none-some e = cc
@@ -122,7 +122,7 @@ module _ {S T J : Type 0} (R : S → T → Bool → S → T → Type 0) (judge_o
     handed-by s xs kept e =
         ap (λ l. handed_out (suc k) (left_at false l)) (extracts-by s xs kept e)
         ∙ (ap (handed_out (suc k))
-        (gone-behind kept (goes item ++ extracting ask (judge_of t) k rest))
+        (gone-after kept (goes item ++ extracting ask (judge_of t) k rest))
         ∙ first item (rest-none s xs kept e))
       where
         first : (o : Option T) → (o ≡ None → rest ≡ [])
@@ -245,31 +245,31 @@ module _ {T A : Type 0} (v w : Thin T A) (a b : ℕ) (asked : Answers T) where
       → IsLeft at rest tail → w ≡ sifted v (around v.items a b asked)
   extracting-ends at rest tail h none same_tail left_is =
       let front = take a v.items in
-      let behind = stay rest ++ stay tail in
-      let all : around v.items a b asked ≡ stay front ++ (h.done ++ behind) =
+      let after = stay rest ++ stay tail in
+      let all : around v.items a b asked ≡ stay front ++ (h.done ++ after) =
       (λ i. stay front ++ ((h.split ∙ ap (λ l. h.done ++ l) none) i ++ stay (sym same_tail i)))
       ∙ ap (λ l. stay front ++ l) (append_assoc h.done (stay rest) (stay tail)) in
-      let ends : left_at true behind ≡ rest ++ tail =
+      let ends : left_at true after ≡ rest ++ tail =
       left_at-append (stay rest) (stay tail) ∙ (λ i. left_at-stay rest i ++ left_at-stay tail i) in
-      let left : left_at true (stay front ++ (h.done ++ behind)) ≡ front
+      let left : left_at true (stay front ++ (h.done ++ after)) ≡ front
       ++ (left_at true h.done ++ (rest ++ tail)) =
-      left_at-append (stay front) (h.done ++ behind)
+      left_at-append (stay front) (h.done ++ after)
       ∙ (λ i. left_at-stay front i
-      ++ (left_at-append h.done behind ∙ ap (λ l. left_at true h.done ++ l) ends) i) in
-      let still : moved_up (flags_of behind) ≡ 0 =
+      ++ (left_at-append h.done after ∙ ap (λ l. left_at true h.done ++ l) ends) i) in
+      let still : moved_up (flags_of after) ≡ 0 =
       moved_up-stay rest (stay tail)
       ∙ (ap (λ l. moved_up (flags_of l)) (sym (append-nil (stay tail))) ∙ moved_up-stay tail []) in
-      let moved : trues (flags_of behind) ≡ length rest + length tail =
+      let moved : trues (flags_of after) ≡ length rest + length tail =
       omega (arith, trues-append (stay rest) (stay tail), trues-stay rest, trues-stay tail) in
       let now = left_is.items
       ∙ (ap (λ l. l ++ (rest ++ tail)) h.front
       ∙ (append_assoc front (left_at true h.done) (rest ++ tail)
       ∙ sym (ap (left_at true) all ∙ left))) in
-      let count : moved_up (flags_of (h.done ++ behind))
+      let count : moved_up (flags_of (h.done ++ after))
       ≡ moved_up (flags_of (around v.items a b asked)) =
-      sym (ap (λ l. moved_up (flags_of l)) all ∙ moved_up-stay front (h.done ++ behind)) in
+      sym (ap (λ l. moved_up (flags_of l)) all ∙ moved_up-stay front (h.done ++ after)) in
       let paid = left_is.cost
-      ∙ (paid-next asked front v.cost at h behind (length rest + length tail) still moved
+      ∙ (paid-next asked front v.cost at h after (length rest + length tail) still moved
       ∙ ap (λ m. moving m v.cost) count) in
       λ i. record {
         items = now i;

@@ -10,7 +10,7 @@ use Rattle.thin_vec.specs.ThinVec.{Thin, cost_shrunk}
 use Rattle.thin_vec.proofs.ThinVecLemmas.{cost_at-moves}
 use Rattle.thin_runner.specs.Setting.{Setting}
 use Rattle.thin_runner.specs.Steps.{Steps}
-use Rattle.thin_runner.specs.commands.Edits.{Grows, edited}
+use Rattle.thin_runner.specs.commands.Items.{Grows, edited}
 use Rattle.thin_runner.specs.commands.Many.{RefusesClone}
 use Rattle.thin_runner.specs.commands.Splices.{Replaces, StopsBetween}
 use Rattle.thin_runner.specs.declared.hinted.Hinted.{Hinted}

@@ -18,7 +18,7 @@ use Rattle.thin_vec.specs.ThinVec.{Thin, capacity_for, cost_at}
 use Rattle.thin_vec.proofs.ThinVecLemmas.{cap-kept, cap-grown, cheap-regrown}
 use Rattle.thin_runner.specs.Setting.{Setting}
 use Rattle.thin_runner.specs.Steps.{Steps}
-use Rattle.thin_runner.specs.commands.Edits.{Grows}
+use Rattle.thin_runner.specs.commands.Items.{Grows}
 use Rattle.thin_runner.specs.commands.Many.{RefusesClone}
 use Rattle.thin_vec.specs.declared.ThinVecError.{ThinVecError}
 use Rattle.thin_runner.specs.Run.{KeepsCheap, Runs}

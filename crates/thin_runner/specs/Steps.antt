@@ -9,7 +9,7 @@ use Rattle.thin_vec.specs.Filters.{left_at}
 use Rattle.thin_vec.specs.ThinVec.{Thin, capacity_for, cost_shrunk, exact_for}
 use Rattle.thin_vec.specs.declared.ThinVecError.TheVariants.{OutOfMemory}
 use Rattle.thin_runner.specs.Setting.{Setting}
-use Rattle.thin_runner.specs.commands.Edits.{Grows, Refuses, at_capacity, edited}
+use Rattle.thin_runner.specs.commands.Items.{Grows, Refuses, at_capacity, edited}
 use Rattle.thin_runner.specs.commands.Filters.{answered, around, extracting, sifted}
 use Rattle.thin_runner.specs.commands.Many.{RefusesClone}
 use Rattle.thin_runner.specs.commands.Ranges.{walked}

@@ -1,5 +1,5 @@
 -- What the commands do: a file for each kind of them.
-pub mod Edits
+pub mod Items
 pub mod Room
 pub mod Many
 pub mod Filters

@@ -1,6 +1,6 @@
 //! What each command does: a function each.
-mod edits;
 mod filters;
+mod items;
 mod many;
 mod ranges;
 mod room;

@@ -7,7 +7,7 @@
 //! list gives its block back.
 //!
 //! A contract can't say what a cell holds, so none says which request is refused, or what
-//! `requests` and `blocks` answer: the tests show it. What is proved is that the blocks are those
+//! `requests` and `blocks` return: the tests show it. What is proved is that the blocks are those
 //! of `inner`, and go back to it.
 use std::alloc::{AllocError, Allocator};
 use std::cell::Cell;
@@ -71,7 +71,7 @@ impl<B: Allocator> Refusing<B> {
         self.counts.requests.get()
     }
 
-    /// How many blocks were handed out and not given back yet. `refuse` leaves it.
+    /// How many blocks are allocated and not freed yet. `refuse` leaves it.
     pub fn blocks(&self) -> u64 {
         self.counts.blocks.get()
     }

@@ -7,7 +7,7 @@ use Rattle.std.specs.Prelude.{MatchBool, cond, if◌then◌else◌, not, replica
 use Rattle.thin_block.specs.Cost.{Cost, moving}
 use Rattle.thin_vec.specs.Filters.{AskedLast, AskedPairs, Compares, IsDedupedBy, IsDedupedTo, moved_up, trues, unlike, unlike_from}
 use Rattle.thin_vec.specs.Open.{Open}
-use Rattle.thin_vec.specs.Pairs.{IsLastAsked, IsNextAsked, IsPairAskedAt, IsThinned, PairRuns, Thins}
+use Rattle.thin_vec.specs.Pairs.{IsLastAsked, IsNextAsked, IsPairAskedAt, IsDeduped, PairRuns, Dedups}
 use Rattle.thin_vec.specs.ThinVec.{Thin}
 use Rattle.thin_vec.proofs.FiltersLemmas.{cons-head, cons-not-nil, cons-tail, moving-more, moving-none, single}
 use Rattle.thin_vec.proofs.OpenBlockLemmas.{last-of}
@@ -54,10 +54,10 @@ map-answer true f g m = f m
 map-answer false f g m = g m
 
 -- a list of two and more, by its first and its last
-behind-first : {X : Type 0} (pre zs : List X) (k l : X) → pre ++ l ∷ [] ≡ k ∷ zs → 0 < length zs
+after-first : {X : Type 0} (pre zs : List X) (k l : X) → pre ++ l ∷ [] ≡ k ∷ zs → 0 < length zs
     → (p : List X) × (zs ≡ p ++ l ∷ []) × (pre ≡ k ∷ p)
-behind-first [] zs k l e some = let n = ap length e in absurd (omega (arith, n, some))
-behind-first (a ∷ p) zs k l e some = (p, sym (cons-tail e), ap (λ z. z ∷ p) (cons-head e))
+after-first [] zs k l e some = let n = ap length e in absurd (omega (arith, n, some))
+after-first (a ∷ p) zs k l e some = (p, sym (cons-tail e), ap (λ z. z ∷ p) (cons-head e))
 
 module _ {S T : Type 0} (R : OnPairs S T) where
   -- the last item kept is always there
@@ -100,7 +100,7 @@ module _ {S T : Type 0} (R : OnPairs S T) where
       map-answer h.0
           (λ p. last-append xs h.3 h.2 h.4 pre p)
           (λ q.
-          let c = behind-first pre q.0 h.2 l q.2 (last-some xs h.3 t h.1 h.4 q.0 q.1) in (
+          let c = after-first pre q.0 h.2 l q.2 (last-some xs h.3 t h.1 h.4 q.0 q.1) in (
             c.0 ++ ws,
             last-append xs h.3 h.1 h.4 c.0
                 (subst (λ (a : List T). AskedLast R h.3 h.1 xs h.4 a t) c.1 q.1),
@@ -115,13 +115,13 @@ module _ {S T : Type 0} (R : OnPairs S T) where
   pub record PairStays (m : ℕ) (s : S) (xs : List T) (t : S) (ys : List T) : Type 0 where
     pub first : T
     pub done : List T
-    pub behind : List T
+    pub after : List T
     pub pre : List T
     pub last : T
-    pub was : xs ≡ first ∷ (done ++ behind)
+    pub was : xs ≡ first ∷ (done ++ after)
     pub asked : AskedLast R s first done (all-stay (length pre)) (pre ++ last ∷ []) t
     pub kept : suc (length pre) ≡ m
-    pub now : ys ≡ pre ++ last ∷ behind
+    pub now : ys ≡ pre ++ last ∷ after
 
   -- before the first question the first item alone stays
   pub pair-start : (s : S) (xs : List T) → 0 < length xs → PairStays 1 s xs s xs
@@ -130,7 +130,7 @@ module _ {S T : Type 0} (R : OnPairs S T) where
       record {
         first = x;
         done = [];
-        behind = xs;
+        after = xs;
         pre = [];
         last = x;
         was = refl;
@@ -145,23 +145,23 @@ module _ {S T : Type 0} (R : OnPairs S T) where
         (a : IsPairAskedAt R m t ys b u zs) : Type 0 where
       pub front : a.before ≡ h.pre
       pub last : a.kept ≡ h.last
-      pub behind : h.behind ≡ a.later ∷ a.behind
+      pub after : h.after ≡ a.later ∷ a.after
 
     next-pair : (b : Bool) (u : S) (zs : List T) (a : IsPairAskedAt R m t ys b u zs)
         → NextPair b u zs a
     next-pair b u zs a =
-        let e : h.pre ++ h.last ∷ h.behind ≡ a.before ++ a.kept ∷ a.later ∷ a.behind = sym h.now
+        let e : h.pre ++ h.last ∷ h.after ≡ a.before ++ a.kept ∷ a.later ∷ a.after = sym h.now
         ∙ a.was in
         let n : length a.before ≡ length h.pre = omega (arith, a.place, h.kept) in
         let fronts : h.pre ≡ a.before =
-        sym (take_at h.pre (h.last ∷ h.behind) (length h.pre) refl)
+        sym (take_at h.pre (h.last ∷ h.after) (length h.pre) refl)
         ∙ (ap (take (length h.pre)) e
-        ∙ take_at a.before (a.kept ∷ a.later ∷ a.behind) (length h.pre) n) in
-        let rests : h.last ∷ h.behind ≡ a.kept ∷ a.later ∷ a.behind =
-        sym (drop_at h.pre (h.last ∷ h.behind) (length h.pre) refl)
+        ∙ take_at a.before (a.kept ∷ a.later ∷ a.after) (length h.pre) n) in
+        let rests : h.last ∷ h.after ≡ a.kept ∷ a.later ∷ a.after =
+        sym (drop_at h.pre (h.last ∷ h.after) (length h.pre) refl)
         ∙ (ap (drop (length h.pre)) e
-        ∙ drop_at a.before (a.kept ∷ a.later ∷ a.behind) (length h.pre) n) in
-        record { front = sym fronts; last = sym (cons-head rests); behind = cons-tail rests }
+        ∙ drop_at a.before (a.kept ∷ a.later ∷ a.after) (length h.pre) n) in
+        record { front = sym fronts; last = sym (cons-head rests); after = cons-tail rests }
 
     -- what was asked of the next item
     next-asked : (b : Bool) (u : S) (zs : List T) (a : IsPairAskedAt R m t ys b u zs)
@@ -170,17 +170,17 @@ module _ {S T : Type 0} (R : OnPairs S T) where
         (next-pair b u zs a).last a.asked
 
     next-was : (b : Bool) (u : S) (zs : List T) (a : IsPairAskedAt R m t ys b u zs)
-        → xs ≡ h.first ∷ ((h.done ++ a.later ∷ []) ++ a.behind)
+        → xs ≡ h.first ∷ ((h.done ++ a.later ∷ []) ++ a.after)
     next-was b u zs a = h.was ∙ ap (λ (l : List T). h.first ∷ l)
-        (ap (λ (l : List T). h.done ++ l) (next-pair b u zs a).behind
-        ∙ sym (append_assoc h.done (a.later ∷ []) a.behind))
+        (ap (λ (l : List T). h.done ++ l) (next-pair b u zs a).after
+        ∙ sym (append_assoc h.done (a.later ∷ []) a.after))
 
     next-now : (b : Bool) (u : S) (zs : List T) (a : IsPairAskedAt R m t ys b u zs)
-        → zs ≡ (h.pre ++ a.kept_left ∷ []) ++ a.later_left ∷ a.behind
+        → zs ≡ (h.pre ++ a.kept_left ∷ []) ++ a.later_left ∷ a.after
     next-now b u zs a =
-        a.now ∙ (ap (λ (l : List T). l ++ a.kept_left ∷ a.later_left ∷ a.behind)
+        a.now ∙ (ap (λ (l : List T). l ++ a.kept_left ∷ a.later_left ∷ a.after)
         (next-pair b u zs a).front
-        ∙ sym (append_assoc h.pre (a.kept_left ∷ []) (a.later_left ∷ a.behind)))
+        ∙ sym (append_assoc h.pre (a.kept_left ∷ []) (a.later_left ∷ a.after)))
 
     pub pair-more : (u : S) (zs : List T) → IsPairAskedAt R m t ys false u zs
         → PairStays (m + 1) s xs u zs
@@ -196,7 +196,7 @@ module _ {S T : Type 0} (R : OnPairs S T) where
         record {
           first = h.first;
           done = h.done ++ a.later ∷ [];
-          behind = a.behind;
+          after = a.after;
           pre = pre;
           last = a.later_left;
           was = next-was false u zs a;
@@ -215,7 +215,7 @@ module _ {S T : Type 0} (R : OnPairs S T) where
         record {
           first = h.first;
           done = h.done ++ a.later ∷ [];
-          behind = a.behind;
+          after = a.after;
           more = length h.pre;
           stays = all-stay (length h.pre) ++ false ∷ [];
           left = h.pre ++ a.kept_left ∷ [];
@@ -234,27 +234,27 @@ module _ {S T : Type 0} (R : OnPairs S T) where
 
   module _ (m : ℕ) (s : S) (xs : List T) (t : S) (ys : List T) (r : PairRuns R m s xs t ys) where
     pub run-left : take m ys ≡ r.left
-    run-left = ap (take m) r.now ∙ take_at r.left (r.over ++ r.behind) m r.long
+    run-left = ap (take m) r.now ∙ take_at r.left (r.over ++ r.after) m r.long
 
-    pub run-over : drop m ys ≡ r.over ++ r.behind
-    run-over = ap (drop m) r.now ∙ drop_at r.left (r.over ++ r.behind) m r.long
+    pub run-over : drop m ys ≡ r.over ++ r.after
+    run-over = ap (drop m) r.now ∙ drop_at r.left (r.over ++ r.after) m r.long
 
     -- the item after the run goes, or there is none
-    pub run-goes : (value : T) (rest : List T) → drop m ys ≡ value ∷ rest → (r.behind ≡ rest)
+    pub run-goes : (value : T) (rest : List T) → drop m ys ≡ value ∷ rest → (r.after ≡ rest)
         × (r.stays ≡ all-stay r.more ++ false ∷ [])
     run-goes value rest k =
         elim r.stops [
           | inl p ↦ let v = single r.over p.0 in
-              (cons-tail (ap (λ (l : List T). l ++ r.behind) (sym v.1) ∙ (sym run-over ∙ k)), p.1)
+              (cons-tail (ap (λ (l : List T). l ++ r.after) (sym v.1) ∙ (sym run-over ∙ k)), p.1)
           | inr q ↦ absurd (cons-not-nil (sym k ∙ (run-over ∙ (λ i. q.0 i ++ q.1.0 i))))
         ]
 
-    pub run-ends : drop m ys ≡ [] → (r.behind ≡ []) × (r.stays ≡ all-stay r.more)
+    pub run-ends : drop m ys ≡ [] → (r.after ≡ []) × (r.stays ≡ all-stay r.more)
     run-ends k =
         elim r.stops [
           | inl p ↦ let v = single r.over p.0 in
               absurd (cons-not-nil
-              (ap (λ (l : List T). l ++ r.behind) (sym v.1) ∙ (sym run-over ∙ k)))
+              (ap (λ (l : List T). l ++ r.after) (sym v.1) ∙ (sym run-over ∙ k)))
           | inr q ↦ (q.1.0, q.1.1)
         ]
 
@@ -277,11 +277,11 @@ module _ {S T : Type 0} (R : OnPairs S T) where
     moved e n = λ i. record v { front = e i; before = w.before; rest = w.rest; cost = n i }
 
     module _ (s t : S) where
-      thins-of : (before : List T) (first : T) (done : List T) (stays : List Bool) (kept : List T)
+      dedups-of : (before : List T) (first : T) (done : List T) (stays : List Bool) (kept : List T)
           → v.front ≡ before ++ first ∷ [] → v.rest ≡ done ++ w.rest
           → AskedLast R s first done stays kept t → 0 < w.before
-          → Moved (before ++ kept) (moving (trues stays) v.cost) → Thins R s v t w
-      thins-of before first done stays kept was rest asked gap now =
+          → Moved (before ++ kept) (moving (trues stays) v.cost) → Dedups R s v t w
+      dedups-of before first done stays kept was rest asked gap now =
           record {
             before = before;
             first = first;
@@ -296,20 +296,20 @@ module _ {S T : Type 0} (R : OnPairs S T) where
           }
 
     -- the next item goes
-    pub thins-goes : {s t : S} (x y : T) (front : List T)
+    pub dedups-goes : {s t : S} (x y : T) (front : List T)
         → IsLastAsked R s x v.front true t y front → v.rest ≡ x ∷ w.rest → 0 < w.before
-        → Moved front v.cost → Thins R s v t w
-    thins-goes {s} {t} x y front a rest gap now =
-        thins-of s t a.before a.kept (x ∷ []) (false ∷ []) (a.kept_left ∷ []) a.was rest
+        → Moved front v.cost → Dedups R s v t w
+    dedups-goes {s} {t} x y front a rest gap now =
+        dedups-of s t a.before a.kept (x ∷ []) (false ∷ []) (a.kept_left ∷ []) a.was rest
         (last-goes s t a.kept x y a.kept_left a.asked) gap
         (now ∙ moved (λ i. a.now i) (sym (moving-none v.cost)))
 
     -- the next item stays
-    pub thins-stays : {s t : S} (x y : T) (front : List T)
+    pub dedups-stays : {s t : S} (x y : T) (front : List T)
         → IsLastAsked R s x v.front false t y front → v.rest ≡ x ∷ w.rest
-        → 0 < w.before → Moved (front ++ y ∷ []) (moving 1 v.cost) → Thins R s v t w
-    thins-stays {s} {t} x y front a rest gap now =
-        thins-of s t a.before a.kept (x ∷ []) (true ∷ []) (a.kept_left ∷ y ∷ []) a.was rest
+        → 0 < w.before → Moved (front ++ y ∷ []) (moving 1 v.cost) → Dedups R s v t w
+    dedups-stays {s} {t} x y front a rest gap now =
+        dedups-of s t a.before a.kept (x ∷ []) (true ∷ []) (a.kept_left ∷ y ∷ []) a.was rest
         (last-stays s t a.kept x y a.kept_left a.asked) gap
         (now ∙ moved (ap (λ (l : List T). l ++ y ∷ []) a.now
         ∙ append_assoc a.before (a.kept_left ∷ []) (y ∷ [])) refl)
@@ -323,31 +323,31 @@ module _ {S T : Type 0} (R : OnPairs S T) where
           ∙ append_assoc a.before (a.kept_left ∷ []) (z ∷ [])
 
       -- the next item stays, and the one after it goes
-      pub thins-two : b ≡ true → (value : T) → zs ≡ value ∷ w.rest → 0 < w.before
-          → Moved (front ++ z ∷ []) (moving 1 v.cost) → Thins R s v u w
-      thins-two e value rest gap now =
+      pub dedups-two : b ≡ true → (value : T) → zs ≡ value ∷ w.rest → 0 < w.before
+          → Moved (front ++ z ∷ []) (moving 1 v.cost) → Dedups R s v u w
+      dedups-two e value rest gap now =
           let asked = last-append t u y (false ∷ []) (z ∷ []) (n.later ∷ [])
           (last-goes t u y n.later n.later_left z
           (subst (λ (q : Bool). R t n.later y q u n.later_left z) e n.asked))
           (x ∷ []) s a.kept (true ∷ []) (a.kept_left ∷ [])
           (last-stays s t a.kept x y a.kept_left a.asked) in
-          let same : n.behind ≡ w.rest = cons-tail (sym n.now ∙ rest) in
-          thins-of s u a.before a.kept (x ∷ n.later ∷ []) (true ∷ false ∷ []) (a.kept_left ∷ z ∷ [])
-          a.was (whole ∙ ap (λ (l : List T). x ∷ l)
+          let same : n.after ≡ w.rest = cons-tail (sym n.now ∙ rest) in
+          dedups-of s u a.before a.kept (x ∷ n.later ∷ []) (true ∷ false ∷ [])
+          (a.kept_left ∷ z ∷ []) a.was (whole ∙ ap (λ (l : List T). x ∷ l)
           (n.was ∙ ap (λ (l : List T). n.later ∷ l) same)) asked gap (now ∙ moved two-front refl)
 
       -- the next two items stay, with a run, and the one after the run goes
-      pub thins-run : b ≡ false → (m : ℕ) (q : S) (ws : List T) (r : PairRuns R m u zs q ws)
-          → r.behind ≡ w.rest → suc (trues r.stays) ≡ m
+      pub dedups-run : b ≡ false → (m : ℕ) (q : S) (ws : List T) (r : PairRuns R m u zs q ws)
+          → r.after ≡ w.rest → suc (trues r.stays) ≡ m
           → 0 < w.before → Moved ((front ++ z ∷ []) ++ take m ws) (moving m (moving 1 v.cost))
-          → Thins R s v q w
-      thins-run e m q ws r rest count gap now =
+          → Dedups R s v q w
+      dedups-run e m q ws r rest count gap now =
           let pair = last-append t u y (true ∷ []) (z ∷ n.later_left ∷ []) (n.later ∷ [])
           (last-stays t u y n.later n.later_left z
           (subst (λ (c : Bool). R t n.later y c u n.later_left z) e n.asked))
           (x ∷ []) s a.kept (true ∷ []) (a.kept_left ∷ [])
           (last-stays s t a.kept x y a.kept_left a.asked) in
-          let heads : n.later_left ∷ n.behind ≡ r.first ∷ (r.done ++ r.behind) = sym n.now
+          let heads : n.later_left ∷ n.after ≡ r.first ∷ (r.done ++ r.after) = sym n.now
           ∙ r.was in
           let from : AskedLast R u n.later_left r.done r.stays r.left q =
           subst (λ (k : T). AskedLast R u k r.done r.stays r.left q)
@@ -359,16 +359,16 @@ module _ {S T : Type 0} (R : OnPairs S T) where
           (n.was ∙ ap (λ (l : List T). n.later ∷ l)
           (cons-tail heads ∙ ap (λ (l : List T). r.done ++ l) rest)) in
           let paid : 1 + m ≡ suc (suc (trues r.stays)) = omega (arith, count) in
-          thins-of s q a.before a.kept (x ∷ n.later ∷ r.done) (true ∷ true ∷ r.stays)
+          dedups-of s q a.before a.kept (x ∷ n.later ∷ r.done) (true ∷ true ∷ r.stays)
           (a.kept_left ∷ z ∷ r.left) a.was all asked gap
           (now ∙ moved ((λ i. two-front i ++ run-left m u zs q ws r i)
           ∙ append_assoc a.before (a.kept_left ∷ z ∷ []) r.left)
           (moving-more m 1 v.cost ∙ ap (λ (k : ℕ). moving k v.cost) paid))
 
   -- nothing was asked yet; and one stretch after another
-  pub thins-start : {A : Type 0} (s : S) (v : Open T A) → 0 < length v.front
-      → 0 < v.before → Thins R s v s v
-  thins-start s v some gap =
+  pub dedups-start : {A : Type 0} (s : S) (v : Open T A) → 0 < length v.front
+      → 0 < v.before → Dedups R s v s v
+  dedups-start s v some gap =
       let p = last-of v.front some in
       record {
         before = p.0;
@@ -384,9 +384,9 @@ module _ {S T : Type 0} (R : OnPairs S T) where
       }
 
   -- one round after another
-  pub thins-then : {A : Type 0} {s t u : S} {v w z : Open T A} → Thins R s v t w
-      → Thins R t w u z → Thins R s v u z
-  thins-then {s = s} {t} {u} {v} {w} {z} h k =
+  pub dedups-then : {A : Type 0} {s t u : S} {v w z : Open T A} → Dedups R s v t w
+      → Dedups R t w u z → Dedups R s v u z
+  dedups-then {s = s} {t} {u} {v} {w} {z} h k =
       let p = last-of h.kept (last-some h.done s t h.first h.stays h.kept h.asked) in
       let e : (h.before ++ p.0) ++ p.1 ∷ [] ≡ k.before ++ k.first ∷ [] =
       append_assoc h.before p.0 (p.1 ∷ [])
@@ -426,9 +426,9 @@ module _ {S T : Type 0} (R : OnPairs S T) where
     RunPassed = Moved v w (take m ys) v.cost
 
     -- the item after the run goes, and then all others were asked about
-    pub thinned-goes : (value : T) (u : S) (z : Open T A) → RunPassed → drop m ys ≡ value ∷ w.rest
-        → Thins R t w u z → z.rest ≡ [] → IsThinned R s v u z
-    thinned-goes value u z p k h none =
+    pub deduped-goes : (value : T) (u : S) (z : Open T A) → RunPassed → drop m ys ≡ value ∷ w.rest
+        → Dedups R t w u z → z.rest ≡ [] → IsDeduped R s v u z
+    deduped-goes value u z p k h none =
         let g = run-goes m s v.rest t ys r value w.rest k in
         let here : w.front ≡ r.left = ap (λ x. x.front) p
         ∙ run-left m s v.rest t ys r in
@@ -437,7 +437,7 @@ module _ {S T : Type 0} (R : OnPairs S T) where
         (false ∷ []) h.stays in
         let up : moved_up (r.stays ++ h.stays) ≡ trues h.stays = ap moved_up flags
         ∙ moved-all r.more (false ∷ h.stays) in
-        let all : r.behind ≡ h.done = g.0
+        let all : r.after ≡ h.done = g.0
         ∙ (h.rest ∙ (ap (λ (l : List T). h.done ++ l) none ∙ append-nil h.done)) in
         let asked : AskedLast R s r.first (r.done ++ h.done) (r.stays ++ h.stays)
         (h.before ++ h.kept) u =
@@ -459,8 +459,8 @@ module _ {S T : Type 0} (R : OnPairs S T) where
         }
 
     -- all items stay
-    pub thinned-ends : RunPassed → drop m ys ≡ [] → w.rest ≡ [] → IsThinned R s v t w
-    thinned-ends p k none =
+    pub deduped-ends : RunPassed → drop m ys ≡ [] → w.rest ≡ [] → IsDeduped R s v t w
+    deduped-ends p k none =
         let g = run-ends m s v.rest t ys r k in
         let up : moved_up r.stays ≡ 0 = ap moved_up (g.1 ∙ sym (append-nil (all-stay r.more)))
         ∙ moved-all r.more [] in
@@ -504,7 +504,7 @@ module _ {J S T : Type 0} (R : OnPairs S T) (inside : J → S) where
   pairs-through [] s t f ys h = (h.0, h.1, ap inside h.2)
   pairs-through (x ∷ xs) s t f ys h = last-through xs s t x f ys h
 
-  -- a list that such a judge thinned is one that the closure thinned
+  -- a list that such a judge deduped is one that the closure deduped
   pub deduped-through : {A : Type 0} (s : J) (v w : Thin T A) (t : J) → IsDedupedTo through s v w t
       → IsDedupedBy R (inside s) v w
   deduped-through s v w t h = (

@@ -44,15 +44,15 @@ module _ {F T : Type 0} (R : F → T → Bool → F → T → Type 0) where
     J s x b t y = R (of s) x (not b) (of t) y
 
     -- the item that was picked from those after a run that stays
-    module _ (between : S) (behind : List T) (item : Option T) (t : F) (rest : List T)
-        (e : ExtractsNext R (of between) behind item t [] rest) where
-      picked-behind : (s : S) (run left : List T) → Asked J s run (stay left) between
-          → ExtractsNext R (of s) (run ++ behind) item t left rest
-      picked-behind s [] [] a =
-          subst (λ (q : S). ExtractsNext R (of q) behind item t [] rest) a.1 e
-      picked-behind s [] (y ∷ left) a = absurd (cons-not-nil a.0)
-      picked-behind s (x ∷ run) [] a = absurd (cons-not-nil (sym a.6))
-      picked-behind s (x ∷ run) (z ∷ left) a =
+    module _ (between : S) (after : List T) (item : Option T) (t : F) (rest : List T)
+        (e : ExtractsNext R (of between) after item t [] rest) where
+      picked-after : (s : S) (run left : List T) → Asked J s run (stay left) between
+          → ExtractsNext R (of s) (run ++ after) item t left rest
+      picked-after s [] [] a =
+          subst (λ (q : S). ExtractsNext R (of q) after item t [] rest) a.1 e
+      picked-after s [] (y ∷ left) a = absurd (cons-not-nil a.0)
+      picked-after s (x ∷ run) [] a = absurd (cons-not-nil (sym a.6))
+      picked-after s (x ∷ run) (z ∷ left) a =
           let h = cons-head a.6 in
           let answer : true ≡ a.0 = ap (λ (p : Bool × T). p.0) h in
           let as_left : z ≡ a.1 = ap (λ (p : Bool × T). p.1) h in
@@ -61,16 +61,16 @@ module _ {F T : Type 0} (R : F → T → Bool → F → T → Type 0) where
           (subst (λ (b : Bool). R (of s) x (not b) (of a.2) a.1) (sym answer) a.4) in
           let on : Asked J a.2 run (stay left) between =
           subst (λ (q : Answers T). Asked J a.2 run q between) (sym (cons-tail a.6)) a.5 in
-          (false, of a.2, z, called, (left, picked-behind a.2 run left on, refl))
+          (false, of a.2, z, called, (left, picked-after a.2 run left on, refl))
 
-    stops-at-end : (between t : S) (behind ys : List T) → Stops J between behind t ys → ys ≡ []
-        → ExtractsNext R (of between) behind None (of t) [] ys
+    stops-at-end : (between t : S) (after ys : List T) → Stops J between after t ys → ys ≡ []
+        → ExtractsNext R (of between) after None (of t) [] ys
     stops-at-end between t [] ys a none = (refl, ap of a.1, refl, none)
     stops-at-end between t (x ∷ xs) ys a none = absurd (cons-not-nil (sym a.2 ∙ none))
 
-    stops-at-item : (between t : S) (behind ys : List T) (v : T) (zs : List T)
-        → Stops J between behind t ys → ys ≡ v ∷ zs → ExtractsNext R (of between)
-        behind (Some v) (of t) [] zs
+    stops-at-item : (between t : S) (after ys : List T) (v : T) (zs : List T)
+        → Stops J between after t ys → ys ≡ v ∷ zs → ExtractsNext R (of between)
+        after (Some v) (of t) [] zs
     stops-at-item between t [] ys v zs a some = absurd (cons-not-nil (sym some ∙ a.0))
     stops-at-item between t (x ∷ xs) ys v zs a some =
         let same : v ∷ zs ≡ a.0 ∷ xs = sym some ∙ a.2 in
@@ -80,8 +80,8 @@ module _ {F T : Type 0} (R : F → T → Bool → F → T → Type 0) where
       none-before : h.before ≡ []
       none-before = nil_from_length h.before h.place
 
-      was : xs ≡ h.run ++ h.behind
-      was = h.was ∙ ap (λ (l : List T). l ++ (h.run ++ h.behind)) none-before
+      was : xs ≡ h.run ++ h.after
+      was = h.was ∙ ap (λ (l : List T). l ++ (h.run ++ h.after)) none-before
 
       now : ys ≡ h.left ++ h.end
       now = h.now ∙ ap (λ (l : List T). l ++ (h.left ++ h.end)) none-before
@@ -98,27 +98,27 @@ module _ {F T : Type 0} (R : F → T → Bool → F → T → Type 0) where
       pub picked-room : m ≤ length ys
       picked-room = omega (arith, reached, ap length now, length-append h.left h.end)
 
-      whole : (item : Option T) (rest : List T) → ExtractsNext R (of h.between) h.behind item (of t)
+      whole : (item : Option T) (rest : List T) → ExtractsNext R (of h.between) h.after item (of t)
           [] rest → ExtractsNext R (of s) xs item (of t) (take m ys) rest
       whole item rest e =
           subst (λ (l : List T). ExtractsNext R (of s) l item (of t) (take m ys) rest) (sym was)
-          (subst (λ (l : List T). ExtractsNext R (of s) (h.run ++ h.behind) item (of t) l rest)
+          (subst (λ (l : List T). ExtractsNext R (of s) (h.run ++ h.after) item (of t) l rest)
           (sym left-is)
-          (picked-behind h.between h.behind item (of t) rest e s h.run h.left h.asked))
+          (picked-after h.between h.after item (of t) rest e s h.run h.left h.asked))
 
       -- no item goes
       pub picked-none : drop m ys ≡ [] → ExtractsNext R (of s) xs None (of t)
           (take m ys) (drop m ys)
       picked-none none =
           whole None (drop m ys)
-          (subst (λ (l : List T). ExtractsNext R (of h.between) h.behind None (of t) [] l)
-          (sym end-is) (stops-at-end h.between t h.behind h.end h.stops (sym end-is ∙ none)))
+          (subst (λ (l : List T). ExtractsNext R (of h.between) h.after None (of t) [] l)
+          (sym end-is) (stops-at-end h.between t h.after h.end h.stops (sym end-is ∙ none)))
 
       -- the item v goes
       pub picked-some : (v : T) (zs : List T) → drop m ys ≡ v ∷ zs
           → ExtractsNext R (of s) xs (Some v) (of t) (take m ys) zs
       picked-some v zs some =
-          whole (Some v) zs (stops-at-item h.between t h.behind h.end v zs
+          whole (Some v) zs (stops-at-item h.between t h.after h.end v zs
           h.stops (sym end-is ∙ some))
 
 -- what some first items cost where there is a gap, by how many they are

@@ -302,9 +302,9 @@ module _ {T A : Type 0} where
       omega (arith, length-append (v.front ++ xs) v.tail, length-append v.front xs)
 
   -- with no tail, what lies in the gap lies after all
-  pub behind-items : (v : Open T A) (xs : List T) → v.tail ≡ []
+  pub after-items : (v : Open T A) (xs : List T) → v.tail ≡ []
       → (v.front ++ v.tail) ++ xs ≡ with_between v xs
-  behind-items v xs none =
+  after-items v xs none =
       (λ i. (v.front ++ none i) ++ xs)
       ∙ (ap (λ l. l ++ xs) (append-nil v.front)
       ∙ (sym (append-nil (v.front ++ xs)) ∙ (λ i. (v.front ++ xs) ++ sym none i)))

@@ -23,9 +23,9 @@ moving-none c = let e : c.moves + 0 ≡ c.moves = omega arith in
     λ i. record { blocks = c.blocks; grown = c.grown; moves = e i }
 
 -- where there is a gap, the moves are paid
-pub moving-behind : (gap k : ℕ) (c : Cost) → 0 < gap
+pub moving-after : (gap k : ℕ) (c : Cost) → 0 < gap
     → (if gap == 0 then c else moving k c) ≡ moving k c
-moving-behind gap k c some =
+moving-after gap k c some =
     ap (λ (b : Bool). if b then c else moving k c)
     (ne_eqb gap 0 (λ (e : gap ≡ 0). omega (arith, e)))
 
@@ -151,19 +151,19 @@ module _ {S T : Type 0} (R : S → T → Bool → S → T → Type 0) where
 
     -- where the next item stands
     next-parts : (b : Bool) (u : S) (zs : List T) (a : IsAskedAt R m t ys b u zs)
-        → (a.before ≡ asked-part) × (h.more ≡ a.item ∷ a.behind)
+        → (a.before ≡ asked-part) × (h.more ≡ a.item ∷ a.after)
     next-parts b u zs a =
-        let e : asked-part ++ h.more ≡ a.before ++ a.item ∷ a.behind = sym parted ∙ a.was in (
-          sym (take_at a.before (a.item ∷ a.behind) m a.place)
+        let e : asked-part ++ h.more ≡ a.before ++ a.item ∷ a.after = sym parted ∙ a.was in (
+          sym (take_at a.before (a.item ∷ a.after) m a.place)
               ∙ (ap (take m) (sym e) ∙ take_at asked-part h.more m long),
           sym (drop_at asked-part h.more m long)
-              ∙ (ap (drop m) e ∙ drop_at a.before (a.item ∷ a.behind) m a.place),
+              ∙ (ap (drop m) e ∙ drop_at a.before (a.item ∷ a.after) m a.place),
         )
 
     next-now : (b : Bool) (u : S) (zs : List T) (a : IsAskedAt R m t ys b u zs)
-        → zs ≡ h.before ++ (h.left ++ a.left ∷ a.behind)
-    next-now b u zs a = a.now ∙ (ap (λ (l : List T). l ++ a.left ∷ a.behind) (next-parts b u zs a).0
-        ∙ append_assoc h.before h.left (a.left ∷ a.behind))
+        → zs ≡ h.before ++ (h.left ++ a.left ∷ a.after)
+    next-now b u zs a = a.now ∙ (ap (λ (l : List T). l ++ a.left ∷ a.after) (next-parts b u zs a).0
+        ∙ append_assoc h.before h.left (a.left ∷ a.after))
 
     pub stays-more : (u : S) (zs : List T) → IsAskedAt R m t ys true u zs
         → Stays k (m + 1) s xs u zs
@@ -174,17 +174,17 @@ module _ {S T : Type 0} (R : S → T → Bool → S → T → Type 0) where
           before = h.before;
           run = h.run ++ a.item ∷ [];
           left = h.left ++ a.left ∷ [];
-          more = a.behind;
+          more = a.after;
           place = h.place;
           reached = omega (arith, h.reached, length-append h.left (a.left ∷ []));
           was = h.was ∙ ap (λ (l : List T). h.before ++ l)
               (ap (λ (l : List T). h.run ++ l) (next-parts true u zs a).1
-              ∙ sym (append_assoc h.run (a.item ∷ []) a.behind));
+              ∙ sym (append_assoc h.run (a.item ∷ []) a.after));
           asked = subst (λ (c : Answers T). Asked R s (h.run ++ a.item ∷ []) c u) joined
               (asked-append t u (a.item ∷ []) ((true, a.left) ∷ [])
               (asked-one t u a.item a.left true a.asked) h.run s (stay h.left) h.asked);
           now = next-now true u zs a ∙ ap (λ (l : List T). h.before ++ l)
-              (sym (append_assoc h.left (a.left ∷ []) a.behind));
+              (sym (append_assoc h.left (a.left ∷ []) a.after));
         }
 
     pub stays-goes : (u : S) (zs : List T) → IsAskedAt R m t ys false u zs → Runs R k m s xs u zs
@@ -193,8 +193,8 @@ module _ {S T : Type 0} (R : S → T → Bool → S → T → Type 0) where
           before = h.before;
           run = h.run;
           left = h.left;
-          behind = a.item ∷ a.behind;
-          end = a.left ∷ a.behind;
+          after = a.item ∷ a.after;
+          end = a.left ∷ a.after;
           between = t;
           place = h.place;
           reached = h.reached;
@@ -213,7 +213,7 @@ module _ {S T : Type 0} (R : S → T → Bool → S → T → Type 0) where
           before = h.before;
           run = h.run;
           left = h.left;
-          behind = [];
+          after = [];
           end = [];
           between = t;
           place = h.place;
@@ -232,8 +232,8 @@ module _ {S T : Type 0} (R : S → T → Bool → S → T → Type 0) where
         arith,
         ap length h.was,
         ap length h.now,
-        length-append h.before (h.item ∷ h.behind),
-        length-append h.before (h.left ∷ h.behind),
+        length-append h.before (h.item ∷ h.after),
+        length-append h.before (h.left ∷ h.after),
       )
 
   stay-count : (xs : List T) (s t : S) (ys : List T) → Asked R s xs (stay ys) t
@@ -257,12 +257,12 @@ module _ {S T : Type 0} (R : S → T → Bool → S → T → Type 0) where
         arith,
         ap length r.was,
         ap length r.now,
-        length-append r.before (r.run ++ r.behind),
-        length-append r.run r.behind,
+        length-append r.before (r.run ++ r.after),
+        length-append r.run r.after,
         length-append r.before (r.left ++ r.end),
         length-append r.left r.end,
         stay-count r.run s r.between r.left r.asked,
-        stop-count r.between r.behind t r.end r.stops,
+        stop-count r.between r.after t r.end r.stops,
       )
 
   -- one item stays
@@ -281,28 +281,28 @@ module _ {S T : Type 0} (R : S → T → Bool → S → T → Type 0) where
         → Stays 0 m s xs t ys → Runs R m n t ys u zs → Runs R 0 n s xs u zs
     runs-join s xs t ys u zs h r =
         let none = nil_from_length h.before h.place in
-        let same : h.left ++ h.more ≡ r.before ++ (r.run ++ r.behind) =
+        let same : h.left ++ h.more ≡ r.before ++ (r.run ++ r.after) =
         sym (h.now ∙ ap (λ (l : List T). l ++ (h.left ++ h.more)) none) ∙ r.was in
         let long : length h.left ≡ m = omega (arith, h.reached) in
         let first : r.before ≡ h.left =
-        sym (take_at r.before (r.run ++ r.behind) m r.place)
+        sym (take_at r.before (r.run ++ r.after) m r.place)
         ∙ (ap (take m) (sym same) ∙ take_at h.left h.more m long) in
-        let second : h.more ≡ r.run ++ r.behind =
+        let second : h.more ≡ r.run ++ r.after =
         sym (drop_at h.left h.more m long)
-        ∙ (ap (drop m) same ∙ drop_at r.before (r.run ++ r.behind) m r.place) in
+        ∙ (ap (drop m) same ∙ drop_at r.before (r.run ++ r.after) m r.place) in
         let joined : stay h.left ++ stay r.left ≡ stay (h.left ++ r.left) =
         sym (map-append (λ (x : T). (true, x)) h.left r.left) in
         record {
           before = [];
           run = h.run ++ r.run;
           left = h.left ++ r.left;
-          behind = r.behind;
+          after = r.after;
           end = r.end;
           between = r.between;
           place = refl;
           reached = omega (arith, length-append h.left r.left, long, r.reached);
           was = h.was ∙ (ap (λ (l : List T). l ++ (h.run ++ h.more)) none
-              ∙ (ap (λ (l : List T). h.run ++ l) second ∙ sym (append_assoc h.run r.run r.behind)));
+              ∙ (ap (λ (l : List T). h.run ++ l) second ∙ sym (append_assoc h.run r.run r.after)));
           asked = subst (λ (c : Answers T). Asked R s (h.run ++ r.run) c r.between) joined
               (asked-append t r.between r.run (stay r.left) r.asked h.run s (stay h.left) h.asked);
           stops = r.stops;
@@ -332,8 +332,8 @@ module _ {S T : Type 0} (R : S → T → Bool → S → T → Type 0) where
     run-now : ys ≡ r.left ++ r.end
     run-now = r.now ∙ ap (λ (l : List T). l ++ (r.left ++ r.end)) run-none
 
-    pub run-was : xs ≡ r.run ++ r.behind
-    run-was = r.was ∙ ap (λ (l : List T). l ++ (r.run ++ r.behind)) run-none
+    pub run-was : xs ≡ r.run ++ r.after
+    run-was = r.was ∙ ap (λ (l : List T). l ++ (r.run ++ r.after)) run-none
 
     pub run-kept : take m ys ≡ r.left
     run-kept = ap (take m) run-now ∙ take_at r.left r.end m run-long
@@ -354,7 +354,7 @@ module _ {S T : Type 0} (R : S → T → Bool → S → T → Type 0) where
 
     pub part-goes : (v : T) (rest : List T) → drop m ys ≡ v ∷ rest → Part m s xs t (take m ys) rest
     part-goes v rest k =
-        let g = stop-goes r.between r.behind r.end v rest r.stops (sym run-end ∙ k) in
+        let g = stop-goes r.between r.after r.end v rest r.stops (sym run-end ∙ k) in
         record {
           done = r.run ++ g.0 ∷ [];
           answers = stay r.left ++ (false, v) ∷ [];
@@ -381,7 +381,7 @@ module _ {S T : Type 0} (R : S → T → Bool → S → T → Type 0) where
 
     pub part-ends : drop m ys ≡ [] → Part m s xs t (take m ys) []
     part-ends k =
-        let g = stop-ends r.between r.behind r.end r.stops (sym run-end ∙ k) in
+        let g = stop-ends r.between r.after r.end r.stops (sym run-end ∙ k) in
         record {
           done = r.run;
           answers = stay r.left;
@@ -423,7 +423,7 @@ module _ {S T : Type 0} (R : S → T → Bool → S → T → Type 0) where
     kept = take h.count h.left
 
     moved : w.cost ≡ moving h.count v.cost
-    moved = ap (λ u. u.cost) h.now ∙ moving-behind v.before h.count v.cost gap
+    moved = ap (λ u. u.cost) h.now ∙ moving-after v.before h.count v.cost gap
 
     -- the first item that goes left w, and nothing else did: z is what is open then
     pub advanced-goes : (value : T) (z : Open T A) → w.rest ≡ value ∷ z.rest

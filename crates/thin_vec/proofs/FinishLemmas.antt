@@ -180,7 +180,7 @@ module _ {S T A : Type 0} {steps : S → Option T → S → Type 0} {can : S →
         → IsFinished steps can remaining rule R v a s w (Ok x)
     finished-ok x items taken named = record {
       succeeds = λ _. refl;
-      succeeds_behind = λ _ _. refl;
+      succeeds_at_end = λ _ _. refl;
       items = items;
       taken = taken;
       named = named;
@@ -216,7 +216,7 @@ module _ {S T A : Type 0} {steps : S → Option T → S → Type 0} {can : S →
         taken named
     finished-from {t} {u} {xs} (Err e) p some ends items placed cause err taken named = record {
       succeeds = λ few. ends (omega (arith, few, p.full, p.nearer));
-      succeeds_behind = λ none _. absurd (omega (arith, some, ap length none));
+      succeeds_at_end = λ none _. absurd (omega (arith, some, ap length none));
       items = tt;
       taken = taken;
       named = named;

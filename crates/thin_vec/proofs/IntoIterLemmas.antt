@@ -19,9 +19,9 @@ use Rattle.thin_vec.proofs.LendsLemmas.{over-front}
 use Rattle.thin_vec.proofs.ListLemmas.{from-same, full-same, get-some, items-empty, items-full, length-empty, length-full, slot-get}
 
 module _ {T : Type 0} where
-  items-behind : (k : ℕ) (s : List (Option T)) → items_in (empty k ++ s) ≡ items_in s
-  items-behind zero s = refl
-  items-behind (suc k) s = items-behind k s
+  items-after : (k : ℕ) (s : List (Option T)) → items_in (empty k ++ s) ≡ items_in s
+  items-after zero s = refl
+  items-after (suc k) s = items-after k s
 
   -- the first item leaves
   set-first : (start k : ℕ) (x : T) (xs : List T) → set (empty start ++ (full (x ∷ xs) ++ empty k))
@@ -72,10 +72,10 @@ module _ {T : Type 0} where
       all ys n same = ap (take n) (sym (append-nil ys)) ∙ take_at ys [] n (sym same)
 
   -- what is written over the items
-  over-behind : (start : ℕ) (s : List (Option T)) (ws : List T)
+  over-after : (start : ℕ) (s : List (Option T)) (ws : List T)
       → over (empty start ++ s) start ws ≡ empty start ++ over s 0 ws
-  over-behind zero s ws = refl
-  over-behind (suc start) s ws = ap (λ (r : List (Option T)). None ∷ r) (over-behind start s ws)
+  over-after zero s ws = refl
+  over-after (suc start) s ws = ap (λ (r : List (Option T)). None ∷ r) (over-after start s ws)
 
 module _ {T A : Type 0} where
   -- the block of an iterator whose items xs lie in the slots from `start` up to `end`, of c
@@ -88,24 +88,24 @@ module _ {T A : Type 0} where
       → b.slots ≡ empty start ++ (full xs ++ empty (c - end)) → start + length xs ≡ end → end ≤ c
       → IsFrom b a → Walking b a xs start end c
   walking b xs start end {c} e n h f =
-      let behind : List (Option T) = empty (c - end) in
+      let after : List (Option T) = empty (c - end) in
       let i : items_in b.slots ≡ xs =
-      ap items_in e ∙ (items-behind start (full xs ++ behind)
-      ∙ (items-full xs behind
+      ap items_in e ∙ (items-after start (full xs ++ after)
+      ∙ (items-full xs after
       ∙ (ap (λ (ys : List T). xs ++ ys) (items-empty (c - end)) ∙ append-nil xs))) in
       let l : length b.slots ≡ c =
       omega (
         arith,
         ap length e,
-        length-append (empty start) (full xs ++ behind),
-        length-append (full xs) behind,
+        length-append (empty start) (full xs ++ after),
+        length-append (full xs) after,
         length-empty T start,
         length-full xs,
         length-empty T (c - end),
       ) in
       record {
         walked = record {
-          row = e ∙ (ap (λ (ys : List T). empty start ++ (full ys ++ behind)) (sym i)
+          row = e ∙ (ap (λ (ys : List T). empty start ++ (full ys ++ after)) (sym i)
               ∙ ap (λ (q : ℕ). empty start ++ (full (items_in b.slots) ++ empty (q - end)))
               (sym l));
           len = ap (λ (ys : List T). start + length ys) i ∙ n;
@@ -120,13 +120,13 @@ module _ {T A : Type 0} where
       → IsWalked b a start end → end ≤ length b.slots
   walked-room b a start end t =
       let xs : List T = items_in b.slots in
-      let behind : List (Option T) = empty (length b.slots - end) in
+      let after : List (Option T) = empty (length b.slots - end) in
       omega (
         arith,
         t.len,
         ap length t.row,
-        length-append (empty start) (full xs ++ behind),
-        length-append (full xs) behind,
+        length-append (empty start) (full xs ++ after),
+        length-append (full xs) after,
         length-empty T start,
         length-full xs,
       )
@@ -136,11 +136,11 @@ module _ {T A : Type 0} where
       → i < end → IsSome (slot b.slots i)
   walked-filled b a start end i t low high =
       let xs : List T = items_in b.slots in
-      let behind : List (Option T) = empty (length b.slots - end) in
+      let after : List (Option T) = empty (length b.slots - end) in
       let within : i - start < length xs = omega (arith, t.len) in
       rw (ap (λ (s : List (Option T)). slot s i) t.row
-      ∙ (get_or-append_right (empty start) (full xs ++ behind) start i None (length-empty T start)
-      low ∙ slot-get xs behind (i - start) within))
+      ∙ (get_or-append_right (empty start) (full xs ++ after) start i None (length-empty T start)
+      low ∙ slot-get xs after (i - start) within))
       (get-some xs (i - start) within)
 
   -- the slots of the items, as a run
@@ -148,12 +148,12 @@ module _ {T A : Type 0} where
       → full ys ≡ slice_range b.slots start end → ys ≡ items_in b.slots
   walked-run b a start end ys t run =
       let xs : List T = items_in b.slots in
-      let behind : List (Option T) = empty (length b.slots - end) in
+      let after : List (Option T) = empty (length b.slots - end) in
       let count : length (full xs) ≡ end - start = omega (arith, t.len, length-full xs) in
       full-same ys xs (run ∙ (ap (λ (s : List (Option T)). slice_range s start end) t.row
       ∙ (ap (take (end - start))
-      (drop_at (empty start) (full xs ++ behind) start (length-empty T start))
-      ∙ take_at (full xs) behind (end - start) count)))
+      (drop_at (empty start) (full xs ++ after) start (length-empty T start))
+      ∙ take_at (full xs) after (end - start) count)))
 
   module _ (b b' : Block T A) (a : A) (start end : ℕ) (v : T) (t : IsWalked b a start end)
       (some : start < end) where
@@ -239,7 +239,7 @@ module _ {T A : Type 0} where
       let gap : ℕ = length b.slots - end in
       walking b' (refill (length xs) xs ws) start end
       (ap (λ v. v.slots) w ∙ (ap (λ (r : List (Option T)). over r start ws) t.row
-      ∙ (over-behind start (full xs ++ empty gap) ws
+      ∙ (over-after start (full xs ++ empty gap) ws
       ∙ ap (λ (r : List (Option T)). empty start ++ r) (over-front xs gap ws))))
       (omega (arith, t.len, length_refill (length xs) xs ws refl)) (walked-room b a start end t)
       (from-same b b' a t.from (ap (λ v. v.alloc) w))

@@ -5,7 +5,7 @@ mod CapacityLemmas
 pub mod ThinVecLemmas
 pub mod UndoLemmas
 pub mod FewLemmas
-mod EditsLemmas
+mod ItemsLemmas
 mod ClonesLemmas
 mod LendsLemmas
 mod TwoListsLemmas

@@ -13,7 +13,7 @@ use Rattle.thin_vec.specs.OpenBlock.{IsOpen, Shows, open_of}
 use Rattle.thin_vec.specs.Open.{Open, items_of, reach, row_of}
 use Rattle.thin_vec.specs.ThinVec.{IsThin}
 use Rattle.thin_vec.specs.declared.open_block.OpenBlock.TheInside.{Inside}
-use Rattle.thin_vec.proofs.EditsLemmas.{full-append}
+use Rattle.thin_vec.proofs.ItemsLemmas.{full-append}
 use Rattle.thin_vec.proofs.ListLemmas.{get-some, items-front, items-full-alone, length-empty, length-full, slot-get, thin-room}
 
 -- a list that is not empty, by its first item
@@ -61,34 +61,34 @@ module _ {T A : Type 0} where
   abbrev pub to_rest : Open T A → List (Option T)
   to_rest v = full v.front ++ empty v.before
 
-  abbrev to_behind : Open T A → List (Option T)
-  to_behind v = to_rest v ++ full v.rest
+  abbrev to_after : Open T A → List (Option T)
+  to_after v = to_rest v ++ full v.rest
 
   abbrev to_tail : Open T A → List (Option T)
-  to_tail v = to_behind v ++ empty v.behind
+  to_tail v = to_after v ++ empty v.after
 
   -- the row from the end of the tail on
   abbrev pub past_tail : Open T A → List (Option T)
   past_tail v = empty (v.capacity - reach v)
 
   -- the row from the gap before the tail on
-  abbrev pub past_behind : Open T A → List (Option T)
-  past_behind v = full v.tail ++ past_tail v
+  abbrev pub past_after : Open T A → List (Option T)
+  past_after v = full v.tail ++ past_tail v
 
   -- the row from the end of the middle run on
   abbrev pub past_rest : Open T A → List (Option T)
-  past_rest v = empty v.behind ++ past_behind v
+  past_rest v = empty v.after ++ past_after v
 
   module _ (h : Inside T A) (v : Open T A) (s : Shows h v) where
     pub by_rest : h.block.slots ≡ to_rest v ++ (full v.rest ++ past_rest v)
     by_rest = s.row ∙ sym
         (append_assoc (full v.front) (empty v.before) (full v.rest ++ past_rest v))
 
-    by_behind : h.block.slots ≡ to_behind v ++ past_rest v
-    by_behind = by_rest ∙ sym (append_assoc (to_rest v) (full v.rest) (past_rest v))
+    by_after : h.block.slots ≡ to_after v ++ past_rest v
+    by_after = by_rest ∙ sym (append_assoc (to_rest v) (full v.rest) (past_rest v))
 
-    by_tail : h.block.slots ≡ to_tail v ++ past_behind v
-    by_tail = by_behind ∙ sym (append_assoc (to_behind v) (empty v.behind) (past_behind v))
+    by_tail : h.block.slots ≡ to_tail v ++ past_after v
+    by_tail = by_after ∙ sym (append_assoc (to_after v) (empty v.after) (past_after v))
 
     -- how long the row up to each run is
     pub at_rest : length (to_rest v) ≡ h.rest_start
@@ -101,8 +101,8 @@ module _ {T A : Type 0} where
       s.before,
     )
 
-    at_behind : length (to_behind v) ≡ h.rest_end
-    at_behind = omega (
+    at_after : length (to_after v) ≡ h.rest_end
+    at_after = omega (
       arith,
       length-append (to_rest v) (full v.rest),
       at_rest,
@@ -113,14 +113,14 @@ module _ {T A : Type 0} where
     at_tail : length (to_tail v) ≡ h.tail_start
     at_tail = omega (
       arith,
-      length-append (to_behind v) (empty v.behind),
-      at_behind,
-      length-empty T v.behind,
-      s.behind,
+      length-append (to_after v) (empty v.after),
+      at_after,
+      length-empty T v.after,
+      s.after,
     )
 
     pub reached : reach v ≡ h.len
-    reached = omega (arith, s.front, s.before, s.rest, s.behind, s.tail)
+    reached = omega (arith, s.front, s.before, s.rest, s.after, s.tail)
 
     -- how many slots there are
     shown-cap : length h.block.slots ≡ v.capacity
@@ -128,7 +128,7 @@ module _ {T A : Type 0} where
         omega (
           arith,
           ap length by_tail,
-          length-append (to_tail v) (past_behind v),
+          length-append (to_tail v) (past_after v),
           at_tail,
           length-append (full v.tail) (past_tail v),
           length-full v.tail,
@@ -161,7 +161,7 @@ module _ {T A : Type 0} where
         let some : length v.tail + (v.capacity - reach v) - length v.tail ≡ v.capacity - reach v =
         omega arith in
         ap items_in (ap (drop h.tail_start) by_tail
-        ∙ (drop_at (to_tail v) (past_behind v) h.tail_start at_tail
+        ∙ (drop_at (to_tail v) (past_after v) h.tail_start at_tail
         ∙ ap (λ (k : ℕ). full v.tail ++ empty k) (sym some)))
         ∙ items-front v.tail (length v.tail + (v.capacity - reach v))
 
@@ -169,13 +169,13 @@ module _ {T A : Type 0} where
     pub found : h.block.alloc ≡ v.alloc → h.block.cost ≡ v.cost → Found h v
     found alloc cost =
         let before : h.rest_start - h.front_end ≡ v.before = omega (arith, s.before) in
-        let behind : h.tail_start - h.rest_end ≡ v.behind = omega (arith, s.behind) in
+        let after : h.tail_start - h.rest_end ≡ v.after = omega (arith, s.after) in
         let view : open_of h ≡ v =
         λ i. record {
           front = shown-front i;
           before = before i;
           rest = shown-rest i;
-          behind = behind i;
+          after = after i;
           tail = shown-tail i;
           capacity = shown-cap i;
           alloc =
@@ -233,7 +233,7 @@ module _ {T A : Type 0} where
       front = v.front;
       before = v.before + 1;
       rest = ys;
-      behind = v.behind;
+      after = v.after;
       tail = v.tail;
       capacity = v.capacity;
       alloc = v.alloc;
@@ -262,7 +262,7 @@ module _ {T A : Type 0} where
         ∙ (ap (λ (r : List (Option T)). full v.front ++ r)
         (empty-more v.before (full ys ++ past_rest v))
         ∙ ap (λ (k : ℕ). full v.front
-        ++ (empty (v.before + 1) ++ (full ys ++ (empty v.behind ++ (full v.tail ++ empty k)))))
+        ++ (empty (v.before + 1) ++ (full ys ++ (empty v.after ++ (full v.tail ++ empty k)))))
         reached')))) in
         let shows : Shows first-left (first-seen ys) =
         record {
@@ -270,7 +270,7 @@ module _ {T A : Type 0} where
           front = o.front;
           before = omega (arith, o.before);
           rest = omega (arith, o.rest, ap length parts.2);
-          behind = o.behind;
+          after = o.after;
           tail =
               o.tail;
           room = o.room;
@@ -297,7 +297,7 @@ module _ {T A : Type 0} where
       front = v.front;
       before = v.before;
       rest = ys;
-      behind = v.behind + 1;
+      after = v.after + 1;
       tail = v.tail;
       capacity = v.capacity;
       alloc = v.alloc;
@@ -333,7 +333,7 @@ module _ {T A : Type 0} where
         ∙ (ap (λ (r : List (Option T)). slot r (h.rest_end - 1)) (sym row) ∙ is)) in
         let reached' : v.capacity - reach v ≡ v.capacity - reach (last-seen ys) =
         omega (arith, longer) in
-        let more : suc v.behind ≡ v.behind + 1 = omega arith in
+        let more : suc v.after ≡ v.after + 1 = omega arith in
         let after : b.slots ≡ row_of (last-seen ys) =
         ap (λ (z : Seen T A). z.slots) now
         ∙ (ap (λ (r : List (Option T)). set r (h.rest_end - 1) None) row
@@ -341,9 +341,9 @@ module _ {T A : Type 0} where
         ∙ (append_assoc (to_rest v) (full ys) (None ∷ past_rest v)
         ∙ (append_assoc (full v.front) (empty v.before) (full ys ++ (None ∷ past_rest v))
         ∙ (ap (λ (k : ℕ). full v.front
-        ++ (empty v.before ++ (full ys ++ (empty k ++ past_behind v)))) more
+        ++ (empty v.before ++ (full ys ++ (empty k ++ past_after v)))) more
         ∙ ap (λ (k : ℕ). full v.front
-        ++ (empty v.before ++ (full ys ++ (empty (v.behind + 1) ++ (full v.tail ++ empty k)))))
+        ++ (empty v.before ++ (full ys ++ (empty (v.after + 1) ++ (full v.tail ++ empty k)))))
         reached'))))) in
         let shows : Shows last-left (last-seen ys) =
         record {
@@ -351,7 +351,7 @@ module _ {T A : Type 0} where
           front = o.front;
           before = o.before;
           rest = omega (arith, o.rest, longer);
-          behind = omega (arith, o.behind, o.rest, longer);
+          after = omega (arith, o.after, o.rest, longer);
           tail = o.tail;
           room = o.room;
         } in (
@@ -377,9 +377,9 @@ module _ {T A : Type 0} where
     joined-seen = let w : Open T A = open_of h in
         record {
           front = w.front;
-          before = w.before + w.behind;
+          before = w.before + w.after;
           rest = [];
-          behind = 0;
+          after = 0;
           tail = w.tail;
           capacity = w.capacity;
           alloc = w.alloc;
@@ -395,58 +395,58 @@ module _ {T A : Type 0} where
         o.row ∙ (ap (λ (r : List T). full w.front ++ (empty w.before ++ (full r ++ past_rest w)))
         none
         ∙ (ap (λ (r : List (Option T)). full w.front ++ r)
-        (sym (append_assoc (empty w.before) (empty w.behind) (past_behind w))
-        ∙ ap (λ (r : List (Option T)). r ++ past_behind w)
-        (replicate-append-replicate w.before w.behind None))
-        ∙ ap (λ (k : ℕ). full w.front ++ (empty (w.before + w.behind) ++ (full w.tail ++ empty k)))
+        (sym (append_assoc (empty w.before) (empty w.after) (past_after w))
+        ∙ ap (λ (r : List (Option T)). r ++ past_after w)
+        (replicate-append-replicate w.before w.after None))
+        ∙ ap (λ (k : ℕ). full w.front ++ (empty (w.before + w.after) ++ (full w.tail ++ empty k)))
         past)) in
         let shows : Shows joined joined-seen =
         record {
           row = after;
           front = o.front;
-          before = omega (arith, o.before, o.rest, o.behind, ap length none);
+          before = omega (arith, o.before, o.rest, o.after, ap length none);
           rest = omega arith;
-          behind = omega arith;
+          after = omega arith;
           tail = o.tail;
           room = o.room;
         } in
         found joined joined-seen shows refl refl
 
     -- the middle run and the tail as one run, where they lie side by side
-    abbrev all-behind : List T
-    all-behind = (open_of h).rest ++ (open_of h).tail
+    abbrev all-after : List T
+    all-after = (open_of h).rest ++ (open_of h).tail
 
-    side-by-side : (open_of h).behind ≡ 0 → h.block.slots ≡ full (open_of h).front
-        ++ (empty (open_of h).before ++ (full all-behind ++ past_tail (open_of h)))
+    side-by-side : (open_of h).after ≡ 0 → h.block.slots ≡ full (open_of h).front
+        ++ (empty (open_of h).before ++ (full all-after ++ past_tail (open_of h)))
     side-by-side none =
         let w : Open T A = open_of h in
         o.row ∙ (ap (λ (k : ℕ). full w.front
-        ++ (empty w.before ++ (full w.rest ++ (empty k ++ past_behind w)))) none
+        ++ (empty w.before ++ (full w.rest ++ (empty k ++ past_after w)))) none
         ∙ ap (λ (r : List (Option T)). full w.front ++ (empty w.before ++ r))
         (sym (append_assoc (full w.rest) (full w.tail) (past_tail w))
         ∙ ap (λ (r : List (Option T)). r ++ past_tail w) (sym (full-append w.rest w.tail))))
 
-    count-behind : (open_of h).behind ≡ 0 → length all-behind ≡ h.len - h.rest_start
-    count-behind none =
-        omega (arith, length-append (open_of h).rest (open_of h).tail, o.rest, o.behind, o.tail)
+    count-after : (open_of h).after ≡ 0 → length all-after ≡ h.len - h.rest_start
+    count-after none =
+        omega (arith, length-append (open_of h).rest (open_of h).tail, o.rest, o.after, o.tail)
 
-    pub behind-filled : (open_of h).behind ≡ 0 → (j : ℕ) → h.rest_start ≤ j → j < h.len
+    pub after-filled : (open_of h).after ≡ 0 → (j : ℕ) → h.rest_start ≤ j → j < h.len
         → IsSome (slot h.block.slots j)
-    behind-filled none j low high =
+    after-filled none j low high =
         let w : Open T A = open_of h in
         let pre : List (Option T) = full w.front ++ empty w.before in
         let start : length pre ≡ h.rest_start = at_rest h w o in
         rw (ap (λ (r : List (Option T)). slot r j)
         (side-by-side none
-        ∙ sym (append_assoc (full w.front) (empty w.before) (full all-behind ++ past_tail w))))
-        (slot-in-full pre all-behind (past_tail w) j (omega (arith, start))
-        (omega (arith, start, count-behind none)))
+        ∙ sym (append_assoc (full w.front) (empty w.before) (full all-after ++ past_tail w))))
+        (slot-in-full pre all-after (past_tail w) j (omega (arith, start))
+        (omega (arith, start, count-after none)))
 
-    count-all : length (items_of (open_of h)) ≡ h.front_end + length all-behind
-    count-all = omega (arith, length-append (open_of h).front all-behind, o.front)
+    count-all : length (items_of (open_of h)) ≡ h.front_end + length all-after
+    count-all = omega (arith, length-append (open_of h).front all-after, o.front)
 
     -- the middle run and the tail go to the front as one run
-    pub close-row : (open_of h).behind ≡ 0
+    pub close-row : (open_of h).after ≡ 0
         → moved h.rest_start h.front_end (h.len - h.rest_start) h.block.slots ≡ front
         (items_of (open_of h)) (length h.block.slots)
     close-row none =
@@ -456,27 +456,27 @@ module _ {T A : Type 0} where
           arith,
           count-all,
           reached h w o,
-          count-behind none,
+          count-after none,
           o.before,
           o.rest,
-          o.behind,
+          o.after,
           o.tail,
           o.room,
         ) in
         ap (moved h.rest_start h.front_end (h.len - h.rest_start)) (side-by-side none)
         ∙ (moved_left h.rest_start h.front_end (h.len - h.rest_start) w.before (full w.front)
-        (full all-behind)
+        (full all-after)
         (past_tail w) (sym (length-full w.front ∙ o.front)) (sym o.before)
-        (omega (arith, length-full all-behind, count-behind none))
-        ∙ (sym (append_assoc (full w.front) (full all-behind) (empty w.before ++ past_tail w))
+        (omega (arith, length-full all-after, count-after none))
+        ∙ (sym (append_assoc (full w.front) (full all-after) (empty w.before ++ past_tail w))
         ∙ (ap (λ (r : List (Option T)). r ++ (empty w.before ++ past_tail w))
-        (sym (full-append w.front all-behind))
+        (sym (full-append w.front all-after))
         ∙ ap (λ (r : List (Option T)). full (items_of w) ++ r)
         (replicate-append-replicate w.before (w.capacity - reach w) None
         ∙ ap (λ (k : ℕ). empty k) left))))
 
     -- the middle run and the tail are in front already where no empty slot lies before them
-    pub closed-row : (open_of h).behind ≡ 0 → h.front_end ≡ h.rest_start
+    pub closed-row : (open_of h).after ≡ 0 → h.front_end ≡ h.rest_start
         → h.block.slots ≡ front (items_of (open_of h)) (length h.block.slots)
     closed-row none here =
         let w : Open T A = open_of h in
@@ -486,17 +486,17 @@ module _ {T A : Type 0} where
           arith,
           count-all,
           reached h w o,
-          count-behind none,
+          count-after none,
           o.before,
           o.rest,
-          o.behind,
+          o.after,
           o.tail,
           o.room,
         ) in
         side-by-side none ∙ (ap
-        (λ (k : ℕ). full w.front ++ (empty k ++ (full all-behind ++ past_tail w))) no
-        ∙ (sym (append_assoc (full w.front) (full all-behind) (past_tail w))
-        ∙ (ap (λ (r : List (Option T)). r ++ past_tail w) (sym (full-append w.front all-behind))
+        (λ (k : ℕ). full w.front ++ (empty k ++ (full all-after ++ past_tail w))) no
+        ∙ (sym (append_assoc (full w.front) (full all-after) (past_tail w))
+        ∙ (ap (λ (r : List (Option T)). r ++ past_tail w) (sym (full-append w.front all-after))
         ∙ ap (λ (k : ℕ). full (items_of w) ++ empty k) left)))
 
   -- a list's block, before anything is done to it
@@ -519,7 +519,7 @@ module _ {T A : Type 0} where
           front = take start xs;
           before = 0;
           rest = slice_range xs start end;
-          behind = 0;
+          after = 0;
           tail = drop end xs;
           capacity = length b.slots;
           alloc = b.alloc;
@@ -553,7 +553,7 @@ module _ {T A : Type 0} where
           front = lf;
           before = omega arith;
           rest = omega (arith, lr);
-          behind = omega arith;
+          after = omega arith;
           tail = omega (arith, lz, all);
           room =
               omega (arith, all, thin-room b a t);
@@ -580,7 +580,7 @@ module _ {T A : Type 0} where
           front = v.front ++ xs;
           before = h.rest_start - end;
           rest = v.rest;
-          behind = v.behind;
+          after = v.after;
           tail = v.tail;
           capacity = v.capacity;
           alloc = b.alloc;
@@ -616,14 +616,14 @@ module _ {T A : Type 0} where
         (sym (full-append v.front xs))
         ∙ ap (λ (k : ℕ). full (v.front ++ xs)
         ++ (empty (h.rest_start - end)
-        ++ (full v.rest ++ (empty v.behind ++ (full v.tail ++ empty k))))) past)))) in
+        ++ (full v.rest ++ (empty v.after ++ (full v.tail ++ empty k))))) past)))) in
         let shows : Shows filled filled-seen =
         record {
           row = after;
           front = more;
           before = omega (arith, fits);
           rest = o.rest;
-          behind = o.behind;
+          after = o.after;
           tail = o.tail;
           room = o.room;
         } in
@@ -649,7 +649,7 @@ module _ {T A : Type 0} where
           front = v.front;
           before = v.before;
           rest = v.rest;
-          behind = v.behind + count;
+          after = v.after + count;
           tail = v.tail;
           capacity = v.capacity;
           alloc = b.alloc;
@@ -680,15 +680,15 @@ module _ {T A : Type 0} where
         omega (arith, room, reached h v o) in
         let turned : to_tail v ++ (empty count ++ (full v.tail ++ end)) ≡ full v.front
         ++ (empty v.before
-        ++ (full v.rest ++ (empty (v.behind + count) ++ (full v.tail ++ end)))) =
+        ++ (full v.rest ++ (empty (v.after + count) ++ (full v.tail ++ end)))) =
         let tail : List (Option T) = empty count ++ (full v.tail ++ end) in
-        append_assoc (to_behind v) (empty v.behind) tail
-        ∙ (append_assoc (to_rest v) (full v.rest) (empty v.behind ++ tail)
-        ∙ (append_assoc (full v.front) (empty v.before) (full v.rest ++ (empty v.behind ++ tail))
+        append_assoc (to_after v) (empty v.after) tail
+        ∙ (append_assoc (to_rest v) (full v.rest) (empty v.after ++ tail)
+        ∙ (append_assoc (full v.front) (empty v.before) (full v.rest ++ (empty v.after ++ tail))
         ∙ ap (λ (r : List (Option T)). full v.front ++ (empty v.before ++ (full v.rest ++ r)))
-        (sym (append_assoc (empty v.behind) (empty count) (full v.tail ++ end))
+        (sym (append_assoc (empty v.after) (empty count) (full v.tail ++ end))
         ∙ ap (λ (r : List (Option T)). r ++ (full v.tail ++ end))
-        (replicate-append-replicate v.behind count None)))) in
+        (replicate-append-replicate v.after count None)))) in
         let after : b.slots ≡ row_of widened-seen =
         now ∙ (ap (moved h.tail_start (h.tail_start + count) (h.len - h.tail_start)) spare
         ∙ (moved_right h.tail_start (h.tail_start + count) (h.len - h.tail_start) count
@@ -696,14 +696,14 @@ module _ {T A : Type 0} where
         (sym (at_tail h v o)) refl (sym k)
         ∙ (turned ∙ ap (λ (n : ℕ). full v.front
         ++ (empty v.before
-        ++ (full v.rest ++ (empty (v.behind + count) ++ (full v.tail ++ empty n))))) past))) in
+        ++ (full v.rest ++ (empty (v.after + count) ++ (full v.tail ++ empty n))))) past))) in
         let shows : Shows widened widened-seen =
         record {
           row = after;
           front = o.front;
           before = o.before;
           rest = o.rest;
-          behind = omega (arith, o.behind);
+          after = omega (arith, o.after);
           tail = omega (arith, o.tail);
           room = room;
         } in

@@ -212,7 +212,7 @@ module _ {T A : Type 0} where
         front = count ∙ o.front;
         before = o.before;
         rest = o.rest;
-        behind = o.behind;
+        after = o.after;
         tail = o.tail;
         room = o.room;
       } in
@@ -273,7 +273,7 @@ module _ {T A : Type 0} where
         front = omega (arith, longer, o.front);
         before = omega (arith, o.before, wide);
         rest = o.rest;
-        behind = o.behind;
+        after = o.after;
         tail =
             o.tail;
         room = o.room;

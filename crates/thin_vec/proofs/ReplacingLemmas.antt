@@ -14,7 +14,7 @@ use Rattle.thin_vec.specs.OpenBlock.{IsOpen, open_of}
 use Rattle.thin_vec.specs.Open.{Open, reach, row_of}
 use Rattle.thin_vec.specs.declared.open_block.OpenBlock.TheInside.{Inside}
 use Rattle.thin_vec.specs.Replacing.{MovesAtMost, ReplacesByClones}
-use Rattle.thin_vec.proofs.EditsLemmas.{full-append}
+use Rattle.thin_vec.proofs.ItemsLemmas.{full-append}
 use Rattle.thin_vec.proofs.FillingLemmas.{moving-add, moving-zero}
 use Rattle.thin_vec.proofs.OpenBlockLemmas.{Found, found, past_tail, reached}
 use Rattle.thin_vec.proofs.ListLemmas.{length-empty, length-full}
@@ -109,7 +109,7 @@ module _ {T A : Type 0} (h : Inside T A) (o : IsOpen h) (b : Block T A) (k : ℕ
     front = v.front ++ drop (length v.tail - k) v.tail;
     before = v.before - k;
     rest = v.rest;
-    behind = v.behind;
+    after = v.after;
     tail = take (length v.tail - k) v.tail;
     capacity = v.capacity;
     alloc = b.alloc;
@@ -129,14 +129,14 @@ module _ {T A : Type 0} (h : Inside T A) (o : IsOpen h) (b : Block T A) (k : ℕ
       let more : length (v.front ++ ys) ≡ h.front_end + k =
       omega (arith, length-append v.front ys, o.front, ly) in
       let mid : List (Option T) =
-      empty (v.before - k) ++ (full v.rest ++ (empty v.behind ++ full zs)) in
+      empty (v.before - k) ++ (full v.rest ++ (empty v.after ++ full zs)) in
       let spread : (r : List (Option T)) → mid ++ r ≡ empty (v.before - k)
-      ++ (full v.rest ++ (empty v.behind ++ (full zs ++ r))) =
-      λ r. append_assoc (empty (v.before - k)) (full v.rest ++ (empty v.behind ++ full zs)) r
+      ++ (full v.rest ++ (empty v.after ++ (full zs ++ r))) =
+      λ r. append_assoc (empty (v.before - k)) (full v.rest ++ (empty v.after ++ full zs)) r
       ∙ ap (λ (l : List (Option T)). empty (v.before - k) ++ l)
-      (append_assoc (full v.rest) (empty v.behind ++ full zs) r
+      (append_assoc (full v.rest) (empty v.after ++ full zs) r
       ∙ ap (λ (l : List (Option T)). full v.rest ++ l)
-      (append_assoc (empty v.behind) (full zs) r)) in
+      (append_assoc (empty v.after) (full zs) r)) in
       let tail : full v.tail ++ past ≡ full zs ++ (full ys ++ past) =
       ap (λ (l : List T). full l ++ past) (sym (take-append-drop m v.tail))
       ∙ (ap (λ (l : List (Option T)). l ++ past) (full-append zs ys)
@@ -151,26 +151,26 @@ module _ {T A : Type 0} (h : Inside T A) (o : IsOpen h) (b : Block T A) (k : ℕ
       let row : h.block.slots ≡ full v.front ++ (empty k ++ (mid ++ (full ys ++ past))) =
       o.row
       ∙ (ap (λ (l : List (Option T)). full v.front
-      ++ (empty v.before ++ (full v.rest ++ (empty v.behind ++ l)))) tail
+      ++ (empty v.before ++ (full v.rest ++ (empty v.after ++ l)))) tail
       ∙ (ap (λ (l : List (Option T)). full v.front ++ l)
-      (apart (full v.rest ++ (empty v.behind ++ (full zs ++ (full ys ++ past)))))
+      (apart (full v.rest ++ (empty v.after ++ (full zs ++ (full ys ++ past)))))
       ∙ ap (λ (l : List (Option T)). full v.front ++ (empty k ++ l))
       (sym (spread (full ys ++ past))))) in
       let from : h.len - k ≡ h.front_end + k + length mid =
       omega (
         arith,
-        length-append (empty {T = T} (v.before - k)) (full v.rest ++ (empty v.behind ++ full zs)),
-        length-append (full v.rest) (empty v.behind ++ full zs),
-        length-append (empty {T = T} v.behind) (full zs),
+        length-append (empty {T = T} (v.before - k)) (full v.rest ++ (empty v.after ++ full zs)),
+        length-append (full v.rest) (empty v.after ++ full zs),
+        length-append (empty {T = T} v.after) (full zs),
         length-empty T (v.before - k),
-        length-empty T v.behind,
+        length-empty T v.after,
         length-full v.rest,
         length-full zs,
         lz,
         o.front,
         o.before,
         o.rest,
-        o.behind,
+        o.after,
         o.tail,
         few,
         room,
@@ -194,13 +194,13 @@ module _ {T A : Type 0} (h : Inside T A) (o : IsOpen h) (b : Block T A) (k : ℕ
       after
       ∙ (ap (λ (l : List (Option T)). full v.front ++ (full ys ++ l)) (spread (empty k ++ past))
       ∙ (sym (append_assoc (full v.front) (full ys)
-      (empty (v.before - k) ++ (full v.rest ++ (empty v.behind ++ (full zs ++ (empty k ++ past))))))
+      (empty (v.before - k) ++ (full v.rest ++ (empty v.after ++ (full zs ++ (empty k ++ past))))))
       ∙ (ap (λ (l : List (Option T)). l
       ++ (empty (v.before - k)
-      ++ (full v.rest ++ (empty v.behind ++ (full zs ++ (empty k ++ past))))))
+      ++ (full v.rest ++ (empty v.after ++ (full zs ++ (empty k ++ past))))))
       (sym (full-append v.front ys))
       ∙ ap (λ (l : List (Option T)). full (v.front ++ ys)
-      ++ (empty (v.before - k) ++ (full v.rest ++ (empty v.behind ++ (full zs ++ l)))))
+      ++ (empty (v.before - k) ++ (full v.rest ++ (empty v.after ++ (full zs ++ l)))))
       (replicate-append-replicate k (v.capacity - reach v) None ∙ ap (λ (n : ℕ). empty n) left))))
       in
       found brought brought-seen
@@ -209,7 +209,7 @@ module _ {T A : Type 0} (h : Inside T A) (o : IsOpen h) (b : Block T A) (k : ℕ
         front = more;
         before = omega (arith, o.before, room);
         rest = o.rest;
-        behind = o.behind;
+        after = o.after;
         tail = omega (arith, o.tail, lz, few);
         room = omega (arith, o.room);
       }) refl refl

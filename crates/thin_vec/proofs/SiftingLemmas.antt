@@ -11,7 +11,7 @@ use Rattle.thin_block.proofs.SlotsLemmas.{moved_left}
 use Rattle.thin_vec.specs.OpenBlock.{IsOpen, Shows, open_of}
 use Rattle.thin_vec.specs.Open.{Open, reach, row_of}
 use Rattle.thin_vec.specs.declared.open_block.OpenBlock.TheInside.{Inside}
-use Rattle.thin_vec.proofs.EditsLemmas.{full-append}
+use Rattle.thin_vec.proofs.ItemsLemmas.{full-append}
 use Rattle.thin_block.proofs.Outcomes.{some-same}
 use Rattle.thin_vec.proofs.OpenBlockLemmas.{Found, at_rest, by_rest, empty-more, first-of, found, past_rest, to_rest}
 use Rattle.thin_vec.proofs.ListLemmas.{length-full}
@@ -37,7 +37,7 @@ module _ {T : Type 0} where
 
 module _ {T A : Type 0} where
   -- the row from the middle run on, where as many slots lie after it
-  pub same-past : (v w : Open T A) → w.behind ≡ v.behind → w.tail ≡ v.tail
+  pub same-past : (v w : Open T A) → w.after ≡ v.after → w.tail ≡ v.tail
       → v.capacity - reach v ≡ w.capacity - reach w → past_rest v ≡ past_rest w
   same-past v w b t n = λ i. empty (sym b i) ++ (full (sym t i) ++ empty (n i))
 
@@ -112,7 +112,7 @@ module _ {T A : Type 0} where
           front = o.front;
           before = o.before;
           rest = omega (arith, o.rest, count);
-          behind = o.behind;
+          after = o.after;
           tail = o.tail;
           room = o.room;
         }
@@ -172,7 +172,7 @@ module _ {T A : Type 0} where
           front = omega (arith, o.front, more);
           before = omega (arith, o.before);
           rest = omega (arith, o.rest, rest);
-          behind = o.behind;
+          after = o.after;
           tail = o.tail;
           room = o.room;
         })

@@ -7,7 +7,7 @@ use Rattle.thin_block.specs.declared.block.Block.{Block}
 use Rattle.thin_block.proofs.BlockLemmas.{slots-are}
 use Rattle.thin_block.proofs.SlotsLemmas.{laid-at, run-at}
 use Rattle.thin_vec.specs.ThinVec.{IsThin}
-use Rattle.thin_vec.proofs.EditsLemmas.{full-append}
+use Rattle.thin_vec.proofs.ItemsLemmas.{full-append}
 use Rattle.thin_vec.proofs.ListLemmas.{IsWritten, Settled, length-full, settle-front, thin-room}
 
 module _ {T : Type 0} where

@@ -65,4 +65,4 @@ module _ {T A : Type 0} where
 
   -- how many slots there are between the front and the tail
   abbrev pub range_len : Open T A → ℕ
-  range_len v = v.before + length v.rest + v.behind
+  range_len v = v.before + length v.rest + v.after

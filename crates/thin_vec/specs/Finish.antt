@@ -47,7 +47,7 @@ module _ {S T A : Type 0} (steps : S → Option T → S → Type 0) (can : S →
   pub record IsFinished (rule : Rule) (R : RattleType) (v : Open T A) (a : A) (s : S)
       (w : Thin T A) (result : Result (Unit {0}) (SpliceRefused T S A)) : Type 0 where
     pub succeeds : size (remaining s) ≤ v.before → IsOk result
-    pub succeeds_behind : v.tail ≡ [] → HasRoomFor (left_of v a) (size (remaining s)) → IsOk result
+    pub succeeds_at_end : v.tail ≡ [] → HasRoomFor (left_of v a) (size (remaining s)) → IsOk result
     pub items : OnOk result ((xs : List T) × Drains steps s xs × (w.items ≡ with_between v xs))
     pub taken : HasTaken rule R (left_of v a) w (2 * length v.tail) (remaining s)
     pub named : IsExtended rule R (left_of v a) w.capacity (length w.items) (remaining s)

@@ -13,7 +13,7 @@ pub record Open (T A : Type 0) : Type 0 where
   pub front : List T
   pub before : ℕ
   pub rest : List T
-  pub behind : ℕ
+  pub after : ℕ
   pub tail : List T
   pub capacity : ℕ
   pub alloc : Option A
@@ -27,12 +27,12 @@ open_code {T} {A} t a =
     (coded× coded_ℕ (coded× (coded_list t)
     (coded× coded_ℕ (coded× (coded_list t)
     (coded× coded_ℕ (coded× (coded_option a) cost_code)))))))
-    (λ v. (v.front, (v.before, (v.rest, (v.behind, (v.tail, (v.capacity, (v.alloc, v.cost))))))))
+    (λ v. (v.front, (v.before, (v.rest, (v.after, (v.tail, (v.capacity, (v.alloc, v.cost))))))))
     (λ p. record {
       front = p.0;
       before = p.1.0;
       rest = p.1.1.0;
-      behind = p.1.1.1.0;
+      after = p.1.1.1.0;
       tail = p.1.1.1.1.0;
       capacity = p.1.1.1.1.1.0;
       alloc = p.1.1.1.1.1.1.0;
@@ -43,7 +43,7 @@ open_code {T} {A} t a =
 module _ {T A : Type 0} where
   -- the slot of the first item of the tail
   abbrev pub tail_start : Open T A → ℕ
-  tail_start v = length v.front + v.before + length v.rest + v.behind
+  tail_start v = length v.front + v.before + length v.rest + v.after
 
   -- how many slots there are up to the last item
   abbrev pub reach : Open T A → ℕ
@@ -53,7 +53,7 @@ module _ {T A : Type 0} where
   abbrev pub row_of : Open T A → List (Option T)
   row_of v = full v.front
       ++ (empty v.before
-      ++ (full v.rest ++ (empty v.behind ++ (full v.tail ++ empty (v.capacity - reach v)))))
+      ++ (full v.rest ++ (empty v.after ++ (full v.tail ++ empty (v.capacity - reach v)))))
 
   -- the items, in order
   abbrev pub items_of : Open T A → List T
@@ -67,7 +67,7 @@ module _ {T A : Type 0} where
   -- what it has cost once the middle run is gone and the gap is closed: a move for each item of
   -- the tail, where there is a gap
   abbrev pub cost_drained : Open T A → Cost
-  cost_drained v = if v.before + length v.rest + v.behind == 0 then v.cost else
+  cost_drained v = if v.before + length v.rest + v.after == 0 then v.cost else
       moving (length v.tail) v.cost
 
 -- memory of this origin came from the allocator a, or there is none

@@ -12,7 +12,7 @@ module _ {T A : Type 0} where
         front = items_in (take h.front_end h.block.slots);
         before = h.rest_start - h.front_end;
         rest = items_in (slice_range h.block.slots h.rest_start h.rest_end);
-        behind = h.tail_start - h.rest_end;
+        after = h.tail_start - h.rest_end;
         tail = items_in (drop h.tail_start h.block.slots);
         capacity = length h.block.slots;
         alloc = h.block.alloc;
@@ -25,7 +25,7 @@ module _ {T A : Type 0} where
     pub front : length v.front ≡ h.front_end
     pub before : h.front_end + v.before ≡ h.rest_start
     pub rest : h.rest_start + length v.rest ≡ h.rest_end
-    pub behind : h.rest_end + v.behind ≡ h.tail_start
+    pub after : h.rest_end + v.after ≡ h.tail_start
     pub tail : h.tail_start + length v.tail ≡ h.len
     pub room : h.len ≤ v.capacity
 

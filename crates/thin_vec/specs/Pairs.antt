@@ -18,11 +18,11 @@ module _ {S T : Type 0} (R : S → T → T → Bool → S → T → T → Type 0
     pub later : T
     pub kept_left : T
     pub later_left : T
-    pub behind : List T
+    pub after : List T
     pub place : suc (length before) ≡ k
-    pub was : xs ≡ before ++ kept ∷ later ∷ behind
+    pub was : xs ≡ before ++ kept ∷ later ∷ after
     pub asked : R s later kept b t later_left kept_left
-    pub now : ys ≡ before ++ kept_left ∷ later_left ∷ behind
+    pub now : ys ≡ before ++ kept_left ∷ later_left ∷ after
 
   -- x was asked about beside the last item of xs: it is left as y, and ys is xs with that one as it
   -- was left
@@ -41,10 +41,10 @@ module _ {S T : Type 0} (R : S → T → T → Bool → S → T → T → Type 0
       (ys : List T) : Type 0 where
     pub later : T
     pub later_left : T
-    pub behind : List T
-    pub was : xs ≡ later ∷ behind
+    pub after : List T
+    pub was : xs ≡ later ∷ after
     pub asked : R s later k b t later_left l
-    pub now : ys ≡ later_left ∷ behind
+    pub now : ys ≡ later_left ∷ after
 
   -- the items in the slots i and i + 1 were asked about, the later beside the first: the slots hold
   -- them as they were left
@@ -65,22 +65,22 @@ module _ {S T : Type 0} (R : S → T → T → Bool → S → T → T → Type 0
   pub record PairRuns (m : ℕ) (s : S) (xs : List T) (t : S) (ys : List T) : Type 0 where
     pub first : T
     pub done : List T
-    pub behind : List T
+    pub after : List T
     pub more : ℕ
     pub stays : List Bool
     pub left : List T
     pub over : List T
-    pub was : xs ≡ first ∷ (done ++ behind)
+    pub was : xs ≡ first ∷ (done ++ after)
     pub asked : AskedLast R s first done stays left t
     pub kept : suc more ≡ m
     pub long : length left ≡ m
-    pub now : ys ≡ left ++ (over ++ behind)
+    pub now : ys ≡ left ++ (over ++ after)
     pub stops : ((length over ≡ 1) × (stays ≡ replicate more true ++ false ∷ []))
-        ⊎ ((over ≡ []) × ((behind ≡ []) × (stays ≡ replicate more true)))
+        ⊎ ((over ≡ []) × ((after ≡ []) × (stays ≡ replicate more true)))
 
   -- some first items of the middle run of v were asked about beside the last one kept, which was
   -- the last in front: w is what is open then. Those that stay went to the front, for a move each
-  pub record Thins {A : Type 0} (s : S) (v : Open T A) (t : S) (w : Open T A) : Type 0 where
+  pub record Dedups {A : Type 0} (s : S) (v : Open T A) (t : S) (w : Open T A) : Type 0 where
     pub before : List T
     pub first : T
     pub done : List T
@@ -99,7 +99,7 @@ module _ {S T : Type 0} (R : S → T → T → Bool → S → T → T → Type 0
 
   -- all items of the middle run of v were asked about, and none is left there: a move for each that
   -- stays and changes its place
-  pub record IsThinned {A : Type 0} (s : S) (v : Open T A) (t : S) (w : Open T A) : Type 0 where
+  pub record IsDeduped {A : Type 0} (s : S) (v : Open T A) (t : S) (w : Open T A) : Type 0 where
     pub stays : List Bool
     pub asked : AskedPairs R s v.rest stays w.front t
     pub now : w ≡ record v {

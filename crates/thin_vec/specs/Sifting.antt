@@ -12,11 +12,11 @@ module _ {S T : Type 0} (R : S → T → Bool → S → T → Type 0) where
     pub before : List T
     pub item : T
     pub left : T
-    pub behind : List T
+    pub after : List T
     pub place : length before ≡ k
-    pub was : xs ≡ before ++ item ∷ behind
+    pub was : xs ≡ before ++ item ∷ after
     pub asked : R s item b t left
-    pub now : ys ≡ before ++ left ∷ behind
+    pub now : ys ≡ before ++ left ∷ after
 
   -- nothing was left to ask about, or the next item was asked about and goes
   abbrev pub Stops : S → List T → S → List T → Type 0
@@ -29,14 +29,14 @@ module _ {S T : Type 0} (R : S → T → Bool → S → T → Type 0) where
     pub before : List T
     pub run : List T
     pub left : List T
-    pub behind : List T
+    pub after : List T
     pub end : List T
     pub between : S
     pub place : length before ≡ k
     pub reached : k + length left ≡ m
-    pub was : xs ≡ before ++ (run ++ behind)
+    pub was : xs ≡ before ++ (run ++ after)
     pub asked : Asked R s run (stay left) between
-    pub stops : Stops between behind t end
+    pub stops : Stops between after t end
     pub now : ys ≡ before ++ (left ++ end)
 
   -- items of the middle run of v were asked about, from the state s on, up to the first that goes

@@ -167,7 +167,7 @@ impl<T, A: Allocator, G: Growth> ThinVec<T, A, G> {
         ensures err { OnErr result (self.new ≡ self.old) }
         ensures within { IsWithin T.row self.old × IsWithin T.row self.new }
     {
-        match self.ruled_capacity(additional) {
+        match self.capacity_for(additional) {
             Some(next) => self.grow_to(next),
             None => Err(ThinVecError::CapacityOverflow),
         }
@@ -175,7 +175,7 @@ impl<T, A: Allocator, G: Growth> ThinVec<T, A, G> {
 
     // The ruled capacity. Every one is computed here.
     #[tactic(auto, using(thin_block::proofs::CapacityLemmas::ruled))]
-    fn ruled_capacity(&self, additional: usize) -> Option<usize>
+    fn capacity_for(&self, additional: usize) -> Option<usize>
         requires more { self.now.capacity < length self.now.items + additional }
         ensures value { result ≡ capacity_for G.rule T.row self.now additional }
         ensures grown { IfSome result

@@ -2,6 +2,7 @@
 //! item.
 ghost use Rattle.std.specs.Prelude.{◌≡◌, ◌⊎◌, ◌+◌, ◌<◌, ◌≤◌, [], ◌++◌, All, HoldsAt, IfErr, IfOk, IsErrOf, IsOk, None, OnErr, OnOk, Some, length, take};
 ghost use Rattle.std.specs.List.{AllZip, AppendsClones};
+ghost use Rattle.thin_block.specs.Capacity.{Fits};
 ghost use Rattle.thin_block.specs.Cost.{moving};
 ghost use Rattle.thin_vec.specs.Clones.{ClonesEqual, IsCloneRefused, StopsAtClone};
 
@@ -149,8 +150,33 @@ impl<T: Clone, A: Allocator, G: Growth> ThinVec<T, A, G> {
         ensures cheap { IfOk result (λ list. IsCheap list) }
         ensures within { IfOk result (λ list. IsWithin T.row list) }
     {
-        let mut list = ThinVec::with_fitting_capacity(alloc, self.len())?;
-        list.extend_from_slice_reserved(self.as_slice())?;
+        // The number of a list's items fits.
+        let _len = self.len();
+        ThinVec::from_fitting_slice(alloc, self.as_slice())
+    }
+
+    // A list of clones of `items`, whose number fits, with exactly that capacity.
+    pub(crate) fn from_fitting_slice(
+        alloc: A,
+        items: &[T],
+    ) -> Result<ThinVec<T, A, G>, ThinVecError>
+        requires fits { Fits T.row (length items.now) }
+        ensures succeeds_empty { length items.now ≡ 0 → IsOk result }
+        ensures cause { IfErr result (λ cause. cause ≡ ThinVecError.OutOfMemory) }
+        ensures items { IfOk result (λ list. AllZip T.is_clone items.now list.items) }
+        ensures items_if_clones_equal { IfOk result
+            (λ list. ClonesEqual T.is_clone → list.items ≡ items.now) }
+        ensures new { IfOk result (λ list. list ≡ record {
+          items = list.items;
+          capacity = length items.now;
+          alloc = alloc;
+          cost = moving (length items.now) (cost_new (length items.now));
+        }) }
+        ensures cheap { IfOk result (λ list. IsCheap list) }
+        ensures within { IfOk result (λ list. IsWithin T.row list) }
+    {
+        let mut list = ThinVec::with_fitting_capacity(alloc, items.len())?;
+        list.extend_from_slice_reserved(items)?;
         Ok(list)
     }
 

@@ -40,7 +40,7 @@ pub struct ExtractIf<
 pub struct Extracting<T, F, A: Allocator> {
     block: OpenBlock<T, A>,
     picks: Picks<F>,
-    ghost adjacent: { block.behind ≡ 0 },
+    ghost adjacent: { block.after ≡ 0 },
 }
 
 /// A closure that returns true for an item that goes.

@@ -9,8 +9,8 @@ ghost use Rattle.thin_vec.specs.Filling.{IsStopCause, Stopped};
 ghost use Rattle.thin_vec.specs.Finish.{HasTaken, IsFilled, IsFinished};
 ghost use Rattle.thin_vec.specs.ThinVec.{HasRoomFor};
 
+use crate::drawing::draw;
 use crate::errors::{ExtendRefused, SpliceRefused};
-use crate::holding::hold;
 use crate::list::ThinVec;
 use crate::open_block::OpenBlock;
 use crate::placing::{put_iter, put_vec};
@@ -68,7 +68,7 @@ impl<T, A: Allocator, G: Growth> ThinVec<T, A, G> {
     ) -> (usize, I, bool)
         requires empty { self.old.items ≡ [] }
         requires none { block.rest ≡ [] }
-        requires behind { block.behind ≡ 0 }
+        requires after { block.after ≡ 0 }
         requires from { IsOf block.alloc self.old.alloc }
         requires can_next { I.can_next iter }
         requires finite { IsFinite (I.remaining iter) }
@@ -109,7 +109,7 @@ impl<T: Drop, A: Allocator, G: Growth> ThinVec<T, A, G> {
             (length self.new.items) }
         ensures err { OnErr result (self.new ≡ self.old) }
     {
-        let (held, in_hand, rest) = hold(iter, alloc);
+        let (held, in_hand, rest) = draw(iter, alloc);
         if let Some(item) = in_hand {
             return Err(SpliceRefused {
                 cause: ThinVecError::OutOfMemory,
@@ -152,8 +152,8 @@ impl<T: Drop, A: Allocator, G: Growth> ThinVec<T, A, G> {
     }
 
     // Fills the gap with what `iter` yields, and makes room before the tail for what it yields
-    // beyond that: room for what its hint says, into which the tail moves up as one run, and once
-    // more for the rest.
+    // beyond that: room for what its hint says, where it says any, into which the tail moves up as
+    // one run, and once more for the rest.
     pub(crate) fn fill_between<I: Iterator<Item = T>>(
         &mut self,
         block: OpenBlock<T, A>,
@@ -163,7 +163,7 @@ impl<T: Drop, A: Allocator, G: Growth> ThinVec<T, A, G> {
         requires some { 0 < length block.tail }
         requires empty { self.old.items ≡ [] }
         requires none { block.rest ≡ [] }
-        requires behind { block.behind ≡ 0 }
+        requires after { block.after ≡ 0 }
         requires from { IsOf block.alloc self.old.alloc }
         requires can_next { I.can_next iter }
         requires finite { IsFinite (I.remaining iter) }
@@ -175,6 +175,9 @@ impl<T: Drop, A: Allocator, G: Growth> ThinVec<T, A, G> {
             return Ok(());
         }
         let hint = rest.size_hint().0;
+        if hint == 0 {
+            return self.insert_held(end, rest, alloc);
+        }
         if let Err(cause) = self.reserve(hint) {
             return Err(SpliceRefused {
                 cause,
@@ -193,7 +196,7 @@ impl<T: Drop, A: Allocator, G: Growth> ThinVec<T, A, G> {
 
     // Appends what `iter` yields to the items in front, as `extend` does: there are none after the
     // gap.
-    pub(crate) fn fill_behind<I: Iterator<Item = T>>(
+    pub(crate) fn fill_at_end<I: Iterator<Item = T>>(
         &mut self,
         block: OpenBlock<T, A>,
         iter: I,
@@ -203,7 +206,7 @@ impl<T: Drop, A: Allocator, G: Growth> ThinVec<T, A, G> {
         requires within { reach block ≤ block.capacity }
         requires empty { self.old.items ≡ [] }
         requires none { block.rest ≡ [] }
-        requires behind { block.behind ≡ 0 }
+        requires after { block.after ≡ 0 }
         requires from { IsOf block.alloc self.old.alloc }
         requires can_next { I.can_next iter }
         requires finite { IsFinite (I.remaining iter) }

@@ -104,7 +104,7 @@ impl<T: Drop, A: Allocator, G: Growth> ThinVec<T, A, G> {
             return;
         }
         let mut block = self.open(0, len);
-        block.thin_out(judge);
+        block.dedup_rest(judge);
         self.close(block);
     }
 

@@ -14,7 +14,7 @@ use crate::list::ThinVec;
 use crate::placing::put_vec;
 use std::alloc::Allocator;
 use std::boxed::BoxedSlice;
-use thin_block::ThinVecError;
+use thin_block::{ThinVecError, fits};
 
 impl<T, A: Allocator> ThinVec<T, A> {
     /// Makes a list of the array's items, with exactly that capacity. An empty array needs no
@@ -174,6 +174,7 @@ impl<T: Clone, A: Allocator> ThinVec<T, A> {
     ///
     /// It fails where that capacity does not fit, or the allocator or the clone of an item fails,
     /// and then the clones made before are dropped.
+    #[tactic(auto, using(thin_block::proofs::CapacityLemmas::exact))]
     pub fn from_slice(alloc: A, items: &[T]) -> Result<ThinVec<T, A>, ThinVecError>
         ensures succeeds_empty { length items.now ≡ 0 → IsOk result }
         ensures overflow { exact_capacity T.row 0 (length items.now) ≡ None
@@ -189,9 +190,10 @@ impl<T: Clone, A: Allocator> ThinVec<T, A> {
         ensures cheap { IfOk result (λ list. IsCheap list) }
         ensures within { IfOk result (λ list. IsWithin T.row list) }
     {
-        let mut list = ThinVec::with_capacity(alloc, items.len())?;
-        list.extend_from_slice_reserved(items)?;
-        Ok(list)
+        if !fits::<T>(items.len()) {
+            return Err(ThinVecError::CapacityOverflow);
+        }
+        ThinVec::from_fitting_slice(alloc, items)
     }
 }
 

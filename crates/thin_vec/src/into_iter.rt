@@ -193,8 +193,7 @@ impl<T: Clone, A: Allocator, G: Growth> IntoIter<T, A, G> {
     {
         // Their number fits, as the capacity does.
         let _room = self.block.cap();
-        let mut list = ThinVec::with_fitting_capacity(alloc, self.len())?;
-        list.extend_from_slice_reserved(self.as_slice())?;
+        let list = ThinVec::from_fitting_slice(alloc, self.as_slice())?;
         Ok(list.into_iter())
     }
 }

@@ -53,7 +53,7 @@ impl<T, A: Allocator, G: Growth> ThinVec<T, A, G> {
         ensures rest { result.rest ≡ slice_range self.old.items start end }
         ensures tail { result.tail ≡ drop end self.old.items }
         ensures before { result.before ≡ 0 }
-        ensures behind { result.behind ≡ 0 }
+        ensures after { result.after ≡ 0 }
         ensures other_capacity { result.capacity ≡ self.old.capacity }
         ensures from { IsOf result.alloc self.old.alloc }
         ensures other_cost { result.cost ≡ self.old.cost }
@@ -79,7 +79,7 @@ impl<T, A: Allocator, G: Growth> ThinVec<T, A, G> {
         ensures front { result.front ≡ take at self.old.items }
         ensures before { result.before ≡ count }
         ensures rest { result.rest ≡ [] }
-        ensures behind { result.behind ≡ 0 }
+        ensures after { result.after ≡ 0 }
         ensures tail { result.tail ≡ drop at self.old.items }
         ensures other_capacity { result.capacity ≡ self.old.capacity }
         ensures from { IsOf result.alloc self.old.alloc }
@@ -99,7 +99,7 @@ impl<T, A: Allocator, G: Growth> ThinVec<T, A, G> {
     // Closes the gap by one move of all items after it, and makes the block the list's again.
     pub(crate) fn close(&mut self, block: OpenBlock<T, A>)
         requires empty { self.old.items ≡ [] }
-        requires behind { block.behind ≡ 0 }
+        requires after { block.after ≡ 0 }
         requires from { IsOf block.alloc self.old.alloc }
         ensures changes { self.new ≡ record self.old {
           items = items_of block;
@@ -150,7 +150,7 @@ impl<T, A: Allocator> OpenBlock<T, A> {
         ensures rest { self.old.rest ≡ self.new.rest ++ result ∷ [] }
         ensures changes { self.new ≡ record self.old {
           rest = self.new.rest;
-          behind = self.old.behind
+          after = self.old.after
               + 1;
         } }
     {
@@ -184,7 +184,7 @@ impl<T, A: Allocator> OpenBlock<T, A> {
     pub(crate) fn join(&mut self)
         requires none { self.old.rest ≡ [] }
         ensures { self.new
-            ≡ record self.old { before = self.old.before + self.old.behind; behind = 0 } }
+            ≡ record self.old { before = self.old.before + self.old.after; after = 0 } }
     {
         self.rest_start = self.tail_start;
         self.rest_end = self.tail_start;
@@ -192,7 +192,7 @@ impl<T, A: Allocator> OpenBlock<T, A> {
 
     // The block once its items lie in front.
     fn into_closed(self) -> Block<T, A>
-        requires behind { self.behind ≡ 0 }
+        requires after { self.after ≡ 0 }
         ensures slots { result.slots ≡ front (items_of self) self.capacity }
         ensures len { result.len ≡ length (items_of self) }
         ensures in_bounds { length (items_of self) ≤ self.capacity }
@@ -221,7 +221,7 @@ impl<T, A: Allocator> OpenBlock<T, A> {
         requires some { 0 < count }
         requires room { reach self.old + count ≤ self.old.capacity }
         ensures { self.new ≡ record self.old {
-          behind = self.old.behind + count;
+          after = self.old.after + count;
           cost = moving (length self.old.tail) self.old.cost;
         } }
     {
@@ -236,9 +236,9 @@ impl<T: Drop, A: Allocator> OpenBlock<T, A> {
     // Drops what is left of the middle run, and counts all empty slots as one gap. Nothing moves.
     pub(crate) fn drop_rest(&mut self)
         ensures { self.new ≡ record self.old {
-          before = self.old.before + length self.old.rest + self.old.behind;
+          before = self.old.before + length self.old.rest + self.old.after;
           rest = [];
-          behind = 0;
+          after = 0;
         } }
     {
         while self.rest_len() > 0 {

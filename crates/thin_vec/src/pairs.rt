@@ -104,48 +104,48 @@ impl<T, A: Allocator> OpenBlock<T, A> {
 }
 
 impl<T: Drop, A: Allocator> OpenBlock<T, A> {
-    ghost use Rattle.thin_vec.specs.Pairs.{IsThinned, Thins};
+    ghost use Rattle.thin_vec.specs.Pairs.{IsDeduped, Dedups};
 
     // Keeps the first item of the middle run, asks about each other one beside the last one kept,
     // and drops those that go. None is left in the middle.
-    pub(crate) fn thin_out<J: AsksPairs<T>>(&mut self, judge: &mut J)
+    pub(crate) fn dedup_rest<J: AsksPairs<T>>(&mut self, judge: &mut J)
         requires some { 0 < length self.old.rest }
         requires front { self.old.front ≡ [] }
         requires none { self.old.before ≡ 0 }
         requires ready { J.ready judge.old }
-        ensures thinned { IsThinned J.asks judge.old self.old judge.new self.new }
+        ensures deduped { IsDeduped J.asks judge.old self.old judge.new self.new }
     {
         let kept = self.ask_pairs(judge);
         self.pass(kept);
         if self.rest_len() > 0 {
             drop(self.take_first());
-            self.thin_behind(judge);
+            self.dedup_past_gap(judge);
         }
     }
 
-    // `thin_out` of the items after the first that goes: there is a gap.
-    fn thin_behind<J: AsksPairs<T>>(&mut self, judge: &mut J)
+    // `dedup_rest` of the items after the first that goes: there is a gap.
+    fn dedup_past_gap<J: AsksPairs<T>>(&mut self, judge: &mut J)
         requires some { 0 < length self.old.front }
         requires gap { 0 < self.old.before }
         requires ready { J.ready judge.old }
-        ensures thins { Thins J.asks judge.old self.old judge.new self.new }
+        ensures dedups { Dedups J.asks judge.old self.old judge.new self.new }
         ensures rest { self.new.rest ≡ [] }
     {
         while self.has_two() {
-            self.thin_two(judge);
+            self.dedup_two(judge);
         }
-        self.thin_last(judge);
+        self.dedup_last(judge);
     }
 
     // Of two items and more, asks about the next one, and where it stays, about those after it up
     // to the first that goes. The first of them moves by itself: two items with empty slots between
     // them can't both be lent.
-    fn thin_two<J: AsksPairs<T>>(&mut self, judge: &mut J)
+    fn dedup_two<J: AsksPairs<T>>(&mut self, judge: &mut J)
         requires some { 0 < length self.old.front }
         requires two { 1 < length self.old.rest }
         requires gap { 0 < self.old.before }
         requires ready { J.ready judge.old }
-        ensures thins { Thins J.asks judge.old self.old judge.new self.new }
+        ensures dedups { Dedups J.asks judge.old self.old judge.new self.new }
         ensures some { 0 < length self.new.front }
         ensures less { length self.new.rest < length self.old.rest }
         ensures ready { J.ready judge.new }
@@ -169,12 +169,12 @@ impl<T: Drop, A: Allocator> OpenBlock<T, A> {
     }
 
     // Asks about the last item, where there is one.
-    fn thin_last<J: AsksPairs<T>>(&mut self, judge: &mut J)
+    fn dedup_last<J: AsksPairs<T>>(&mut self, judge: &mut J)
         requires some { 0 < length self.old.front }
         requires short { length self.old.rest ≤ 1 }
         requires gap { 0 < self.old.before }
         requires ready { J.ready judge.old }
-        ensures thins { Thins J.asks judge.old self.old judge.new self.new }
+        ensures dedups { Dedups J.asks judge.old self.old judge.new self.new }
         ensures rest { self.new.rest ≡ [] }
     {
         if self.rest_len() == 0 {

@@ -159,7 +159,7 @@ impl<T: Drop, A: Allocator, G: Growth> ThinVec<T, A, G> {
         ensures front { result.front ≡ take start self.old.items }
         ensures before { result.before ≡ end - start + (count - (end - start)) }
         ensures rest { result.rest ≡ [] }
-        ensures behind { result.behind ≡ 0 }
+        ensures after { result.after ≡ 0 }
         ensures tail { result.tail ≡ drop end self.old.items }
         ensures other_capacity { result.capacity ≡ self.old.capacity }
         ensures from { IsOf result.alloc self.old.alloc }

@@ -8,8 +8,8 @@ use std::alloc::Allocator;
 use std::mem;
 use thin_block::Block;
 
-// How many items are worth a call that moves them as one run.
-const FEW: usize = 8;
+// So many items, or more, are worth a call that moves them as one run.
+const MANY: usize = 8;
 
 /// What says of one item after another whether it stays, and may write to it.
 pub(crate) trait Asks<T> {
@@ -88,7 +88,7 @@ impl<T, A: Allocator> OpenBlock<T, A> {
             self.move_one_down();
             return;
         }
-        if k >= FEW {
+        if k >= MANY {
             self.move_run_down(k);
             return;
         }
@@ -158,7 +158,7 @@ impl<T, A: Allocator> OpenBlock<T, A> {
         ensures ready { J.ready judge.new }
     {
         if self.has_gap() {
-            return self.advance_behind(judge);
+            return self.advance_past_gap(judge);
         }
         let count = self.ask_run(0, judge);
         self.pass(count);
@@ -166,7 +166,7 @@ impl<T, A: Allocator> OpenBlock<T, A> {
     }
 
     // `advance` where there is a gap: the items before the first that goes move to the front.
-    fn advance_behind<J: Asks<T>>(&mut self, judge: &mut J) -> bool
+    fn advance_past_gap<J: Asks<T>>(&mut self, judge: &mut J) -> bool
         requires gap { 0 < self.old.before }
         requires ready { J.ready judge.old }
         ensures advances { Advances J.asks judge.old self.old judge.new self.new }
@@ -236,12 +236,12 @@ impl<T: Drop, A: Allocator> OpenBlock<T, A> {
         self.pass(first);
         if self.rest_len() > 0 {
             drop(self.take_first());
-            self.sift_behind(judge);
+            self.sift_past_gap(judge);
         }
     }
 
     // `sift` of the items after the first that goes: there is a gap.
-    fn sift_behind<J: Asks<T>>(&mut self, judge: &mut J)
+    fn sift_past_gap<J: Asks<T>>(&mut self, judge: &mut J)
         requires gap { 0 < self.old.before }
         requires ready { J.ready judge.old }
         ensures sifts { Sifts J.asks judge.old self.old judge.new self.new }

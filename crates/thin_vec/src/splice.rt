@@ -138,7 +138,7 @@ impl<
         requires finite { IsFinite (I.remaining (splice_iter self)) }
         ensures succeeds { size (I.remaining (splice_iter self.entry)) ≤ splice_range self.entry
             → IsOk result }
-        ensures succeeds_behind { (splice_block self.entry).tail ≡ []
+        ensures succeeds_at_end { (splice_block self.entry).tail ≡ []
             → HasRoomFor (splice_left self.entry) (size (I.remaining (splice_iter self.entry)))
             → IsOk result }
         ensures items { OnOk result ((xs : List T) × Drains I.next_gives (splice_iter self.entry) xs
@@ -190,7 +190,7 @@ impl<
         let answer = if block.has_tail() {
             list.fill_between(block, iter, alloc)
         } else {
-            list.fill_behind(block, iter, alloc)
+            list.fill_at_end(block, iter, alloc)
         };
         // A list knows of itself that its items are within its capacity, and that this fits.
         let _len = list.len();

@@ -42,7 +42,7 @@ pub fn row_24<A: Allocator + Copy>(alloc: A) -> Outcome {
     Ok(checks)
 }
 
-// What is refused hands back the items, of which none was asked for.
+// A call that fails returns the items, of which none was asked for.
 fn check_refused<A: Allocator>(checks: &mut Checks, refused: ExtendRefused<i32, Hinted<i32, A>>) {
     let ExtendRefused {
         cause,

@@ -7,7 +7,7 @@ use thin_runner::command::{Command, Reply, Step};
 use thin_runner::runner::run;
 use thin_vec::{ThinVec, ThinVecError};
 
-// Puts an item behind the others.
+// Puts an item after the others.
 fn put<T: Drop, A: Allocator>(items: &mut Vec<T, A>, item: T) -> Result<(), ThinVecError> {
     match items.push(item) {
         Ok(()) => Ok(()),

@@ -1,4 +1,4 @@
-//! Who answers the questions of the rows' commands.
+//! What decides for the rows' commands.
 ghost use Rattle.std.specs.Ordering.{int_eq};
 ghost use Rattle.std.specs.Prelude.{int_rem, pos};
 

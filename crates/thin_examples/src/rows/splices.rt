@@ -19,7 +19,7 @@ pub fn row_10<A: Allocator + Copy>(alloc: A) -> Outcome {
     Ok(checks)
 }
 
-// What is refused hands back the item for which there was no room, and holds none.
+// A call that fails returns the item for which there was no room, and holds none.
 fn check_refused<A: Allocator>(
     checks: &mut Checks,
     refused: SpliceRefused<i32, Hinted<i32, A>, A>,

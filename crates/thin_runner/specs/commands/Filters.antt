@@ -4,7 +4,7 @@ use Rattle.std.specs.Prelude.{ℕ, zero, suc, ◌==◌, List, [], ◌∷◌, ◌
 use Rattle.thin_vec.specs.Filters.{Answers, flags_of, left_at, moved_up, stay}
 use Rattle.thin_vec.specs.ThinVec.{Thin}
 use Rattle.thin_runner.specs.Setting.{Setting}
-use Rattle.thin_runner.specs.commands.Edits.{edited}
+use Rattle.thin_runner.specs.commands.Items.{edited}
 use Rattle.thin_runner.specs.declared.command.Command.{Command}
 use Rattle.thin_runner.specs.declared.command.Command.TheVariants.{Retain, RetainMut, Dedup, DedupBy, DedupByKey}
 

@@ -4,7 +4,7 @@ use Rattle.thin_vec.specs.ThinVec.{HasRoomFor, Thin, capacity_for}
 use Rattle.thin_vec.specs.declared.ThinVecError.{ThinVecError}
 use Rattle.thin_vec.specs.declared.ThinVecError.TheVariants.{CapacityOverflow}
 use Rattle.thin_runner.specs.Setting.{Setting}
-use Rattle.thin_runner.specs.commands.Edits.{Grows}
+use Rattle.thin_runner.specs.commands.Items.{Grows}
 
 module _ {T A J : Type 0} (here : Setting T A J) where
   -- making room for k items more fails, or the clone of one of the sources, and the items stay

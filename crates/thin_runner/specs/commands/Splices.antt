@@ -52,6 +52,6 @@ module _ {T A : Type 0} (rule : Rule) (R : RattleType) (old : Thin T A) (a b : �
         (at_most (rest.lower + length (into_iter_items rest.items))) cause
     pub ended : in_hand ≡ None → 0 < length held → into_iter_items rest.items ≡ []
     pub range : b < length old.items → b - a ≤ length placed
-    pub behind : b ≡ length old.items → (held ≡ [])
+    pub at_end : b ≡ length old.items → (held ≡ [])
         × (IsSome in_hand → length new.items ≡ new.capacity)
     pub unchanged : b ≡ length old.items → in_hand ≡ None → new ≡ cut old a b

@@ -1,4 +1,4 @@
-//! The calls that clone, also where a clone is refused.
+//! The calls that clone, also where a clone fails.
 use crate::tests::assertions::{assert_list, assert_same};
 use crate::tests::items::{boxes_of, push_all};
 use crate::tests::scarce::Scarce;
@@ -41,7 +41,7 @@ fn test_clone_from(rt: HostRuntime) {
     }
 }
 
-// Appends clones, and asserts the answer, and how many items there are then in 4 places.
+// Appends clones, and asserts what is returned, and how many items there are then in 4 places.
 fn extend_scarcely<'a>(
     rt: &impl Abort,
     list: &mut ThinVec<Scarce<'a>, Global>,

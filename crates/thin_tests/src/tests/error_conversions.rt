@@ -1,4 +1,4 @@
-//! `?` after a refused call: whatever error it becomes, each value that was handed back is dropped
+//! `?` after a failed call: whatever error it becomes, each value that was returned is dropped
 //! once.
 use crate::tests::assertions::assert_same;
 use crate::tests::counted::{Counted, counted_list};
@@ -28,7 +28,7 @@ fn assert_let_go<E: From<R> + Drop, R: Drop>(
 
 const CAUSE: ThinVecError = ThinVecError::OutOfMemory;
 
-// Passes a value on, and what a refused `extend` holds. The iterator counts its drop too.
+// Passes a value on, and what a failed `extend` holds. The iterator counts its drop too.
 fn let_one_go<'a, E>(rt: &impl Abort, drops: &'a Cell<u32>)
 where
     E: From<Rejected<Counted<'a>>> + From<ExtendRefused<Counted<'a>, Counted<'a>>> + Drop,
@@ -47,7 +47,7 @@ where
     assert_let_go::<E, _>(rt, drops, extend, 2);
 }
 
-// The same of what a refused `from_iter` and a refused `finish` hold.
+// The same of what a failed `from_iter` and a failed `finish` hold.
 fn let_many_go<'a, E>(rt: &impl Abort, alloc: Global, drops: &'a Cell<u32>)
 where
     E: From<CollectRefused<Counted<'a>, Counted<'a>>>

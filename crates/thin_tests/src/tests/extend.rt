@@ -1,4 +1,4 @@
-//! `extend` and `from_iter`: the Rust crate's own cases, and what a refusal hands back.
+//! `extend` and `from_iter`: the Rust crate's own cases, and what is returned on failure.
 use crate::tests::assertions::{assert_counts, assert_list, assert_same};
 use crate::tests::claims::Claims;
 use crate::tests::counted::Counted;

@@ -35,7 +35,7 @@ fn assert_numbered<T: Numbered, A: Allocator>(rt: &impl Abort, list: &ThinVec<T,
     }
 }
 
-// Tries to push, which is refused where there is no spare room, and leaves the list as it was.
+// Tries to push, which fails where there is no spare room, and leaves the list as it was.
 fn push_in_spare_room<T: Numbered, A: Allocator>(
     rt: &impl Abort,
     list: &mut ThinVec<T, A>,
@@ -52,7 +52,7 @@ fn push_in_spare_room<T: Numbered, A: Allocator>(
     is_in
 }
 
-// Makes a list by 600 pushes, each growth refused first.
+// Makes a list by 600 pushes, each growth failing first.
 fn assert_pushes<T: Numbered>(rt: &impl Abort, refusing: &'static Refusing<Global>) {
     let mut list = ThinVec::<T, &'static Refusing<Global>>::new(refusing);
     for number in 0..600 {

@@ -5,7 +5,7 @@ use std::alloc::Allocator;
 use std::process::Abort;
 use thin_vec::{ThinVec, ThinVecError};
 
-// Pushes, which is refused, and asserts what is handed back.
+// Pushes, which fails, and asserts what is returned.
 fn assert_push_refused<A: Allocator>(rt: &impl Abort, list: &mut ThinVec<i32, A>, item: i32) {
     let refused = list.push(item).err().expect(rt, "accepted");
     let wanted = (item, ThinVecError::OutOfMemory);

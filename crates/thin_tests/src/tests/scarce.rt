@@ -3,7 +3,7 @@ use crate::tests::counted::Counted;
 use std::alloc::AllocError;
 use std::cell::Cell;
 
-/// It counts its drops in the one cell. Each of its clones takes 1 from the other, and is refused
+/// It counts its drops in the one cell. Each of its clones takes 1 from the other, and fails
 /// at 0.
 #[derive(Drop)]
 pub struct Scarce<'a> {

@@ -1,4 +1,4 @@
-//! `splice`: what a program may promise of it, and what `finish` leaves, wherever it is refused.
+//! `splice`: what a program may promise of it, and what `finish` leaves, wherever it fails.
 ghost use Rattle.std.specs.Prelude.{◌≡◌, ◌≤◌, ◌++◌, OnOk, drop, length, take};
 
 use crate::tests::assertions::{assert_items, assert_len, assert_list, assert_same};
@@ -64,7 +64,7 @@ fn a_splice_is_undone(rt: HostRuntime) {
     }
 }
 
-// What a refused `finish` hands back: the cause, what is held, what is in hand, and what the rest
+// What a failed `finish` returns: the cause, what is held, what is in hand, and what the rest
 // gives.
 fn assert_refused<A: Allocator>(
     rt: &impl Abort,
@@ -86,7 +86,7 @@ fn assert_refused<A: Allocator>(
 }
 
 // Puts what `iter` gives in the place of a range of the items, and asserts what their list has by
-// the refusal, and what that hands back.
+// the failure, and what that returns.
 fn assert_range_refused<A: Allocator + Copy>(
     rt: &impl Abort,
     alloc: A,

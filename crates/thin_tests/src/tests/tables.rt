@@ -179,7 +179,7 @@ impl Numbers {
 
 type Reference = BTreeMap<(usize, usize), u32>;
 
-// One random call of a table and of the reference, whose answers are the same. A refused call
+// One random call of a table and of the reference, which return the same. A failed call
 // changes neither.
 fn call_both<A: Allocator>(
     rt: &impl Abort,

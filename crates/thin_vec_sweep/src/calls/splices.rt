@@ -127,8 +127,8 @@ fn finish<T: Sample, G: Ruled, R: Abort>(rt: &R, case: &mut Case<T, G>, plan: &P
     }
     let ending = fill_between(case, range.width(), plan);
     let mut placed = coming(rt, case.ledger, 0, ending.placed);
-    let behind = length.saturating_sub(range.end);
-    let mut tail = numbers(rt, case.ledger, number_at(range.end), behind);
+    let tail_length = length.saturating_sub(range.end);
+    let mut tail = numbers(rt, case.ledger, number_at(range.end), tail_length);
     case.items.truncate(range.start);
     case.items.append(&mut placed).expect(rt, "memory");
     case.items.append(&mut tail).expect(rt, "memory");

@@ -43,7 +43,7 @@ fn shown_by_runner<'a, T: Sample<Lender<'a>>, G: Ruled, J: Judge<T>>(
     Ok((show(alloc, reply)?, refused))
 }
 
-/// A command by both, of which the request of that number is refused, or none at 0. Answers the
+/// A command by both, of which the request of that number is refused, or none at 0. Returns the
 /// reply, `Never` where they differ, and whether the request was reached.
 pub fn both<'a, T: Sample<Lender<'a>>, G: Ruled, J: Judge<T>>(
     alloc: Lender<'a>,

@@ -4,11 +4,11 @@ ghost use Rattle.std.specs.Prelude.{◌≡◌, ◌==◌, ◌/◌, ◌%◌};
 use std::mem;
 use thin_runner::judge::Judge;
 
-/// Answers by the binary digits of a number, of which the last one answers first. It exchanges two
+/// Decides by the binary digits of a number, the last one first. It exchanges two
 /// items that it is asked about together.
 #[derive(Clone, Copy)]
 pub struct Digits {
-    /// The digits of the answers to come.
+    /// The digits still to come.
     pub digits: u64,
 }
 

@@ -1,4 +1,4 @@
-//! Runs that the definition written as a program would be too slow for, and one that is refused.
+//! Runs that the definition written as a program would be too slow for, and one that fails.
 use crate::runs::judges::EACH_SECOND;
 use crate::runs::samples::{Lender, put};
 use std::alloc::Global;
@@ -44,7 +44,7 @@ fn pushes_of_lists<'a, R: Abort>(
     commands
 }
 
-// Asserts that a run whose first request is refused is refused, drops its commands, and leaves the
+// Asserts that a run whose first request is refused fails, drops its commands, and leaves the
 // reply that was there.
 fn assert_refused<'a, R: Abort>(rt: &R, alloc: Lender<'a>) {
     let mut list = ThinVec::new(alloc);

@@ -25,7 +25,7 @@ pub struct Model<T, A: Allocator, G> {
     rule: PhantomData<G>,
 }
 
-// What the steps of an order's walk over the items answer.
+// What the steps of an order's walk over the items return.
 fn walked<T: Drop, A: Allocator + Copy>(
     alloc: A,
     items: Vec<T, A>,
@@ -343,7 +343,7 @@ impl<T: Sample<A>, A: Allocator + Copy, G: Ruled> Model<T, A, G> {
     }
 
     /// Does a command, of which what its reply shows tells whether a request was refused to it, and
-    /// which one that was if items are cloned. Answers what the reply is, or `Never`.
+    /// which one that was if items are cloned. Returns what the reply is, or `Never`.
     pub fn follow<J: Judge<T>>(
         &mut self,
         alloc: A,

@@ -53,7 +53,7 @@ impl Dice {
         }
     }
 
-    // What a judge answers by.
+    // What a judge decides by.
     fn digits(&mut self) -> u64 {
         if self.below(4) == 0 {
             EACH_SECOND.digits
@@ -81,7 +81,7 @@ impl Dice {
 /// A command, its request that was refused, and its reply.
 pub type Done = (Order, u64, Form, Option<ThinVecError>);
 
-// A run of up to 30 commands. Answers whether both did the same, and no block is out. What was done
+// A run of up to 30 commands. Returns whether both did the same, and no block is out. What was done
 // is put into `done`.
 fn runs_alike<'a, T: Sample<Lender<'a>>, G: Ruled, J: Judge<T> + From<u64>>(
     alloc: Lender<'a>,

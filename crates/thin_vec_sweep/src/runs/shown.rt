@@ -65,17 +65,17 @@ impl Place {
 #[derive(Drop)]
 pub struct Shown<T, A: Allocator> {
     pub form: Form,
-    /// Why the command was refused.
+    /// Why the command failed.
     pub cause: Option<ThinVecError>,
     /// What was handed out.
     pub answers: Vec<Option<T>, A>,
-    /// The items of a list, or those that were handed back.
+    /// The items of a list, or those that were returned.
     pub items: Vec<T, A>,
     /// The capacity of a list, or how many items were held.
     pub number: usize,
     /// Whether an item was in hand, the first after those that were held.
     pub in_hand: bool,
-    /// Where the command was to work that is handed back.
+    /// Where the command was to work that is returned.
     pub place: Place,
 }
 
@@ -116,7 +116,7 @@ impl<T: Drop, A: Allocator + Copy> Shown<T, A> {
         }
     }
 
-    /// A command that is handed back.
+    /// A command that is returned.
     pub fn out_of_range(alloc: A, items: Vec<T, A>, place: Place) -> Shown<T, A> {
         Shown {
             items,
@@ -182,7 +182,7 @@ fn show_list<T: Drop, A: Allocator + Copy, G: Growth>(
     }
 }
 
-// What the reply of a call shows that was refused half way.
+// What the reply of a call shows that failed half way.
 fn show_stopped<T: Drop, A: Allocator + Copy>(
     answers: Vec<Option<T>, A>,
     cause: ThinVecError,

@@ -1,4 +1,4 @@
--- The closure answers as the test does, so the items left are those that pass it.
+-- The closure returns what the test does, so the items left are those that pass it.
 use Rattle.std.proofs.Common.{rules}
 use Rattle.thin_vec.proofs.FiltersLemmas.{retained_filter}
 use Rattle.thin_examples.proofs.filtering.keep_even.Goals as goal

@@ -1,4 +1,4 @@
--- The closure answers as the judge that it holds does.
+-- The closure returns what the judge that it holds does.
 use Rattle.std.proofs.Common.{rules}
 use Rattle.thin_examples.proofs.JudgeLemmas.{retained-by}
 use Rattle.thin_examples.proofs.filtering.keep_judged.Goals as goal

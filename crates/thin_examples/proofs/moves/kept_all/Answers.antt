@@ -1,4 +1,4 @@
--- The closure always answers true.
+-- The closure always returns true.
 use Rattle.std.proofs.Common.{rules}
 use Rattle.thin_examples.proofs.MovesLemmas.{keeps-cost, keeps-items}
 use Rattle.thin_examples.proofs.moves.kept_all.Goals as goal

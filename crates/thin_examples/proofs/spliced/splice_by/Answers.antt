@@ -1,4 +1,4 @@
--- What `finish` left behind the reference is what the list is.
+-- What `finish` left where the reference leads is what the list is.
 use Rattle.std.proofs.Common.{◌≡◌, ◌++◌, drop, rules, subst, take}
 use Rattle.std.specs.Iterator.Runs.{WholeRun}
 use Rattle.std.specs.Prelude.{OnOk}

@@ -4,7 +4,7 @@ use Rattle.std.proofs.Common.{◌≡◌, ◌≤◌, ◌-◌, sym, ap, ◌∙◌,
 use lib.ListN.{set}
 use Rattle.thin_block.proofs.SlotsLemmas.{packed-le}
 use Rattle.thin_block.specs.Slots.{empty, items_in}
-use Rattle.thin_vec.proofs.EditsLemmas.{emptying, emptying-none, emptying-filled, emptying-take, emptying-all}
+use Rattle.thin_vec.proofs.ItemsLemmas.{emptying, emptying-none, emptying-filled, emptying-take, emptying-all}
 use Rattle.thin_vec.proofs.placing.drop_items.Goals as goal
 
 pub loop-i-init : goal.loop-i-init

@@ -2,7 +2,7 @@
 use Rattle.std.proofs.Common.{◌≡◌, length}
 use Rattle.thin_block.specs.Block.{seen}
 use Rattle.thin_block.specs.Slots.{items_in}
-use Rattle.thin_vec.proofs.EditsLemmas.{emptying}
+use Rattle.thin_vec.proofs.ItemsLemmas.{emptying}
 use Rattle.thin_vec.proofs.placing.drop_items.Given as goal
 
 abbrev pub invariant-loop-i : goal.invariant-loop-i

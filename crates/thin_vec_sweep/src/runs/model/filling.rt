@@ -41,7 +41,7 @@ impl<T: Sample<A>, A: Allocator + Copy, G: Ruled> Model<T, A, G> {
         made
     }
 
-    // So many items of the order come in for its range, and the others are handed back.
+    // So many items of the order come in for its range, and the others are returned.
     fn fill(
         &mut self,
         alloc: A,
@@ -68,11 +68,11 @@ impl<T: Sample<A>, A: Allocator + Copy, G: Ruled> Model<T, A, G> {
     }
 
     pub(crate) fn splice(&mut self, alloc: A, order: Order) -> Result<Shown<T, A>, AllocError> {
-        let is_behind = order.to == self.items.len();
+        let is_at_end = order.to == self.items.len();
         if self.make_rooms(order) {
             return self.fill(alloc, order, order.count, None);
         }
-        let placed = if is_behind {
+        let placed = if is_at_end {
             0
         } else {
             order.to.saturating_sub(order.at)

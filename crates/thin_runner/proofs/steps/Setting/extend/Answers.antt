@@ -82,7 +82,7 @@ returns-in-Err g c =
                 (omega (arith, length-drop (length old.items) old.items)) none e.cause e.overflow;
             ended = λ nothing some. absurd (omega (arith, ap length none, some));
             range = λ more. absurd (omega (arith, more));
-            behind = λ end. (none, e.full);
+            at_end = λ end. (none, e.full);
             unchanged = λ end empty. (e.err empty).0 ∙ sym (cut-end old);
           },
         ),

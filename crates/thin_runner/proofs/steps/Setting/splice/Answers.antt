@@ -126,7 +126,7 @@ returns-in-Err-finish g c =
             no_room = λ places. false≢true (⊎_elim
                 (λ (few : may ≤ end - start). e.succeeds (omega (arith, few, most, width)))
                 (λ (room : (end ≡ length old.items) × HasRoomFor (cut old start end) may).
-                e.succeeds_behind (no-tail old start end block alloc is room.0)
+                e.succeeds_at_end (no-tail old start end block alloc is room.0)
                 (room-left old start end block alloc is _ _ most room.1)) places);
             told = subst (λ (t : List _). IsStopCause g.G.Growth.rule (param 0 g.row.T)
                 now t held refused.in_hand (hinted_count refused.rest) refused.cause)
@@ -141,7 +141,7 @@ returns-in-Err-finish g c =
               length-append block.front placed,
               length-append block.front block.tail,
             );
-            behind = λ full. (
+            at_end = λ full. (
               e.held (no-tail old start end block alloc is full),
               e.full (no-tail old start end block alloc is full),
             );

@@ -50,7 +50,7 @@ returns-then-placed-items-clause-refused g c =
     let opened = at-most-if (eqb (length c.args.items.now) 0) (length xs - c.args.at)
     c.args.self.now.cost c.open_wide-block.result.cost c.open_wide-block.ensures.other_cost in
     let filled = at-most-more opened put.in_bounds (ap (λ v. v.cost) put.changes) in
-    let behind : length block.rest + length block.tail ≡ length xs - c.args.at =
+    let after : length block.rest + length block.tail ≡ length xs - c.args.at =
     omega (
       arith,
       ap (λ v. length v.rest) put.changes,
@@ -77,4 +77,4 @@ returns-then-placed-items-clause-refused g c =
     (if-le (eqb 0 (c.args.at + c.fill_from_clones-placed.result - c.args.at)) 0
     (length c.close.new.self.items - (c.args.at + c.fill_from_clones-placed.result)))
     (ap (λ v. v.cost) c.drop_range.ensures.changes) in
-    at-most-le gone (omega (arith, behind, long))
+    at-most-le gone (omega (arith, after, long))

@@ -12,12 +12,12 @@ use Rattle.thin_vec.proofs.list.ThinVec.insert_held.Goals.{After-drop-rest, In-E
 use Rattle.thin_vec.proofs.list.ThinVec.insert_held.Goals as goal
 
 -- how many were asked for
-count : (g : _) (c : In-Err g) → c.len.result ≡ length c.hold-held.result.0.items
-count g c = c.len.ensures ∙ c.hold-held.result.0.ok.0
+count : (g : _) (c : In-Err g) → c.len.result ≡ length c.draw-held.result.0.items
+count g c = c.len.ensures ∙ c.draw-held.result.0.ok.0
 
 -- making room fails for some items alone: for none it succeeds
-more : (g : _) (c : In-Err g) → 0 < length c.hold-held.result.0.items
-more g c = elim (cases_lt 0 (length c.hold-held.result.0.items)) [
+more : (g : _) (c : In-Err g) → 0 < length c.draw-held.result.0.items
+more g c = elim (cases_lt 0 (length c.draw-held.result.0.items)) [
   | inl some ↦ some
   | inr none ↦
       absurd (false≢true (c.in-Err.ensures.succeeds_empty (omega (arith, count g c, none))))
@@ -25,26 +25,26 @@ more g c = elim (cases_lt 0 (length c.hold-held.result.0.items)) [
 
 -- how many there are then
 long : (g : _) (c : After-drop-rest g) → length c.insert_vec.new.self.items
-    ≡ length c.reserve.new.self.items + length c.hold-held.result.0.items
+    ≡ length c.reserve.new.self.items + length c.draw-held.result.0.items
 long g c =
     ap (λ v. length v.items) c.insert_vec.ensures.changes
-    ∙ inserted-long c.reserve.new.self.items c.hold-held.result.0.items c.args.at
+    ∙ inserted-long c.reserve.new.self.items c.draw-held.result.0.items c.args.at
     (omega (arith, ap length c.reserve.ensures.items, c.requires.in_bounds))
 
 pub returns-in-Some-clause-placed : goal.returns-in-Some-clause-placed
 returns-in-Some-clause-placed g c =
-    let asked = c.hold-held.ensures.asked (subst IsSome (sym c.in-Some.is) refl) in
-    inl (rw c.in-Some.is at c.hold-held.ensures.gave, λ none. cc, asked.0, asked.1)
+    let asked = c.draw-held.ensures.asked (subst IsSome (sym c.in-Some.is) refl) in
+    inl (rw c.in-Some.is at c.draw-held.ensures.gave, λ none. cc, asked.0, asked.1)
 
 pub returns-in-Some-clause-succeeds : goal.returns-in-Some-clause-succeeds
 returns-in-Some-clause-succeeds g c = λ none.
-    absurd (omega (arith, none, c.hold-held.ensures.fewer, ap option_len c.in-Some.is))
+    absurd (omega (arith, none, c.draw-held.ensures.fewer, ap option_len c.in-Some.is))
 
 pub returns-in-Some-clause-cause : goal.returns-in-Some-clause-cause
 returns-in-Some-clause-cause g c = λ tail some.
     stop-at-held g.G.Growth.rule (param 0 g.row.T) c.args.self.now tail
-    c.hold-held.result.0.items (Some c.in-Some.item)
-    (g.I.Iterator.remaining c.hold-held.result.2) _ some (λ none. cc) (λ none. cc) (λ _. refl)
+    c.draw-held.result.0.items (Some c.in-Some.item)
+    (g.I.Iterator.remaining c.draw-held.result.2) _ some (λ none. cc) (λ none. cc) (λ _. refl)
 
 pub returns-in-Some-clause-taken : goal.returns-in-Some-clause-taken
 returns-in-Some-clause-taken g c =
@@ -53,23 +53,23 @@ returns-in-Some-clause-taken g c =
 pub returns-in-Err-clause-placed : goal.returns-in-Err-clause-placed
 returns-in-Err-clause-placed g c =
     let here = (goal.at.returns-in-Err-clause-placed g c).In-Err in
-    inr (refl, more g here, rw c.in_default.is at c.hold-held.ensures.gave)
+    inr (refl, more g here, rw c.in_default.is at c.draw-held.ensures.gave)
 
 pub returns-in-Err-clause-succeeds : goal.returns-in-Err-clause-succeeds
 returns-in-Err-clause-succeeds g c = λ none.
     let here = (goal.at.returns-in-Err-clause-succeeds g c).In-Err in
-    c.in-Err.ensures.succeeds_empty (omega (arith, count g here, none, c.hold-held.ensures.fewer))
+    c.in-Err.ensures.succeeds_empty (omega (arith, count g here, none, c.draw-held.ensures.fewer))
 
 pub returns-in-Err-clause-cause : goal.returns-in-Err-clause-cause
 returns-in-Err-clause-cause g c = λ tail some.
     let here = (goal.at.returns-in-Err-clause-cause g c).In-Err in
-    let held = c.hold-held.result.0.items in
+    let held = c.draw-held.result.0.items in
     let rule = g.G.Growth.rule in let T = param 0 g.row.T in
     let same : capacity_for rule T c.args.self.now c.len.result
     ≡ capacity_for rule T c.reserve.new.self (length held) =
     λ i. capacity_for rule T (sym c.in-Err.ensures.err i) (count g here i) in
     stop-at-held rule T c.reserve.new.self tail held None
-    (g.I.Iterator.remaining c.hold-held.result.2) c.in-Err.cause some (λ _. more g here)
+    (g.I.Iterator.remaining c.draw-held.result.2) c.in-Err.cause some (λ _. more g here)
     (λ _. (
       λ over. sym same ∙ c.in-Err.ensures.cause over,
       λ none. err-same (c.in-Err.ensures.overflow (same ∙ none)),
@@ -94,7 +94,7 @@ returns-clause-named g c =
     c.in_default-reserve.ensures.capacity
     (omega (
       arith,
-      c.len.ensures ∙ c.hold-held.result.0.ok.0,
+      c.len.ensures ∙ c.draw-held.result.0.ok.0,
       long g c,
       ap length c.reserve.ensures.items,
     )))
@@ -106,14 +106,14 @@ returns-clause-taken g c =
     let v = c.args.self.now in let u = c.reserve.new.self in
     let n = length v.items - c.args.at in
     let old = ap length c.reserve.ensures.items in
-    let count = c.len.ensures ∙ c.hold-held.result.0.ok.0 in
+    let count = c.len.ensures ∙ c.draw-held.result.0.ok.0 in
     let kept = c.insert_vec.ensures.changes in let paid = c.insert_vec.ensures.cost in
     taken-join rule T law v u c.insert_vec.new.self 0 n n left left (omega arith)
     (omega (arith, old)) (λ fit same. omega (arith, fit, same, old))
     (taken-reserved rule T law v u c.len.result left c.in_default-reserve.ensures.capacity
     c.reserve.ensures.items c.reserve.ensures.alloc c.in_default-reserve.ensures.cost
-    c.reserve.ensures.cheap (omega (arith, count, c.hold-held.ensures.fewer)))
-    (taken-spare rule T u c.insert_vec.new.self (length c.hold-held.result.0.items) paid.0 n left
+    c.reserve.ensures.cheap (omega (arith, count, c.draw-held.ensures.fewer)))
+    (taken-spare rule T u c.insert_vec.new.self (length c.draw-held.result.0.items) paid.0 n left
     paid.1 (ap (λ z. z.capacity) kept) (long g c) (omega (arith, paid.2, old))
     (ap (λ z. z.alloc) kept))
 

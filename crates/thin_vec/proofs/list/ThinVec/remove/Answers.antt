@@ -8,7 +8,7 @@ use Rattle.thin_block.specs.Cost.{moving}
 use Rattle.thin_block.specs.Slots.{items_in, moved}
 use Rattle.thin_vec.proofs.ThinVecLemmas.{within-kept}
 use Rattle.thin_vec.proofs.list.ThinVec.remove.Goals.{After-store_len}
-use Rattle.thin_vec.proofs.EditsLemmas.{settle-remove}
+use Rattle.thin_vec.proofs.ItemsLemmas.{settle-remove}
 use Rattle.thin_vec.proofs.list.ThinVec.remove.Goals as goal
 
 pub take-value-requires : goal.take-value-requires
@@ -36,14 +36,14 @@ returns-clause-value g c =
 facts : (g : _) (c : After-store_len g) → Settled c.store_len.new.self c.self.inside.alloc
     (remove (items_in c.self.inside.block.slots) c.args.index) (length c.self.inside.block.slots)
 facts g c =
-    let behind = c.len-len.result - (c.args.index + 1) in
+    let after = c.len-len.result - (c.args.index + 1) in
     settle-remove c.self.invariant c.store_len.new.self c.args.index
     (omega (arith, c.requires.in_bounds, ap (λ v. length v.items) c.self.view_is)) refl
     (ap (λ n. n - (c.args.index + 1)) c.len-len.ensures.value) c.len-len.ensures.value
     (then-len c.store_len.ensures.changes (c.move_down.ensures.changes
     ∙ ap {A = Seen _ _} (λ v. record v {
-      slots = moved (c.args.index + 1) c.args.index behind v.slots;
-      cost = moving behind v.cost;
+      slots = moved (c.args.index + 1) c.args.index after v.slots;
+      cost = moving after v.cost;
     }) c.take-value.ensures.changes))
 
 pub invariant_of-self : goal.invariant_of-self

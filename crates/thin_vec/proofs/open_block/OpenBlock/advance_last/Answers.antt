@@ -2,7 +2,7 @@
 use Rattle.std.proofs.Common.{◌++◌, ◌∙◌, ap, arith, drop, rules, sym, take}
 use Rattle.std.proofs.lemmas.List.{append-nil}
 use Rattle.thin_block.specs.Cost.{moving}
-use Rattle.thin_vec.proofs.FiltersLemmas.{asked-count, moving-behind, moving-none, one-stays, stays-end, stays-goes, stays-start}
+use Rattle.thin_vec.proofs.FiltersLemmas.{asked-count, moving-after, moving-none, one-stays, stays-end, stays-goes, stays-start}
 use Rattle.std.proofs.lemmas.Grind.{common_steps}
 use Rattle.thin_vec.proofs.open_block.OpenBlock.advance_last.Goals as goal
 
@@ -19,7 +19,7 @@ returns-then-rest_len-eq0-clause-advances g c =
           (omega (arith, c.rest_len.ensures.value, c.if-rest_len-eq0.true));
       now = λ i. record v {
         front = sym (append-nil v.front) i;
-        cost = (sym (moving-none v.cost) ∙ sym (moving-behind v.before 0 v.cost c.requires.gap)) i;
+        cost = (sym (moving-none v.cost) ∙ sym (moving-after v.before 0 v.cost c.requires.gap)) i;
       };
     }
 
@@ -40,7 +40,7 @@ returns-then-ask-clause-advances g c =
         front = u.front ++ take 1 ys;
         rest = drop 1 ys;
         cost = (ap (λ w. moving 1 w.cost) c.ask.ensures.changes
-            ∙ sym (moving-behind v.before 1 v.cost c.requires.gap)) i;
+            ∙ sym (moving-after v.before 1 v.cost c.requires.gap)) i;
       });
     }
 
@@ -60,7 +60,7 @@ returns-clause-advances g c =
       now = c.ask.ensures.changes ∙ (λ i. record v {
         front = sym (append-nil v.front) i;
         rest = ys;
-        cost = (sym (moving-none v.cost) ∙ sym (moving-behind v.before 0 v.cost c.requires.gap)) i;
+        cost = (sym (moving-none v.cost) ∙ sym (moving-after v.before 0 v.cost c.requires.gap)) i;
       });
     }
 

@@ -2,7 +2,7 @@
 use Rattle.std.proofs.Common.{◌≡◌, ◌++◌, ◌∙◌, ap, arith, drop, rules, sym, take}
 use Rattle.std.proofs.lemmas.List.{append-nil}
 use Rattle.thin_block.specs.Cost.{moving}
-use Rattle.thin_vec.proofs.FiltersLemmas.{moving-behind, moving-none, one-stays, runs-join, stays-goes, stays-start, two-stay}
+use Rattle.thin_vec.proofs.FiltersLemmas.{moving-after, moving-none, one-stays, runs-join, stays-goes, stays-start, two-stay}
 use Rattle.std.proofs.lemmas.Grind.{common_steps}
 use Rattle.thin_vec.proofs.open_block.OpenBlock.advance_two.Goals as goal
 
@@ -22,7 +22,7 @@ returns-then-not-ask-clause-advances g c =
       now = c.ask.ensures.changes ∙ (λ i. record v {
         front = sym (append-nil v.front) i;
         rest = ys;
-        cost = (sym (moving-none v.cost) ∙ sym (moving-behind v.before 0 v.cost c.requires.gap)) i;
+        cost = (sym (moving-none v.cost) ∙ sym (moving-after v.before 0 v.cost c.requires.gap)) i;
       });
     }
 
@@ -45,7 +45,7 @@ returns-then-not-ask-2-clause-advances g c =
         front = u.front ++ take 1 ys;
         rest = drop 1 ys;
         cost = (ap (λ w. moving 1 w.cost) asked
-            ∙ sym (moving-behind v.before 1 v.cost c.requires.gap)) i;
+            ∙ sym (moving-after v.before 1 v.cost c.requires.gap)) i;
       });
     }
 
@@ -69,7 +69,7 @@ returns-clause-advances g c =
         front = u.front ++ take n ys;
         rest = drop n ys;
         cost = (ap (λ w. moving n w.cost) asked
-            ∙ sym (moving-behind v.before n v.cost c.requires.gap)) i;
+            ∙ sym (moving-after v.before n v.cost c.requires.gap)) i;
       });
     }
 

@@ -45,7 +45,7 @@ returns-clause-asked g c =
     record {
       later = c.slot_mut.result.now;
       later_left = c.ask.new.later;
-      behind = f.post;
+      after = f.post;
       was = sym (ap (λ v. v.rest) c.self.view_is)
           ∙ (f.was ∙ ap (λ l. l ++ c.slot_mut.result.now ∷ f.post) none);
       asked = c.ask.ensures.asked;

@@ -3,7 +3,7 @@ use Rattle.std.proofs.Common.{◌≡◌, ◌+◌, ◌-◌, ap, arith, ◌∙◌}
 use Rattle.thin_block.specs.Slots.{front, moved}
 use Rattle.thin_vec.specs.OpenBlock.{open_of}
 use Rattle.thin_vec.specs.Open.{items_of}
-use Rattle.thin_vec.proofs.OpenBlockLemmas.{before-empty, behind-filled, close-row, closed-row}
+use Rattle.thin_vec.proofs.OpenBlockLemmas.{before-empty, after-filled, close-row, closed-row}
 use Rattle.std.proofs.lemmas.Grind.{common_steps}
 use Rattle.thin_vec.proofs.open_block.OpenBlock.into_closed.Goals as goal
 
@@ -15,12 +15,12 @@ close_gap-closed-requires-clause-empty g c = λ j low high.
 pub close_gap-closed-requires-clause-filled : goal.close_gap-closed-requires-clause-filled
 close_gap-closed-requires-clause-filled g c = λ j low high.
     let o = c.self.invariant in
-    behind-filled c.self.inside o (ap (λ v. v.behind) c.self.view_is ∙ c.requires.behind) j
+    after-filled c.self.inside o (ap (λ v. v.after) c.self.view_is ∙ c.requires.after) j
     (omega (arith, low, o.before)) (omega (arith, high, o.before))
 
 pub returns-then-front_end-rest_start-clause-slots : goal.returns-then-front_end-rest_start-clause-slots
 returns-then-front_end-rest_start-clause-slots g c =
-    let none = ap (λ v. v.behind) c.self.view_is ∙ c.requires.behind in
+    let none = ap (λ v. v.after) c.self.view_is ∙ c.requires.after in
     ap (λ v. v.slots) c.set_len.ensures.changes
     ∙ (closed-row c.self.inside c.self.invariant none c.if-front_end-rest_start.true
     ∙ ap (λ v. front (items_of v) v.capacity) c.self.view_is)
@@ -29,7 +29,7 @@ pub returns-clause-slots : goal.returns-clause-slots
 returns-clause-slots g c =
     let h = c.self.inside in
     let o = c.self.invariant in
-    let none = ap (λ v. v.behind) c.self.view_is ∙ c.requires.behind in
+    let none = ap (λ v. v.after) c.self.view_is ∙ c.requires.after in
     let same : h.front_end + (h.rest_start - h.front_end) ≡ h.rest_start = omega (arith, o.before) in
     ap (λ v. v.slots) c.store_len.ensures.changes
     ∙ (ap (λ v. v.slots) c.close_gap-closed.ensures.changes

@@ -11,11 +11,11 @@ returns-then-rest_len-gt0 g c =
     record {
       sifted = sifted-goes R c.args.self.now c.take_first.new.self run.result c.args.judge.now
           run.new.judge run.new.self.rest run.ensures.asked c.take_first.result
-          c.sift_behind.new.judge c.sift_behind.new.self
+          c.sift_past_gap.new.judge c.sift_past_gap.new.self
           (search rules)
           (sym (ap (λ v. v.rest) c.pass.ensures) ∙ c.take_first.ensures.rest)
-          c.sift_behind.ensures.sifts
-          c.sift_behind.ensures.rest;
+          c.sift_past_gap.ensures.sifts
+          c.sift_past_gap.ensures.rest;
     }
 
 pub returns-else-rest_len-gt0 : goal.returns-else-rest_len-gt0

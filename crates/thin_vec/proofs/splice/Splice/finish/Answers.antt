@@ -19,11 +19,11 @@ returns g c =
     c.drop_rest.new.self c.clear.new.self.alloc s w r =
     elim c.if-has_tail.branch [
       | then-has_tail x ↦ rw x.list-is (rw x.answer-is x.fill_between-answer.ensures)
-      | else-has_tail x ↦ rw x.list-is (rw x.answer-is x.fill_behind-answer.ensures)
+      | else-has_tail x ↦ rw x.list-is (rw x.answer-is x.fill_at_end-answer.ensures)
     ] in
     let dropped = c.drop_rest.ensures
     ∙ (λ i. let h = c.into_inner-block.ensures.value i in
-    record h { before = h.before + length h.rest + h.behind; rest = []; behind = 0 }) in
+    record h { before = h.before + length h.rest + h.after; rest = []; after = 0 }) in
     let f = subst
     (λ b. IsFinished steps g.I.Iterator.can_next g.I.Iterator.remaining rule T b a s w r) dropped
     (subst
@@ -31,7 +31,7 @@ returns g c =
     c.drop_rest.new.self o s w r) (ap (λ v. v.alloc) c.clear.ensures.changes) said) in
     record {
       succeeds = f.succeeds;
-      succeeds_behind = f.succeeds_behind;
+      succeeds_at_end = f.succeeds_at_end;
       items = f.items;
       runs = run_of_ok steps s (λ xs. w.items ≡ splice_replaced c.args.self xs) r f.items;
       capacity = f.taken.capacity;

@@ -1,7 +1,7 @@
 -- The vector holds what the iterator has given.
 use Rattle.std.proofs.Common.{◌+◌, ◌≤◌, length}
 use Rattle.std.specs.Iterator.{IsFinite, Yields, size}
-use Rattle.thin_vec.proofs.holding.hold.Given as goal
+use Rattle.thin_vec.proofs.drawing.draw.Given as goal
 
 abbrev pub invariant-loop-item : goal.invariant-loop-item
 invariant-loop-item g l = record {

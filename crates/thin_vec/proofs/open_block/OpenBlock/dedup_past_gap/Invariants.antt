@@ -1,11 +1,11 @@
 -- So far some first items were asked about, and the gap stays open.
 use Rattle.std.proofs.Common.{◌<◌, length}
-use Rattle.thin_vec.specs.Pairs.{Thins}
-use Rattle.thin_vec.proofs.open_block.OpenBlock.thin_behind.Given as goal
+use Rattle.thin_vec.specs.Pairs.{Dedups}
+use Rattle.thin_vec.proofs.open_block.OpenBlock.dedup_past_gap.Given as goal
 
 abbrev pub invariant-loop-self : goal.invariant-loop-self
 invariant-loop-self g l = record {
-  thins : Thins g.J.AsksPairs.asks l.fn.judge l.fn.self l.judge l.self;
+  dedups : Dedups g.J.AsksPairs.asks l.fn.judge l.fn.self l.judge l.self;
   some : 0 < length l.self.front;
   ready : g.J.AsksPairs.ready l.judge;
 }

@@ -44,16 +44,16 @@ module _ {T : Type 0} where
   module _ (xs : List T) (c i : ℕ) {j k : ℕ} (h : i ≤ length xs) (l : length xs < c) (e : j ≡ i + 1)
       (n : k ≡ length xs - i) where
     -- the slots after the room for the item
-    behind : List (Option T)
-    behind = full (drop i xs) ++ replicate (c - length xs - 1) None
+    after : List (Option T)
+    after = full (drop i xs) ++ replicate (c - length xs - 1) None
 
     -- how many slots lie before the room for the item
     before : i ≡ length (full (take i xs))
     before = omega (arith, length-full (take i xs), length-take i xs)
 
     -- the room between the slots before it and after it is one empty slot
-    apart : moved i j k (front xs c) ≡ full (take i xs) ++ (None ∷ behind)
-    unfolding behind
+    apart : moved i j k (front xs c) ≡ full (take i xs) ++ (None ∷ after)
+    unfolding after
     apart =
         let a : List T = take i xs in let b : List T = drop i xs in
         let o : ℕ = c - length xs - 1 in let r : List (Option T) = replicate o None in
@@ -72,7 +72,7 @@ module _ {T : Type 0} where
     -- the slots once the item is in
     pub front-insert : (v : T)
         → set (moved i j k (front xs c)) i (Some v) ≡ front (insert xs i v) c
-    unfolding behind
+    unfolding after
     front-insert v =
         let a : List T = take i xs in let b : List T = drop i xs in
         let o : ℕ = c - length xs - 1 in let r : List (Option T) = replicate o None in
@@ -87,7 +87,7 @@ module _ {T : Type 0} where
     front-gap : slot (moved i j k (front xs c)) i ≡ None
     front-gap =
         ap (λ (ys : List (Option T)). slot ys i) apart
-        ∙ get_or_at (full (take i xs)) None behind None i (sym before)
+        ∙ get_or_at (full (take i xs)) None after None i (sym before)
 
 module _ {T A : Type 0} {b : Block T A} {a : A} (t : IsThin b a) where
   -- an item came out

@@ -1,4 +1,4 @@
-//! The plain edits, and the write of an item.
+//! The commands by which an item goes in or out, and the write of one.
 ghost use Rattle.std.specs.Prelude.{◌≡◌, ◌<◌, ◌≤◌, length};
 ghost use Rattle.thin_runner.specs.Setting.{setting};
 ghost use Rattle.thin_runner.specs.Steps.{Steps};

@@ -1,4 +1,4 @@
-//! How the items of an iterator are held in a vector that have no room in a list yet.
+//! How those items of an iterator that have no room in a list yet are drawn into a vector.
 ghost use Rattle.std.specs.Prelude.{◌≡◌, ◌+◌, ◌<◌, ◌≤◌, List, [], ◌∷◌, ◌++◌, IsSome, MatchOption, None, OnSome, length};
 ghost use Rattle.std.specs.Iterator.{IsFinite, Yields, YieldsThen, size};
 ghost use Rattle.std.specs.Option.{option_len};
@@ -8,7 +8,7 @@ use std::iter::Iterator;
 
 // Draws the items of `iter` into a vector on `alloc`, until the iterator ends, or there is no
 // memory for an item that was drawn. Returns the vector, that item, and the iterator.
-pub(crate) fn hold<T, A: Allocator, I: Iterator<Item = T>>(
+pub(crate) fn draw<T, A: Allocator, I: Iterator<Item = T>>(
     iter: I,
     alloc: A,
 ) -> (Vec<T, A>, Option<T>, I)
@@ -22,7 +22,7 @@ pub(crate) fn hold<T, A: Allocator, I: Iterator<Item = T>>(
     let mut held = Vec::new(alloc);
     let mut rest = iter;
     loop {
-        let (filled, over, left) = hold_spare(held, rest);
+        let (filled, over, left) = draw_spare(held, rest);
         held = filled;
         rest = left;
         let Some(item) = over else {
@@ -41,7 +41,7 @@ pub(crate) fn hold<T, A: Allocator, I: Iterator<Item = T>>(
 // Draws items into the spare room of `held`, and one item more. Returns the vector, the item that
 // found no room, and the iterator. It has the vector by value, so that its length can stay in a
 // register.
-fn hold_spare<T, A: Allocator, I: Iterator<Item = T>>(
+fn draw_spare<T, A: Allocator, I: Iterator<Item = T>>(
     held: Vec<T, A>,
     iter: I,
 ) -> (Vec<T, A>, Option<T>, I)

@@ -1,21 +1,21 @@
 -- A round ends at the first item that goes, or where none is left: a case for each such place.
 use Rattle.std.proofs.Common.{◌≡◌, ◌∷◌, [], ap, false, refl, sym, ◌∙◌, arith, rules}
 use Rattle.std.proofs.lemmas.List.{append-nil, nil_from_length}
-use Rattle.thin_vec.proofs.DedupLemmas.{run-count, run-ends, run-goes, thins-goes, thins-run, thins-two}
+use Rattle.thin_vec.proofs.DedupLemmas.{run-count, run-ends, run-goes, dedups-goes, dedups-run, dedups-two}
 use Rattle.std.proofs.lemmas.Grind.{common_steps}
-use Rattle.thin_vec.proofs.open_block.OpenBlock.thin_two.Goals as goal
+use Rattle.thin_vec.proofs.open_block.OpenBlock.dedup_two.Goals as goal
 
 -- the next item goes
-pub returns-then-ask_last-clause-thins : goal.returns-then-ask_last-clause-thins
-returns-then-ask_last-clause-thins g c =
-    thins-goes g.J.AsksPairs.asks c.args.self.now c.ask_last.new.self
+pub returns-then-ask_last-clause-dedups : goal.returns-then-ask_last-clause-dedups
+returns-then-ask_last-clause-dedups g c =
+    dedups-goes g.J.AsksPairs.asks c.args.self.now c.ask_last.new.self
     c.take_first-later.result c.ask_last.new.later c.ask_last.new.self.front
     (search rules) (search rules) (search rules) (search rules)
 
 -- the next item stays, and the one after it goes
-pub returns-then-goes-clause-thins : goal.returns-then-goes-clause-thins
-returns-then-goes-clause-thins g c =
-    thins-two g.J.AsksPairs.asks c.args.self.now c.take_first.new.self c.args.judge.now
+pub returns-then-goes-clause-dedups : goal.returns-then-goes-clause-dedups
+returns-then-goes-clause-dedups g c =
+    dedups-two g.J.AsksPairs.asks c.args.self.now c.take_first.new.self c.args.judge.now
     c.ask_last.new.judge c.ask_next-goes.new.judge c.take_first-later.result
     c.ask_last.new.later c.ask_next-goes.new.kept
     c.ask_last.new.self.front c.ask_last.new.self.rest c.ask_next-goes.new.self.rest (search rules)
@@ -23,8 +23,8 @@ returns-then-goes-clause-thins g c =
     c.if-goes.true c.take_first.result (search rules) (search rules) (search rules)
 
 -- the next two items stay, with a run, and the one after the run goes
-pub returns-then-rest_len-gt0-clause-thins : goal.returns-then-rest_len-gt0-clause-thins
-returns-then-rest_len-gt0-clause-thins g c =
+pub returns-then-rest_len-gt0-clause-dedups : goal.returns-then-rest_len-gt0-clause-dedups
+returns-then-rest_len-gt0-clause-dedups g c =
     let R = g.J.AsksPairs.asks in
     let r = c.ask_pairs-kept.ensures.asked in
     let w = c.take_first-then-rest_len-gt0.new.self in
@@ -32,7 +32,7 @@ returns-then-rest_len-gt0-clause-thins g c =
     c.put_front.new.self.rest c.ask_pairs-kept.new.judge c.ask_pairs-kept.new.self.rest r
     c.take_first-then-rest_len-gt0.result w.rest
     (sym (ap (λ v. v.rest) c.move_down.ensures) ∙ c.take_first-then-rest_len-gt0.ensures.rest) in
-    thins-run R c.args.self.now w c.args.judge.now c.ask_last.new.judge c.ask_next-goes.new.judge
+    dedups-run R c.args.self.now w c.args.judge.now c.ask_last.new.judge c.ask_next-goes.new.judge
     c.take_first-later.result c.ask_last.new.later c.ask_next-goes.new.kept
     c.ask_last.new.self.front c.ask_last.new.self.rest c.put_front.new.self.rest (search rules)
     c.ask_next-goes.result (search rules) (search rules)
@@ -41,8 +41,8 @@ returns-then-rest_len-gt0-clause-thins g c =
     (search rules) (search rules)
 
 -- the next two items stay, and so do all others
-pub returns-else-rest_len-gt0-clause-thins : goal.returns-else-rest_len-gt0-clause-thins
-returns-else-rest_len-gt0-clause-thins g c =
+pub returns-else-rest_len-gt0-clause-dedups : goal.returns-else-rest_len-gt0-clause-dedups
+returns-else-rest_len-gt0-clause-dedups g c =
     let R = g.J.AsksPairs.asks in
     let r = c.ask_pairs-kept.ensures.asked in
     let w = c.move_down.new.self in
@@ -51,7 +51,7 @@ returns-else-rest_len-gt0-clause-thins g c =
     let ends = run-ends R c.ask_pairs-kept.result c.ask_next-goes.new.judge
     c.put_front.new.self.rest c.ask_pairs-kept.new.judge c.ask_pairs-kept.new.self.rest r
     (sym (ap (λ v. v.rest) c.move_down.ensures) ∙ none) in
-    thins-run R c.args.self.now w c.args.judge.now c.ask_last.new.judge c.ask_next-goes.new.judge
+    dedups-run R c.args.self.now w c.args.judge.now c.ask_last.new.judge c.ask_next-goes.new.judge
     c.take_first-later.result c.ask_last.new.later c.ask_next-goes.new.kept
     c.ask_last.new.self.front c.ask_last.new.self.rest c.put_front.new.self.rest (search rules)
     c.ask_next-goes.result (search rules) (search rules)

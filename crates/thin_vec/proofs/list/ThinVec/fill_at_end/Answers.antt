@@ -6,10 +6,10 @@ use Rattle.thin_vec.specs.Extend.{IsExtended}
 use Rattle.thin_vec.specs.Filling.{left_of}
 use Rattle.thin_vec.specs.Finish.{HasTaken}
 use Rattle.thin_vec.specs.ThinVec.{HasRoomFor}
-use Rattle.thin_vec.proofs.FillingLemmas.{behind-items, closed-left, spliced-extended, stop-at-end, stopped-now}
+use Rattle.thin_vec.proofs.FillingLemmas.{after-items, closed-left, spliced-extended, stop-at-end, stopped-now}
 use Rattle.thin_vec.proofs.FinishLemmas.{finished-ok}
-use Rattle.thin_vec.proofs.list.ThinVec.fill_behind.Goals.{After-extend}
-use Rattle.thin_vec.proofs.list.ThinVec.fill_behind.Goals as goal
+use Rattle.thin_vec.proofs.list.ThinVec.fill_at_end.Goals.{After-extend}
+use Rattle.thin_vec.proofs.list.ThinVec.fill_at_end.Goals as goal
 
 -- what is left of the block
 left : (g : _) (c : After-extend g)
@@ -52,7 +52,7 @@ returns-in-Ok g c =
       gave.0,
       gave.1,
       gave.2 ∙ (ap (λ z. z.items ++ gave.0) (left g at)
-          ∙ behind-items v gave.0 c.requires.no_tail),
+          ∙ after-items v gave.0 c.requires.no_tail),
     )
     (taken g at) (named g at)
 
@@ -72,7 +72,7 @@ returns-in-Err g c =
         ap (λ z. z.capacity) is,
         length-append v.front v.tail,
       ));
-      succeeds_behind = λ _ fit. c.in-Err.ensures.succeeds
+      succeeds_at_end = λ _ fit. c.in-Err.ensures.succeeds
           (subst (λ z. HasRoomFor z (size (g.I.Iterator.remaining c.args.iter))) (sym is) fit);
       items = tt;
       taken = taken g at;
@@ -80,7 +80,7 @@ returns-in-Err g c =
       placed = (
         gave.0,
         gave.1 ∙ (ap (λ z. z.items ++ gave.0) is
-            ∙ behind-items v gave.0 c.requires.no_tail),
+            ∙ after-items v gave.0 c.requires.no_tail),
         stopped-now g.I.Iterator.next_gives g.I.Iterator.can_next g.I.Iterator.remaining
             c.args.iter refused.rest gave.0 c.new-held.result.items refused.in_hand
             c.new-held.ensures.items gave.2 asked.0 asked.1,

@@ -1,20 +1,20 @@
 -- Some first items stay; then none is left, or one goes and rounds ask about those after it.
 use Rattle.std.proofs.Common.{◌≡◌, [], sym, ap, ◌∙◌, arith, rules}
-use Rattle.thin_vec.proofs.DedupLemmas.{thinned-ends, thinned-goes}
+use Rattle.thin_vec.proofs.DedupLemmas.{deduped-ends, deduped-goes}
 use Rattle.std.proofs.lemmas.List.{nil_from_length}
-use Rattle.thin_vec.proofs.open_block.OpenBlock.thin_out.Goals as goal
+use Rattle.thin_vec.proofs.open_block.OpenBlock.dedup_rest.Goals as goal
 
 pub returns-then-rest_len-gt0 : goal.returns-then-rest_len-gt0
 returns-then-rest_len-gt0 g c =
     let run = c.ask_pairs-kept in
     record {
-      thinned = thinned-goes g.J.AsksPairs.asks c.args.self.now c.take_first.new.self run.result
+      deduped = deduped-goes g.J.AsksPairs.asks c.args.self.now c.take_first.new.self run.result
           c.args.judge.now run.new.judge run.new.self.rest run.ensures.asked c.take_first.result
-          c.thin_behind.new.judge c.thin_behind.new.self
+          c.dedup_past_gap.new.judge c.dedup_past_gap.new.self
           (search rules)
           (sym (ap (λ v. v.rest) c.pass.ensures) ∙ c.take_first.ensures.rest)
-          c.thin_behind.ensures.thins
-          c.thin_behind.ensures.rest;
+          c.dedup_past_gap.ensures.dedups
+          c.dedup_past_gap.ensures.rest;
     }
 
 pub returns-else-rest_len-gt0 : goal.returns-else-rest_len-gt0
@@ -23,7 +23,7 @@ returns-else-rest_len-gt0 g c =
     let none : c.pass.new.self.rest ≡ [] = nil_from_length c.pass.new.self.rest
     (omega (arith, c.rest_len.ensures.value, c.if-rest_len-gt0.false)) in
     record {
-      thinned = thinned-ends g.J.AsksPairs.asks c.args.self.now c.pass.new.self run.result
+      deduped = deduped-ends g.J.AsksPairs.asks c.args.self.now c.pass.new.self run.result
           c.args.judge.now run.new.judge run.new.self.rest run.ensures.asked
           (search rules)
           (sym (ap (λ v. v.rest) c.pass.ensures) ∙ none) none;

@@ -1,7 +1,7 @@
 -- So far some first items were asked about, and the gap stays open.
 use Rattle.std.proofs.Common.{length}
 use Rattle.thin_vec.specs.Sifting.{Sifts}
-use Rattle.thin_vec.proofs.open_block.OpenBlock.sift_behind.Given as goal
+use Rattle.thin_vec.proofs.open_block.OpenBlock.sift_past_gap.Given as goal
 
 abbrev pub invariant-loop-self : goal.invariant-loop-self
 invariant-loop-self g l = record {

@@ -2,7 +2,7 @@
 use Rattle.std.proofs.Common.{◌∷◌, ◌++◌, [], ◌∙◌, ap, append_assoc, arith, length}
 use Rattle.std.proofs.lemmas.List.{length_push}
 use Rattle.thin_vec.proofs.ExtendLemmas.{yields-more}
-use Rattle.thin_vec.proofs.holding.hold_spare.Goals as goal
+use Rattle.thin_vec.proofs.drawing.draw_spare.Goals as goal
 
 pub loop-rest-preserved : goal.loop-rest-preserved
 loop-rest-preserved g c =

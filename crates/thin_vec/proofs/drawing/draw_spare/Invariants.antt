@@ -1,7 +1,7 @@
 -- The vector holds what the iterator has yielded, after its own items.
 use Rattle.std.proofs.Common.{◌≡◌, ◌+◌, ◌≤◌, List, ◌++◌, length}
 use Rattle.std.specs.Iterator.{IsFinite, Yields, size}
-use Rattle.thin_vec.proofs.holding.hold_spare.Given as goal
+use Rattle.thin_vec.proofs.drawing.draw_spare.Given as goal
 
 abbrev pub invariant-loop-rest : goal.invariant-loop-rest
 invariant-loop-rest g l = record {

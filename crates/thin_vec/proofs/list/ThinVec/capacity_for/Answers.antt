@@ -2,7 +2,7 @@
 use Rattle.std.proofs.Common.{arith}
 use denote.Param.{param}
 use Rattle.thin_vec.proofs.CapacityLemmas.{grows-rule}
-use Rattle.thin_vec.proofs.list.ThinVec.ruled_capacity.Goals as goal
+use Rattle.thin_vec.proofs.list.ThinVec.capacity_for.Goals as goal
 
 pub returns-in-Some-clause-grown : goal.returns-in-Some-clause-grown
 returns-in-Some-clause-grown g c =

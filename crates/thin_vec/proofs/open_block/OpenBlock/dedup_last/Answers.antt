@@ -1,0 +1,23 @@
+-- The last item goes, or stays, or there was none: nothing is left to ask about.
+use Rattle.std.proofs.Common.{rules}
+use Rattle.thin_vec.proofs.DedupLemmas.{dedups-goes, dedups-stays, dedups-start}
+use Rattle.thin_vec.proofs.open_block.OpenBlock.dedup_last.Goals as goal
+
+-- there is none
+pub returns-then-rest_len-eq0-clause-dedups : goal.returns-then-rest_len-eq0-clause-dedups
+returns-then-rest_len-eq0-clause-dedups g c =
+    dedups-start g.J.AsksPairs.asks c.args.judge.now c.args.self.now c.requires.some c.requires.gap
+
+-- it goes
+pub returns-then-ask_last-clause-dedups : goal.returns-then-ask_last-clause-dedups
+returns-then-ask_last-clause-dedups g c =
+    dedups-goes g.J.AsksPairs.asks c.args.self.now c.ask_last.new.self
+    c.take_first-later.result c.ask_last.new.later c.ask_last.new.self.front
+    (search rules) (search rules) (search rules) (search rules)
+
+-- it stays
+pub returns-clause-dedups : goal.returns-clause-dedups
+returns-clause-dedups g c =
+    dedups-stays g.J.AsksPairs.asks c.args.self.now c.put_front.new.self
+    c.take_first-later.result c.ask_last.new.later c.ask_last.new.self.front
+    (search rules) (search rules) (search rules) (search rules)
