@@ -1,6 +1,5 @@
 //! A range that moves from one list into another, and both lists afterwards.
-ghost use Rattle.std.specs.Option.{option_to_list};
-ghost use Rattle.std.specs.Prelude.{◌≡◌, ◌-◌, ◌≤◌, [], ◌∷◌, ◌++◌, IsOk, OnErr, OnOk, drop, length, slice_range, take};
+ghost use Rattle.std.specs.Prelude.{◌≡◌, ◌-◌, ◌≤◌, ◌++◌, IsOk, OnErr, OnOk, drop, length, slice_range, take};
 ghost use Rattle.thin_vec.specs.ThinVec.{HasRoomFor};
 
 use std::alloc::{AllocError, Allocator};
@@ -30,36 +29,4 @@ pub fn move_range<A: Allocator, G: Growth>(
     let drain = list.drain(start, end);
     other.extend(drain.as_slice().iter().copied())?;
     Ok(())
-}
-
-/// Moves the odd ones of the numbers from 1 to 6 after those of `other`, or moves none.
-pub fn move_odd<A: Allocator, G: Growth>(
-    list: &mut ThinVec<u32, A, G>,
-    other: &mut ThinVec<u32, A, G>,
-) -> Result<(), AllocError>
-    requires to_six { list.old.items ≡ 1 ∷ 2 ∷ 3 ∷ 4 ∷ 5 ∷ 6 ∷ [] }
-    ensures succeeds { HasRoomFor other.old 3 → IsOk result }
-    ensures items { OnOk result (list.new.items ≡ 2 ∷ 4 ∷ 6 ∷ []) }
-    ensures other_items { OnOk result (other.new.items ≡ other.old.items ++ 1 ∷ 3 ∷ 5 ∷ []) }
-    ensures err { OnErr result (list.new ≡ list.old) }
-    ensures other_err { OnErr result (other.new ≡ other.old) }
-{
-    other.reserve(3)?;
-    let mut odd = list.extract_if(0, 6, |number: &mut u32| *number % 2 == 1);
-    push_next(other, odd.next());
-    push_next(other, odd.next());
-    push_next(other, odd.next());
-    Ok(())
-}
-
-// Appends the number, for which there is room, if there is one.
-fn push_next<A: Allocator, G: Growth>(list: &mut ThinVec<u32, A, G>, number: Option<u32>)
-    requires room { HasRoomFor list.old 1 }
-    ensures items { list.new.items ≡ list.old.items ++ option_to_list number }
-    ensures capacity { list.new.capacity ≡ list.old.capacity }
-    ensures alloc { list.new.alloc ≡ list.old.alloc }
-{
-    if let Some(number) = number {
-        list.push_reserved(number);
-    }
 }

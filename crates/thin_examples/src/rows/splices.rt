@@ -7,15 +7,25 @@ use std::iter::{empty, once};
 use thin_runner::hinted::Hinted;
 use thin_vec::{SpliceRefused, ThinVec, ThinVecError};
 
+// Splices three items for two of five, by a hint that claims so many.
+fn check_claimed<A: Allocator + Copy>(
+    checks: &mut Checks,
+    alloc: A,
+    claim: usize,
+    capacity: usize,
+) -> Result<(), ThinVecError> {
+    let mut list = listed(alloc, [1, 2, 3, 4, 5])?;
+    let items = claiming(alloc, [10, 11, 12], claim)?;
+    list.splice(2, 4, items).finish(alloc)?;
+    checks.holds(&list, &[1, 2, 10, 11, 12, 5], capacity);
+    Ok(())
+}
+
 /// A splice by a hint that claims too many items, and by a true one.
 pub fn row_10<A: Allocator + Copy>(alloc: A) -> Outcome {
     let mut checks = Checks::new();
-    for (claim, capacity) in [(1000, 1005), (3, 10)] {
-        let mut list = listed(alloc, [1, 2, 3, 4, 5])?;
-        let items = claiming(alloc, [10, 11, 12], claim)?;
-        list.splice(2, 4, items).finish(alloc)?;
-        checks.holds(&list, &[1, 2, 10, 11, 12, 5], capacity);
-    }
+    check_claimed(&mut checks, alloc, 1000, 1005)?;
+    check_claimed(&mut checks, alloc, 3, 10)?;
     Ok(checks)
 }
 
@@ -91,7 +101,7 @@ pub fn row_22<A: Allocator + Copy>(alloc: A) -> Outcome {
     Ok(checks)
 }
 
-// A range that is handed out whole, and nothing that takes its place, leave an empty list.
+// A range that is yielded whole, and nothing that takes its place, leave an empty list.
 fn check_emptied<A: Allocator + Copy>(checks: &mut Checks, alloc: A) -> Result<(), ThinVecError> {
     let mut list = listed(alloc, [1, 2, 3, 4, 5])?;
     let mut splice = list.splice(0, 5, empty());
@@ -103,23 +113,31 @@ fn check_emptied<A: Allocator + Copy>(checks: &mut Checks, alloc: A) -> Result<(
     Ok(())
 }
 
-// A splice of the numbers from 1 to 5 hands out two items, and puts three in; a second one hands
-// out what the first put in.
-fn check_spliced_twice<A: Allocator + Copy>(
+// A splice of the numbers from 1 to 5 yields two items, and puts three in.
+fn check_spliced<A: Allocator + Copy>(
     checks: &mut Checks,
     alloc: A,
-) -> Result<(), ThinVecError> {
+) -> Result<ThinVec<i32, A>, ThinVecError> {
     let mut list = listed(alloc, [1, 2, 3, 4, 5])?;
     let mut splice = list.splice(2, 4, 10..13);
     checks.items(&[splice.next(), splice.next_back()], &[Some(3), Some(4)]);
     splice.finish(alloc)?;
     checks.holds(&list, &[1, 2, 10, 11, 12, 5], 10);
+    Ok(list)
+}
+
+// A second splice yields what the first put in.
+fn check_spliced_again<A: Allocator + Copy>(
+    checks: &mut Checks,
+    alloc: A,
+    list: &mut ThinVec<i32, A>,
+) -> Result<(), ThinVecError> {
     if list.len() >= 3 {
         let mut again = list.splice(1, 3, once(20));
         checks.items(&[again.next(), again.next()], &[Some(2), Some(10)]);
         again.finish(alloc)?;
     }
-    checks.holds(&list, &[1, 20, 11, 12, 5], 10);
+    checks.holds(list, &[1, 20, 11, 12, 5], 10);
     Ok(())
 }
 
@@ -129,7 +147,8 @@ pub fn row_32<A: Allocator + Copy>(alloc: A) -> Outcome {
     let mut list = ThinVec::new(alloc);
     list.splice(0, 0, 10..13).finish(alloc)?;
     checks.holds(&list, &[10, 11, 12], 4);
-    check_spliced_twice(&mut checks, alloc)?;
+    let mut list = check_spliced(&mut checks, alloc)?;
+    check_spliced_again(&mut checks, alloc, &mut list)?;
     check_emptied(&mut checks, alloc)?;
     Ok(checks)
 }

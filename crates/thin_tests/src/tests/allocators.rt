@@ -6,6 +6,7 @@ use crate::tests::items::{list_of, refusing_nth};
 use std::alloc::{Allocator, Global};
 use std::process::Abort;
 use thin_examples::spliced::splice_by;
+use thin_testing::Refusing;
 use thin_vec::ThinVec;
 
 // Pushes an item to a `Vec`, which has then one more.
@@ -68,21 +69,30 @@ fn in_second_iter<A: Allocator + Copy>(
     in_vec(rt, list, alloc)
 }
 
+// One of the six ways.
+fn moved(
+    rt: &impl Abort,
+    way: u32,
+    list: ThinVec<i32, &'static Refusing<Global>>,
+    other: &'static Refusing<Global>,
+) -> Vec<i32, &'static Refusing<Global>> {
+    match way {
+        0 => in_vec(rt, list, other),
+        1 => in_boxed_slice(rt, list, other),
+        2 => in_split_list(rt, list, other),
+        3 => in_clone(rt, list, other),
+        4 => in_copy(rt, list, other),
+        _ => in_second_iter(rt, list, other),
+    }
+}
+
 // Each way for a list of these items: nothing of it stays on its own allocator, and one block comes
 // from the other.
 fn assert_moved(rt: &impl Abort, alloc: Global, items: &[i32]) {
     let own = refusing_nth(rt, alloc, 0);
     let other = refusing_nth(rt, alloc, 0);
     for way in 0..6 {
-        let list = list_of(rt, own, items);
-        let made = match way {
-            0 => in_vec(rt, list, other),
-            1 => in_boxed_slice(rt, list, other),
-            2 => in_split_list(rt, list, other),
-            3 => in_clone(rt, list, other),
-            4 => in_copy(rt, list, other),
-            _ => in_second_iter(rt, list, other),
-        };
+        let made = moved(rt, way, list_of(rt, own, items), other);
         assert_same(rt, (way, own.blocks(), other.blocks()), (way, 0, 1));
         drop(made);
     }

@@ -7,21 +7,23 @@ use std::process::Abort;
 use thin_testing::Refusing;
 use thin_vec::{ThinVec, ThinVecError};
 
+// Clears the list, and asserts that it has this capacity then.
+fn assert_cleared(rt: &impl Abort, list: &mut ThinVec<i32>, capacity: usize) {
+    list.clear();
+    assert_list(rt, list, &[], capacity);
+}
+
 #[test]
 fn test_clear(rt: HostRuntime) {
     let mut list = ThinVec::new(rt.alloc());
-    list.clear();
-    assert_list(&rt, &list, &[], 0);
+    assert_cleared(&rt, &mut list, 0);
     push_all(&rt, &mut list, 1..3);
     assert_list(&rt, &list, &[1, 2], 4);
-    list.clear();
-    assert_list(&rt, &list, &[], 4);
+    assert_cleared(&rt, &mut list, 4);
     push_all(&rt, &mut list, 3..5);
     assert_list(&rt, &list, &[3, 4], 4);
-    for _ in 0..2 {
-        list.clear();
-        assert_list(&rt, &list, &[], 4);
-    }
+    assert_cleared(&rt, &mut list, 4);
+    assert_cleared(&rt, &mut list, 4);
 }
 
 // Pushes these items, and asserts the capacity then.

@@ -203,18 +203,25 @@ fn test_drain_inclusive_range_to_the_first(rt: HostRuntime) {
     assert_drained(&rt, texts, first, false, &["0"], &["1"]);
 }
 
+// Drains six texts by a range with both ends.
+fn assert_texts_drained<R: Abort>(
+    rt: &R,
+    alloc: Global,
+    (first, last): (usize, usize),
+    given: &[&'static str],
+    left: &[&'static str],
+) {
+    let texts = ThinVec::from_slice(alloc, &["0", "1", "2", "3", "4", "5"]).expect(rt, "memory");
+    let range = (Bound::Included(first), Bound::Included(last));
+    assert_drained(rt, texts, range, false, given, left);
+}
+
 #[test]
 fn test_drain_inclusive_range_of_texts(rt: HostRuntime) {
-    let all = ["0", "1", "2", "3", "4", "5"];
-    for &(first, last, given, left) in &[
-        (1, 5, &all[1..], &all[..1]),
-        (0, 5, &all[..], &all[..0]),
-        (0, 3, &all[..4], &all[4..]),
-    ] {
-        let texts = ThinVec::from_slice(rt.alloc(), &all).expect(&rt, "memory");
-        let range = (Bound::Included(first), Bound::Included(last));
-        assert_drained(&rt, texts, range, false, given, left);
-    }
+    let alloc = rt.alloc();
+    assert_texts_drained(&rt, alloc, (1, 5), &["1", "2", "3", "4", "5"], &["0"]);
+    assert_texts_drained(&rt, alloc, (0, 5), &["0", "1", "2", "3", "4", "5"], &[]);
+    assert_texts_drained(&rt, alloc, (0, 3), &["0", "1", "2", "3"], &["4", "5"]);
 }
 
 #[test]

@@ -6,6 +6,7 @@ use crate::tests::items::{list_of, refusing_nth};
 use std::alloc::Global;
 use std::cell::Cell;
 use std::iter::once;
+use std::ops::Range;
 use std::process::Abort;
 use thin_vec::{ExtendRefused, ThinVec, ThinVecError};
 
@@ -25,24 +26,37 @@ fn extend_units(rt: &impl Abort, alloc: Global) {
     assert_same(rt, (units.len(), units.capacity()), (2, 4));
 }
 
+// Appends the numbers of the range.
+fn extend_by(rt: &impl Abort, list: &mut ThinVec<i32>, numbers: Range<i32>) {
+    list.extend(numbers).ok().expect(rt, "memory");
+}
+
+// Appends the items of the list's clone.
+fn extend_by_clone(rt: &impl Abort, list: &mut ThinVec<i32>, alloc: Global) {
+    let clone = list.clone(alloc).expect(rt, "memory");
+    list.extend(clone.as_slice().iter().copied())
+        .ok()
+        .expect(rt, "memory");
+}
+
 #[test]
 fn test_extend(rt: HostRuntime) {
     let alloc = rt.alloc();
     let mut list = ThinVec::new(alloc);
-    for items in [0..0, 0..3, 3..10] {
-        list.extend(items).ok().expect(&rt, "memory");
-    }
-    let clone = list.clone(alloc).expect(&rt, "memory");
-    list.extend(clone.as_slice().iter().copied())
-        .ok()
-        .expect(&rt, "memory");
+    extend_by(&rt, &mut list, 0..0);
+    extend_by(&rt, &mut list, 0..3);
+    extend_by(&rt, &mut list, 3..10);
+    extend_by_clone(&rt, &mut list, alloc);
     let twice = [0, 1, 2, 3, 4, 5, 6, 7, 8, 9, 0, 1, 2, 3, 4, 5, 6, 7, 8, 9];
     assert_list(&rt, &list, &twice, 20);
+}
 
+#[test]
+fn test_extend_drops(rt: HostRuntime) {
     let drops = Cell::new(0);
-    extend_counted(&rt, alloc, &drops);
+    extend_counted(&rt, rt.alloc(), &drops);
     assert_same(&rt, drops.get(), 1);
-    extend_units(&rt, alloc);
+    extend_units(&rt, rt.alloc());
 }
 
 #[test]
