@@ -38,8 +38,8 @@ fits s a c = is_small s a c
 abbrev pub Fits : RattleType → ℕ → Type 0
 Fits R c = IsTrue (fits (type_size R) (type_align R) c)
 
--- the least capacity that a growth by doubling makes: 1 for items of more than `usize::MAX / 8`
--- bytes, 4 for others (thin-vec)
+-- the capacity of a first block by doubling, unless more is wanted: 1 for items of more than
+-- `usize::MAX / 8` bytes, 4 for others (thin-vec)
 unfoldable pub first : ℕ → ℕ
 first s = if nat_lt (2 ^ 61 - 1) s then 1 else 4
 

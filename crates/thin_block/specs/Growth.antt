@@ -31,8 +31,8 @@ KeepsLaw rule = (s a c w n : ℕ) → c < w → w < 2 ^ 64 → rule s a c w ≡ 
 unfoldable pub fitting : ℕ → ℕ → ℕ → Option ℕ
 fitting s a n = if fits s a n then Some n else None
 
--- twice the capacity, or the want where that is more, and at least the first capacity (thin-vec:
--- `reserve`)
+-- twice the capacity, or the first capacity where that is 0, or the want where it is more
+-- (thin-vec: `reserve`)
 unfoldable pub doubling : Rule
 doubling s a c w = fitting s a (max w (if c == 0 then first s else 2 * c))
 

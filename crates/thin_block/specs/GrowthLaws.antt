@@ -1,5 +1,5 @@
--- That the rule of this crate keeps the law of rules. (Here and not in proofs/, since the impl of
--- `Growth` names it.)
+-- That doubling keeps the law of growth rules. (Here and not in proofs/, since the impl of `Growth`
+-- names it.)
 use Rattle.std.specs.Prelude.{◌≡◌, ℕ, ◌*◌, ◌≤◌, ◌==◌, Bool, true, false, IsTrue, if◌then◌else◌, max, refl}
 use Rattle.std.specs.declared.option.Option.TheVariants.{Some, None}
 use Rattle.std.proofs.Common.{subst, arith}

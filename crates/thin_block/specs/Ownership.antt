@@ -25,19 +25,19 @@ use denote.Sharing.{nothing, said, beside}
 use denote.Struct.Lending.{lent_at}
 use Rattle.thin_block.specs.Capacity.{is_small, header_items}
 
--- whether there is any
+-- whether the list has an item
 abbrev pub any : {X : Type 0} → List X → Bool
 any [] = false
 any (x ∷ xs) = true
 
--- lists of one length both have any, or neither does
+-- lists of one length both have an item, or neither does
 pub any_same : {X Y : Type 0} (xs : List X) (ys : List Y) → length ys ≡ length xs → any ys ≡ any xs
 any_same [] [] e = refl
 any_same [] (y ∷ ys) e = absurd (omega arith)
 any_same (x ∷ xs) [] e = absurd (omega arith)
 any_same (x ∷ xs) (y ∷ ys) e = refl
 
--- whether there is one
+-- whether it is `Some`
 abbrev pub there : {X : Type 0} → Option X → Bool
 there (Some x) = true
 there None = false

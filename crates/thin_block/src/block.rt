@@ -24,12 +24,12 @@ struct Header {
     aligned: [u128; 0],
 }
 
-/// At most one allocation that holds a capacity, a stored length and that many slots, each empty or
-/// holding an item.
+/// At most one allocation that holds a capacity, a stored length and as many slots as the capacity,
+/// each empty or holding an item.
 ///
-/// A block is one pointer wide. It is no owner that drops: `release` frees the memory, once every
-/// slot is empty. Contracts see the slots, the stored length, the allocator that the memory came
-/// from and three counters, none of which but the first two takes a byte at run time.
+/// A block is one pointer wide. It has no drop: `release` frees the memory, once every slot is
+/// empty. Contracts see the slots, the stored length, the allocator that the memory came from and
+/// three counters. Only the first two take memory.
 pub struct Block<T, A: Allocator> {
     // It points to the capacity, which the length and then the slots follow: of the allocation, or
     // of `NO_BLOCK`.

@@ -12,8 +12,7 @@ use thiserror::Error;
 /// Why a call failed.
 #[derive(Debug, Clone, Copy, PartialEq, Eq, Error)]
 pub enum ThinVecError {
-    /// The capacity that the call needs does not fit. It is found before memory is asked for that
-    /// capacity.
+    /// The capacity that the call needs is too large. No memory was requested for it.
     #[error("capacity overflow")]
     CapacityOverflow,
     /// The allocator failed, or the clone of an item.
@@ -30,7 +29,7 @@ impl From<AllocError> for ThinVecError {
 }
 
 impl From<ThinVecError> for AllocError {
-    // The cause is not told.
+    // `AllocError` carries no cause.
     fn from(_cause: ThinVecError) -> AllocError {
         AllocError
     }
@@ -39,7 +38,7 @@ impl From<ThinVecError> for AllocError {
 impl From<ThinVecError> for io::Error {
     ghost from_gives = { λ _ error. error_kind error ≡ Kind.OutOfMemory };
 
-    // An overflow too is an error of the kind `OutOfMemory`: std has none of its own for it.
+    // An overflow becomes `OutOfMemory` too: std has no kind for it.
     fn from(_cause: ThinVecError) -> io::Error {
         io::Error::from(ErrorKind::OutOfMemory)
     }

@@ -1,4 +1,4 @@
-//! By which rule a capacity grows: numbers only. Each rule has a file below this one.
+//! The rules by which a capacity grows, on numbers alone. Each has a file in `growth/`.
 ghost use Rattle.std.specs.Prelude.{◌≡◌, ◌<◌, ℕ, Option};
 ghost use Rattle.std.specs.Mem.{type_size};
 ghost use Rattle.std.specs.Align.{type_align};

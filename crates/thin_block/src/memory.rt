@@ -37,8 +37,8 @@ impl<T, A: Allocator> Block<T, A> {
         }
     }
 
-    /// Makes room for `cap` slots, by one allocation and one copy. Fails only where the allocator
-    /// does, and then nothing changes.
+    /// Makes room for `cap` slots, by one request for memory; the items are copied at most once.
+    /// Fails only where the allocator does, and then nothing changes.
     #[inline(always)]
     pub fn grow(&mut self, alloc: &A, cap: usize) -> Result<(), ThinVecError>
         requires from { IsFrom self.old alloc.now }
@@ -105,7 +105,7 @@ impl<T, A: Allocator> Block<T, A> {
         self.remake(alloc, cap)
     }
 
-    // The items in a block of `cap` slots.
+    // Moves the items to a new block of `cap` slots, and frees the old one.
     fn remake(&mut self, alloc: &A, cap: usize) -> Result<(), ThinVecError>
         requires from { IsFrom self.old alloc.now }
         requires some { 0 < cap }
@@ -133,7 +133,7 @@ impl<T, A: Allocator> Block<T, A> {
         Ok(())
     }
 
-    /// Frees the memory, where there is a block. Every slot is empty.
+    /// Frees the memory, where there is a block. Every slot must be empty.
     pub fn release(self, alloc: &A)
         requires from { IsFrom self alloc.now }
         requires empty { self.slots ≡ empty (length self.slots) }

@@ -12,8 +12,8 @@ use std::alloc::Allocator;
 impl<T, A: Allocator> Block<T, A> {
     ghost use Rattle.thin_block.specs.Block.{seen};
 
-    /// Moves the `k` items in the slots from `from` on to those from `to` on. The two runs may
-    /// overlap.
+    /// Moves the `k` items in the slots starting at `from` to those starting at `to`. The two runs
+    /// may overlap.
     pub fn move_run(&mut self, from: usize, to: usize, k: usize)
         requires source { from + k ≤ length self.old.slots }
         requires target { to + k ≤ length self.old.slots }
@@ -33,8 +33,8 @@ impl<T, A: Allocator> Block<T, A> {
         }
     }
 
-    /// Moves the `k` items after the `gap` empty slots from `to` on down to those: to LLVM a
-    /// `memmove`, where `gap` is a constant.
+    /// Moves the `k` items that follow the `gap` empty slots at `to` down into them. Where `gap` is
+    /// a constant, LLVM makes this a `memmove`.
     #[inline(always)]
     pub fn move_down(&mut self, to: usize, gap: usize, k: usize)
         requires in_bounds { to + gap + k ≤ length self.old.slots }
@@ -130,7 +130,8 @@ impl<T, A: Allocator> Block<T, A> {
         }
     }
 
-    /// Moves the `k` items in the slots from `from` on to the empty slots of `other` from `to` on.
+    /// Moves the `k` items in the slots starting at `from` to the empty slots of `other` starting
+    /// at `to`.
     pub fn move_run_to(&mut self, from: usize, k: usize, other: &mut Block<T, A>, to: usize)
         requires source { from + k ≤ length self.old.slots }
         requires target { to + k ≤ length other.old.slots }
@@ -147,8 +148,8 @@ impl<T, A: Allocator> Block<T, A> {
         self.move_run_charging(from, other, to, k);
     }
 
-    // Moves the `k` items in the slots from `from` on to those of `to_block` from `to` on, and says
-    // what `to_block` has cost by then.
+    // Moves the `k` items in the slots starting at `from` to those of `to_block` starting at `to`,
+    // and says what `to_block` has cost by then.
     pub(crate) fn move_run_charging(
         &mut self,
         from: usize,

@@ -29,8 +29,7 @@ pub(crate) fn item_align<T>() -> usize
     align_of::<T>()
 }
 
-// How many items the header takes the room of, where it takes that of whole ones, aligned as it is.
-// Else 0.
+// How many whole items take exactly the header's room, aligned as it is; else 0.
 pub(crate) fn header_items<T>() -> usize
     ensures value { result ≡ header_items (type_size T.row) (type_align T.row) }
 {

@@ -29,15 +29,16 @@ impl<T, A: Allocator> Block<T, A> {
         unsafe { (at.add(HEADER_WORDS) as *mut T).add(i).write(value) }
     }
 
-    // Says that the block has cost what `from` has, and one growth with its items. It does nothing.
+    // Sets the ghost cost to that of `from` and one growth with its items. Nothing happens at run
+    // time.
     pub(crate) fn charge_as(&mut self, from: &Block<T, A>)
         ensures changes { seen self.new ≡ record (seen self.old) {
           cost = growing from.now.len from.now.cost;
         } }
     {}
 
-    /// `put`, and then `store_len`: both by one pointer, so that writing the item can't make the
-    /// block be read again.
+    /// `put`, and then `store_len`: both by one pointer, so that the compiler need not read it
+    /// again.
     pub fn put_and_store(&mut self, i: usize, value: T, len: usize)
         requires in_bounds { i < length self.old.slots }
         requires empty { slot self.old.slots i ≡ None }
@@ -156,10 +157,10 @@ impl<T: Copy, A: Allocator> Block<T, A> {
     }
 }
 
-// `row` with a copy of each of `items`, as many as it has places.
+// `row` filled with copies of `items`.
 //
-// std's `Slots::copy_in` is one copy, by a call and after a test whether the two runs overlap. For
-// a few items that would cost more than the items.
+// `Slots::copy_in` is one copy, by a call and after a test whether the two runs overlap. For a few
+// items that would cost more than the items.
 fn copied<T: Copy>(mut row: Slots<T>, items: &[T]) -> Slots<T>
     requires room { slots_len row ≡ length items.now }
     ensures cap { SamePlaces row result }

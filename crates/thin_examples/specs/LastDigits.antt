@@ -1,4 +1,4 @@
--- What the numbers of the tests are compared by.
+-- The last digit of a number, by which it is compared.
 use Rattle.std.specs.Prelude.{ℕ, ◌%◌}
 use Rattle.thin_examples.specs.declared.last_digits.LastDigit.{LastDigit}
 

@@ -104,8 +104,8 @@ pub fn extend_by_number<A: Allocator, G: Growth>(
     }
 }
 
-/// Makes the text `len` bytes long, by spaces after it. Refused, it is as it was, and so is its
-/// capacity.
+/// Makes the text `len` bytes long, by spaces after it. Where it fails, it is as it was, and so is
+/// its capacity.
 pub fn pad<A: Allocator, G: Growth>(
     text: &mut ThinVec<u8, A, G>,
     len: usize,
@@ -119,7 +119,7 @@ pub fn pad<A: Allocator, G: Growth>(
     Ok(())
 }
 
-/// Appends a line. Refused, the text is as it was.
+/// Appends a line. Where it fails, the text is as it was.
 pub fn append_line<A: Allocator, G: Growth>(
     text: &mut ThinVec<u8, A, G>,
     line: &[u8],
@@ -133,8 +133,8 @@ pub fn append_line<A: Allocator, G: Growth>(
     Ok(())
 }
 
-/// Takes all items of `other`. Where it has none, no memory is asked for. Refused, both are as they
-/// were.
+/// Takes all items of `other`. Where it has none, no memory is asked for. Where it fails, both are
+/// as they were.
 pub fn take_all<T, A: Allocator, G: Growth>(
     list: &mut ThinVec<T, A, G>,
     other: &mut ThinVec<T, A, G>,

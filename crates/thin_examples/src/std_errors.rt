@@ -19,8 +19,8 @@ pub fn doubled<A: Allocator>(alloc: A, numbers: &[u32]) -> Result<ThinVec<u64, A
         .collect(alloc)
 }
 
-/// Appends a line of text and its end. Refused, the old bytes stay, and the line may stand after
-/// them without its end.
+/// Appends a line of text and its end. Where it fails, the old bytes stay, and the line may stand
+/// after them without its end.
 pub fn write_line<A: Allocator, G: Growth>(
     bytes: &mut ThinVec<u8, A, G>,
     line: &[u8],

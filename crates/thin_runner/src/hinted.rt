@@ -8,10 +8,10 @@ use std::alloc::{Allocator, Global};
 use std::vec::IntoIter;
 
 /// Yields its items in order and then `None` for good, and claims the same lower bound at each
-/// turn.
+/// call.
 ///
-/// The claim may be past the truth. So that it keeps the rule of `size_hint`, it says that as many
-/// items may come as are left and as it claims.
+/// The claim may be past the truth. To keep the contract of `size_hint`, its ghost `remaining`
+/// allows for the items left and as many more as it claims.
 #[derive(Drop)]
 pub struct Hinted<T, A: Allocator = Global> {
     items: IntoIter<T, A>,
@@ -21,7 +21,7 @@ pub struct Hinted<T, A: Allocator = Global> {
 impl<T, A: Allocator> Hinted<T, A> {
     ghost use Rattle.thin_runner.specs.Hinted.{HintedSteps, hinted_claim, hinted_items};
 
-    /// Yields the items of `items`, which it owns, and claims at least `lower` at each turn.
+    /// Yields the items of `items`, which it owns, and claims at least `lower` at each call.
     pub fn new(items: Vec<T, A>, lower: usize) -> Hinted<T, A>
         ensures items { hinted_items result ≡ items.items }
         ensures claim { hinted_claim result ≡ lower }

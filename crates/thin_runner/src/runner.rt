@@ -1,4 +1,4 @@
-//! Does commands on a list: the only functions that do.
+//! `step` and `run`, which do commands on a list.
 ghost use Rattle.std.specs.Prelude.{◌≡◌, ◌<◌, ◌+◌, ◌≤◌, ◌↔◌, IsTrue, IfErr, IsOk, OnErr, OnOk, length, vec_capacity, vec_len};
 ghost use Rattle.thin_runner.specs.Headline.{Headline};
 ghost use Rattle.thin_runner.specs.Setting.{setting};

@@ -7,8 +7,8 @@ use Rattle.thin_block.specs.Cost.{Cost, cost_code, moving}
 use Rattle.thin_block.specs.Slots.{empty, full}
 
 -- the items that stay in front; how many empty slots lie after them; the items of the middle run;
--- how many empty slots lie after those; the items that the edit has not reached; how many slots
--- there are; the allocator that the memory came from; the cost
+-- how many empty slots lie after those; the items after the range; how many slots there are; the
+-- allocator that the memory came from; the cost
 pub record Open (T A : Type 0) : Type 0 where
   pub front : List T
   pub before : ℕ

@@ -1,5 +1,5 @@
 -- What asking about the items of an open block's middle run leaves. (std: `Vec::retain_mut`,
--- `Vec::dedup_by`)
+-- `Vec::extract_if`)
 use Rattle.std.specs.Prelude.{◌≡◌, ℕ, ◌+◌, ◌<◌, ◌==◌, List, [], ◌∷◌, ◌++◌, Bool, true, false, drop, if◌then◌else◌, length, take}
 use Rattle.thin_block.specs.Cost.{moving}
 use Rattle.thin_vec.specs.Filters.{Answers, Asked, flags_of, left_at, moved_up, stay, trues}

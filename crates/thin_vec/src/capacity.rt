@@ -42,8 +42,8 @@ impl<T, A: Allocator, G: Growth> ThinVec<T, A, G> {
         self.grow_for(additional)
     }
 
-    /// Makes room for `additional` more items and no further one: where there is not room enough,
-    /// the capacity becomes the length and `additional`.
+    /// Makes room for exactly `additional` more items: where there is not room enough, the capacity
+    /// becomes the length and `additional`.
     ///
     /// It fails where that capacity does not fit, or the allocator fails, and then nothing changes.
     /// A list that grows by this call alone copies its items each time: see `reserve`.
@@ -104,8 +104,8 @@ impl<T, A: Allocator, G: Growth> ThinVec<T, A, G> {
     }
 
     // `reserve` for a run of items. Its test is one comparison where the run's length is known when
-    // this is compiled, as that of a literal is; for the one item of a push, the test of `reserve`
-    // is.
+    // this is compiled, as that of a literal is. (For one item the test of `reserve` is one
+    // comparison too.)
     #[tactic(auto, using(thin_block::proofs::CapacityLemmas::ruled))]
     pub(crate) fn reserve_run(&mut self, additional: usize) -> Result<(), ThinVecError>
         ensures succeeds { HasRoomFor self.old additional → IsOk result }

@@ -1,5 +1,5 @@
-//! The calls that clone items. Each clones into spare room that it has made before, with no test an
-//! item.
+//! The calls that clone items. Each clones into spare room that it has made before, with no test
+//! per item.
 ghost use Rattle.std.specs.Prelude.{◌≡◌, ◌⊎◌, ◌+◌, ◌<◌, ◌≤◌, [], ◌++◌, All, HoldsAt, IfErr, IfOk, IsErrOf, IsOk, None, OnErr, OnOk, Some, length, take};
 ghost use Rattle.std.specs.List.{AllZip, AppendsClones};
 ghost use Rattle.thin_block.specs.Capacity.{Fits};
@@ -15,7 +15,7 @@ impl<T: Copy, A: Allocator, G: Growth> ThinVec<T, A, G> {
     ghost use Rattle.thin_vec.specs.Cheap.{IsCheap};
     ghost use Rattle.thin_vec.specs.ThinVec.{HasRoomFor, IsCause, IsWithin, capacity_for, cost_at, cost_new};
 
-    /// `extend_from_slice` of items that are copied: they come in as one run.
+    /// `extend_from_slice` of items that are copied: they come in as one run. (own)
     ///
     /// It fails as `reserve` does, and then nothing changes.
     pub fn extend_from_copies(&mut self, items: &[T]) -> Result<(), ThinVecError>
@@ -46,7 +46,7 @@ impl<T: Copy, A: Allocator, G: Growth> ThinVec<T, A, G> {
         Ok(())
     }
 
-    /// `clone` of items that are copied: they come over as one run.
+    /// `clone` of items that are copied: they come over as one run. (own)
     ///
     /// It fails only where the allocator does.
     pub fn clone_copies(&self, alloc: A) -> Result<ThinVec<T, A, G>, ThinVecError>
@@ -89,8 +89,8 @@ impl<T: Clone, A: Allocator, G: Growth> ThinVec<T, A, G> {
     ghost use Rattle.thin_vec.specs.Cheap.{IsCheap};
     ghost use Rattle.thin_vec.specs.ThinVec.{HasRoomFor, IsCause, IsWithin, capacity_for, cost_at, cost_new};
 
-    /// Appends a clone of each of `items`, in order. Items that are `Copy` come in faster by
-    /// `extend_from_copies`.
+    /// Appends a clone of each of `items`, in order. For items that are `Copy`,
+    /// `extend_from_copies` is faster.
     ///
     /// It fails as `reserve` does, and then nothing changes. It fails with `OutOfMemory` also where
     /// a clone does: the clones made before are dropped, the list has its old items, and the room
@@ -132,8 +132,8 @@ impl<T: Clone, A: Allocator, G: Growth> ThinVec<T, A, G> {
     }
 
     /// A list on `alloc` of a clone of each item, in order, under the same growth rule. Its
-    /// capacity is the length: the clone of an empty list allocates nothing. Items that are `Copy`
-    /// come over faster by `clone_copies`.
+    /// capacity is the length: the clone of an empty list allocates nothing. For items that are
+    /// `Copy`, `clone_copies` is faster.
     ///
     /// It fails where the allocator or the clone of an item fails, and then the clones made before
     /// are dropped.
@@ -181,7 +181,7 @@ impl<T: Clone, A: Allocator, G: Growth> ThinVec<T, A, G> {
     }
 
     /// `extend_from_slice` into room that the caller has shown to be there: it fails only where a
-    /// clone does, as `OutOfMemory`. The clones made until then are dropped. (own)
+    /// clone does, with `OutOfMemory`. The clones made until then are dropped. (own)
     pub fn extend_from_slice_reserved(&mut self, items: &[T]) -> Result<(), ThinVecError>
         requires room { HasRoomFor self.old (length items.now) }
         ensures succeeds { All T.is_infallible items.now → IsOk result }

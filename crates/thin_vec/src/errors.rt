@@ -1,4 +1,4 @@
-//! What a call returns that fails and owns what the caller passed.
+//! The errors of calls that take ownership of what they are passed.
 ghost use Rattle.std.specs.Prelude.{◌≡◌};
 ghost use Rattle.std.specs.IoError.{error_kind};
 ghost use Rattle.std.specs.declared.io.ErrorKind.TheVariants as Kind;
@@ -158,7 +158,7 @@ impl<T: Drop, I: Drop, A: Allocator> From<SpliceRefused<T, I, A>> for io::Error 
     }
 }
 
-// The texts tell the cause alone, so that what the error returns need not be printable.
+// The texts name only the cause, so that what the error returns need not be printable.
 impl<S> fmt::Debug for Rejected<S> {
     fn fmt<W: fmt::Write>(&self, f: &mut fmt::Formatter<W>) -> fmt::Result {
         f.debug_struct("Rejected")

@@ -161,7 +161,8 @@ impl<T, A: Allocator, G: Growth> ThinVec<T, A, G> {
         (rest, over)
     }
 
-    // Fills the spare room, and stores the length once. The iterator ended where room is left.
+    // Fills the spare room, and stores the length once. Returns the iterator, and whether it ended:
+    // it did where room is left.
     pub(crate) fn fill_spare<I: Iterator<Item = T>>(&mut self, iter: I) -> (I, bool)
         requires can_next { I.can_next iter }
         requires finite { IsFinite (I.remaining iter) }

@@ -59,8 +59,8 @@ impl<T, A: Allocator> OpenBlock<T, A> {
 }
 
 impl<T, A: Allocator, G: Growth> ThinVec<T, A, G> {
-    // Fills the gap and closes it. Returns where the items end that were placed, the iterator, and
-    // whether it ended before the gap was full.
+    // Fills the gap and closes it. Returns where the placed items end, the iterator, and whether it
+    // ended before the gap was full.
     fn close_filled<I: Iterator<Item = T>>(
         &mut self,
         mut block: OpenBlock<T, A>,
@@ -83,8 +83,8 @@ impl<T, A: Allocator, G: Growth> ThinVec<T, A, G> {
 }
 
 impl<T: Drop, A: Allocator, G: Growth> ThinVec<T, A, G> {
-    // What `iter` yields is held in a vector on `alloc`, and then goes before the item at `at` as
-    // one run. It is not asked for a hint.
+    // What `iter` yields is held in a vector on `alloc`, and then goes before the item at `at`: the
+    // items from there on move up as one run. It is not asked for a hint.
     fn insert_held<I: Iterator<Item = T>>(
         &mut self,
         at: usize,

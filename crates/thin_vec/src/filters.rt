@@ -2,7 +2,7 @@
 //!
 //! Up to the first item that goes nothing moves. From then on the list has a gap, and adjacent
 //! items that stay wait where they are until a later one goes or the walk ends: then they go to the
-//! start of the gap as one run.
+//! start of the gap together.
 ghost use Rattle.std.specs.Prelude.{◌≡◌, ◌+◌, ◌<◌};
 ghost use Rattle.std.specs.Fn.{CalledAt, CalledAtMut, CalledAtPairMut, ComparesKeys};
 ghost use Rattle.std.specs.List.{dedup};
@@ -83,14 +83,14 @@ impl<T: Drop, A: Allocator, G: Growth> ThinVec<T, A, G> {
         ensures grown { self.new.cost.grown ≡ self.old.cost.grown }
         ensures within { IsWithin T.row self.old × IsWithin T.row self.new }
     {
-        let mut judge = Merging { same };
-        self.merge_those(&mut judge);
-        let Merging { same: _ } = judge;
+        let mut judge = Deduping { same };
+        self.dedup_those(&mut judge);
+        let Deduping { same: _ } = judge;
     }
 
     // Asks about each item but the first, in order, beside the last one kept, and drops those that
     // go.
-    fn merge_those<J: AsksPairs<T>>(&mut self, judge: &mut J)
+    fn dedup_those<J: AsksPairs<T>>(&mut self, judge: &mut J)
         requires ready { J.ready judge.old }
         ensures deduped { IsDedupedTo J.asks judge.old self.old self.new judge.new }
         ensures changes { self.new ≡ record self.old {
@@ -120,7 +120,7 @@ impl<T: Drop, A: Allocator, G: Growth> ThinVec<T, A, G> {
         ensures within { IsWithin T.row self.old × IsWithin T.row self.new }
     {
         let mut judge = Keying { key };
-        self.merge_those(&mut judge);
+        self.dedup_those(&mut judge);
         let Keying { key: _ } = judge;
     }
 }
@@ -142,7 +142,7 @@ impl<T: PartialEq + Drop, A: Allocator, G: Growth> ThinVec<T, A, G> {
         ensures within { IsWithin T.row self.old × IsWithin T.row self.new }
     {
         let mut judge = Comparing {};
-        self.merge_those(&mut judge);
+        self.dedup_those(&mut judge);
         let Comparing {} = judge;
     }
 }
@@ -183,7 +183,7 @@ impl<T, F: FnMut(&mut T) -> bool> Asks<T> for Writing<F> {
 }
 
 // A closure that says of two items whether the later one goes.
-struct Merging<F> {
+struct Deduping<F> {
     same: F,
 }
 
@@ -195,7 +195,7 @@ struct Keying<F> {
 // Two equal items are the same.
 struct Comparing {}
 
-impl<T, F: FnMut(&mut T, &mut T) -> bool> AsksPairs<T> for Merging<F> {
+impl<T, F: FnMut(&mut T, &mut T) -> bool> AsksPairs<T> for Deduping<F> {
     ghost use Rattle.std.specs.Fn.{CalledAtPairMut};
 
     ghost asks = { λ s x k b t y l. CalledAtPairMut F.FnMut s.same x k b t.same y l };

@@ -142,7 +142,7 @@ impl<T, A: Allocator> ThinVec<T, A> {
 }
 
 impl<T: Copy, A: Allocator> ThinVec<T, A> {
-    /// `from_slice` of items that are copied: they come in as one run.
+    /// `from_slice` of items that are copied: they come in as one run. (own)
     ///
     /// It fails where a capacity of their number does not fit or the allocator fails.
     pub fn from_copies(alloc: A, items: &[T]) -> Result<ThinVec<T, A>, ThinVecError>
@@ -170,7 +170,7 @@ impl<T: Copy, A: Allocator> ThinVec<T, A> {
 
 impl<T: Clone, A: Allocator> ThinVec<T, A> {
     /// Makes a list of a clone of each of `items`, in order, with exactly that capacity. An empty
-    /// slice needs no allocation. Items that are `Copy` come in faster by `from_copies`.
+    /// slice needs no allocation. For items that are `Copy`, `from_copies` is faster.
     ///
     /// It fails where that capacity does not fit, or the allocator or the clone of an item fails,
     /// and then the clones made before are dropped.

@@ -1,6 +1,6 @@
 //! How an edit holds what it took out of a list.
 //!
-//! An edit lends a list and owns its block. A struct that has a raw pointer in a declared field
+//! An edit borrows a list and owns its block. A struct that has a raw pointer in a declared field
 //! beside a `&mut` can't say, in the contract of its drop, what the `&mut` then leads to. So a type
 //! parameter hides what an edit owns.
 ghost use Rattle.std.specs.Prelude.{◌≡◌};

@@ -50,7 +50,7 @@ impl<T, A: Allocator, G: Growth> ThinVec<T, A, G> {
         Ok(())
     }
 
-    /// `insert` into room that the caller has shown to be there: it returns no `Result`.
+    /// `insert` into room that the caller has shown to be there: it returns no `Result`. (own)
     pub fn insert_reserved(&mut self, index: usize, value: T)
         requires in_bounds { index ≤ length self.old.items }
         requires room { HasRoomFor self.old 1 }

@@ -1,5 +1,5 @@
 //! A growable list that is one pointer wide: its length and its capacity stand in the block that it
-//! allocates.
+//! allocates. (own) marks a call that the Rust crate thin-vec lacks.
 #![tactic(auto)]
 
 mod bytes;

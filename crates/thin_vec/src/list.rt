@@ -61,7 +61,7 @@ impl<T, A: Allocator, G: Growth> ThinVec<T, A, G> {
     ghost use Rattle.thin_vec.specs.ThinVec.{HasRoomFor, IsCause, IsNew, IsWithin, capacity_for, cost_at};
     ghost use Rattle.thin_vec.specs.Cheap.{IsCheap};
 
-    /// `new` under any growth rule.
+    /// `new` under any growth rule. (own)
     pub fn ruled(alloc: A) -> ThinVec<T, A, G>
         ensures new { IsNew result alloc }
         ensures within { IsWithin T.row result }
@@ -82,7 +82,7 @@ impl<T, A: Allocator, G: Growth> ThinVec<T, A, G> {
         self.block.len()
     }
 
-    /// The allocator that the list keeps.
+    /// The allocator that the list keeps. (own)
     pub fn allocator(&self) -> &A
         ensures value { result.now ≡ self.now.alloc }
     {

@@ -11,12 +11,10 @@ use std::marker::Model;
 use std::mem;
 use thin_block::{Block, Growth};
 
-/// A block that is open: the items in front stay, and after them lie a gap, the items of the
-/// middle run, a gap again, and the items that the edit has not reached. A contract sees it as an
-/// `Open`.
+/// A block that is open: the items in front stay, and after them lie a gap, the items of the middle
+/// run, a gap again, and the items after the range. A contract sees it as an `Open`.
 ///
-/// It owns the block and its items, and is no owner that drops: `close` puts the block back into
-/// the list.
+/// It owns the block and its items, and has no drop: `close` puts the block back into the list.
 pub struct OpenBlock<T, A: Allocator> {
     pub(crate) block: Block<T, A>,
     // The front lies in the slots up to `front_end`.

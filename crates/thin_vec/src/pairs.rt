@@ -67,7 +67,7 @@ impl<T, A: Allocator> OpenBlock<T, A> {
     }
 
     // Puts `value` after the front.
-    pub(crate) fn put_front(&mut self, value: T)
+    pub(crate) fn append_to_front(&mut self, value: T)
         requires gap { 0 < self.old.before }
         ensures { self.new ≡ record self.old {
           front = self.old.front ++ value ∷ [];
@@ -156,7 +156,7 @@ impl<T: Drop, A: Allocator> OpenBlock<T, A> {
             return;
         }
         let goes = self.ask_next(&mut later, judge);
-        self.put_front(later);
+        self.append_to_front(later);
         if goes {
             drop(self.take_first());
             return;
@@ -185,7 +185,7 @@ impl<T: Drop, A: Allocator> OpenBlock<T, A> {
             drop(later);
             return;
         }
-        self.put_front(later);
+        self.append_to_front(later);
     }
 }
 

@@ -6,7 +6,7 @@ use std::ops::Bound;
 
 /// The range between two bounds in a list of `len` items, as the index of its first item and the
 /// one after its last, or `None` where it begins after its end, or ends past the list. It is the
-/// test for the ranges that edits ask for.
+/// test for the ranges that edits ask for. (own)
 ///
 /// It is what std's `slice::range` does with such bounds, where that panics.
 pub fn bounds(start: Bound<usize>, end: Bound<usize>, len: usize) -> Option<(usize, usize)>

@@ -114,7 +114,7 @@ impl<T: Drop, A: Allocator, G: Growth> ThinVec<T, A, G> {
         ensures other_items { OnOk result (other.new.items ≡ []) }
         ensures other_changes { other.new ≡ record other.old { items = other.new.items } }
 
-        // When it fails, nothing has changed.
+        // Where it fails, nothing changed.
         ensures err { OnErr result (self.new ≡ self.old) }
         ensures other_err { OnErr result (other.new ≡ other.old) }
         ensures never_less { self.old.capacity ≤ self.new.capacity }

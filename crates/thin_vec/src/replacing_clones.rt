@@ -18,8 +18,8 @@ impl<T: Clone, A: Allocator, G: Growth> ThinVec<T, A, G> {
     /// `end`, which are dropped once all clones are made. (own)
     ///
     /// It makes room for the clones beside the old items. It fails as `reserve` does for that room,
-    /// and then nothing changes. It fails as `OutOfMemory` also where a clone does: the clones made
-    /// until then are dropped, the list has its old items, and the room that was made stays.
+    /// and then nothing changes. It fails with `OutOfMemory` also where a clone does: the clones
+    /// made until then are dropped, the list has its old items, and the room that was made stays.
     pub fn replace_range(
         &mut self,
         start: usize,
@@ -51,7 +51,7 @@ impl<T: Clone, A: Allocator, G: Growth> ThinVec<T, A, G> {
         ensures alloc { self.new.alloc ≡ self.old.alloc }
         ensures cheap { IsCheap self.old → IsCheap self.new }
 
-        // When it fails, nothing has changed, or there was room and a clone failed.
+        // Where it fails, nothing changed, or there was room and a clone failed.
         ensures err_items { OnErr result (self.new.items ≡ self.old.items) }
         ensures refused { OnErr result ((self.new ≡ self.old)
             ⊎ IsReplaceStopped G.rule T.row (length items.now) end self.old self.new) }

@@ -11,10 +11,10 @@ impl<T, A: Allocator, G: Growth> ThinVec<T, A, G> {
     ghost use Rattle.thin_vec.specs.ThinVec.{IsWithin, cost_shrunk, cost_shrunk_to};
 
     /// Makes the capacity `min_capacity`, or the length where that is greater. A list of no greater
-    /// capacity stays as it is.
+    /// capacity stays as it is. (own)
     ///
     /// It fails only where the allocator does, and then nothing changes. At 0 an empty list frees
-    /// its block, and begins its counters again.
+    /// its block, and resets its counters.
     pub fn shrink_to(&mut self, min_capacity: usize) -> Result<(), ThinVecError>
         ensures succeeds { self.old.capacity ≤ max min_capacity (length self.old.items)
             → IsOk result }
@@ -42,7 +42,7 @@ impl<T, A: Allocator, G: Growth> ThinVec<T, A, G> {
     /// Makes the capacity the length: a full list stays, and an empty one frees its block.
     ///
     /// It fails only where the allocator does, and then nothing changes. An empty list that frees
-    /// its block begins its counters again.
+    /// its block resets its counters.
     pub fn shrink_to_fit(&mut self) -> Result<(), ThinVecError>
         ensures succeeds_empty { length self.old.items ≡ 0 → IsOk result }
         ensures succeeds_full { length self.old.items ≡ self.old.capacity → IsOk result }

@@ -71,8 +71,8 @@ impl<T, A: Allocator> OpenBlock<T, A> {
         self.rest_start += 1;
     }
 
-    // The first `k` items of the middle run move to the front: two or a few in line, and more as
-    // one run.
+    // The first `k` items of the middle run move to the front: two with no loop, fewer than `MANY`
+    // one by one, and more as one run.
     #[inline(always)]
     pub(crate) fn move_down(&mut self, k: usize)
         requires in_bounds { k ≤ length self.old.rest }

@@ -42,7 +42,7 @@ impl<T, A: Allocator, G: Growth> ThinVec<T, A, G> {
     /// Takes the items from `start` up to `end` out of the list, and puts those of `iter` in their
     /// place: the `Splice` yields the former from either end, and its `finish` draws the latter.
     ///
-    /// It takes no memory, and draws no item of `iter`. `bounds` is the test for the range.
+    /// It allocates nothing, and draws no item of `iter`. `bounds` is the test for the range.
     pub fn splice<I: Iterator<Item = T>>(
         &mut self,
         start: usize,
@@ -124,15 +124,15 @@ impl<
     ghost use Rattle.thin_vec.specs.Splice.{splice_alloc, splice_block, splice_iter, splice_left, splice_range, splice_replaced};
 
     /// Drops what is left of the range, and puts the items in its place that the iterator yields
-    /// before its first `None`. After that it is not asked again.
+    /// before its first `None`. After that it is not asked again. (own)
     ///
     /// With no item after the range this is an `extend`. With some, the range's places are filled
     /// first. Then the iterator's hint is asked, once, and room is made for its lower bound. What
-    /// it yields beyond that is held in a vector on `alloc`, and goes in as one run. Where the
-    /// iterator yields at most as many items as the range has, no memory is taken, and nothing can
-    /// fail.
+    /// it yields beyond that is held in a vector on `alloc`, for which the items after the range
+    /// move up once more, as one run. Where the iterator can yield no more items than the range
+    /// has, it allocates nothing and can't fail.
     ///
-    /// When it fails, the list has what was placed, and the error has the rest.
+    /// Where it fails, the list has what was placed, and the error has the rest.
     pub fn finish(self, alloc: A) -> Result<(), SpliceRefused<T, I, A>>
         requires can_next { I.can_next (splice_iter self) }
         requires finite { IsFinite (I.remaining (splice_iter self)) }

@@ -7,8 +7,8 @@ ghost use Rattle.thin_block.specs.Growth.{doubling, ruled_capacity};
 use crate::growth::{Growth, fitting};
 use crate::sizes::item_size;
 
-/// The rule of the Rust crate: twice the capacity, or the want where that is more, and at least
-/// `first_capacity`.
+/// The rule of the Rust crate: twice the capacity, or `first_capacity` where that is 0, or the want
+/// where it is more.
 pub struct Doubling {}
 
 impl Growth for Doubling {
@@ -29,7 +29,8 @@ impl Growth for Doubling {
     ghost law = { doubling_law };
 }
 
-/// The least capacity by doubling: 4, or 1 for items of more than `usize::MAX / 8` bytes.
+/// The capacity of a first block by doubling, unless more is wanted: 4, or 1 for items of more than
+/// `usize::MAX / 8` bytes.
 pub fn first_capacity<T>() -> usize
     ensures value { result ≡ first (type_size T.row) }
 {

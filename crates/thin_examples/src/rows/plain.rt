@@ -64,7 +64,7 @@ pub fn row_5<A: Allocator + Copy>(alloc: A) -> Outcome {
     Ok(checks)
 }
 
-// Compares the word that `swap_remove` hands out, and those that it leaves.
+// Compares the word that `swap_remove` returns, and those that it leaves.
 fn check_swapped<A: Allocator>(
     checks: &mut Checks,
     list: &mut ThinVec<&'static str, A>,

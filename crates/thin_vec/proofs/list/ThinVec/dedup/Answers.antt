@@ -7,13 +7,13 @@ use Rattle.thin_vec.proofs.list.ThinVec.dedup.Goals as goal
 
 pub returns-clause-items : goal.returns-clause-items
 returns-clause-items g c =
-    let h = c.merge_those.ensures.deduped in
+    let h = c.dedup_those.ensures.deduped in
     (pairs-compare g.T.PartialEq.eq c.args.self.now.items _ _ h.stays
-    c.merge_those.new.self.items h.asked).1
+    c.dedup_those.new.self.items h.asked).1
 
 pub returns-clause-cost : goal.returns-clause-cost
 returns-clause-cost g c =
-    let h = c.merge_those.ensures.deduped in
+    let h = c.dedup_those.ensures.deduped in
     h.cost ∙ ap (λ f. moving (moved_up f) c.args.self.now.cost)
     (pairs-compare g.T.PartialEq.eq c.args.self.now.items _ _ h.stays
-    c.merge_those.new.self.items h.asked).0
+    c.dedup_those.new.self.items h.asked).0

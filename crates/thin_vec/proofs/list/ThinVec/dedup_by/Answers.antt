@@ -6,4 +6,4 @@ use Rattle.thin_vec.proofs.list.ThinVec.dedup_by.Goals as goal
 pub returns-clause-deduped : goal.returns-clause-deduped
 returns-clause-deduped g c =
     deduped-through (CalledAtPairMut g.F.FnMut) (λ s. s.same)
-    _ c.args.self.now c.merge_those.new.self _ c.merge_those.ensures.deduped
+    _ c.args.self.now c.dedup_those.new.self _ c.dedup_those.ensures.deduped

@@ -6,4 +6,4 @@ use Rattle.thin_vec.proofs.list.ThinVec.dedup_by_key.Goals as goal
 pub returns-clause-deduped : goal.returns-clause-deduped
 returns-clause-deduped g c =
     deduped-through (ComparesKeys g.F.FnMut g.K.PartialEq.eq) (λ s. s.key)
-    _ c.args.self.now c.merge_those.new.self _ c.merge_those.ensures.deduped
+    _ c.args.self.now c.dedup_those.new.self _ c.dedup_those.ensures.deduped

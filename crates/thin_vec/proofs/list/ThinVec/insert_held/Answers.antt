@@ -1,4 +1,4 @@
--- What was drawn is held, and then goes in as one run, or comes back with the cause.
+-- What was drawn is held, and then goes in, or is returned with the cause.
 use Rattle.std.proofs.Common.{None, Some, inl, inr, ◌≡◌, ◌+◌, ◌-◌, ◌<◌, ◌∙◌, ap, arith, length, refl, subst, sym}
 use Rattle.std.proofs.lemmas.Bool.{cases_lt, false≢true}
 use Rattle.std.specs.Option.{option_len}

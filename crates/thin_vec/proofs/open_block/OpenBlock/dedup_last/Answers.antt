@@ -18,6 +18,6 @@ returns-then-ask_last-clause-dedups g c =
 -- it stays
 pub returns-clause-dedups : goal.returns-clause-dedups
 returns-clause-dedups g c =
-    dedups-stays g.J.AsksPairs.asks c.args.self.now c.put_front.new.self
+    dedups-stays g.J.AsksPairs.asks c.args.self.now c.append_to_front.new.self
     c.take_first-later.result c.ask_last.new.later c.ask_last.new.self.front
     (search rules) (search rules) (search rules) (search rules)

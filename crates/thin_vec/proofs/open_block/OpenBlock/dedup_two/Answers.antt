@@ -29,12 +29,12 @@ returns-then-rest_len-gt0-clause-dedups g c =
     let r = c.ask_pairs-kept.ensures.asked in
     let w = c.take_first-then-rest_len-gt0.new.self in
     let goes = run-goes R c.ask_pairs-kept.result c.ask_next-goes.new.judge
-    c.put_front.new.self.rest c.ask_pairs-kept.new.judge c.ask_pairs-kept.new.self.rest r
+    c.append_to_front.new.self.rest c.ask_pairs-kept.new.judge c.ask_pairs-kept.new.self.rest r
     c.take_first-then-rest_len-gt0.result w.rest
     (sym (ap (λ v. v.rest) c.move_down.ensures) ∙ c.take_first-then-rest_len-gt0.ensures.rest) in
     dedups-run R c.args.self.now w c.args.judge.now c.ask_last.new.judge c.ask_next-goes.new.judge
     c.take_first-later.result c.ask_last.new.later c.ask_next-goes.new.kept
-    c.ask_last.new.self.front c.ask_last.new.self.rest c.put_front.new.self.rest (search rules)
+    c.ask_last.new.self.front c.ask_last.new.self.rest c.append_to_front.new.self.rest (search rules)
     c.ask_next-goes.result (search rules) (search rules)
     c.if-goes.false c.ask_pairs-kept.result c.ask_pairs-kept.new.judge
     c.ask_pairs-kept.new.self.rest r goes.0 (run-count R _ _ _ _ _ r (false ∷ []) refl goes.1)
@@ -49,11 +49,11 @@ returns-else-rest_len-gt0-clause-dedups g c =
     let none : w.rest ≡ [] =
     nil_from_length w.rest (omega (arith, c.rest_len.ensures.value, c.if-rest_len-gt0.false)) in
     let ends = run-ends R c.ask_pairs-kept.result c.ask_next-goes.new.judge
-    c.put_front.new.self.rest c.ask_pairs-kept.new.judge c.ask_pairs-kept.new.self.rest r
+    c.append_to_front.new.self.rest c.ask_pairs-kept.new.judge c.ask_pairs-kept.new.self.rest r
     (sym (ap (λ v. v.rest) c.move_down.ensures) ∙ none) in
     dedups-run R c.args.self.now w c.args.judge.now c.ask_last.new.judge c.ask_next-goes.new.judge
     c.take_first-later.result c.ask_last.new.later c.ask_next-goes.new.kept
-    c.ask_last.new.self.front c.ask_last.new.self.rest c.put_front.new.self.rest (search rules)
+    c.ask_last.new.self.front c.ask_last.new.self.rest c.append_to_front.new.self.rest (search rules)
     c.ask_next-goes.result (search rules) (search rules)
     c.if-goes.false c.ask_pairs-kept.result c.ask_pairs-kept.new.judge
     c.ask_pairs-kept.new.self.rest r (ends.0 ∙ sym none)

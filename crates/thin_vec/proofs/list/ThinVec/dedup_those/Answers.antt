@@ -1,7 +1,7 @@
 -- A list of fewer than two items is one that is deduplicated.
 use Rattle.std.proofs.lemmas.Grind.{common_steps}
 use Rattle.std.proofs.Common.{arith}
-use Rattle.thin_vec.proofs.list.ThinVec.merge_those.Goals as goal
+use Rattle.thin_vec.proofs.list.ThinVec.dedup_those.Goals as goal
 
 pub returns-clause-deduped : goal.returns-clause-deduped
 returns-clause-deduped g c = grind (arith, common_steps)

@@ -5,7 +5,7 @@ use Rattle.thin_vec.specs.OpenBlock.{open_of}
 use Rattle.std.proofs.Common.{◌++◌, ◌∷◌, []}
 use Rattle.thin_vec.proofs.OpenBlockLemmas.{Found}
 use Rattle.thin_vec.proofs.PairsLemmas.{put-step}
-use Rattle.thin_vec.proofs.open_block.OpenBlock.put_front.Goals as goal
+use Rattle.thin_vec.proofs.open_block.OpenBlock.append_to_front.Goals as goal
 
 facts : (g : _) (c : goal.After-self-1 g)
     → Found (record {
