@@ -1,5 +1,5 @@
--- The lemmas; those in ThinVecLemmas, FiltersLemmas and DedupLemmas are for callers too, those in
--- UndoLemmas and FewLemmas for them alone.
+-- The lemmas; those in ThinVecLemmas and FiltersLemmas are for callers too, those in UndoLemmas and
+-- FewLemmas for them alone.
 mod ListLemmas
 mod CapacityLemmas
 pub mod ThinVecLemmas
@@ -20,6 +20,6 @@ mod ReplacingLemmas
 mod DrainLemmas
 mod SiftingLemmas
 mod PairsLemmas
-pub mod DedupLemmas
+mod DedupLemmas
 pub mod FiltersLemmas
 mod ExtractLemmas

@@ -4,7 +4,8 @@ ghost use Rattle.thin_block.specs.Capacity.{items_offset, fits as fits_at};
 
 use crate::tests::assertions::assert_same;
 use std::alloc::AllocError;
-use thin_block::{Growth, PowerBytes, ThinVecError, first_capacity, fits, next_capacity};
+use thin_block::{Growth, PowerBytes, first_capacity, fits, next_capacity};
+use thin_vec::ThinVecError;
 
 #[test]
 fn the_greatest_capacity_that_fits(rt: HostRuntime) {
