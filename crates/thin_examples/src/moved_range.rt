@@ -27,6 +27,6 @@ pub fn move_range<A: Allocator, G: Growth>(
 {
     other.reserve(end - start)?;
     let drain = list.drain(start, end);
-    other.extend(drain.as_slice().iter().copied())?;
+    other.extend_from_copies_reserved(drain.as_slice());
     Ok(())
 }

@@ -152,8 +152,8 @@ impl<T: Drop, A: Allocator, G: Growth> ThinVec<T, A, G> {
     }
 
     // Fills the gap with what `iter` yields, and makes room before the tail for what it yields
-    // beyond that: room for what its hint says, where it says any, into which the tail moves up as
-    // one run, and once more for the rest.
+    // beyond that: room for what its hint says, into which the tail moves up as one run, and once
+    // more for the rest.
     pub(crate) fn fill_between<I: Iterator<Item = T>>(
         &mut self,
         block: OpenBlock<T, A>,
@@ -175,9 +175,6 @@ impl<T: Drop, A: Allocator, G: Growth> ThinVec<T, A, G> {
             return Ok(());
         }
         let hint = rest.size_hint().0;
-        if hint == 0 {
-            return self.insert_held(end, rest, alloc);
-        }
         if let Err(cause) = self.reserve(hint) {
             return Err(SpliceRefused {
                 cause,

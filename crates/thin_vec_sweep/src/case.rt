@@ -328,6 +328,11 @@ pub fn source<T: Sample, R: Abort>(
     items
 }
 
+/// Puts a number after the others.
+pub fn put<R: Abort>(rt: &R, numbers: &mut Vec<u64, Global>, number: u64) {
+    numbers.push(number).ok().expect(rt, "memory");
+}
+
 /// So many numbers from `first` on.
 pub fn numbers<R: Abort>(
     rt: &R,
@@ -338,7 +343,7 @@ pub fn numbers<R: Abort>(
     let mut numbers = Vec::new(ledger.global);
     for index in 0..count {
         let number = first.saturating_add(index as u64);
-        numbers.push(number).ok().expect(rt, "memory");
+        put(rt, &mut numbers, number);
     }
     numbers
 }

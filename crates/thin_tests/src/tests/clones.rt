@@ -53,19 +53,22 @@ fn extend_scarcely<'a>(
     assert_same(rt, (list.len(), list.capacity()), (len, 4));
 }
 
+// Appends clones of three items to one, where one clone is granted, and then where three are.
+fn extend_twice(rt: &impl Abort, alloc: Global, drops: &Cell<u32>, granted: &Cell<u32>) {
+    let item = || Scarce::new(drops, granted);
+    let three = [item(), item(), item()];
+    let mut list = thin_vec![alloc => item()].expect(rt, "memory");
+    extend_scarcely(rt, &mut list, &three, Err(ThinVecError::OutOfMemory), 1);
+    assert_same(rt, drops.get(), 1);
+    granted.set(3);
+    extend_scarcely(rt, &mut list, &three, Ok(()), 4);
+    assert_same(rt, drops.get(), 1);
+}
+
 #[test]
 fn row_37_clone_refused(rt: HostRuntime) {
     let drops = Cell::new(0);
     let granted = Cell::new(1);
-    let item = || Scarce::new(&drops, &granted);
-    let three = [item(), item(), item()];
-    {
-        let mut list = thin_vec![rt.alloc() => item()].expect(&rt, "memory");
-        extend_scarcely(&rt, &mut list, &three, Err(ThinVecError::OutOfMemory), 1);
-        assert_same(&rt, drops.get(), 1);
-        granted.set(3);
-        extend_scarcely(&rt, &mut list, &three, Ok(()), 4);
-        assert_same(&rt, drops.get(), 1);
-    }
-    assert_same(&rt, drops.get(), 5);
+    extend_twice(&rt, rt.alloc(), &drops, &granted);
+    assert_same(&rt, drops.get(), 8);
 }

@@ -216,12 +216,24 @@ fn assert_texts_drained<R: Abort>(
     assert_drained(rt, texts, range, false, given, left);
 }
 
+// A range with both ends, the texts that it yields, and those that are left.
+type Drained = (
+    (usize, usize),
+    &'static [&'static str],
+    &'static [&'static str],
+);
+
+const DRAINED: [Drained; 3] = [
+    ((1, 5), &["1", "2", "3", "4", "5"], &["0"]),
+    ((0, 5), &["0", "1", "2", "3", "4", "5"], &[]),
+    ((0, 3), &["0", "1", "2", "3"], &["4", "5"]),
+];
+
 #[test]
 fn test_drain_inclusive_range_of_texts(rt: HostRuntime) {
-    let alloc = rt.alloc();
-    assert_texts_drained(&rt, alloc, (1, 5), &["1", "2", "3", "4", "5"], &["0"]);
-    assert_texts_drained(&rt, alloc, (0, 5), &["0", "1", "2", "3", "4", "5"], &[]);
-    assert_texts_drained(&rt, alloc, (0, 3), &["0", "1", "2", "3"], &["4", "5"]);
+    for (range, given, left) in &DRAINED {
+        assert_texts_drained(&rt, rt.alloc(), *range, given, left);
+    }
 }
 
 #[test]

@@ -1,4 +1,5 @@
 //! What is reported, where all goes well and where a write or a request is refused.
+use crate::tests::assertions::assert_text;
 use std::alloc::{Allocator, Global};
 use std::io;
 use std::io::{ErrorKind, Write};
@@ -65,9 +66,7 @@ fn report_into<A: Allocator + Copy, R: Abort>(
         calls: 0,
         failing,
     };
-    let code = report(alloc, &mut out);
-    let shown = format!(in global; "{code:?}").expect(rt, "memory");
-    assert!(rt; shown.as_str() == end, "not {end}");
+    assert_text(rt, global, &report(alloc, &mut out), end);
     out.calls
 }
 

@@ -46,13 +46,19 @@ const COUNTS: &str = "\
     40: 15, 2\n\
     41: 6, 5\n";
 
-// Asserts that a row is ok and leaves no block, and writes its line.
-fn put_counts<R: Abort>(rt: &R, alloc: Global, number: u32, lines: &mut String) {
+// Asserts that a row is ok and leaves no block. Returns how many values it compares, and how many
+// requests it makes.
+fn counts<R: Abort>(rt: &R, alloc: Global, number: u32) -> (u32, u64) {
     let refusing = Refusing::new(alloc, 0);
     let checks = row(&refusing, number).ok().expect(rt, "no refusal");
     assert!(rt; checks.is_ok() && refusing.blocks() == 0, "row {number}");
     let requests = if number == 35 { 0 } else { refusing.requests() };
-    let values = checks.compared();
+    (checks.compared(), requests)
+}
+
+// Writes the line of a row.
+fn put_counts<R: Abort>(rt: &R, alloc: Global, number: u32, lines: &mut String) {
+    let (values, requests) = counts(rt, alloc, number);
     let line = format!(in alloc; "{number}: {values}, {requests}\n").expect(rt, "memory");
     lines.push_str(line.as_str()).ok().expect(rt, "memory");
 }

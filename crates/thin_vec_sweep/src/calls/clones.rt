@@ -1,12 +1,13 @@
 //! The calls that clone an item of the list, or one that they are passed: `extend_from_within`,
 //! `resize`; and `resize_with`.
-use crate::case::{Case, Verdict, numbers, source};
+use crate::case::{Case, List, Verdict, numbers, source};
 use crate::closures::{Questions, number_at};
 use crate::samples::Sample;
 use crate::shapes::{Cases, Shape};
 use crate::sweep::Call;
 use std::process::Abort;
 use thin_testing::Ruled;
+use thin_vec::ThinVecError;
 
 // The number of the first item that comes in.
 const FRESH: u64 = 80_000;
@@ -59,26 +60,41 @@ impl<T: Sample, G: Ruled> Call<T, G> for ResizeWith {
 
     fn run<R: Abort>(rt: &R, case: &mut Case<T, G>, argument: usize) {
         let (len, more) = length(case.at.shape, argument);
-        let mut made: Vec<T> = source(rt, case.ledger, FRESH, more);
+        let made: Vec<T> = source(rt, case.ledger, FRESH, more);
         let questions = Questions::new();
-        let asked = &questions;
         let capacity = case.ruled(more);
         let verdict = case.growth(capacity, 0);
         case.begin();
-        let answer = case.list.resize_with(len, move || {
-            let _number = asked.next();
-            made.pop().expect(rt, "an item")
-        });
+        let answer = resize_with(rt, &mut case.list, len, made, &questions);
         case.answered(rt, answer, verdict);
         let due = if verdict == Verdict::Done { more } else { 0 };
         questions.end(rt, &case.at, due);
         if verdict == Verdict::Done {
             case.items.truncate(len);
-            let mut new = numbers(rt, case.ledger, FRESH, more);
-            new.reverse();
-            case.items.append(&mut new).expect(rt, "memory");
+            add_from_last(rt, case, more);
         }
     }
+}
+
+// Resizes the list by the items that were made, from the last one on. It is asked for each.
+fn resize_with<T: Sample, G: Ruled, R: Abort>(
+    rt: &R,
+    list: &mut List<T, G>,
+    len: usize,
+    mut made: Vec<T>,
+    asked: &Questions,
+) -> Result<(), ThinVecError> {
+    list.resize_with(len, move || {
+        let _number = asked.next();
+        made.pop().expect(rt, "an item")
+    })
+}
+
+// So many new items have come in after the others, from the last one on.
+fn add_from_last<T: Sample, G: Ruled, R: Abort>(rt: &R, case: &mut Case<T, G>, more: usize) {
+    let mut new = numbers(rt, case.ledger, FRESH, more);
+    new.reverse();
+    case.items.append(&mut new).expect(rt, "memory");
 }
 
 // Each range of few items once.

@@ -1,6 +1,6 @@
 //! Lists made from other types, and other types that a list is turned into.
 use crate::calls::rooms::is_too_much;
-use crate::case::{Case, List, Verdict, numbers};
+use crate::case::{Case, List, Verdict, numbers, put};
 use crate::samples::Sample;
 use crate::shapes::Shape;
 use crate::sweep::Call;
@@ -133,7 +133,7 @@ fn letters<R: Abort>(rt: &R, global: Global, letter: &str, count: usize) -> Stri
 fn numbers_of<R: Abort>(rt: &R, global: Global, bytes: &[u8]) -> Vec<u64, Global> {
     let mut numbers = Vec::new(global);
     for byte in bytes {
-        numbers.push(u64::from(*byte)).ok().expect(rt, "memory");
+        put(rt, &mut numbers, u64::from(*byte));
     }
     numbers
 }

@@ -1,6 +1,6 @@
 //! An item, or the rest of a list, comes in or goes out: `push`, `push_mut`, `push_reserved`,
 //! `pop`, `insert`, `insert_mut`, `insert_reserved`, `remove`, `swap_remove`, `truncate`, `clear`.
-use crate::case::{Case, Verdict};
+use crate::case::{Case, Verdict, put};
 use crate::samples::Sample;
 use crate::shapes::Shape;
 use crate::sweep::Call;
@@ -84,7 +84,7 @@ impl<T: Sample, G: Ruled> Call<T, G> for PushReserved {
 
     fn run<R: Abort>(rt: &R, case: &mut Case<T, G>, _argument: usize) {
         let item = case.item(rt, FRESH);
-        case.items.push(FRESH).ok().expect(rt, "memory");
+        put(rt, &mut case.items, FRESH);
         case.begin();
         if case.list.len() < case.list.capacity() {
             case.list.push_reserved(item);

@@ -1,7 +1,7 @@
 //! `extend` and `from_iter`, with a hint that is short, true, too great, or past every capacity.
 use crate::assertions::same;
 use crate::calls::rooms::is_too_much;
-use crate::case::{Case, Verdict, numbers, source};
+use crate::case::{Case, Verdict, numbers, put, source};
 use crate::claims::Claims;
 use crate::ledger::Ledger;
 use crate::samples::Sample;
@@ -104,7 +104,7 @@ pub fn fill<T: Sample, G: Ruled, R: Abort>(
             }
         }
         let number = FRESH.saturating_sub(placed as u64);
-        case.items.push(number).ok().expect(rt, "memory");
+        put(rt, &mut case.items, number);
     }
     Ending::done(count)
 }
@@ -119,7 +119,7 @@ pub fn coming<R: Abort>(
     let mut numbers = Vec::new(ledger.global);
     for place in before..before.saturating_add(count) {
         let number = FRESH.saturating_sub(place as u64);
-        numbers.push(number).ok().expect(rt, "memory");
+        put(rt, &mut numbers, number);
     }
     numbers
 }

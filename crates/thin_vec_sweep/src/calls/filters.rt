@@ -1,6 +1,6 @@
 //! Calls that keep some items, by what a closure returns of them: each is asked about in turn, and
 //! may be written.
-use crate::case::Case;
+use crate::case::{Case, put};
 use crate::closures::{PATTERNS, Questions, number_at, stays};
 use crate::samples::{Counted, Sample};
 use crate::shapes::Shape;
@@ -37,7 +37,7 @@ impl<T: Sample, G: Ruled> Call<T, G> for Retain {
         let mut left = Vec::new(case.ledger.global);
         for index in 0..count {
             if stays(count, argument, index) {
-                left.push(number_at(index)).ok().expect(rt, "memory");
+                put(rt, &mut left, number_at(index));
             }
         }
         case.items = left;
@@ -70,7 +70,7 @@ impl<T: Sample, G: Ruled> Call<T, G> for RetainMut {
         let mut left = Vec::new(case.ledger.global);
         for index in 0..count {
             if stays(count, argument, index) {
-                left.push(number).ok().expect(rt, "memory");
+                put(rt, &mut left, number);
             }
             number = number_at(index);
         }
@@ -106,7 +106,7 @@ impl<T: Sample, G: Ruled> Call<T, G> for PopIf {
         questions.end(rt, &case.at, count.min(1));
         let is_there = case.items.pop().is_some();
         if is_there && !goes {
-            case.items.push(FRESH).ok().expect(rt, "memory");
+            put(rt, &mut case.items, FRESH);
         }
         let popped = if is_there && goes { Some(FRESH) } else { None };
         case.handed_or_none(rt, item, popped);
@@ -151,13 +151,13 @@ fn exchanged<R: Abort>(rt: &R, global: Global, count: usize, pattern: usize) -> 
     let mut last = number_at(0);
     for index in 1..count {
         if stays(count, pattern, index) {
-            left.push(number_at(index)).ok().expect(rt, "memory");
+            put(rt, &mut left, number_at(index));
         } else {
             last = number_at(index);
         }
     }
     if count > 0 {
-        left.push(last).ok().expect(rt, "memory");
+        put(rt, &mut left, last);
     }
     left
 }
@@ -204,7 +204,7 @@ fn first_kept<R: Abort>(rt: &R, global: Global, count: usize, pattern: usize) ->
     let mut left = Vec::new(global);
     for index in 0..count {
         if index == 0 || stays(count, pattern, index) {
-            left.push(number_at(index)).ok().expect(rt, "memory");
+            put(rt, &mut left, number_at(index));
         }
     }
     left
@@ -231,7 +231,7 @@ impl<T: Sample + PartialEq, G: Ruled> Call<T, G> for Dedup {
             if index < case.list.len() {
                 case.list[index] = T::nth(rt, case.ledger, number);
             }
-            numbers.push(T::telling(number)).ok().expect(rt, "memory");
+            put(rt, &mut numbers, T::telling(number));
         }
         numbers.dedup();
         case.begin();

@@ -1,5 +1,5 @@
 //! The iterator that a list becomes, from both ends.
-use crate::assertions::{At, same, same_item};
+use crate::assertions::{At, same, same_item, same_items};
 use crate::case::Case;
 use crate::samples::Sample;
 use crate::shapes::Shape;
@@ -43,16 +43,30 @@ impl<T: Sample, G: Ruled> Call<T, G> for IntoIter {
         let mut rest = list.into_iter();
         let walk = Walk::nth(numbers.len(), argument);
         let numbers = step_through(rt, &case.at, &mut rest, walk, numbers.as_slice());
-        let count = numbers.len();
-        let hint = (rest.len(), rest.size_hint());
-        same(rt, &case.at, "hint", hint, (count, (count, Some(count))));
-        case.holds(rt, rest.as_slice(), numbers);
+        remains(rt, &case.at, &rest, numbers);
         if let Some(place) = rest.as_mut_slice().first_mut() {
             mem::swap(place, &mut fresh);
         }
-        let next = if count == 0 { None } else { Some(FRESH) };
+        let next = if numbers.is_empty() {
+            None
+        } else {
+            Some(FRESH)
+        };
         case.handed_or_none(rt, rest.next(), next);
     }
+}
+
+// Asserts that the items of these numbers remain, and that as many are promised.
+fn remains<T: Sample, A: Allocator, G: Growth, R: Abort>(
+    rt: &R,
+    at: &At,
+    rest: &thin_vec::IntoIter<T, A, G>,
+    numbers: &[u64],
+) {
+    let count = numbers.len();
+    let hint = (rest.len(), rest.size_hint());
+    same(rt, at, "hint", hint, (count, (count, Some(count))));
+    same_items(rt, at, rest.as_slice(), numbers);
 }
 
 // Makes the steps, and returns the numbers of the items that remain.

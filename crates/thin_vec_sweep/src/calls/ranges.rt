@@ -1,6 +1,6 @@
 //! Calls by which the items of a range go out, given up after any steps, and the test for ranges.
 use crate::assertions::{At, same, same_item, same_items};
-use crate::case::Case;
+use crate::case::{Case, put};
 use crate::closures::{number_at, stays};
 use crate::samples::Sample;
 use crate::shapes::{Cases, Ranged, Shape};
@@ -27,14 +27,19 @@ impl<T: Sample, G: Ruled> Call<T, G> for Drained {
         let range = at.shape.ranged_case(&WALKS, argument);
         case.begin();
         drain(rt, &at, &mut case.list, range, case.items.as_slice());
-        let mut left = Vec::new(case.ledger.global);
-        for index in 0..case.items.len() {
-            if index < range.start || range.end <= index {
-                left.push(number_at(index)).ok().expect(rt, "memory");
-            }
-        }
-        case.items = left;
+        case.items = outside(rt, case.ledger.global, range, case.items.len());
     }
+}
+
+// The numbers of the items outside the range, of a list of so many.
+fn outside<R: Abort>(rt: &R, global: Global, range: Ranged, length: usize) -> Vec<u64, Global> {
+    let mut left = Vec::new(global);
+    for index in 0..length {
+        if index < range.start || range.end <= index {
+            put(rt, &mut left, number_at(index));
+        }
+    }
+    left
 }
 
 // Drains the range by some steps, and gives up.
@@ -52,6 +57,16 @@ fn drain<T: Sample, A: Allocator, G: Growth, R: Abort>(
     let walk = Walk::nth(range.width(), range.number);
     let mut drain = list.drain(range.start, range.end);
     let numbers = step_through(rt, at, &mut drain, walk, numbers);
+    remains(rt, at, &drain, numbers);
+}
+
+// Asserts that the items of these numbers remain, and that as many are promised.
+fn remains<T: Sample, A: Allocator, G: Growth, R: Abort>(
+    rt: &R,
+    at: &At,
+    drain: &Drain<'_, T, A, G>,
+    numbers: &[u64],
+) {
     let count = numbers.len();
     let hint = (drain.len(), drain.size_hint());
     same(rt, at, "hint", hint, (count, (count, Some(count))));
@@ -128,13 +143,13 @@ impl Extraction {
         for index in 0..length {
             let is_outside = index < range.start || range.end <= index;
             if is_outside || given.len() >= calls {
-                left.push(number_at(index)).ok().expect(rt, "memory");
+                put(rt, &mut left, number_at(index));
                 continue;
             }
             if stays(width, pattern, asked) {
-                left.push(number_at(index)).ok().expect(rt, "memory");
+                put(rt, &mut left, number_at(index));
             } else {
-                given.push(number_at(index)).ok().expect(rt, "memory");
+                put(rt, &mut given, number_at(index));
             }
             asked = asked.saturating_add(1);
         }

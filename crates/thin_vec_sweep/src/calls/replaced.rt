@@ -1,5 +1,5 @@
 //! Ranges that give way to other items: `replace_range` and its kin.
-use crate::case::{Case, Verdict, filled, numbers, source};
+use crate::case::{Case, Verdict, filled, numbers, put, source};
 use crate::closures::number_at;
 use crate::samples::Sample;
 use crate::shapes::{Cases, Ranged, Shape};
@@ -43,12 +43,12 @@ fn replaced<T: Sample, G: Ruled, R: Abort>(
     }
     let mut left = Vec::new(case.ledger.global);
     for index in 0..range.start {
-        left.push(number_at(index)).ok().expect(rt, "memory");
+        put(rt, &mut left, number_at(index));
     }
     let mut new = numbers(rt, case.ledger, FRESH, count);
     left.append(&mut new).expect(rt, "memory");
     for index in range.end..case.items.len() {
-        left.push(number_at(index)).ok().expect(rt, "memory");
+        put(rt, &mut left, number_at(index));
     }
     case.items = left;
 }

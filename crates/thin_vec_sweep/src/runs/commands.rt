@@ -6,12 +6,12 @@ use crate::runs::orders::{Kind, Order};
 use crate::runs::random::{Done, assert_alike};
 use crate::runs::samples::{Lender, Sample, put};
 use crate::runs::shown::Form;
-use std::alloc::{AllocError, Global};
+use std::alloc::{AllocError, Allocator, Global};
 use std::process::Abort;
 use std::test::Fail;
 use thin_runner::judge::Judge;
 use thin_testing::{Refusing, Ruled};
-use thin_vec::{Doubling, PowerBytes, ThinVec, ThinVecError};
+use thin_vec::{Doubling, Growth, PowerBytes, ThinVec, ThinVecError};
 
 // Every reply of every command.
 const REPLIES: &str = "\
@@ -183,6 +183,15 @@ const WORKED_POWERS: [(&[u32], usize); 9] = [
     (&[1, 7, 8, 9, 6], 20),
 ];
 
+// Whether the list has the items and the capacity that were worked out.
+fn is_worked<T: Eq, A: Allocator, G: Growth>(
+    list: &ThinVec<T, A, G>,
+    worked: &(&[T], usize),
+) -> bool {
+    let (items, capacity) = worked;
+    list.as_slice() == *items && list.capacity() == *capacity
+}
+
 // Asserts that the commands do what the definition says, and that the items and the capacity are
 // after each what is worked out.
 fn assert_worked<'a, T: Sample<Lender<'a>>, G: Ruled, J: Judge<T>, R: Abort>(
@@ -194,12 +203,11 @@ fn assert_worked<'a, T: Sample<Lender<'a>>, G: Ruled, J: Judge<T>, R: Abort>(
 ) {
     let mut list = ThinVec::<T, Lender<'a>, G>::ruled(alloc);
     let mut model = Model::new(alloc);
-    for (order, (items, capacity)) in orders.iter().zip(worked) {
-        let (form, _cause) = both(alloc, &mut list, &mut model, *order, judge, 0)
-            .ok()
-            .expect(rt, "memory");
+    for (order, worked) in orders.iter().zip(worked) {
+        let answer = both(alloc, &mut list, &mut model, *order, judge, 0).ok();
+        let (form, _cause) = answer.expect(rt, "memory");
         assert!(rt;
-            form != Form::Never && list.as_slice() == *items && list.capacity() == *capacity,
+            form != Form::Never && is_worked(&list, worked),
             "{order:?}"
         );
     }

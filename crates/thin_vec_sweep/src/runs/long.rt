@@ -8,26 +8,37 @@ use thin_runner::runner::run;
 use thin_testing::Refusing;
 use thin_vec::{ThinVec, ThinVecError, thin_vec};
 
+// Pushes of the numbers below 5,000.
+fn pushes<R: Abort>(rt: &R, alloc: Global) -> Vec<Command<u32, Global>, Global> {
+    let mut commands = Vec::new(alloc);
+    for item in 0..5000 {
+        let push = put(&mut commands, Command::Push(item));
+        push.ok().expect(rt, "memory");
+    }
+    commands
+}
+
+// How many of the replies are `Done`.
+fn count_done(replies: &[Reply<u32, Global>]) -> usize {
+    let done = replies.iter().filter(|reply| matches!(reply, Reply::Done));
+    done.count()
+}
+
 #[test]
 fn runs_thousands_of_commands(rt: HostRuntime) {
     let alloc = rt.alloc();
-    let mut commands = Vec::new(alloc);
-    for item in 0..5000 {
-        put(&mut commands, Command::Push(item))
-            .ok()
-            .expect(&rt, "memory");
-    }
+    let commands = pushes(&rt, alloc);
     let mut list: ThinVec<u32, Global> = ThinVec::new(alloc);
     let mut replies = Vec::new(alloc);
     let ran = run(alloc, &mut list, commands, &mut replies, &EACH_SECOND);
     assert!(rt; ran.is_ok());
-    assert_eq!(rt;
-        (list.len(), list.capacity(), replies.len()),
-        (5000, 8192, 5000)
-    );
-    let done = replies.iter().filter(|reply| matches!(reply, Reply::Done));
-    assert_eq!(rt; done.count(), 5000);
+    let counts = (list.len(), list.capacity(), replies.len());
+    assert_eq!(rt; counts, (5000, 8192, 5000));
+    assert_eq!(rt; count_done(replies.as_slice()), 5000);
 }
+
+// Replies to commands on a list of lists.
+type Replies<'a> = Vec<Reply<ThinVec<u32, Lender<'a>>, Lender<'a>>, Lender<'a>>;
 
 // Three pushes of lists of one item.
 fn pushes_of_lists<'a, R: Abort>(
@@ -44,21 +55,34 @@ fn pushes_of_lists<'a, R: Abort>(
     commands
 }
 
+// The reply of an earlier command.
+fn earlier_reply<'a, R: Abort>(rt: &R, alloc: Lender<'a>) -> Replies<'a> {
+    let mut replies = Vec::with_capacity(alloc, 1).expect(rt, "memory");
+    let earlier = Reply::Refused(ThinVecError::CapacityOverflow);
+    put(&mut replies, earlier).ok().expect(rt, "memory");
+    replies
+}
+
+// Whether that is the only reply.
+fn has_earlier_alone(replies: &Replies<'_>) -> bool {
+    match replies.as_slice() {
+        [left] => left.refusal() == Some(ThinVecError::CapacityOverflow),
+        _ => false,
+    }
+}
+
 // Asserts that a run whose first request is refused fails, drops its commands, and leaves the
 // reply that was there.
 fn assert_refused<'a, R: Abort>(rt: &R, alloc: Lender<'a>) {
     let mut list = ThinVec::new(alloc);
-    let earlier = Reply::Refused(ThinVecError::CapacityOverflow);
-    let mut replies = Vec::with_capacity(alloc, 1).expect(rt, "memory");
-    put(&mut replies, earlier).ok().expect(rt, "memory");
+    let mut replies = earlier_reply(rt, alloc);
     let commands = pushes_of_lists(rt, alloc);
-    let blocks = alloc.blocks();
+    assert!(rt; alloc.blocks() == 5);
     alloc.refuse(1);
     let refused = run(alloc, &mut list, commands, &mut replies, &EACH_SECOND);
     assert!(rt; refused == Err(ThinVecError::OutOfMemory));
-    assert!(rt; (alloc.requests(), blocks, alloc.blocks()) == (1, 5, 1));
-    let left = replies.pop().expect(rt, "the earlier reply");
-    assert!(rt; left.refusal() == Some(ThinVecError::CapacityOverflow) && replies.is_empty());
+    assert!(rt; (alloc.requests(), alloc.blocks()) == (1, 1));
+    assert!(rt; has_earlier_alone(&replies));
 }
 
 #[test]

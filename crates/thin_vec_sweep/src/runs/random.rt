@@ -81,6 +81,39 @@ impl Dice {
 /// A command, its request that was refused, and its reply.
 pub type Done = (Order, u64, Form, Option<ThinVecError>);
 
+// A command. Returns whether both did the same. What was done is put into `done`.
+fn is_alike<'a, T: Sample<Lender<'a>>, G: Ruled, J: Judge<T> + From<u64>>(
+    alloc: Lender<'a>,
+    dice: &mut Dice,
+    list: &mut ThinVec<T, Lender<'a>, G>,
+    model: &mut Model<T, Lender<'a>, G>,
+    done: &mut Vec<Done, Global>,
+) -> Result<bool, AllocError> {
+    let order = dice.order(model.items.len());
+    let nth = dice.refused();
+    let judge = J::from(dice.digits());
+    let (form, cause) = both(alloc, list, model, order, &judge, nth)?;
+    put(done, (order, nth, form, cause))?;
+    Ok(form != Form::Never)
+}
+
+// So many commands. Returns whether both did the same. What was done is put into `done`.
+fn are_alike<'a, T: Sample<Lender<'a>>, G: Ruled, J: Judge<T> + From<u64>>(
+    alloc: Lender<'a>,
+    dice: &mut Dice,
+    commands: u64,
+    done: &mut Vec<Done, Global>,
+) -> Result<bool, AllocError> {
+    let mut list = ThinVec::ruled(alloc);
+    let mut model: Model<T, Lender<'a>, G> = Model::new(alloc);
+    for _ in 0..commands {
+        if !is_alike::<T, G, J>(alloc, dice, &mut list, &mut model, done)? {
+            return Ok(false);
+        }
+    }
+    Ok(true)
+}
+
 // A run of up to 30 commands. Returns whether both did the same, and no block is out. What was done
 // is put into `done`.
 fn runs_alike<'a, T: Sample<Lender<'a>>, G: Ruled, J: Judge<T> + From<u64>>(
@@ -89,23 +122,10 @@ fn runs_alike<'a, T: Sample<Lender<'a>>, G: Ruled, J: Judge<T> + From<u64>>(
     done: &mut Vec<Done, Global>,
 ) -> Result<bool, AllocError> {
     let mut dice = Dice { state: seed };
-    let mut list = ThinVec::ruled(alloc);
-    let mut model: Model<T, Lender<'a>, G> = Model::new(alloc);
     let commands = dice.below(31);
     done.clear();
-    for _ in 0..commands {
-        let order = dice.order(model.items.len());
-        let nth = dice.refused();
-        let judge = J::from(dice.digits());
-        let (form, cause) = both(alloc, &mut list, &mut model, order, &judge, nth)?;
-        put(done, (order, nth, form, cause))?;
-        if form == Form::Never {
-            return Ok(false);
-        }
-    }
-    drop(list);
-    drop(model);
-    Ok(alloc.blocks() == 0)
+    let alike = are_alike::<T, G, J>(alloc, &mut dice, commands, done)?;
+    Ok(alike && alloc.blocks() == 0)
 }
 
 /// Asserts that the run of a seed is done alike. What was done is put into `done`.

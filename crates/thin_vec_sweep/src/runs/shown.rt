@@ -210,6 +210,34 @@ fn show_stopped<T: Drop, A: Allocator + Copy>(
     })
 }
 
+// What the reply shows that is an item, or none.
+fn show_item<T: Drop, A: Allocator + Copy>(
+    alloc: A,
+    item: Option<T>,
+) -> Result<Shown<T, A>, AllocError> {
+    Ok(Shown::with_answers(Form::Item, alloc, one(alloc, item)?))
+}
+
+// What the reply of a call shows that returned its value.
+fn show_returned<T: Drop, A: Allocator + Copy>(
+    alloc: A,
+    value: T,
+    cause: ThinVecError,
+) -> Result<Shown<T, A>, AllocError> {
+    let items = one(alloc, value)?;
+    Ok(Shown::with_items(Form::Returned, Some(cause), alloc, items, 0))
+}
+
+// What the reply shows that is the command, where it names no index or range of the list.
+fn show_out_of_range<T: Drop, A: Allocator + Copy, G: Growth>(
+    alloc: A,
+    command: Command<T, A, G>,
+) -> Result<Shown<T, A>, AllocError> {
+    let place = place_of(&command);
+    let items = items_with(alloc, command)?;
+    Ok(Shown::out_of_range(alloc, items, place))
+}
+
 /// What a reply shows, which is taken apart.
 pub fn show<T: Drop, A: Allocator + Copy, G: Growth>(
     alloc: A,
@@ -217,14 +245,11 @@ pub fn show<T: Drop, A: Allocator + Copy, G: Growth>(
 ) -> Result<Shown<T, A>, AllocError> {
     match reply {
         Reply::Done => Ok(Shown::plain(alloc, Form::Done, None)),
-        Reply::Item(item) => Ok(Shown::with_answers(Form::Item, alloc, one(alloc, item)?)),
+        Reply::Item(item) => show_item(alloc, item),
         Reply::Answers(answers) => Ok(Shown::with_answers(Form::Answers, alloc, answers)),
         Reply::List(list) => show_list(Form::List, None, alloc, list),
         Reply::Other(list, cause) => show_list(Form::Other, cause, alloc, list),
-        Reply::Returned(value, cause) => {
-            let items = one(alloc, value)?;
-            Ok(Shown::with_items(Form::Returned, Some(cause), alloc, items, 0))
-        }
+        Reply::Returned(value, cause) => show_returned(alloc, value, cause),
         Reply::Refused(cause) => Ok(Shown::plain(alloc, Form::Refused, Some(cause))),
         Reply::Stopped {
             answers,
@@ -233,10 +258,6 @@ pub fn show<T: Drop, A: Allocator + Copy, G: Growth>(
             in_hand,
             rest,
         } => show_stopped(answers, cause, held, in_hand, rest),
-        Reply::OutOfRange(command) => {
-            let place = place_of(&command);
-            let items = items_with(alloc, command)?;
-            Ok(Shown::out_of_range(alloc, items, place))
-        }
+        Reply::OutOfRange(command) => show_out_of_range(alloc, command),
     }
 }

@@ -76,26 +76,6 @@ returns-then-ended g c =
     (g.I.Iterator.remaining c.args.iter) (omega (arith, p.cost.2)))
     (inl (inl p.capacity))
 
--- the hint says nothing: what is beyond the gap is held
-pub returns-then-hint-eq0 : goal.returns-then-hint-eq0
-returns-then-hint-eq0 g c =
-    let rule = g.G.Growth.rule in let T = param 0 g.row.T in let law = g.met.G.Growth.law in
-    let left = g.I.Iterator.remaining in
-    let v = c.args.block in let a = c.args.self.now.alloc in
-    let y = c.close_filled-end.new.self in let w = c.insert_held.new.self in
-    let p = c.close_filled-end.ensures in let e = c.insert_held.ensures in
-    let here = filled-reached p c.if-ended.false in
-    let beyond = length y.items - c.close_filled-end.result.0 in
-    finished-from v a c.args.iter w c.insert_held.result here c.requires.some e.succeeds e.items
-    e.placed
-    (if-err c.insert_held.result (λ refused is now. now v.tail c.requires.some) e.cause)
-    e.err
-    (reached-taken here rule T law a w 0 beyond (2 * length v.tail)
-    (omega (arith, reached-long here))
-    (filled-taken p rule T 0 (left c.args.iter) (omega (arith, p.cost.3 c.if-ended.false)))
-    e.taken)
-    (reached-extended here rule T a w.capacity (length w.items) p.capacity (inl e.named))
-
 pub returns-in-Err : goal.returns-in-Err
 returns-in-Err g c =
     let rule = g.G.Growth.rule in let T = param 0 g.row.T in
@@ -152,18 +132,18 @@ returns g c =
     let rule = g.G.Growth.rule in let T = param 0 g.row.T in let law = g.met.G.Growth.law in
     let v = c.args.block in let a = c.args.self.now.alloc in
     let z = c.reserve.new.self in let y = c.close_filled-last.new.self in
-    let w = c.insert_held-2.new.self in
+    let w = c.insert_held.new.self in
     let hint = c.size_hint-hint.result.0 in
     let q = c.close_filled-last.ensures in
     let at = (goal.at.returns g c).After-close_filled-last in
     let here = reached g at in let there = wide g at in
     let last = reached-more here hint there q c.if-over.false in
     let n = length v.tail in
-    finished-from v a c.args.iter w c.insert_held-2.result last c.requires.some
-    c.insert_held-2.ensures.succeeds c.insert_held-2.ensures.items c.insert_held-2.ensures.placed
-    (if-err c.insert_held-2.result (λ refused is now. now v.tail c.requires.some)
-    c.insert_held-2.ensures.cause)
-    c.insert_held-2.ensures.err
+    finished-from v a c.args.iter w c.insert_held.result last c.requires.some
+    c.insert_held.ensures.succeeds c.insert_held.ensures.items c.insert_held.ensures.placed
+    (if-err c.insert_held.result (λ refused is now. now v.tail c.requires.some)
+    c.insert_held.ensures.cause)
+    c.insert_held.ensures.err
     (reached-taken last rule T law a w n (length y.items - c.close_filled-last.result.0) (2 * n)
     (omega (arith, reached-long last))
     (reached-taken here rule T law a y 0 n n (omega arith) (grown g at)
@@ -175,7 +155,7 @@ returns g c =
       reached-wide here hint there,
       reached-long here,
     ))))
-    c.insert_held-2.ensures.taken)
+    c.insert_held.ensures.taken)
     (named g at w.capacity (length w.items)
     (subst (λ k. IsNamed rule T k w.capacity (length w.items)) (q.capacity ∙ there.capacity)
-    c.insert_held-2.ensures.named))
+    c.insert_held.ensures.named))
