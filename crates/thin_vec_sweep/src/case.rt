@@ -238,6 +238,25 @@ impl<T: Sample, G: Ruled> Case<T, G> {
         );
     }
 
+    /// Asserts that a list of that shape, whose items the call took, is empty now, or as it was
+    /// where the call failed, and has its block.
+    pub fn gave<R: Abort>(
+        &self,
+        rt: &R,
+        list: &List<T, G>,
+        shape: Shape,
+        first: u64,
+        verdict: Verdict,
+    ) {
+        let left = match verdict {
+            Verdict::Done => 0,
+            _ => shape.length,
+        };
+        let numbers = numbers(rt, self.ledger, first, left);
+        let capacity = shape.length.saturating_add(shape.spare);
+        self.stands(rt, list, numbers.as_slice(), capacity);
+    }
+
     /// Checks a call that makes a second list: it has the items of these numbers, and this
     /// capacity.
     pub fn second<H: Growth, R: Abort>(

@@ -37,7 +37,7 @@ pub type Cases = [usize; 7];
 const RANGES: usize = 4;
 
 /// A range of a list, and the number of a case of a call on its items.
-#[derive(Debug, Clone, Copy)]
+#[derive(Clone, Copy)]
 pub struct Ranged {
     pub start: usize,
     pub end: usize,

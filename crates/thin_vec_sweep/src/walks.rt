@@ -8,7 +8,7 @@ pub const WALKS: Cases = [3, 7, 15, 31, 63, 127, 255];
 const ENDS: [u64; 4] = [0x5555_5555_5555_5555, u64::MAX, 0, 0xcccc_cccc_cccc_cccc];
 
 /// Steps from both ends.
-#[derive(Debug, Clone, Copy)]
+#[derive(Clone, Copy)]
 pub struct Walk {
     /// How many there are.
     pub steps: usize,

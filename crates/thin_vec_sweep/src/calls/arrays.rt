@@ -92,25 +92,33 @@ fn array<T: Sample, const N: usize, R: Abort>(rt: &R, ledger: &'static Ledger, a
     requires small { N * type_size T.row < 2 ^ 63 }
 {
     let mut case: Case<T, Doubling> = Case::new(rt, ledger, at);
+    become_array::<T, N, R>(rt, &mut case);
+    case.check(rt);
+    case.end(rt);
+}
+
+// Makes the calls on the list of the case.
+fn become_array<T: Sample, const N: usize, R: Abort>(rt: &R, case: &mut Case<T, Doubling>)
+    requires small { N * type_size T.row < 2 ^ 63 }
+{
     let capacity = case.capacity;
     let (list, numbers) = case.take();
     let is_whole = numbers.len() == N;
-    let verdict = case.fresh(Some(if is_whole { N } else { 0 }), 0);
+    let (fresh, left) = if is_whole { (N, N) } else { (0, capacity) };
+    let verdict = case.fresh(Some(fresh), 0);
     case.begin();
     let (back, became, answer) = there_and_back::<T, _, N, R>(
         rt,
-        &at,
+        &case.at,
         list,
-        &ledger.alloc,
+        &case.ledger.alloc,
         numbers.as_slice(),
     );
-    same(rt, &at, "becomes an array", became, is_whole);
+    same(rt, &case.at, "becomes an array", became, is_whole);
     case.answered(rt, answer, verdict);
     if let Some(list) = back {
-        case.set(list, numbers, if is_whole { N } else { capacity });
+        case.set(list, numbers, left);
     }
-    case.check(rt);
-    case.end(rt);
 }
 
 // The list that an array was made from and turned into, whether there was one, and why the way back

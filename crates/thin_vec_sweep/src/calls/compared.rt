@@ -22,29 +22,29 @@ impl<T: Sample + Ord + Hash + Debug, G: Ruled> Call<T, G> for Compare {
     }
 
     fn run<R: Abort>(rt: &R, case: &mut Case<T, G>, argument: usize) {
-        let Shape { length, spare: _ } = case.at.shape;
-        let length = match argument {
-            0 | 1 => length,
-            2 => length.saturating_sub(1),
-            _ => length.saturating_add(1),
-        };
-        let shape = Shape { length, spare: 1 };
-        let mut other = filled(rt, case.ledger, shape, 1);
-        if argument == 1
-            && let Some(last) = other.as_mut_slice().last_mut()
-        {
-            *last = case.item(rt, 77);
-        }
+        let other = other(rt, case, argument);
         case.begin();
         same_order(rt, &case.at, &case.list, &other);
-        same(
-            rt,
-            &case.at,
-            "hash",
-            hash(&case.list),
-            hash(&case.list.as_slice()),
-        );
+        let hashes = (hash(&case.list), hash(&case.list.as_slice()));
+        same(rt, &case.at, "hash", hashes.0, hashes.1);
     }
+}
+
+// The list that the case's is compared with.
+fn other<T: Sample, G: Ruled, R: Abort>(rt: &R, case: &Case<T, G>, argument: usize) -> List<T, G> {
+    let length = case.at.shape.length;
+    let length = match argument {
+        0 | 1 => length,
+        2 => length.saturating_sub(1),
+        _ => length.saturating_add(1),
+    };
+    let mut other: List<T, G> = filled(rt, case.ledger, Shape { length, spare: 1 }, 1);
+    if argument == 1
+        && let Some(last) = other.as_mut_slice().last_mut()
+    {
+        *last = case.item(rt, 77);
+    }
+    other
 }
 
 // Asserts that two lists are ordered as their slices are.

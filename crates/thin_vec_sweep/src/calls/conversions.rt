@@ -12,6 +12,9 @@ use thin_vec::{Doubling, Rejected, ThinVec, ThinVecError, thin_vec};
 // The number of an item that comes in.
 const FRESH: u64 = 70_000;
 
+// The allocator of a case.
+type Lender = &'static Refusing<Global>;
+
 /// `into_vec` and `into_boxed_slice`.
 pub struct IntoOthers {}
 
@@ -27,14 +30,7 @@ impl<T: Sample, G: Ruled> Call<T, G> for IntoOthers {
         let (list, items) = case.take();
         let verdict = case.fresh(Some(items.len()), 0);
         case.begin();
-        let answer = match argument {
-            0 => list.into_vec(&case.ledger.alloc),
-            _ => match list.into_boxed_slice(&case.ledger.alloc) {
-                Ok(boxed) => Ok(boxed.into_vec()),
-                Err(refused) => Err(refused),
-            },
-        };
-        match answer {
+        match into_other(list, &case.ledger.alloc, argument) {
             Ok(vec) => {
                 case.answered(rt, Ok(()), verdict);
                 case.holds(rt, vec.as_slice(), items.as_slice());
@@ -47,13 +43,28 @@ impl<T: Sample, G: Ruled> Call<T, G> for IntoOthers {
     }
 }
 
+// The list as a `Vec`: at once, or by way of a boxed slice.
+fn into_other<T: Sample, G: Ruled>(
+    list: List<T, G>,
+    alloc: Lender,
+    argument: usize,
+) -> Result<Vec<T, Lender>, Rejected<List<T, G>>> {
+    if argument == 0 {
+        return list.into_vec(alloc);
+    }
+    match list.into_boxed_slice(alloc) {
+        Ok(boxed) => Ok(boxed.into_vec()),
+        Err(refused) => Err(refused),
+    }
+}
+
 // The list's items in a `Vec` of the same allocator, which has so many places more. The case has an
 // empty list then.
 fn vec_of<T: Sample, R: Abort>(
     rt: &R,
     case: &mut Case<T, Doubling>,
     spare: usize,
-) -> Vec<T, &'static Refusing<Global>> {
+) -> Vec<T, Lender> {
     let (list, _numbers) = case.take();
     let mut items = list.into_vec(&case.ledger.alloc).ok().expect(rt, "memory");
     items.reserve(spare).expect(rt, "memory");
@@ -76,17 +87,7 @@ impl<T: Sample> Call<T, Doubling> for FromOthers {
         let numbers = numbers(rt, case.ledger, 1, shape.length);
         let verdict = case.fresh(Some(shape.length), 0);
         case.begin();
-        let answer = match argument {
-            0 => ThinVec::from_vec(&case.ledger.alloc, items),
-            _ => match ThinVec::from_boxed_slice(&case.ledger.alloc, items.into_boxed_slice()) {
-                Ok(list) => Ok(list),
-                Err(Rejected { value, cause }) => Err(Rejected {
-                    value: value.into_vec(),
-                    cause,
-                }),
-            },
-        };
-        match answer {
+        match from_other(items, &case.ledger.alloc, argument) {
             Ok(list) => {
                 case.answered(rt, Ok(()), verdict);
                 case.set(list, numbers, shape.length);
@@ -96,6 +97,24 @@ impl<T: Sample> Call<T, Doubling> for FromOthers {
                 case.holds(rt, refused.value.as_slice(), numbers.as_slice());
             }
         }
+    }
+}
+
+// The list of a `Vec`: at once, or by way of a boxed slice.
+fn from_other<T: Sample>(
+    items: Vec<T, Lender>,
+    alloc: Lender,
+    argument: usize,
+) -> Result<List<T, Doubling>, Rejected<Vec<T, Lender>>> {
+    if argument == 0 {
+        return ThinVec::from_vec(alloc, items);
+    }
+    match ThinVec::from_boxed_slice(alloc, items.into_boxed_slice()) {
+        Ok(list) => Ok(list),
+        Err(Rejected { value, cause }) => Err(Rejected {
+            value: value.into_vec(),
+            cause,
+        }),
     }
 }
 

@@ -34,14 +34,19 @@ impl<T: Sample, G: Ruled> Call<T, G> for Retain {
             stays(count, argument, index)
         });
         questions.end(rt, &case.at, count);
-        let mut left = Vec::new(case.ledger.global);
-        for index in 0..count {
-            if stays(count, argument, index) {
-                put(rt, &mut left, number_at(index));
-            }
-        }
-        case.items = left;
+        case.items = kept(rt, case.ledger.global, count, argument);
     }
+}
+
+// What is left where each item stays in its place, or goes.
+fn kept<R: Abort>(rt: &R, global: Global, count: usize, pattern: usize) -> Vec<u64, Global> {
+    let mut left = Vec::new(global);
+    for index in 0..count {
+        if stays(count, pattern, index) {
+            put(rt, &mut left, number_at(index));
+        }
+    }
+    left
 }
 
 /// The closure puts each item into the place of the next one that it is asked about.
@@ -66,17 +71,24 @@ impl<T: Sample, G: Ruled> Call<T, G> for RetainMut {
             stays(count, argument, index)
         });
         questions.end(rt, &case.at, count);
-        let mut number = FRESH;
-        let mut left = Vec::new(case.ledger.global);
-        for index in 0..count {
-            if stays(count, argument, index) {
-                put(rt, &mut left, number);
-            }
-            number = number_at(index);
-        }
-        case.items = left;
-        case.handed(rt, &hand, number);
+        case.items = moved_up(rt, case.ledger.global, count, argument);
+        let last = count.checked_sub(1).map_or(FRESH, |index| number_at(index));
+        case.handed(rt, &hand, last);
     }
+}
+
+// What is left where each item comes into the place of the next one, the new one into the first,
+// and the place stays, or goes.
+fn moved_up<R: Abort>(rt: &R, global: Global, count: usize, pattern: usize) -> Vec<u64, Global> {
+    let mut left = Vec::new(global);
+    let mut number = FRESH;
+    for index in 0..count {
+        if stays(count, pattern, index) {
+            put(rt, &mut left, number);
+        }
+        number = number_at(index);
+    }
+    left
 }
 
 /// The closure puts an item that it owns into the place of the last one, which it drops with it,
@@ -104,13 +116,20 @@ impl<T: Sample, G: Ruled> Call<T, G> for PopIf {
             goes
         });
         questions.end(rt, &case.at, count.min(1));
-        let is_there = case.items.pop().is_some();
-        if is_there && !goes {
-            put(rt, &mut case.items, FRESH);
-        }
-        let popped = if is_there && goes { Some(FRESH) } else { None };
-        case.handed_or_none(rt, item, popped);
+        let number = popped(rt, &mut case.items, goes);
+        case.handed_or_none(rt, item, number);
     }
+}
+
+// Puts the new item in the place of the last one, if there is one, and returns its number if it
+// goes.
+fn popped<R: Abort>(rt: &R, items: &mut Vec<u64, Global>, goes: bool) -> Option<u64> {
+    let _last = items.pop()?;
+    if goes {
+        return Some(FRESH);
+    }
+    put(rt, items, FRESH);
+    None
 }
 
 /// The closure exchanges its two items.
@@ -228,14 +247,19 @@ impl<T: Sample + PartialEq, G: Ruled> Call<T, G> for Dedup {
             if stays(count, argument, index) {
                 number = number_at(index);
             }
-            if index < case.list.len() {
-                case.list[index] = T::nth(rt, case.ledger, number);
-            }
+            write(rt, case, index, number);
             put(rt, &mut numbers, T::telling(number));
         }
         numbers.dedup();
         case.begin();
         case.list.dedup();
         case.items = numbers;
+    }
+}
+
+// Writes an item of that number over the one at `index`.
+fn write<T: Sample, G: Ruled, R: Abort>(rt: &R, case: &mut Case<T, G>, index: usize, number: u64) {
+    if index < case.list.len() {
+        case.list[index] = case.item(rt, number);
     }
 }

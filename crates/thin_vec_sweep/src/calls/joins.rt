@@ -1,5 +1,5 @@
 //! Two lists: `append`, `append_reserved`, `split_off`.
-use crate::case::{Case, Verdict, filled, numbers};
+use crate::case::{Case, Verdict, filled};
 use crate::samples::Sample;
 use crate::shapes::Shape;
 use crate::sweep::Call;
@@ -22,18 +22,15 @@ impl<T: Sample, G: Ruled> Call<T, G> for Append {
     fn run<R: Abort>(rt: &R, case: &mut Case<T, G>, argument: usize) {
         let length = case.at.shape.count(argument / 2);
         let spare = argument % 2;
-        let mut other = filled(rt, case.ledger, Shape { length, spare }, FRESH);
+        let shape = Shape { length, spare };
+        let mut other = filled(rt, case.ledger, shape, FRESH);
         let capacity = case.ruled(length);
         let verdict = case.growth(capacity, 0);
         case.begin();
         let answer = case.list.append(&mut other);
         case.answered(rt, answer, verdict);
         case.add(rt, FRESH, length, verdict);
-
-        // The other list is empty now, or as it was, and has its block.
-        let left = if verdict == Verdict::Done { 0 } else { length };
-        let numbers = numbers(rt, case.ledger, FRESH, left);
-        case.stands(rt, &other, numbers.as_slice(), length.saturating_add(spare));
+        case.gave(rt, &other, shape, FRESH, verdict);
     }
 }
 

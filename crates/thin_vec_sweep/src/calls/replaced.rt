@@ -122,7 +122,8 @@ impl<T: Sample, G: Ruled> Call<T, G> for ReplaceRangeFromList {
     fn run<R: Abort>(rt: &R, case: &mut Case<T, G>, argument: usize) {
         let range = case.at.shape.ranged_case(&EACH_COUNT, argument);
         let length = count_for(range);
-        let mut other = filled(rt, case.ledger, Shape { length, spare: 0 }, FRESH);
+        let shape = Shape { length, spare: 0 };
+        let mut other = filled(rt, case.ledger, shape, FRESH);
         let capacity = case.ruled(length.saturating_sub(range.width()));
         let verdict = case.growth(capacity, 0);
         case.begin();
@@ -135,9 +136,6 @@ impl<T: Sample, G: Ruled> Call<T, G> for ReplaceRangeFromList {
         case.answered(rt, answer, verdict);
         replaced(rt, case, range, length, verdict);
 
-        // The other list is empty now, or as it was, and has its block.
-        let left = if verdict == Verdict::Done { 0 } else { length };
-        let numbers = numbers(rt, case.ledger, FRESH, left);
-        case.stands(rt, &other, numbers.as_slice(), length);
+        case.gave(rt, &other, shape, FRESH, verdict);
     }
 }

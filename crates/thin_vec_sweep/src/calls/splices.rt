@@ -205,15 +205,10 @@ impl<T: Sample, G: Ruled> Call<T, G> for Spliced {
         }
         let (walked, answer) = splice(&mut case.list, &plan, claims, &case.ledger.alloc);
         same(rt, &at, "steps", walked, Walked::due(&plan));
+        asked(rt, case, &ending);
         match answer {
-            Ok(()) => {
-                asked(rt, case, &ending);
-                case.answered(rt, Ok(()), ending.verdict);
-            }
-            Err(refused) => {
-                asked(rt, case, &ending);
-                given_back(rt, case, &ending, plan.count, refused);
-            }
+            Ok(()) => case.answered(rt, Ok(()), ending.verdict),
+            Err(refused) => given_back(rt, case, &ending, plan.count, refused),
         }
     }
 }

@@ -96,15 +96,8 @@ impl<T: Sample<A>, A: Allocator + Copy, G: Ruled> Model<T, A, G> {
             && (given.in_hand || given.number == 0 || has_ended)
     }
 
-    // A command that was refused memory: what was placed before follows from how many items come
-    // back. Room for what is claimed was made if one of them was drawn.
-    pub(crate) fn stop(
-        &mut self,
-        alloc: A,
-        order: Order,
-        given: &Shown<T, A>,
-    ) -> Result<Shown<T, A>, AllocError> {
-        let placed = order.count.saturating_sub(given.items.len());
+    // Room for what is claimed was made if one of the items that come back was drawn.
+    fn make_first_rooms(&mut self, order: Order, placed: usize, given: &Shown<T, A>) {
         if given.number > 0 || given.in_hand {
             let first = Order {
                 count: placed,
@@ -112,12 +105,26 @@ impl<T: Sample<A>, A: Allocator + Copy, G: Ruled> Model<T, A, G> {
             };
             let _made = self.make_rooms(first);
         }
+    }
+
+    // A command that was refused memory: what was placed before follows from how many items come
+    // back.
+    pub(crate) fn stop(
+        &mut self,
+        alloc: A,
+        order: Order,
+        given: &Shown<T, A>,
+    ) -> Result<Shown<T, A>, AllocError> {
+        let placed = order.count.saturating_sub(given.items.len());
+        self.make_first_rooms(order, placed, given);
         if !self.may_stop(order, given) {
             return Ok(Shown::plain(alloc, Form::Never, None));
         }
-        let mut shown = self.fill(alloc, order, placed, Some(ThinVecError::OutOfMemory))?;
-        shown.number = given.number;
-        shown.in_hand = given.in_hand;
-        Ok(shown)
+        let shown = self.fill(alloc, order, placed, Some(ThinVecError::OutOfMemory))?;
+        Ok(Shown {
+            number: given.number,
+            in_hand: given.in_hand,
+            ..shown
+        })
     }
 }
