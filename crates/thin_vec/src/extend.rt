@@ -1,5 +1,5 @@
 //! Lists that take the items of an iterator.
-ghost use Rattle.std.specs.Prelude.{◌≡◌, ◌+◌, ◌-◌, ◌<◌, ◌≤◌, List, ◌++◌, IfErr, IfOk, IsOk, IsSome, None, OnErr, OnOk, OnSome, length, true, false, ℕ};
+ghost use Rattle.std.specs.Prelude.{◌≡◌, ◌+◌, ◌-◌, ◌<◌, ◌≤◌, ◌⊎◌, List, ◌++◌, IfErr, IfOk, IsOk, IsSome, None, OnErr, OnOk, OnSome, length, true, false, ℕ};
 ghost use Rattle.std.specs.Iterator.Runs.{SomeRun, WholeRun};
 ghost use Rattle.std.specs.Iterator.{Drains, IsFinite, YieldsThen, size};
 ghost use Rattle.std.specs.Option.{option_to_list};
@@ -9,7 +9,6 @@ ghost use Rattle.thin_block.specs.Slots.{full, laid, slot};
 ghost use Rattle.thin_vec.specs.Cheap.{IsCheap};
 ghost use Rattle.thin_vec.specs.Extend.{GaveUp, IsCollected, IsExtended, IsExtendCost, IsLoose, IsNamed, Overflows, OverflowsNew, Gives};
 ghost use Rattle.thin_vec.specs.ThinVec.{HasRoomFor, IsCause, IsNew, IsWithin, capacity_for};
-ghost use Rattle.std.specs.Prelude.{◌⊎◌};
 ghost use Rattle.std.specs.Iterator.SizeHint.{IsWithinCount};
 
 use crate::errors::{CollectRefused, ExtendRefused, Rejected};
