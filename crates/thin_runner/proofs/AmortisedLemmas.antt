@@ -6,7 +6,7 @@ use Rattle.thin_runner.proofs.RunLemmas.{counted, runs-keep}
 use Rattle.std.specs.Prelude.{◌⊎◌, All}
 use Rattle.std.specs.Option.{option_to_list}
 use Rattle.thin_vec.specs.Cost.{Cost}
-use Rattle.thin_vec.specs.Cheap.{IsCheapAt}
+use Rattle.thin_vec.specs.Cheap.{IsCheap, IsCheapAt}
 use Rattle.thin_vec.specs.Growth.{KeepsLaw}
 use Rattle.thin_vec.specs.ThinVec.{Thin, IsNew, cost_at}
 use Rattle.thin_vec.proofs.ThinVecLemmas.{cost_at-kept, cost_at-grown}
@@ -17,34 +17,33 @@ use Rattle.thin_runner.specs.declared.command.Command.{Command}
 use Rattle.thin_runner.specs.declared.command.Command.TheVariants.{Push, Pop}
 use Rattle.thin_runner.specs.declared.command.Reply.{Reply}
 use Rattle.thin_runner.specs.declared.command.Reply.TheVariants.{Done, Item, Returned, OutOfRange}
-use Rattle.thin_runner.proofs.PaidLemmas.{IsPaid, step-paid}
+use Rattle.thin_runner.proofs.PaidLemmas.{step-paid}
 
--- after m pushes that succeeded: the list is cheap, holds at most m items, and its growths have
--- copied fewer than 2m, or none
+-- after m pushes that succeeded: the list is cheap, holds at most m items, for which there is room,
+-- and its growths have copied fewer than 2m, or none
 pub record IsAmortised {T A : Type 0} (m : ℕ) (v : Thin T A) : Type 0 where
-  pub paid : IsPaid v
+  pub cheap : IsCheap v
+  pub room : length v.items ≤ v.capacity
   pub items : length v.items ≤ m
   pub copied : (v.cost.grown < 2 * m) ⊎ (v.cost.grown ≡ 0)
 
 module _ {T A : Type 0} where
   -- a new list is cheap
-  new-paid : (v : Thin T A) → IsNew v v.alloc → IsPaid v
-  new-paid v new =
+  new-cheap : (v : Thin T A) → IsNew v v.alloc → IsCheap v
+  new-cheap v new =
       let blocks : v.cost.blocks ≡ 0 = ap (λ c. c.blocks) new.cost in
       let grown : v.cost.grown ≡ 0 = ap (λ c. c.grown) new.cost in
       record {
-        cheap = record {
-          none = λ _. (blocks, grown);
-          grown = λ some. absurd (omega (arith, new.capacity, some));
-          blocks = λ some. absurd (omega (arith, new.capacity, some));
-        };
-        room = omega (arith, ap length new.items);
+        none = λ _. (blocks, grown);
+        grown = λ some. absurd (omega (arith, new.capacity, some));
+        blocks = λ some. absurd (omega (arith, new.capacity, some));
       }
 
   -- a new list has seen no push
   pub new-amortised : (v : Thin T A) → IsNew v v.alloc → IsAmortised 0 v
   new-amortised v new = record {
-    paid = new-paid v new;
+    cheap = new-cheap v new;
+    room = omega (arith, ap length new.items);
     items = omega (arith, ap length new.items);
     copied = inr (ap (λ c. c.grown) new.cost);
   }
@@ -81,17 +80,19 @@ module _ {T A G J : Type 0} (here : Setting T A J) (law : KeepsLaw here.rule) wh
       let was : length v.items ≤ m = a.items in
       let paid : w.cost.grown ≡ (cost_at v w.capacity).grown = ap (λ z. z.cost.grown) s.1.1 in
       let next = s.1.0 in
+      let step = step-paid {G = G} here law v w (Push x) Done tt a.room s in
       record {
-        paid = step-paid {G = G} here law v w (Push x) Done tt a.paid s;
+        cheap = step.cheap a.cheap;
+        room = step.room;
         items = omega (arith, ap (λ z. length z.items) s.1.1, length_push v.items x, was);
         copied = elim (cases_lt v.capacity (length v.items + 1)) [
           | inl full ↦
               let one = cost_at-grown here.rule here.R law v 1 w.capacity full next in
               let grown : w.cost.grown ≡ v.cost.grown + length v.items =
               paid ∙ ap (λ c. c.grown) one in
-              let few = copied-growing v.capacity m v.cost a.paid.cheap
+              let few = copied-growing v.capacity m v.cost a.cheap
               (omega (arith, full, was)) in
-              inl (omega (arith, grown, few, a.paid.room))
+              inl (omega (arith, grown, few, a.room))
           | inr spare ↦
               let none = cost_at-kept here.rule here.R law v 1 w.capacity spare next in
               copied-kept m 1 a.copied (paid ∙ ap (λ c. c.grown) none)
@@ -99,8 +100,10 @@ module _ {T A G J : Type 0} (here : Setting T A J) (law : KeepsLaw here.rule) wh
       }
   step-amortised m v w Pop (Item o) only a s =
       let was : length v.items ≤ m = a.items in
+      let step = step-paid {G = G} here law v w Pop (Item o) tt a.room s in
       record {
-        paid = step-paid {G = G} here law v w Pop (Item o) tt a.paid s;
+        cheap = step.cheap a.cheap;
+        room = step.room;
         items = omega (arith, ap length s.1.1, length-append w.items (option_to_list o), was);
         copied = copied-kept m 0 a.copied (ap (λ z. z.cost.grown) s.1.2);
       }

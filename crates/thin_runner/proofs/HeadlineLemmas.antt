@@ -10,8 +10,10 @@ use Rattle.thin_runner.specs.declared.command.Command.{Command}
 use Rattle.thin_runner.specs.declared.command.Reply.{Reply}
 use Rattle.thin_runner.proofs.AmortisedLemmas.{copied-run, new-amortised, runs-amortised}
 use Rattle.thin_runner.proofs.MoveLemmas.{runs-moves}
-use Rattle.thin_runner.proofs.PaidLemmas.{IsPaid, runs-paid}
+use Rattle.thin_runner.proofs.PaidLemmas.{runs-paid}
+use Rattle.thin_runner.proofs.PlainLemmas.{run-plain}
 use Rattle.thin_runner.proofs.RunLemmas.{HasRun}
+use Rattle.thin_runner.proofs.SlackLemmas.{runs-slack}
 
 module _ {T A G J : Type 0} (here : Setting T A J) (law : KeepsLaw here.rule) where
   module _ {old new : Thin T A} where
@@ -30,12 +32,16 @@ module _ {T A G J : Type 0} (here : Setting T A J) (law : KeepsLaw here.rule) wh
           appended = h.appended;
           allowed = run;
           within = within;
-          stays_cheap = λ only cheap.
-              let paid : IsPaid old = record { cheap = cheap; room = was.room } in
-              (runs-paid here law old new commands replies only paid run).cheap;
+          plain = λ equal ok. run-plain here equal old new commands replies ok run;
+          stays_cheap = λ only.
+              (runs-paid here law old new commands replies only was.room run).cheap;
+          copied = λ only.
+              (runs-paid here law old new commands replies only was.room run).copied;
           amortised = λ only is_new some.
               let none = new-amortised old is_new in
               copied-run new (accepted commands replies)
               (runs-amortised here law old new commands replies only none run) some;
+          slack = λ doubles only.
+              runs-slack here law doubles old new commands replies only run;
           moves = runs-moves here old new commands replies run;
         }

@@ -186,7 +186,7 @@ module _ {T J : Type 0} (E : T → T → Bool) (j : J) where
       told by false = let h = by x in (ap (λ l. true ∷ l) h.0, ap (λ l. k ∷ l) h.1)
 
   -- the items from the first on, which stays
-  dedup-pairs : (xs : List T)
+  pub dedup-pairs : (xs : List T)
       → (moved_up (unlike E xs) ≡ moved_up (flags_of (asked_pairs tells j xs)))
       × (dedup E xs ≡ left_at true (asked_pairs tells j xs))
   dedup-pairs [] = (refl, refl)

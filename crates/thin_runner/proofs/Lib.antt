@@ -1,7 +1,7 @@
 -- The lemmas.
 pub mod HintedLemmas
 mod CommandLemmas
-mod RunLemmas
+pub mod RunLemmas
 mod SplicesLemmas
 mod JudgedLemmas
 mod WalkLemmas
@@ -10,4 +10,7 @@ mod MoveLemmas
 pub mod WeakerClonesLemmas
 mod PaidLemmas
 mod AmortisedLemmas
+mod SlackLemmas
+mod PlainLemmas
+mod PlainExamples
 mod HeadlineLemmas

@@ -1,4 +1,5 @@
--- A cheap list stays cheap in a run without `ReserveExact` and `ShrinkToFit`.
+-- A run without `ReserveExact` and `ShrinkToFit` keeps a cheap list cheap, and copies no more items
+-- than its capacity grows by.
 use Rattle.std.proofs.Common.{◌≡◌, ℕ, suc, ◌+◌, ◌-◌, ◌^◌, ◌<◌, ◌≤◌, List, [], ◌∷◌, ◌++◌, Some, None, length, arith, ap, sym, subst, ◌∙◌, refl, inl, inr}
 use Rattle.std.proofs.lemmas.Bool.{cases_lt}
 use Rattle.std.proofs.lemmas.List.{length-append, length-set, length_push, length-drop, length-take}
@@ -15,7 +16,7 @@ use Rattle.thin_vec.specs.Cost.{Cost}
 use Rattle.thin_vec.specs.Cheap.{IsCheap, IsCheapAt}
 use Rattle.thin_vec.specs.Growth.{KeepsLaw}
 use Rattle.thin_vec.specs.ThinVec.{Thin, capacity_for, cost_at}
-use Rattle.thin_vec.proofs.ThinVecLemmas.{cap-kept, cap-grown, cheap-regrown}
+use Rattle.thin_vec.proofs.ThinVecLemmas.{cap-kept, cap-grown, cheap-regrown, cost_at-copied}
 use Rattle.thin_runner.specs.Setting.{Setting}
 use Rattle.thin_runner.specs.Steps.{Steps}
 use Rattle.thin_runner.specs.commands.Items.{Grows}
@@ -39,43 +40,59 @@ cheap-same c k k' blocks grown h = record {
       omega (arith, same, b);
 }
 
--- a cheap list that has room for its items
-pub record IsPaid {T A : Type 0} (v : Thin T A) : Type 0 where
-  pub cheap : IsCheap v
-  pub room : length v.items ≤ v.capacity
+-- w was v: a cheap list stays cheap, growth has copied at most as many items as the capacity has
+-- grown by, and there is room for the items
+pub record IsPaid {T A : Type 0} (v w : Thin T A) : Type 0 where
+  pub cheap : IsCheap v → IsCheap w
+  pub copied : w.cost.grown + v.capacity ≤ v.cost.grown + w.capacity
+  pub room : length w.items ≤ w.capacity
 
-module _ {T A : Type 0} (v w : Thin T A) (a : IsPaid v) where
+module _ {T A : Type 0} where
+  -- nothing was done
+  pub none-paid : (v : Thin T A) → length v.items ≤ v.capacity → IsPaid v v
+  none-paid v room = record { cheap = λ c. c; copied = omega arith; room = room }
+
+  -- one thing was done after another
+  pub join-paid : {v u w : Thin T A} → IsPaid v u → IsPaid u w → IsPaid v w
+  join-paid p q = record {
+    cheap = λ c. q.cheap (p.cheap c);
+    copied = omega (arith, p.copied, q.copied);
+    room = q.room;
+  }
+
+module _ {T A : Type 0} (v w : Thin T A) (room : length v.items ≤ v.capacity) where
   -- nothing changed
-  same-paid : w ≡ v → IsPaid w
-  same-paid e = subst IsPaid (sym e) a
+  same-paid : w ≡ v → IsPaid v w
+  same-paid e = subst (IsPaid v) (sym e) (none-paid v room)
 
   -- the capacity, the blocks and the copied items stay, and no item comes in
   kept-paid : (u : Thin T A) → w ≡ u → u.capacity ≡ v.capacity
       → u.cost.blocks ≡ v.cost.blocks → u.cost.grown ≡ v.cost.grown
-      → length u.items ≤ length v.items → IsPaid w
+      → length u.items ≤ length v.items → IsPaid v w
   kept-paid u e cap blocks copied few =
-      let room : length v.items ≤ v.capacity = a.room in
-      let cheap : IsCheapAt v.capacity u.cost =
-      cheap-same v.capacity v.cost u.cost blocks copied a.cheap in
-      subst IsPaid (sym e) (record {
-        cheap = subst (λ c. IsCheapAt c u.cost) (sym cap) cheap;
+      subst (IsPaid v) (sym e) (record {
+        cheap = λ (was : IsCheapAt v.capacity v.cost).
+            subst (λ c. IsCheapAt c u.cost) (sym cap)
+            (cheap-same v.capacity v.cost u.cost blocks copied was);
+        copied = omega (arith, cap, copied);
         room = omega (arith, room, few, cap);
       })
 
 module _ {T A J : Type 0} (here : Setting T A J) (law : KeepsLaw here.rule) (v w : Thin T A)
-    (a : IsPaid v) where
+    (room : length v.items ≤ v.capacity) where
   -- the capacity is the ruled one for n items more, and at most n come in
   ruled-paid : (u : Thin T A) (n : ℕ) → capacity_for here.rule here.R v n ≡ Some w.capacity
       → w ≡ u → u.cost.blocks ≡ (cost_at v w.capacity).blocks
       → u.cost.grown ≡ (cost_at v w.capacity).grown
-      → length u.items ≤ length v.items + n → IsPaid w
+      → length u.items ≤ length v.items + n → IsPaid v w
   ruled-paid u n next e blocks copied few =
       let items : length w.items ≡ length u.items = ap (λ z. length z.items) e in
+      let paid : w.cost.grown ≡ (cost_at v w.capacity).grown = ap (λ z. z.cost.grown) e ∙ copied in
       record {
-        cheap = cheap-same w.capacity (cost_at v w.capacity) w.cost
-            (ap (λ z. z.cost.blocks) e ∙ blocks)
-            (ap (λ z. z.cost.grown) e ∙ copied)
-            (cheap-regrown here.rule here.R law v n w.capacity a.cheap a.room next);
+        cheap = λ was. cheap-same w.capacity (cost_at v w.capacity) w.cost
+            (ap (λ z. z.cost.blocks) e ∙ blocks) paid
+            (cheap-regrown here.rule here.R law v n w.capacity was room next);
+        copied = omega (arith, paid, cost_at-copied here.rule here.R law v n w.capacity room next);
         room = elim (cases_lt v.capacity (length v.items + n)) [
           | inl full ↦
               let g = cap-grown here.rule here.R law v n w.capacity full next in
@@ -88,13 +105,13 @@ module _ {T A J : Type 0} (here : Setting T A J) (law : KeepsLaw here.rule) (v w
 
   -- nothing changed, or there is room for n items more
   refused-paid : (n : ℕ) (sources : List T) (cause : ThinVecError)
-      → RefusesClone here v n sources cause w → IsPaid w
+      → RefusesClone here v n sources cause w → IsPaid v w
   refused-paid n sources cause r = stopped r.2
     where
       stopped : (w ≡ v) ⊎ ((at : ℕ) × (at < length sources)
           × HoldsAt (λ x. ¬ (here.infallible x)) sources at × Grows here v n v.items at w)
-          → IsPaid w
-      stopped (inl e) = same-paid v w a e
+          → IsPaid v w
+      stopped (inl e) = same-paid v w room e
       stopped (inr s) = ruled-paid _ n s.3.0 s.3.1 refl refl (omega arith)
 
 -- how many items an edit leaves, at most
@@ -141,88 +158,92 @@ module _ {T : Type 0} where
       omega (arith, ap length a.1, length-append xs a.0, count)
 
 module _ {T A G J : Type 0} (here : Setting T A J) (law : KeepsLaw here.rule) where
-  -- a step keeps a list cheap
+  -- a step pays for what it copies
   pub step-paid : (v w : Thin T A) (command : Command T A G) (reply : Reply T A G)
-      → KeepsCheap command → IsPaid v → Steps here v command reply w → IsPaid w
-  step-paid v w command (OutOfRange back) keeps a s = same-paid v w a s.2
-  step-paid v w (ReserveExact k) reply keeps a s = absurd keeps
-  step-paid v w ShrinkToFit reply keeps a s = absurd keeps
-  step-paid v w (Push x) Done keeps a s =
-      ruled-paid here law v w a _ 1 s.1.0 s.1.1 refl refl (one-more v.items x)
-  step-paid v w (Push x) (Returned y cause) keeps a s = same-paid v w a s.1.1.2
-  step-paid v w Pop (Item o) keeps a s =
+      → KeepsCheap command → length v.items ≤ v.capacity → Steps here v command reply w
+      → IsPaid v w
+  step-paid v w command (OutOfRange back) keeps room s = same-paid v w room s.2
+  step-paid v w (ReserveExact k) reply keeps room s = absurd keeps
+  step-paid v w ShrinkToFit reply keeps room s = absurd keeps
+  step-paid v w (Push x) Done keeps room s =
+      ruled-paid here law v w room _ 1 s.1.0 s.1.1 refl refl (one-more v.items x)
+  step-paid v w (Push x) (Returned y cause) keeps room s = same-paid v w room s.1.1.2
+  step-paid v w Pop (Item o) keeps room s =
       let items = length-append w.items (option_to_list o) in
-      kept-paid v w a _ s.1.2 refl refl refl (omega (arith, ap length s.1.1, items))
-  step-paid v w (Insert i x) Done keeps a s =
+      kept-paid v w room _ s.1.2 refl refl refl (omega (arith, ap length s.1.1, items))
+  step-paid v w (Insert i x) Done keeps room s =
       let items = length-insert v.items i x s.0 in
-      ruled-paid here law v w a _ 1 s.1.0 s.1.1 refl refl (omega (arith, items))
-  step-paid v w (Insert i x) (Returned y cause) keeps a s = same-paid v w a s.1.1.2
-  step-paid v w (Remove i) (Item (Some x)) keeps a s =
-      kept-paid v w a _ s.1.1 refl refl refl (few-remove v.items i)
-  step-paid v w (SwapRemove i) (Item (Some x)) keeps a s =
-      kept-paid v w a _ s.1.1 refl refl refl (few-swap_remove v.items i x)
-  step-paid v w (Set i x) (Item (Some y)) keeps a s =
-      kept-paid v w a _ s.1.1 refl refl refl (omega (arith, length-set v.items i x))
-  step-paid v w (Truncate k) Done keeps a s =
-      kept-paid v w a _ s.1 refl refl refl (few-take v.items k)
-  step-paid v w Clear Done keeps a s = kept-paid v w a _ s.1 refl refl refl (omega arith)
-  step-paid v w (Reserve k) Done keeps a s =
-      ruled-paid here law v w a _ k s.1.0 s.1.1 refl refl (omega arith)
-  step-paid v w (Reserve k) (Refused cause) keeps a s = same-paid v w a s.1.2
-  step-paid v w (Resize k x) Done keeps a s =
+      ruled-paid here law v w room _ 1 s.1.0 s.1.1 refl refl (omega (arith, items))
+  step-paid v w (Insert i x) (Returned y cause) keeps room s = same-paid v w room s.1.1.2
+  step-paid v w (Remove i) (Item (Some x)) keeps room s =
+      kept-paid v w room _ s.1.1 refl refl refl (few-remove v.items i)
+  step-paid v w (SwapRemove i) (Item (Some x)) keeps room s =
+      kept-paid v w room _ s.1.1 refl refl refl (few-swap_remove v.items i x)
+  step-paid v w (Set i x) (Item (Some y)) keeps room s =
+      kept-paid v w room _ s.1.1 refl refl refl (omega (arith, length-set v.items i x))
+  step-paid v w (Truncate k) Done keeps room s =
+      kept-paid v w room _ s.1 refl refl refl (few-take v.items k)
+  step-paid v w Clear Done keeps room s = kept-paid v w room _ s.1 refl refl refl (omega arith)
+  step-paid v w (Reserve k) Done keeps room s =
+      ruled-paid here law v w room _ k s.1.0 s.1.1 refl refl (omega arith)
+  step-paid v w (Reserve k) (Refused cause) keeps room s = same-paid v w room s.1.2
+  step-paid v w (Resize k x) Done keeps room s =
       let few = resized-more here.clones v.items w.items k x s.1.0 in
-      ruled-paid here law v w a _ (k - length v.items) s.1.1.0 s.1.1.1 refl refl few
-  step-paid v w (Resize k x) (Refused cause) keeps a s =
-      refused-paid here law v w a (k - length v.items) _ cause s.1.1
-  step-paid v w (ExtendFromSlice xs) Done keeps a s =
+      ruled-paid here law v w room _ (k - length v.items) s.1.1.0 s.1.1.1 refl refl few
+  step-paid v w (Resize k x) (Refused cause) keeps room s =
+      refused-paid here law v w room (k - length v.items) _ cause s.1.1
+  step-paid v w (ExtendFromSlice xs) Done keeps room s =
       let few = clones-more here.clones v.items w.items xs.items s.1.0 in
-      ruled-paid here law v w a _ (length xs.items) s.1.1.0 s.1.1.1 refl refl few
-  step-paid v w (ExtendFromSlice xs) (Refused cause) keeps a s =
-      refused-paid here law v w a (length xs.items) xs.items cause s.1.1
-  step-paid v w (Extend xs lower) Done keeps a s =
-      record { cheap = s.1.cheap a.cheap; room = s.1.within.room }
-  step-paid v w (Extend xs lower) (Stopped answers cause held in_hand rest) keeps a s =
+      ruled-paid here law v w room _ (length xs.items) s.1.1.0 s.1.1.1 refl refl few
+  step-paid v w (ExtendFromSlice xs) (Refused cause) keeps room s =
+      refused-paid here law v w room (length xs.items) xs.items cause s.1.1
+  step-paid v w (Extend xs lower) Done keeps room s =
+      record { cheap = s.1.cheap; copied = s.1.cost.copied; room = s.1.within.room }
+  step-paid v w (Extend xs lower) (Stopped answers cause held in_hand rest) keeps room s =
       let filled = s.1.1.filled in
-      record { cheap = filled.cheap a.cheap; room = filled.within.room }
-  step-paid v w (Append given) (Other back None) keeps a s =
+      record { cheap = filled.cheap; copied = filled.cost.copied; room = filled.within.room }
+  step-paid v w (Append given) (Other back None) keeps room s =
       let few = all-more v.items given.items in
-      ruled-paid here law v w a _ (length given.items) s.1.1.0 s.1.1.1 refl refl few
-  step-paid v w (Append given) (Other back (Some cause)) keeps a s = same-paid v w a s.1.1.2
-  step-paid v w (SplitOff i) (Made out) keeps a s =
-      kept-paid v w a _ s.1.1 refl refl refl (few-take v.items i)
-  step-paid v w (SplitOff i) (Refused cause) keeps a s = same-paid v w a s.1.2
-  step-paid v w Clone (Made copy) keeps a s = same-paid v w a s.1.2
-  step-paid v w Clone (Refused cause) keeps a s = same-paid v w a s.1.2
-  step-paid v w Retain Done keeps a s =
+      ruled-paid here law v w room _ (length given.items) s.1.1.0 s.1.1.1 refl refl few
+  step-paid v w (Append given) (Other back (Some cause)) keeps room s = same-paid v w room s.1.1.2
+  step-paid v w (SplitOff i) (Made out) keeps room s =
+      kept-paid v w room _ s.1.1 refl refl refl (few-take v.items i)
+  step-paid v w (SplitOff i) (Refused cause) keeps room s = same-paid v w room s.1.2
+  step-paid v w Clone (Made copy) keeps room s = same-paid v w room s.1.2
+  step-paid v w Clone (Refused cause) keeps room s = same-paid v w room s.1.2
+  step-paid v w Retain Done keeps room s =
       let few = few-asked (looks here.judging.look) here.judge v.items in
-      kept-paid v w a _ s.1 refl refl refl few
-  step-paid v w RetainMut Done keeps a s =
-      kept-paid v w a _ s.1 refl refl refl (few-asked here.judging.keep here.judge v.items)
-  step-paid v w Dedup Done keeps a s =
-      kept-paid v w a _ s.1 refl refl refl (few-pairs (tells here.eq here.judge) here.judge v.items)
-  step-paid v w DedupBy Done keeps a s =
-      kept-paid v w a _ s.1 refl refl refl (few-pairs here.judging.same here.judge v.items)
-  step-paid v w DedupByKey Done keeps a s =
+      kept-paid v w room _ s.1 refl refl refl few
+  step-paid v w RetainMut Done keeps room s =
+      kept-paid v w room _ s.1 refl refl refl (few-asked here.judging.keep here.judge v.items)
+  step-paid v w Dedup Done keeps room s =
+      let few = few-pairs (tells here.eq here.judge) here.judge v.items in
+      kept-paid v w room _ s.1 refl refl refl few
+  step-paid v w DedupBy Done keeps room s =
+      kept-paid v w room _ s.1 refl refl refl (few-pairs here.judging.same here.judge v.items)
+  step-paid v w DedupByKey Done keeps room s =
       let few = few-pairs (same_key here.judging.key) here.judge v.items in
-      kept-paid v w a _ s.1 refl refl refl few
-  step-paid v w (Drain i j steps) (Answers answers) keeps a s =
-      kept-paid v w a _ s.1.1 refl refl refl (few-drained v.items i j s.0)
-  step-paid v w (Drain i j steps) (Refused cause) keeps a s = same-paid v w a s.1.2
-  step-paid v w (ExtractIf i j k) (Answers answers) keeps a s =
+      kept-paid v w room _ s.1 refl refl refl few
+  step-paid v w (Drain i j steps) (Answers answers) keeps room s =
+      kept-paid v w room _ s.1.1 refl refl refl (few-drained v.items i j s.0)
+  step-paid v w (Drain i j steps) (Refused cause) keeps room s = same-paid v w room s.1.2
+  step-paid v w (ExtractIf i j k) (Answers answers) keeps room s =
       let few = few-extracted here.judging.take here.judge k v.items i j s.0.0 s.0.1 in
-      kept-paid v w a _ s.1.1 refl refl refl few
-  step-paid v w (ExtractIf i j k) (Refused cause) keeps a s = same-paid v w a s.1.2
-  step-paid v w (Splice i j steps xs lower) (Answers answers) keeps a s =
-      record { cheap = s.1.1.cheap a.cheap; room = s.1.1.within.room }
-  step-paid v w (Splice i j steps xs lower) (Stopped answers cause held in_hand rest) keeps a s =
+      kept-paid v w room _ s.1.1 refl refl refl few
+  step-paid v w (ExtractIf i j k) (Refused cause) keeps room s = same-paid v w room s.1.2
+  step-paid v w (Splice i j steps xs lower) (Answers answers) keeps room s =
+      record { cheap = s.1.1.cheap; copied = s.1.1.cost.copied; room = s.1.1.within.room }
+  step-paid v w (Splice i j steps xs lower) (Stopped answers cause held in_hand rest) keeps room s =
       let filled = s.1.1.filled in
-      record { cheap = filled.cheap a.cheap; room = filled.within.room }
-  step-paid v w (Splice i j steps xs lower) (Refused cause) keeps a s = same-paid v w a s.1.2
-  step-paid v w command reply keeps a s = absurd s.1
+      record { cheap = filled.cheap; copied = filled.cost.copied; room = filled.within.room }
+  step-paid v w (Splice i j steps xs lower) (Refused cause) keeps room s = same-paid v w room s.1.2
+  step-paid v w command reply keeps room s = absurd s.1
 
-  -- a run keeps a list cheap
+  -- a run pays for what it copies
   pub runs-paid : (v w : Thin T A) (commands : List (Command T A G)) (replies : List (Reply T A G))
-      → All KeepsCheap commands → IsPaid v → Runs here v commands replies w → IsPaid w
-  runs-paid v w commands replies only a run =
-      runs-keep here (λ n z. IsPaid z) KeepsCheap (λ c r. 0)
-      (λ n x y c r keeps h s. step-paid x y c r keeps h s) 0 v w commands replies only a run
+      → All KeepsCheap commands → length v.items ≤ v.capacity → Runs here v commands replies w
+      → IsPaid v w
+  runs-paid v w commands replies only room run =
+      runs-keep here (λ n z. IsPaid v z) KeepsCheap (λ d r. 0)
+      (λ n x y d r keeps h s. join-paid h (step-paid x y d r keeps h.room s))
+      0 v w commands replies only (none-paid v room) run

@@ -38,19 +38,21 @@ module _ {T A G J : Type 0} (here : Setting T A J) where
     ran = refl;
   }
 
+  -- two runs, of which the second begins with the list that the first leaves, are one run
+  pub runs-append : (old mid new : Thin T A) (commands more : List (Command T A G))
+      (replies further : List (Reply T A G)) → Runs here old commands replies mid
+      → Runs here mid more further new → Runs here old (commands ++ more) (replies ++ further) new
+  runs-append old mid new [] more [] further first second =
+      subst (λ v. Runs here v more further new) first second
+  runs-append old mid new (c ∷ commands) more (r ∷ replies) further first second = (
+    first.0,
+    (first.1.0, runs-append first.0 mid new commands more replies further first.1.1 second),
+  )
+  runs-append old mid new commands more replies further first second = absurd first
+
   -- a step from mid to new
   module _ (mid new : Thin T A) (command : Command T A G) (reply : Reply T A G)
       (stepped : Steps here mid command reply new) where
-    -- the step is one more of a run that led to mid
-    runs-push : (old : Thin T A) (commands : List (Command T A G))
-        (replies : List (Reply T A G)) → Runs here old commands replies mid
-        → Runs here old (commands ++ command ∷ []) (replies ++ reply ∷ []) new
-    runs-push old [] [] ran =
-        (new, (subst (λ v. Steps here v command reply new) ran stepped, refl))
-    runs-push old (c ∷ commands) (r ∷ replies) ran =
-        (ran.0, (ran.1.0, runs-push ran.0 commands replies ran.1.1))
-    runs-push old commands replies ran = absurd ran
-
     -- the step's command is the first of those that were left
     pub HasRun-push : {old : Thin T A} {commands left left' : List (Command T A G)}
         {before after after' : List (Reply T A G)} → HasRun old commands left before after mid
@@ -64,7 +66,8 @@ module _ {T A G J : Type 0} (here : Setting T A J) where
               ∙ (ap (λ l. h.done ++ l) next ∙ sym (append_assoc h.done (command ∷ []) left'));
           appended = pushed
               ∙ (ap (λ l. l ++ reply ∷ []) h.appended ∙ append_assoc before h.replies (reply ∷ []));
-          ran = runs-push old h.done h.replies h.ran;
+          ran = runs-append old mid new h.done (command ∷ []) h.replies (reply ∷ []) h.ran
+              (new, (stepped, refl));
         }
 
   -- what each step of such a command keeps, a run of them keeps: Holds n is true of the list once n

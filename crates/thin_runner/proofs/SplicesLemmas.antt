@@ -171,6 +171,7 @@ module _ {T A : Type 0} (rule : Rule) (R : RattleType) (old new : Thin T A) wher
         moves = omega (arith, f.cost.moves);
         kept = f.cost.kept;
         grown = f.cost.grown;
+        copied = f.cost.copied;
       } in
       let around : (take end old.items ++ placed) ++ drop end old.items ≡ old.items ++ placed =
       (λ i. (take-length old.items i ++ placed) ++ drop-length old.items i)

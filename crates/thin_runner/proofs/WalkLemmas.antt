@@ -10,7 +10,7 @@ use Rattle.thin_runner.specs.declared.command.Step.TheVariants.{Back}
 
 module _ {T : Type 0} where
   -- what stands after a list is at its length
-  last-of : (xs : List T) (x : T) → slice_get (xs ++ x ∷ []) (length xs) ≡ Some x
+  pub last-of : (xs : List T) (x : T) → slice_get (xs ++ x ∷ []) (length xs) ≡ Some x
   last-of [] x = refl
   last-of (y ∷ xs) x = last-of xs x
 

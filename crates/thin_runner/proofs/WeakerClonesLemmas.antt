@@ -15,7 +15,7 @@ use Rattle.thin_runner.specs.declared.command.Reply.TheVariants.{Done, List as M
 module _ {T : Type 0} (clones like : T → T → Type 0)
     (weaker : (x y : T) → clones x y → like x y) where
   -- two lists of clones, item by item, with the weaker word
-  zip-weaker : (xs ys : List T) → AllZip clones xs ys → AllZip like xs ys
+  pub zip-weaker : (xs ys : List T) → AllZip clones xs ys → AllZip like xs ys
   zip-weaker [] [] z = tt
   zip-weaker (x ∷ xs) (y ∷ ys) z = (weaker x y z.0, zip-weaker xs ys z.1)
   zip-weaker xs ys z = absurd z

@@ -1,10 +1,14 @@
 -- The headline: what is known of every list of commands on a list, for every item type, growth
 -- rule and judge.
-use Rattle.std.specs.Prelude.{◌≡◌, ◌+◌, ◌*◌, ◌<◌, ◌≤◌, List, ◌++◌, All}
+use Rattle.std.specs.Prelude.{◌≡◌, ◌+◌, ◌*◌, ◌<◌, ◌≤◌, List, ◌++◌, All, fold, map, max, scan}
 use Rattle.thin_vec.specs.Cheap.{IsCheap}
+use Rattle.thin_vec.specs.Clones.{ClonesEqual}
+use Rattle.thin_vec.specs.Growth.{doubling}
 use Rattle.thin_vec.specs.ThinVec.{IsNew, IsWithin, Thin}
 use Rattle.thin_runner.specs.Setting.{Setting}
-use Rattle.thin_runner.specs.Run.{IsPushOrPop, KeepsCheap, Runs, accepted, run_may_move}
+use Rattle.thin_runner.specs.Plain.{items_after, reply_to, seen}
+use Rattle.thin_runner.specs.Replies.{IsGranted}
+use Rattle.thin_runner.specs.Run.{IsPushOrPop, KeepsCheap, Runs, accepted, peak, run_may_move}
 use Rattle.thin_runner.specs.declared.command.Command.{Command}
 use Rattle.thin_runner.specs.declared.command.Reply.{Reply}
 
@@ -18,14 +22,28 @@ module _ {T A G J : Type 0} (here : Setting T A J) where
     pub allowed : Runs here old commands replies new
     -- the capacity has room for the items, and its block fits
     pub within : IsWithin here.R new
+    -- where clones equal their items and no call failed, the items are a fold over the commands
+    -- and the replies a scan, by a function on lists that says what each command does
+    pub plain : ClonesEqual here.clones → All IsGranted replies
+        → (new.items ≡ fold (items_after here) old.items commands)
+        × (map seen replies ≡ scan (items_after here) (reply_to here) old.items commands)
     -- without `ReserveExact` and `ShrinkToFit` a list that was cheap, as a new one is, stays so: a
     -- capacity c other than 0 has cost fewer than c copied items and at most as many blocks as c
     -- has binary digits
     pub stays_cheap : All KeepsCheap commands → IsCheap old → IsCheap new
+    -- without these two, from any list, growth has copied at most as many items as the capacity has
+    -- grown by
+    pub copied : All KeepsCheap commands
+        → new.cost.grown + old.capacity ≤ old.cost.grown + new.capacity
     -- from a new list, by pushes and pops alone, m pushes that succeeded have cost fewer than 2m
     -- copied items
     pub amortised : All IsPushOrPop commands → IsNew old old.alloc
         → 0 < accepted commands replies → new.cost.grown < 2 * accepted commands replies
+    -- by doubling, pushes and pops alone leave a capacity of at most 4, the one before, or twice
+    -- the greatest length that the list had on the way, whichever is the most
+    pub slack : here.rule ≡ doubling → All IsPushOrPop commands
+        → new.capacity
+        ≤ max old.capacity (max 4 (2 * peak here old new commands replies allowed))
     -- the moves, growth aside, are at most those of the commands, as they were replied to
     pub moves : new.cost.moves
         ≤ old.cost.moves + run_may_move here old new commands replies allowed

@@ -1,5 +1,5 @@
 -- What a list of commands may do to a list, and what they reply: one step after another.
-use Rattle.std.specs.Prelude.{◌≡◌, ℕ, ◌+◌, ◌-◌, ◌*◌, ◌==◌, List, [], ◌∷◌, None, if◌then◌else◌, length, slice_range}
+use Rattle.std.specs.Prelude.{◌≡◌, ℕ, ◌+◌, ◌-◌, ◌*◌, ◌==◌, List, [], ◌∷◌, None, if◌then◌else◌, length, max, slice_range}
 use Rattle.std.specs.Option.{unwrap_or}
 use Rattle.thin_vec.specs.ThinVec.{Thin}
 use Rattle.thin_runner.specs.Setting.{Setting}
@@ -65,3 +65,10 @@ module _ {T A G J : Type 0} (here : Setting T A J) where
   run_may_move old new (command ∷ commands) (reply ∷ replies) run =
       may_move old.items command reply + run_may_move run.0 new commands replies run.1.1
   run_may_move old new commands replies run = 0
+
+  -- the greatest length that the list has in a run, from before the first command on
+  abbrev pub peak : (old new : Thin T A) (commands : List (Command T A G))
+      (replies : List (Reply T A G)) → Runs old commands replies new → ℕ
+  peak old new (command ∷ commands) (reply ∷ replies) run =
+      max (length old.items) (peak run.0 new commands replies run.1.1)
+  peak old new commands replies run = length old.items

@@ -160,8 +160,10 @@ module _ (rule : Rule) (R : RattleType) (law : KeepsLaw rule) where
 module _ {T A : Type 0} where
   -- k items that came in by as many moves, after at most one growth
   pub filled-at : (v w : Thin T A) (k : ℕ) → w.cost ≡ moving k (cost_at v w.capacity)
-      → length w.items ≡ length v.items + k → IsExtendCost v w
-  filled-at v w k e n = record {
+      → length w.items ≡ length v.items + k
+      → (cost_at v w.capacity).grown + v.capacity ≤ v.cost.grown + w.capacity → IsExtendCost v w
+  filled-at v w k e n few = record {
+    copied = omega (arith, ap (λ c. c.grown) e, few);
     moves = omega (arith, ap (λ c. c.moves) e, cost_at-moves v w.capacity, n);
     kept = λ same. (
       ap (λ c. c.blocks) (e ∙ ap (λ c. moving k c) (cost_at-same v w.capacity same)),
@@ -173,8 +175,9 @@ module _ {T A : Type 0} where
 
   -- where no item came in, the cost is that of the room
   pub filled-reserved : (v w : Thin T A) → w.cost ≡ cost_at v w.capacity
-      → w.items ≡ v.items → IsExtendCost v w
-  filled-reserved v w e n =
+      → w.items ≡ v.items
+      → (cost_at v w.capacity).grown + v.capacity ≤ v.cost.grown + w.capacity → IsExtendCost v w
+  filled-reserved v w e n few =
       filled-at v w 0 (e
       ∙ (λ i. record {
         blocks = (cost_at v w.capacity).blocks;
@@ -183,20 +186,24 @@ module _ {T A : Type 0} where
             (let z : (cost_at v w.capacity).moves
             ≡ (cost_at v w.capacity).moves + 0 = omega arith in
             z) i;
-      })) (omega (arith, ap length n))
+      })) (omega (arith, ap length n)) few
 
   -- items came in without a growth
   pub filled-spare : (v w : Thin T A) (k : ℕ)
       → w ≡ record v { items = w.items; cost = moving k v.cost }
       → length w.items ≡ length v.items + k → IsExtendCost v w
-  filled-spare v w k e n = filled-at v w k (ap (λ u. u.cost) e
-      ∙ ap (λ c. moving k c) (sym (cost_at-same v w.capacity (ap (λ u. u.capacity) e)))) n
+  filled-spare v w k e n =
+      let same : w.capacity ≡ v.capacity = ap (λ u. u.capacity) e in
+      let kept : cost_at v w.capacity ≡ v.cost = cost_at-same v w.capacity same in
+      filled-at v w k (ap (λ u. u.cost) e ∙ ap (λ c. moving k c) (sym kept)) n
+      (omega (arith, ap (λ c. c.grown) kept, same))
 
   -- one step after another
   pub filled-join : {v u w : Thin T A} → IsExtendCost v u → IsExtendCost u w
       → v.capacity ≤ u.capacity → u.capacity ≤ w.capacity → length v.items ≤ length u.items
       → IsExtendCost v w
   filled-join {v} {u} {w} p q low high long = record {
+    copied = omega (arith, p.copied, q.copied);
     moves = omega (arith, p.moves, q.moves);
     kept = λ same. let a : u.capacity ≡ v.capacity = omega arith in
         let b : w.capacity ≡ u.capacity = omega arith in let f = p.kept a in let h = q.kept b in

@@ -1,5 +1,5 @@
 -- Which capacities are no overflow, for callers at a known type.
-use Rattle.std.proofs.Common.{if◌then◌else◌, Bool, true, false, ◌≡◌, ℕ, zero, suc, ◌-◌, ◌*◌, ◌^◌, ◌<◌, arith, IfErr, Option, Result, Ok, Err, Some, None, inl, inr, refl, sym, ◌∙◌}
+use Rattle.std.proofs.Common.{if◌then◌else◌, Bool, true, false, ◌≡◌, ℕ, zero, suc, ◌-◌, ◌*◌, ◌^◌, ◌<◌, ◌≤◌, arith, IfErr, Option, Result, Ok, Err, Some, None, inl, inr, refl, sym, ◌∙◌}
 use Rattle.std.specs.Borrow.{RattleType}
 use Rattle.std.specs.Align.{type_align}
 use Rattle.std.specs.Mem.{type_size}
@@ -9,7 +9,8 @@ use Rattle.thin_block.specs.declared.errors.ThinVecError.{ThinVecError}
 use Rattle.thin_block.specs.declared.errors.ThinVecError.TheVariants.{CapacityOverflow, OutOfMemory}
 use Rattle.thin_block.specs.Capacity.{first, fits}
 use Rattle.thin_block.specs.Growth.{doubling, exact_capacity, fitting, ruled_capacity}
-use Rattle.thin_block.proofs.CapacityLemmas.{exact-fits, exact-same, ruled-rule, ruled-same, small_fits}
+use Rattle.thin_block.proofs.CapacityLemmas.{exact-fits, exact-same, ruled-overflow, ruled-rule, ruled-same, small_fits}
+use Rattle.thin_block.proofs.Outcomes.{some-same}
 use Rattle.thin_vec.specs.ThinVec.{IsCause}
 
 -- fewer than 2 ^ 31 items of fewer than 2 ^ 31 bytes have a capacity
@@ -68,3 +69,38 @@ few_more R c w (Ok made) few small told = tt
 few_more R c w (Err cause) few small told =
     let named = doubling-few R c w few small in
     cause-named (ruled_capacity doubling R c w) named.0 cause named.1 told
+
+-- where the test names a capacity, it is that one
+named-by : (b : Bool) (m n : ℕ) → (if b then Some m else None) ≡ Some n → m ≡ n
+named-by true m n e = some-same e
+named-by false m n e = none_some n e
+
+-- a test of 1 and 4 is at most 4
+either_most : (b : Bool) → (if b then 1 else 4) ≤ 4
+either_most true = omega arith
+either_most false = omega arith
+
+-- the first capacity is at most 4
+first_most : (s : ℕ) → first s ≤ 4
+unfolding first
+first_most s = either_most (nat_lt (2 ^ 61 - 1) s)
+
+-- twice the capacity, or the first one, is at most 4 or twice the want
+twice-most : (b : Bool) (s c w : ℕ) → c < w → (if b then first s else 2 * c) ≤ max 4 (2 * w)
+twice-most true s c w more = omega (arith, first_most s)
+twice-most false s c w more = omega (arith, more)
+
+-- by doubling, a capacity that has grown is at most 4 or twice the want
+pub doubling-most : (R : RattleType) (c w n : ℕ) → c < w → ruled_capacity doubling R c w ≡ Some n
+    → n ≤ max 4 (2 * w)
+unfolding doubling fitting
+doubling-most R c w n more e = elim (cases_lt w (2 ^ 64)) [
+  | inl word ↦ (let s : ℕ = type_size R in
+      let twice : ℕ = if c == 0 then first s else 2 * c in
+      let named : max w twice ≡ n =
+      named-by (fits s (type_align R) (max w twice)) (max w twice) n
+      (sym (ruled-rule doubling R c w more word) ∙ e) in
+      let few : twice ≤ max 4 (2 * w) = twice-most (c == 0) s c w more in
+      omega (arith, named, few))
+  | inr high ↦ none_some n (sym (ruled-overflow doubling R c w more high) ∙ e)
+]

@@ -20,7 +20,7 @@ use Rattle.thin_vec.specs.Filling.{IsSpliced, IsStopCause, Stopped, left_of, wit
 use Rattle.thin_vec.specs.Finish.{HasTaken}
 use Rattle.thin_vec.specs.ThinVec.{HasRoomFor, Thin, capacity_for, cost_at}
 use Rattle.thin_vec.proofs.ExtendLemmas.{filled-reserved, loose-join, loose-le, loose-ruled, yields-join, yields-more}
-use Rattle.thin_vec.proofs.ThinVecLemmas.{cap-kept}
+use Rattle.thin_vec.proofs.ThinVecLemmas.{cap-kept, cost_at-copied}
 
 -- moves add up
 pub moving-add : (a b : ℕ) (c : Cost) → moving a (moving b c) ≡ moving (b + a) c
@@ -101,10 +101,12 @@ module _ {S X : Type 0} (steps : S → Option X → S → Type 0) where
 module _ {T A : Type 0} where
   -- what a growth alone has cost
   pub spliced-reserved : (v w : Thin T A) → w.cost ≡ cost_at v w.capacity
-      → w.items ≡ v.items → IsSpliced v w 0
-  spliced-reserved v w e n =
-      let f = filled-reserved v w e n in
+      → w.items ≡ v.items
+      → (cost_at v w.capacity).grown + v.capacity ≤ v.cost.grown + w.capacity → IsSpliced v w 0
+  spliced-reserved v w e n few =
+      let f = filled-reserved v w e n few in
       record {
+        copied = f.copied;
         least = omega (arith, f.moves);
         moves = omega (arith, f.moves);
         kept = f.kept;
@@ -115,6 +117,7 @@ module _ {T A : Type 0} where
   pub spliced-run : (v w : Thin T A) (k m n : ℕ) → w.cost ≡ moving (k + m) v.cost
       → w.capacity ≡ v.capacity → length w.items ≡ length v.items + k → m ≤ n → IsSpliced v w n
   spliced-run v w k m n e same long few = record {
+    copied = omega (arith, ap (λ c. c.grown) e, same);
     least = omega (arith, ap (λ c. c.moves) e, long);
     moves = omega (arith, ap (λ c. c.moves) e, long, few);
     kept = λ _. (ap (λ c. c.blocks) e, ap (λ c. c.grown) e);
@@ -126,6 +129,7 @@ module _ {T A : Type 0} where
       → u.capacity ≤ w.capacity → length v.items ≤ length u.items → IsSpliced v u m
       → IsSpliced u w n → IsSpliced v w k
   spliced-join v u w m n k few low high long p q = record {
+    copied = omega (arith, p.copied, q.copied);
     least = omega (arith, p.least, q.least);
     moves = omega (arith, p.moves, q.moves, few);
     kept = λ same. let a : u.capacity ≡ v.capacity = omega arith in
@@ -313,6 +317,7 @@ module _ {T A : Type 0} where
   pub spliced-extended : (v w : Thin T A) (n : ℕ) → IsExtendCost v w → IsSpliced v w n
   spliced-extended v w n p =
       record {
+        copied = p.copied;
         least = omega (arith, p.moves);
         moves = omega (arith, p.moves);
         kept = p.kept;
@@ -357,11 +362,12 @@ module _ (rule : Rule) (R : RattleType) {T A : Type 0} where
     pub taken-reserved : (v w : Thin T A) (h : ℕ) (left : Count)
         → capacity_for rule R v h ≡ Some w.capacity → w.items ≡ v.items → w.alloc ≡ v.alloc
         → w.cost ≡ cost_at v w.capacity → (IsCheap v → IsCheap w) → h ≤ size left
-        → HasTaken rule R v w 0 left
-    taken-reserved v w h left named same from paid cheap allowed = record {
+        → length v.items ≤ v.capacity → HasTaken rule R v w 0 left
+    taken-reserved v w h left named same from paid cheap allowed room = record {
       capacity = loose-ruled rule R law v h w.capacity named;
       had_room = λ fit. cap-kept rule R law v h w.capacity (omega (arith, fit, allowed)) named;
-      cost = spliced-reserved v w paid same;
+      cost = spliced-reserved v w paid same
+          (cost_at-copied rule R law v h w.capacity room named);
       alloc = from;
       cheap = cheap;
     }

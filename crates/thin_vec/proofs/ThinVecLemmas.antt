@@ -138,6 +138,19 @@ module _ {T A : Type 0} (rule : Rule) (R : RattleType) (law : KeepsLaw rule)
       let g = cap-grown more e in
       cost_at-more v c (omega (arith, g.0))
 
+  -- a growth copies at most as many items as the capacity grows by
+  pub cost_at-copied : length v.items ≤ v.capacity → capacity_for rule R v k ≡ Some c
+      → (cost_at v c).grown + v.capacity ≤ v.cost.grown + c
+  cost_at-copied room e =
+      elim (cases_lt v.capacity (length v.items + k)) [
+        | inl more ↦ let g = cap-grown more e in
+            let paid = ap (λ z. z.grown) (cost_at-grown more e) in
+            omega (arith, paid, g.1, room)
+        | inr spare ↦
+            let paid = ap (λ z. z.grown) (cost_at-kept spare e) in
+            omega (arith, paid, cap-kept spare e)
+      ]
+
   -- a cheap list stays cheap where its capacity becomes the ruled one
   pub cheap-regrown : IsCheap v → length v.items ≤ v.capacity → capacity_for rule R v k ≡ Some c
       → IsCheapAt c (cost_at v c)

@@ -47,6 +47,8 @@ module _ {T A : Type 0} where
     -- where it grew, at least one block more, into which at least the items of v were copied
     pub grown : v.capacity < w.capacity → (v.cost.blocks < w.cost.blocks)
         × (v.cost.grown + length v.items ≤ w.cost.grown)
+    -- growth has copied at most as many items as the capacity has grown by
+    pub copied : w.cost.grown + v.capacity ≤ v.cost.grown + w.capacity
 
   -- no capacity is ruled for what was wanted: one place more, for the item in hand, or, where no
   -- item was drawn, as many more as some hint allows of an iterator that has `left` to give

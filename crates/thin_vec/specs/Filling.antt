@@ -33,6 +33,8 @@ module _ {T A : Type 0} where
     -- where it grew, at least one block more, into which at least the items of v were copied
     pub grown : v.capacity < w.capacity → (v.cost.blocks < w.cost.blocks)
         × (v.cost.grown + length v.items ≤ w.cost.grown)
+    -- growth has copied at most as many items as the capacity has grown by
+    pub copied : w.cost.grown + v.capacity ≤ v.cost.grown + w.capacity
 
   -- why the call failed that left v and its tail: `held` and `in_hand` found no room, and the
   -- iterator still has `left` to give

@@ -6,6 +6,7 @@ use Rattle.std.specs.Iterator.Runs.{SomeRun, WholeRun}
 use Rattle.std.specs.Option.{option_to_list}
 use Rattle.std.specs.Prelude.{IfErr, OnOk}
 use denote.Param.{param}
+use Rattle.thin_vec.proofs.ThinVecLemmas.{cost_at-copied}
 use Rattle.thin_vec.specs.ThinVec.{capacity_for}
 use Rattle.std.proofs.Common.{inl, sym, Some, List, None, [], refl}
 use Rattle.thin_vec.proofs.ExtendLemmas.{named-after, run_of_ok, filled-join, filled-reserved, loose-join, loose-le, loose-ruled, run_given, run_given_err}
@@ -23,7 +24,9 @@ pub returns-in-Ok-clause-cost : goal.returns-in-Ok-clause-cost
 returns-in-Ok-clause-cost g c =
     let rule = g.G.Growth.rule in let T = param 0 g.row.T in let law = g.met.G.Growth.law in
     let v = c.args.self.now in let u = c.reserve.new.self in let w = c.extend_unhinted.new.self in
-    filled-join (filled-reserved v u c.in-Ok.ensures.cost c.reserve.ensures.items)
+    filled-join (filled-reserved v u c.in-Ok.ensures.cost c.reserve.ensures.items
+    (cost_at-copied rule T law v c.size_hint.result.0 u.capacity c.reserve.ensures.within.0.room
+    c.in-Ok.ensures.capacity))
     c.extend_unhinted.ensures.cost
     (loose-le rule T law v.capacity u.capacity
     (loose-ruled rule T law v c.size_hint.result.0 u.capacity c.in-Ok.ensures.capacity))

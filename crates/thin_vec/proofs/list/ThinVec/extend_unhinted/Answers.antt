@@ -6,6 +6,7 @@ use denote.Param.{param}
 use Rattle.thin_vec.specs.Extend.{IsLoose}
 use Rattle.thin_vec.specs.ThinVec.{capacity_for}
 use Rattle.thin_vec.proofs.ExtendLemmas.{named-more, filled-at, filled-join, filled-spare, loose-join, loose-le, loose-ruled, yields-join, yields-more}
+use Rattle.thin_vec.proofs.ThinVecLemmas.{cost_at-copied}
 use Rattle.thin_block.proofs.Outcomes.{at-some}
 use Rattle.thin_vec.proofs.list.ThinVec.extend_unhinted.Goals as goal
 
@@ -89,7 +90,9 @@ loop-item-preserved g c =
     let grown = loose-ruled rule T law w 1 z.capacity pushed.capacity in
     let spare = filled-spare u w (length w.items - length u.items)
     c.extend_reserved-left.ensures.changes (omega (arith, more)) in
-    let push = filled-at w z 1 pushed.cost long in
+    let push = filled-at w z 1 pushed.cost long
+    (cost_at-copied rule T law w 1 z.capacity c.extend_reserved-left.ensures.within.1.room
+    pushed.capacity) in
     let high = loose-le rule T law w.capacity z.capacity grown in
     let low = loose-le rule T law v.capacity u.capacity held.capacity in
     record {

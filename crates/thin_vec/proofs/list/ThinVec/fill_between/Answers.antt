@@ -46,7 +46,8 @@ grown g c =
     (taken-reserved rule T law c.close_filled-end.new.self c.reserve.new.self
     c.size_hint-hint.result.0 (left c.close_filled-end.result.1) c.in_default.ensures.capacity
     c.reserve.ensures.items c.reserve.ensures.alloc c.in_default.ensures.cost
-    c.reserve.ensures.cheap (c.size_hint-hint.ensures.lower first.finite))
+    c.reserve.ensures.cheap (c.size_hint-hint.ensures.lower first.finite)
+    c.reserve.ensures.within.0.room)
 
 -- where a capacity comes from that was named after that
 named : (g : _) (c : After-close_filled-last g) (d n : ℕ)

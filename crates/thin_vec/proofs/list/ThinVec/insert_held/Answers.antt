@@ -112,7 +112,8 @@ returns-clause-taken g c =
     (omega (arith, old)) (λ fit same. omega (arith, fit, same, old))
     (taken-reserved rule T law v u c.len.result left c.in_default-reserve.ensures.capacity
     c.reserve.ensures.items c.reserve.ensures.alloc c.in_default-reserve.ensures.cost
-    c.reserve.ensures.cheap (omega (arith, count, c.draw-held.ensures.fewer)))
+    c.reserve.ensures.cheap (omega (arith, count, c.draw-held.ensures.fewer))
+    c.reserve.ensures.within.0.room)
     (taken-spare rule T u c.insert_vec.new.self (length c.draw-held.result.0.items) paid.0 n left
     paid.1 (ap (λ z. z.capacity) kept) (long g c) (omega (arith, paid.2, old))
     (ap (λ z. z.alloc) kept))
