@@ -1,6 +1,6 @@
 -- What is left of items of which each was asked about beside the last one kept, as one stretch of
 -- items follows another.
-use Rattle.std.proofs.Common.{◌≡◌, ℕ, zero, suc, ◌+◌, ◌<◌, Bool, true, false, List, [], ◌∷◌, ◌++◌, length, take, drop, refl, sym, ap, subst, ◌∙◌, arith, inl, inr, append_assoc}
+use Rattle.std.proofs.Common.{◌≡◌, ℕ, zero, suc, ◌+◌, ◌<◌, ◌≤◌, Bool, true, false, List, [], ◌∷◌, ◌++◌, length, take, drop, refl, sym, ap, subst, ◌∙◌, arith, inl, inr, append_assoc}
 use Rattle.std.proofs.lemmas.List.{append-nil, drop_at, length_push, replicate-append-replicate, take_at}
 use Rattle.std.specs.List.{dedup, dedup_from}
 use Rattle.std.specs.Prelude.{MatchBool, cond, if◌then◌else◌, not, replicate}
@@ -549,3 +549,27 @@ module _ {S T : Type 0} (E : T → T → Bool) where
       → AskedPairs (Compares E) s xs f ys t → (f ≡ unlike E xs) × (ys ≡ dedup E xs)
   pairs-compare [] s t f ys h = (h.0, h.1)
   pairs-compare (x ∷ xs) s t f ys h = last-compares xs s t x f ys h
+
+module _ {S T : Type 0} (R : OnPairs S T) where
+  -- no more items stay than there were
+  few-last : (xs : List T) (s t : S) (k : T) (stays : List Bool) (ys : List T)
+      → AskedLast R s k xs stays ys t → length ys ≤ suc (length xs)
+  few-last [] s t k stays ys h = omega (arith, ap length h.1)
+  few-last (x ∷ xs) s t k stays ys h =
+      one h.0 h.7 (λ l zs m. few-last xs h.3 t l h.4 zs m)
+    where
+      one : (b : Bool) → MatchBool b (AskedLast R h.3 h.2 xs h.4 ys t)
+          ((zs : List T) × AskedLast R h.3 h.1 xs h.4 zs t × (ys ≡ h.2 ∷ zs))
+          → ((l : T) (zs : List T) → AskedLast R h.3 l xs h.4 zs t → length zs ≤ suc (length xs))
+          → length ys ≤ suc (suc (length xs))
+      one true m few = let f = few h.2 ys m in omega (arith, f)
+      one false m few = let f = few h.1 m.0 m.1 in omega (arith, f, ap length m.2)
+
+  few-pairs : (xs : List T) (s t : S) (stays : List Bool) (ys : List T)
+      → AskedPairs R s xs stays ys t → length ys ≤ length xs
+  few-pairs [] s t stays ys h = omega (arith, ap length h.1)
+  few-pairs (x ∷ xs) s t stays ys h = few-last xs s t x stays ys h
+
+  pub few-deduped : {A : Type 0} (s : S) (v w : Thin T A) → IsDedupedBy R s v w
+      → length w.items ≤ length v.items
+  few-deduped s v w h = few-pairs v.items s h.0 h.1.stays w.items h.1.asked

@@ -624,3 +624,26 @@ module _ {S T : Type 0} (R : S → T → Bool → S → Type 0) where
       → IsRetained (Looks R) s v w → w.items ≡ filter test v.items
   retained_filter test {s} {v} {w} says h = filter_same R test s says v.items w.items
       (retained_filtered s v w h)
+
+module _ {S T : Type 0} (R : S → T → Bool → S → T → Type 0) where
+  -- no more items stay than there were
+  pub few-left : (xs : List T) (s t : S) (a : Answers T) → Asked R s xs a t
+      → length (left_at true a) ≤ length xs
+  few-left [] s t a h = subst (λ (b : Answers T). length (left_at true b) ≤ 0) (sym h.0) (omega arith)
+  few-left (x ∷ xs) s t a h =
+      let rest = few-left xs h.2 t h.3 h.5 in
+      subst (λ (b : Answers T). length (left_at true b) ≤ suc (length xs)) (sym h.6)
+      (one h.0 h.1 h.3 xs rest)
+    where
+      one : (b : Bool) (y : T) (a : Answers T) (xs : List T)
+          → length (left_at true a) ≤ length xs
+          → length (left_at true ((b, y) ∷ a)) ≤ suc (length xs)
+      one true y a xs few = omega (arith, few)
+      one false y a xs few = omega (arith, few)
+
+  -- nor after `retain`
+  pub few-retained : {A : Type 0} (s : S) (v w : Thin T A) → IsRetained R s v w
+      → length w.items ≤ length v.items
+  few-retained s v w h =
+      let few = few-left v.items s h.0 h.1.answers h.1.asked in
+      omega (arith, few, ap length h.1.items)

@@ -1,8 +1,8 @@
 -- By a test without a state, what is left is `dedup` of the items, and `unlike` says which stay.
 use Rattle.std.proofs.Common.{ap, ◌∙◌}
 use Rattle.thin_block.specs.Cost.{moving}
-use Rattle.thin_vec.specs.Filters.{moved_up}
-use Rattle.thin_vec.proofs.DedupLemmas.{pairs-compare}
+use Rattle.thin_vec.specs.Filters.{Compares, moved_up}
+use Rattle.thin_vec.proofs.DedupLemmas.{few-deduped, pairs-compare}
 use Rattle.thin_vec.proofs.list.ThinVec.dedup.Goals as goal
 
 pub returns-clause-items : goal.returns-clause-items
@@ -17,3 +17,7 @@ returns-clause-cost g c =
     h.cost ∙ ap (λ f. moving (moved_up f) c.args.self.now.cost)
     (pairs-compare g.T.PartialEq.eq c.args.self.now.items _ _ h.stays
     c.dedup_those.new.self.items h.asked).0
+
+pub returns-clause-bound : goal.returns-clause-bound
+returns-clause-bound g c = few-deduped (Compares g.T.PartialEq.eq) _ c.args.self.now
+    c.dedup_those.new.self (_, c.dedup_those.ensures.deduped)

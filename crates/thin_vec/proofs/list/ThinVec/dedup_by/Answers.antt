@@ -1,9 +1,15 @@
 -- Each question to the judge is a call of the closure that it holds.
 use Rattle.std.specs.Fn.{CalledAtPairMut}
-use Rattle.thin_vec.proofs.DedupLemmas.{deduped-through}
+use Rattle.thin_vec.proofs.DedupLemmas.{deduped-through, few-deduped}
 use Rattle.thin_vec.proofs.list.ThinVec.dedup_by.Goals as goal
 
 pub returns-clause-deduped : goal.returns-clause-deduped
 returns-clause-deduped g c =
     deduped-through (CalledAtPairMut g.F.FnMut) (λ s. s.same)
     _ c.args.self.now c.dedup_those.new.self _ c.dedup_those.ensures.deduped
+
+pub returns-clause-bound : goal.returns-clause-bound
+returns-clause-bound g c =
+    few-deduped (CalledAtPairMut g.F.FnMut) _ c.args.self.now c.dedup_those.new.self
+    (deduped-through (CalledAtPairMut g.F.FnMut) (λ s. s.same)
+    _ c.args.self.now c.dedup_those.new.self _ c.dedup_those.ensures.deduped)

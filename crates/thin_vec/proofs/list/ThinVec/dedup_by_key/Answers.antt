@@ -1,9 +1,15 @@
 -- Each question to the judge compares two keys by the closure that it holds.
 use Rattle.std.specs.Fn.{ComparesKeys}
-use Rattle.thin_vec.proofs.DedupLemmas.{deduped-through}
+use Rattle.thin_vec.proofs.DedupLemmas.{deduped-through, few-deduped}
 use Rattle.thin_vec.proofs.list.ThinVec.dedup_by_key.Goals as goal
 
 pub returns-clause-deduped : goal.returns-clause-deduped
 returns-clause-deduped g c =
     deduped-through (ComparesKeys g.F.FnMut g.K.PartialEq.eq) (λ s. s.key)
     _ c.args.self.now c.dedup_those.new.self _ c.dedup_those.ensures.deduped
+
+pub returns-clause-bound : goal.returns-clause-bound
+returns-clause-bound g c =
+    few-deduped (ComparesKeys g.F.FnMut g.K.PartialEq.eq) _ c.args.self.now c.dedup_those.new.self
+    (deduped-through (ComparesKeys g.F.FnMut g.K.PartialEq.eq) (λ s. s.key)
+    _ c.args.self.now c.dedup_those.new.self _ c.dedup_those.ensures.deduped)

@@ -1,10 +1,22 @@
 -- Each question to the judge is a look of the closure that it holds.
 use Rattle.std.specs.Fn.{CalledAt}
 use Rattle.thin_vec.specs.Filters.{Looks}
-use Rattle.thin_vec.proofs.FiltersLemmas.{retained-through}
+use Rattle.thin_vec.proofs.FiltersLemmas.{few-retained, retained-through, retained_filtered}
 use Rattle.thin_vec.proofs.list.ThinVec.retain.Goals as goal
 
 pub returns-clause-retained : goal.returns-clause-retained
 returns-clause-retained g c =
     retained-through (Looks (CalledAt g.F.FnMut)) (λ s. s.keep)
     _ c.args.self.now c.keep_those.new.self _ c.keep_those.ensures.retained
+
+pub returns-clause-filtered : goal.returns-clause-filtered
+returns-clause-filtered g c =
+    retained_filtered (CalledAt g.F.FnMut) _ c.args.self.now c.keep_those.new.self
+    (retained-through (Looks (CalledAt g.F.FnMut)) (λ s. s.keep)
+    _ c.args.self.now c.keep_those.new.self _ c.keep_those.ensures.retained)
+
+pub returns-clause-bound : goal.returns-clause-bound
+returns-clause-bound g c =
+    few-retained (Looks (CalledAt g.F.FnMut)) _ c.args.self.now c.keep_those.new.self
+    (retained-through (Looks (CalledAt g.F.FnMut)) (λ s. s.keep)
+    _ c.args.self.now c.keep_those.new.self _ c.keep_those.ensures.retained)

@@ -1,9 +1,15 @@
 -- Each question to the judge is a call of the closure that it holds.
 use Rattle.std.specs.Fn.{CalledAtMut}
-use Rattle.thin_vec.proofs.FiltersLemmas.{retained-through}
+use Rattle.thin_vec.proofs.FiltersLemmas.{few-retained, retained-through}
 use Rattle.thin_vec.proofs.list.ThinVec.retain_mut.Goals as goal
 
 pub returns-clause-retained : goal.returns-clause-retained
 returns-clause-retained g c =
     retained-through (CalledAtMut g.F.FnMut) (λ s. s.keep) _ c.args.self.now c.keep_those.new.self _
     c.keep_those.ensures.retained
+
+pub returns-clause-bound : goal.returns-clause-bound
+returns-clause-bound g c =
+    few-retained (CalledAtMut g.F.FnMut) _ c.args.self.now c.keep_those.new.self
+    (retained-through (CalledAtMut g.F.FnMut) (λ s. s.keep) _ c.args.self.now
+    c.keep_those.new.self _ c.keep_those.ensures.retained)
