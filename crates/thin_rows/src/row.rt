@@ -7,7 +7,7 @@ ghost use Rattle.thin_rows.specs.Entries.{IsGapFor, IsPlaceOf, IsRising};
 use std::alloc::Allocator;
 use std::marker::Model;
 use std::{fmt, mem};
-use thin_vec::{Rejected, ThinVec};
+use thin_vec::{Rejected, ThinVec, ThinVecError};
 
 // A finite map from columns to values. It owns a block only where there is an entry.
 #[derive(Drop)]
@@ -112,6 +112,9 @@ impl<V, A: Allocator> Row<V, A> {
         ensures cause { IfErr result
             (λ refused. IsCause (ruled_capacity doubling (entry_type V.row) (map.len self.old)
             (map.len self.old + 1)) refused.cause) }
+        ensures overflow { IfErr result (λ refused. ruled_capacity doubling (entry_type V.row)
+            (map.len self.old) (map.len self.old + 1) ≡ None
+            → refused.cause ≡ ThinVecError.CapacityOverflow) }
         ensures err { OnErr result (self.new ≡ self.old) }
         ensures value_returned { IfErr result (λ refused. refused.value ≡ value) }
     {

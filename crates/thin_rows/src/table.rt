@@ -124,6 +124,10 @@ impl<V, A: Allocator> Rows<V, A> {
             (λ refused. IsCause
             (ruled_capacity doubling (entry_type V.row) (columns.len (row_of self.old row))
             (columns.len (row_of self.old row) + 1)) refused.cause) }
+        ensures overflow { IfErr result
+            (λ refused. ruled_capacity doubling (entry_type V.row)
+            (columns.len (row_of self.old row)) (columns.len (row_of self.old row) + 1) ≡ None
+            → refused.cause ≡ ThinVecError.CapacityOverflow) }
         ensures err { OnErr result (self.new ≡ self.old) }
         ensures value_returned { IfErr result (λ refused. refused.value ≡ value) }
     {

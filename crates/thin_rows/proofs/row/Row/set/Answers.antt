@@ -77,6 +77,20 @@ returns-in-Err-insert-clause-cause g c = λ over.
     (length row.items + 1) refl refl full (ap (λ k. k + 1) many)
     ∙ c.in-Err-insert.ensures.cause over
 
+pub returns-in-Err-insert-clause-overflow : goal.returns-in-Err-insert-clause-overflow
+returns-in-Err-insert-clause-overflow g c = λ none.
+    let row = c.self.inside.entries in
+    let many : len c.args.self.now ≡ length row.items =
+    sym (sym (len_is row.items c.self.invariant.rising) ∙ ap len c.self.view_is) in
+    let full : len c.args.self.now ≡ row.capacity =
+    elim (cases_lt row.capacity (length row.items + 1)) [
+      | inl few ↦ omega (arith, few, many, c.insert.ensures.within.0.room)
+      | inr spare ↦ absurd (false≢true (c.in-Err-insert.ensures.succeeds spare))
+    ] in
+    c.in-Err-insert.ensures.overflow
+    (sym (ruled_of_same doubling _ _ (len c.args.self.now) row.capacity (len c.args.self.now + 1)
+    (length row.items + 1) refl refl full (ap (λ k. k + 1) many)) ∙ none)
+
 pub returns-in_default-clause-value : goal.returns-in_default-clause-value
 returns-in_default-clause-value g c =
     let row = c.self.inside.entries in

@@ -1,5 +1,6 @@
 -- On failure the row is as it was, and so is the table; the cause is that of its row.
-use Rattle.std.proofs.Common.{◌≡◌, ◌+◌, subst, ℕ, List, OnErr, Result, Ok, Err, Some, slice_get, slice_set, sym, ap, ◌∙◌}
+use Rattle.thin_vec.specs.declared.ThinVecError.TheVariants.{CapacityOverflow}
+use Rattle.std.proofs.Common.{None, ◌≡◌, ◌+◌, subst, ℕ, List, OnErr, Result, Ok, Err, Some, slice_get, slice_set, sym, ap, ◌∙◌}
 use Rattle.std.proofs.lemmas.List.{set-get_or}
 use Rattle.std.proofs.lemmas.Option.{get_or_from_slice_get}
 use denote.Param.{param}
@@ -34,3 +35,15 @@ returns-clause-cause g c =
     (subst (λ row. IfErr c.set.result (λ refused. IsCause (ruled_capacity doubling
     (entry_type (param 0 g.row.V)) (map.len row) (map.len row + 1)) refused.cause))
     (sym there) c.set.ensures.cause)
+
+pub returns-clause-overflow : goal.returns-clause-overflow
+returns-clause-overflow g c =
+    let table = c.self.inside.rows.items in
+    let there : row_of table c.args.row ≡ c.index_mut.result.now =
+    get_or_from_slice_get table c.args.row c.index_mut.result.now map.empty
+    c.index_mut.ensures.value in
+    rw (← c.self.view_is)
+    (subst (λ row. IfErr c.set.result (λ refused. ruled_capacity doubling
+    (entry_type (param 0 g.row.V)) (map.len row) (map.len row + 1) ≡ None
+    → refused.cause ≡ CapacityOverflow))
+    (sym there) c.set.ensures.overflow)
