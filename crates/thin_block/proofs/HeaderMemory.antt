@@ -2,7 +2,7 @@
 -- Assumes `Logic`.
 --     block_val, block_own        the pointer in a struct of three fields, and what the struct owns
 --     whole_size, whole_align     the layout of the room that a block is asked for
---     carve, gather               that room as its parts, and back
+--     carve                       that room as its parts, with the way back
 --     header, header_fits         a block but for its slots, also where there is none; that it fits
 --     alloc_there                 where there are slots, there is an allocator
 --     block_had, block_made       what a block owns, as its header and its slots, and back
@@ -16,10 +16,10 @@ use prog.Align.{align_w, align-bytes}
 use prog.RawLaws.{size-raw, align-raw}
 use denote.Memory.{lone, cell_at, mem}
 use Rattle.std.specs.Prelude.{max, Option}
-use mir.Val.{Val, vint, vstruct, vcons, vnil, of_list, bytes}
+use mir.Val.{Val, vstruct, vcons, vnil, of_list, bytes}
 use base.Logic.{ent, emp, sep, wand, id⊢, never, apply∗}
 use base.Stored.{Gv}
-use base.Fml.{Lft, GName, Share, Fml, ftrue, fsep, fwand, fat, froom, flft, fobs, fauth, fbor, fobor}
+use base.Fml.{Lft, GName, Share, Fml, ftrue, fsep, fwand, froom, flft, fobs, fauth, fbor, fobor}
 use prog.Model.{rooms_at}
 use types.Logic.{Logic, sem}
 use types.Kit.{‵, raw as given_raw, ◌⊛◌, ◌$◌, ◌∵◌, !, qed, by, move, keep, drop, use0, use1, use2, split, split3, join, fsplit, fsplit3, fjoin, rewrite, frame as keeps, assume, feq_i, feq_l, Item, Goal, Soaks, Step, step, Seq, done}
@@ -33,12 +33,11 @@ use denote.Struct.Lending.{lent_at}
 use denote.Builtin.{usize}
 use denote.Laws.{shows}
 use denote.Steps.{nothing, peeks, opens, closes}
-use denote.Plain.{uint_out}
 use base.Fraction.{full_share}
 use borrow.Author.Tests.{clash}
 use Rattle.core.proofs.mem.Param.{El, R}
 use Rattle.core.proofs.alloc.Calls.{Al}
-use Rattle.thin_block.specs.Ownership.{any, there, fits_block, places, parts, whole, asked, frame, block_owns}
+use Rattle.thin_block.specs.Ownership.{any, there, fits_block, places, parts, whole, frame, block_owns}
 use Rattle.thin_block.specs.contracts.block.Block as block
 use Rattle.std.specs.Mem.{type_size}
 use Rattle.std.specs.Align.{type_align}
@@ -145,24 +144,6 @@ module _ {M : Type 1} {𝓤 : Ura M} (𝓛 : Logic 𝓤) (R : RattleType) where
       rewrite ! 2 (λ (k : ℕ). ‵ (froom (items R c) b k)) (sym third) refl $
       move ! (2 ∷ 4 ∷ []) $ join ! $ move ! (2 ∷ 0 ∷ []) $ join ! $ move ! (1 ∷ 0 ∷ []) $ join ! $
       by ! (apply∗ 𝓤 rooms (H.room (whole R c) b o))
-
-  -- a block is whole again where its slots are room
-  pub gather : (t : Ty → Ptr → Fml) (n c b o : ℕ)
-      → ent 𝓤 (sep 𝓤 (sem 𝓛 (frame t R n c b o)) (H.room (items R c) b (o + 16)))
-      (sep 𝓤 (H.room (asked R c) b o) (sem 𝓛 (t (asked R c) (block_ptr b o))))
-  gather t n c b o =
-      let word : Ty = ty_int w64 in
-      qed 𝓛 (‵ (frame t R n c b o) ∷ ‵ (froom (items R c) b (o + 16)) ∷ []) ∵ fsplit ! $
-      use1 𝓛 (‵ (fat full_share word b o (vint w64 c))) (uint_out 𝓛 full_share w64 c b o) $
-      use1 𝓛 (‵ (froom word b o)) (𝓛.laws.at_room word b o (vint w64 c)) $
-      move ! (1 ∷ []) $ fsplit ! $
-      use1 𝓛 (‵ (fat full_share word b (o + 8) (vint w64 n)))
-      (uint_out 𝓛 full_share w64 n b (o + 8)) $
-      use1 𝓛 (‵ (froom word b (o + 8))) (𝓛.laws.at_room word b (o + 8) (vint w64 n)) $
-      move ! (1 ∷ []) $ fsplit ! $
-      drop ! $ fsplit ! $ move ! (2 ∷ 4 ∷ []) $ fjoin ! $ move ! (3 ∷ 0 ∷ []) $ fjoin ! $
-      use2 𝓛 (‵ (froom (asked R c) b o)) (apply∗ 𝓤 (sem 𝓛 (parts R c b o)) (H.room (asked R c) b o))
-      $ done !
 
 -- ---- a block, with its slots apart
 -- all of a block of c slots but these: the words that every list without a block shares, or the

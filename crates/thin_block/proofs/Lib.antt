@@ -6,9 +6,12 @@ mod HeaderMemory
 mod SlotMemory
 mod Methods
 mod Addresses
+mod WordsLemmas
+mod WordsMemory
 mod Turning
 mod ShiftMemory
 mod CopyCall
+mod ResizedCall
 mod Sharing
 mod Lending
 pub mod BlockLemmas

@@ -360,8 +360,8 @@ module _ {T : Type 0} (s : List (Option T)) (n : ℕ) (packed : IsPacked s n) wh
       ∙ ap (λ (k : ℕ). empty k) (let e : n + (length s - n) ≡ length s = omega arith in e)))
 
   -- the items in a row of c slots
-  carried : (c : ℕ) → laid 0 (run 0 n s) (empty c) ≡ full xs ++ empty (c - n)
-  carried c =
+  pub packed-carried : (c : ℕ) → laid 0 (run 0 n s) (empty c) ≡ full xs ++ empty (c - n)
+  packed-carried c =
       let long : 0 + length (full xs) ≡ n = omega (arith, full-long) in
       ap (λ (ys : Row). ys ++ drop (0 + length ys) (empty c)) packed-run
       ∙ (ap (λ (k : ℕ). full xs ++ drop k (empty c)) long ∙ ap (λ (l : Row). full xs ++ l)
@@ -372,7 +372,7 @@ module _ {T : Type 0} (s : List (Option T)) (n : ℕ) (packed : IsPacked s n) wh
       → laid 0 (run 0 n s) (empty c) ≡ s ++ empty (c - length s)
   packed-grown c more =
       let le = packed-le in
-      carried c ∙ (tail-split xs (length s - n) (c - length s) (c - n) (omega arith)
+      packed-carried c ∙ (tail-split xs (length s - n) (c - length s) (c - n) (omega arith)
       ∙ ap (λ (l : Row). l ++ empty (c - length s)) (sym parted))
 
   -- the items in a shorter row that has room for them
@@ -387,5 +387,5 @@ module _ {T : Type 0} (s : List (Option T)) (n : ℕ) (packed : IsPacked s n) wh
         length-append (full xs) (empty (c - n)),
         length-replicate (c - n) (let o : Option T = None in o),
       ) in
-      carried c ∙ sym (ap (λ (l : Row). take c l) split
+      packed-carried c ∙ sym (ap (λ (l : Row). take c l) split
       ∙ take_at kept (empty (length s - c)) c long)

@@ -1,6 +1,7 @@
 -- The bytes of a block, and which capacities fit. Everywhere s and a are the size and the alignment
 -- of an item, in bytes.
-use Rattle.std.specs.Prelude.{◌≡◌, ℕ, ◌+◌, ◌*◌, ◌-◌, ◌^◌, ◌&&◌, ◌==◌, Bool, IsTrue, if◌then◌else◌, max, nat_lt}
+use Rattle.std.specs.Prelude.{◌≡◌, ℕ, ◌+◌, ◌*◌, ◌-◌, ◌^◌, ◌&&◌, ◌==◌, Bool, IsTrue, Option, if◌then◌else◌, max, nat_lt}
+use Rattle.std.specs.declared.option.Option.TheVariants.{Some, None}
 use Rattle.std.specs.Int.{next_multiple_of}
 use Rattle.std.specs.Mem.{type_size}
 use Rattle.std.specs.Align.{type_align}
@@ -43,7 +44,9 @@ Fits R c = IsTrue (fits (type_size R) (type_align R) c)
 unfoldable pub first : ℕ → ℕ
 first s = if nat_lt (2 ^ 61 - 1) s then 1 else 4
 
--- how many items the header takes the room of, where it takes that of whole ones: two of 8 bytes,
--- or one of 16, aligned as it is. Else 0
-abbrev pub header_items : ℕ → ℕ → ℕ
-header_items s a = if a == 8 then (if s == 8 then 2 else (if s == 16 then 1 else 0)) else 0
+-- how many items of s bytes make a word of a block, and how many words the header takes the room
+-- of: a word is 8 bytes, or an item of 16. Other items make none
+abbrev pub in_words : ℕ → Option (ℕ × ℕ)
+in_words s = if s == 1 then Some (8, 2) else (if s == 2 then Some (4, 2) else
+    (if s == 4 then Some (2, 2) else (if s == 8 then Some (1, 2) else
+    (if s == 16 then Some (1, 1) else None))))

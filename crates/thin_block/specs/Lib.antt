@@ -6,6 +6,7 @@ pub mod PowerLaws
 pub mod Slots
 pub mod Cost
 pub mod Ownership
+pub mod Words
 pub mod Block
 pub mod Lends
 pub mod Shifts

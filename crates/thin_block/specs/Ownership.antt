@@ -3,11 +3,14 @@
 -- No public clause cites this module.
 --     place, places   a slot, or all of them in a row: an item that lies there, or room for one
 --     frame           a block but for its slots: its two words, that it fits, and the way back
+--     word_of, way    where items make words: the type of a word, and what turns room for its items
+--                     into room for it
 --     backing         what turns its parts back into the room that was asked for, to be given back
 --     block_owns      all of a block, or of the words that every list without a block shares
 --     .._lent         what a `&` to it sees
-use Rattle.std.specs.Prelude.{◌≡◌, ℕ, zero, suc, ◌+◌, List, [], ◌∷◌, length, Bool, true, false, Option}
+use Rattle.std.specs.Prelude.{◌≡◌, ℕ, zero, suc, ◌+◌, ◌-◌, ◌*◌, List, [], ◌∷◌, length, Bool, true, false, Option}
 use Rattle.std.specs.declared.option.Option.TheVariants.{Some, None}
+use Rattle.std.specs.Int.{div_ceil}
 use Rattle.std.specs.Mem.{type_size}
 use Rattle.std.specs.Align.{type_align}
 use mathlib.Core.Path.{refl}
@@ -16,14 +19,14 @@ use base.Fraction.{full_share}
 use base.Fml.{Lft, Fml, ftrue, ffalse, fsep, fwand, froom, feq}
 use mir.Syntax.{Ty, w64, ty_int, ty_array, ty_struct, tcons, tnil}
 use mir.Raw.{raw}
-use prog.Memory.{size, align}
+use prog.Memory.{size}
 use denote.RattleType.{RattleType}
 use denote.Builtin.{usize}
 use denote.Memory.{lone}
 use denote.RawPtr.{Ptr, block_ptr, null_ptr, lies_at, room_for}
 use denote.Sharing.{nothing, said, beside}
 use denote.Struct.Lending.{lent_at}
-use Rattle.thin_block.specs.Capacity.{is_small, header_items}
+use Rattle.thin_block.specs.Capacity.{is_small, in_words}
 
 -- whether the list has an item
 abbrev pub any : {X : Type 0} → List X → Bool
@@ -69,29 +72,68 @@ bare R = raw (lone R.mir)
 abbrev pub whole : RattleType → ℕ → Ty
 whole R c = whole_of (bare R) c
 
--- the type that it is asked for as, by how many items the header takes the room of: where it takes
--- that of whole ones, it is an array of them, which the allocator can make larger in its place
-abbrev pub asked_for : ℕ → Ty → ℕ → Ty
-asked_for zero τ c = whole_of τ c
-asked_for (suc k) τ c = ty_array τ (suc k + c)
+-- the type of a word: m items, as aligned as a block
+abbrev pub word_of : Ty → ℕ → Ty
+word_of τ m = ty_struct [] (tcons (ty_array τ m) (tcons (ty_array (ty_int w64) 0) tnil))
 
--- how many items that is: it reads the type without names
-abbrev pub in_header : RattleType → ℕ
-in_header R = header_items (size (bare R)) (align (bare R))
+-- how many items make a word, and how many words the header takes the room of: it reads the type
+-- without names
+abbrev pub words_of : RattleType → Option (ℕ × ℕ)
+words_of R = in_words (size (bare R))
+
+-- the type that a block of c slots is asked for as: where its items make words, it is an array of
+-- them, which the allocator can make larger in its place
+abbrev pub asked_for : Option (ℕ × ℕ) → Ty → ℕ → Ty
+asked_for None τ c = whole_of τ c
+asked_for (Some w) τ c = ty_array (word_of τ w.0) (w.1 + div_ceil c w.0)
 
 -- the type that a block of c slots for items of R is asked for as
 abbrev pub asked : RattleType → ℕ → Ty
-asked R c = asked_for (in_header R) (bare R) c
+asked R c = asked_for (words_of R) (bare R) c
 
--- room for its parts
+-- room for the two words
+abbrev pub header_room : ℕ → ℕ → Fml
+header_room b o = fsep (froom (ty_int w64) b o) (froom (ty_int w64) b (o + 8))
+
+-- room for the parts of a block
+abbrev pub parts_for : Ty → ℕ → ℕ → ℕ → Fml
+parts_for τ c b o = fsep (froom (ty_int w64) b o)
+    (fsep (froom (ty_int w64) b (o + 8)) (froom (ty_array τ c) b (o + 16)))
+
+-- room for the parts of a block of c slots for items of R
 abbrev pub parts : RattleType → ℕ → ℕ → ℕ → Fml
-parts R c b o = fsep (froom (ty_int w64) b o)
-    (fsep (froom (ty_int w64) b (o + 8)) (froom (raw (ty_array (lone R.mir) c)) b (o + 16)))
+parts R c b o = parts_for (bare R) c b o
 
--- what makes the block whole again, padding and all, and the right t to give it back
+-- what turns room for m items into room for a word
+abbrev pub way : Ty → ℕ → ℕ → ℕ → Fml
+way τ m b o = fwand (froom (ty_array τ m) b o) (froom (word_of τ m) b o)
+
+-- the same for w words in a row
+abbrev pub ways : Ty → ℕ → ℕ → ℕ → ℕ → Fml
+ways τ m zero b o = ftrue
+ways τ m (suc w) b o = fsep (way τ m b o) (ways τ m w b (o + size (word_of τ m)))
+
+-- the same for k words that the header takes the room of
+abbrev pub header_way : Ty → ℕ → ℕ → ℕ → ℕ → Fml
+header_way τ m k b o = fwand (header_room b o) (froom (ty_array (word_of τ m) k) b o)
+
+-- w words for c slots: the ways back, and the room that no slot takes
+abbrev pub slots_way : Ty → ℕ → ℕ → ℕ → ℕ → ℕ → Fml
+slots_way τ m w c b o = fsep (ways τ m w b o) (froom (ty_array τ (w * m - c)) b (o + c * size τ))
+
+-- what makes the block whole again, padding and all, where its parts are room
+abbrev pub way_back : Option (ℕ × ℕ) → Ty → ℕ → ℕ → ℕ → Fml
+way_back None τ c b o = fwand (parts_for τ c b o) (froom (whole_of τ c) b o)
+way_back (Some w) τ c b o = fsep (header_way τ w.0 w.1 b o)
+    (slots_way τ w.0 (div_ceil c w.0) c b (o + 16))
+
+-- the way back, and the right t to give the block back
+abbrev pub backing_for : (Ty → Ptr → Fml) → Option (ℕ × ℕ) → Ty → ℕ → ℕ → ℕ → Fml
+backing_for t w τ c b o = fsep (way_back w τ c b o) (t (asked_for w τ c) (block_ptr b o))
+
+-- both for items of R
 abbrev pub backing : (Ty → Ptr → Fml) → RattleType → ℕ → ℕ → ℕ → Fml
-backing t R c b o = fsep (fwand (parts R c b o) (froom (asked R c) b o))
-    (t (asked R c) (block_ptr b o))
+backing t R c b o = backing_for t (words_of R) (bare R) c b o
 
 -- a block but for its slots: the capacity c, the length n, that the block fits, and the way back
 abbrev pub frame : (Ty → Ptr → Fml) → RattleType → ℕ → ℕ → ℕ → ℕ → Fml

@@ -1,44 +1,72 @@
-//! Growth in place: where the header takes the room of whole items, a block is an array of items to
-//! the allocator, whose `grow` may leave it where it lies.
-ghost use Rattle.std.specs.Prelude.{◌≡◌, ◌-◌, ◌+◌, ◌++◌, ◌<◌, ◌≤◌, IfErr, IfOk, OnErr, OnOk, length};
+//! A block that changes its size in place: where items make words, it is an array of words to the
+//! allocator, whose `grow` and `shrink` may leave it where it lies.
+ghost use Rattle.std.specs.Prelude.{◌≡◌, ◌+◌, ◌*◌, ◌/◌, ◌<◌, ◌≤◌, IfErr, IfOk, List, OnErr, OnOk, length};
 ghost use Rattle.std.specs.declared.option.Option.TheVariants.{Some};
+ghost use Rattle.std.specs.Int.{div_ceil};
 ghost use Rattle.std.specs.Mem.{type_size};
-ghost use Rattle.std.specs.Align.{type_align};
-ghost use Rattle.thin_block.specs.Capacity.{Fits, header_items};
+ghost use Rattle.core.specs.Allocator.{FitsBlock, block_with_items, resized_if_ok};
+ghost use types.Logic.{sem};
+ghost use Rattle.thin_block.specs.Capacity.{Fits, in_words};
 ghost use Rattle.thin_block.specs.Cost.{growing};
-ghost use Rattle.thin_block.specs.Slots.{IsPacked, empty};
+ghost use Rattle.thin_block.specs.Slots.{IsPacked, empty, laid, run};
 
 use crate::block::Block;
 use crate::errors::ThinVecError;
-use std::alloc::Allocator;
+use crate::sizes::HEADER_WORDS;
+use crate::words::{Words, make_words};
+use std::alloc::{AllocError, Allocator};
 use std::marker::PhantomData;
 use std::mem::{ManuallyDrop, replace};
 
-// So many words of items, or more, are left to the allocator's `grow`, which may keep them where
-// they are. For fewer a new block is cheaper.
+// So many words of items, or more, are left to the allocator, which may keep them where they are.
+// For fewer a new block is cheaper.
 pub(crate) const LONG: usize = 32;
+
+// The allocator's `grow`, or its `shrink`: whichever the room that is wanted takes.
+unsafe fn resized<T, A: Allocator>(
+    alloc: &A,
+    start: *mut T,
+    len: usize,
+    held: usize,
+    wanted: usize,
+) -> Result<*mut T, AllocError>
+    ghost items: { List T }
+    requires sizes { (len ≤ held) × ((len ≤ wanted)
+        × (FitsBlock T.row held × FitsBlock T.row wanted)) }
+    requires* block { sem 𝓛 (block_with_items (A.dealloc_token alloc.now) T.row start len held
+        items) }
+    ensures* block { sem 𝓛 (resized_if_ok (A.dealloc_token alloc.now) T.row start len held wanted
+        items result) }
+{
+    if held < wanted {
+        return unsafe { alloc.grow(start, len, held, wanted) };
+    }
+    unsafe { alloc.shrink(start, len, held, wanted) }
+}
 
 impl<T, A: Allocator> Block<T, A> {
     ghost use Rattle.thin_block.specs.Block.{IsFrom, seen};
 
-    // `grow` where the header takes the room of `K` items, and at least as many are there.
+    // `remake` where `M` items make a word, the header takes the room of `K` words, and the items
+    // are at least as many words: they may stay where they are.
     #[cold]
-    pub(crate) fn grow_in_place<const K: usize>(
+    pub(crate) fn remake_in_place<const M: usize, const K: usize>(
         &mut self,
         alloc: &A,
         len: usize,
         cap: usize,
     ) -> Result<(), ThinVecError>
         requires from { IsFrom self.old alloc.now }
-        requires in_header { header_items (type_size T.row) (type_align T.row) ≡ K }
-        requires some { (0 < K) × (K ≤ 2) }
-        requires larger { length self.old.slots < cap }
+        requires in_words { in_words (type_size T.row) ≡ Some (M, K) }
+        requires some { (0 < M) × (K ≤ 2) }
         requires fits { Fits T.row cap }
         requires packed { IsPacked self.old.slots self.old.len }
+        requires enough { self.old.len ≤ cap }
         requires len { len ≡ self.old.len }
-        requires room { K ≤ len }
+        requires whole { len / M * M ≡ len }
+        requires room { K ≤ len / M }
         ensures ok { OnOk result (seen self.new ≡ record (seen self.old) {
-          slots = self.old.slots ++ empty (cap - length self.old.slots);
+          slots = laid 0 (run 0 self.old.len self.old.slots) (empty cap);
           alloc = Some alloc.now;
           cost = growing self.old.len self.old.cost;
         }) }
@@ -46,8 +74,18 @@ impl<T, A: Allocator> Block<T, A> {
         ensures cause { IfErr result (λ cause. cause ≡ ThinVecError.OutOfMemory) }
     {
         let old = self.cap();
+        let held = K + old.div_ceil(M);
+        let wanted = K + cap.div_ceil(M);
         let block = replace(self, Block::none());
-        let (block, grown) = match block.regrow::<K>(alloc, len, old, cap, K + old, K + cap) {
+        let (block, grown) = match block.resize_words::<M, K>(
+            alloc,
+            len,
+            old,
+            cap,
+            len / M,
+            held,
+            wanted,
+        ) {
             Ok(larger) => (larger, Ok(())),
             Err(same) => (same, Err(ThinVecError::OutOfMemory)),
         };
@@ -56,32 +94,34 @@ impl<T, A: Allocator> Block<T, A> {
         grown
     }
 
-    // `grow` in place, where the header takes the room of `K` items and at least as many are there:
-    // the last of them lie there meanwhile, so that the block is an array of items from its start,
-    // which the allocator can make larger. `held` and `wanted` are its items' room before and
-    // after.
-    fn regrow<const K: usize>(
+    // A block of `cap` slots with the items of this one, where `M` items make a word, the header
+    // takes the room of `K` words and the items are at least as many, `count`. They become words,
+    // and the last of them lie in the header meanwhile, so that the block is an array of words from
+    // its start, which the allocator can make larger or smaller. `held` and `wanted` are the words'
+    // room before and after.
+    fn resize_words<const M: usize, const K: usize>(
         self,
         alloc: &A,
         len: usize,
         old: usize,
         cap: usize,
+        count: usize,
         held: usize,
         wanted: usize,
     ) -> Result<Block<T, A>, Block<T, A>>
         requires from { self.alloc ≡ Some alloc.now }
-        requires in_header { header_items (type_size T.row) (type_align T.row) ≡ K }
-        requires some { 0 < K }
+        requires in_words { in_words (type_size T.row) ≡ Some (M, K) }
         requires packed { IsPacked self.slots self.len }
         requires len { len ≡ self.len }
         requires old { old ≡ length self.slots }
-        requires larger { old ≤ cap }
+        requires enough { len ≤ cap }
         requires fits { Fits T.row cap }
-        requires held { held ≡ K + old }
-        requires wanted { wanted ≡ K + cap }
-        requires room { K ≤ len }
+        requires count { count * M ≡ len }
+        requires held { held ≡ K + div_ceil old M }
+        requires wanted { wanted ≡ K + div_ceil cap M }
+        requires room { K ≤ count }
         ensures ok { IfOk result (λ block. seen block ≡ record (seen self) {
-          slots = self.slots ++ empty (cap - old);
+          slots = laid 0 (run 0 self.len self.slots) (empty cap);
           alloc = Some alloc.now;
           cost = growing self.len self.cost;
         }) }
@@ -93,13 +133,14 @@ impl<T, A: Allocator> Block<T, A> {
             handle: _,
         } = self;
         unsafe {
-            let first = at as *mut [T; K];
-            let last = (at as *mut T).add(len) as *mut [T; K];
+            make_words(at.add(HEADER_WORDS) as *mut [T; M], count);
+            let first = at as *mut [Words<T, M>; K];
+            let last = (at as *mut Words<T, M>).add(count) as *mut [Words<T, M>; K];
             first.write(last.read());
-            match alloc.grow(at as *mut T, len, held, wanted) {
+            match resized(alloc, at as *mut Words<T, M>, count, held, wanted) {
                 Ok(start) => {
-                    let first = start as *mut [T; K];
-                    let last = start.add(len) as *mut [T; K];
+                    let first = start as *mut [Words<T, M>; K];
+                    let last = start.add(count) as *mut [Words<T, M>; K];
                     last.write(first.read());
                     let at = start as *mut usize;
                     *at = cap;

@@ -12,6 +12,7 @@ mod runs;
 mod shifts;
 mod sizes;
 mod slots;
+mod words;
 
 pub use block::Block;
 pub use errors::ThinVecError;

@@ -10,7 +10,7 @@ ghost use Rattle.thin_block.specs.Slots.{IsPacked, empty, run, laid};
 use crate::block::Block;
 use crate::errors::ThinVecError;
 use crate::in_place::LONG;
-use crate::sizes::{align_of_block, bytes_of_block, header_items};
+use crate::sizes::{align_of_block, bytes_of_block, item_size};
 use std::alloc::{AllocError, Allocator};
 use std::marker::PhantomData;
 use std::mem::{ManuallyDrop, replace};
@@ -56,12 +56,7 @@ impl<T, A: Allocator> Block<T, A> {
         if self.cap() == 0 {
             return self.begin(alloc, cap);
         }
-        let len = self.len();
-        match header_items::<T>() {
-            2 if len >= LONG => self.grow_in_place::<2>(alloc, len, cap),
-            1 if len >= LONG / 2 => self.grow_in_place::<1>(alloc, len, cap),
-            _ => self.remake(alloc, cap),
-        }
+        self.resize(alloc, cap)
     }
 
     // `grow` where there is no block: nothing is copied, and nothing freed.
@@ -84,8 +79,8 @@ impl<T, A: Allocator> Block<T, A> {
         Ok(())
     }
 
-    /// Gives up all slots but the first `cap`, by one allocation and one copy. Fails only where the
-    /// allocator does, and then nothing changes.
+    /// Gives up all slots but the first `cap`, by one request for memory; the items are copied at
+    /// most once. Fails only where the allocator does, and then nothing changes.
     pub fn shrink(&mut self, alloc: &A, cap: usize) -> Result<(), ThinVecError>
         requires from { IsFrom self.old alloc.now }
         requires some { 0 < cap }
@@ -102,7 +97,34 @@ impl<T, A: Allocator> Block<T, A> {
     {
         // Each block fits, and so does a smaller one.
         let _whole = self.cap();
-        self.remake(alloc, cap)
+        self.resize(alloc, cap)
+    }
+
+    // Moves the items to `cap` slots. Many that make words may stay where they are.
+    #[inline(always)]
+    fn resize(&mut self, alloc: &A, cap: usize) -> Result<(), ThinVecError>
+        requires from { IsFrom self.old alloc.now }
+        requires some { 0 < cap }
+        requires fits { Fits T.row cap }
+        requires packed { IsPacked self.old.slots self.old.len }
+        requires room { self.old.len ≤ cap }
+        ensures ok { OnOk result (seen self.new ≡ record (seen self.old) {
+          slots = laid 0 (run 0 self.old.len self.old.slots) (empty cap);
+          alloc = Some alloc.now;
+          cost = growing self.old.len self.old.cost;
+        }) }
+        ensures err { OnErr result (self.new ≡ self.old) }
+        ensures cause { IfErr result (λ cause. cause ≡ ThinVecError.OutOfMemory) }
+    {
+        let len = self.len();
+        match item_size::<T>() {
+            1 if len >= LONG * 8 && len % 8 == 0 => self.remake_in_place::<8, 2>(alloc, len, cap),
+            2 if len >= LONG * 4 && len % 4 == 0 => self.remake_in_place::<4, 2>(alloc, len, cap),
+            4 if len >= LONG * 2 && len % 2 == 0 => self.remake_in_place::<2, 2>(alloc, len, cap),
+            8 if len >= LONG => self.remake_in_place::<1, 2>(alloc, len, cap),
+            16 if len >= LONG / 2 => self.remake_in_place::<1, 1>(alloc, len, cap),
+            _ => self.remake(alloc, cap),
+        }
     }
 
     // Moves the items to a new block of `cap` slots, and frees the old one.

@@ -3,7 +3,7 @@ ghost use Rattle.std.specs.Prelude.{◌≡◌, ◌↔◌, IsTrue};
 ghost use Rattle.std.specs.Mem.{type_size};
 ghost use Rattle.std.specs.Align.{type_align};
 ghost use prog.Memory.{capped};
-ghost use Rattle.thin_block.specs.Capacity.{IsAlign, block_align, block_bytes, Fits, header_items};
+ghost use Rattle.thin_block.specs.Capacity.{IsAlign, block_align, block_bytes, Fits};
 
 use std::mem::{align_of, size_of};
 
@@ -27,20 +27,6 @@ pub(crate) fn item_align<T>() -> usize
     ensures known { IsAlign result }
 {
     align_of::<T>()
-}
-
-// How many whole items take exactly the header's room, aligned as it is; else 0.
-pub(crate) fn header_items<T>() -> usize
-    ensures value { result ≡ header_items (type_size T.row) (type_align T.row) }
-{
-    if item_align::<T>() != 8 {
-        return 0;
-    }
-    match item_size::<T>() {
-        8 => 2,
-        16 => 1,
-        _ => 0,
-    }
 }
 
 // The alignment of a block in bytes.

@@ -7,7 +7,7 @@ use mir.MapTy.{inst_fn}
 use lib.ListN.{length-replicate}
 use base.Fraction.{full_share}
 use base.Logic.{SProp}
-use base.Fml.{Lft, Share, fwand, fat, froom, flft}
+use base.Fml.{Lft, Share, fat, froom, flft}
 use prog.Memory.{size, align, capped}
 use prog.Capped.{capped_is}
 use prog.Wp.{Env}
@@ -36,7 +36,7 @@ use Rattle.std.specs.Align.{type_align}
 use Rattle.core.proofs.mem.Param.{R}
 use Rattle.thin_block.specs.Cost.{growing, no_cost}
 use Rattle.thin_block.specs.Capacity.{Fits, block_align, block_bytes}
-use Rattle.thin_block.specs.Ownership.{fits_block, parts, places, frame, asked as whole_block}
+use Rattle.thin_block.specs.Ownership.{fits_block, places, frame, bare, words_of, way_back, asked as whole_block}
 use Rattle.thin_block.proofs.SizesLemmas.{fits_tells, opened, rounded}
 use Rattle.thin_block.proofs.Walks.{slot_at, then_runs, after, head, arm_body, says_all, refused_made}
 use Rattle.thin_block.proofs.Turning.{asked_size, asked_align, carve_asked}
@@ -136,7 +136,7 @@ allocate_block_spec 𝓤 𝓛 𝓜 𝓡 wired T A LT LA g d dd met md =
     (in_variant ! 0 0 refl refl (whole !)))) refl (tt, tt) $
     sets ! (of_opd ! (get ! refl)) refl (tt, tt) $
     use1 𝓛 (‵ (froom (ty_int w64) b o) ⊛ ‵ (froom (ty_int w64) b (o + 8)) ⊛ ‵
-    (froom (items Rt cap) b (o + 16)) ⊛ ‵ (fwand (parts Rt cap b o) (froom τ b o)))
+    (froom (items Rt cap) b (o + 16)) ⊛ ‵ (way_back (words_of Rt) (bare Rt) cap b o))
     (carve_asked 𝓛 E b cap o) $ split3 ! $ move ! (2 ∷ []) $ split ! $ move ! (2 ∷ 3 ∷ []) $
     -- [the two words; the items; the way back; the token; the lifetimes]
     rewrite ! 1 (λ (k : ℕ). ‵ (froom (ty_int w64) b k))

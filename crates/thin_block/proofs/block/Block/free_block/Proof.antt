@@ -31,8 +31,8 @@ use Rattle.thin_block.specs.Capacity.{block_align, block_bytes}
 use Rattle.thin_block.specs.Ownership.{places, asked as whole_block}
 use Rattle.thin_block.proofs.SizesLemmas.{fits_tells, rounded}
 use Rattle.thin_block.proofs.Walks.{slot_at, then_runs, out_of_block, after}
-use Rattle.thin_block.proofs.Turning.{asked_size, asked_align}
-use Rattle.thin_block.proofs.HeaderMemory.{args, header, t, block_val, block_had, gather, items}
+use Rattle.thin_block.proofs.Turning.{asked_size, asked_align, gather}
+use Rattle.thin_block.proofs.HeaderMemory.{args, header, t, block_val, block_had, items}
 use Rattle.thin_block.proofs.SlotMemory.{to_raw}
 use Rattle.thin_block.proofs.Methods.{item, source, others, dropped, all_go, arrives, heard_all, enters, blank}
 use Rattle.thin_block.specs.contracts.block.Block.free_block.{ended, clauses}
@@ -81,7 +81,7 @@ free_block_spec 𝓤 𝓛 𝓜 𝓡 wired T A LT LA g d dd met md =
     use1 𝓛 (‵ (froom (items Rt cap) b (o + 16))) (to_raw E 𝓛 b cap (o + 16))
     $ move ! (1 ∷ 0 ∷ []) $
     use2 𝓛 (‵ (froom τ b o) ⊛ ‵ (token Y h τ (block_ptr b o)))
-    (gather 𝓛 Rt (token Y h) x.len cap b o) $ split ! $ move ! (2 ∷ []) $ fsplit ! $ fsplit ! $
+    (gather 𝓛 E b cap o (token Y h) x.len) $ split ! $ move ! (2 ∷ []) $ fsplit ! $ fsplit ! $
     drop ! $ keep ! (2 ∷ 3 ∷ 0 ∷ 4 ∷ 5 ∷ []) $
     -- [the room; the right to free it; the handle's `&`; its token; the other tokens]
     let short = (fits_tells Rt cap fits).short in

@@ -6,9 +6,9 @@ use Rattle.thin_block.proofs.Outcomes.{on-ok}
 use Rattle.thin_block.proofs.block.Block.grow.Goals as goal
 
 -- the items in a larger row are the old row and empty slots
-pub returns-in_default-clause-ok : goal.returns-in_default-clause-ok
-returns-in_default-clause-ok g c =
+pub returns-clause-ok : goal.returns-clause-ok
+returns-clause-ok g c =
     let larger = c.requires.larger in
-    on-ok c.remake.result
+    on-ok c.resize.result
     (λ e. slots-are e (packed-grown c.args.self.now.slots c.args.self.now.len c.requires.packed
-    c.args.cap (omega arith))) c.remake.ensures.ok
+    c.args.cap (omega arith))) c.resize.ensures.ok

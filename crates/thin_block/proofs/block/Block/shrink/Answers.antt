@@ -8,8 +8,8 @@ use Rattle.thin_block.proofs.Outcomes.{on-ok}
 use Rattle.thin_block.proofs.block.Block.shrink.Goals as goal
 
 -- a smaller block fits where the block does
-pub remake-requires-clause-fits : goal.remake-requires-clause-fits
-remake-requires-clause-fits g c =
+pub resize-requires-clause-fits : goal.resize-requires-clause-fits
+resize-requires-clause-fits g c =
     let smaller = c.requires.smaller in
     let whole = c.cap-whole.ensures.value in
     fits-less (param 0 g.row.T) c.args.cap c.cap-whole.result c.cap-whole.ensures.fits (omega arith)
@@ -18,6 +18,6 @@ remake-requires-clause-fits g c =
 pub returns-clause-ok : goal.returns-clause-ok
 returns-clause-ok g c =
     let smaller = c.requires.smaller in
-    on-ok c.remake.result
+    on-ok c.resize.result
     (λ e. slots-are e (packed-shrunk c.args.self.now.slots c.args.self.now.len c.requires.packed
-    c.args.cap c.requires.room (omega arith))) c.remake.ensures.ok
+    c.args.cap c.requires.room (omega arith))) c.resize.ensures.ok

@@ -1,0 +1,102 @@
+-- A call of `resized`: what it is passed, and what a caller has of it. Assumes `Logic`.
+use Rattle.std.proofs.Common.{ℕ, ◌≤◌, List, [], ◌∷◌, refl, w64, ◌^◌, ◌<◌}
+use seplogic.Ra.Ura.{Ura}
+use mir.Val.{Val, vint, vptr}
+use base.Logic.{SProp, ent, sep, ex, emp, never, id⊢, fst∗}
+use base.Fml.{Lft, Share, Fml, ftrue, ffalse, fsep, flft}
+use contract.BorrowLft.{◌⊑◌}
+use contract.Monad.{Fun, fact, fact_i}
+use prog.Memory.{Memory}
+use prog.Routine.{Routine}
+use types.Logic.{Logic, sem}
+use types.Kit.{‵, raw, ◌⊛◌, some as exists, later, pick, updating, now as at_once, await, ◌$◌, ◌∵◌, !, qed, move, keep, drop, use0, use1, use2, split, split3, join, fjoin, feq_i, flt_i, done}
+use denote.RawPtr.{block_ptr, null_ptr}
+use denote.Steps.{nothing}
+use denote.Triple.Spec.{triple_of}
+use denote.Triple.Statement.{Contract}
+use Rattle.core.specs.Allocator.{FitsBlock, array_of, block_with_items, resized_if_ok}
+use Rattle.core.proofs.alloc.Calls.{Al, token, seen, Answer}
+use Rattle.core.proofs.alloc.Resizes.{Sizes, Flagged, by_flag}
+use Rattle.core.proofs.mem.Param.{El, R, el_x}
+use Rattle.thin_block.specs.contracts.in_place.resized as F
+
+-- the sizes that either call takes
+abbrev pub Sized : El → Sizes
+Sized E len held wanted = (len ≤ held) × ((len ≤ wanted)
+    × (FitsBlock (R E) held × FitsBlock (R E) wanted))
+
+module _ (E : El) (Y : Al) {M : Type 1} {𝓤 : Ura M} (𝓛 : Logic 𝓤) (at_mem : Memory → SProp 𝓤)
+    (run : Routine → Fun 𝓤) where
+  open 𝓛 use {H, A}
+
+  -- the contract
+  abbrev pub Resizing : Contract 𝓤
+  Resizing = triple_of 𝓛 (F.signature E.row Y.row) (F.spec E.row Y.row Y.g Y.d Y.drops 𝓛 at_mem run)
+
+  module _ (κ κT κA : Lft) (q qT qA : Share) (out : κ ⊑ κA) (p : ℕ × ℕ) (a : Y.row.Denot)
+      (b o len held wanted : ℕ) (xs : List (el_x E)) where
+    -- what a call is passed
+    abbrev pub at_resizing : Resizing.Ghost
+    at_resizing = (
+      (
+        (κ, (κT, (κA, tt))),
+        (q, (qT, (qA, tt))),
+        (out, tt),
+        (record { ref_ptr = p; now = a }, (block_ptr b o, (len, (held, (wanted, tt))))),
+        (
+          vptr p.0 p.1 ∷ [],
+          (
+            vptr b o ∷ [],
+            (vint w64 len ∷ [], (vint w64 held ∷ [], (vint w64 wanted ∷ [], tt))),
+          ),
+        ),
+      ),
+      xs,
+    )
+
+    abbrev Block : Fml
+    Block = block_with_items (token Y a) (R E) (block_ptr b o) len held xs
+
+    -- what it leaves, by its answer
+    abbrev pub leaves : Answer.Denot → Fml
+    leaves = resized_if_ok (token Y a) (R E) (block_ptr b o) len held wanted xs
+
+    pub Resizing-goes : κT ⊑ E.row.lives → κA ⊑ Y.row.lives → Sized E len held wanted
+        → len < 2 ^ 64 → held < 2 ^ 64 → wanted < 2 ^ 64
+        → ent 𝓤 (sep 𝓤 (sem 𝓛 Block) (sep 𝓤 (sem 𝓛 (seen Y κ p a))
+        (sep 𝓤 (A.lft κ q) (sep 𝓤 (A.lft κT qT) (A.lft κA qA))))) (Resizing.pre at_resizing)
+    Resizing-goes leT leA sizes fl fh fw =
+        qed 𝓛 (‵ Block ∷ ‵ (seen Y κ p a) ∷ ‵ (flft κ q) ∷ ‵ (flft κT qT) ∷ ‵ (flft κA qA) ∷ []) ∵
+        use0 𝓛 (raw (fact 𝓤 (Sized E len held wanted)))
+        (fact_i 𝓤 (Sized E len held wanted) (emp 𝓤) sizes) $ join ! $
+        use0 𝓛 (raw (fact 𝓤 (κA ⊑ Y.row.lives))) (fact_i 𝓤 (κA ⊑ Y.row.lives) (emp 𝓤) leA) $
+        join ! $
+        use0 𝓛 (raw (fact 𝓤 (κT ⊑ E.row.lives))) (fact_i 𝓤 (κT ⊑ E.row.lives) (emp 𝓤) leT) $
+        join ! $ nothing ! $
+        flt_i ! wanted (2 ^ 64) fw $
+        feq_i ! (List Val) (vint w64 wanted ∷ []) (vint w64 wanted ∷ []) refl $ fjoin ! $ fjoin ! $
+        flt_i ! held (2 ^ 64) fh $
+        feq_i ! (List Val) (vint w64 held ∷ []) (vint w64 held ∷ []) refl $ fjoin ! $ fjoin ! $
+        flt_i ! len (2 ^ 64) fl $
+        feq_i ! (List Val) (vint w64 len ∷ []) (vint w64 len ∷ []) refl $ fjoin ! $ fjoin ! $
+        feq_i ! (List Val) (vptr b o ∷ []) (vptr b o ∷ []) refl $ fjoin ! $ move ! (2 ∷ []) $
+        feq_i ! (List Val) (vptr p.0 p.1 ∷ []) (vptr p.0 p.1 ∷ []) refl $ fjoin ! $ fjoin ! $
+        -- [the arguments; the facts, with the block; the three tokens]
+        nothing ! $ move ! (5 ∷ 0 ∷ []) $ join ! $ move ! (4 ∷ 0 ∷ []) $ join ! $
+        move ! (3 ∷ 0 ∷ []) $ join ! $ join ! $ join ! $ done !
+
+    pub Resizing-gives : (v : Val) → ent 𝓤 (Resizing.post at_resizing v)
+        (H.⇛ (sep 𝓤 (ex 𝓤 (Flagged 𝓛 leaves v))
+        (sep 𝓤 (A.lft κ q) (sep 𝓤 (A.lft κT qT) (A.lft κA qA)))))
+    Resizing-gives v =
+        qed 𝓛 (raw (Resizing.post at_resizing v) ∷ []) ∵ updating ! $
+        use1 𝓛 (later (exists (λ (r : Answer.Denot).
+        ((‵ (flft κ q) ⊛ ‵ (flft κT qT) ⊛ ‵ (flft κA qA) ⊛ ‵ ftrue) ⊛ ‵ (Answer.own_val r (v ∷ [])))
+        ⊛ exists (λ (ws : Unit {0} × (Unit {0} × (Unit {0} × (Unit {0} × (Unit {0} × Unit {0}))))).
+        ‵
+        (fsep ftrue (fsep ftrue (fsep ftrue (fsep ftrue (fsep ftrue ftrue))))) ⊛ ‵ (leaves r)))))
+        (id⊢ 𝓤 _) $ await ! tt $ pick ! (λ r. split ! $ move ! (1 ∷ []) $ pick ! (λ ws. split ! $
+        drop ! $ move ! (1 ∷ []) $ split ! $ split3 ! $ move ! (3 ∷ 4 ∷ []) $
+        use2 𝓛 (raw (ex 𝓤 (Flagged 𝓛 leaves v))) (by_flag 𝓛 leaves
+        (fst∗ 𝓤 (never 𝓤) (sem 𝓛 (fsep ffalse (token Y a (array_of (R E) wanted) null_ptr)))) v r) $
+        move ! (3 ∷ []) $ split ! $ keep ! (2 ∷ 3 ∷ 4 ∷ 0 ∷ []) $ at_once ! $ done !))

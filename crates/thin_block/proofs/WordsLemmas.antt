@@ -1,0 +1,203 @@
+-- Which items make words, and how words lie: the numbers.
+--     InWords        what is known where m items of s bytes make a word, of which the header takes
+--                    the room of k
+--     words_told     so it is, wherever `in_words` says so
+--     nameless       and so it is of types without names
+use Rattle.std.proofs.Common.{◌≡◌, true, false, ℕ, Some, None, ◌+◌, ◌*◌, ◌<◌, ◌≤◌, refl, sym, ap, subst, arith}
+use Rattle.std.proofs.lemmas.Bool.{eqb-true}
+use Rattle.std.specs.Prelude.{◌==◌, if◌then◌else◌, Bool, Option, max}
+use Rattle.std.specs.Int.{div_ceil}
+use Rattle.std.specs.Mem.{type_size}
+use Rattle.std.specs.Align.{type_align}
+use borrow.Author.Tests.{clash}
+use mir.Raw.{raw}
+use mir.Syntax.{Ty, Width, w8, w16, w32, w64, w128}
+use mir.Val.{bytes}
+use prog.Memory.{size, align, up}
+use prog.RawLaws.{size-raw, align-raw}
+use prog.Align.{Dv, align_w, align-bytes, align_size}
+use denote.Param.{layout}
+use denote.RattleType.{RattleType}
+use Rattle.thin_block.specs.Capacity.{in_words, block_align, block_bytes}
+use Rattle.thin_block.specs.Ownership.{there}
+
+-- the alignment of a word, by that of its items
+abbrev pub word_align : ℕ → ℕ
+word_align a = max a (max 8 1)
+
+-- the bytes of a word of m items
+abbrev pub word_size : ℕ → ℕ → ℕ → ℕ
+word_size s a m = up (word_align a) (up 8 (up a 0 + m * s) + 0 * 8)
+
+-- how many words of m items there are for so many items
+pub record Counts (m : ℕ) : Type 0 where
+  pub some : 0 < m
+  pub covers : (c : ℕ) → c ≤ div_ceil c m * m
+  pub holds : (n c : ℕ) → n * m ≤ c → n ≤ div_ceil c m
+  pub more : (c d : ℕ) → c ≤ d → div_ceil c m ≤ div_ceil d m
+  pub least : (n : ℕ) → n ≤ n * m
+  pub few : (c : ℕ) → div_ceil c m ≤ c
+
+-- so it is for each number of items that a word may have
+counts_1 : Counts 1
+counts_1 = record {
+  some = omega arith;
+  covers = λ c. omega arith;
+  holds = λ n c h. omega arith;
+  more = λ c d h. omega arith;
+  least = λ n. omega arith;
+  few = λ c. omega arith;
+}
+
+counts_2 : Counts 2
+counts_2 = record {
+  some = omega arith;
+  covers = λ c. omega arith;
+  holds = λ n c h. omega arith;
+  more = λ c d h. omega arith;
+  least = λ n. omega arith;
+  few = λ c. omega arith;
+}
+
+counts_4 : Counts 4
+counts_4 = record {
+  some = omega arith;
+  covers = λ c. omega arith;
+  holds = λ n c h. omega arith;
+  more = λ c d h. omega arith;
+  least = λ n. omega arith;
+  few = λ c. omega arith;
+}
+
+counts_8 : Counts 8
+counts_8 = record {
+  some = omega arith;
+  covers = λ c. omega arith;
+  holds = λ n c h. omega arith;
+  more = λ c d h. omega arith;
+  least = λ n. omega arith;
+  few = λ c. omega arith;
+}
+
+-- how a word lies, and how many bytes a block of words has
+abbrev Laid : ℕ → ℕ → ℕ → ℕ → Type 0
+Laid s a m k = (word_size s a m ≡ m * s) × ((word_align a ≡ block_align a)
+    × (Dv 8 (word_align a) × (Dv a (word_align a)
+    × ((c : ℕ) → (k + div_ceil c m) * (m * s) ≡ block_bytes s a c))))
+
+-- so it is for items of 1, 2, 4, 8 and 16 bytes, whose alignment divides that
+laid_1 : (w : Width) → Dv (bytes w) 1 → Laid 1 (bytes w) 8 2
+laid_1 w8 d = (refl, (refl, (tt, (tt, λ c. omega arith))))
+laid_1 w16 d = absurd d
+laid_1 w32 d = absurd d
+laid_1 w64 d = absurd d
+laid_1 w128 d = absurd d
+
+laid_2 : (w : Width) → Dv (bytes w) 2 → Laid 2 (bytes w) 4 2
+laid_2 w8 d = (refl, (refl, (tt, (tt, λ c. omega arith))))
+laid_2 w16 d = (refl, (refl, (tt, (tt, λ c. omega arith))))
+laid_2 w32 d = absurd d
+laid_2 w64 d = absurd d
+laid_2 w128 d = absurd d
+
+laid_4 : (w : Width) → Dv (bytes w) 4 → Laid 4 (bytes w) 2 2
+laid_4 w8 d = (refl, (refl, (tt, (tt, λ c. omega arith))))
+laid_4 w16 d = (refl, (refl, (tt, (tt, λ c. omega arith))))
+laid_4 w32 d = (refl, (refl, (tt, (tt, λ c. omega arith))))
+laid_4 w64 d = absurd d
+laid_4 w128 d = absurd d
+
+laid_8 : (w : Width) → Dv (bytes w) 8 → Laid 8 (bytes w) 1 2
+laid_8 w8 d = (refl, (refl, (tt, (tt, λ c. omega arith))))
+laid_8 w16 d = (refl, (refl, (tt, (tt, λ c. omega arith))))
+laid_8 w32 d = (refl, (refl, (tt, (tt, λ c. omega arith))))
+laid_8 w64 d = (refl, (refl, (tt, (tt, λ c. omega arith))))
+laid_8 w128 d = absurd d
+
+laid_16 : (w : Width) → Dv (bytes w) 16 → Laid 16 (bytes w) 1 1
+laid_16 w8 d = (refl, (refl, (tt, (tt, λ c. omega arith))))
+laid_16 w16 d = (refl, (refl, (tt, (tt, λ c. omega arith))))
+laid_16 w32 d = (refl, (refl, (tt, (tt, λ c. omega arith))))
+laid_16 w64 d = (refl, (refl, (tt, (tt, λ c. omega arith))))
+laid_16 w128 d = (refl, (refl, (tt, (tt, λ c. omega arith))))
+
+-- m items of s bytes, aligned to a, make a word, and the header takes the room of k words
+pub record InWords (s a m k : ℕ) : Type 0 where
+  pub counts : Counts m
+  pub size : word_size s a m ≡ m * s
+  pub align : word_align a ≡ block_align a
+  pub eight : Dv 8 (word_align a)
+  pub item : Dv a (word_align a)
+  pub bytes_are : (c : ℕ) → (k + div_ceil c m) * (m * s) ≡ block_bytes s a c
+  pub room : k * (m * s) ≡ 16
+  pub any : 0 < k
+
+-- all of it by its parts
+in_words_by : (s a m k : ℕ) → Counts m → 0 < k → k * (m * s) ≡ 16 → Laid s a m k → InWords s a m k
+in_words_by s a m k c any room l = record {
+  counts = c;
+  size = l.0;
+  align = l.1.0;
+  eight = l.1.1.0;
+  item = l.1.1.1.0;
+  bytes_are = l.1.1.1.1;
+  room = room;
+  any = any;
+}
+
+-- whatever the alignment is
+abbrev AtAny : ℕ → ℕ → ℕ → Type 0
+AtAny s m k = (w : Width) → Dv (bytes w) s → InWords s (bytes w) m k
+
+-- two numbers, if there are any
+abbrev pair : Option (ℕ × ℕ) → ℕ × ℕ
+pair None = (0, 0)
+pair (Some p) = p
+
+-- items of t bytes, whose words are known
+at_size : (s t : ℕ) (p q : ℕ × ℕ) → s ≡ t → ◌≡◌ {A = Option (ℕ × ℕ)} (Some p) (Some q)
+    → AtAny t p.0 p.1 → AtAny s q.0 q.1
+at_size s t p q es e all =
+    subst (λ (x : ℕ × (ℕ × ℕ)). AtAny x.0 x.1.0 x.1.1) (λ i. (sym es i, pair (e i))) all
+
+-- the words of items, by five tests of their size
+abbrev tested : Bool → Bool → Bool → Bool → Bool → Option (ℕ × ℕ)
+tested x y z u v = if x then Some (8, 2) else (if y then Some (4, 2) else
+    (if z then Some (2, 2) else (if u then Some (1, 2) else (if v then Some (1, 1) else None))))
+
+-- where the tests find words, it is known how these lie
+by_test : (x y z u v : Bool) (s : ℕ) (q : ℕ × ℕ) → (s == 1) ≡ x → (s == 2) ≡ y → (s == 4) ≡ z
+    → (s == 8) ≡ u → (s == 16) ≡ v → tested x y z u v ≡ Some q → AtAny s q.0 q.1
+by_test true y z u v s q ex ey ez eu ev e =
+    at_size s 1 (8, 2) q (eqb-true s 1 ex) e
+    (λ w d. in_words_by 1 (bytes w) 8 2 counts_8 (omega arith) refl (laid_1 w d))
+by_test false true z u v s q ex ey ez eu ev e =
+    at_size s 2 (4, 2) q (eqb-true s 2 ey) e
+    (λ w d. in_words_by 2 (bytes w) 4 2 counts_4 (omega arith) refl (laid_2 w d))
+by_test false false true u v s q ex ey ez eu ev e =
+    at_size s 4 (2, 2) q (eqb-true s 4 ez) e
+    (λ w d. in_words_by 4 (bytes w) 2 2 counts_2 (omega arith) refl (laid_4 w d))
+by_test false false false true v s q ex ey ez eu ev e =
+    at_size s 8 (1, 2) q (eqb-true s 8 eu) e
+    (λ w d. in_words_by 8 (bytes w) 1 2 counts_1 (omega arith) refl (laid_8 w d))
+by_test false false false false true s q ex ey ez eu ev e =
+    at_size s 16 (1, 1) q (eqb-true s 16 ev) e
+    (λ w d. in_words_by 16 (bytes w) 1 1 counts_1 (omega arith) refl (laid_16 w d))
+by_test false false false false false s q ex ey ez eu ev e = absurd (clash (ap there e))
+
+-- where items of R make words, it is known how these lie
+pub words_told : (R : RattleType) (m k : ℕ) → in_words (type_size R) ≡ Some (m, k)
+    → InWords (type_size R) (type_align R) m k
+words_told R m k e =
+    let s : ℕ = type_size R in
+    let at_width : AtAny s m k =
+    by_test (s == 1) (s == 2) (s == 4) (s == 8) (s == 16) s (m, k) refl refl refl refl refl e in
+    let known = align-bytes (layout R) in
+    subst (λ (a : ℕ). InWords s a m k) (sym known)
+    (at_width (align_w (layout R)) (subst (λ (a : ℕ). Dv a s) known (align_size (layout R))))
+
+-- how words lie does not depend on names
+pub nameless : (τ : Ty) (m k : ℕ) → InWords (size τ) (align τ) m k
+    → InWords (size (raw τ)) (align (raw τ)) m k
+nameless τ m k h = subst (λ (p : ℕ × ℕ). InWords p.0 p.1 m k)
+    (λ i. (sym (size-raw τ) i, sym (align-raw τ) i)) h

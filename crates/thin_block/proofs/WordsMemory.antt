@@ -1,0 +1,558 @@
+-- Items of a block as words, and back. Assumes `Logic`.
+--     ways_out, ways_in      room for words, as room for their items
+--     header_out, header_in  room for the words that the header takes the room of, as its two words
+--     block_out, block_in    room for a block of words, as its parts
+--     word_el                words as the items of a block
+--     word_out               a word, as its items
+--     words_in, words_back   filled slots as words that are to be made, and empty ones; and back
+use Rattle.std.proofs.Common.{◌≡◌, ℕ, zero, suc, Some, ◌+◌, ◌-◌, ◌*◌, ◌≤◌, List, [], ◌∷◌, ◌++◌, length, map, take, drop as rest, refl, sym, ap, subst, ◌∙◌, arith, zero-mul, suc-mul}
+use Rattle.std.proofs.lemmas.List.{take-append-drop, length-take, length-drop, length-map, map-append}
+use Rattle.std.specs.Prelude.{Option}
+use native.Mathlib.Nat.{add_comm, mul_assoc}
+use seplogic.Ra.Ura.{Ura}
+use base.Fraction.{full_share}
+use base.Logic.{SProp, ent, sep, apply∗}
+use base.Fml.{Fml, ftrue, fsep, fwand, froom}
+use contract.Monad.{conj, conj_r}
+use mir.Syntax.{Ty, Width, w8, w16, w32, w64, w128, ty_int, ty_array}
+use mir.Raw.{raw as bare}
+use mir.Val.{bytes}
+use prog.Memory.{size, align, up}
+use prog.Align.{align_w, align-bytes}
+use prog.RawLaws.{size-raw}
+use types.Logic.{Logic, sem}
+use types.Kit.{‵, raw, ◌⊛◌, ◌$◌, ◌∵◌, !, qed, by, move, keep, drop, use0, use1, use2, use3, split, split3, join, fsplit, fjoin, rewrite, frame as keeps, assume, done}
+use denote.Array.{Array, Array-Lawful}
+use denote.Builtin.{u64}
+use denote.Index.{place, place_is}
+use denote.Memory.{part_at}
+use denote.Param.{layout, param, number, ArrayAt}
+use denote.Param.Laws.{Laws, param_laws, array_at_laws}
+use denote.RattleType.{RattleType}
+use denote.RawPtr.Room.{past, room_cut, room_glue}
+use denote.Steps.{nothing}
+use denote.Struct.Declared.{shape}
+use denote.Struct.Laws.{u64-laws}
+use denote.Struct.Members.{Member, parts_at, rooms_for}
+use denote.Struct.Parts.{shape_of, PartsBack, RoomBack, Struct-parts_free}
+use denote.Struct.Recorded.{Recorded-part}
+use denote.Struct.Struct.{Struct}
+use Rattle.core.proofs.mem.Param.{El, R, el_x}
+use Rattle.core.proofs.ptr.Rows.{add_times}
+use Rattle.core.specs.Simd.{first_chunks}
+use Rattle.std.specs.Mem.{type_size}
+use Rattle.thin_block.specs.Ownership.{places, word_of, way, ways, header_room, header_way, slots_way}
+use Rattle.thin_block.specs.Slots.{full, empty}
+use Rattle.thin_block.specs.Words.{word, runs_at}
+use Rattle.thin_block.specs.contracts.words.Words.{the_row, the_type}
+use Rattle.thin_block.proofs.SlotMemory.{cut, glue, to_items, of_items, to_raw, of_raw}
+use Rattle.thin_block.proofs.WordsLemmas.{InWords, nameless}
+use Rattle.thin_block.proofs.words.Words.TheLaws.{the_row_laws}
+
+-- ---- room
+-- where a row of values ends
+past-place : (τ : Ty) (n o : ℕ) → past τ n o ≡ place (size τ) o n
+past-place τ zero o = refl
+past-place τ (suc n) o = past-place τ n (o + size τ)
+
+past_is : (τ : Ty) (n o : ℕ) → past τ n o ≡ o + n * size τ
+past_is τ n o = past-place τ n o ∙ (place_is (size τ) o n ∙ add_comm (n * size τ) o)
+
+module _ {M : Type 1} {𝓤 : Ura M} (𝓛 : Logic 𝓤) (τ : Ty) (m k b : ℕ)
+    (hd : InWords (size τ) (align τ) m k) where
+  open 𝓛 use {H}
+
+  abbrev ω : Ty
+  ω = word_of τ m
+
+  abbrev u : ℕ
+  u = size ω
+
+  abbrev run : Ty
+  run = ty_array τ m
+
+  -- half of the header: the capacity, or the length
+  abbrev half : Ty
+  half = ty_int w64
+
+  abbrev two : Ty
+  two = ty_array half 2
+
+  abbrev units : Ty
+  units = ty_array ω k
+
+  -- a word ends where its items end
+  after_run : (o : ℕ) → past τ m o ≡ o + u
+  after_run o = past_is τ m o ∙ ap (λ (n : ℕ). o + n) (sym hd.size)
+
+  -- the items of one more word
+  one_more : (w : ℕ) → m + w * m ≡ suc w * m
+  one_more w = omega (arith, suc-mul w m)
+
+  -- room for words is room for their items, and the ways back
+  pub ways_out : (w o : ℕ) → ent 𝓤 (H.room (ty_array ω w) b o)
+      (sep 𝓤 (H.room (ty_array τ (w * m)) b o) (sem 𝓛 (ways τ m w b o)))
+  ways_out zero o =
+      qed 𝓛 (‵ (froom (ty_array ω 0) b o) ∷ []) ∵ drop ! $ nothing ! $
+      use0 𝓛 (‵ (froom (ty_array τ 0) b o)) (𝓛.laws.room_nil τ b o) $
+      rewrite ! 0 (λ (n : ℕ). ‵ (froom (ty_array τ n) b o)) (sym (zero-mul m)) refl $ done !
+  ways_out (suc w) o =
+      qed 𝓛 (‵ (froom (ty_array ω (suc w)) b o) ∷ []) ∵
+      use1 𝓛 (‵ (froom ω b o) ⊛ ‵ (froom (ty_array ω w) b (o + u)))
+      (𝓛.laws.room_uncons ω w b o) $ split ! $
+      use1 𝓛 (‵ (froom run b o) ⊛ ‵ (way τ m b o))
+      (𝓛.laws.room_as ω run b o (sym hd.size) hd.item) $
+      split ! $ move ! (2 ∷ []) $
+      use1 𝓛 (‵ (froom (ty_array τ (w * m)) b (o + u)) ⊛ ‵ (ways τ m w b (o + u)))
+      (ways_out w (o + u)) $ split ! $
+      -- [the other items; the other ways; the first items; their way]
+      rewrite ! 0 (λ (n : ℕ). ‵ (froom (ty_array τ (w * m)) b n)) (sym (after_run o)) refl $
+      move ! (2 ∷ 0 ∷ []) $ use2 𝓛 (‵ (froom (ty_array τ (m + w * m)) b o))
+      (room_glue 𝓛 τ m (w * m) b o) $
+      rewrite ! 0 (λ (n : ℕ). ‵ (froom (ty_array τ n) b o)) (one_more w) refl $
+      move ! (2 ∷ 1 ∷ 0 ∷ []) $ fjoin ! $ move ! (1 ∷ 0 ∷ []) $ done !
+
+  -- and back
+  pub ways_in : (w o : ℕ) → ent 𝓤 (sep 𝓤 (H.room (ty_array τ (w * m)) b o) (sem 𝓛 (ways τ m w b o)))
+      (H.room (ty_array ω w) b o)
+  ways_in zero o = qed 𝓛 (‵ (froom (ty_array τ (0 * m)) b o) ∷ ‵ ftrue ∷ []) ∵ keep ! [] $
+      by ! (𝓛.laws.room_nil ω b o)
+  ways_in (suc w) o =
+      qed 𝓛 (‵ (froom (ty_array τ (suc w * m)) b o) ∷ ‵ (ways τ m (suc w) b o) ∷ []) ∵
+      rewrite ! 0 (λ (n : ℕ). ‵ (froom (ty_array τ n) b o)) (sym (one_more w)) refl $
+      use1 𝓛 (‵ (froom run b o) ⊛ ‵ (froom (ty_array τ (w * m)) b (past τ m o)))
+      (room_cut 𝓛 τ m (w * m) b o) $ split ! $ move ! (2 ∷ []) $ fsplit ! $
+      -- [the first way; the other ways; the first items; the other items]
+      move ! (2 ∷ 0 ∷ []) $ use2 𝓛 (‵ (froom ω b o)) (apply∗ 𝓤 (H.room run b o) (H.room ω b o)) $
+      move ! (2 ∷ 1 ∷ []) $
+      rewrite ! 0 (λ (n : ℕ). ‵ (froom (ty_array τ (w * m)) b n)) (after_run o) refl $
+      use2 𝓛 (‵ (froom (ty_array ω w) b (o + u))) (ways_in w (o + u)) $ move ! (1 ∷ 0 ∷ []) $
+      by ! (𝓛.laws.room_cons ω w b o)
+
+  -- the header takes the room of k words
+  header_bytes : k * u ≡ 16
+  header_bytes = ap (λ (n : ℕ). k * n) hd.size ∙ hd.room
+
+  after_header : (o : ℕ) → past ω k o ≡ o + 16
+  after_header o = past_is ω k o ∙ ap (λ (n : ℕ). o + n) header_bytes
+
+  -- room for the words that the header takes the room of is room for its two words
+  pub header_out : (o : ℕ) → ent 𝓤 (H.room units b o)
+      (sep 𝓤 (H.room half b o) (sep 𝓤 (H.room half b (o + 8)) (sem 𝓛 (header_way τ m k b o))))
+  header_out o =
+      qed 𝓛 (‵ (froom units b o) ∷ []) ∵
+      use1 𝓛 (‵ (froom two b o) ⊛ ‵ (fwand (froom two b o) (froom units b o)))
+      (𝓛.laws.room_as units two b o (sym header_bytes) hd.eight) $ split ! $
+      use1 𝓛 (‵ (froom half b o) ⊛ ‵ (froom (ty_array half 1) b (o + 8)))
+      (𝓛.laws.room_uncons half 1 b o) $ split ! $ move ! (1 ∷ []) $
+      use1 𝓛 (‵ (froom half b (o + 8)) ⊛ ‵ (froom (ty_array half 0) b (o + 8 + 8)))
+      (𝓛.laws.room_uncons half 0 b (o + 8)) $ split ! $ move ! (2 ∷ 0 ∷ 3 ∷ []) $
+      keeps ! $ keeps ! $ keep ! (0 ∷ []) $
+      assume {P = H.room units b o} ! (‵ (header_room b o)) $ fsplit ! $
+      use0 𝓛 (‵ (froom (ty_array half 0) b (o + 8 + 8)))
+      (𝓛.laws.room_nil half b (o + 8 + 8)) $ move ! (2 ∷ 0 ∷ []) $
+      use2 𝓛 (‵ (froom (ty_array half 1) b (o + 8))) (𝓛.laws.room_cons half 0 b (o + 8)) $
+      move ! (1 ∷ 0 ∷ []) $ use2 𝓛 (‵ (froom two b o)) (𝓛.laws.room_cons half 1 b o) $
+      by ! (apply∗ 𝓤 (H.room two b o) (H.room units b o))
+
+  -- and back
+  pub header_in : (o : ℕ) → ent 𝓤 (sep 𝓤 (H.room half b o) (sep 𝓤 (H.room half b (o + 8))
+      (sem 𝓛 (header_way τ m k b o)))) (H.room units b o)
+  header_in o =
+      qed 𝓛 (‵ (froom half b o) ∷ ‵ (froom half b (o + 8)) ∷ ‵ (header_way τ m k b o) ∷ []) ∵
+      fjoin ! $ by ! (apply∗ 𝓤 (sem 𝓛 (header_room b o)) (H.room units b o))
+
+  -- room for words is room for c slots, and their way back
+  slots_out : (w c o : ℕ) → c ≤ w * m → ent 𝓤 (H.room (ty_array ω w) b o)
+      (sep 𝓤 (H.room (ty_array τ c) b o) (sem 𝓛 (slots_way τ m w c b o)))
+  slots_out w c o le =
+      let pad : ℕ = w * m - c in
+      let whole : w * m ≡ c + pad = omega arith in
+      qed 𝓛 (‵ (froom (ty_array ω w) b o) ∷ []) ∵
+      use1 𝓛 (‵ (froom (ty_array τ (w * m)) b o) ⊛ ‵ (ways τ m w b o)) (ways_out w o) $ split ! $
+      rewrite ! 0 (λ (n : ℕ). ‵ (froom (ty_array τ n) b o)) whole refl $
+      use1 𝓛 (‵ (froom (ty_array τ c) b o) ⊛ ‵ (froom (ty_array τ pad) b (past τ c o)))
+      (room_cut 𝓛 τ c pad b o) $ split ! $ move ! (1 ∷ []) $
+      rewrite ! 0 (λ (n : ℕ). ‵ (froom (ty_array τ pad) b n)) (past_is τ c o) refl $
+      move ! (2 ∷ 0 ∷ []) $ fjoin ! $ move ! (1 ∷ 0 ∷ []) $ done !
+
+  -- and back
+  slots_in : (w c o : ℕ) → c ≤ w * m → ent 𝓤 (sep 𝓤 (H.room (ty_array τ c) b o)
+      (sem 𝓛 (slots_way τ m w c b o))) (H.room (ty_array ω w) b o)
+  slots_in w c o le =
+      let pad : ℕ = w * m - c in
+      let whole : w * m ≡ c + pad = omega arith in
+      qed 𝓛 (‵ (froom (ty_array τ c) b o) ∷ ‵ (slots_way τ m w c b o) ∷ []) ∵
+      move ! (1 ∷ []) $ fsplit ! $ move ! (1 ∷ []) $
+      rewrite ! 0 (λ (n : ℕ). ‵ (froom (ty_array τ pad) b n)) (sym (past_is τ c o)) refl $
+      move ! (2 ∷ 0 ∷ []) $ use2 𝓛 (‵ (froom (ty_array τ (c + pad)) b o))
+      (room_glue 𝓛 τ c pad b o) $
+      rewrite ! 0 (λ (n : ℕ). ‵ (froom (ty_array τ n) b o)) (sym whole) refl $ by ! (ways_in w o)
+
+  module _ (w c o : ℕ) (le : c ≤ w * m) where
+    abbrev Back : Fml
+    Back = fsep (header_way τ m k b o) (slots_way τ m w c b (o + 16))
+
+    -- room for a block of words is room for its parts, and the way back
+    pub block_out : ent 𝓤 (H.room (ty_array ω (k + w)) b o)
+        (sep 𝓤 (H.room half b o) (sep 𝓤 (H.room half b (o + 8))
+        (sep 𝓤 (H.room (ty_array τ c) b (o + 16)) (sem 𝓛 Back))))
+    block_out =
+        qed 𝓛 (‵ (froom (ty_array ω (k + w)) b o) ∷ []) ∵
+        use1 𝓛 (‵ (froom units b o) ⊛ ‵ (froom (ty_array ω w) b (past ω k o)))
+        (room_cut 𝓛 ω k w b o) $ split ! $
+        use1 𝓛 (‵ (froom half b o) ⊛ ‵ (froom half b (o + 8)) ⊛ ‵ (header_way τ m k b o))
+        (header_out o) $ split3 ! $ move ! (3 ∷ []) $
+        rewrite ! 0 (λ (n : ℕ). ‵ (froom (ty_array ω w) b n)) (after_header o) refl $
+        use1 𝓛 (‵ (froom (ty_array τ c) b (o + 16)) ⊛ ‵ (slots_way τ m w c b (o + 16)))
+        (slots_out w c (o + 16) le) $ split ! $ move ! (4 ∷ 1 ∷ []) $ fjoin ! $
+        move ! (2 ∷ 3 ∷ 1 ∷ 0 ∷ []) $ done !
+
+    -- and back
+    pub block_in : ent 𝓤 (sep 𝓤 (H.room half b o) (sep 𝓤 (H.room half b (o + 8))
+        (sep 𝓤 (H.room (ty_array τ c) b (o + 16)) (sem 𝓛 Back)))) (H.room (ty_array ω (k + w)) b o)
+    block_in =
+        qed 𝓛 (‵ (froom half b o) ∷ ‵ (froom half b (o + 8)) ∷ ‵
+        (froom (ty_array τ c) b (o + 16)) ∷ ‵ Back ∷ []) ∵ move ! (3 ∷ []) $ fsplit ! $
+        move ! (4 ∷ 1 ∷ []) $ use2 𝓛 (‵ (froom (ty_array ω w) b (o + 16)))
+        (slots_in w c (o + 16) le) $
+        rewrite ! 0 (λ (n : ℕ). ‵ (froom (ty_array ω w) b n)) (sym (after_header o)) refl $
+        move ! (2 ∷ 3 ∷ 1 ∷ []) $ use3 𝓛 (‵ (froom units b o)) (header_in o) $
+        by ! (room_glue 𝓛 ω k w b o)
+
+-- ---- items
+-- how many items a word has, as a row
+abbrev pub number_of_items : ℕ → RattleType
+number_of_items m = param 1 (number m)
+
+-- the row of words
+abbrev pub word_row : RattleType → ℕ → RattleType
+word_row T m = the_row (param 0 T) (number_of_items m)
+
+-- words as the items of a block
+abbrev pub word_el : (T : RattleType) → Laws T → ℕ → El
+word_el T L m = record {
+  row = word_row T m;
+  laws = the_row_laws (param 0 T) (number_of_items m) (param_laws 0 T L) refl;
+}
+
+-- nothing is rounded up to nothing
+zero_at : (w : Width) → up (bytes w) 0 ≡ 0
+zero_at w8 = refl
+zero_at w16 = refl
+zero_at w32 = refl
+zero_at w64 = refl
+zero_at w128 = refl
+
+-- a struct's first field lies at its start
+zero_up : (τ : Ty) → up (align τ) 0 ≡ 0
+zero_up τ = subst (λ (a : ℕ). up a 0 ≡ 0) (sym (align-bytes τ)) (zero_at (align_w τ))
+
+-- the first n words of these items
+abbrev pub words_made : (T : RattleType) (m n : ℕ) → List T.Denot → List (word_row T m).Denot
+words_made T m n xs = map (word (param 0 T) (number_of_items m)) (first_chunks m n xs)
+
+-- there are n runs of items
+pub chunks_long : {X : Type 0} (m n : ℕ) (xs : List X) → length (first_chunks m n xs) ≡ n
+chunks_long m zero xs = refl
+chunks_long m (suc n) xs = ap suc (chunks_long m n (rest m xs))
+
+-- and of the words
+pub words_long : (T : RattleType) (m n : ℕ) (xs : List T.Denot)
+    → length (words_made T m n xs) ≡ n
+words_long T m n xs = length-map (first_chunks m n xs) (word (param 0 T) (number_of_items m))
+    ∙ chunks_long m n xs
+
+module _ {M : Type 1} {𝓤 : Ura M} (𝓛 : Logic 𝓤) (T : RattleType) (L : Laws T) (m k b : ℕ)
+    (hd : InWords (size (layout T)) (align (layout T)) m k) where
+  open 𝓛 use {H}
+
+  abbrev E : El
+  E = record { row = T; laws = L }
+
+  abbrev W : El
+  W = word_el T L m
+
+  abbrev N : RattleType
+  N = number_of_items m
+
+  abbrev X : Type 0
+  X = el_x E
+
+  abbrev σ : Ty
+  σ = layout T
+
+  abbrev τ' : Ty
+  τ' = bare σ
+
+  abbrev s : ℕ
+  s = size σ
+
+  abbrev u' : ℕ
+  u' = size (word_of τ' m)
+
+  hd' : InWords (size τ') (align τ') m k
+  hd' = nameless σ m k hd
+
+  -- a word's bytes are those of its items, and those of the type with its names
+  wide : u' ≡ m * s
+  wide = hd'.size ∙ ap (λ (n : ℕ). m * n) (size-raw σ)
+
+  named : u' ≡ type_size (R W)
+  named = size-raw (layout W.row)
+
+  -- ---- one word
+  abbrev fields : List Member
+  fields = record { row = ArrayAt (R E) N; ty = ty_array σ m }
+      ∷ record { row = Array u64 0; ty = ty_array (ty_int w64) 0 } ∷ []
+
+  abbrev Tuple : RattleType
+  Tuple = Struct (shape_of (the_type (R E) N).name fields)
+
+  -- a word in memory is the tuple of its fields
+  as_tuple : (v : W.row.Denot) (o : ℕ) → part_at W.row full_share v b o
+      ≡ part_at Tuple full_share (v.items, (v.aligned, tt)) b o
+  as_tuple v o =
+      let D = the_type (R E) N in
+      Recorded-part (Struct (shape D)) D.D D.to D.to_one full_share v b o
+
+  module _ (o : ℕ) where
+    abbrev first : ℕ
+    first = o + up (align σ) 0
+
+    abbrev second : ℕ
+    second = o + up 8 (up (align σ) 0 + m * s)
+
+    at_start : first ≡ o
+    at_start = let z = zero_up σ in omega arith
+
+    abbrev Rooms : SProp 𝓤
+    Rooms = rooms_for 𝓤 H fields zero b o
+
+    -- the way back to room for it
+    way_out : ent 𝓤 (RoomBack 𝓤 H (the_type (R E) N).name fields b o) (sem 𝓛 (way τ' m b o))
+    way_out =
+        qed 𝓛 (raw (RoomBack 𝓤 H (the_type (R E) N).name fields b o) ∷ []) ∵
+        assume {P = H.room (word_of τ' m) b o} ! (‵ (froom (ty_array τ' m) b o)) $
+        use1 𝓛 (‵ (froom (ty_array σ m) b o)) (𝓛.laws.raw-room (ty_array σ m) b o) $
+        rewrite ! 0 (λ (n : ℕ). ‵ (froom (ty_array σ m) b n)) (sym at_start) refl $
+        nothing ! $ use0 𝓛 (‵ (froom (ty_array (ty_int w64) 0) b second))
+        (𝓛.laws.room_nil (ty_int w64) b second) $ join ! $ move ! (1 ∷ 0 ∷ []) $ join ! $
+        use2 𝓛 (‵ (froom (layout W.row) b o)) (apply∗ 𝓤 Rooms (H.room (layout W.row) b o)) $
+        by ! (𝓛.laws.room-raw (layout W.row) b o)
+
+    -- a word is its items, and the way back
+    pub word_out : (xs : List X) → ent 𝓤 (sem 𝓛 (part_at (R W) full_share (word (R E) N xs) b o))
+        (sep 𝓤 (sem 𝓛 (part_at (Array (R E) m) full_share xs b o)) (sem 𝓛 (way τ' m b o)))
+    word_out xs =
+        let ν = (the_type (R E) N).name in
+        let Back = RoomBack 𝓤 H ν fields b o in
+        qed 𝓛 (‵ (part_at (R W) full_share (word (R E) N xs) b o) ∷ []) ∵
+        rewrite ! 0 (λ (f : Fml). ‵ f) (as_tuple (word (R E) N xs) o) refl $
+        use1 𝓛 (‵ (parts_at full_share fields zero (xs, ([], tt)) b o) ⊛ raw
+        (conj 𝓤 (PartsBack 𝓛 full_share ν fields b o) Back))
+        (Struct-parts_free 𝓛 ν fields (
+          (array_at_laws 1 (R E) (param_laws 0 T L) m).lawful 𝓛,
+          (Array-Lawful 𝓛 u64 (u64-laws.lawful 𝓛) 0, tt),
+        ) (xs, ([], tt)) b o) $ split ! $
+        fsplit ! $ move ! (2 ∷ []) $
+        use1 𝓛 (raw Back) (conj_r 𝓤 (PartsBack 𝓛 full_share ν fields b o) Back) $
+        use1 𝓛 (‵ (way τ' m b o)) way_out $ keep ! (1 ∷ 0 ∷ []) $
+        rewrite ! 0 (λ (n : ℕ). ‵ (part_at (Array (R E) m) full_share xs b n)) at_start refl $
+        done !
+
+  -- ---- words in a row
+  abbrev chunks : ℕ → List X → List (List X)
+  chunks n xs = first_chunks m n xs
+
+  abbrev words : ℕ → List X → List W.row.Denot
+  words n xs = words_made T m n xs
+
+  -- items are those of the first word, and the others
+  parted : (xs : List X) → full xs ≡ full (take m xs) ++ full (rest m xs)
+  parted xs = ap full (sym (take-append-drop m xs)) ∙ map-append Some (take m xs) (rest m xs)
+
+  module _ (n : ℕ) (xs : List X) (o : ℕ) (long : length xs ≡ suc n * m) where
+    first_long : length (take m xs) ≡ m
+    first_long = omega (arith, length-take m xs, suc-mul n m)
+
+    rest_long : length (rest m xs) ≡ n * m
+    rest_long = omega (arith, length-drop m xs, suc-mul n m)
+
+    next : o + u' ≡ length (full (take m xs)) * s + o
+    next =
+        let same : length (full (take m xs)) * s ≡ m * s =
+        ap (λ (n : ℕ). n * s) (length-map (take m xs) Some ∙ first_long) in
+        let e = wide in omega arith
+
+  -- filled slots, with the ways to words, are words that are to be made
+  to_runs : (n w j : ℕ) (xs : List X) (o at : ℕ) → length xs ≡ n * m → w ≡ j + n → at ≡ n * u' + o
+      → ent 𝓤 (sep 𝓤 (sem 𝓛 (places (R E) (full xs) b o)) (sem 𝓛 (ways τ' m w b o)))
+      (sep 𝓤 (sem 𝓛 (runs_at (R E) N (chunks n xs) b o)) (sem 𝓛 (ways τ' m j b at)))
+  to_runs zero w j [] o at long ew ea =
+      qed 𝓛 (‵ ftrue ∷ ‵ (ways τ' m w b o) ∷ []) ∵
+      rewrite ! 1 (λ (n : ℕ). ‵ (ways τ' m n b o)) {x = j} (omega (arith, ew)) refl $
+      rewrite ! 1 (λ (n : ℕ). ‵ (ways τ' m j b n)) {x = at} (omega (arith, ea, zero-mul u')) refl $
+      done !
+  to_runs zero w j (x ∷ xs) o at long ew ea = absurd (omega (arith, long, zero-mul m))
+  to_runs (suc n) w j xs o at long ew ea =
+      let c : List X = take m xs in
+      let far : ℕ = o + u' in
+      qed 𝓛 (‵ (places (R E) (full xs) b o) ∷ ‵ (ways τ' m w b o) ∷ []) ∵
+      rewrite ! 0 (λ (l : List (Option X)). ‵ (places (R E) l b o)) (parted xs) refl $
+      use1 𝓛 (‵ (places (R E) (full c) b o) ⊛ ‵ (places (R E) (full (rest m xs)) b far))
+      (cut E 𝓛 b (full c) (full (rest m xs)) o far (next n xs o long)) $ split ! $
+      use1 𝓛 (‵ (part_at (Array (R E) m) full_share c b o))
+      (to_items E 𝓛 b m c o (first_long n xs o long)) $ move ! (2 ∷ []) $
+      rewrite ! 0 (λ (n : ℕ). ‵ (ways τ' m n b o)) {x = suc (j + n)} (omega (arith, ew)) refl $
+      fsplit ! $
+      -- [the first way; the other ways; the first items; the others]
+      move ! (2 ∷ 0 ∷ []) $ fjoin ! $ move ! (2 ∷ 1 ∷ []) $
+      use2 𝓛 (‵ (runs_at (R E) N (chunks n (rest m xs)) b far) ⊛ ‵ (ways τ' m j b at))
+      (to_runs n (j + n) j (rest m xs) far at (rest_long n xs o long) refl
+      (omega (arith, ea, suc-mul n u'))) $ split ! $ move ! (2 ∷ 0 ∷ []) $ fjoin ! $ done !
+
+  -- words are filled slots, with the ways to words
+  of_runs : (n w j : ℕ) (xs : List X) (o at : ℕ) → length xs ≡ n * m → w ≡ j + n → at ≡ n * u' + o
+      → ent 𝓤 (sep 𝓤 (sem 𝓛 (places (R W) (full (words n xs)) b o)) (sem 𝓛 (ways τ' m j b at)))
+      (sep 𝓤 (sem 𝓛 (places (R E) (full xs) b o)) (sem 𝓛 (ways τ' m w b o)))
+  of_runs zero w j [] o at long ew ea =
+      qed 𝓛 (‵ ftrue ∷ ‵ (ways τ' m j b at) ∷ []) ∵
+      rewrite ! 1 (λ (n : ℕ). ‵ (ways τ' m j b n)) {x = o} (omega (arith, ea, zero-mul u')) refl $
+      rewrite ! 1 (λ (n : ℕ). ‵ (ways τ' m n b o)) {x = w} (omega (arith, ew)) refl $ done !
+  of_runs zero w j (x ∷ xs) o at long ew ea = absurd (omega (arith, long, zero-mul m))
+  of_runs (suc n) w j xs o at long ew ea =
+      let c : List X = take m xs in
+      let far : ℕ = o + u' in
+      let others : List W.row.Denot = words n (rest m xs) in
+      qed 𝓛 (‵ (places (R W) (full (words (suc n) xs)) b o) ∷ ‵ (ways τ' m j b at) ∷ []) ∵
+      fsplit ! $
+      use1 𝓛 (‵ (part_at (Array (R E) m) full_share c b o) ⊛ ‵ (way τ' m b o)) (word_out o c) $
+      split ! $ use1 𝓛 (‵ (places (R E) (full c) b o)) (of_items E 𝓛 b m c o) $
+      move ! (2 ∷ 3 ∷ []) $
+      rewrite ! 0 (λ (n : ℕ). ‵ (places (R W) (full others) b (o + n))) (sym named) refl $
+      use2 𝓛 (‵ (places (R E) (full (rest m xs)) b far) ⊛ ‵ (ways τ' m (j + n) b far))
+      (of_runs n (j + n) j (rest m xs) far at (rest_long n xs o long) refl
+      (omega (arith, ea, suc-mul n u'))) $ split ! $
+      -- [the other items; the other ways; the first items; their way]
+      move ! (2 ∷ 0 ∷ []) $ use2 𝓛 (‵ (places (R E) (full c ++ full (rest m xs)) b o))
+      (glue E 𝓛 b (full c) (full (rest m xs)) o far (next n xs o long)) $
+      rewrite ! 0 (λ (l : List (Option X)). ‵ (places (R E) l b o)) (sym (parted xs)) refl $
+      move ! (2 ∷ 1 ∷ []) $ fjoin ! $
+      rewrite ! 0 (λ (n : ℕ). ‵ (ways τ' m n b o))
+      (let more : suc (j + n) ≡ w = omega (arith, ew) in more) refl $ move ! (1 ∷ 0 ∷ []) $ done !
+
+  -- ---- empty slots
+  module _ (j v pad at far : ℕ) (whole : j + pad ≡ v * m) (end : far ≡ at + j * size τ') where
+    abbrev Spare : Fml
+    Spare = froom (ty_array τ' pad) b far
+
+    end_at : far ≡ past τ' j at
+    end_at = end ∙ sym (past_is τ' j at)
+
+    -- empty slots and the room that no slot takes are room for words
+    spare_words : ent 𝓤 (sep 𝓤 (sem 𝓛 (places (R E) (empty j) b at))
+        (sep 𝓤 (sem 𝓛 (ways τ' m v b at)) (sem 𝓛 Spare)))
+        (sem 𝓛 (places (R W) (empty v) b at))
+    spare_words =
+        qed 𝓛 (‵ (places (R E) (empty j) b at) ∷ ‵ (ways τ' m v b at) ∷ ‵ Spare ∷ []) ∵
+        use1 𝓛 (‵ (froom (ty_array τ' j) b at)) (to_raw E 𝓛 b j at) $ move ! (2 ∷ []) $
+        rewrite ! 0 (λ (n : ℕ). ‵ (froom (ty_array τ' pad) b n)) end_at refl $
+        move ! (1 ∷ 0 ∷ []) $ use2 𝓛 (‵ (froom (ty_array τ' (j + pad)) b at))
+        (room_glue 𝓛 τ' j pad b at) $
+        rewrite ! 0 (λ (n : ℕ). ‵ (froom (ty_array τ' n) b at)) whole refl $
+        use2 𝓛 (‵ (froom (ty_array (word_of τ' m) v) b at)) (ways_in 𝓛 τ' m k b hd' v at) $
+        by ! (of_raw W 𝓛 b v at)
+
+    -- and back
+    spare_slots : ent 𝓤 (sem 𝓛 (places (R W) (empty v) b at))
+        (sep 𝓤 (sem 𝓛 (places (R E) (empty j) b at))
+        (sep 𝓤 (sem 𝓛 (ways τ' m v b at)) (sem 𝓛 Spare)))
+    spare_slots =
+        qed 𝓛 (‵ (places (R W) (empty v) b at) ∷ []) ∵
+        use1 𝓛 (‵ (froom (ty_array (word_of τ' m) v) b at)) (to_raw W 𝓛 b v at) $
+        use1 𝓛 (‵ (froom (ty_array τ' (v * m)) b at) ⊛ ‵ (ways τ' m v b at))
+        (ways_out 𝓛 τ' m k b hd' v at) $ split ! $
+        rewrite ! 0 (λ (n : ℕ). ‵ (froom (ty_array τ' n) b at)) (sym whole) refl $
+        use1 𝓛 (‵ (froom (ty_array τ' j) b at) ⊛ ‵ (froom (ty_array τ' pad) b (past τ' j at)))
+        (room_cut 𝓛 τ' j pad b at) $ split ! $
+        use1 𝓛 (‵ (places (R E) (empty j) b at)) (of_raw E 𝓛 b j at) $ move ! (1 ∷ []) $
+        rewrite ! 0 (λ (n : ℕ). ‵ (froom (ty_array τ' pad) b n)) (sym end_at) refl $
+        move ! (1 ∷ 2 ∷ 0 ∷ []) $ done !
+
+  -- ---- all slots of a block: n words of items, of c slots in w words
+  module _ (xs : List X) (n j v w c o : ℕ) (long : length xs ≡ n * m) (all : c ≡ length xs + j)
+      (total : w ≡ v + n) (le : c ≤ w * m) where
+    abbrev after : ℕ
+    after = n * type_size (R W) + o
+
+    abbrev pad' : ℕ
+    pad' = w * m - c
+
+    at_after : after ≡ n * u' + o
+    at_after = ap (λ (x : ℕ). n * x + o) (sym named)
+
+    same_bytes : n * u' ≡ length xs * s
+    same_bytes = ap (λ (x : ℕ). n * x) wide
+        ∙ (sym (mul_assoc n m s) ∙ ap (λ (x : ℕ). x * s) (sym long))
+
+    last : after ≡ length (full xs) * s + o
+    last =
+        let same = ap (λ (x : ℕ). x * s) (length-map xs Some) in
+        let e = same_bytes in let a = at_after in omega arith
+
+    whole : j + pad' ≡ v * m
+    whole =
+        let summed : w * m ≡ v * m + n * m = ap (λ (x : ℕ). x * m) total ∙ add_times v n m in
+        omega arith
+
+    end : o + c * size τ' ≡ after + j * size τ'
+    end =
+        let summed : c * size τ' ≡ length xs * size τ' + j * size τ' =
+        ap (λ (x : ℕ). x * size τ') all ∙ add_times (length xs) j (size τ') in
+        let same : length xs * size τ' ≡ length xs * s =
+        ap (λ (x : ℕ). length xs * x) (size-raw σ) in
+        let e = same_bytes in let a = at_after in omega arith
+
+    -- filled slots as words that are to be made, and the empty ones as empty words
+    pub words_in : ent 𝓤 (sep 𝓤 (sem 𝓛 (places (R E) (full xs ++ empty j) b o))
+        (sem 𝓛 (slots_way τ' m w c b o)))
+        (sep 𝓤 (sem 𝓛 (runs_at (R E) N (chunks n xs) b o)) (sem 𝓛 (places (R W) (empty v) b after)))
+    words_in =
+        qed 𝓛 (‵ (places (R E) (full xs ++ empty j) b o) ∷ ‵ (slots_way τ' m w c b o) ∷ []) ∵
+        use1 𝓛 (‵ (places (R E) (full xs) b o) ⊛ ‵ (places (R E) (empty j) b after))
+        (cut E 𝓛 b (full xs) (empty j) o after last) $ split ! $ move ! (2 ∷ []) $ fsplit ! $
+        -- [the ways; the spare room; the items; the empty slots]
+        move ! (2 ∷ 0 ∷ []) $
+        use2 𝓛 (‵ (runs_at (R E) N (chunks n xs) b o) ⊛ ‵ (ways τ' m v b after))
+        (to_runs n w v xs o after long total at_after) $ split ! $ move ! (3 ∷ 1 ∷ 2 ∷ []) $
+        use3 𝓛 (‵ (places (R W) (empty v) b after))
+        (spare_words j v pad' after (o + c * size τ') whole end) $ move ! (1 ∷ 0 ∷ []) $ done !
+
+    last_word : after ≡ length (full (words n xs)) * type_size (R W) + o
+    last_word = ap (λ (x : ℕ). x * type_size (R W) + o)
+        (sym (length-map (words n xs) Some ∙ words_long T m n xs))
+
+    -- words and the empty ones after them
+    pub words_joined : ent 𝓤 (sep 𝓤 (sem 𝓛 (places (R W) (full (words n xs)) b o))
+        (sem 𝓛 (places (R W) (empty v) b after)))
+        (sem 𝓛 (places (R W) (full (words n xs) ++ empty v) b o))
+    words_joined = glue W 𝓛 b (full (words n xs)) (empty v) o after last_word
+
+    -- words as filled slots, and empty ones, with the way back
+    pub words_back : ent 𝓤 (sem 𝓛 (places (R W) (full (words n xs) ++ empty v) b o))
+        (sep 𝓤 (sem 𝓛 (places (R E) (full xs ++ empty j) b o)) (sem 𝓛 (slots_way τ' m w c b o)))
+    words_back =
+        qed 𝓛 (‵ (places (R W) (full (words n xs) ++ empty v) b o) ∷ []) ∵
+        use1 𝓛 (‵ (places (R W) (full (words n xs)) b o) ⊛ ‵ (places (R W) (empty v) b after))
+        (cut W 𝓛 b (full (words n xs)) (empty v) o after last_word) $ split ! $ move ! (1 ∷ []) $
+        use1 𝓛 (‵ (places (R E) (empty j) b after) ⊛ ‵ (ways τ' m v b after) ⊛ ‵
+        (froom (ty_array τ' pad') b (o + c * size τ')))
+        (spare_slots j v pad' after (o + c * size τ') whole end) $ split3 ! $
+        -- [the empty slots; their ways; the spare room; the words]
+        move ! (3 ∷ 1 ∷ []) $
+        use2 𝓛 (‵ (places (R E) (full xs) b o) ⊛ ‵ (ways τ' m w b o))
+        (of_runs n w v xs o after long total at_after) $ split ! $ move ! (0 ∷ 2 ∷ []) $
+        use2 𝓛 (‵ (places (R E) (full xs ++ empty j) b o))
+        (glue E 𝓛 b (full xs) (empty j) o after last) $ move ! (1 ∷ 2 ∷ []) $ fjoin ! $
+        move ! (1 ∷ 0 ∷ []) $ done !

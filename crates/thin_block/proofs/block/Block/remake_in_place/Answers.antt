@@ -1,0 +1,16 @@
+-- The room that is wanted is no more than a word holds.
+use Rattle.std.proofs.Common.{arith}
+use Rattle.thin_block.proofs.SizesLemmas.{opened, fits_tells}
+use Rattle.thin_block.proofs.WordsLemmas.{words_told}
+use denote.Param.{param}
+use Rattle.thin_block.proofs.block.Block.remake_in_place.Goals as goal
+
+-- a capacity that fits is below 2 ^ 63, as many words are no more, and the header takes the room of
+-- at most two
+pub overflow_add-wanted : goal.overflow_add-wanted
+overflow_add-wanted g c =
+    let T = param 0 g.row.T in
+    let small = (fits_tells T c.args.cap (opened T c.args.cap c.requires.fits)).few in
+    let words = (words_told T g.row.M g.row.K c.requires.in_words).counts.few c.args.cap in
+    let most = c.requires.some.1 in
+    record { fits = omega (arith, c.div_ceil-wanted.ensures) }

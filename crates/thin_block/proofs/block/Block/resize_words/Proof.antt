@@ -1,0 +1,566 @@
+-- `resize_words` makes words of the items, moves the last words into the header's room, where the
+-- block is an array of words from its start, passes that to `resized`, and turns what it returns
+-- into a block of items again. Assumes `Logic`.
+use Rattle.std.proofs.Common.{◌≡◌, ℕ, ◌+◌, ◌-◌, ◌*◌, ◌^◌, ◌<◌, ◌≤◌, List, [], ◌∷◌, ◌++◌, length, true, refl, sym, ap, subst, ◌∙◌, arith, lit<, w64, Some, None, Option}
+use Rattle.std.specs.Prelude.{take, drop as rest}
+use Rattle.std.specs.Int.{div_ceil}
+use Rattle.std.proofs.lemmas.List.{take-append-drop, length-take, length-drop, length-append, length-map, length-replicate}
+use native.Mathlib.Nat.{mul_assoc}
+use mir.Syntax.{Ty, Fn, Body, Args, ty_int, ty_array, a_type, a_number, dcons, dnil}
+use mir.Raw.{raw as bare}
+use mir.Val.{Val, WT, vint, vptr, vcons, vnil}
+use mir.MapTy.{inst_fn}
+use base.Fraction.{full_share}
+use base.Logic.{SProp, ex, emp, id⊢}
+use base.Fml.{Fml, Lft, Share, ftrue, fsep, fat, froom, flft}
+use prog.Wp.{Env, WpFn}
+use contract.BorrowLft.{◌⊑◌, ⊑_meet, ⊑_static}
+use contract.Monad.{fact, fact_i}
+use contract.Running.{tables}
+use types.Kit.{Post as After, ‵, raw, ◌⊛◌, some as exists, pick, later, prop, at_ret, ◌$◌, ◌∵◌, !, qed, move, keep, drop, group, use0, use1, use2, use3, split, split3, join, regoal, rewrite, fsplit, await, feq_l, suffices, done}
+use types.Part.{whole, sub, agg}
+use types.Match.{live, vrt, in_variant}
+use types.Run.{stop, fld, lit, bin, init, look, load, size_word, of_opd, no_more, and_then, assigns, first, blocks, switches_on, exec, returns, enter}
+use types.ByLocal.{alloc_all, pass_all, free_all, look_at, get, get_in, get_tag, through, is, sets, sets_last, lands_as, env}
+use denote.Array.{Array}
+use denote.Builtin.{usize, unit}
+use denote.Memory.{part_at}
+use denote.RattleType.{RattleType, owns}
+use denote.Exit.{yes}
+use denote.Param.{arg, layout, param, number, bounded, ArrayAt}
+use denote.Param.Laws.{arg_laws, param_laws, array_at_laws}
+use denote.Laws.{Is, shows}
+use denote.Plain.{uint_in}
+use denote.RawPtr.{Ptr, RawPtr, block_ptr, lies_at}
+use denote.Shadow.{pure_i}
+use denote.Signature.{types_at, type_at}
+use denote.Steps.{peeks, nothing, only}
+use denote.Triple.Call.{calls_at}
+use denote.Triple.Spec.{triple_of}
+use denote.Triple.Walked.{walk_of, ends_at}
+use borrow.Table.OneValue.{part_out, part_in}
+use Rattle.core.specs.Allocator.{array_of, block_with_items}
+use Rattle.core.specs.Simd.{first_chunks}
+use Rattle.core.proofs.alloc.Calls.{Al, token, Goes-blank}
+use Rattle.core.proofs.alloc.Resizes.{Flagged, flagged}
+use Rattle.core.proofs.atomic.Steps.{fm}
+use Rattle.core.proofs.slots.Leases.{uncapped}
+use Rattle.core.specs.declared.result.Result.TheVariants.{Ok, Err}
+use Rattle.std_alloc.proofs.ResultValues.{ok_of, err_of}
+use Rattle.std.proofs.raw_atomic.Walks.{proved_at}
+use Rattle.std.specs.Mem.{type_size}
+use Rattle.std.specs.Align.{type_align}
+use Rattle.core.proofs.mem.Param.{El, R}
+use Rattle.thin_block.specs.Cost.{growing}
+use Rattle.thin_block.specs.Capacity.{block_bytes}
+use Rattle.thin_block.specs.Slots.{items_in, full, empty, laid, run}
+use Rattle.thin_block.specs.Ownership.{fits_block, places, frame, word_of, header_way, slots_way}
+use Rattle.thin_block.specs.Words.{runs_at}
+use Rattle.thin_block.proofs.SizesLemmas.{fits_tells, opened}
+use Rattle.thin_block.proofs.Walks.{slot_at, then_runs, out_of_block, after, head, inside, arm_body, says_all}
+use Rattle.thin_block.proofs.HeaderMemory.{Br, header, t, any_some, block_val, block_had, block_made}
+use Rattle.thin_block.proofs.SlotMemory.{sz, reach}
+use Rattle.thin_block.proofs.SlotsLemmas.{packed-carried}
+use Rattle.thin_block.proofs.Turning.{turn_out, turn_back, turn_up, turn_down, units_out, header_apart, header_whole}
+use Rattle.thin_block.proofs.WordsLemmas.{InWords, words_told}
+use Rattle.thin_block.proofs.WordsMemory.{word_el, words_made, words_long, chunks_long, words_in, words_joined, words_back}
+use Rattle.thin_block.proofs.ResizedCall.{Sized, Resizing, at_resizing, leaves, Resizing-goes, Resizing-gives}
+use Rattle.thin_block.proofs.in_place.resized.Met as resized_met
+use Rattle.thin_block.proofs.words.make_words.Met as make_met
+use Rattle.thin_block.specs.contracts.words.make_words as make
+use Rattle.thin_block.specs.Block.{seen}
+use Rattle.thin_block.proofs.Methods.{others, dropped, all_go, heard_all, blank}
+use Rattle.thin_block.specs.contracts.block.Block.resize_words.{ended, clauses}
+use Rattle.thin_block.specs.contracts.block.Block.resize_words.Key.{name as #self}
+use Rattle.thin_block.proofs.block.Block.resize_words.Statement.{statement}
+use Rattle.thin_block.proofs.block.Block.resize_words.Code as compiled
+
+pub resize_words_spec : {M : Type 1} → statement M
+resize_words_spec 𝓤 𝓛 𝓜 𝓡 wired T A m k LT LA fits_m fits_k g d dd met md =
+    let H = 𝓛.H in
+    let E : El = record { row = T; laws = LT } in
+    let W : El = word_el T LT m in
+    -- words as a call passes them: by their layout
+    let X : RattleType = arg (word_of (layout T) m) yes W.row in
+    let EX : El = record {
+      row = X;
+      laws = arg_laws (word_of (layout T) m) yes W.row W.laws refl;
+    } in
+    let Y : Al = record { row = A; laws = LA; g = g; d = d; drops = dd } in
+    let B : RattleType = Br E Y in
+    let Mr : RattleType = number m in
+    let Kr : RattleType = number k in
+    let args_MK : Args = bounded (a_type ∷ a_type ∷ a_number ∷ a_number ∷ [])
+    (T, (A, (Mr, (Kr, tt)))) (dcons d (dcons dd dnil)) in
+    let Arr : RattleType = ArrayAt (R W) (param 3 Kr) in
+    let En₀ = ended T A Mr Kr g d dd in
+    let ps = En₀.signature.params in
+    let c = clauses T A Mr Kr g d dd 𝓛 𝓜.mem 𝓡.returns in
+    let fn : Fn = inst_fn args_MK compiled.function in
+    let hs = dropped ps En₀.kept in
+    let 𝓣 = tables 𝓤 H 𝓜 𝓡 𝓡.env in
+    let C = 𝓣.C in
+    let Λ = 𝓣.Λ in
+    proved_at 𝓛 En₀ hs c 𝓜 𝓡 (
+      Goes-blank 𝓛 5 (slot_at 0 ps) En₀.kept.0 (λ κs x f. tt),
+      all_go 𝓛 (others ps) En₀.kept.1 (
+        (λ κs x f. refl),
+        (
+          (λ κs x f. refl),
+          (
+            (λ κs x f. refl),
+            (
+              (λ κs x f. refl),
+              ((λ κs x f. refl), ((λ κs x f. refl), ((λ κs x f. refl), tt))),
+            ),
+          ),
+        ),
+      ),
+    )
+    (#self args_MK) fn (compiled.unfolded 𝓤 H 𝓜 𝓡 wired (T, (A, (Mr, (Kr, tt)))) d dd) (λ z are.
+    let Post : Val → SProp 𝓤 = (walk_of 𝓛 En₀ hs c).post z in
+    let a = z.0.3 in
+    let vss = z.0.4 in
+    let Rt : RattleType = R E in
+    let Rw : RattleType = R W in
+    let ω : Ty = layout W.row in
+    let τ' : Ty = bare (layout T) in
+    let s : ℕ = sz W in
+    let κ : Lft = z.0.0.0 in
+    let q : Share = z.0.1.0 in
+    let κT : Lft = z.0.0.1.0 in
+    let qT : Share = z.0.1.1.0 in
+    let κA : Lft = z.0.0.1.1.0 in
+    let κM : Lft = z.0.0.1.1.1.0 in
+    let qM : Share = z.0.1.1.1.1.0 in
+    let x = a.0 in
+    let h = a.1.0.now in
+    let handle_at = a.1.0.ref_ptr in
+    let len : ℕ = a.1.1.0 in
+    let old : ℕ = a.1.1.1.0 in
+    let cap : ℕ = a.1.1.1.1.0 in
+    let count : ℕ = a.1.1.1.1.1.0 in
+    let held : ℕ = a.1.1.1.1.1.1.0 in
+    let wanted : ℕ = a.1.1.1.1.1.1.1.0 in
+    let Out : RattleType = type_at En₀.signature.result z.0.0 in
+    let V = Resizing EX Y 𝓛 𝓜.mem 𝓡.returns in
+    qed 𝓛 (((‵ (flft κ q) ⊛ ‵ (flft κT qT) ⊛ ‵ (flft κA z.0.1.1.1.0) ⊛ ‵ (flft κM qM) ⊛ ‵
+    (flft z.0.0.1.1.1.1.0 z.0.1.1.1.1.1.0) ⊛ ‵ ftrue) ⊛ ‵ (owns (types_at ps z.0.0) a vss))
+    ∷ raw ((c z.0.0 z.0.3).requires z.1) ∷ []) ∵ move ! (1 ∷ []) $
+    heard_all ! (_ ∷ _ ∷ _ ∷ _ ∷ _ ∷ _ ∷ _ ∷ _ ∷ _ ∷ _ ∷ _ ∷ _ ∷ _ ∷ _ ∷ _ ∷ []) (λ said.
+    let leT : κT ⊑ T.lives = said.0 in let leA = said.1.0 in let leM = said.1.1.0 in
+    let leL : κT ⊑ T.lives ++ [] = ⊑_meet κT T.lives [] leT (⊑_static κT) in
+    let leW : κT ⊑ W.row.lives = ⊑_meet κT (T.lives ++ []) (T.lives ++ []) leL leL in
+    let from = said.1.1.1.1.0 in let in_words = said.1.1.1.1.1.0 in
+    let packed = said.1.1.1.1.1.1.0 in let len_is : len ≡ x.len = said.1.1.1.1.1.1.1.0 in
+    let old_is : old ≡ length x.slots = said.1.1.1.1.1.1.1.1.0 in
+    let enough : len ≤ cap = said.1.1.1.1.1.1.1.1.1.0 in
+    let small = said.1.1.1.1.1.1.1.1.1.1.0 in
+    let count_is : count * m ≡ len = said.1.1.1.1.1.1.1.1.1.1.1.0 in
+    let held_is : held ≡ k + div_ceil old m = said.1.1.1.1.1.1.1.1.1.1.1.1.0 in
+    let wanted_is : wanted ≡ k + div_ceil cap m = said.1.1.1.1.1.1.1.1.1.1.1.1.1.0 in
+    let room : k ≤ count = said.1.1.1.1.1.1.1.1.1.1.1.1.1.1 in
+    -- the numbers
+    let hd : InWords (type_size Rt) (type_align Rt) m k = words_told Rt m k in_words in
+    let sixteen : k * s ≡ 16 = ap (λ (n : ℕ). k * n) hd.size ∙ hd.room in
+    let items : List T.Denot = items_in x.slots in
+    let all : len ≡ length items = len_is ∙ packed.len in
+    let whole_words : length items ≡ count * m = sym (count_is ∙ all) in
+    let counted : length x.slots ≡ length items + (length x.slots - length items) =
+    ap length packed.row ∙ (length-append (full items) (empty (length x.slots - length items))
+    ∙ (λ i. length-map items Some i
+    + length-replicate {A = Option T.Denot} (length x.slots - length items) None i)) in
+    let within : len ≤ old = omega arith in
+    let any : 0 < len = (let least = hd.counts.least count in let some = hd.any in omega arith) in
+    let j : ℕ = old - len in
+    let j' : ℕ = cap - x.len in
+    let w : ℕ = div_ceil old m in
+    let w' : ℕ = div_ceil cap m in
+    let count_fits : count ≤ w = hd.counts.holds count old (omega arith) in
+    let count_fits' : count ≤ w' = hd.counts.holds count cap (omega arith) in
+    let v : ℕ = w - count in
+    let v' : ℕ = w' - count in
+    let fill : w ≡ v + count = omega arith in
+    let fill' : w' ≡ v' + count = omega arith in
+    let filled : w ≡ count + v = omega arith in
+    let filled' : w' ≡ count + v' = omega arith in
+    let slots_are : old ≡ length items + j = omega arith in
+    let slots_are' : cap ≡ length items + j' = omega arith in
+    let row : x.slots ≡ full items ++ empty j = packed.row
+    ∙ (λ i. full items ++ empty (let e : length x.slots - length items ≡ j = omega arith in e i)) in
+    -- the words
+    let xss : List (List T.Denot) = first_chunks m count items in
+    let ws : List W.row.Denot = words_made T m count items in
+    let many : length ws ≡ count = words_long T m count items in
+    let xs : List W.row.Denot = take (count - k) ws in
+    let ys : List W.row.Denot = rest (count - k) ws in
+    let long : length ys ≡ k = omega (arith, length-drop (count - k) ws) in
+    let parted : count ≡ length xs + k = omega (arith, length-take (count - k) ws) in
+    let joined : ws ≡ xs ++ ys = sym (take-append-drop (count - k) ws) in
+    split ! $ split3 ! $ move ! (2 ∷ []) $ split3 ! $ move ! (5 ∷ []) $ fsplit ! $
+    block_had E Y ! x vss.0 (λ b o at told fits.
+    -- [the header; the slots; the other parameters; the tokens: A's; M's; the last one; the
+    -- handle's; T's]
+    let here : Ptr = block_ptr b o in
+    let there : ℕ = count * s + o in
+    let same_bytes : count * s ≡ len * type_size Rt = ap (λ (n : ℕ). count * n) hd.size
+    ∙ (sym (mul_assoc count m (type_size Rt)) ∙ ap (λ (n : ℕ). n * type_size Rt) count_is) in
+    let near : len * type_size Rt < 2 ^ 63 = reach Rt len (length x.slots) fits (omega arith) in
+    let short : count * s < 2 ^ 64 = omega arith in
+    let fits_cap : fits_block Rt cap ≡ true = opened Rt cap small in
+    let told_cap = fits_tells Rt cap fits_cap in
+    let told_old = fits_tells Rt old
+    (subst (λ (n : ℕ). fits_block Rt n ≡ true) (sym old_is) fits) in
+    let tok : Ty → Ptr → Fml = token Y h in
+    let words : WT (block_val here) = (tt, (tt, (tt, tt))) in
+    let fits_old : fits_block Rt old ≡ true =
+    subst (λ (n : ℕ). fits_block Rt n ≡ true) (sym old_is) fits in
+    rewrite ! 0 (λ (u : Option A.Denot). ‵ (header (t E Y) Rt x.len (length x.slots) u b o)) from
+    refl $
+    rewrite ! 0 (λ (n : ℕ). ‵ (frame tok Rt x.len n b o)) (sym old_is) refl $
+    use1 𝓛 (‵ (froom (ty_array ω k) b o) ⊛ ‵ (slots_way τ' m w old b (o + 16)) ⊛ ‵
+    (tok (array_of Rw held) here))
+    (header_apart 𝓛 T LT b m k in_words o tok x.len old held held_is) $ split3 ! $
+    move ! (3 ∷ 1 ∷ []) $
+    rewrite ! 0 (λ (l : List (Option T.Denot)). ‵ (places Rt l b (o + 16))) row refl $
+    use2 𝓛 (‵ (runs_at Rt (param 1 Mr) xss b (o + 16)) ⊛ ‵
+    (places Rw (empty v) b (count * s + (o + 16))))
+    (words_in 𝓛 T LT m k b hd items count j v w old (o + 16) whole_words slots_are fill
+    (hd.counts.covers old)) $ split ! $ move ! (4 ∷ []) $ fsplit ! $ fsplit ! $ drop ! $
+    keep ! (2 ∷ 3 ∷ 4 ∷ 5 ∷ 0 ∷ 9 ∷ 10 ∷ 6 ∷ 7 ∷ 8 ∷ []) $
+    -- [the items; the empty slots; the header's room; the right to give it back; the handle's `&`;
+    -- its token; T's; A's; M's; the last one]
+    regoal ! (λ (us : List Val). prop (WpFn 𝓤 H C Λ fn us Post))
+    (λ i. told i ++ (are.1.0.0 i ++ (are.1.1.0.0 i ++ (are.1.1.1.0.0 i ++ (are.1.1.1.1.0.0 i
+    ++ (are.1.1.1.1.1.0.0 i ++ (are.1.1.1.1.1.1.0.0 i ++ (are.1.1.1.1.1.1.1.0.0 i ++ []))))))))
+    refl $
+    enter ! C Λ fn (block_val here ∷ vptr handle_at.0 handle_at.1 ∷ vint w64 len ∷ vint w64
+    old ∷ vint w64 cap ∷ vint w64 count ∷ vint w64 held ∷ vint w64 wanted ∷ []) Post $
+    alloc_all ! (λ l. pass_all ! refl (
+      (tt, (tt, (tt, (tt, tt)))),
+      (
+        (tt, tt),
+        (
+          (tt, record { fits = are.1.1.0.1 }),
+          (
+            (tt, record { fits = are.1.1.1.0.1 }),
+            (
+              (tt, record { fits = are.1.1.1.1.0.1 }),
+              (
+                (tt, record { fits = are.1.1.1.1.1.0.1 }),
+                (
+                  (tt, record { fits = are.1.1.1.1.1.1.0.1 }),
+                  ((tt, record { fits = are.1.1.1.1.1.1.1.0.1 }), tt),
+                ),
+              ),
+            ),
+          ),
+        ),
+      ),
+    ) $
+    let En : Env 𝓤 H = env fn.locals l in
+    sets ! (of_opd ! (get_in ! (fld ! refl (stop !)) (sub ! 0 refl (whole !)))) refl (tt, tt) $
+    first ! $ blocks ! $
+    sets ! (is ! (bin ! (get ! refl) (lit ! tt) tt)
+    (ap (vptr b) (let plus : 16 + o ≡ o + 16 = omega arith in plus))) refl (tt, tt) $
+    sets ! (of_opd ! (get ! refl)) refl (tt, tt) $
+    move ! (0 ∷ 6 ∷ 8 ∷ []) $
+    -- [the items; T's token; M's; ..]
+    let G = triple_of 𝓛 (make.signature T Mr) (make.spec T Mr 𝓛 𝓜.mem 𝓡.returns) in
+    let y₀ : G.Ghost = (
+      (
+        (κT, (κM, tt)),
+        (qT, (qM, tt)),
+        tt,
+        (block_ptr b (o + 16), (count, tt)),
+        (vptr b (o + 16) ∷ [], (vint w64 count ∷ [], tt)),
+      ),
+      xss,
+    ) in
+    let Counted : Type 0 = length xss ≡ count in
+    let Dense : Type 0 = s ≡ m * type_size Rt in
+    let Short : Type 0 = count * (m * type_size Rt) < 2 ^ 64 in
+    let shorter : Short = subst (λ (n : ℕ). count * n < 2 ^ 64) hd.size short in
+    use0 𝓛 (raw (fact 𝓤 Short)) (fact_i 𝓤 Short (emp 𝓤) shorter) $ join ! $
+    use0 𝓛 (raw (fact 𝓤 Dense)) (fact_i 𝓤 Dense (emp 𝓤) hd.size) $ join ! $
+    use0 𝓛 (raw (fact 𝓤 Counted)) (fact_i 𝓤 Counted (emp 𝓤) (chunks_long m count items)) $ join ! $
+    use0 𝓛 (raw (fact 𝓤 (κM ⊑ []))) (fact_i 𝓤 (κM ⊑ []) (emp 𝓤) leM) $ join ! $
+    use0 𝓛 (raw (fact 𝓤 (κT ⊑ T.lives))) (fact_i 𝓤 (κT ⊑ T.lives) (emp 𝓤) leT) $ join ! $
+    pure_i ! (owns (RawPtr ∷ usize ∷ []) y₀.0.3 y₀.0.4) (tt, ((tt, tt), tt))
+    (refl, ((refl, are.1.1.1.1.1.0.1), tt)) $
+    nothing ! $ move ! (4 ∷ 0 ∷ []) $ join ! $ move ! (3 ∷ 0 ∷ []) $ join ! $ join ! $ join ! $
+    use1 𝓛 (raw (G.pre y₀)) (id⊢ 𝓤 _) $
+    calls_at ! (fm 𝓛 𝓜 𝓡) G
+    (make_met.met 𝓤 𝓛 𝓜 𝓡 (compiled.calls-thin_block::words::make_words 𝓡.env wired) T m LT fits_m)
+    y₀ (and_then ! (get ! refl) (and_then ! (get ! refl) (no_more !))) (λ v₀.
+    use1 𝓛 (later (exists
+    (λ (r : Unit {0}). ((‵ (flft κT qT) ⊛ ‵ (flft κM qM) ⊛ ‵ ftrue) ⊛ ‵ (unit.own_val r (v₀ ∷ [])))
+    ⊛ exists (λ (us : Unit {0} × (Unit {0} × Unit {0})). ‵ (fsep ftrue (fsep ftrue ftrue)) ⊛ ‵
+    (places Rw (full ws) b (o + 16)))))) (id⊢ 𝓤 _) $
+    await ! tt $ pick ! (λ r₀. split ! $ split ! $ move ! (1 ∷ []) $ feq_l ! (λ is_unit.
+    move ! (1 ∷ []) $ pick ! (λ us₀. split ! $ drop ! $
+    lands_as ! (ap only is_unit) refl (tt, tt) $ move ! (0 ∷ 2 ∷ []) $
+    -- [the words; the empty ones; T's and M's tokens; the header's room; the right; the handle's
+    -- `&`; its token; A's; the last one]
+    use2 𝓛 (‵ (places Rw (full ws ++ empty v) b (o + 16)))
+    (words_joined 𝓛 T LT m k b hd items count j v w old (o + 16) whole_words slots_are fill
+    (hd.counts.covers old)) $
+    rewrite ! 0 (λ (l : List W.row.Denot). ‵ (places Rw (full l ++ empty v) b (o + 16))) joined
+    refl $
+    use1 𝓛 (‵ (places Rw (full xs) b (o + 16)) ⊛ ‵ (part_at (Array Rw k) full_share ys b there) ⊛ ‵
+    (places Rw (empty v) b (k * s + there))) (turn_out 𝓛 W b k sixteen o xs ys long count v parted)
+    $ split3 ! $ move ! (3 ∷ []) $ split3 ! $ move ! (2 ∷ []) $ drop ! $
+    -- [T's token; M's; the others; the last words; the empty ones; the header's room; the right;
+    -- the handle's `&`; its token; A's; the last one]
+    move ! (1 ∷ 10 ∷ []) $ join ! $ move ! (9 ∷ 0 ∷ []) $ join ! $
+    move ! (3 ∷ 2 ∷ 4 ∷ 5 ∷ 6 ∷ 7 ∷ 8 ∷ 1 ∷ 0 ∷ []) $
+    -- [the last words; the others; the empty ones; the header's room; the right to give it back;
+    -- the handle's `&`; its token; the items' token; the other tokens]
+    use1 𝓛 (exists (λ (u : Val). ‵ (fat full_share (ty_array ω k) b there u) ⊛ ‵
+    (Arr.own_val ys (u ∷ [])))) (part_out 𝓛 (Array Rw k) refl full_share ys b there) $
+    pick ! (λ u₁. split ! $
+    move ! (1 ∷ []) $ peeks ! Arr (Is Arr) (shows 𝓛 Arr) ys (u₁ ∷ []) (λ is_u.
+    let good = (((array_at_laws 3 Rw (param_laws 0 W.row W.laws) k).lawful 𝓛).typed ys (u₁ ∷ [])
+    is_u).0 in
+    sets ! (of_opd ! (get ! refl)) refl (tt, tt) $
+    sets ! (of_opd ! (get ! refl)) refl (tt, tt) $
+    sets ! (is ! (bin ! (get ! refl) (size_word !)
+    (record { fits = subst (λ (n : ℕ). n < 2 ^ 64) (sym (uncapped count s short)) short }))
+    (ap (vint w64) (uncapped count s short))) refl (tt, record { fits = short }) $
+    sets ! (bin ! (get ! refl) (get ! refl) tt) refl (tt, tt) $
+    sets ! (of_opd ! (get ! refl)) refl (tt, tt) $
+    move ! (1 ∷ []) $
+    sets ! (of_opd ! (load ! (through ! refl (stop !)) (look ! 0 refl))) refl good $
+    assigns ! (of_opd ! (get ! refl)) (through ! refl (stop !)) (init ! 4 refl good) $
+    -- [the array's bits, where they were; what it owns; the others; the empty words; its bits, in
+    -- the header's room; the right; the handle's `&`; the tokens]
+    use1 𝓛 (‵ (froom (ty_array ω k) b there)) (𝓛.laws.at_room (ty_array ω k) b there u₁) $
+    move ! (4 ∷ 1 ∷ []) $ use2 𝓛 (‵ (part_at (Array Rw k) full_share ys b o))
+    (part_in 𝓛 (Array Rw k) refl full_share ys b o u₁) $
+    -- [the last words, in the header's room; their room; the others; the empty words; the right;
+    -- the handle's `&`; the tokens]
+    move ! (0 ∷ 2 ∷ 1 ∷ 3 ∷ 4 ∷ []) $ group ! 5 $
+    use1 𝓛 (‵ (block_with_items tok Rw here count held (ys ++ xs)))
+    (turn_up 𝓛 W b k sixteen o xs ys long count v parted tok w held filled held_is) $
+    let fits_room : (c n : ℕ) → n ≡ k + div_ceil c m → block_bytes (type_size Rt) (type_align Rt) c
+    < 2 ^ 63 → n * s < 2 ^ 63 = λ c n is small. subst (λ (i : ℕ). i < 2 ^ 63)
+    (sym (ap (λ (i : ℕ). i * s) is ∙ (ap (λ (i : ℕ). (k + div_ceil c m) * i) hd.size
+    ∙ hd.bytes_are c))) small in
+    let y = at_resizing EX Y 𝓛 𝓜.mem 𝓡.returns κ κT κA q qT z.0.1.1.1.0 z.0.2.0 handle_at h b o
+    count held wanted (ys ++ xs) in
+    let left = leaves EX Y 𝓛 𝓜.mem 𝓡.returns κ κT κA q qT z.0.1.1.1.0 z.0.2.0 handle_at h b o count
+    held wanted (ys ++ xs) in
+    let sizes : Sized EX count held wanted = (
+      omega arith,
+      (
+        omega arith,
+        (fits_room old held held_is told_old.short, fits_room cap wanted wanted_is told_cap.short),
+      ),
+    ) in
+    sets ! (of_opd ! (get ! refl)) refl (tt, tt) $
+    move ! (4 ∷ []) $ split ! $ move ! (2 ∷ 3 ∷ 4 ∷ 5 ∷ 0 ∷ []) $ group ! 5 $
+    use1 𝓛 (raw (V.pre y))
+    (Resizing-goes EX Y 𝓛 𝓜.mem 𝓡.returns κ κT κA q qT z.0.1.1.1.0 z.0.2.0 handle_at h b o count
+    held wanted (ys ++ xs) leW leA sizes are.1.1.1.1.1.0.1 are.1.1.1.1.1.1.0.1
+    are.1.1.1.1.1.1.1.0.1) $
+    calls_at ! (fm 𝓛 𝓜 𝓡) V
+    (resized_met.met 𝓤 𝓛 𝓜 𝓡 (compiled.calls-thin_block::in_place::resized 𝓡.env wired) X A EX.laws
+    LA g d dd met md) y
+    (and_then ! (get ! refl) (and_then ! (get ! refl) (and_then ! (get ! refl)
+    (and_then ! (get ! refl) (and_then ! (get ! refl) (no_more !)))))) (λ u.
+    use1 𝓛 (later (raw (ex 𝓤 (Flagged 𝓛 left u)) ⊛ ‵ (flft κ q) ⊛ ‵ (flft κT qT) ⊛ ‵
+    (flft κA z.0.1.1.1.0)))
+    (Resizing-gives EX Y 𝓛 𝓜.mem 𝓡.returns κ κT κA q qT z.0.1.1.1.0 z.0.2.0 handle_at h b o count
+    held wanted (ys ++ xs) u) $ await ! tt $ split ! $ move ! (1 ∷ []) $ split3 ! $
+    -- [the handle's token; T's; A's; what came back; the other tokens]
+    move ! (2 ∷ 4 ∷ []) $ join ! $ move ! (2 ∷ 0 ∷ []) $ join ! $ move ! (1 ∷ 0 ∷ []) $ join ! $
+    move ! (1 ∷ []) $
+    -- [what came back; the tokens]
+    let inner : Body = inside (head (after 1 fn.body)) in
+    let both : Body = head (after 12 inner) in
+    let Last : After 𝓤 H = out_of_block 𝓛
+    (then_runs 𝓛 C Λ En (after 2 fn.body) (at_ret En Post)) in
+    let Then : After 𝓤 H = then_runs 𝓛 C Λ En (after 13 inner) Last in
+    flagged ! u left
+    (λ b' o' e.
+    let p : Ptr = block_ptr b' o' in
+    let there' : ℕ = count * s + o' in
+    let news : List (Option T.Denot) = full items ++ empty j' in
+    let some_more : length news ≡ cap =
+    let front = length-append (full items) (empty {T = T.Denot} j') in
+    let first_ones = length-map items Some in
+    let bare_ones = length-replicate {A = Option T.Denot} j' None in
+    omega arith in
+    let y' : B.Denot =
+    record {
+      at = p;
+      item = record {};
+      handle = record {};
+      slots = news;
+      len = x.len;
+      alloc = Some h;
+      cost = growing x.len x.cost;
+      sound = (omega arith, any_some news (omega arith));
+    } in
+    let changes : seen y' ≡ record (seen y') { slots = laid 0 (run 0 x.len x.slots) (empty cap) } =
+    ap (λ (l : List (Option T.Denot)). record (seen y') { slots = l })
+    (sym (packed-carried x.slots x.len packed cap)) in
+    lands_as ! e refl (tt, (record { fits = lit< tt }, (tt, tt))) $
+    first ! $ switches_on ! (get_tag ! (vrt ! refl (fld ! refl (stop !))) (whole !)) $
+    exec ! C Λ En (arm_body 0 both) Then $
+    sets ! (of_opd ! (get_in ! (vrt ! refl (fld ! refl (stop !)))
+    (in_variant ! 0 0 refl refl (whole !)))) refl (tt, tt) $
+    sets ! (of_opd ! (get ! refl)) refl (tt, tt) $
+    sets ! (is ! (bin ! (get ! refl) (size_word !)
+    (record { fits = subst (λ (n : ℕ). n < 2 ^ 64) (sym (uncapped count s short)) short }))
+    (ap (vint w64) (uncapped count s short))) refl (tt, record { fits = short }) $
+    sets ! (bin ! (get ! refl) (get ! refl) tt) refl (tt, tt) $
+    sets ! (of_opd ! (get ! refl)) refl (tt, tt) $
+    use1 𝓛 (‵ (part_at (Array Rw k) full_share ys b' o') ⊛ ‵ (places Rw (full xs) b' (o' + 16))
+    ⊛ ‵ (froom (ty_array ω k) b' there') ⊛ ‵ (places Rw (empty v') b' (k * s + there')) ⊛ ‵
+    (tok (array_of Rw wanted) (block_ptr b' o')))
+    (turn_down 𝓛 W b' k sixteen o' xs ys long count v' parted tok w' wanted filled' wanted_is) $
+    split3 ! $ move ! (2 ∷ []) $ split3 ! $ move ! (3 ∷ []) $
+    use1 𝓛 (exists (λ (u : Val). ‵ (fat full_share (ty_array ω k) b' o' u) ⊛ ‵
+    (Arr.own_val ys (u ∷ [])))) (part_out 𝓛 (Array Rw k) refl full_share ys b' o') $
+    pick ! (λ u₂. split ! $
+    move ! (1 ∷ []) $ peeks ! Arr (Is Arr) (shows 𝓛 Arr) ys (u₂ ∷ []) (λ is_u₂.
+    let good' = (((array_at_laws 3 Rw (param_laws 0 W.row W.laws) k).lawful 𝓛).typed ys (u₂ ∷ [])
+    is_u₂).0 in
+    move ! (1 ∷ []) $
+    -- [the array's bits; what it owns; its room; the empty words; the right; the others; the
+    -- tokens]
+    sets ! (of_opd ! (load ! (through ! refl (stop !)) (look ! 0 refl))) refl good' $
+    assigns ! (of_opd ! (get ! refl)) (through ! refl (stop !)) (init ! 2 refl good') $
+    use1 𝓛 (‵ (froom (ty_array ω k) b' o')) (𝓛.laws.at_room (ty_array ω k) b' o' u₂) $
+    use1 𝓛 (‵ (froom (ty_int w64) b' o') ⊛ ‵ (froom (ty_int w64) b' (o' + 8)) ⊛ ‵
+    (header_way τ' m k b' o')) (units_out 𝓛 T LT b' m k in_words o') $ split3 ! $
+    rewrite ! 1 (λ (n : ℕ). ‵ (froom (ty_int w64) b' n))
+    (let turned : o' + 8 ≡ 8 + o' = omega arith in turned) refl $
+    sets ! (of_opd ! (get ! refl)) refl (tt, tt) $
+    assigns ! (of_opd ! (get ! refl)) (through ! refl (stop !))
+    (init ! 0 refl (tt, record { fits = are.1.1.1.1.0.1 })) $
+    sets ! (bin ! (get ! refl) (lit ! tt) tt) refl (tt, tt) $
+    assigns ! (of_opd ! (get ! refl)) (through ! refl (stop !))
+    (init ! 1 refl (tt, record { fits = are.1.1.0.1 })) $
+    sets ! (agg ! (no_more !)) refl (tt, tt) $
+    sets ! (agg ! (no_more !)) refl (tt, tt) $
+    sets ! (agg ! (and_then ! (get ! refl)
+    (and_then ! (get ! refl) (and_then ! (get ! refl) (no_more !))))) refl (tt, words) $
+    sets_last ! (agg ! (and_then ! (lit ! tt) (and_then ! (get ! refl) (no_more !)))) refl
+    (tt, (record { fits = lit< tt }, (words, tt))) $
+    exec ! C Λ En (after 13 inner) Last $
+    sets_last ! (of_opd ! (get ! refl)) refl (tt, (record { fits = lit< tt }, (words, tt))) $
+    exec ! C Λ En (after 2 fn.body) (at_ret En Post) $
+    sets ! (of_opd ! (get ! refl)) refl (tt, (record { fits = lit< tt }, (words, tt))) $
+    returns ! (look_at ! 0 refl) $ free_all ! refl $
+    -- [the two words; the header's way; what the array owns; its bits; the empty words; the right;
+    -- the others; the tokens]
+    rewrite ! 1 (λ (n : ℕ). ‵ (fat full_share (ty_int w64) b' n (vint w64 len)))
+    (let turned : 8 + o' ≡ o' + 8 = omega arith in turned) refl $
+    use1 𝓛 (‵ (lies_at usize full_share (block_ptr b' o') cap))
+    (uint_in 𝓛 full_share w64 cap b' o') $
+    move ! (1 ∷ []) $
+    use1 𝓛 (‵ (lies_at usize full_share (block_ptr b' (o' + 8)) len))
+    (uint_in 𝓛 full_share w64 len b' (o' + 8)) $ move ! (4 ∷ 3 ∷ []) $
+    use2 𝓛 (‵ (part_at (Array Rw k) full_share ys b' there'))
+    (part_in 𝓛 (Array Rw k) refl full_share ys b' there' u₂) $ move ! (6 ∷ 0 ∷ 4 ∷ []) $
+    use3 𝓛 (‵ (places Rw (full (xs ++ ys) ++ empty v') b' (o' + 16)))
+    (turn_back 𝓛 W b' k sixteen o' xs ys long count v' parted) $
+    rewrite ! 0 (λ (l : List W.row.Denot). ‵ (places Rw (full l ++ empty v') b' (o' + 16)))
+    (sym joined) refl $
+    use1 𝓛 (‵ (places Rt news b' (o' + 16)) ⊛ ‵ (slots_way τ' m w' cap b' (o' + 16)))
+    (words_back 𝓛 T LT m k b' hd items count j' v' w' cap (o' + 16) whole_words slots_are' fill'
+    (hd.counts.covers cap)) $ split ! $
+    -- [the slots; their way; the length; the capacity; the header's way; the right; the tokens]
+    move ! (3 ∷ 2 ∷ 4 ∷ 1 ∷ 5 ∷ []) $ group ! 5 $
+    use1 𝓛 (‵ (frame tok Rt len cap b' o'))
+    (header_whole 𝓛 T LT b' m k in_words o' tok len cap wanted wanted_is fits_cap) $
+    rewrite ! 0 (λ (n : ℕ). ‵ (frame tok Rt n cap b' o')) len_is refl $
+    rewrite ! 0 (λ (n : ℕ). ‵ (frame tok Rt x.len n b' o')) (sym some_more) refl $
+    block_made E Y ! y' b' o' refl $
+    use1 𝓛 (‵ (Out.own_val (Ok y') (live 0 (vcons (block_val p) vnil) ∷ [])))
+    (ok_of 𝓛 B B y' (block_val p)) $
+    blank ! 8 $ move ! (0 ∷ 1 ∷ []) $ join ! $ move ! (1 ∷ 0 ∷ []) $ join ! $
+    suffices ! _ (ends_at 𝓛 En₀ hs c z (live 0 (vcons (block_val p) vnil)) (Ok y')
+    (tt, (tt, (tt, (tt, (tt, (tt, (tt, (tt, tt))))))))
+    (tt, (tt, (tt, (tt, (tt, (tt, (tt, (tt, tt))))))))) $
+    says_all ! (_ ∷ _ ∷ []) (changes, tt) $ done !)))
+    (λ e.
+    lands_as ! e refl (tt, (record { fits = lit< tt }, (tt, tt))) $
+    first ! $ switches_on ! (get_tag ! (vrt ! refl (fld ! refl (stop !))) (whole !)) $
+    exec ! C Λ En (arm_body 1 both) Then $
+    sets ! (of_opd ! (get_in ! (vrt ! refl (fld ! refl (stop !)))
+    (in_variant ! 1 0 refl refl (whole !)))) refl (tt, tt) $
+    use1 𝓛 (‵ (part_at (Array Rw k) full_share ys b o) ⊛ ‵ (places Rw (full xs) b (o + 16))
+    ⊛ ‵ (froom (ty_array ω k) b there) ⊛ ‵ (places Rw (empty v) b (k * s + there)) ⊛ ‵
+    (tok (array_of Rw held) (block_ptr b o)))
+    (turn_down 𝓛 W b k sixteen o xs ys long count v parted tok w held filled held_is) $
+    split3 ! $ move ! (2 ∷ []) $ split3 ! $ move ! (3 ∷ []) $
+    use1 𝓛 (exists (λ (u : Val). ‵ (fat full_share (ty_array ω k) b o u) ⊛ ‵
+    (Arr.own_val ys (u ∷ [])))) (part_out 𝓛 (Array Rw k) refl full_share ys b o) $
+    pick ! (λ u₂. split ! $
+    move ! (1 ∷ []) $ peeks ! Arr (Is Arr) (shows 𝓛 Arr) ys (u₂ ∷ []) (λ is_u₂.
+    let good' = (((array_at_laws 3 Rw (param_laws 0 W.row W.laws) k).lawful 𝓛).typed ys (u₂ ∷ [])
+    is_u₂).0 in
+    move ! (1 ∷ []) $
+    -- [the array's bits; what it owns; its room; the empty words; the right; the others; the
+    -- tokens]
+    sets ! (of_opd ! (load ! (through ! refl (stop !)) (look ! 0 refl))) refl good' $
+    assigns ! (of_opd ! (get ! refl)) (through ! refl (stop !)) (init ! 2 refl good') $
+    use1 𝓛 (‵ (froom (ty_array ω k) b o)) (𝓛.laws.at_room (ty_array ω k) b o u₂) $
+    use1 𝓛 (‵ (froom (ty_int w64) b o) ⊛ ‵ (froom (ty_int w64) b (o + 8)) ⊛ ‵
+    (header_way τ' m k b o)) (units_out 𝓛 T LT b m k in_words o) $ split3 ! $
+    rewrite ! 1 (λ (n : ℕ). ‵ (froom (ty_int w64) b n))
+    (let turned : o + 8 ≡ 8 + o = omega arith in turned) refl $
+    assigns ! (of_opd ! (get ! refl)) (through ! refl (stop !))
+    (init ! 0 refl (tt, record { fits = are.1.1.1.0.1 })) $
+    sets ! (bin ! (get ! refl) (lit ! tt) tt) refl (tt, tt) $
+    assigns ! (of_opd ! (get ! refl)) (through ! refl (stop !))
+    (init ! 1 refl (tt, record { fits = are.1.1.0.1 })) $
+    sets ! (agg ! (no_more !)) refl (tt, tt) $
+    sets ! (agg ! (no_more !)) refl (tt, tt) $
+    sets ! (agg ! (and_then ! (get ! refl)
+    (and_then ! (get ! refl) (and_then ! (get ! refl) (no_more !))))) refl (tt, words) $
+    sets_last ! (agg ! (and_then ! (lit ! tt) (and_then ! (get ! refl) (no_more !)))) refl
+    (tt, (record { fits = lit< tt }, (words, tt))) $
+    exec ! C Λ En (after 13 inner) Last $
+    sets_last ! (of_opd ! (get ! refl)) refl (tt, (record { fits = lit< tt }, (words, tt))) $
+    exec ! C Λ En (after 2 fn.body) (at_ret En Post) $
+    sets ! (of_opd ! (get ! refl)) refl (tt, (record { fits = lit< tt }, (words, tt))) $
+    returns ! (look_at ! 0 refl) $ free_all ! refl $
+    -- [the two words; the header's way; what the array owns; its bits; the empty words; the right;
+    -- the others; the tokens]
+    rewrite ! 1 (λ (n : ℕ). ‵ (fat full_share (ty_int w64) b n (vint w64 len)))
+    (let turned : 8 + o ≡ o + 8 = omega arith in turned) refl $
+    use1 𝓛 (‵ (lies_at usize full_share (block_ptr b o) old)) (uint_in 𝓛 full_share w64 old b o) $
+    move ! (1 ∷ []) $
+    use1 𝓛 (‵ (lies_at usize full_share (block_ptr b (o + 8)) len))
+    (uint_in 𝓛 full_share w64 len b (o + 8)) $ move ! (4 ∷ 3 ∷ []) $
+    use2 𝓛 (‵ (part_at (Array Rw k) full_share ys b there))
+    (part_in 𝓛 (Array Rw k) refl full_share ys b there u₂) $ move ! (6 ∷ 0 ∷ 4 ∷ []) $
+    use3 𝓛 (‵ (places Rw (full (xs ++ ys) ++ empty v) b (o + 16)))
+    (turn_back 𝓛 W b k sixteen o xs ys long count v parted) $
+    rewrite ! 0 (λ (l : List W.row.Denot). ‵ (places Rw (full l ++ empty v) b (o + 16)))
+    (sym joined) refl $
+    use1 𝓛 (‵ (places Rt (full items ++ empty j) b (o + 16)) ⊛ ‵
+    (slots_way τ' m w old b (o + 16)))
+    (words_back 𝓛 T LT m k b hd items count j v w old (o + 16) whole_words slots_are fill
+    (hd.counts.covers old)) $ split ! $
+    -- [the slots; their way; the length; the capacity; the header's way; the right; the tokens]
+    move ! (3 ∷ 2 ∷ 4 ∷ 1 ∷ 5 ∷ []) $ group ! 5 $
+    use1 𝓛 (‵ (frame tok Rt len old b o))
+    (header_whole 𝓛 T LT b m k in_words o tok len old held held_is fits_old) $
+    rewrite ! 0 (λ (n : ℕ). ‵ (frame tok Rt n old b o)) len_is refl $
+    rewrite ! 0 (λ (n : ℕ). ‵ (frame tok Rt x.len n b o)) old_is refl $
+    rewrite ! 0 (λ (u : Option A.Denot). ‵ (header (t E Y) Rt x.len (length x.slots) u b o))
+    (sym from) refl $
+    rewrite ! 1 (λ (l : List (Option T.Denot)). ‵ (places Rt l b (o + 16))) (sym row) refl $
+    block_made E Y ! x b o at $
+    use1 𝓛 (‵ (Out.own_val (Err x) (live 1 (vcons (block_val here) vnil) ∷ [])))
+    (err_of 𝓛 B B x (block_val here)) $
+    blank ! 8 $ move ! (0 ∷ 1 ∷ []) $ join ! $ move ! (1 ∷ 0 ∷ []) $ join ! $
+    suffices ! _ (ends_at 𝓛 En₀ hs c z (live 1 (vcons (block_val here) vnil)) (Err x)
+    (tt, (tt, (tt, (tt, (tt, (tt, (tt, (tt, tt))))))))
+    (tt, (tt, (tt, (tt, (tt, (tt, (tt, (tt, tt))))))))) $
+    says_all ! (_ ∷ _ ∷ []) (tt, refl) $ done !))))))))))))))

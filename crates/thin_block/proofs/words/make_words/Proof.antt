@@ -1,0 +1,337 @@
+-- `make_words` reads the items of each word and writes the word where they lay, from the first on.
+-- Assumes `Logic`.
+use mathlib.Core.Path.{◌≡◌, refl, sym, ap, ◌∙◌}
+use mathlib.Core.List.{List, [], ◌∷◌, map}
+use mathlib.Core.WellFounded.InvImage
+use Prim.Native.Nat.{ℕ, suc, ◌+◌, ◌-◌, ◌*◌, ◌<◌, ◌^◌}
+use native.Mathlib.Nat.{suc-mul, zero-mul}
+use native.Mathlib.Omega.{arith}
+use seplogic.Ra.Ura.{Ura}
+use lib.Dec.{lit<, ltb→lt, nltb→le}
+use lib.ListN.{length}
+use lib.WfN.{lt-wf_rel}
+use base.Fraction.{full_share}
+use mir.Syntax.{Ty, Fn, Body, Args, a_type, a_number, w64, ty_int, ty_array}
+use mir.Raw.{raw as bare}
+use mir.MapTy.{inst_fn}
+use mir.Val.{Val, vunit, vint, vptr, vstruct, vcons, vnil, WT, has_ty}
+use base.Logic.{SProp, ent, emp, sep, wand, never_e, apply∗}
+use base.Fml.{Lft, Share, Fml, ftrue, fat, flft, froom}
+use contract.BorrowLft.{◌⊑◌}
+use prog.Memory.{Memory, size}
+use prog.Align.{both}
+use prog.RawLaws.{size-raw}
+use prog.Routine.{Routine}
+use prog.Wp.{Env, Out, Wp, WpFn, Tables, at_return, after_seq, after_block, after_turn}
+use lib.Dec.{T as Holds}
+use types.Logic.{Logic, sem}
+use contract.Monad.{Fun, fact}
+use contract.Running.{tables, tables_of}
+use sound.WpLaws.{WpFn-mono}
+use types.Kit.{Item, Sq, any_q, runs, ‵, raw, ◌⊛◌, some as exists, prop, at_ret, ◌$◌, ◌∵◌, !, qed, by, move, keep, drop, use0, use1, use2, join, split, pick, rewrite, fsplit, fjoin, feq_i, assume, suffices, done}
+use types.Part.{agg}
+use types.Run.{stop, look, load, lit, size_lit, bin, unit_lit, of_opd, no_more, and_then, init, assigns_last, first, blocks, skips, jumps, branches, exec, returns, enter, loops, again, Below}
+use types.ByLocal.{alloc_all, pass_all, free_all, look_at, get, through, sets, sets_last, env, holding, forget_but, take_at, give_at}
+use denote.Array.{Array, Array-Makes}
+use denote.Builtin.{u64, usize}
+use denote.Exit.{yes}
+use denote.Laws.{Is, shows}
+use denote.Memory.{part_at}
+use denote.Param.{layout, layouts, number, ArrayAt}
+use denote.Param.Laws.{param_laws, array_at_laws}
+use denote.Plain.{uint_vals, uint_Tells, uint_Makes}
+use denote.RattleType.{RattleType, owns}
+use denote.RawPtr.{Ptr, RawPtr, block_ptr, null_ptr, ptr_val, rawptr_vals, rawptr_Tells}
+use denote.Signature.{plain}
+use denote.Signature.Struct.{makes}
+use denote.Steps.{heard, nothing, owned, peeks}
+use denote.Struct.Declared.{shape}
+use denote.Triple.Clauses.{Ended, Clauses}
+use denote.Triple.Spec.{triple_of}
+use denote.Triple.Table.{entered}
+use denote.Triple.Walked.{Stays, stay_dropped, walk_of, ends_at, walked, Goes-dropped, walk_Meets}
+use borrow.Table.OneValue.{part_out, part_in}
+use Rattle.core.proofs.mem.Param.{El, R, el_x}
+use Rattle.core.proofs.ptr.Rows.{one_more, times_below, one_below}
+use Rattle.core.proofs.slots.Bodies.{after, head}
+use Rattle.std.specs.Mem.{type_size}
+use Rattle.thin_block.specs.Ownership.{places, word_of}
+use Rattle.thin_block.specs.Slots.{full}
+use Rattle.thin_block.specs.Words.{word, runs_at, runs_from}
+use Rattle.thin_block.specs.contracts.words.Words.{the_type}
+use Rattle.thin_block.proofs.WordsMemory.{word_row, number_of_items}
+use Rattle.thin_block.specs.contracts.words.make_words as F
+use Rattle.thin_block.specs.contracts.words.make_words.Key.{name as #self}
+use Rattle.thin_block.proofs.words.make_words.Statement as stated
+use Rattle.thin_block.proofs.words.make_words.Code as code
+
+module _ (E : El) (m : ℕ) where
+  abbrev args : Args
+  args = layouts (a_type ∷ a_number ∷ []) (E.row, (number m, tt))
+
+  abbrev fn' : Fn
+  fn' = inst_fn args code.function
+
+  abbrev turn : Body
+  turn = head (head (head (after 1 fn'.body)))
+
+  abbrev ended : Ended
+  ended = F.ended E.row (number m)
+
+  abbrev stayed : Stays ended.signature.params ended.kept
+  stayed = (
+    stay_dropped (plain (λ _. RawPtr)) yes,
+    (stay_dropped (plain (λ _. usize)) yes, tt),
+  )
+
+  -- the items of several words
+  abbrev Runs : Type 0
+  Runs = List (List (el_x E))
+
+  abbrev N : RattleType
+  N = number_of_items m
+
+  abbrev Arr : RattleType
+  Arr = ArrayAt (R E) N
+
+  abbrev Wr : RattleType
+  Wr = word_row E.row m
+
+  -- the value of a word, by that of its items
+  abbrev word_val : Val → Val
+  word_val v = vstruct (vcons v (vcons (vstruct vnil) vnil))
+
+  abbrev Fits : Ty → Val → Type 0
+  Fits τ v = Holds (has_ty τ v) × WT v
+
+  word_fits : (v : Val) → Fits (ty_array (layout E.row) m) v → Fits (layout Wr) (word_val v)
+  word_fits v fits = (both (has_ty (ty_array (layout E.row) m) v) _ fits.0 tt, (fits.1, (tt, tt)))
+
+  -- what a word owns is what its items own
+  word_made : {M : Type 1} {𝓤 : Ura M} (𝓛 : Logic 𝓤) (xs : List (el_x E)) (v : Val)
+      → ent 𝓤 (sem 𝓛 (Arr.own_val xs (v ∷ [])))
+      (sem 𝓛 (Wr.own_val (word (R E) N xs) (word_val v ∷ [])))
+  word_made 𝓛 xs v =
+      let D = the_type (R E) N in
+      let fields = (shape D).fields in
+      qed 𝓛 (‵ (Arr.own_val xs (v ∷ [])) ∷ []) ∵ nothing ! $
+      owned ! (Array u64 0) (Is (Array u64 0)) (Array-Makes 𝓛 u64 (uint_Makes 𝓛 w64) 0) []
+      (vstruct vnil ∷ []) ([], ((refl, refl), tt)) $ fjoin ! $ move ! (1 ∷ 0 ∷ []) $ fjoin ! $
+      by ! (makes 𝓛 fields (owns fields (xs, ([], tt))) (v ∷ [], (vstruct vnil ∷ [], tt)))
+
+module _ (E : El) (m : ℕ) {M : Type 1} {𝓤 : Ura M} (𝓛 : Logic 𝓤) (at_mem : Memory → SProp 𝓤)
+    (run : Routine → Fun 𝓤) (𝓣 : Tables 𝓤 𝓛.H) (κ κ' : Lft) (q q' : Share) where
+  open 𝓛 use {H, A}
+
+  abbrev held : Clauses 𝓤 (ended E m)
+  held = F.clauses E.row (number m) 𝓛 at_mem run
+
+  abbrev σ : Ty
+  σ = ty_array (layout E.row) m
+
+  abbrev τ' : Ty
+  τ' = bare (layout E.row)
+
+  abbrev s : ℕ
+  s = size σ
+
+  abbrev Tokens : Item 𝓤
+  Tokens = ‵ (flft κ q) ⊛ ‵ (flft κ' q') ⊛ ‵ ftrue
+
+  abbrev bound : Ptr → ℕ → Runs E m → (walk_of 𝓛 (ended E m) (stayed E m) held).Ghost
+  bound p n g = (
+    (
+      (κ, (κ', tt)),
+      (q, (q', tt)),
+      tt,
+      (p, (n, tt)),
+      (ptr_val p ∷ [], (vint w64 n ∷ [], tt)),
+    ),
+    g,
+  )
+
+  abbrev Goes : Ptr → ℕ → Runs E m → SProp 𝓤
+  Goes p n g = WpFn 𝓤 H 𝓣.C 𝓣.Λ (fn' E m) (ptr_val p ∷ vint w64 n ∷ [])
+      ((walk_of 𝓛 (ended E m) (stayed E m) held).post (bound p n g))
+
+  module _ (b o n : ℕ) (g : Runs E m) (fn : n < 2 ^ 64) (fb : n * s < 2 ^ 64)
+      (dense : type_size (Wr E m) ≡ s) where
+    abbrev Rest : Runs E m → ℕ → Fml
+    Rest xss at = runs_at (R E) (N E m) xss b at
+
+    abbrev Made : Runs E m → ℕ → Fml
+    Made xss at = places (Wr E m) (full (map (word (R E) (N E m)) xss)) b at
+
+    abbrev To : Fml
+    To = Made g o
+
+    -- what turns the words that are left into all of them
+    abbrev Then : Runs E m → ℕ → SProp 𝓤
+    Then xss at = wand 𝓤 (sem 𝓛 (Made xss at)) (sem 𝓛 To)
+
+    abbrev Post : Val → SProp 𝓤
+    Post = (walk_of 𝓛 (ended E m) (stayed E m) held).post (bound (block_ptr b o) n g)
+
+    exits : Sq 𝓛 (‵ To ∷ Tokens ∷ []) (prop (Post vunit))
+    exits =
+        suffices ! _ (ends_at 𝓛 (ended E m) (stayed E m) held (bound (block_ptr b o) n g) vunit tt
+        (tt, (tt, tt)) (tt, (tt, tt))) $
+        feq_i ! (List Val) (vunit ∷ []) (vunit ∷ []) refl $ nothing ! $ nothing ! $ fjoin ! $
+        nothing ! $ fjoin ! $ join ! $ move ! (2 ∷ 0 ∷ []) $ join ! $ join ! $ done !
+
+    -- how many words are made, and the items of the others
+    abbrev Left : Type 0
+    Left = (i : ℕ) × ((xss : Runs E m) × (i + length xss ≡ n))
+
+    abbrev Nearer : Left → Left → Type 0
+    Nearer t u = n - t.0 < n - u.0
+
+    abbrev here : ℕ → ℕ
+    here i = i * s + o
+
+    same : size (word_of τ' m) ≡ s
+    same = size-raw (layout (Wr E m)) ∙ dense
+
+    further : (i : ℕ) → here i + size (word_of τ' m) ≡ here (suc i)
+    further i = let e = same in omega (arith, suc-mul i s)
+
+    onward : (i : ℕ) (xs : List (el_x E)) (xss : Runs E m)
+        → ent 𝓤 (sep 𝓤 (sem 𝓛 (part_at (Wr E m) full_share (word (R E) (N E m) xs) b (here i)))
+        (Then (xs ∷ xss) (here i))) (Then xss (here (suc i)))
+    onward i xs xss =
+        let first : Fml = part_at (Wr E m) full_share (word (R E) (N E m) xs) b (here i) in
+        let next : here (suc i) ≡ here i + type_size (Wr E m) =
+        sym (further i) ∙ ap (λ (x : ℕ). here i + x) (size-raw (layout (Wr E m))) in
+        qed 𝓛 (‵ first ∷ raw (Then (xs ∷ xss) (here i)) ∷ []) ∵
+        assume {P = sem 𝓛 To} ! (‵ (Made xss (here (suc i)))) $
+        rewrite ! 0 (λ (x : ℕ). ‵ (Made xss x)) next refl $ move ! (1 ∷ 0 ∷ []) $ fjoin ! $
+        by ! (apply∗ 𝓤 (sem 𝓛 (Made (xs ∷ xss) (here i))) (sem 𝓛 To))
+
+    module _ (l : ℕ → ℕ) where
+      abbrev En : Env 𝓤 H
+      En = env (fn' E m).locals l
+
+      abbrev Now : Left → List (Item 𝓤)
+      Now t = ‵ (Rest t.1.0 (here t.0)) ∷ raw (Then t.1.0 (here t.0)) ∷ Tokens ∷ holding 𝓛 En
+          ((1, vptr b o) ∷ (2, vint w64 n) ∷ (3, vint w64 t.0) ∷ [])
+
+      abbrev Turned : Left → Out → SProp 𝓤
+      Turned t = after_turn 𝓤 H (Below 𝓛 Nearer Now t)
+          (after_block 𝓤 H (after_seq 𝓤 H (Wp 𝓤 H 𝓣.C 𝓣.Λ En (after 2 (fn' E m).body)
+          (at_return 𝓤 H En Post)) (at_return 𝓤 H En Post)))
+
+      turns_at : (i : ℕ) (xss : Runs E m) (e : i + length xss ≡ n)
+          → Sq 𝓛 (Now (i, (xss, e))) (runs 𝓣.C 𝓣.Λ En (turn E m) (any_q (Turned (i, (xss, e)))))
+      unfolding after_turn
+      turns_at i [] e =
+          sets ! (bin ! (get ! refl) (get ! refl) tt) refl (tt, tt) $ first ! $
+          branches ! (get ! refl)
+          (λ less. absurd (let h : i < n = ltb→lt i n less in omega arith))
+          (λ over. jumps ! $ exec ! 𝓣.C 𝓣.Λ En (after 2 (fn' E m).body) (at_ret En Post) $
+          use2 𝓛 (‵ To) (apply∗ 𝓤 (sem 𝓛 (Made [] (here i))) (sem 𝓛 To)) $
+          sets ! (of_opd ! (unit_lit !)) refl (tt, tt) $ returns ! (look_at ! 0 refl) $
+          free_all ! refl $ exits)
+      turns_at i (xs ∷ xss) e =
+          sets ! (bin ! (get ! refl) (get ! refl) tt) refl (tt, tt) $ first ! $
+          branches ! (get ! refl)
+          (λ less. let h : i < n = ltb→lt i n less in
+          let fs : s < 2 ^ 64 = one_below n s (2 ^ 64) (omega arith) fb in
+          let f₁ : i + 1 < 2 ^ 64 = omega arith in
+          let fm : i * s < 2 ^ 64 = times_below i n s (2 ^ 64) (omega arith) fb in
+          let at : ℕ = here i in
+          skips ! $ exec ! 𝓣.C 𝓣.Λ En (after 2 (turn E m)) (any_q (Turned (i, (xs ∷ xss, e)))) $
+          first ! $ blocks ! $
+          sets ! (bin ! (get ! refl) (size_lit ! (record { fits = fs })) (record { fits = fm }))
+          refl (tt, record { fits = fm }) $
+          sets ! (bin ! (get ! refl) (get ! refl) tt) refl (tt, tt) $ fsplit ! $ fsplit ! $
+          -- [the items; the way to a word; the other items; what comes then; the tokens]
+          use1 𝓛 (exists (λ (v : Val). ‵ (fat full_share σ b at v) ⊛ ‵
+          ((Arr E m).own_val xs (v ∷ [])))) (part_out 𝓛 (Arr E m) refl full_share xs b at) $
+          pick ! (λ v. split ! $ move ! (1 ∷ []) $
+          peeks ! (Arr E m) (Is (Arr E m)) (shows 𝓛 (Arr E m)) xs (v ∷ []) (λ is_v.
+          let good = (((array_at_laws 1 (R E) (param_laws 0 E.row E.laws) m).lawful 𝓛).typed xs
+          (v ∷ []) is_v).0 in
+          let good' = word_fits E m v good in
+          move ! (1 ∷ []) $
+          sets ! (of_opd ! (load ! (through ! refl (stop !)) (look ! 0 refl))) refl good $
+          sets ! (agg ! (no_more !)) refl (tt, tt) $
+          sets ! (agg ! (and_then ! (get ! refl) (and_then ! (get ! refl) (no_more !)))) refl
+          good' $
+          sets ! (of_opd ! (get ! refl)) refl (tt, tt) $
+          sets ! (of_opd ! (get ! refl)) refl good' $
+          use1 𝓛 (‵ (froom σ b at)) (𝓛.laws.at_room σ b at v) $
+          use1 𝓛 (‵ (froom (bare σ) b at)) (𝓛.laws.room-raw σ b at) $ move ! (0 ∷ 2 ∷ []) $
+          use2 𝓛 (‵ (froom (word_of τ' m) b at))
+          (apply∗ 𝓤 (H.room (bare σ) b at) (H.room (word_of τ' m) b at)) $
+          use1 𝓛 (‵ (froom (layout (Wr E m)) b at)) (𝓛.laws.raw-room (layout (Wr E m)) b at) $
+          assigns_last ! (of_opd ! (get ! refl)) (through ! refl (stop !)) (init ! 0 refl good') $
+          exec ! 𝓣.C 𝓣.Λ En (after 3 (turn E m)) (any_q (Turned (i, (xs ∷ xss, e)))) $
+          sets_last ! (bin ! (get ! refl) (lit ! tt) (record { fits = f₁ })) refl
+          (tt, record { fits = f₁ }) $ move ! (1 ∷ []) $
+          use1 𝓛 (‵ ((Wr E m).own_val (word (R E) (N E m) xs) (word_val E m v ∷ [])))
+          (word_made E m 𝓛 xs v) $ move ! (1 ∷ 0 ∷ []) $
+          use2 𝓛 (‵ (part_at (Wr E m) full_share (word (R E) (N E m) xs) b at))
+          (part_in 𝓛 (Wr E m) refl full_share (word (R E) (N E m) xs) b at (word_val E m v)) $
+          move ! (0 ∷ 2 ∷ []) $ use2 𝓛 (raw (Then xss (here (suc i)))) (onward i xs xss) $
+          move ! (1 ∷ []) $ rewrite ! 0 (λ (x : ℕ). ‵ (Rest xss x)) (further i) refl $
+          forget_but ! En (1 ∷ 2 ∷ 3 ∷ []) refl $ take_at ! 3 $
+          rewrite ! 0 (λ (k : ℕ). ‵ (fat full_share (ty_int w64) (l 3) 0 (vint w64 k)))
+          (one_more i) refl $ give_at ! 3 $
+          again ! Nearer Now (i, (xs ∷ xss, e)) (suc i, (xss, omega arith)) (omega arith))))
+          (λ over. absurd (let h = nltb→le i n over in omega arith))
+
+    begins : o ≡ here 0
+    begins = omega (arith, zero-mul s)
+
+    start : ent 𝓤 (emp 𝓤) (Then g (here 0))
+    start = qed 𝓛 [] ∵ assume {P = sem 𝓛 To} ! (‵ (Made g (here 0))) $
+        rewrite ! 0 (λ (x : ℕ). ‵ (Made g x)) (sym begins) refl $ done !
+
+    runs_by : length g ≡ n → Sq 𝓛 (‵ (Rest g o) ∷ Tokens ∷ []) (prop (Goes (block_ptr b o) n g))
+    runs_by count =
+        rewrite ! 0 (λ (x : ℕ). ‵ (Rest g x)) begins refl $
+        use0 𝓛 (raw (Then g (here 0))) start $ move ! (1 ∷ 0 ∷ []) $
+        enter ! 𝓣.C 𝓣.Λ (fn' E m) (vptr b o ∷ vint w64 n ∷ []) _ $
+        alloc_all ! (λ l. pass_all ! refl ((tt, tt), ((tt, record { fits = fn }), tt)) $
+        sets ! (of_opd ! (lit ! tt)) refl (tt, record { fits = lit< tt }) $
+        forget_but ! (En l) (1 ∷ 2 ∷ 3 ∷ []) refl $
+        first ! $ blocks ! $ loops ! 𝓣 Nearer (InvImage.wf (λ (t : Left). n - t.0) lt-wf_rel.wf)
+        (Now l) (λ t. turns_at l t.0 t.1.0 t.1.1) (0, (g, omega arith)))
+
+  from_ptr : (p : Ptr) (n : ℕ) (g : Runs E m) → n < 2 ^ 64 → n * s < 2 ^ 64
+      → type_size (Wr E m) ≡ s → length g ≡ n
+      → Sq 𝓛 (‵ (runs_from (R E) (N E m) g p) ∷ Tokens ∷ []) (prop (Goes p n g))
+  from_ptr null_ptr n g fn fb dense count = keep ! (0 ∷ []) $ by ! (never_e 𝓤 _)
+  from_ptr (block_ptr b o) n g fn fb dense count = runs_by b o n g fn fb dense count
+
+  walk : (p : Ptr) (n : ℕ) (g : Runs E m) → n < 2 ^ 64
+      → ent 𝓤 ((walk_of 𝓛 (ended E m) (stayed E m) held).pre (bound p n g)) (Goes p n g)
+  walk p n g fn =
+      let Counted : Type 0 = length g ≡ n in
+      let Dense : Type 0 = type_size (Wr E m) ≡ s in
+      let Short : Type 0 = n * s < 2 ^ 64 in
+      qed 𝓛 ((Tokens ⊛ ‵ (owns (RawPtr ∷ usize ∷ []) (p, (n, tt)) (bound p n g).0.4))
+      ∷ (raw (fact 𝓤 (κ ⊑ E.row.lives)) ⊛ raw (fact 𝓤 (κ' ⊑ [])) ⊛ raw (fact 𝓤 Counted) ⊛
+      raw (fact 𝓤 Dense) ⊛ raw (fact 𝓤 Short) ⊛ ‵ (runs_from (R E) (N E m) g p)) ∷ []) ∵
+      split ! $ move ! (1 ∷ []) $ drop ! $ move ! (1 ∷ []) $ split ! $ drop ! $ split ! $ drop ! $
+      split ! $ heard ! Counted (λ count. split ! $ heard ! Dense (λ dense. split ! $
+      heard ! Short (λ fb. from_ptr p n g fn fb dense count)))
+
+pub make_words_spec : {M : Type 1} → stated.statement M
+unfolding tables_of
+make_words_spec 𝓤 𝓛 𝓜 𝓡 wired X m L fits_m =
+    let E : El = record { row = X; laws = L } in
+    let A = 𝓛.A in
+    let 𝓣 : Tables 𝓤 𝓛.H = tables_of 𝓤 𝓛.H 𝓜 (tables 𝓤 𝓛.H 𝓜 𝓡 𝓡.env) in
+    let held' = F.clauses X (number m) 𝓛 𝓜.mem 𝓡.returns in
+    let gone = λ (Y : RattleType). Goes-dropped 𝓛 2 (plain (λ _. Y)) yes in
+    entered 𝓤 𝓛.H
+    (triple_of 𝓛 (F.signature X (number m)) (F.spec X (number m) 𝓛 𝓜.mem 𝓡.returns)) 𝓣.C 𝓣.Λ
+    (#self (args E m)) (fn' E m) (code.unfolded 𝓤 𝓛.H 𝓜 𝓡 wired (X, (number m, tt)))
+    (walk_Meets 𝓛 (ended E m) (stayed E m)
+    (gone RawPtr (λ κs x f. refl), (gone usize (λ κs x f. refl), tt)) held'
+    (WpFn 𝓤 𝓛.H 𝓣.C 𝓣.Λ (fn' E m)) (WpFn-mono 𝓤 𝓛.H 𝓛.laws 𝓣 (fn' E m))
+    (walked 𝓛 (ended E m) (stayed E m) held' (WpFn 𝓤 𝓛.H 𝓣.C 𝓣.Λ (fn' E m))
+    (λ κs. (rawptr_vals, (uint_vals w64, tt))) (λ κs. (rawptr_Tells, (uint_Tells w64, tt)))
+    (λ κs qs bounds a g are. walk E m 𝓛 𝓜.mem 𝓡.returns 𝓣 κs.0 κs.1.0 qs.0 qs.1.0 a.0 a.1.0 g
+    are.1.0.1)))

@@ -1,0 +1,41 @@
+-- Items in a row as words, of as many items each as the number says whose row is M. A word is a
+-- `Words` of these items.
+-- No public clause cites this module.
+--     run_at, runs_from    items that may become a word; and in a row, from an address on
+--     words_from           words in a row
+use Rattle.std.specs.Prelude.{ℕ, ◌+◌, List, [], ◌∷◌, map}
+use base.Fraction.{full_share}
+use base.Fml.{Fml, ftrue, ffalse, fsep}
+use prog.Memory.{size}
+use denote.RattleType.{RattleType}
+use denote.Memory.{part_at}
+use denote.Param.{ArrayAt, value_of}
+use denote.RawPtr.{Ptr, block_ptr, null_ptr}
+use Rattle.thin_block.specs.Ownership.{bare, way, word_of, places}
+use Rattle.thin_block.specs.Slots.{full}
+use Rattle.thin_block.specs.contracts.words.Words.{the_row}
+
+module _ (T M : RattleType) where
+  -- the word of these items
+  abbrev pub word : List T.Denot → (the_row T M).Denot
+  word xs = record { items = xs; aligned = [] }
+
+  -- items of a word, and what turns room for them into room for it
+  abbrev pub run_at : List T.Denot → ℕ → ℕ → Fml
+  run_at xs b o = fsep (part_at (ArrayAt T M) full_share xs b o) (way (bare T) (value_of M) b o)
+
+  -- those of words in a row
+  abbrev pub runs_at : List (List T.Denot) → ℕ → ℕ → Fml
+  runs_at [] b o = ftrue
+  runs_at (xs ∷ xss) b o = fsep (run_at xs b o)
+      (runs_at xss b (o + size (word_of (bare T) (value_of M))))
+
+  -- the same from an address on
+  abbrev pub runs_from : List (List T.Denot) → Ptr → Fml
+  runs_from xss null_ptr = ffalse
+  runs_from xss (block_ptr b o) = runs_at xss b o
+
+  -- the words, from an address on
+  abbrev pub words_from : List (List T.Denot) → Ptr → Fml
+  words_from xss null_ptr = ffalse
+  words_from xss (block_ptr b o) = places (the_row T M) (full (map word xss)) b o

@@ -1,0 +1,36 @@
+//! Words: a few items as one value that is aligned as a block is, so that to the allocator a block
+//! is an array of them.
+ghost use Rattle.std.specs.Prelude.{◌≡◌, ◌*◌, ◌^◌, ◌<◌, List, length};
+ghost use Rattle.std.specs.Mem.{type_size};
+ghost use types.Logic.{sem};
+ghost use Rattle.thin_block.specs.Words.{runs_from, words_from};
+ghost use Rattle.thin_block.specs.contracts.words.Words.{the_row};
+
+// `M` items, as aligned as a block.
+pub(crate) struct Words<T, const M: usize> {
+    pub(crate) items: [T; M],
+    pub(crate) aligned: [u64; 0],
+}
+
+// Makes `count` words of the items from `items` on, where they lie. LLVM leaves nothing of it.
+pub(crate) unsafe fn make_words<T, const M: usize>(items: *mut [T; M], count: usize)
+    ghost runs: { List (List T) }
+    requires count { length runs ≡ count }
+    requires dense { type_size (the_row T.row M.row) ≡ M * type_size T.row }
+    requires size_fits { count * (M * type_size T.row) < 2 ^ 64 }
+    requires* runs { sem 𝓛 (runs_from T.row M.row runs items) }
+    ensures* words { sem 𝓛 (words_from T.row M.row runs items) }
+{
+    let mut i = 0;
+    while i < count {
+        unsafe {
+            let run = items.add(i);
+            let word = Words {
+                items: run.read(),
+                aligned: [],
+            };
+            (run as *mut Words<T, M>).write(word);
+        }
+        i += 1;
+    }
+}
