@@ -1,8 +1,8 @@
 -- What a list holds once a `&mut` to its items ends.
-use Rattle.std.specs.Prelude.{List, ℕ, length, slice_set}
+use Rattle.std.specs.Prelude.{List, Option, ℕ, length, slice_set}
 use Rattle.std.specs.declared.alloc.Allocator.{Ghosts as AllocatorGhosts}
 use Rattle.std.specs.List.{refill}
-use Rattle.std.specs.Borrow.{Lends, MutBor, Fml, RattleType, Array, follows}
+use Rattle.std.specs.Borrow.{Lends, LendsIf, MutBor, Fml, RattleType, Array, follows}
 use Rattle.std.specs.declared.slice.IterMut.{IterMut}
 use Rattle.std.specs.Slice.Iter.{iter_mut_name}
 use Rattle.thin_block.specs.declared.growth.Growth.{Ghosts as GrowthGhosts}
@@ -28,6 +28,10 @@ module _ (T A G : RattleType) (a : AllocatorGhosts A.Denot) (g : GrowthGhosts G.
   -- r is the item of v at i
   abbrev pub LendsItem : ℕ → MutBor T.Denot → Fml
   LendsItem i r = Lends (the_row T A G a g) T v r (with_item v.now i)
+
+  -- r is the item of v at i, and at `None` v stays as it is
+  abbrev pub LendsGet : ℕ → Option (MutBor T.Denot) → Fml
+  LendsGet i r = LendsIf (the_row T A G a g) T v r (with_item v.now i) v.now
 
   -- the items of v are those that the iteration it goes over
   abbrev pub LendsIter : IterMut T.Denot → Fml

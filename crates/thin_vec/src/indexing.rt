@@ -1,9 +1,9 @@
 //! The standard traits at `ThinVec`: indexing, and iteration over a borrowed list.
-ghost use Rattle.std.specs.Prelude.{◌≡◌, ◌^◌, ◌<◌, Some, length, slice_get, slice_index_or};
+ghost use Rattle.std.specs.Prelude.{◌≡◌, ◌^◌, ◌<◌, ◌↔◌, IfSome, IsSome, Some, length, slice_get, slice_index_or};
 ghost use Rattle.std.specs.Iterator.Runs.{EveryRun, ItemsMapTo};
 ghost use Rattle.std.specs.Slice.Iter.{iter_mut_rest, iter_mut_steps, iter_rest, iter_steps};
 ghost use types.Logic.{sem};
-ghost use Rattle.thin_vec.specs.Lends.{LendsItem, LendsItems, LendsIter};
+ghost use Rattle.thin_vec.specs.Lends.{LendsGet, LendsItem, LendsItems, LendsIter};
 ghost use Rattle.thin_vec.specs.ThinVec.{IsWithin};
 
 use crate::list::ThinVec;
@@ -18,7 +18,10 @@ impl<T, A: Allocator, G: Growth> DerefSlice for ThinVec<T, A, G> {
 
     ghost deref_gives = { λ list items. items ≡ list.items };
 
-    fn deref(&self) -> &[T] {
+    fn deref(&self) -> &[T]
+        ensures value { result.now ≡ self.now.items }
+        ensures within { IsWithin T.row self.now }
+    {
         self.as_slice()
     }
 }
@@ -67,8 +70,26 @@ impl<T, A: Allocator, G: Growth> IndexMut<usize> for ThinVec<T, A, G> {
             (LendsItem T.row A.row G.row A.Allocator G.Growth self.entry index result) }
         ensures value { slice_get self.old.items index ≡ Some result.now }
         ensures item { result.now ≡ slice_index_or self.old.items index result.now }
+        ensures within { IsWithin T.row self.old }
     {
+        let _len = self.block.len();
         self.block.slot_mut(index)
+    }
+}
+
+impl<T, A: Allocator, G: Growth> ThinVec<T, A, G> {
+    /// The item at `index`, to be written, or `None` where there is none.
+    pub fn get_mut(&mut self, index: usize) -> Option<&mut T>
+        ensures* writes_back { sem 𝓛
+            (LendsGet T.row A.row G.row A.Allocator G.Growth self.entry index result) }
+        ensures variant { IsSome result ↔ (index < length self.old.items) }
+        ensures value { IfSome result (λ x. x.now ≡ slice_index_or self.old.items index x.now) }
+    {
+        if index < self.len() {
+            Some(&mut self[index])
+        } else {
+            None
+        }
     }
 }
 

@@ -13,7 +13,7 @@ overflow_add-end c =
       after.within.1.room,
       after.within.1.small,
       comes_in c.args.self.now c.len.result c.args.text.now.items text c.requires.fits
-          c.len.ensures.value (cc (after.items, c.deref-2.ensures)),
+          c.len.ensures.value (cc (after.items, c.deref-2.ensures.value)),
     )
 
 pub returns-clause-all_fit : goal.returns-clause-all_fit
@@ -22,11 +22,11 @@ returns-clause-all_fit c =
     let text = c.args.text.now.items in
     let new = c.replace_range_from_copies.new.self.items in
     let made : new ≡ changed change text =
-    cc (c.in_ok-replace_range_from_copies.ensures.items, c.deref-2.ensures) in
+    cc (c.in_ok-replace_range_from_copies.ensures.items, c.deref-2.ensures.value) in
     AllFit-last c.push_reserved.new.self.items c.args.back.now.items _ new text
     (rw c.reserve.ensures.items at c.push_reserved.ensures.items)
     (takes_back change c.len.result text new c.requires.fits c.len.ensures.value made _
-    (cc (c.in_ok-replaced.ensures.items, c.deref.ensures)))
+    (cc (c.in_ok-replaced.ensures.items, c.deref.ensures.value)))
     (record {
       start_le_end = omega arith;
       in_bounds = comes_in change c.len.result text new c.requires.fits c.len.ensures.value made;
@@ -39,8 +39,8 @@ returns-clause-texts c =
     let text = c.args.text.now.items in
     let new = c.replace_range_from_copies.new.self.items in
     let made : new ≡ changed change text =
-    cc (c.in_ok-replace_range_from_copies.ensures.items, c.deref-2.ensures) in
+    cc (c.in_ok-replace_range_from_copies.ensures.items, c.deref-2.ensures.value) in
     texts_of-last c.push_reserved.new.self.items c.args.back.now.items _ new text
     (rw c.reserve.ensures.items at c.push_reserved.ensures.items)
     (takes_back change c.len.result text new c.requires.fits c.len.ensures.value made _
-    (cc (c.in_ok-replaced.ensures.items, c.deref.ensures)))
+    (cc (c.in_ok-replaced.ensures.items, c.deref.ensures.value)))
