@@ -25,6 +25,12 @@ macro_rules! thin_vec {
     ($alloc:expr =>) => {
         Ok::<_, $crate::ThinVecError>($crate::ThinVec::new($alloc))
     };
+    (in $alloc:expr) => {
+        $crate::thin_vec![$alloc =>]
+    };
+    (in $alloc:expr; $($items:tt)+) => {
+        $crate::thin_vec![$alloc => $($items)+]
+    };
     ($alloc:expr => $item:expr; $count:expr) => {
         $crate::repeated($alloc, $item, $count)
     };
@@ -36,6 +42,9 @@ macro_rules! thin_vec {
             }
             Err(cause) => Err(cause),
         }
+    };
+    ($($other:tt)*) => {
+        compile_error!("`thin_vec!` takes an allocator first: write `thin_vec![alloc => 1, 2]?` or `thin_vec![alloc => 0; n]?`")
     };
 }
 

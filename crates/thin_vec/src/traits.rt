@@ -4,9 +4,11 @@ ghost use Rattle.std.specs.Cmp.{on_equiv, on_per, on_po, on_total};
 ghost use Rattle.std.specs.Cmp.Lexicographic.{lists_agrees, lists_equiv, lists_per, lists_po, lists_ties, lists_total, pointwise, slice_cmp, slice_partial_cmp};
 ghost use Rattle.std.specs.Hash as fed;
 ghost use Rattle.std.specs.Hash.{items_Alike, on_Alike};
+ghost use Rattle.std.specs.Prelude.{◌≡◌, []};
 
 use crate::list::ThinVec;
-use std::alloc::Allocator;
+use std::alloc::{AllocError, Allocator};
+use std::default::{Emptied, MadeWith};
 use std::cmp::Ordering;
 use std::fmt;
 use std::hash::{Hash, Hasher};
@@ -64,5 +66,21 @@ impl<T: fmt::Debug, A: Allocator, G: Growth> fmt::Debug for ThinVec<T, A, G> {
     // As the slice is printed.
     fn fmt<W: fmt::Write>(&self, f: &mut fmt::Formatter<W>) -> fmt::Result {
         self.as_slice().fmt(f)
+    }
+}
+
+impl<T, A: Allocator + Clone, G: Growth> Emptied for ThinVec<T, A, G> {
+    ghost is_emptied = { λ list. list.items ≡ [] };
+
+    fn emptied(like: &ThinVec<T, A, G>) -> Result<ThinVec<T, A, G>, AllocError> {
+        Ok(ThinVec::ruled(like.allocator().clone()?))
+    }
+}
+
+impl<T, A: Allocator, G: Growth> MadeWith<A> for ThinVec<T, A, G> {
+    ghost is_made_with = { λ list. list.items ≡ [] };
+
+    fn made_with(alloc: A) -> ThinVec<T, A, G> {
+        ThinVec::ruled(alloc)
     }
 }
