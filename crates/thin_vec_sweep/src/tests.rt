@@ -254,6 +254,11 @@ fn sweeps_replaced_ranges_of_counted_items(rt: HostRuntime) {
 }
 
 #[test]
+fn sweeps_replaced_ranges_of_lists_of_lists(rt: HostRuntime) {
+    replacings::<Inner, Doubling, _>(&rt, rt.alloc());
+}
+
+#[test]
 fn sweeps_replaced_ranges_of_items_of_512_bytes(rt: HostRuntime) {
     replacings::<[u64; 64], Doubling, _>(&rt, rt.alloc());
     replacings_by_copies::<[u64; 64], _>(&rt, rt.alloc());

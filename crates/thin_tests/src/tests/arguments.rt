@@ -14,7 +14,7 @@ fn told<V>(evaluated: &Cell<u32>, digit: u32, value: V) -> V {
 
 // A list that is written out.
 fn of_items(rt: &impl Abort, alloc: Global, told_of: &Cell<u32>) {
-    let list = thin_vec![told(told_of, 1, alloc) => told(told_of, 2, 7), told(told_of, 3, 8)];
+    let list = thin_vec![told(told_of, 1, alloc) => told(told_of, 2, 7), told(told_of, 3, 8),];
     assert_list(rt, &list.expect(rt, "memory"), &[7, 8], 2);
     assert_same(rt, told_of.take(), 123);
 }

@@ -1,5 +1,5 @@
 //! The calls that clone, also where a clone fails.
-use crate::tests::assertions::{assert_list, assert_same};
+use crate::tests::assertions::{assert_len, assert_list, assert_same};
 use crate::tests::items::{boxes_of, push_all};
 use crate::tests::scarce::Scarce;
 use std::alloc::Global;
@@ -71,4 +71,23 @@ fn row_37_clone_refused(rt: HostRuntime) {
     let granted = Cell::new(1);
     extend_twice(&rt, rt.alloc(), &drops, &granted);
     assert_same(&rt, drops.get(), 8);
+}
+
+// Puts three items in the place of the first of two, where two clones are granted.
+fn replace_scarcely(rt: &impl Abort, alloc: Global, drops: &Cell<u32>, granted: &Cell<u32>) {
+    let item = || Scarce::new(drops, granted);
+    let three = [item(), item(), item()];
+    let mut list = thin_vec![alloc => item(), item()].expect(rt, "memory");
+    assert_len(rt, &list, 2);
+    let answer = list.replace_range(0, 1, &three);
+    assert_same(rt, answer, Err(ThinVecError::OutOfMemory));
+    assert_same(rt, (list.len(), list.capacity(), drops.get()), (2, 5, 2));
+}
+
+#[test]
+fn a_refused_replace_range_drops_its_clones(rt: HostRuntime) {
+    let drops = Cell::new(0);
+    let granted = Cell::new(2);
+    replace_scarcely(&rt, rt.alloc(), &drops, &granted);
+    assert_same(&rt, drops.get(), 7);
 }

@@ -72,3 +72,18 @@ fn a_long_list_keeps_its_items(rt: HostRuntime) {
     assert_pushes::<u64>(&rt, refusing);
     assert_pushes::<[u64; 2]>(&rt, refusing);
 }
+
+// The same by the allocator's own `grow`, which may leave a block where it lies.
+fn assert_grows<T: Numbered>(rt: &impl Abort, alloc: Global) {
+    let mut list = ThinVec::<T, Global>::new(alloc);
+    for number in 0..600 {
+        list.push(T::numbered(number)).ok().expect(rt, "memory");
+    }
+    assert_numbered(rt, &list, 600);
+}
+
+#[test]
+fn a_long_list_of_the_global_allocator_keeps_its_items(rt: HostRuntime) {
+    assert_grows::<u64>(&rt, rt.alloc());
+    assert_grows::<[u64; 2]>(&rt, rt.alloc());
+}

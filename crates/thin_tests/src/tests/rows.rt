@@ -4,7 +4,7 @@ use std::process::Abort;
 use thin_examples::checks::Checks;
 use thin_examples::rows::{ROWS, row};
 use thin_testing::Refusing;
-use thin_vec::thin_vec;
+use thin_vec::{ThinVec, thin_vec};
 
 // How many values each row compares, and how many requests it makes, counted by hand: a row that
 // compares less, or does another's work, has another line. The requests of row 35 are those of
@@ -93,6 +93,12 @@ fn each_comparison_sees_a_wrong_value(rt: HostRuntime) {
     assert_wrong(&rt, held(&rt, alloc, &[1, 2, 3], 2), 4);
     assert_wrong(&rt, held(&rt, alloc, &[1], 2), 3);
     assert_wrong(&rt, held(&rt, alloc, &[1, 2], 3), 4);
+    let twelve = ThinVec::from_copies(alloc, &[7; 12]).expect(&rt, "memory");
+    for (item, capacity) in [(8, 12), (7, 13)] {
+        let mut checks = Checks::new();
+        checks.holds(&twelve, &[7, 7, 7, 7, 7, 7, 7, 7, 7, 7, 7, item], capacity);
+        assert_wrong(&rt, checks, 14);
+    }
     let mut checks = Checks::new();
     checks.same(1, 2);
     checks.is(true);

@@ -1,6 +1,7 @@
 //! A list by std's own traits: `IntoIterator`.
 use crate::tests::assertions::{assert_counts, assert_same};
 use crate::tests::items::{push_all, refusing_nth};
+use std::convert::AsSlice;
 use thin_examples::walks::count;
 use thin_vec::ThinVec;
 
@@ -12,4 +13,23 @@ fn a_walk_by_value_makes_no_request(rt: HostRuntime) {
     refusing.refuse(1);
     assert_same(&rt, count(list), 3);
     assert_counts(&rt, refusing, 0, 0);
+}
+
+// The length of what is seen as a slice.
+fn seen_as_slice<S: AsSlice<i32>>(items: &S) -> usize {
+    items.as_slice().len()
+}
+
+#[test]
+fn a_slice_call_makes_no_request(rt: HostRuntime) {
+    let refusing = refusing_nth(&rt, rt.alloc(), 0);
+    let mut list = ThinVec::new(refusing);
+    push_all(&rt, &mut list, 0..3);
+    refusing.refuse(1);
+    assert_same(&rt, (list.first(), seen_as_slice(&list)), (Some(&0), 3));
+    list.reverse();
+    assert_same(&rt, list.last(), Some(&0));
+    let mut items = list.into_iter();
+    assert_same(&rt, items.by_ref().rev().count(), 3);
+    assert_same(&rt, refusing.requests(), 0);
 }

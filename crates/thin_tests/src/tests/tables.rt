@@ -128,10 +128,21 @@ fn prints_each_row_as_a_map(rt: HostRuntime) {
     assert_texts(&rt, alloc, &table, texts);
 }
 
+#[test]
+fn prints_a_row_of_many_entries(rt: HostRuntime) {
+    let mut table = Rows::with_rows(rt.alloc(), 1).expect(&rt, "memory");
+    for column in 0..7 {
+        assert_set(&rt, &mut table, (0, column), 1, None);
+    }
+    let line = format!(in rt.alloc(); "{table:?}").expect(&rt, "memory");
+    assert_same(&rt, line.as_str(), "[{0: 1, 1: 1, 2: 1, 3: 1, 4: 1, 5: 1, 6: 1}]");
+}
+
 // Sets an entry in each of so many columns of the row 0, the last column first.
 fn fill_columns<A: Allocator>(rt: &impl Abort, table: &mut Rows<u32, A>, columns: usize) {
-    for column in (0..columns).rev() {
-        assert_set(rt, table, (0, column), 7, None);
+    for column in 0..columns {
+        assert_set(rt, table, (table.rows().saturating_sub(1), column), 7, None);
+        assert_set(rt, table, (0, columns.saturating_sub(column)), 7, None);
     }
 }
 
@@ -139,20 +150,25 @@ fn fill_columns<A: Allocator>(rt: &impl Abort, table: &mut Rows<u32, A>, columns
 #[test]
 fn a_row_takes_thousands_of_columns(rt: HostRuntime) {
     let refusing = refusing_nth(&rt, rt.alloc(), 0);
-    let mut table = Rows::with_rows(refusing, 1).expect(&rt, "memory");
+    let mut table = Rows::with_rows(refusing, 2).expect(&rt, "memory");
     fill_columns(&rt, &mut table, 4000);
-    assert_counts(&rt, refusing, 12, 2);
-    assert_same(&rt, table.len(), 4000);
+    assert_counts(&rt, refusing, 23, 3);
+    assert_same(&rt, table.len(), 8000);
     assert_value(&rt, &table, (0, 3999), Some(7));
 }
 
 #[test]
 fn a_full_row_makes_no_request_for_an_entry_that_is_there(rt: HostRuntime) {
     let refusing = refusing_nth(&rt, rt.alloc(), 0);
-    let mut table = Rows::with_rows(refusing, 1).expect(&rt, "memory");
-    fill_columns(&rt, &mut table, 4);
+    let mut table = Rows::with_rows(refusing, 2).expect(&rt, "memory");
+    for column in (0..4).rev() {
+        assert_set(&rt, &mut table, (0, column), 7, None);
+    }
     refusing.refuse(1);
     assert_set(&rt, &mut table, (0, 3), 8, Some(7));
+    assert_row(&rt, &table, 0);
+    assert_same(&rt, table.get_mut(0, 2).copied(), Some(7));
+    assert_same(&rt, Rows::<u32, &Refusing<Global>>::with_rows(refusing, 0).is_ok(), true);
     assert_removed(&rt, &mut table, (0, 0), Some(7));
     assert_removed(&rt, &mut table, (0, 9), None);
     assert_value(&rt, &table, (0, 3), Some(8));
@@ -186,13 +202,15 @@ fn call_both<A: Allocator>(
     table: &mut Rows<u32, A>,
     reference: &mut Reference,
     numbers: &mut Numbers,
+    refusing: &Refusing<Global>,
+    nth: u64,
 ) {
     let row = numbers.below(table.rows());
-    let column = numbers.below(24);
+    let column = numbers.below(24).wrapping_mul(usize::MAX / 23);
     match numbers.below(4) {
         0 | 1 => {
             let value = u32::try_from(numbers.below(1000)).unwrap_or(0);
-            set_both(rt, table, reference, (row, column), value);
+            set_both(rt, table, reference, (row, column), value, refusing, nth);
         }
         2 => {
             let was = reference.remove(&(row, column));
@@ -211,6 +229,8 @@ fn set_both<A: Allocator>(
     reference: &mut Reference,
     place: (usize, usize),
     value: u32,
+    refusing: &Refusing<Global>,
+    nth: u64,
 ) {
     assert_row(rt, table, place.0);
     match table.set(place.0, place.1, value) {
@@ -225,6 +245,7 @@ fn set_both<A: Allocator>(
                 (value, ThinVecError::OutOfMemory),
             );
             assert_same(rt, reference.get(&place).copied(), None);
+            assert_same(rt, refusing.requests(), nth);
         }
     }
 }
@@ -242,7 +263,7 @@ fn assert_both<A: Allocator>(rt: &impl Abort, table: &Rows<u32, A>, reference: &
 }
 
 // As many random calls of a table of as many rows, and what both hold every now and then.
-fn run_both(rt: &impl Abort, refusing: &Refusing<Global>, alloc: Global, rows: usize, calls: u32) {
+fn run_both(rt: &impl Abort, refusing: &Refusing<Global>, alloc: Global, rows: usize, calls: u32, nth: u64) {
     let mut numbers = Numbers { state: rows as u64 };
     let mut reference = BTreeMap::new(alloc);
     let mut table = match Rows::with_rows(refusing, rows) {
@@ -251,7 +272,7 @@ fn run_both(rt: &impl Abort, refusing: &Refusing<Global>, alloc: Global, rows: u
     };
     for call in 0..calls {
         if rows > 0 {
-            call_both(rt, &mut table, &mut reference, &mut numbers);
+            call_both(rt, &mut table, &mut reference, &mut numbers, refusing, nth);
         }
         if call % 64 == 0 {
             assert_both(rt, &table, &reference);
@@ -266,7 +287,7 @@ fn holds_it_where_any_request_is_refused(rt: HostRuntime) {
     for rows in 0..6 {
         for nth in 1..40 {
             refusing.refuse(nth);
-            run_both(&rt, refusing, rt.alloc(), rows, 200);
+            run_both(&rt, refusing, rt.alloc(), rows, 200, nth);
             assert_same(&rt, refusing.blocks(), 0);
         }
     }

@@ -55,53 +55,53 @@ fn test_drain_debug(rt: HostRuntime) {
     );
 }
 
-// Asserts that a refusal is printed so, and tells its cause.
-fn assert_told<E: Debug + Display>(rt: &impl Abort, alloc: Global, refused: &E, line: &str) {
-    assert_text(rt, alloc, refused, line);
+// Asserts that a refusal with that cause is printed by its name in one line and in many, and tells
+// its cause.
+fn assert_told<E: Debug + Display>(
+    rt: &impl Abort,
+    alloc: Global,
+    refused: &E,
+    name: &str,
+    cause: ThinVecError,
+) {
+    let line = format!(in alloc; "{name} {{ cause: {cause:?}, .. }}").expect(rt, "memory");
+    let lines = format!(in alloc; "{name} {{\n    cause: {cause:?},\n    ..\n}}").expect(rt, "memory");
+    assert_texts(rt, alloc, refused, [line.as_str(), lines.as_str(), line.as_str()]);
     let told = format!(in alloc; "{refused}").expect(rt, "memory");
-    assert_same(rt, told.as_str(), "out of memory");
+    let wanted = format!(in alloc; "{cause}").expect(rt, "memory");
+    assert_same(rt, told.as_str(), wanted.as_str());
 }
 
-#[test]
-fn a_refusal_tells_its_cause(rt: HostRuntime) {
-    let alloc = rt.alloc();
-    let cause = ThinVecError::OutOfMemory;
+// The same of each error that holds what was passed.
+fn assert_all_told(rt: &impl Abort, alloc: Global, cause: ThinVecError) {
     let (value, in_hand, rest) = (1, Some(1), 2);
     let rejected = Rejected { value, cause };
-    assert_told(&rt, alloc, &rejected, "Rejected { cause: OutOfMemory, .. }");
+    assert_told(rt, alloc, &rejected, "Rejected", cause);
     let extend = ExtendRefused {
         cause,
         in_hand,
         rest,
     };
-    assert_told(
-        &rt,
-        alloc,
-        &extend,
-        "ExtendRefused { cause: OutOfMemory, .. }",
-    );
+    assert_told(rt, alloc, &extend, "ExtendRefused", cause);
     let collect = CollectRefused {
-        list: list_of(&rt, alloc, &[1]),
+        list: list_of(rt, alloc, &[1]),
         cause,
         in_hand,
         rest,
     };
-    assert_told(
-        &rt,
-        alloc,
-        &collect,
-        "CollectRefused { cause: OutOfMemory, .. }",
-    );
+    assert_told(rt, alloc, &collect, "CollectRefused", cause);
     let splice = SpliceRefused {
         cause,
         held: Vec::new(alloc),
         in_hand,
         rest,
     };
-    assert_told(
-        &rt,
-        alloc,
-        &splice,
-        "SpliceRefused { cause: OutOfMemory, .. }",
-    );
+    assert_told(rt, alloc, &splice, "SpliceRefused", cause);
+}
+
+#[test]
+fn a_refusal_tells_its_cause(rt: HostRuntime) {
+    for cause in [ThinVecError::OutOfMemory, ThinVecError::CapacityOverflow] {
+        assert_all_told(&rt, rt.alloc(), cause);
+    }
 }

@@ -60,7 +60,7 @@ impl<T: Sample, G: Ruled> Call<T, G> for ResizeWith {
 
     fn run<R: Abort>(rt: &R, case: &mut Case<T, G>, argument: usize) {
         let (len, more) = length(case.at.shape, argument);
-        let made: Vec<T> = source(rt, case.ledger, FRESH, more);
+        let made: Vec<T> = source(rt, case.ledger, FRESH - 1, more.saturating_add(1));
         let questions = Questions::new();
         let capacity = case.ruled(more);
         let verdict = case.growth(capacity, 0);

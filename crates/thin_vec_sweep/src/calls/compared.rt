@@ -5,6 +5,7 @@ use crate::samples::Sample;
 use crate::shapes::Shape;
 use crate::sweep::Call;
 use std::alloc::Global;
+use std::fmt;
 use std::fmt::Debug;
 use std::hash::{DefaultHasher, Hash, Hasher};
 use std::process::Abort;
@@ -93,6 +94,34 @@ impl<T: Sample + Debug, G: Ruled> Call<T, G> for Print {
             printed.as_str() == wanted.as_str(),
             true,
         );
+        let (list, _numbers) = case.take();
+        let global = case.ledger.global;
+        let wanted = iter_text(rt, global, &list.as_slice());
+        let printed = text(rt, global, &list.into_iter());
+        same(
+            rt,
+            &case.at,
+            "text of the iterator",
+            printed.as_str() == wanted.as_str(),
+            true,
+        );
+    }
+}
+
+// The texts of an iterator over the items of that slice, in one line and in many.
+fn iter_text<D: Debug, R: Abort>(rt: &R, global: Global, items: &D) -> String {
+    text(rt, global, &Told { items })
+}
+
+// A slice, printed as the iterator over its items is.
+#[derive(Drop)]
+struct Told<'a, D> {
+    items: &'a D,
+}
+
+impl<D: Debug> Debug for Told<'_, D> {
+    fn fmt<W: fmt::Write>(&self, f: &mut fmt::Formatter<W>) -> fmt::Result {
+        f.debug_tuple("IntoIter").field(self.items).finish()
     }
 }
 

@@ -3,8 +3,8 @@ use crate::runs::judges::EACH_SECOND;
 use crate::runs::samples::{Lender, put};
 use std::alloc::Global;
 use std::process::Abort;
-use thin_runner::command::{Command, Reply};
-use thin_runner::runner::run;
+use thin_runner::command::{Command, Reply, Step};
+use thin_runner::runner::{run, step};
 use thin_testing::Refusing;
 use thin_vec::{ThinVec, ThinVecError, thin_vec};
 
@@ -35,6 +35,73 @@ fn runs_thousands_of_commands(rt: HostRuntime) {
     let counts = (list.len(), list.capacity(), replies.len());
     assert_eq!(rt; counts, (5000, 8192, 5000));
     assert_eq!(rt; count_done(replies.as_slice()), 5000);
+}
+
+// So many numbers.
+fn numbers<R: Abort>(rt: &R, alloc: Global, count: u32) -> Vec<u32, Global> {
+    let mut numbers = Vec::new(alloc);
+    for number in 0..count {
+        put(&mut numbers, number).ok().expect(rt, "memory");
+    }
+    numbers
+}
+
+// A list of them.
+fn listed<R: Abort>(rt: &R, alloc: Global, count: u32) -> ThinVec<u32> {
+    let mut list = ThinVec::new(alloc);
+    list.extend(0..count).ok().expect(rt, "memory");
+    list
+}
+
+// So many steps from the front.
+fn steps<R: Abort>(rt: &R, alloc: Global, count: u32) -> Vec<Step, Global> {
+    let mut steps = Vec::new(alloc);
+    for _ in 0..count {
+        put(&mut steps, Step::Front).ok().expect(rt, "memory");
+    }
+    steps
+}
+
+// Each command that asks for memory, on a list of thousands, and by thousands.
+fn long_commands<R: Abort>(rt: &R, alloc: Global) -> Vec<Command<u32, Global>, Global> {
+    let many = || numbers(rt, alloc, 6000);
+    let mut commands = Vec::new(alloc);
+    for command in [
+        Command::Extend(many(), 0),
+        Command::Insert(3000, 1),
+        Command::Push(1),
+        Command::ExtendFromSlice(many()),
+        Command::Append(listed(rt, alloc, 6000)),
+        Command::Reserve(9000),
+        Command::ReserveExact(40000),
+        Command::Resize(30000, 1),
+        Command::Clone,
+        Command::SplitOff(29000),
+        Command::ShrinkToFit,
+        Command::Drain(0, 6000, steps(rt, alloc, 6000)),
+        Command::ExtractIf(0, 6000, 6000),
+        Command::Splice(1, 6000, steps(rt, alloc, 6000), many(), 0),
+    ] {
+        put(&mut commands, command).ok().expect(rt, "memory");
+    }
+    commands
+}
+
+#[test]
+fn commands_by_thousands_are_not_refused(rt: HostRuntime) {
+    let alloc = rt.alloc();
+    let commands = long_commands(&rt, alloc);
+    let mut list: ThinVec<u32, Global> = ThinVec::new(alloc);
+    let mut replies = Vec::new(alloc);
+    for (number, command) in commands.into_iter().enumerate() {
+        let reply = step(alloc, &mut list, command, &EACH_SECOND);
+        assert!(rt; reply.refusal().is_none(), "command {number}");
+        put(&mut replies, reply).ok().expect(&rt, "memory");
+    }
+    let mut more = Vec::new(alloc);
+    put(&mut more, Command::Pop).ok().expect(&rt, "memory");
+    let ran = run(alloc, &mut list, more, &mut replies, &EACH_SECOND);
+    assert!(rt; ran.is_ok());
 }
 
 // Replies to commands on a list of lists.
