@@ -1,6 +1,6 @@
 -- A closure that calls a judge returns what the judge does.
 use Rattle.std.proofs.Common.{◌≡◌, Bool, true, List, [], ◌∷◌, sym, ap, ◌∙◌}
-use Rattle.thin_vec.specs.Filters.{Asked, IsRetained, left_at}
+use Rattle.thin_vec.specs.Edits.Retain.{Asked, IsRetained, left_at}
 use Rattle.thin_vec.specs.ThinVec.{Thin}
 use Rattle.thin_examples.specs.Judges.{asked_by}
 

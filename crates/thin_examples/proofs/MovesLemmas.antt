@@ -1,9 +1,9 @@
 -- A closure that only looks at the items, and always returns true.
 use Rattle.std.proofs.Common.{◌≡◌, Bool, true, List, [], ◌∷◌, ap, sym, ◌∙◌}
 use Rattle.std.proofs.lemmas.List.{append-nil}
-use Rattle.thin_vec.proofs.FiltersLemmas.{left_at-stay, moved_up-stay, moving-none}
+use Rattle.thin_vec.proofs.RetainLemmas.{left_at-stay, moved_up-stay, moving-none}
 use Rattle.thin_vec.specs.Cost.{moving}
-use Rattle.thin_vec.specs.Filters.{Answers, Asked, IsRetained, Looks, flags_of, left_at, moved_up, stay}
+use Rattle.thin_vec.specs.Edits.Retain.{Answers, Asked, IsRetained, Looks, flags_of, left_at, moved_up, stay}
 use Rattle.thin_vec.specs.ThinVec.{Thin}
 
 module _ {S T : Type 0} (R : S → T → Bool → S → Type 0)

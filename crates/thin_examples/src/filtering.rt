@@ -2,7 +2,7 @@
 ghost use Rattle.std.specs.List.Sorted.{IsSorted, IsStrictlyIncreasing};
 ghost use Rattle.std.specs.Ordering.{nat_cmp};
 ghost use Rattle.std.specs.Prelude.{◌≡◌, ◌%◌, ◌==◌, Bool, filter, true};
-ghost use Rattle.thin_vec.specs.Filters.{left_at};
+ghost use Rattle.thin_vec.specs.Edits.Retain.{left_at};
 ghost use Rattle.thin_examples.specs.Judges.{asked_by};
 
 use std::alloc::Allocator;

@@ -1,7 +1,7 @@
 //! Ranges that give way to other items, all or nothing.
 ghost use Rattle.std.specs.List.{replace_range};
 ghost use Rattle.std.specs.Prelude.{◌≡◌, ◌-◌, ◌≤◌, [], IsOk, OnErr, OnOk, length};
-ghost use Rattle.thin_vec.specs.Replacing.{ReplacesByClones};
+ghost use Rattle.thin_vec.specs.Edits.ReplaceRange.{ReplacesByClones};
 ghost use Rattle.thin_vec.specs.ThinVec.{HasRoomFor};
 
 use std::alloc::Allocator;

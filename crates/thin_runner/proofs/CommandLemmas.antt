@@ -2,7 +2,7 @@
 use Rattle.std.proofs.Common.{◌≡◌, ℕ, ◌<◌, ◌⊎◌, List, [], ◌∷◌, Some, refl, length, inl, inr, arith}
 use Rattle.std.specs.Borrow.{RattleType}
 use Rattle.std.specs.Prelude.{HoldsAt}
-use Rattle.thin_vec.specs.Clones.{IsCloneRefused}
+use Rattle.thin_vec.specs.List.Clones.{IsCloneRefused}
 use Rattle.thin_vec.specs.Cost.{moving}
 use Rattle.thin_vec.specs.Growth.{Rule}
 use Rattle.thin_vec.specs.ThinVec.{Thin, capacity_for, cost_at}

@@ -5,9 +5,9 @@ use Rattle.std.proofs.lemmas.List.{append-nil, length-append, length-drop, lengt
 use Rattle.std.specs.List.Retain.{ExtractsNext}
 use Rattle.std.specs.Option.{option_to_list}
 use Rattle.std.specs.Prelude.{MatchBool, if◌then◌else◌, not, replicate, slice_range}
-use Rattle.thin_vec.proofs.FiltersLemmas.{left_at-append, left_at-stay, moved_up-stay, moving-more, moving-none, trues-append, trues-stay}
+use Rattle.thin_vec.proofs.RetainLemmas.{left_at-append, left_at-stay, moved_up-stay, moving-more, moving-none, trues-append, trues-stay}
 use Rattle.thin_vec.specs.Cost.{Cost, moving}
-use Rattle.thin_vec.specs.Filters.{Answers, flags_of, left_at, moved_up, stay, trues}
+use Rattle.thin_vec.specs.Edits.Retain.{Answers, flags_of, left_at, moved_up, stay, trues}
 use Rattle.thin_vec.specs.ThinVec.{Thin}
 use Rattle.thin_runner.proofs.JudgedLemmas.{AsksJudge, few-left}
 use Rattle.thin_runner.specs.commands.Filters.{around, extracting, sifted}

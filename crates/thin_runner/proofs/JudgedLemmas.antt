@@ -6,7 +6,8 @@ use Rattle.std.specs.Fn.{CalledAtMut, ComparesKeys}
 use Rattle.std.specs.List.{dedup, dedup_from}
 use Rattle.std.specs.Prelude.{MatchBool, if◌then◌else◌, not}
 use Rattle.thin_vec.specs.Cost.{moving}
-use Rattle.thin_vec.specs.Filters.{Answers, Asked, AskedLast, AskedPairs, IsDedupedBy, IsRetained, flags_of, left_at, moved_up, unlike, unlike_from}
+use Rattle.thin_vec.specs.Edits.Retain.{Answers, Asked, IsRetained, flags_of, left_at, moved_up}
+use Rattle.thin_vec.specs.Edits.Dedup.{AskedLast, AskedPairs, IsDedupedBy, unlike, unlike_from}
 use Rattle.thin_vec.specs.ThinVec.{Thin}
 use Rattle.thin_runner.specs.commands.Filters.{asked, asked_last, asked_pairs, same_key, sifted}
 

@@ -5,7 +5,7 @@ use Rattle.std.proofs.lemmas.Bool.{cases_lt}
 use Rattle.std.proofs.lemmas.List.{length-append, length-set, length_push, length-drop, length-take}
 use Rattle.std.proofs.lemmas.List.Edits.{length-insert}
 use Rattle.std.specs.List.{AllZip, AppendsClones, remove_range, swap_remove, slice_index_or}
-use Rattle.thin_vec.specs.Clones.{IsResized}
+use Rattle.thin_vec.specs.List.Clones.{IsResized}
 use Rattle.thin_runner.specs.commands.Filters.{same_key}
 use Rattle.thin_runner.proofs.JudgedExtractLemmas.{few-extracted}
 use Rattle.thin_runner.proofs.JudgedLemmas.{few-asked, few-pairs, looks, tells}

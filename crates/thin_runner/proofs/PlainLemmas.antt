@@ -7,10 +7,10 @@ use Rattle.std.proofs.Math.Seq.{take-append_seam, take-length, drop-length}
 use Rattle.std.specs.List.{AllByRecursion, AllZip, dedup, each_same, fold, replace_range, scan, swap_remove}
 use Rattle.std.specs.Option.{option_map_or, option_to_list}
 use Rattle.std.specs.Prelude.{replicate, slice_range}
-use Rattle.thin_vec.specs.Clones.{ClonesEqual, IsResized}
-use Rattle.thin_vec.specs.Filters.{Answers as Answered, left_at, stay}
+use Rattle.thin_vec.specs.List.Clones.{ClonesEqual, IsResized}
+use Rattle.thin_vec.specs.Edits.Retain.{Answers as Answered, left_at, stay}
 use Rattle.thin_vec.specs.ThinVec.{Thin}
-use Rattle.thin_vec.proofs.FiltersLemmas.{left_at-append, left_at-stay}
+use Rattle.thin_vec.proofs.RetainLemmas.{left_at-append, left_at-stay}
 use Rattle.thin_runner.specs.Setting.{Setting}
 use Rattle.thin_runner.specs.Plain.{granted, in_range, items_after, plain_step, reply_to, says, seen, yields}
 use Rattle.thin_runner.specs.Replies.{IsGranted}

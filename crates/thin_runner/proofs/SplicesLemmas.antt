@@ -9,8 +9,8 @@ use Rattle.std.specs.Borrow.{RattleType}
 use Rattle.std.specs.declared.iter.Iterator.{can_next-default}
 use Rattle.std.specs.Option.{option_to_list}
 use Rattle.thin_vec.specs.Cheap.{IsCheap}
-use Rattle.thin_vec.specs.Extend.{IsExtendCost, IsExtended, IsLoose, Overflows}
-use Rattle.thin_vec.specs.Filling.{IsSpliced, IsStopCause, Stopped, left_of}
+use Rattle.thin_vec.specs.List.Extend.{IsExtendCost, IsExtended, IsLoose, Overflows}
+use Rattle.thin_vec.specs.Edits.Splice.{IsSpliced, IsStopCause, Stopped, left_of}
 use Rattle.thin_vec.specs.Growth.{Rule}
 use Rattle.thin_vec.specs.Open.{Open}
 use Rattle.thin_vec.specs.ThinVec.{HasRoomFor, IsWithin, Thin, capacity_for}

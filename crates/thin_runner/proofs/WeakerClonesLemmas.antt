@@ -2,7 +2,7 @@
 -- equality.
 use Rattle.std.proofs.Common.{◌≡◌, ℕ, List, [], ◌∷◌}
 use Rattle.std.specs.List.{AllZip}
-use Rattle.thin_vec.specs.Clones.{ClonesEqual, IsResized}
+use Rattle.thin_vec.specs.List.Clones.{ClonesEqual, IsResized}
 use Rattle.thin_vec.specs.ThinVec.{Thin}
 use Rattle.thin_runner.specs.Setting.{Setting}
 use Rattle.thin_runner.specs.Run.{Runs}

@@ -2,7 +2,7 @@
 -- rule and judge.
 use Rattle.std.specs.Prelude.{◌≡◌, ◌+◌, ◌*◌, ◌<◌, ◌≤◌, List, ◌++◌, All, fold, map, max, scan}
 use Rattle.thin_vec.specs.Cheap.{IsCheap}
-use Rattle.thin_vec.specs.Clones.{ClonesEqual}
+use Rattle.thin_vec.specs.List.Clones.{ClonesEqual}
 use Rattle.thin_vec.specs.Growth.{doubling}
 use Rattle.thin_vec.specs.ThinVec.{IsNew, IsWithin, Thin}
 use Rattle.thin_runner.specs.Setting.{Setting}

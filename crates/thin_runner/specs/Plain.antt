@@ -3,7 +3,7 @@
 use Rattle.std.specs.Prelude.{◌-◌, Bool, true, false, ◌&&◌, List, [], ◌∷◌, ◌++◌, Option, None, drop, if◌then◌else◌, insert, length, nat_le, nat_lt, remove, replicate, slice_get, slice_range, slice_set, take}
 use Rattle.std.specs.List.{dedup, remove_range, replace_range, swap_remove}
 use Rattle.std.specs.Option.{option_map_or, unwrap_or}
-use Rattle.thin_vec.specs.Filters.{left_at}
+use Rattle.thin_vec.specs.Edits.Retain.{left_at}
 use Rattle.thin_runner.specs.Setting.{Setting}
 use Rattle.thin_runner.specs.commands.Filters.{answered, extracting}
 use Rattle.thin_runner.specs.commands.Ranges.{walked}

@@ -3,7 +3,7 @@ use Rattle.std.specs.Prelude.{◌≡◌, ℕ, ◌+◌, ◌-◌, ◌*◌, ◌==�
 use Rattle.std.specs.Option.{unwrap_or}
 use Rattle.thin_vec.specs.ThinVec.{Thin}
 use Rattle.thin_runner.specs.Setting.{Setting}
-use Rattle.thin_vec.specs.Filters.{flags_of, moved_up}
+use Rattle.thin_vec.specs.Edits.Retain.{flags_of, moved_up}
 use Rattle.thin_runner.specs.Steps.{Steps}
 use Rattle.thin_runner.specs.commands.Filters.{answered, around, extracting}
 use Rattle.thin_runner.specs.declared.command.Command.{Command}

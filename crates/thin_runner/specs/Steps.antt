@@ -4,8 +4,8 @@
 use Rattle.std.specs.Prelude.{◌≡◌, ◌+◌, ◌-◌, ◌==◌, ◌<◌, ◌≤◌, ◌↔◌, List, [], ◌∷◌, ◌++◌, IsSome, MatchOption, None, Some, drop, false, if◌then◌else◌, insert, length, remove, replicate, slice_get, slice_range, slice_set, take}
 use Rattle.std.specs.List.{AllZip, AppendsClones, remove_range, swap_remove}
 use Rattle.std.specs.Option.{option_to_list}
-use Rattle.thin_vec.specs.Clones.{IsResized}
-use Rattle.thin_vec.specs.Filters.{left_at}
+use Rattle.thin_vec.specs.List.Clones.{IsResized}
+use Rattle.thin_vec.specs.Edits.Retain.{left_at}
 use Rattle.thin_vec.specs.ThinVec.{Thin, capacity_for, cost_shrunk, exact_for}
 use Rattle.thin_vec.specs.declared.ThinVecError.TheVariants.{OutOfMemory}
 use Rattle.thin_runner.specs.Setting.{Setting}

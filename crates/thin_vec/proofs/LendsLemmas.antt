@@ -9,7 +9,7 @@ use Rattle.thin_block.specs.declared.block.Block.{Block}
 use Rattle.std.specs.List.{length_refill, refill}
 use Rattle.thin_vec.specs.Lends.{with_item, with_items}
 use Rattle.thin_vec.specs.ThinVec.{IsThin, thin_of}
-use Rattle.thin_vec.proofs.ItemsLemmas.{full-set}
+use Rattle.thin_vec.proofs.list.InsertRemoveLemmas.{full-set}
 use Rattle.thin_vec.proofs.ListLemmas.{IsWritten, Settled, settle-front, thin-room}
 
 module _ {T : Type 0} where

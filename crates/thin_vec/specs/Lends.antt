@@ -7,7 +7,7 @@ use Rattle.std.specs.declared.slice.IterMut.{IterMut}
 use Rattle.std.specs.Slice.Iter.{iter_mut_name}
 use Rattle.thin_block.specs.declared.growth.Growth.{Ghosts as GrowthGhosts}
 use Rattle.thin_vec.specs.ThinVec.{Thin}
-use Rattle.thin_vec.specs.contracts.into_iter.IntoIter.{the_row as iterator_row}
+use Rattle.thin_vec.specs.contracts.convert.into_iter.IntoIter.{the_row as iterator_row}
 use Rattle.thin_vec.specs.contracts.list.ThinVec.{the_row}
 
 module _ {T A : Type 0} where

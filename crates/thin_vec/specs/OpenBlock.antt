@@ -1,4 +1,6 @@
 -- How the slots of an open block lie; a contract sees it as an `Open`.
+pub mod Dedup
+pub mod Sift
 use Rattle.std.specs.Prelude.{◌≡◌, ◌+◌, ◌-◌, ◌≤◌, drop, length, slice_range, take}
 use Rattle.thin_block.specs.Slots.{items_in}
 use Rattle.thin_vec.specs.Open.{Open, row_of}

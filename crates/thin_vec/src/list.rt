@@ -5,8 +5,19 @@ ghost use Rattle.thin_block.specs.Capacity.{Fits};
 ghost use Rattle.thin_block.specs.Cost.{moving};
 ghost use Rattle.thin_block.specs.Slots.{empty};
 
+mod append_split;
+mod capacity;
+mod clones;
+mod compare;
+mod copies;
+mod extend;
+mod index;
+mod insert_remove;
+mod resize;
+mod shrink;
+
 use crate::errors::Rejected;
-use crate::placing::drop_items;
+use crate::put::drop_items;
 use std::alloc::{Allocator, Global};
 use std::marker::{Model, PhantomData};
 use thin_block::{Block, Doubling, Growth, ThinVecError};

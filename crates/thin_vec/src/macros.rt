@@ -2,7 +2,7 @@
 ghost use Rattle.std.specs.Prelude.{◌≡◌, [], ◌∷◌, ◌++◌, IfErr, IfOk, IsErrOf, IsOk, None, Some, replicate};
 ghost use Rattle.thin_block.specs.Cost.{moving};
 ghost use Rattle.thin_block.specs.Growth.{doubling, ruled_capacity};
-ghost use Rattle.thin_vec.specs.Clones.{CloneEquals, IsResized};
+ghost use Rattle.thin_vec.specs.List.Clones.{CloneEquals, IsResized};
 ghost use Rattle.thin_vec.specs.Cheap.{IsCheap};
 ghost use Rattle.thin_vec.specs.ThinVec.{HasRoomFor, IsCause, IsWithin, cost_new};
 

@@ -5,6 +5,10 @@ ghost use Rattle.thin_block.specs.Slots.{front};
 ghost use Rattle.thin_vec.specs.Open.{IsOf, cost_closed, items_of, reach};
 ghost use Rattle.thin_vec.specs.ThinVec.{HasRoomFor};
 
+pub(crate) mod dedup;
+mod fill;
+pub(crate) mod sift;
+
 use crate::list::ThinVec;
 use std::alloc::Allocator;
 use std::marker::Model;

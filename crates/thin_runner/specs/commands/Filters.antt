@@ -1,7 +1,7 @@
 -- What the judge is asked about the items of a list, one by one, and which of them stay. (std:
 -- `Vec::retain_mut`, `Vec::dedup_by`, `Vec::extract_if`)
 use Rattle.std.specs.Prelude.{ℕ, zero, suc, ◌==◌, List, [], ◌∷◌, ◌++◌, Bool, None, Option, Some, drop, false, if◌then◌else◌, not, take, true}
-use Rattle.thin_vec.specs.Filters.{Answers, flags_of, left_at, moved_up, stay}
+use Rattle.thin_vec.specs.Edits.Retain.{Answers, flags_of, left_at, moved_up, stay}
 use Rattle.thin_vec.specs.ThinVec.{Thin}
 use Rattle.thin_runner.specs.Setting.{Setting}
 use Rattle.thin_runner.specs.commands.Items.{edited}

@@ -7,8 +7,8 @@ use Rattle.std.specs.List.{remove_range}
 use Rattle.std.specs.Option.{option_to_list}
 use Rattle.std.specs.Vec.Iter.{into_iter_items}
 use Rattle.thin_vec.specs.Cheap.{IsCheap}
-use Rattle.thin_vec.specs.Extend.{IsExtended, IsLoose}
-use Rattle.thin_vec.specs.Filling.{IsSpliced, IsStopCause}
+use Rattle.thin_vec.specs.List.Extend.{IsExtended, IsLoose}
+use Rattle.thin_vec.specs.Edits.Splice.{IsSpliced, IsStopCause}
 use Rattle.thin_vec.specs.Growth.{Rule}
 use Rattle.thin_vec.specs.ThinVec.{HasRoomFor, IsWithin, Thin}
 use Rattle.thin_vec.specs.declared.ThinVecError.{ThinVecError}

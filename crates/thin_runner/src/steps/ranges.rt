@@ -4,7 +4,7 @@ ghost use Rattle.thin_runner.specs.Setting.{setting};
 ghost use Rattle.thin_runner.specs.Steps.{Steps};
 ghost use Rattle.thin_runner.specs.commands.Ranges.{walked};
 ghost use Rattle.thin_runner.specs.declared.command.Command.TheVariants.{Drain as Drained, ExtractIf as Extracted};
-ghost use Rattle.thin_vec.specs.Drain.{DrainKeeps, drain_rest};
+ghost use Rattle.thin_vec.specs.Edits.Drain.{DrainKeeps, drain_rest};
 
 use crate::command::{Reply, Step};
 use crate::judge::Judge;

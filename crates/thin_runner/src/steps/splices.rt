@@ -4,7 +4,7 @@ ghost use Rattle.thin_runner.specs.Setting.{setting};
 ghost use Rattle.thin_runner.specs.Steps.{Steps};
 ghost use Rattle.thin_runner.specs.commands.Ranges.{walked};
 ghost use Rattle.thin_runner.specs.declared.command.Command.TheVariants.{Splice as Spliced};
-ghost use Rattle.thin_vec.specs.Splice.{SpliceKeeps, splice_block};
+ghost use Rattle.thin_vec.specs.Edits.Splice.{SpliceKeeps, splice_block};
 
 use crate::command::{Reply, Step};
 use crate::hinted::Hinted;

@@ -1,7 +1,7 @@
 //! `drain`: what a program may promise of it, and how it ends.
 ghost use Rattle.std.specs.Prelude.{◌≡◌, ◌+◌, ◌≤◌, ◌++◌, IfOk, IfSome, OnErr, OnOk, drop, length, max, reverse, slice_range, take};
 ghost use Rattle.std.specs.List.{fold, remove_range};
-ghost use Rattle.thin_vec.specs.Drain.{drain_lender};
+ghost use Rattle.thin_vec.specs.Edits.Drain.{drain_lender};
 
 use crate::tests::assertions::{assert_items, assert_len, assert_same};
 use crate::tests::items::{list_of, push};

@@ -2,7 +2,7 @@
 //! capacity.
 ghost use Rattle.std.specs.Iterator.{IsFinite};
 ghost use Rattle.std.specs.Prelude.{◌≤◌, length};
-ghost use Rattle.thin_vec.specs.Splice.{SpliceKeeps};
+ghost use Rattle.thin_vec.specs.Edits.Splice.{SpliceKeeps};
 
 use crate::assertions::{is_item, same};
 use crate::calls::filling::{Ending, asked, back, claims, coming, fill};

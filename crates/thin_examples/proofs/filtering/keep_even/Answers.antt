@@ -1,6 +1,6 @@
 -- The closure returns what the test does, so the items left are those that pass it.
 use Rattle.std.proofs.Common.{rules}
-use Rattle.thin_vec.proofs.FiltersLemmas.{retained_filter}
+use Rattle.thin_vec.proofs.RetainLemmas.{retained_filter}
 use Rattle.thin_examples.proofs.filtering.keep_even.Goals as goal
 
 pub returns-clause-items : goal.returns-clause-items

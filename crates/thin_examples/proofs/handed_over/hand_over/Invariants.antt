@@ -1,6 +1,6 @@
 -- What came over, and room for what is to come.
 use Rattle.std.proofs.Common.{◌≡◌, ◌+◌, ◌++◌, ◌≤◌, length}
-use Rattle.thin_vec.specs.Drain.{drain_rest}
+use Rattle.thin_vec.specs.Edits.Drain.{drain_rest}
 use Rattle.thin_examples.proofs.handed_over.hand_over.Given as goal
 
 abbrev pub invariant-loop-item : goal.invariant-loop-item

@@ -4,7 +4,7 @@ use Rattle.std.proofs.Math.Seq.{take-length}
 use Rattle.std.proofs.lemmas.List.{append-nil, length-append}
 use Rattle.std.specs.Option.{option_to_list}
 use Rattle.std.specs.Prelude.{filter, slice_range}
-use Rattle.thin_vec.specs.ExtractIf.{extract_front, extract_rest}
+use Rattle.thin_vec.specs.Edits.ExtractIf.{extract_front, extract_rest}
 use Rattle.thin_examples.proofs.PickLemmas.{others, parts}
 use Rattle.thin_examples.proofs.handed_over.hand_over_odd.Goals as goal
 

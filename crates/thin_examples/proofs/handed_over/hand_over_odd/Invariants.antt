@@ -1,7 +1,7 @@
 -- What went over, and what stays: of those that were asked about, and of those that are to be.
 use Rattle.std.proofs.Common.{◌≡◌, ◌+◌, ◌%◌, ◌==◌, ◌++◌, ◌≤◌, [], length}
 use Rattle.std.specs.Prelude.{filter, not}
-use Rattle.thin_vec.specs.ExtractIf.{extract_front, extract_lender, extract_rest, extract_tail}
+use Rattle.thin_vec.specs.Edits.ExtractIf.{extract_front, extract_lender, extract_rest, extract_tail}
 use Rattle.thin_examples.proofs.handed_over.hand_over_odd.Given as goal
 
 abbrev pub invariant-loop-number : goal.invariant-loop-number

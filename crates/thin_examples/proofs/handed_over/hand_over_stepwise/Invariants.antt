@@ -1,7 +1,7 @@
 -- What came over and what is to come are the range, with room for the latter; and the list is to
 -- have what it was to have.
 use Rattle.std.proofs.Common.{◌≡◌, ◌+◌, ◌++◌, ◌≤◌, length}
-use Rattle.thin_vec.specs.Drain.{DrainKeeps, drain_rest}
+use Rattle.thin_vec.specs.Edits.Drain.{DrainKeeps, drain_rest}
 use Rattle.thin_examples.proofs.handed_over.hand_over_stepwise.Given as goal
 
 abbrev pub invariant-loop-item : goal.invariant-loop-item

@@ -1,6 +1,6 @@
 -- An overflow is that of a new list.
 use Rattle.std.proofs.Common.{arith, ◌∙◌}
-use Rattle.thin_vec.proofs.ClonesLemmas.{new_lists}
+use Rattle.thin_vec.proofs.list.ClonesLemmas.{new_lists}
 use Rattle.thin_vec.proofs.macros.repeated.Goals as goal
 
 pub returns-in_err-resize-clause-overflow : goal.returns-in_err-resize-clause-overflow

@@ -8,7 +8,7 @@ use denote.Param.{param}
 use Rattle.thin_runner.specs.Hinted.{hinted_count, hinted_items}
 use Rattle.thin_runner.proofs.HintedLemmas.{drains-items, yields-claim, yields-items}
 use Rattle.thin_runner.proofs.SplicesLemmas.{cut-end, places-end, replaces-end, stop-cause-end}
-use Rattle.thin_vec.specs.Extend.{IsExtended}
+use Rattle.thin_vec.specs.List.Extend.{IsExtended}
 use Rattle.thin_vec.specs.ThinVec.{HasRoomFor}
 use Rattle.thin_runner.proofs.steps.Setting.extend.Goals as goal
 

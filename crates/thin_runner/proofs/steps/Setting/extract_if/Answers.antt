@@ -2,8 +2,8 @@
 -- is.
 use Rattle.std.proofs.Common.{ℕ, ◌≡◌, ◌+◌, ◌-◌, ◌++◌, ◌∷◌, [], false, suc, take, slice_range, ap, arith, refl, rules, sym, ◌∙◌, append_assoc}
 use Rattle.std.proofs.lemmas.List.{append-nil}
-use Rattle.thin_vec.specs.ExtractIf.{extract_callee, extract_rest, extract_tail}
-use Rattle.thin_vec.specs.Filters.{left_at, stay}
+use Rattle.thin_vec.specs.Edits.ExtractIf.{extract_callee, extract_rest, extract_tail}
+use Rattle.thin_vec.specs.Edits.Retain.{left_at, stay}
 use Rattle.thin_runner.specs.commands.Filters.{extracting}
 use Rattle.thin_runner.proofs.JudgedExtractLemmas.{extracting-ends, extracting-none, extracting-step, extracts-by, goes, handed-by, handed_out}
 use Rattle.thin_runner.proofs.steps.Setting.extract_if.Goals as goal

@@ -1,8 +1,8 @@
 -- The calls so far, and those that are left, are those of the whole extraction.
 use Rattle.std.proofs.Common.{◌≡◌, ◌++◌, ◌≤◌, ◌+◌, ◌-◌, drop, take, false, slice_range, vec_len}
 use Rattle.std.specs.Vec.{vec_capacity}
-use Rattle.thin_vec.specs.ExtractIf.{extract_alloc, extract_callee, extract_capacity, extract_cost, extract_front, extract_gone, extract_lender, extract_rest, extract_tail}
-use Rattle.thin_vec.specs.Filters.{left_at}
+use Rattle.thin_vec.specs.Edits.ExtractIf.{extract_alloc, extract_callee, extract_capacity, extract_cost, extract_front, extract_gone, extract_lender, extract_rest, extract_tail}
+use Rattle.thin_vec.specs.Edits.Retain.{left_at}
 use Rattle.thin_runner.specs.commands.Filters.{extracting}
 use Rattle.thin_runner.proofs.JudgedExtractLemmas.{IsExtracting, handed_out}
 use Rattle.thin_runner.proofs.steps.Setting.extract_if.Given as goal

@@ -9,9 +9,8 @@ use Rattle.thin_runner.proofs.HintedLemmas.{drains-items}
 use Rattle.thin_runner.proofs.SplicesLemmas.{IsOpened, left-is, named, no-tail, replaces-of, room-left, some-tail, spliced, stops-of, stopped-claim, stopped-ended, stopped-items}
 use Rattle.thin_runner.specs.commands.Splices.{cut}
 use Rattle.thin_vec.specs.Cheap.{IsCheap}
-use Rattle.thin_vec.specs.Extend.{IsLoose}
-use Rattle.thin_vec.specs.Filling.{IsStopCause}
-use Rattle.thin_vec.specs.Splice.{splice_alloc, splice_block, splice_iter}
+use Rattle.thin_vec.specs.List.Extend.{IsLoose}
+use Rattle.thin_vec.specs.Edits.Splice.{IsStopCause, splice_alloc, splice_block, splice_iter}
 use Rattle.thin_vec.specs.ThinVec.{HasRoomFor, IsWithin}
 use Rattle.thin_runner.proofs.steps.Setting.splice.Goals as goal
 

@@ -4,7 +4,7 @@ use Rattle.std.proofs.Common.{◌≡◌, ◌++◌, ◌≤◌, ◌+◌, length, v
 use Rattle.std.specs.Vec.{vec_capacity}
 use Rattle.std.specs.Vec.Iter.{into_iter_items}
 use Rattle.thin_runner.specs.commands.Ranges.{walked}
-use Rattle.thin_vec.specs.Splice.{SpliceKeeps, splice_block}
+use Rattle.thin_vec.specs.Edits.Splice.{SpliceKeeps, splice_block}
 use Rattle.thin_runner.proofs.steps.splices.walk.Given as goal
 
 abbrev pub invariant-loop-step : goal.invariant-loop-step

@@ -2,7 +2,7 @@
 use Rattle.std.proofs.Common.{◌-◌, ◌++◌, ◌∙◌, ap, arith, drop, length, take, rules}
 use Rattle.thin_block.proofs.BlockLemmas.{then-len}
 use Rattle.thin_block.specs.Slots.{items_in}
-use Rattle.thin_vec.proofs.TwoListsLemmas.{settle-cut, settle-joined}
+use Rattle.thin_vec.proofs.list.AppendSplitLemmas.{settle-cut, settle-joined}
 use Rattle.thin_vec.proofs.ListLemmas.{Settled, thin-filled, thin_of-keeps}
 use Rattle.thin_vec.proofs.ThinVecLemmas.{within-kept}
 use Rattle.thin_vec.proofs.list.ThinVec.append_from.Goals as goal

@@ -1,7 +1,7 @@
 -- What the rule names keeps its law.
 use Rattle.std.proofs.Common.{arith}
 use denote.Param.{param}
-use Rattle.thin_vec.proofs.CapacityLemmas.{grows-rule}
+use Rattle.thin_vec.proofs.list.CapacityLemmas.{grows-rule}
 use Rattle.thin_vec.proofs.list.ThinVec.capacity_for.Goals as goal
 
 pub returns-in-Some-clause-grown : goal.returns-in-Some-clause-grown

@@ -1,6 +1,6 @@
 -- What went in lies after the front, and the tail moves where the gap was not full by then.
 use Rattle.std.proofs.Common.{◌≡◌, ◌+◌, ◌-◌, ◌++◌, ◌∙◌, ap, arith, length, length-append}
-use Rattle.thin_vec.proofs.FillingLemmas.{closed-moves}
+use Rattle.thin_vec.proofs.edits.SpliceLemmas.{closed-moves}
 use Rattle.thin_vec.proofs.list.ThinVec.close_filled.Goals as goal
 
 pub returns : goal.returns

@@ -1,8 +1,9 @@
 -- By a test without a state, what is left is `dedup` of the items, and `unlike` says which stay.
 use Rattle.std.proofs.Common.{ap, ◌∙◌}
 use Rattle.thin_block.specs.Cost.{moving}
-use Rattle.thin_vec.specs.Filters.{Compares, moved_up}
-use Rattle.thin_vec.proofs.DedupLemmas.{few-deduped, pairs-compare}
+use Rattle.thin_vec.specs.Edits.Retain.{moved_up}
+use Rattle.thin_vec.specs.Edits.Dedup.{Compares}
+use Rattle.thin_vec.proofs.edits.DedupLemmas.{few-deduped, pairs-compare}
 use Rattle.thin_vec.proofs.list.ThinVec.dedup.Goals as goal
 
 pub returns-clause-items : goal.returns-clause-items

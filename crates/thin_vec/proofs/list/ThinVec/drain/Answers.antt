@@ -1,6 +1,6 @@
 -- What calls from either end give, and that each `next` leaves as it is what the list will have.
 use Rattle.std.proofs.Common.{arith, ◌∙◌}
-use Rattle.thin_vec.proofs.DrainLemmas.{drain_keeps_along, drains_in_order, drains_in_reverse}
+use Rattle.thin_vec.proofs.edits.DrainLemmas.{drain_keeps_along, drains_in_order, drains_in_reverse}
 use Rattle.thin_vec.proofs.list.ThinVec.drain.Goals as goal
 
 pub returns-clause-runs : goal.returns-clause-runs

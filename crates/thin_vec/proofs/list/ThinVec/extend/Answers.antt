@@ -9,7 +9,7 @@ use denote.Param.{param}
 use Rattle.thin_vec.proofs.ThinVecLemmas.{cost_at-copied}
 use Rattle.thin_vec.specs.ThinVec.{capacity_for}
 use Rattle.std.proofs.Common.{inl, sym, Some, List, None, [], refl}
-use Rattle.thin_vec.proofs.ExtendLemmas.{named-after, run_of_ok, filled-join, filled-reserved, loose-join, loose-le, loose-ruled, run_given, run_given_err}
+use Rattle.thin_vec.proofs.list.ExtendLemmas.{named-after, run_of_ok, filled-join, filled-reserved, loose-join, loose-le, loose-ruled, run_given, run_given_err}
 use Rattle.thin_vec.proofs.list.ThinVec.extend.Goals as goal
 
 pub returns-in-Ok-clause-capacity : goal.returns-in-Ok-clause-capacity

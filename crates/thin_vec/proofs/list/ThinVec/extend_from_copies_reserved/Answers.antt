@@ -3,7 +3,7 @@ use Rattle.std.proofs.lemmas.Grind.{common_steps}
 use Rattle.std.proofs.Common.{◌++◌, ◌∙◌, ap, arith, length, refl}
 use Rattle.thin_block.proofs.BlockLemmas.{then-len}
 use Rattle.thin_block.specs.Slots.{items_in}
-use Rattle.thin_vec.proofs.TwoListsLemmas.{settle-more}
+use Rattle.thin_vec.proofs.list.AppendSplitLemmas.{settle-more}
 use Rattle.thin_vec.proofs.ListLemmas.{Settled}
 use Rattle.thin_vec.proofs.ThinVecLemmas.{within-kept, within-of}
 use Rattle.thin_vec.proofs.list.ThinVec.extend_from_copies_reserved.Goals as goal

@@ -1,7 +1,7 @@
 -- No clone fails where none can; clones that are equal are the items.
 use Rattle.std.proofs.Common.{arith, ◌++◌, ap, take_all, ◌∙◌}
 use Rattle.std.proofs.lemmas.List.Elements.{same_from_all_zip}
-use Rattle.thin_vec.proofs.ClonesLemmas.{not-all}
+use Rattle.thin_vec.proofs.list.ClonesLemmas.{not-all}
 use Rattle.std.proofs.lemmas.Grind.{common_steps}
 use Rattle.thin_vec.proofs.list.ThinVec.extend_from_slice_reserved.Goals as goal
 

@@ -2,8 +2,7 @@
 use Rattle.std.proofs.Common.{◌++◌, ap, arith, take_all, ◌∙◌}
 use Rattle.std.proofs.lemmas.List.Elements.{same_from_all_zip}
 use Rattle.std.specs.Prelude.{slice_range}
-use Rattle.thin_vec.proofs.ClonesLemmas.{not-all}
-use Rattle.thin_vec.proofs.WithinLemmas.{length-range}
+use Rattle.thin_vec.proofs.list.ClonesLemmas.{length-range, not-all}
 use Rattle.thin_vec.proofs.list.ThinVec.extend_from_within_reserved.Goals as goal
 
 pub returns-then-push_clones_within-end-clause-succeeds :

@@ -3,9 +3,9 @@ use Rattle.std.proofs.lemmas.Grind.{common_steps}
 use Rattle.std.proofs.Common.{◌++◌, ◌∷◌, [], ◌-◌, ◌∙◌, ap, arith, append_assoc, length, length-append, subst, sym, ◌+◌, inr}
 use Rattle.std.proofs.lemmas.List.{length_push}
 use denote.Param.{param}
-use Rattle.thin_vec.specs.Extend.{IsLoose}
+use Rattle.thin_vec.specs.List.Extend.{IsLoose}
 use Rattle.thin_vec.specs.ThinVec.{capacity_for}
-use Rattle.thin_vec.proofs.ExtendLemmas.{named-more, filled-at, filled-join, filled-spare, loose-join, loose-le, loose-ruled, yields-join, yields-more}
+use Rattle.thin_vec.proofs.list.ExtendLemmas.{named-more, filled-at, filled-join, filled-spare, loose-join, loose-le, loose-ruled, yields-join, yields-more}
 use Rattle.thin_vec.proofs.ThinVecLemmas.{cost_at-copied}
 use Rattle.thin_block.proofs.Outcomes.{at-some}
 use Rattle.thin_vec.proofs.list.ThinVec.extend_unhinted.Goals as goal

@@ -3,7 +3,7 @@ use Rattle.std.proofs.Common.{◌≡◌, ◌+◌, ◌≤◌, List, ◌++◌, len
 use Rattle.std.specs.Iterator.{IsFinite, Yields, size}
 use denote.Param.{param}
 use Rattle.thin_vec.specs.Cheap.{IsCheap}
-use Rattle.thin_vec.specs.Extend.{IsExtendCost, IsLoose, IsNamed}
+use Rattle.thin_vec.specs.List.Extend.{IsExtendCost, IsLoose, IsNamed}
 use Rattle.thin_vec.proofs.list.ThinVec.extend_unhinted.Given as goal
 
 abbrev pub invariant-loop-item : goal.invariant-loop-item

@@ -2,12 +2,12 @@
 use Rattle.std.proofs.Common.{◌≡◌, ◌*◌, ◌++◌, ◌∙◌, ap, arith, length, length-append, subst, sym}
 use Rattle.std.specs.Iterator.{size}
 use denote.Param.{param}
-use Rattle.thin_vec.specs.Extend.{IsExtended}
-use Rattle.thin_vec.specs.Filling.{left_of}
-use Rattle.thin_vec.specs.Finish.{HasTaken}
+use Rattle.thin_vec.specs.List.Extend.{IsExtended}
+use Rattle.thin_vec.specs.Edits.Splice.{left_of}
+use Rattle.thin_vec.specs.Edits.Finish.{HasTaken}
 use Rattle.thin_vec.specs.ThinVec.{HasRoomFor}
-use Rattle.thin_vec.proofs.FillingLemmas.{after-items, closed-left, spliced-extended, stop-at-end, stopped-now}
-use Rattle.thin_vec.proofs.FinishLemmas.{finished-ok}
+use Rattle.thin_vec.proofs.edits.SpliceLemmas.{after-items, closed-left, spliced-extended, stop-at-end, stopped-now}
+use Rattle.thin_vec.proofs.edits.FinishLemmas.{finished-ok}
 use Rattle.thin_vec.proofs.list.ThinVec.fill_at_end.Goals.{After-extend}
 use Rattle.thin_vec.proofs.list.ThinVec.fill_at_end.Goals as goal
 

@@ -1,13 +1,13 @@
 -- The gap is filled, then the room that the hint asked for, and then what was held goes in.
 use Rattle.std.proofs.Common.{[], Err, None, Ok, Some, inl, ℕ, ◌-◌, ◌*◌, ◌++◌, ◌∙◌, ap, arith, length, refl, subst, sym}
 use denote.Param.{param}
-use Rattle.thin_vec.specs.Extend.{IsExtended, IsNamed}
-use Rattle.thin_vec.specs.Filling.{left_of}
-use Rattle.thin_vec.specs.Finish.{HasTaken}
+use Rattle.thin_vec.specs.List.Extend.{IsExtended, IsNamed}
+use Rattle.thin_vec.specs.Edits.Splice.{left_of}
+use Rattle.thin_vec.specs.Edits.Finish.{HasTaken}
 use Rattle.thin_vec.specs.ThinVec.{capacity_for}
-use Rattle.thin_vec.proofs.ExtendLemmas.{named-after}
-use Rattle.thin_vec.proofs.FillingLemmas.{if-err, stop-at-hint, stopped-now, taken-reserved}
-use Rattle.thin_vec.proofs.FinishLemmas.{IsReached, IsWide, filled-drains, filled-reached, filled-taken, finished-from, finished-ok, reached-extended, reached-grown, reached-long, reached-more, reached-taken, reached-wide, wide-taken}
+use Rattle.thin_vec.proofs.list.ExtendLemmas.{named-after}
+use Rattle.thin_vec.proofs.edits.SpliceLemmas.{if-err, stop-at-hint, stopped-now, taken-reserved}
+use Rattle.thin_vec.proofs.edits.FinishLemmas.{IsReached, IsWide, filled-drains, filled-reached, filled-taken, finished-from, finished-ok, reached-extended, reached-grown, reached-long, reached-more, reached-taken, reached-wide, wide-taken}
 use Rattle.thin_vec.proofs.list.ThinVec.fill_between.Goals.{After-close_filled-last}
 use Rattle.thin_vec.proofs.list.ThinVec.fill_between.Goals as goal
 

@@ -4,9 +4,9 @@ use Rattle.std.proofs.lemmas.Grind.{common_steps}
 use Rattle.std.proofs.Common.{◌++◌, ◌-◌, ◌≡◌, ◌∙◌, ap, arith, length, length-append, ltb, subst, refl}
 use Rattle.thin_block.specs.Cost.{moving}
 use Rattle.thin_block.specs.Slots.{items_in}
-use Rattle.thin_vec.specs.Extend.{Gives}
-use Rattle.thin_vec.proofs.ExtendLemmas.{short-ends}
-use Rattle.thin_vec.proofs.TwoListsLemmas.{settle-more}
+use Rattle.thin_vec.specs.List.Extend.{Gives}
+use Rattle.thin_vec.proofs.list.ExtendLemmas.{short-ends}
+use Rattle.thin_vec.proofs.list.AppendSplitLemmas.{settle-more}
 use Rattle.thin_vec.proofs.ListLemmas.{Settled, thin-room, thin_of-keeps}
 use Rattle.thin_vec.proofs.ThinVecLemmas.{within-kept}
 use Rattle.thin_vec.proofs.list.ThinVec.fill_spare.Goals as goal

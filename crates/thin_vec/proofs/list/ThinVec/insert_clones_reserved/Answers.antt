@@ -3,8 +3,8 @@ use Rattle.std.proofs.Common.{◌≡◌, ◌+◌, ◌-◌, ◌++◌, ◌∙◌, 
 use Rattle.std.proofs.lemmas.List.{length-drop, length-take-le}
 use Rattle.std.proofs.lemmas.List.Elements.{length_all_zip}
 use Rattle.std.specs.List.{replace_range}
-use Rattle.thin_vec.proofs.ClonesLemmas.{not-all}
-use Rattle.thin_vec.proofs.ReplacingLemmas.{at-most-if, at-most-le, at-most-more, if-le, put-and-gone}
+use Rattle.thin_vec.proofs.list.ClonesLemmas.{not-all}
+use Rattle.thin_vec.proofs.edits.ReplaceRangeLemmas.{at-most-if, at-most-le, at-most-more, if-le, put-and-gone}
 use Rattle.thin_vec.proofs.list.ThinVec.insert_clones_reserved.Goals as goal
 
 -- the list with the clones that were made

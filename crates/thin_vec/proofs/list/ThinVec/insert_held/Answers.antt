@@ -4,9 +4,9 @@ use Rattle.std.proofs.lemmas.Bool.{cases_lt, false≢true}
 use Rattle.std.specs.Option.{option_len}
 use Rattle.std.specs.Prelude.{IsSome}
 use denote.Param.{param}
-use Rattle.thin_vec.specs.Extend.{IsNamed}
+use Rattle.thin_vec.specs.List.Extend.{IsNamed}
 use Rattle.thin_vec.specs.ThinVec.{capacity_for}
-use Rattle.thin_vec.proofs.FillingLemmas.{inserted-long, named-ruled, stop-at-held, taken-join, taken-none, taken-reserved, taken-spare}
+use Rattle.thin_vec.proofs.edits.SpliceLemmas.{inserted-long, named-ruled, stop-at-held, taken-join, taken-none, taken-reserved, taken-spare}
 use Rattle.thin_block.proofs.Outcomes.{err-same}
 use Rattle.thin_vec.proofs.list.ThinVec.insert_held.Goals.{After-drop-rest, In-Err}
 use Rattle.thin_vec.proofs.list.ThinVec.insert_held.Goals as goal

@@ -8,7 +8,7 @@ use Rattle.thin_block.specs.Cost.{moving}
 use Rattle.thin_block.specs.Slots.{items_in, slot}
 use Rattle.thin_vec.proofs.ThinVecLemmas.{within-kept}
 use Rattle.thin_vec.proofs.list.ThinVec.insert_reserved.Goals.{After-put_and_store}
-use Rattle.thin_vec.proofs.ItemsLemmas.{settle-insert, thin-gap}
+use Rattle.thin_vec.proofs.list.InsertRemoveLemmas.{settle-insert, thin-gap}
 use Rattle.thin_vec.proofs.list.ThinVec.insert_reserved.Goals as goal
 
 pub move_run-requires-clause-filled : goal.move_run-requires-clause-filled

@@ -1,7 +1,7 @@
 -- The moves of the items after the place, and of those that went in.
 use Rattle.std.proofs.Common.{◌≡◌, ◌-◌, ◌∙◌, ap, arith, length}
 use Rattle.thin_block.specs.Cost.{moving}
-use Rattle.thin_vec.proofs.FillingLemmas.{closed-moves, run-moves}
+use Rattle.thin_vec.proofs.edits.SpliceLemmas.{closed-moves, run-moves}
 use Rattle.thin_vec.proofs.list.ThinVec.insert_vec.Goals as goal
 
 pub returns-clause-cost : goal.returns-clause-cost

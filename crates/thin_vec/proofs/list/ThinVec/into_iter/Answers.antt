@@ -1,6 +1,6 @@
 -- What the walks give, from either end.
 use Rattle.std.proofs.Common.{arith, ◌∙◌}
-use Rattle.thin_vec.proofs.IntoIterLemmas.{rest_in_order, rest_in_reverse}
+use Rattle.thin_vec.proofs.convert.IntoIterLemmas.{rest_in_order, rest_in_reverse}
 use Rattle.thin_vec.proofs.list.ThinVec.into_iter.Goals as goal
 
 pub returns-clause-runs : goal.returns-clause-runs

@@ -2,8 +2,8 @@
 use Rattle.std.proofs.Common.{◌++◌, ap, arith, length, ◌∙◌, refl, rules}
 use Rattle.thin_block.proofs.BlockLemmas.{slots-are, then-len}
 use Rattle.thin_block.specs.Slots.{items_in}
-use Rattle.thin_vec.proofs.ClonesLemmas.{length-copies}
-use Rattle.thin_vec.proofs.TwoListsLemmas.{settle-more}
+use Rattle.thin_vec.proofs.list.ClonesLemmas.{length-copies}
+use Rattle.thin_vec.proofs.list.AppendSplitLemmas.{settle-more}
 use Rattle.thin_vec.proofs.ListLemmas.{Settled, thin_of-keeps}
 use Rattle.thin_vec.proofs.ThinVecLemmas.{within-kept}
 use Rattle.thin_vec.proofs.list.ThinVec.push_clones_reserved.Goals as goal

@@ -4,8 +4,8 @@ use Rattle.std.proofs.lemmas.List.{length_push}
 use Rattle.std.proofs.lemmas.List.Elements.{all_zip_more}
 use Rattle.std.specs.Prelude.{slice_range}
 use Rattle.thin_block.specs.Cost.{moving}
-use Rattle.thin_vec.proofs.FiltersLemmas.{moving-more}
-use Rattle.thin_vec.proofs.WithinLemmas.{get-range, length-range}
+use Rattle.thin_vec.proofs.RetainLemmas.{moving-more}
+use Rattle.thin_vec.proofs.list.ClonesLemmas.{get-range, length-range}
 use Rattle.thin_vec.proofs.list.ThinVec.push_clones_within.Goals as goal
 
 pub loop-i-preserved : goal.loop-i-preserved

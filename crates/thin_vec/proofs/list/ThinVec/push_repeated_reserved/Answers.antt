@@ -3,8 +3,8 @@ use Rattle.std.proofs.Common.{◌≡◌, ◌++◌, ap, arith, length, ◌∙◌,
 use Rattle.std.proofs.lemmas.List.{length-replicate}
 use Rattle.thin_block.proofs.BlockLemmas.{slots-are, then-len}
 use Rattle.thin_block.specs.Slots.{items_in}
-use Rattle.thin_vec.proofs.ClonesLemmas.{all-repeated, length-copies}
-use Rattle.thin_vec.proofs.TwoListsLemmas.{settle-more}
+use Rattle.thin_vec.proofs.list.ClonesLemmas.{all-repeated, length-copies}
+use Rattle.thin_vec.proofs.list.AppendSplitLemmas.{settle-more}
 use Rattle.thin_vec.proofs.ListLemmas.{Settled, thin_of-keeps}
 use Rattle.thin_vec.proofs.ThinVecLemmas.{within-kept}
 use Rattle.thin_vec.proofs.list.ThinVec.push_repeated_reserved.Goals as goal

@@ -8,7 +8,7 @@ use Rattle.thin_block.specs.Cost.{moving}
 use Rattle.thin_block.specs.Slots.{items_in, moved}
 use Rattle.thin_vec.proofs.ThinVecLemmas.{within-kept}
 use Rattle.thin_vec.proofs.list.ThinVec.remove.Goals.{After-store_len}
-use Rattle.thin_vec.proofs.ItemsLemmas.{settle-remove}
+use Rattle.thin_vec.proofs.list.InsertRemoveLemmas.{settle-remove}
 use Rattle.thin_vec.proofs.list.ThinVec.remove.Goals as goal
 
 pub take-value-requires : goal.take-value-requires

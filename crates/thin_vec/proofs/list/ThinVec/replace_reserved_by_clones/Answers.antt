@@ -3,9 +3,9 @@ use Rattle.std.proofs.Common.{if◌then◌else◌, ◌≡◌, ◌+◌, ◌-◌, 
 use Rattle.std.proofs.lemmas.List.Elements.{length_all_zip}
 use Rattle.std.specs.List.{AllZip}
 use Rattle.thin_block.specs.Cost.{moving}
-use Rattle.thin_vec.specs.Replacing.{MovesAtMost}
-use Rattle.thin_vec.proofs.FillingLemmas.{any-err, moving-add}
-use Rattle.thin_vec.proofs.ReplacingLemmas.{IsParted, all_zip-append, at-most-le, at-most-more, brought-in, cloning-moves, if-le, put-and-gone, replaced-length}
+use Rattle.thin_vec.specs.Edits.ReplaceRange.{MovesAtMost}
+use Rattle.thin_vec.proofs.edits.SpliceLemmas.{any-err, moving-add}
+use Rattle.thin_vec.proofs.edits.ReplaceRangeLemmas.{IsParted, all_zip-append, at-most-le, at-most-more, brought-in, cloning-moves, if-le, put-and-gone, replaced-length}
 use Rattle.thin_vec.proofs.list.ThinVec.replace_reserved_by_clones.Goals as goal
 
 pub returns-in_err-insert_clones_reserved-clause-refused :

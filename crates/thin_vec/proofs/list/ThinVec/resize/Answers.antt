@@ -3,7 +3,7 @@ use Rattle.std.proofs.lemmas.Grind.{common_steps}
 use Rattle.std.proofs.Common.{◌≡◌, ◌+◌, ◌-◌, ◌++◌, ap, arith, inr, length, replicate, subst, sym, take, take_all, ◌∙◌}
 use Rattle.std.specs.Prelude.{OnOk, Some}
 use denote.Param.{param}
-use Rattle.thin_vec.specs.Clones.{CloneEquals, IsResized, StopsAtClone}
+use Rattle.thin_vec.specs.List.Clones.{CloneEquals, IsResized, StopsAtClone}
 use Rattle.thin_vec.specs.ThinVec.{capacity_for, cost_at}
 use Rattle.thin_block.proofs.Outcomes.{on-err, none-some}
 use Rattle.thin_block.proofs.CapacityLemmas.{ruled}

@@ -1,6 +1,6 @@
 -- Clones that are equal, and the value, are so many times the value.
 use Rattle.std.proofs.Common.{arith}
-use Rattle.thin_vec.proofs.ClonesLemmas.{equal-repeated}
+use Rattle.thin_vec.proofs.list.ClonesLemmas.{equal-repeated}
 use Rattle.std.proofs.lemmas.Grind.{common_steps}
 use Rattle.thin_vec.proofs.list.ThinVec.resize_reserved.Goals as goal
 

@@ -1,7 +1,7 @@
 -- Each question to the judge is a look of the closure that it holds.
 use Rattle.std.specs.Fn.{CalledAt}
-use Rattle.thin_vec.specs.Filters.{Looks}
-use Rattle.thin_vec.proofs.FiltersLemmas.{few-retained, retained-through, retained_filtered}
+use Rattle.thin_vec.specs.Edits.Retain.{Looks}
+use Rattle.thin_vec.proofs.RetainLemmas.{few-retained, retained-through, retained_filtered}
 use Rattle.thin_vec.proofs.list.ThinVec.retain.Goals as goal
 
 pub returns-clause-retained : goal.returns-clause-retained

@@ -6,7 +6,7 @@ use Rattle.thin_block.proofs.CapacityLemmas.{fits-less}
 use denote.Param.{param}
 use Rattle.thin_vec.proofs.ThinVecLemmas.{within-settled}
 use Rattle.thin_vec.proofs.list.ThinVec.shrink_block.Goals.{In_ok-shrink}
-use Rattle.thin_vec.proofs.CapacityLemmas.{settle-shrink}
+use Rattle.thin_vec.proofs.list.CapacityLemmas.{settle-shrink}
 use Rattle.thin_vec.proofs.list.ThinVec.shrink_block.Goals as goal
 
 facts : (g : _) (c : In_ok-shrink g) → Settled c.shrink.new.self c.self.inside.alloc

@@ -3,7 +3,7 @@ use Rattle.std.proofs.Common.{◌-◌, sym, ap, ◌∙◌, length, arith}
 use Rattle.std.specs.List.{slice_get, swap_remove}
 use Rattle.thin_block.proofs.BlockLemmas.{then-len}
 use Rattle.thin_block.specs.Slots.{items_in}
-use Rattle.thin_vec.proofs.ItemsLemmas.{settle-replaced}
+use Rattle.thin_vec.proofs.list.InsertRemoveLemmas.{settle-replaced}
 use Rattle.thin_vec.proofs.ListLemmas.{Settled, thin-filled, thin-get}
 use Rattle.thin_vec.proofs.ThinVecLemmas.{within-kept}
 use Rattle.thin_vec.proofs.list.ThinVec.swap_remove.Goals as goal

@@ -6,7 +6,7 @@ use Rattle.thin_block.proofs.BlockLemmas.{then-len}
 use Rattle.thin_block.specs.Slots.{items_in}
 use Rattle.thin_block.proofs.CapacityLemmas.{fits-bytes}
 use Rattle.thin_block.proofs.SlotsLemmas.{packed-emptied, packed-filled, packed-le, packed-run}
-use Rattle.thin_vec.proofs.ItemsLemmas.{settle-emptied}
+use Rattle.thin_vec.proofs.list.InsertRemoveLemmas.{settle-emptied}
 use Rattle.thin_vec.proofs.ListLemmas.{Settled, full-same, thin-packed}
 use Rattle.thin_vec.proofs.list.ThinVec.take_all.Goals as goal
 

@@ -2,7 +2,7 @@
 use Rattle.std.proofs.Common.{◌≡◌, ◌≤◌, sym, ap, ◌∙◌, length, take, arith, None}
 use lib.ListN.{set}
 use Rattle.thin_block.specs.Slots.{front, items_in}
-use Rattle.thin_vec.proofs.ItemsLemmas.{emptying, emptying-none, emptying-filled, emptying-take, emptying-all}
+use Rattle.thin_vec.proofs.list.InsertRemoveLemmas.{emptying, emptying-none, emptying-filled, emptying-take, emptying-all}
 use Rattle.thin_vec.proofs.ListLemmas.{Settled, settled, thin-room}
 use Rattle.std.proofs.lemmas.List.{length-take, length-take-le}
 use Rattle.thin_vec.proofs.ThinVecLemmas.{within-like, within-of}

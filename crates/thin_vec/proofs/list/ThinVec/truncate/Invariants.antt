@@ -1,7 +1,7 @@
 -- The slots before i are those of the shorter list, and those from i on still hold items.
 use Rattle.std.proofs.Common.{◌≡◌}
 use Rattle.thin_block.specs.Block.{IsFrom}
-use Rattle.thin_vec.proofs.ItemsLemmas.{emptying}
+use Rattle.thin_vec.proofs.list.InsertRemoveLemmas.{emptying}
 use Rattle.thin_vec.proofs.list.ThinVec.truncate.Given as goal
 
 abbrev pub invariant-loop-i : goal.invariant-loop-i

@@ -3,7 +3,7 @@ use Rattle.std.proofs.Common.{[]}
 use Rattle.thin_vec.proofs.ListLemmas.{Settled}
 use Rattle.thin_vec.proofs.ThinVecLemmas.{within-settled}
 use Rattle.thin_vec.proofs.list.ThinVec.with_fitting_capacity.Goals.{In_ok-block}
-use Rattle.thin_vec.proofs.CapacityLemmas.{settle-new}
+use Rattle.thin_vec.proofs.list.CapacityLemmas.{settle-new}
 use Rattle.thin_vec.proofs.list.ThinVec.with_fitting_capacity.Goals as goal
 
 facts : (g : _) (c : In_ok-block g) → Settled c.in_ok-block.block c.args.alloc [] c.args.capacity

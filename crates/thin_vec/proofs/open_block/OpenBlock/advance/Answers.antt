@@ -1,7 +1,7 @@
 -- Where there is no gap, the run that stays joins the front without a move.
 use Rattle.std.proofs.Common.{◌≡◌, ◌<◌, ◌++◌, ◌∙◌, ap, drop, sym, take}
 use Rattle.std.proofs.lemmas.Bool.{false≢true}
-use Rattle.thin_vec.proofs.FiltersLemmas.{moving-before}
+use Rattle.thin_vec.proofs.RetainLemmas.{moving-before}
 use Rattle.thin_vec.proofs.open_block.OpenBlock.advance.Goals as goal
 
 -- there is no gap

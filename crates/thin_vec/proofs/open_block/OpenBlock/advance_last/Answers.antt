@@ -2,7 +2,7 @@
 use Rattle.std.proofs.Common.{◌++◌, ◌∙◌, ap, arith, drop, rules, sym, take}
 use Rattle.std.proofs.lemmas.List.{append-nil}
 use Rattle.thin_block.specs.Cost.{moving}
-use Rattle.thin_vec.proofs.FiltersLemmas.{asked-count, moving-after, moving-none, one-stays, stays-end, stays-goes, stays-start}
+use Rattle.thin_vec.proofs.RetainLemmas.{asked-count, moving-after, moving-none, one-stays, stays-end, stays-goes, stays-start}
 use Rattle.std.proofs.lemmas.Grind.{common_steps}
 use Rattle.thin_vec.proofs.open_block.OpenBlock.advance_last.Goals as goal
 

@@ -2,7 +2,7 @@
 use Rattle.std.proofs.Common.{◌≡◌, ◌++◌, ◌∙◌, ap, arith, drop, rules, sym, take}
 use Rattle.std.proofs.lemmas.List.{append-nil}
 use Rattle.thin_block.specs.Cost.{moving}
-use Rattle.thin_vec.proofs.FiltersLemmas.{moving-after, moving-none, one-stays, runs-join, stays-goes, stays-start, two-stay}
+use Rattle.thin_vec.proofs.RetainLemmas.{moving-after, moving-none, one-stays, runs-join, stays-goes, stays-start, two-stay}
 use Rattle.std.proofs.lemmas.Grind.{common_steps}
 use Rattle.thin_vec.proofs.open_block.OpenBlock.advance_two.Goals as goal
 

@@ -4,7 +4,7 @@ use Rattle.thin_block.specs.Cost.{moving}
 use Rattle.thin_vec.specs.OpenBlock.{open_of}
 use Rattle.std.proofs.Common.{◌++◌, ◌∷◌, []}
 use Rattle.thin_vec.proofs.OpenBlockLemmas.{Found}
-use Rattle.thin_vec.proofs.PairsLemmas.{put-step}
+use Rattle.thin_vec.proofs.open_block.DedupLemmas.{put-step}
 use Rattle.thin_vec.proofs.open_block.OpenBlock.append_to_front.Goals as goal
 
 facts : (g : _) (c : goal.After-self-1 g)

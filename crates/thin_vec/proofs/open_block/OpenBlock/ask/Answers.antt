@@ -3,7 +3,7 @@ use Rattle.std.proofs.Common.{◌<◌, ◌+◌, refl, ap, sym, ◌∙◌, arith,
 use Rattle.thin_block.specs.Lends.{with_item}
 use Rattle.thin_vec.specs.OpenBlock.{open_of}
 use Rattle.thin_vec.proofs.OpenBlockLemmas.{rest-filled}
-use Rattle.thin_vec.proofs.SiftingLemmas.{Written, write-step}
+use Rattle.thin_vec.proofs.open_block.SiftLemmas.{Written, write-step}
 use Rattle.thin_vec.proofs.open_block.OpenBlock.ask.Goals as goal
 
 pub slot_mut-requires : goal.slot_mut-requires

@@ -1,7 +1,7 @@
 -- The last slot of the front is filled, and then holds its item as it was left.
 use Rattle.std.proofs.Common.{◌-◌, refl, ap, sym, ◌∙◌, arith, length}
 use Rattle.thin_block.specs.Lends.{with_item}
-use Rattle.thin_vec.proofs.PairsLemmas.{WrittenLast, last-filled, write-last-step}
+use Rattle.thin_vec.proofs.open_block.DedupLemmas.{WrittenLast, last-filled, write-last-step}
 use Rattle.thin_vec.proofs.open_block.OpenBlock.ask_last.Goals as goal
 
 pub slot_mut-requires : goal.slot_mut-requires

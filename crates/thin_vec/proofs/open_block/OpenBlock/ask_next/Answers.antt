@@ -8,7 +8,7 @@ use Rattle.thin_block.specs.Lends.{with_item}
 use Rattle.thin_block.specs.Slots.{slot}
 use Rattle.std.proofs.lemmas.List.{nil_from_length}
 use Rattle.thin_vec.proofs.OpenBlockLemmas.{rest-filled}
-use Rattle.thin_vec.proofs.SiftingLemmas.{Written, write-step}
+use Rattle.thin_vec.proofs.open_block.SiftLemmas.{Written, write-step}
 use Rattle.thin_vec.proofs.open_block.OpenBlock.ask_next.Goals as goal
 
 pub slot_mut-requires : goal.slot_mut-requires

@@ -2,7 +2,7 @@
 use Rattle.std.proofs.Common.{◌-◌, ap, sym, ◌∙◌, arith, length}
 use Rattle.thin_vec.specs.OpenBlock.{open_of}
 use Rattle.thin_vec.proofs.OpenBlockLemmas.{rest-filled}
-use Rattle.thin_vec.proofs.PairsLemmas.{WrittenTwo, write-two-step}
+use Rattle.thin_vec.proofs.open_block.DedupLemmas.{WrittenTwo, write-two-step}
 use Rattle.thin_vec.proofs.open_block.OpenBlock.ask_pair.Goals as goal
 
 pub ask_neighbours-requires-clause-filled : goal.ask_neighbours-requires-clause-filled

@@ -1,6 +1,6 @@
 -- The first item stays unasked; one item more stays, or it goes and ends the run.
 use Rattle.std.proofs.Common.{arith, refl, rules}
-use Rattle.thin_vec.proofs.DedupLemmas.{pair-goes, pair-more, pair-start}
+use Rattle.thin_vec.proofs.edits.DedupLemmas.{pair-goes, pair-more, pair-start}
 use Rattle.std.proofs.lemmas.Grind.{common_steps}
 use Rattle.thin_vec.proofs.open_block.OpenBlock.ask_pairs.Goals as goal
 

@@ -1,6 +1,6 @@
 -- Each item so far stays, and nothing else of the block has changed.
 use Rattle.std.proofs.Common.{◌≡◌, ◌-◌, length}
-use Rattle.thin_vec.proofs.DedupLemmas.{PairStays}
+use Rattle.thin_vec.proofs.edits.DedupLemmas.{PairStays}
 use Rattle.thin_vec.proofs.open_block.OpenBlock.ask_pairs.Given as goal
 
 abbrev pub invariant-loop-kept : goal.invariant-loop-kept

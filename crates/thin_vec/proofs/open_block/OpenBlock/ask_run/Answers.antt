@@ -1,6 +1,6 @@
 -- One item more was asked about and stays, or it goes and ends the run.
 use Rattle.std.proofs.Common.{arith, refl, rules}
-use Rattle.thin_vec.proofs.FiltersLemmas.{stays-goes, stays-more, stays-start}
+use Rattle.thin_vec.proofs.RetainLemmas.{stays-goes, stays-more, stays-start}
 use Rattle.std.proofs.lemmas.Grind.{common_steps}
 use Rattle.thin_vec.proofs.open_block.OpenBlock.ask_run.Goals as goal
 

@@ -1,6 +1,6 @@
 -- Each item so far stays, and nothing else of the block has changed.
 use Rattle.std.proofs.Common.{◌≡◌, ◌-◌, length}
-use Rattle.thin_vec.proofs.FiltersLemmas.{Stays}
+use Rattle.thin_vec.proofs.RetainLemmas.{Stays}
 use Rattle.thin_vec.proofs.open_block.OpenBlock.ask_run.Given as goal
 
 abbrev pub invariant-loop-at : goal.invariant-loop-at

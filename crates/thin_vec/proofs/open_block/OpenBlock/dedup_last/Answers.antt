@@ -1,6 +1,6 @@
 -- The last item goes, or stays, or there was none: nothing is left to ask about.
 use Rattle.std.proofs.Common.{rules}
-use Rattle.thin_vec.proofs.DedupLemmas.{dedups-goes, dedups-stays, dedups-start}
+use Rattle.thin_vec.proofs.edits.DedupLemmas.{dedups-goes, dedups-stays, dedups-start}
 use Rattle.thin_vec.proofs.open_block.OpenBlock.dedup_last.Goals as goal
 
 -- there is none

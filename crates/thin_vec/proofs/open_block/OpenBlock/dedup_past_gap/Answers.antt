@@ -1,5 +1,5 @@
 -- Each round joins those before it, and leaves an item in front to ask beside.
-use Rattle.thin_vec.proofs.DedupLemmas.{dedups-start, dedups-then}
+use Rattle.thin_vec.proofs.edits.DedupLemmas.{dedups-start, dedups-then}
 use Rattle.thin_vec.proofs.open_block.OpenBlock.dedup_past_gap.Goals as goal
 
 pub loop-self-init : goal.loop-self-init

@@ -1,6 +1,6 @@
 -- Some first items stay; then none is left, or one goes and rounds ask about those after it.
 use Rattle.std.proofs.Common.{◌≡◌, [], sym, ap, ◌∙◌, arith, rules}
-use Rattle.thin_vec.proofs.DedupLemmas.{deduped-ends, deduped-goes}
+use Rattle.thin_vec.proofs.edits.DedupLemmas.{deduped-ends, deduped-goes}
 use Rattle.std.proofs.lemmas.List.{nil_from_length}
 use Rattle.thin_vec.proofs.open_block.OpenBlock.dedup_rest.Goals as goal
 

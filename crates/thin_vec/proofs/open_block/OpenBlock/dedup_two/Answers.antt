@@ -1,7 +1,7 @@
 -- A round ends at the first item that goes, or where none is left: a case for each such place.
 use Rattle.std.proofs.Common.{◌≡◌, ◌∷◌, [], ap, false, refl, sym, ◌∙◌, arith, rules}
 use Rattle.std.proofs.lemmas.List.{append-nil, nil_from_length}
-use Rattle.thin_vec.proofs.DedupLemmas.{run-count, run-ends, run-goes, dedups-goes, dedups-run, dedups-two}
+use Rattle.thin_vec.proofs.edits.DedupLemmas.{run-count, run-ends, run-goes, dedups-goes, dedups-run, dedups-two}
 use Rattle.std.proofs.lemmas.Grind.{common_steps}
 use Rattle.thin_vec.proofs.open_block.OpenBlock.dedup_two.Goals as goal
 

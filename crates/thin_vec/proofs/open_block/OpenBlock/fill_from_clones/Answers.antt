@@ -2,7 +2,7 @@
 use Rattle.std.proofs.Common.{◌≡◌, ◌+◌, ◌-◌, ◌++◌, ◌∙◌, ap, arith, length, sym}
 use Rattle.thin_block.specs.Cost.{moving}
 use Rattle.thin_vec.specs.OpenBlock.{open_of}
-use Rattle.thin_vec.proofs.ClonesLemmas.{length-copies}
+use Rattle.thin_vec.proofs.list.ClonesLemmas.{length-copies}
 use Rattle.thin_vec.proofs.OpenBlockLemmas.{Found, fill-step}
 use Rattle.thin_vec.proofs.open_block.OpenBlock.fill_from_clones.Goals as goal
 

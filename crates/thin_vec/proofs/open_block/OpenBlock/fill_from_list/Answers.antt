@@ -6,7 +6,7 @@ use Rattle.std.proofs.Common.{◌≡◌, ◌+◌, ◌-◌, ◌++◌, ◌∙◌, 
 use Rattle.thin_vec.specs.OpenBlock.{open_of}
 use Rattle.thin_vec.proofs.OpenBlockLemmas.{Found, fill-step}
 use Rattle.thin_vec.proofs.ListLemmas.{Settled, thin-filled, thin-room, thin_of-keeps}
-use Rattle.thin_vec.proofs.TwoListsLemmas.{front-run, settle-cut}
+use Rattle.thin_vec.proofs.list.AppendSplitLemmas.{front-run, settle-cut}
 use Rattle.thin_vec.proofs.open_block.OpenBlock.fill_from_list.Goals as goal
 
 pub move_run_to-requires-clause-filled : goal.move_run_to-requires-clause-filled

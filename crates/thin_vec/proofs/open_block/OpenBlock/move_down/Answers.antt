@@ -3,7 +3,7 @@ use Rattle.std.proofs.Common.{◌++◌, drop, take, ap, sym, ◌∙◌, append_a
 use Rattle.std.proofs.Math.Seq.{take-add}
 use Rattle.std.proofs.lemmas.List.{drop-drop}
 use Rattle.thin_block.specs.Cost.{moving}
-use Rattle.thin_vec.proofs.FiltersLemmas.{moving-more}
+use Rattle.thin_vec.proofs.RetainLemmas.{moving-more}
 use Rattle.thin_vec.proofs.open_block.OpenBlock.move_down.Goals as goal
 
 -- one item more went to the front

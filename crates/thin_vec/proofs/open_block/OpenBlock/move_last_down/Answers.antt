@@ -3,7 +3,7 @@ use Rattle.std.proofs.Common.{◌≡◌, ◌-◌, ◌≤◌, ◌++◌, ◌∙◌
 use Rattle.thin_block.specs.Cost.{moving}
 use Rattle.thin_vec.specs.OpenBlock.{open_of}
 use Rattle.thin_vec.proofs.OpenBlockLemmas.{Found, tail-filled}
-use Rattle.thin_vec.proofs.ReplacingLemmas.{bring-step, brought, brought-seen}
+use Rattle.thin_vec.proofs.edits.ReplaceRangeLemmas.{bring-step, brought, brought-seen}
 use Rattle.thin_vec.proofs.open_block.OpenBlock.move_last_down.Goals as goal
 
 pub move_run-requires-clause-filled : goal.move_run-requires-clause-filled

@@ -5,7 +5,7 @@ use lib.ListN.{set}
 use Rattle.thin_block.specs.Cost.{moving}
 use Rattle.thin_vec.specs.OpenBlock.{open_of}
 use Rattle.thin_vec.proofs.OpenBlockLemmas.{Found, rest-filled}
-use Rattle.thin_vec.proofs.SiftingLemmas.{moved_down, moved_down-seen, move_one_down-step}
+use Rattle.thin_vec.proofs.open_block.SiftLemmas.{moved_down, moved_down-seen, move_one_down-step}
 use Rattle.std.proofs.lemmas.Grind.{common_steps}
 use Rattle.thin_vec.proofs.open_block.OpenBlock.move_one_down.Goals as goal
 

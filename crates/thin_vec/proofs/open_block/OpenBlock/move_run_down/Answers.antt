@@ -6,7 +6,7 @@ use Rattle.thin_block.specs.Cost.{moving}
 use Rattle.thin_block.specs.Slots.{moved, slot}
 use Rattle.thin_vec.specs.OpenBlock.{open_of}
 use Rattle.thin_vec.proofs.OpenBlockLemmas.{Found, before-empty, rest-filled}
-use Rattle.thin_vec.proofs.SiftingLemmas.{moved_down, moved_down-seen, move_run_down-step}
+use Rattle.thin_vec.proofs.open_block.SiftLemmas.{moved_down, moved_down-seen, move_run_down-step}
 use Rattle.thin_vec.proofs.open_block.OpenBlock.move_run_down.Goals as goal
 
 pub close_gap-closed-requires-clause-empty : goal.close_gap-closed-requires-clause-empty

@@ -2,7 +2,7 @@
 use Rattle.std.proofs.Common.{◌≤◌, ◌++◌, ap, ◌∙◌, arith, length, take, drop}
 use Rattle.thin_vec.specs.OpenBlock.{open_of}
 use Rattle.thin_vec.proofs.OpenBlockLemmas.{Found}
-use Rattle.thin_vec.proofs.SiftingLemmas.{moved_down, moved_down-seen, pass-step}
+use Rattle.thin_vec.proofs.open_block.SiftLemmas.{moved_down, moved_down-seen, pass-step}
 use Rattle.thin_vec.proofs.open_block.OpenBlock.pass.Goals as goal
 
 facts : (g : _) (c : goal.After-self-2-1 g)

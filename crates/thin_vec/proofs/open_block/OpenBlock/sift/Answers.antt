@@ -1,7 +1,7 @@
 -- Some first items stay; then none is left, or one goes and all after it were asked about.
 use Rattle.std.proofs.Common.{◌≡◌, [], ap, sym, ◌∙◌, arith, rules}
 use Rattle.std.proofs.lemmas.List.{nil_from_length}
-use Rattle.thin_vec.proofs.FiltersLemmas.{sifted-ends, sifted-goes}
+use Rattle.thin_vec.proofs.RetainLemmas.{sifted-ends, sifted-goes}
 use Rattle.thin_vec.proofs.open_block.OpenBlock.sift.Goals as goal
 
 pub returns-then-rest_len-gt0 : goal.returns-then-rest_len-gt0

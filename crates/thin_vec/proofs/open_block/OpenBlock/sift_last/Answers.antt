@@ -2,7 +2,7 @@
 use Rattle.std.proofs.Common.{◌∙◌, ap, arith, length, sym}
 use Rattle.std.proofs.lemmas.Bool.{false≢true}
 use Rattle.std.proofs.lemmas.List.{nil_from_length}
-use Rattle.thin_vec.proofs.FiltersLemmas.{advanced-count, advanced-ends, advanced-goes, none-left}
+use Rattle.thin_vec.proofs.RetainLemmas.{advanced-count, advanced-ends, advanced-goes, none-left}
 use Rattle.thin_vec.proofs.open_block.OpenBlock.sift_last.Goals as goal
 
 -- an item goes

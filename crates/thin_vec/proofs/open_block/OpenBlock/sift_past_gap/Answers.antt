@@ -1,5 +1,5 @@
 -- One stretch of items after another was asked about, and at last the rest.
-use Rattle.thin_vec.proofs.FiltersLemmas.{sifts-start, sifts-then}
+use Rattle.thin_vec.proofs.RetainLemmas.{sifts-start, sifts-then}
 use Rattle.thin_vec.proofs.open_block.OpenBlock.sift_past_gap.Goals as goal
 
 pub loop-self-init : goal.loop-self-init

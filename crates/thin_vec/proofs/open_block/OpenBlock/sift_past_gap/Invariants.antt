@@ -1,6 +1,6 @@
 -- So far some first items were asked about, and the gap stays open.
 use Rattle.std.proofs.Common.{length}
-use Rattle.thin_vec.specs.Sifting.{Sifts}
+use Rattle.thin_vec.specs.OpenBlock.Sift.{Sifts}
 use Rattle.thin_vec.proofs.open_block.OpenBlock.sift_past_gap.Given as goal
 
 abbrev pub invariant-loop-self : goal.invariant-loop-self

@@ -1,5 +1,5 @@
 -- Whatever the steps, the splice has the iterator that it was made with.
-use Rattle.thin_vec.specs.Splice.{SpliceKeeps}
+use Rattle.thin_vec.specs.Edits.Splice.{SpliceKeeps}
 use Rattle.thin_vec_sweep.proofs.calls.splices.walk.Given as goal
 
 abbrev pub invariant-loop-step : goal.invariant-loop-step

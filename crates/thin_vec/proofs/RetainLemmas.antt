@@ -1,0 +1,649 @@
+-- What is left of items that a closure was asked about, as one stretch of items follows another.
+use Rattle.std.proofs.Common.{◌≡◌, ℕ, zero, suc, ◌+◌, ◌<◌, ◌≤◌, Bool, true, false, List, [], ◌∷◌, ◌++◌, length, take, drop, refl, sym, ap, subst, ◌∙◌, arith, length-append, append_assoc}
+use Rattle.std.proofs.lemmas.Bool.{ne_eqb}
+use Rattle.std.proofs.lemmas.List.{append-nil, drop_at, length-drop, length-take-le, map-append, map_push, nil_from_length, take-append-drop, take_at}
+use Rattle.std.specs.Prelude.{◌==◌, if◌then◌else◌}
+use Rattle.std.specs.List.{filter, items_where_true}
+use Rattle.std.specs.List.Retain.{IsFiltered, ReturnsInTurn}
+use Rattle.std.proofs.lemmas.Fn.{filter_same}
+use Rattle.thin_block.specs.Cost.{Cost, moving}
+use Rattle.thin_vec.specs.Edits.Retain.{Answers, Asked, IsRetained, IsRetainedTo, Looks, flags_of, left_at, moved_up, stay, trues}
+use Rattle.thin_vec.specs.Open.{Open}
+use Rattle.thin_vec.specs.ThinVec.{Thin}
+use Rattle.thin_vec.specs.OpenBlock.Sift.{Advances, IsAskedAt, IsSifted, Runs, Sifts, Stops}
+
+-- moves add up
+pub moving-more : (a b : ℕ) (c : Cost) → moving a (moving b c) ≡ moving (b + a) c
+moving-more a b c = let e : c.moves + b + a ≡ c.moves + (b + a) = omega arith in
+    λ i. record { blocks = c.blocks; grown = c.grown; moves = e i }
+
+-- no move costs nothing
+pub moving-none : (c : Cost) → moving 0 c ≡ c
+moving-none c = let e : c.moves + 0 ≡ c.moves = omega arith in
+    λ i. record { blocks = c.blocks; grown = c.grown; moves = e i }
+
+-- where there is a gap, the moves are paid
+pub moving-after : (gap k : ℕ) (c : Cost) → 0 < gap
+    → (if gap == 0 then c else moving k c) ≡ moving k c
+moving-after gap k c some =
+    ap (λ (b : Bool). if b then c else moving k c)
+    (ne_eqb gap 0 (λ (e : gap ≡ 0). omega (arith, e)))
+
+-- where there is no gap, nothing moves
+pub moving-before : (gap k : ℕ) (c : Cost) → (0 < gap → ⊥)
+    → (if gap == 0 then c else moving k c) ≡ c
+moving-before zero k c none = refl
+moving-before (suc gap) k c none = absurd (none (omega arith))
+
+-- two equal lists that begin with an item begin with equal ones
+pub cons-head : {X : Type 0} {x y : X} {xs ys : List X} → x ∷ xs ≡ y ∷ ys → x ≡ y
+cons-head e = cc
+
+-- two equal lists that begin with an item have equal rests
+pub cons-tail : {X : Type 0} {x y : X} {xs ys : List X} → x ∷ xs ≡ y ∷ ys → xs ≡ ys
+cons-tail e = ap (drop 1) e
+
+-- a list that begins with an item is not empty
+pub cons-not-nil : {X : Type 0} {x : X} {xs : List X} → x ∷ xs ≡ [] → ⊥
+cons-not-nil e = let n = ap length e in omega (arith, n)
+
+-- a list of one item, by the item
+pub single : {X : Type 0} (xs : List X) → length xs ≡ 1 → (x : X) × (xs ≡ x ∷ [])
+single [] e = absurd (omega (arith, e))
+single (x ∷ []) e = (x, refl)
+single (x ∷ y ∷ xs) e = absurd (omega (arith, e))
+
+-- a list of which none is left is empty
+pub none-left : {X : Type 0} (xs : List X) → (0 < length xs → ⊥) → xs ≡ []
+none-left [] none = refl
+none-left (x ∷ xs) none = absurd (none (omega arith))
+
+module _ {T : Type 0} where
+  -- the items that stay of two stretches
+  pub left_at-append : (a b : Answers T) → left_at true (a ++ b) ≡ left_at true a ++ left_at true b
+  left_at-append [] b = refl
+  left_at-append ((true, x) ∷ a) b = ap (λ (l : List T). x ∷ l) (left_at-append a b)
+  left_at-append ((false, x) ∷ a) b = left_at-append a b
+
+  -- how many items stay of two stretches
+  pub trues-append : (a b : Answers T) → trues (flags_of (a ++ b)) ≡ trues
+      (flags_of a) + trues (flags_of b)
+  trues-append [] b = omega arith
+  trues-append ((true, x) ∷ a) b = let e = trues-append a b in omega arith
+  trues-append ((false, x) ∷ a) b = trues-append a b
+
+  -- what is left of items that all stay
+  pub left_at-stay : (xs : List T) → left_at true (stay xs) ≡ xs
+  left_at-stay [] = refl
+  left_at-stay (x ∷ xs) = ap (λ (l : List T). x ∷ l) (left_at-stay xs)
+
+  -- how many items stay of items that all stay
+  pub trues-stay : (xs : List T) → trues (flags_of (stay xs)) ≡ length xs
+  trues-stay [] = refl
+  trues-stay (x ∷ xs) = ap suc (trues-stay xs)
+
+  -- items that all stay don't move, nor do later ones because of them
+  pub moved_up-stay : (xs : List T) (a : Answers T) → moved_up (flags_of (stay xs ++ a))
+      ≡ moved_up (flags_of a)
+  moved_up-stay [] a = refl
+  moved_up-stay (x ∷ xs) a = moved_up-stay xs a
+
+module _ {S T : Type 0} (R : S → T → Bool → S → T → Type 0) where
+  -- a stretch that begins in the state t
+  module _ (t u : S) (ys : List T) (b : Answers T) (k : Asked R t ys b u) where
+    -- a stretch that begins in t goes on after one that ended in t
+    asked-append : (xs : List T) (s : S) (a : Answers T) → Asked R s xs a t
+        → Asked R s (xs ++ ys) (a ++ b) u
+    asked-append [] s a h = subst (λ (c : Answers T). Asked R s ys (c ++ b) u) (sym h.0)
+        (subst (λ (q : S). Asked R q ys b u) h.1 k)
+    asked-append (x ∷ xs) s a h = (
+      h.0,
+      h.1,
+      h.2,
+      h.3 ++ b,
+      h.4,
+      asked-append xs h.2 h.3 h.5,
+      ap (λ (c : Answers T). c ++ b) h.6,
+    )
+
+  -- one question
+  pub asked-one : (s t : S) (x y : T) (b : Bool) → R s x b t y → Asked R s (x ∷ []) ((b, y) ∷ []) t
+  asked-one s t x y b h = (b, y, t, [], h, (refl, refl), refl)
+
+  -- ---- a run of items that stay
+
+  -- the items from k up to m were asked about, and each stays
+  pub record Stays (k m : ℕ) (s : S) (xs : List T) (t : S) (ys : List T) : Type 0 where
+    pub before : List T
+    pub run : List T
+    pub left : List T
+    pub more : List T
+    pub place : length before ≡ k
+    pub reached : k + length left ≡ m
+    pub was : xs ≡ before ++ (run ++ more)
+    pub asked : Asked R s run (stay left) t
+    pub now : ys ≡ before ++ (left ++ more)
+
+  -- before the first question nothing changed
+  pub stays-start : (k : ℕ) (s : S) (xs : List T) → k ≤ length xs → Stays k k s xs s xs
+  stays-start k s xs low =
+      record {
+        before = take k xs;
+        run = [];
+        left = [];
+        more = drop k xs;
+        place = length-take-le k xs low;
+        reached = omega arith;
+        was = sym (take-append-drop k xs);
+        asked = (refl, refl);
+        now = sym (take-append-drop k xs);
+      }
+
+  module _ (k m : ℕ) (s : S) (xs : List T) (t : S) (ys : List T) (h : Stays k m s xs t ys) where
+    abbrev asked-part : List T
+    asked-part = h.before ++ h.left
+
+    long : length asked-part ≡ m
+    long = omega (arith, length-append h.before h.left, h.place, h.reached)
+
+    parted : ys ≡ asked-part ++ h.more
+    parted = h.now ∙ sym (append_assoc h.before h.left h.more)
+
+    -- where the next item stands
+    next-parts : (b : Bool) (u : S) (zs : List T) (a : IsAskedAt R m t ys b u zs)
+        → (a.before ≡ asked-part) × (h.more ≡ a.item ∷ a.after)
+    next-parts b u zs a =
+        let e : asked-part ++ h.more ≡ a.before ++ a.item ∷ a.after = sym parted ∙ a.was in (
+          sym (take_at a.before (a.item ∷ a.after) m a.place)
+              ∙ (ap (take m) (sym e) ∙ take_at asked-part h.more m long),
+          sym (drop_at asked-part h.more m long)
+              ∙ (ap (drop m) e ∙ drop_at a.before (a.item ∷ a.after) m a.place),
+        )
+
+    next-now : (b : Bool) (u : S) (zs : List T) (a : IsAskedAt R m t ys b u zs)
+        → zs ≡ h.before ++ (h.left ++ a.left ∷ a.after)
+    next-now b u zs a = a.now ∙ (ap (λ (l : List T). l ++ a.left ∷ a.after) (next-parts b u zs a).0
+        ∙ append_assoc h.before h.left (a.left ∷ a.after))
+
+    pub stays-more : (u : S) (zs : List T) → IsAskedAt R m t ys true u zs
+        → Stays k (m + 1) s xs u zs
+    stays-more u zs a =
+        let joined : stay h.left ++ (true, a.left) ∷ [] ≡ stay (h.left ++ a.left ∷ []) =
+        sym (map_push (λ (x : T). (true, x)) h.left a.left) in
+        record {
+          before = h.before;
+          run = h.run ++ a.item ∷ [];
+          left = h.left ++ a.left ∷ [];
+          more = a.after;
+          place = h.place;
+          reached = omega (arith, h.reached, length-append h.left (a.left ∷ []));
+          was = h.was ∙ ap (λ (l : List T). h.before ++ l)
+              (ap (λ (l : List T). h.run ++ l) (next-parts true u zs a).1
+              ∙ sym (append_assoc h.run (a.item ∷ []) a.after));
+          asked = subst (λ (c : Answers T). Asked R s (h.run ++ a.item ∷ []) c u) joined
+              (asked-append t u (a.item ∷ []) ((true, a.left) ∷ [])
+              (asked-one t u a.item a.left true a.asked) h.run s (stay h.left) h.asked);
+          now = next-now true u zs a ∙ ap (λ (l : List T). h.before ++ l)
+              (sym (append_assoc h.left (a.left ∷ []) a.after));
+        }
+
+    pub stays-goes : (u : S) (zs : List T) → IsAskedAt R m t ys false u zs → Runs R k m s xs u zs
+    stays-goes u zs a =
+        record {
+          before = h.before;
+          run = h.run;
+          left = h.left;
+          after = a.item ∷ a.after;
+          end = a.left ∷ a.after;
+          between = t;
+          place = h.place;
+          reached = h.reached;
+          was = h.was ∙ ap (λ (l : List T). h.before ++ (h.run ++ l)) (next-parts false u zs a).1;
+          asked = h.asked;
+          stops = (a.left, a.asked, refl);
+          now = next-now false u zs a;
+        }
+
+    pub stays-end : length ys ≤ m → Runs R k m s xs t ys
+    stays-end short =
+        let none : h.more ≡ [] =
+        nil_from_length h.more (omega
+        (arith, short, ap length parted, length-append asked-part h.more, long)) in
+        record {
+          before = h.before;
+          run = h.run;
+          left = h.left;
+          after = [];
+          end = [];
+          between = t;
+          place = h.place;
+          reached = h.reached;
+          was = h.was ∙ ap (λ (l : List T). h.before ++ (h.run ++ l)) none;
+          asked = h.asked;
+          stops = (refl, refl);
+          now = h.now ∙ ap (λ (l : List T). h.before ++ (h.left ++ l)) none;
+        }
+
+  -- one question leaves as many items as there were
+  pub asked-count : (k : ℕ) (s : S) (xs : List T) (b : Bool) (t : S) (ys : List T)
+      → IsAskedAt R k s xs b t ys → length ys ≡ length xs
+  asked-count k s xs b t ys h =
+      omega (
+        arith,
+        ap length h.was,
+        ap length h.now,
+        length-append h.before (h.item ∷ h.after),
+        length-append h.before (h.left ∷ h.after),
+      )
+
+  stay-count : (xs : List T) (s t : S) (ys : List T) → Asked R s xs (stay ys) t
+      → length xs ≡ length ys
+  stay-count [] s t [] h = refl
+  stay-count [] s t (y ∷ ys) h = absurd (cons-not-nil h.0)
+  stay-count (x ∷ xs) s t [] h = absurd (cons-not-nil (sym h.6))
+  stay-count (x ∷ xs) s t (y ∷ ys) h =
+      ap suc (stay-count xs h.2 t ys
+      (subst (λ (a : Answers T). Asked R h.2 xs a t) (sym (cons-tail h.6)) h.5))
+
+  stop-count : (u : S) (b : List T) (t : S) (e : List T) → Stops R u b t e → length e ≡ length b
+  stop-count u [] t e h = ap length h.0
+  stop-count u (x ∷ b) t e h = ap length h.2
+
+  -- a run that was asked about has as many items as before
+  pub runs-count : (k m : ℕ) (s : S) (xs : List T) (t : S) (ys : List T) → Runs R k m s xs t ys
+      → length ys ≡ length xs
+  runs-count k m s xs t ys r =
+      omega (
+        arith,
+        ap length r.was,
+        ap length r.now,
+        length-append r.before (r.run ++ r.after),
+        length-append r.run r.after,
+        length-append r.before (r.left ++ r.end),
+        length-append r.left r.end,
+        stay-count r.run s r.between r.left r.asked,
+        stop-count r.between r.after t r.end r.stops,
+      )
+
+  -- one item stays
+  pub one-stays : (s : S) (xs : List T) (t : S) (ys : List T)
+      → IsAskedAt R 0 s xs true t ys → Stays 0 1 s xs t ys
+  one-stays s xs t ys a = stays-more 0 0 s xs s xs (stays-start 0 s xs (omega arith)) t ys a
+
+  -- two items stay
+  pub two-stay : (s : S) (xs : List T) (t : S) (ys : List T) (u : S) (zs : List T)
+      → IsAskedAt R 0 s xs true t ys → IsAskedAt R 1 t ys true u zs → Stays 0 2 s xs u zs
+  two-stay s xs t ys u zs a b = stays-more 0 1 s xs t ys (one-stays s xs t ys a) u zs b
+
+  module _ (m n : ℕ) where
+    -- two runs, one after the other
+    pub runs-join : (s : S) (xs : List T) (t : S) (ys : List T) (u : S) (zs : List T)
+        → Stays 0 m s xs t ys → Runs R m n t ys u zs → Runs R 0 n s xs u zs
+    runs-join s xs t ys u zs h r =
+        let none = nil_from_length h.before h.place in
+        let same : h.left ++ h.more ≡ r.before ++ (r.run ++ r.after) =
+        sym (h.now ∙ ap (λ (l : List T). l ++ (h.left ++ h.more)) none) ∙ r.was in
+        let long : length h.left ≡ m = omega (arith, h.reached) in
+        let first : r.before ≡ h.left =
+        sym (take_at r.before (r.run ++ r.after) m r.place)
+        ∙ (ap (take m) (sym same) ∙ take_at h.left h.more m long) in
+        let second : h.more ≡ r.run ++ r.after =
+        sym (drop_at h.left h.more m long)
+        ∙ (ap (drop m) same ∙ drop_at r.before (r.run ++ r.after) m r.place) in
+        let joined : stay h.left ++ stay r.left ≡ stay (h.left ++ r.left) =
+        sym (map-append (λ (x : T). (true, x)) h.left r.left) in
+        record {
+          before = [];
+          run = h.run ++ r.run;
+          left = h.left ++ r.left;
+          after = r.after;
+          end = r.end;
+          between = r.between;
+          place = refl;
+          reached = omega (arith, length-append h.left r.left, long, r.reached);
+          was = h.was ∙ (ap (λ (l : List T). l ++ (h.run ++ h.more)) none
+              ∙ (ap (λ (l : List T). h.run ++ l) second ∙ sym (append_assoc h.run r.run r.after)));
+          asked = subst (λ (c : Answers T). Asked R s (h.run ++ r.run) c r.between) joined
+              (asked-append t r.between r.run (stay r.left) r.asked h.run s (stay h.left) h.asked);
+          stops = r.stops;
+          now = r.now ∙ (ap (λ (l : List T). l ++ (r.left ++ r.end)) first
+              ∙ sym (append_assoc h.left r.left r.end));
+        }
+
+  -- ---- what a run leaves, once its items are in front
+
+  -- some first items were asked about: what stays of them, how many those are, and what is left to
+  -- ask about
+  pub record Part (m : ℕ) (s : S) (xs : List T) (t : S) (kept rest : List T) : Type 0 where
+    pub done : List T
+    pub answers : Answers T
+    pub was : xs ≡ done ++ rest
+    pub asked : Asked R s done answers t
+    pub left : left_at true answers ≡ kept
+    pub count : trues (flags_of answers) ≡ m
+
+  module _ (m : ℕ) (s : S) (xs : List T) (t : S) (ys : List T) (r : Runs R 0 m s xs t ys) where
+    run-none : r.before ≡ []
+    run-none = nil_from_length r.before r.place
+
+    run-long : length r.left ≡ m
+    run-long = omega (arith, r.reached)
+
+    run-now : ys ≡ r.left ++ r.end
+    run-now = r.now ∙ ap (λ (l : List T). l ++ (r.left ++ r.end)) run-none
+
+    pub run-was : xs ≡ r.run ++ r.after
+    run-was = r.was ∙ ap (λ (l : List T). l ++ (r.run ++ r.after)) run-none
+
+    pub run-kept : take m ys ≡ r.left
+    run-kept = ap (take m) run-now ∙ take_at r.left r.end m run-long
+
+    pub run-end : drop m ys ≡ r.end
+    run-end = ap (drop m) run-now ∙ drop_at r.left r.end m run-long
+
+    -- the item after the run goes
+    pub stop-goes : (u : S) (b e : List T) (v : T) (rest : List T) → Stops R u b t e → e ≡ v ∷ rest
+        → (x : T) × (b ≡ x ∷ rest) × R u x false t v
+    stop-goes u [] e v rest h k = absurd (cons-not-nil (sym k ∙ h.0))
+    stop-goes u (x ∷ b) e v rest h k =
+        let same : h.0 ∷ b ≡ v ∷ rest = sym h.2 ∙ k in (
+          x,
+          ap (λ (l : List T). x ∷ l) (cons-tail same),
+          subst (λ (y : T). R u x false t y) (cons-head same) h.1,
+        )
+
+    pub part-goes : (v : T) (rest : List T) → drop m ys ≡ v ∷ rest → Part m s xs t (take m ys) rest
+    part-goes v rest k =
+        let g = stop-goes r.between r.after r.end v rest r.stops (sym run-end ∙ k) in
+        record {
+          done = r.run ++ g.0 ∷ [];
+          answers = stay r.left ++ (false, v) ∷ [];
+          was = run-was ∙ (ap (λ (l : List T). r.run ++ l) g.1
+              ∙ sym (append_assoc r.run (g.0 ∷ []) rest));
+          asked = asked-append r.between t (g.0 ∷ []) ((false, v) ∷ [])
+              (asked-one r.between t g.0 v false g.2) r.run s (stay r.left) r.asked;
+          left = left_at-append (stay r.left) ((false, v) ∷ [])
+              ∙ (append-nil (left_at true (stay r.left)) ∙ (left_at-stay r.left ∙ sym run-kept));
+          count = let none : trues (flags_of (let one : Answers T = (false, v) ∷ [] in one)) ≡ 0 =
+              refl in omega (
+                arith,
+                trues-append (stay r.left) ((false, v) ∷ []),
+                trues-stay r.left,
+                run-long,
+                none,
+              );
+        }
+
+    -- no item after the run goes: none is left
+    pub stop-ends : (u : S) (b e : List T) → Stops R u b t e → e ≡ [] → (b ≡ []) × (t ≡ u)
+    stop-ends u [] e h k = (refl, h.1)
+    stop-ends u (x ∷ b) e h k = absurd (cons-not-nil (sym h.2 ∙ k))
+
+    pub part-ends : drop m ys ≡ [] → Part m s xs t (take m ys) []
+    part-ends k =
+        let g = stop-ends r.between r.after r.end r.stops (sym run-end ∙ k) in
+        record {
+          done = r.run;
+          answers = stay r.left;
+          was = run-was ∙ ap (λ (l : List T). r.run ++ l) g.0;
+          asked = subst (λ (q : S). Asked R s r.run (stay r.left) q) (sym g.1) r.asked;
+          left = left_at-stay r.left ∙ sym run-kept;
+          count = trues-stay r.left ∙ run-long;
+        }
+
+  -- ---- on blocks that are open
+
+  module _ {A : Type 0} (v w : Open T A) where
+    pub sifts-of : (m : ℕ) (s t : S) (kept : List T) → Part m s v.rest t kept w.rest
+        → 0 < w.before → w ≡ record v {
+          front = v.front ++ kept;
+          before = w.before;
+          rest = w.rest;
+          cost = moving m v.cost;
+        } → Sifts R s v t w
+    sifts-of m s t kept p gap now =
+        record {
+          done = p.done;
+          answers = p.answers;
+          rest = p.was;
+          asked = p.asked;
+          gap = gap;
+          now = now ∙ (λ i. record v {
+            front = v.front ++ sym p.left i;
+            before = w.before;
+            rest = w.rest;
+            cost = moving (sym p.count i) v.cost;
+          });
+        }
+
+  -- the middle run up to the first item that goes, after a gap
+  module _ {A : Type 0} (s t : S) (v w : Open T A) (gap : 0 < v.before)
+      (h : Advances R s v t w) where
+    abbrev kept : List T
+    kept = take h.count h.left
+
+    moved : w.cost ≡ moving h.count v.cost
+    moved = ap (λ u. u.cost) h.now ∙ moving-after v.before h.count v.cost gap
+
+    -- the first item that goes left w, and nothing else did: z is what is open then
+    pub advanced-goes : (value : T) (z : Open T A) → w.rest ≡ value ∷ z.rest
+        → z ≡ record w { rest = z.rest; before = w.before + 1 } → Sifts R s v t z
+    advanced-goes value z rest same =
+        sifts-of v z h.count s t kept
+        (part-goes h.count s v.rest t h.left h.run value z.rest
+        (sym (ap (λ u. u.rest) h.now) ∙ rest))
+        (omega (arith, ap (λ u. u.before) same))
+        (same ∙ (λ i. record (h.now i)
+        { before = sym (ap (λ u. u.before) same) i; rest = z.rest; cost = moved i }))
+
+    -- none of the items goes
+    pub advanced-ends : w.rest ≡ [] → Sifts R s v t w
+    advanced-ends none =
+        sifts-of v w h.count s t kept
+        (subst (λ (l : List T). Part h.count s v.rest t kept l) (sym none)
+        (part-ends h.count s v.rest t h.left h.run (sym (ap (λ u. u.rest) h.now) ∙ none)))
+        (omega (arith, ap (λ u. u.before) h.now, gap))
+        (λ i. record (h.now i) { before = w.before; rest = w.rest; cost = moved i })
+
+    -- no more items are left to ask about
+    pub advanced-count : length w.rest ≤ length v.rest
+    advanced-count = omega (
+      arith,
+      ap (λ u. length u.rest) h.now,
+      length-drop h.count h.left,
+      runs-count 0 h.count s v.rest t h.left h.run,
+    )
+
+  -- nothing was asked yet; and one stretch after another
+  pub sifts-start : {A : Type 0} (s : S) (v : Open T A) → 0 < v.before → Sifts R s v s v
+  sifts-start s v gap =
+      record {
+        done = [];
+        answers = [];
+        rest = refl;
+        asked = (refl, refl);
+        gap = gap;
+        now = λ i. record v
+            { front = sym (append-nil v.front) i; cost = sym (moving-none v.cost) i };
+      }
+
+  -- one round after another
+  pub sifts-then : {A : Type 0} {s t u : S} {v w z : Open T A} → Sifts R s v t w
+      → Sifts R t w u z → Sifts R s v u z
+  sifts-then {s = s} {t} {u} {v} {w} {z} h k =
+      record {
+        done = h.done ++ k.done;
+        answers = h.answers ++ k.answers;
+        rest = h.rest ∙ (ap (λ (l : List T). h.done ++ l) k.rest
+            ∙ sym (append_assoc h.done k.done z.rest));
+        asked = asked-append t u k.done k.answers k.asked h.done s h.answers h.asked;
+        gap = k.gap;
+        now = k.now ∙ ((λ i. let u = h.now i in record u {
+          front = u.front ++ left_at true k.answers;
+          before = z.before;
+          rest = z.rest;
+          cost = moving (trues (flags_of k.answers)) u.cost;
+        })
+            ∙ (λ i. record v {
+              front = (append_assoc v.front (left_at true h.answers) (left_at true k.answers)
+                  ∙ ap (λ (l : List T). v.front ++ l) (sym (left_at-append h.answers k.answers))) i;
+              before = z.before;
+              rest = z.rest;
+              cost = (moving-more (trues (flags_of k.answers)) (trues (flags_of h.answers)) v.cost
+                  ∙ ap (λ (n : ℕ). moving n v.cost) (sym (trues-append h.answers k.answers))) i;
+            }));
+      }
+
+  module _ {A : Type 0} (v w : Open T A) (m : ℕ) (s t : S) (ys : List T)
+      (run : Runs R 0 m s v.rest t ys) where
+    -- of v, w has the tail, the slots and where they came from, and the run in front of it, for
+    -- nothing
+    abbrev Passed : Type 0
+    Passed = w ≡ record v
+        { front = v.front ++ take m ys; before = w.before; rest = w.rest }
+
+    -- the item after the run goes, and then all others were asked about
+    pub sifted-goes : (value : T) (u : S) (z : Open T A) → Passed → drop m ys ≡ value ∷ w.rest
+        → Sifts R t w u z → z.rest ≡ [] → IsSifted R s v u z
+    unfolding part-goes
+    sifted-goes value u z p k h none =
+        let part = part-goes m s v.rest t ys run value w.rest k in
+        let stays : List T = run.left in
+        let answers : Answers T = part.answers ++ h.answers in
+        let up : moved_up (flags_of answers) ≡ trues (flags_of h.answers) =
+        ap (λ (a : Answers T). moved_up (flags_of a))
+        (append_assoc (stay stays) ((false, value) ∷ []) h.answers)
+        ∙ moved_up-stay stays ((false, value) ∷ h.answers) in
+        let all : h.done ≡ w.rest =
+        sym (h.rest ∙ (ap (λ (l : List T). h.done ++ l) none ∙ append-nil h.done)) in
+        record {
+          answers = answers;
+          asked = subst (λ (l : List T). Asked R s l answers u)
+              (ap (λ (l : List T). part.done ++ l) all ∙ sym part.was)
+              (asked-append t u h.done h.answers h.asked part.done s part.answers part.asked);
+          now = h.now ∙ ((λ i. let u = p i in record u {
+            front = u.front ++ left_at true h.answers;
+            before = z.before;
+            rest = none i;
+            cost = moving (sym up i) u.cost;
+          })
+              ∙ (λ i. record v {
+                front = (ap (λ (l : List T). (v.front ++ l) ++ left_at true h.answers)
+                    (sym part.left)
+                    ∙ (append_assoc v.front (left_at true part.answers) (left_at true h.answers)
+                    ∙ ap (λ (l : List T). v.front ++ l)
+                    (sym (left_at-append part.answers h.answers)))) i;
+                before = z.before;
+                rest = [];
+                cost = moving (moved_up (flags_of answers)) v.cost;
+              }));
+        }
+
+    -- all items stay
+    pub sifted-ends : Passed → drop m ys ≡ [] → w.rest ≡ [] → IsSifted R s v t w
+    unfolding part-ends
+    sifted-ends p k none =
+        let part = part-ends m s v.rest t ys run k in
+        let up : moved_up (flags_of part.answers) ≡ 0 =
+        ap (λ (a : Answers T). moved_up (flags_of a)) (sym (append-nil part.answers))
+        ∙ moved_up-stay run.left [] in
+        record {
+          answers = part.answers;
+          asked = subst (λ (l : List T). Asked R s l part.answers t)
+              (sym (append-nil part.done) ∙ sym part.was) part.asked;
+          now = p ∙ (λ i. record v {
+            front = v.front ++ sym part.left i;
+            before = w.before;
+            rest = none i;
+            cost = (sym (moving-none v.cost) ∙ ap (λ (n : ℕ). moving n v.cost) (sym up)) i;
+          });
+        }
+
+-- a judge that holds a closure decides as the closure does
+module _ {J S T : Type 0} (R : S → T → Bool → S → T → Type 0) (inside : J → S) where
+  abbrev through : J → T → Bool → J → T → Type 0
+  through s x b t y = R (inside s) x b (inside t) y
+
+  -- items that such a judge was asked about were asked of the closure
+  pub asked-through : (xs : List T) (s t : J) (a : Answers T) → Asked through s xs a t
+      → Asked R (inside s) xs a (inside t)
+  asked-through [] s t a h = (h.0, ap inside h.1)
+  asked-through (x ∷ xs) s t a h =
+      (h.0, h.1, inside h.2, h.3, h.4, asked-through xs h.2 t h.3 h.5, h.6)
+
+  -- what such a judge leaves of a list is what the closure leaves
+  pub retained-through : {A : Type 0} (s : J) (v w : Thin T A) (t : J)
+      → IsRetainedTo through s v w t → IsRetained R (inside s) v w
+  retained-through s v w t h = (
+    inside t,
+    record {
+      answers = h.answers;
+      asked = asked-through v.items s t h.answers h.asked;
+      items = h.items;
+      cost = h.cost;
+    },
+  )
+
+-- ---- for callers
+
+-- what a closure that only looks returns, alone
+module _ {S T : Type 0} (R : S → T → Bool → S → Type 0) where
+  told : (xs : List T) (s t : S) (a : Answers T) → Asked (Looks R) s xs a t
+      → (length (flags_of a) ≡ length xs) × ReturnsInTurn R s (flags_of a) xs t
+      × (left_at true a ≡ items_where_true (flags_of a) xs)
+  told [] s t [] h = (refl, sym h.1, refl)
+  told [] s t (q ∷ a) h = absurd (cons-not-nil h.0)
+  told (x ∷ xs) s t [] h = absurd (cons-not-nil (sym h.6))
+  told (x ∷ xs) s t ((b, y) ∷ a) h =
+      let same : (b, y) ≡ (h.0, h.1) = cons-head h.6 in
+      let rest = told xs h.2 t a
+      (subst (λ (c : Answers T). Asked (Looks R) h.2 xs c t) (sym (cons-tail h.6)) h.5) in
+      let answer : R s x b h.2 = subst (λ (c : Bool). R s x c h.2)
+      (sym (ap (λ (p : Bool × T). p.0) same)) h.4.0 in
+      let left : y ≡ x = ap (λ (p : Bool × T). p.1) same ∙ h.4.1 in
+      (ap suc rest.0, (h.2, answer, rest.1), first b y x a xs left rest.2)
+    where
+      first : (b : Bool) (y x : T) (a : Answers T) (xs : List T) → y ≡ x
+          → left_at true a ≡ items_where_true (flags_of a) xs
+          → left_at true ((b, y) ∷ a) ≡ items_where_true (b ∷ flags_of a) (x ∷ xs)
+      first true y x a xs e f = λ i. e i ∷ f i
+      first false y x a xs e f = f
+
+  -- std's word for what `retain` leaves, for whose lemmas see the kit's `lemmas/Fn`
+  pub retained_filtered : {A : Type 0} (s : S) (v w : Thin T A) → IsRetained (Looks R) s v w
+      → IsFiltered R s v.items w.items
+  retained_filtered s v w h =
+      let r = h.1 in
+      let t = told v.items s h.0 r.answers r.asked in
+      (flags_of r.answers, h.0, t.0, t.1, r.items ∙ t.2)
+
+  -- where the closure returns what a test does, and stays as it was, the items are those that pass
+  -- the test
+  pub retained_filter : {A : Type 0} (test : T → Bool) {s : S} {v w : Thin T A}
+      → ((x : T) (b : Bool) (t : S) → R s x b t → (b ≡ test x) × (t ≡ s))
+      → IsRetained (Looks R) s v w → w.items ≡ filter test v.items
+  retained_filter test {s} {v} {w} says h = filter_same R test s says v.items w.items
+      (retained_filtered s v w h)
+
+module _ {S T : Type 0} (R : S → T → Bool → S → T → Type 0) where
+  -- no more items stay than there were
+  pub few-left : (xs : List T) (s t : S) (a : Answers T) → Asked R s xs a t
+      → length (left_at true a) ≤ length xs
+  few-left [] s t a h = subst (λ (b : Answers T). length (left_at true b) ≤ 0) (sym h.0) (omega arith)
+  few-left (x ∷ xs) s t a h =
+      let rest = few-left xs h.2 t h.3 h.5 in
+      subst (λ (b : Answers T). length (left_at true b) ≤ suc (length xs)) (sym h.6)
+      (one h.0 h.1 h.3 xs rest)
+    where
+      one : (b : Bool) (y : T) (a : Answers T) (xs : List T)
+          → length (left_at true a) ≤ length xs
+          → length (left_at true ((b, y) ∷ a)) ≤ suc (length xs)
+      one true y a xs few = omega (arith, few)
+      one false y a xs few = omega (arith, few)
+
+  -- nor after `retain`
+  pub few-retained : {A : Type 0} (s : S) (v w : Thin T A) → IsRetained R s v w
+      → length w.items ≤ length v.items
+  few-retained s v w h =
+      let few = few-left v.items s h.0 h.1.answers h.1.asked in
+      omega (arith, few, ap length h.1.items)

@@ -1,6 +1,0 @@
--- Nothing waits to be written.
-use Rattle.std.proofs.Common.{arith, ◌∙◌}
-use Rattle.thin_vec.proofs.bytes.ThinVecU8Write.flush.Goals as goal
-
-pub returns-clause-unchanged : goal.returns-clause-unchanged
-returns-clause-unchanged g c = search (arith, ◌∙◌)

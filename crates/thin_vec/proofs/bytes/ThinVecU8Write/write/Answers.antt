@@ -1,6 +1,0 @@
--- All bytes are written.
-use Rattle.std.proofs.Common.{arith, ◌∙◌}
-use Rattle.thin_vec.proofs.bytes.ThinVecU8Write.write.Goals as goal
-
-pub returns-clause-value : goal.returns-clause-value
-returns-clause-value g c = search (arith, ◌∙◌)

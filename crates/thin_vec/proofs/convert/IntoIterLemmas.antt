@@ -1,0 +1,278 @@
+-- What a block holds whose items lie in a row with no slot filled before or after them, after each
+-- step on it; and what a walk over it yields.
+use Rattle.std.proofs.Common.{◌≡◌, ℕ, zero, suc, ◌+◌, ◌-◌, ◌<◌, ◌≤◌, List, [], ◌∷◌, ◌++◌, Option, Some, None, length, take, drop, refl, sym, ap, ◌∙◌, arith, get_or, length-append, append_assoc}
+use Rattle.std.proofs.iter.runs.Sources.{as_is, as_is_back, from_back, from_front}
+use Rattle.std.proofs.lemmas.Grind.{take_at_read}
+use Rattle.std.proofs.lemmas.List.{append-nil, drop_at, nil_from_length, get_or-append_right, get_or_at, length-take-le, map_push, replicate-append-replicate, set_at, take_at}
+use Rattle.std.specs.Iterator.{YieldsFirst, YieldsLast}
+use Rattle.std.specs.Prelude.{IsSome, slice_range}
+use lib.ListN.{set}
+use Rattle.thin_block.specs.Block.{IsFrom, seen}
+use Rattle.thin_block.specs.Lends.{over, with_items as block_with_items}
+use Rattle.thin_block.specs.Slots.{empty, full, items_in, slot}
+use Rattle.thin_block.specs.declared.block.Block.{Block}
+use Rattle.thin_vec.specs.Convert.IntoIter.{IsWalked, RestInOrder, RestInReverse, rest}
+use Rattle.std.specs.List.{length_refill, refill}
+use Rattle.thin_vec.specs.Lends.{with_items}
+use Rattle.thin_vec.specs.ThinVec.{thin_of}
+use Rattle.thin_vec.proofs.LendsLemmas.{over-front}
+use Rattle.thin_vec.proofs.ListLemmas.{from-same, full-same, get-some, items-empty, items-full, length-empty, length-full, slot-get}
+
+module _ {T : Type 0} where
+  items-after : (k : ℕ) (s : List (Option T)) → items_in (empty k ++ s) ≡ items_in s
+  items-after zero s = refl
+  items-after (suc k) s = items-after k s
+
+  -- the first item leaves
+  set-first : (start k : ℕ) (x : T) (xs : List T) → set (empty start ++ (full (x ∷ xs) ++ empty k))
+      start None ≡ empty (start + 1) ++ (full xs ++ empty k)
+  set-first start k x xs =
+      set_at (empty start) (Some x) (full xs ++ empty k) None start (length-empty T start)
+      ∙ (sym (append_assoc (empty start) (None ∷ []) (full xs ++ empty k))
+      ∙ ap (λ (s : List (Option T)). s ++ (full xs ++ empty k))
+      (replicate-append-replicate start 1 None))
+
+  -- the last item, in front of empty slots
+  row-last : (start k : ℕ) (xs : List T) (x : T) → empty start ++ (full (xs ++ x ∷ []) ++ empty k)
+      ≡ (empty start ++ full xs) ++ (Some x ∷ empty k)
+  row-last start k xs x =
+      ap (λ (s : List (Option T)). empty start ++ (s ++ empty k)) (map_push Some xs x)
+      ∙ (ap (λ (s : List (Option T)). empty start ++ s)
+      (append_assoc (full xs) (Some x ∷ []) (empty k))
+      ∙ sym (append_assoc (empty start) (full xs) (Some x ∷ empty k)))
+
+  before-last : (start : ℕ) (xs : List T) → length (empty start ++ full xs) ≡ start + length xs
+  before-last start xs =
+      omega (arith, length-append (empty start) (full xs), length-empty T start, length-full xs)
+
+  slot-last : (start k : ℕ) (xs : List T) (x : T)
+      → slot (empty start ++ (full (xs ++ x ∷ []) ++ empty k)) (start + length xs) ≡ Some x
+  slot-last start k xs x = ap (λ (s : List (Option T)). slot s (start + length xs))
+      (row-last start k xs x) ∙ get_or_at (empty start ++ full xs) (Some x) (empty k) None
+      (start + length xs) (before-last start xs)
+
+  -- the last item leaves
+  set-last : (start k : ℕ) (xs : List T) (x : T)
+      → set (empty start ++ (full (xs ++ x ∷ []) ++ empty k)) (start + length xs) None ≡ empty start
+      ++ (full xs ++ empty (k + 1))
+  set-last start k xs x =
+      ap (λ (s : List (Option T)). set s (start + length xs) None) (row-last start k xs x)
+      ∙ (set_at (empty start ++ full xs) (Some x) (empty k) None
+      (start + length xs) (before-last start xs)
+      ∙ (append_assoc (empty start) (full xs) (None ∷ empty k)
+      ∙ ap (λ (n : ℕ). empty start ++ (full xs ++ empty n))
+      (let e : suc k ≡ k + 1 = omega arith in e)))
+
+  -- a list that is not empty, by its last item
+  split-last : (xs : List T) (j : ℕ) (d : T) → j + 1 ≡ length xs
+      → xs ≡ take j xs ++ get_or xs j d ∷ []
+  split-last xs j d e = sym (all xs (j + 1) e) ∙ (take_at_read xs j d (omega arith)).1
+    where
+      all : (ys : List T) (n : ℕ) → n ≡ length ys → take n ys ≡ ys
+      all ys n same = ap (take n) (sym (append-nil ys)) ∙ take_at ys [] n (sym same)
+
+  -- what is written over the items
+  over-after : (start : ℕ) (s : List (Option T)) (ws : List T)
+      → over (empty start ++ s) start ws ≡ empty start ++ over s 0 ws
+  over-after zero s ws = refl
+  over-after (suc start) s ws = ap (λ (r : List (Option T)). None ∷ r) (over-after start s ws)
+
+module _ {T A : Type 0} where
+  -- the block of an iterator whose items xs lie in the slots from `start` up to `end`, of c
+  pub record Walking (b : Block T A) (a : A) (xs : List T) (start end c : ℕ) : Type 0 where
+    pub walked : IsWalked b a start end
+    pub items : items_in b.slots ≡ xs
+    pub cap : length b.slots ≡ c
+
+  walking : (b : Block T A) {a : A} (xs : List T) (start end : ℕ) {c : ℕ}
+      → b.slots ≡ empty start ++ (full xs ++ empty (c - end)) → start + length xs ≡ end → end ≤ c
+      → IsFrom b a → Walking b a xs start end c
+  walking b xs start end {c} e n h f =
+      let after : List (Option T) = empty (c - end) in
+      let i : items_in b.slots ≡ xs =
+      ap items_in e ∙ (items-after start (full xs ++ after)
+      ∙ (items-full xs after
+      ∙ (ap (λ (ys : List T). xs ++ ys) (items-empty (c - end)) ∙ append-nil xs))) in
+      let l : length b.slots ≡ c =
+      omega (
+        arith,
+        ap length e,
+        length-append (empty start) (full xs ++ after),
+        length-append (full xs) after,
+        length-empty T start,
+        length-full xs,
+        length-empty T (c - end),
+      ) in
+      record {
+        walked = record {
+          row = e ∙ (ap (λ (ys : List T). empty start ++ (full ys ++ after)) (sym i)
+              ∙ ap (λ (q : ℕ). empty start ++ (full (items_in b.slots) ++ empty (q - end)))
+              (sym l));
+          len = ap (λ (ys : List T). start + length ys) i ∙ n;
+          from = f;
+        };
+        items = i;
+        cap = l;
+      }
+
+  -- the items lie within the slots
+  pub walked-room : (b : Block T A) (a : A) (start end : ℕ)
+      → IsWalked b a start end → end ≤ length b.slots
+  walked-room b a start end t =
+      let xs : List T = items_in b.slots in
+      let after : List (Option T) = empty (length b.slots - end) in
+      omega (
+        arith,
+        t.len,
+        ap length t.row,
+        length-append (empty start) (full xs ++ after),
+        length-append (full xs) after,
+        length-empty T start,
+        length-full xs,
+      )
+
+  -- each slot from `start` up to `end` holds an item
+  pub walked-filled : (b : Block T A) (a : A) (start end i : ℕ) → IsWalked b a start end → start ≤ i
+      → i < end → IsSome (slot b.slots i)
+  walked-filled b a start end i t low high =
+      let xs : List T = items_in b.slots in
+      let after : List (Option T) = empty (length b.slots - end) in
+      let within : i - start < length xs = omega (arith, t.len) in
+      rw (ap (λ (s : List (Option T)). slot s i) t.row
+      ∙ (get_or-append_right (empty start) (full xs ++ after) start i None (length-empty T start)
+      low ∙ slot-get xs after (i - start) within))
+      (get-some xs (i - start) within)
+
+  -- the slots of the items, as a run
+  pub walked-run : (b : Block T A) (a : A) (start end : ℕ) (ys : List T) → IsWalked b a start end
+      → full ys ≡ slice_range b.slots start end → ys ≡ items_in b.slots
+  walked-run b a start end ys t run =
+      let xs : List T = items_in b.slots in
+      let after : List (Option T) = empty (length b.slots - end) in
+      let count : length (full xs) ≡ end - start = omega (arith, t.len, length-full xs) in
+      full-same ys xs (run ∙ (ap (λ (s : List (Option T)). slice_range s start end) t.row
+      ∙ (ap (take (end - start))
+      (drop_at (empty start) (full xs ++ after) start (length-empty T start))
+      ∙ take_at (full xs) after (end - start) count)))
+
+  module _ (b b' : Block T A) (a : A) (start end : ℕ) (v : T) (t : IsWalked b a start end)
+      (some : start < end) where
+    abbrev xs : List T
+    xs = items_in b.slots
+
+    abbrev gap : ℕ
+    gap = length b.slots - end
+
+    -- the first item was yielded
+    first-of : (ys : List T) (k : ℕ) → 0 < length ys
+        → slot (empty start ++ (full ys ++ empty k)) start ≡ Some v
+        → (ys ≡ v ∷ drop 1 ys)
+        × (set (empty start ++ (full ys ++ empty k)) start None ≡ empty (start + 1)
+        ++ (full (drop 1 ys) ++ empty k))
+    first-of [] k h e = absurd (omega arith)
+    first-of (y ∷ ys) k h e =
+        let is : Some y ≡ Some v =
+        sym (get_or_at (empty start) (Some y) (full ys ++ empty k) None start
+        (length-empty T start)) ∙ e in
+        let same : y ≡ v = cc in
+        (ap (λ (x : T). x ∷ ys) same, set-first start k y ys)
+
+    first : slot b.slots start ≡ Some v → (xs ≡ v ∷ drop 1 xs)
+        × (set b.slots start None ≡ empty (start + 1) ++ (full (drop 1 xs) ++ empty gap))
+    first e =
+        let h = first-of xs gap (omega (arith, t.len))
+        (ap (λ (s : List (Option T)). slot s start) (sym t.row) ∙ e) in
+        (h.0, ap (λ (s : List (Option T)). set s start None) t.row ∙ h.1)
+
+    pub first-item : slot b.slots start ≡ Some v → xs ≡ v ∷ drop 1 xs
+    first-item e = (first e).0
+
+    pub settle-first : slot b.slots start ≡ Some v
+        → seen b' ≡ record (seen b) { slots = set b.slots start None }
+        → Walking b' a (drop 1 xs) (start + 1) end (length b.slots)
+    settle-first e w =
+        walking b' (drop 1 xs) (start + 1) end (ap (λ v. v.slots) w ∙ (first e).1)
+        (omega (arith, t.len, ap length (first e).0)) (walked-room b a start end t)
+        (from-same b b' a t.from (ap (λ v. v.alloc) w))
+
+    -- the last item was yielded
+    abbrev most : List T
+    most = take (end - 1 - start) xs
+
+    whole : xs ≡ most ++ get_or xs (end - 1 - start) v ∷ []
+    whole = split-last xs (end - 1 - start) v (omega (arith, t.len))
+
+    place : start + length most ≡ end - 1
+    place = omega (arith, t.len, length-take-le (end - 1 - start) xs (omega (arith, t.len)))
+
+    row : b.slots ≡ empty start ++ (full (most ++ get_or xs (end - 1 - start) v ∷ []) ++ empty gap)
+    row = t.row ∙ ap (λ (ys : List T). empty start ++ (full ys ++ empty gap)) whole
+
+    pub last-item : slot b.slots (end - 1) ≡ Some v → xs ≡ most ++ v ∷ []
+    last-item e =
+        let is : Some (get_or xs (end - 1 - start) v) ≡ Some v =
+        sym (slot-last start gap most (get_or xs (end - 1 - start) v))
+        ∙ (ap (slot _) place ∙ (ap (λ (s : List (Option T)). slot s (end - 1)) (sym row) ∙ e))
+        in
+        let same : get_or xs (end - 1 - start) v ≡ v = cc in
+        whole ∙ ap (λ (x : T). most ++ x ∷ []) same
+
+    pub settle-last : seen b' ≡ record (seen b) { slots = set b.slots (end - 1) None }
+        → Walking b' a most start (end - 1) (length b.slots)
+    settle-last w =
+        let more : gap + 1 ≡ length b.slots - (end - 1) =
+        omega (arith, walked-room b a start end t) in
+        walking b' most start (end - 1)
+        (ap (λ v. v.slots) w ∙ ((λ i. set (row i) (sym place i) None)
+        ∙ (set-last start gap most _
+        ∙ ap (λ (n : ℕ). empty start ++ (full most ++ empty n)) more)))
+        place (omega (arith, walked-room b a start end t))
+        (from-same b b' a t.from (ap (λ v. v.alloc) w))
+
+  -- what remains was written
+  pub settle-written : (b b' : Block T A) (a : A) (start end : ℕ) (ws : List T)
+      → IsWalked b a start end → seen b' ≡ record (seen b) { slots = over b.slots start ws }
+      → Walking b' a (refill (length (items_in b.slots)) (items_in b.slots) ws)
+      start end (length b.slots)
+  settle-written b b' a start end ws t w =
+      let xs : List T = items_in b.slots in
+      let gap : ℕ = length b.slots - end in
+      walking b' (refill (length xs) xs ws) start end
+      (ap (λ v. v.slots) w ∙ (ap (λ (r : List (Option T)). over r start ws) t.row
+      ∙ (over-after start (full xs ++ empty gap) ws
+      ∙ ap (λ (r : List (Option T)). empty start ++ r) (over-front xs gap ws))))
+      (omega (arith, t.len, length_refill (length xs) xs ws refl)) (walked-room b a start end t)
+      (from-same b b' a t.from (ap (λ v. v.alloc) w))
+
+  -- the iterator of a block whose items were written
+  pub view-written : (b : Block T A) (a : A) (start end : ℕ) (ws : List T) → IsWalked b a start end
+      → thin_of (block_with_items b start ws) a ≡ with_items (thin_of b a) ws
+  view-written b a start end ws t =
+      let f = settle-written b (block_with_items b start ws) a start end ws t refl in
+      λ i. record { items = f.items i; capacity = f.cap i; alloc = a; cost = b.cost }
+
+  -- nothing remains: every slot is empty
+  pub walked-empty : (b : Block T A) (a : A) (start end : ℕ) → IsWalked b a start end
+      → length (items_in b.slots) ≡ 0 → b.slots ≡ empty (length b.slots)
+  walked-empty b a start end t none =
+      let same : start ≡ end = omega (arith, t.len) in
+      let all : start + (length b.slots - end) ≡ length b.slots =
+      omega (arith, walked-room b a start end t) in
+      t.row ∙ (ap (λ (ys : List T). empty start ++ (full ys ++ empty (length b.slots - end)))
+      (nil_from_length (items_in b.slots) none)
+      ∙ (replicate-append-replicate start (length b.slots - end) None
+      ∙ ap (λ (n : ℕ). empty n) all))
+
+-- what calls of `next`, and of `next_back`, give
+module _ (T A : Type 0) where
+  -- `next` yields what remains, in order
+  pub rest_in_order : RestInOrder T A
+  rest_in_order p s =
+      as_is p (rest p.from)
+      (from_front (YieldsFirst rest) (λ x. x) rest (λ s t h. ap length h.0) (λ s x t h. h) p s)
+
+  -- `next_back` yields what remains, in reverse
+  pub rest_in_reverse : RestInReverse T A
+  rest_in_reverse p s =
+      as_is_back p (rest p.from)
+      (from_back (YieldsLast rest) (λ x. x) rest (λ s t h. ap length h.0) (λ s x t h. h) p s)

@@ -1,0 +1,6 @@
+-- All bytes are written.
+use Rattle.std.proofs.Common.{arith, ◌∙◌}
+use Rattle.thin_vec.proofs.convert.bytes.ThinVecU8Write.write.Goals as goal
+
+pub returns-clause-value : goal.returns-clause-value
+returns-clause-value g c = search (arith, ◌∙◌)

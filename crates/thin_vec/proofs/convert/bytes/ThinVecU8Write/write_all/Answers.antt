@@ -1,0 +1,20 @@
+-- The capacity at `u8` is the one at items of its size.
+use Rattle.std.proofs.Common.{◌+◌, ◌∙◌, Some, ap, length, refl, sym, arith}
+use Rattle.std.specs.Borrow.{u8}
+use Rattle.thin_block.proofs.CapacityLemmas.{ruled-at}
+use Rattle.thin_block.proofs.Outcomes.{none-some}
+use Rattle.thin_vec.proofs.convert.bytes.ThinVecU8Write.write_all.Goals as goal
+
+-- the bytes' type as `reserve` sees it has the same size and alignment
+pub returns-clause-capacity : goal.returns-clause-capacity
+returns-clause-capacity g c =
+    ruled-at u8 _ c.args.self.now.capacity (length c.args.self.now.items + length c.args.buf.now)
+    refl refl g.G.Growth.rule
+    ∙ (c.in-Ok.ensures.capacity
+    ∙ ap (λ n. Some n) (sym c.extend_from_copies_reserved.ensures.capacity))
+
+pub returns-clause-overflow : goal.returns-clause-overflow
+returns-clause-overflow g c = λ none. none-some none (returns-clause-capacity g c)
+
+pub returns-clause-cheap : goal.returns-clause-cheap
+returns-clause-cheap g c = search (arith, ◌∙◌)

@@ -1,0 +1,45 @@
+-- The array's items lie in front.
+use Rattle.std.proofs.lemmas.Grind.{common_steps}
+use Rattle.std.proofs.Common.{◌++◌, ap, arith, length, sym, ◌∙◌}
+use Rattle.thin_block.proofs.BlockLemmas.{then-len}
+use Rattle.thin_block.specs.Slots.{items_in}
+use Rattle.thin_vec.proofs.list.AppendSplitLemmas.{settle-more}
+use Rattle.thin_vec.proofs.ListLemmas.{Settled}
+use Rattle.thin_vec.proofs.ThinVecLemmas.{within-stays}
+use Rattle.thin_vec.proofs.convert.from.ThinVec+T+A.from_array.Goals as goal
+
+facts : (g : _) (c : goal.After-set_len g) → Settled c.set_len.new.self c.list.inside.alloc
+    (items_in c.list.inside.block.slots ++ c.args.items) (length c.list.inside.block.slots)
+facts g c =
+    let none = ap length (ap (λ v. v.items) c.list.view_is ∙ c.in-Ok.ensures.items) in
+    settle-more c.list.invariant c.set_len.new.self c.args.items 0
+    (sym (c.list.invariant.packed.len ∙ none))
+    (omega (
+      arith,
+      c.count-len.ensures.value,
+      c.count-len.ensures.length,
+      c.in-Ok.ensures.capacity,
+      ap (λ v. v.capacity) c.list.view_is,
+    ))
+    (omega (arith, c.count-len.ensures.length))
+    (then-len c.set_len.ensures.changes c.put_array.ensures.changes)
+
+pub invariant_of-list : goal.invariant_of-list
+invariant_of-list g c = (facts g c).thin
+
+pub returns-in-Ok-clause-items : goal.returns-in-Ok-clause-items
+returns-in-Ok-clause-items g c = (facts g c).items ∙ ap (λ xs. xs ++ c.args.items)
+    (ap (λ v. v.items) c.list.view_is ∙ c.in-Ok.ensures.items)
+
+pub returns-in-Ok-clause-within : goal.returns-in-Ok-clause-within
+returns-in-Ok-clause-within g c = within-stays _ c.list.inside.block c.list.inside.alloc
+    c.set_len.new.self _ _ c.in-Ok.ensures.within c.list.view_is (facts g c)
+
+pub returns-in-Ok-clause-alloc : goal.returns-in-Ok-clause-alloc
+returns-in-Ok-clause-alloc g c = search (arith, ◌∙◌)
+
+pub returns-in-Ok-clause-cheap : goal.returns-in-Ok-clause-cheap
+returns-in-Ok-clause-cheap g c = search (arith, ◌∙◌)
+
+pub returns-in-Ok-clause-capacity : goal.returns-in-Ok-clause-capacity
+returns-in-Ok-clause-capacity g c = grind (arith, common_steps)

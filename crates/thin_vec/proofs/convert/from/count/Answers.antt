@@ -1,0 +1,9 @@
+-- The array has N items.
+use Rattle.std.proofs.Common.{arith, ◌∙◌}
+use Rattle.thin_vec.proofs.convert.from.count.Goals as goal
+
+pub returns-clause-value : goal.returns-clause-value
+returns-clause-value g c = search (arith, ◌∙◌)
+
+pub returns-clause-length : goal.returns-clause-length
+returns-clause-length g c = search (arith, ◌∙◌)

@@ -1,0 +1,23 @@
+-- Fewer items than the capacity fit.
+use Rattle.std.proofs.Common.{ap, arith, length}
+use denote.Param.{param}
+use Rattle.thin_block.proofs.CapacityLemmas.{fits-less}
+use Rattle.thin_vec.proofs.convert.IntoIterLemmas.{walked-room}
+use Rattle.thin_vec.proofs.convert.into_iter.IntoIter.clone.Goals as goal
+
+pub from_fitting_slice-requires : goal.from_fitting_slice-requires
+from_fitting_slice-requires g c =
+    let it = c.self.inside in
+    let room = walked-room it.block it.alloc it.start it.end c.self.invariant in
+    record {
+      fits = fits-less (param 0 g.row.T) (length c.as_slice.result.now) c.cap-room.result
+          c.cap-room.ensures.fits
+          (omega (
+            arith,
+            room,
+            c.self.invariant.len,
+            c.cap-room.ensures.value,
+            ap length c.as_slice.ensures.value,
+            ap (λ v. length v.items) c.self.view_is,
+          ));
+    }

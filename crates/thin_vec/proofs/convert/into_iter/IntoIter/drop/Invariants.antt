@@ -1,0 +1,6 @@
+-- Fewer items remain each time.
+use Rattle.std.proofs.Common.{length}
+use Rattle.thin_vec.proofs.convert.into_iter.IntoIter.drop.Given as goal
+
+abbrev pub decreases-loop-item : goal.decreases-loop-item
+decreases-loop-item g l = length l.self.items

@@ -1,0 +1,6 @@
+-- The first item that is left, if there is one.
+use Rattle.std.proofs.Common.{arith, ◌∙◌}
+use Rattle.thin_vec.proofs.convert.into_iter.IntoIter.next.Goals as goal
+
+pub returns-clause-items : goal.returns-clause-items
+returns-clause-items g c = search (arith, ◌∙◌)

@@ -1,0 +1,53 @@
+-- The last item that remains leaves its slot, and the walk ends one slot sooner.
+use Rattle.std.proofs.Common.{◌-◌, ◌<◌, ◌≤◌, ◌∷◌, ◌++◌, [], ap, sym, ◌∙◌, arith, length, take, refl, rules}
+use Rattle.thin_block.specs.Slots.{items_in}
+use Rattle.thin_vec.proofs.convert.IntoIterLemmas.{Walking, last-item, settle-last, walked-filled}
+use Rattle.thin_vec.proofs.ListLemmas.{thin_of-keeps}
+use Rattle.thin_vec.proofs.convert.into_iter.IntoIter.take_last.Goals as goal
+
+-- an item remains
+some : (g : _) (c : goal.After-take g) → c.self.inside.start < c.self.inside.end
+some g c = omega (
+  arith,
+  c.self.invariant.len,
+  c.requires.some,
+  ap (λ v. length v.items) c.self.view_is,
+)
+
+-- the slot before the end is filled
+pub take-requires : goal.take-requires
+take-requires g c =
+    let it = c.self.inside in
+    let remain = ap (λ v. length v.items) c.self.view_is in
+    let from : it.start ≤ it.end - 1 =
+    omega (arith, c.self.invariant.len, c.requires.some, remain) in
+    let to : it.end - 1 < it.end = omega (arith, c.self.invariant.len, c.requires.some, remain) in
+    record {
+      filled = walked-filled it.block it.alloc it.start it.end (it.end - 1)
+          c.self.invariant from to;
+    }
+
+-- the block afterwards: all items but the last, between the same start and an end one slot sooner
+facts : (g : _) (c : goal.After-take g)
+    → let it = c.self.inside in
+    let most = take (it.end - 1 - it.start) (items_in it.block.slots) in
+    Walking c.take.new.self it.alloc most it.start (it.end - 1) (length it.block.slots)
+facts g c =
+    let it = c.self.inside in
+    settle-last it.block c.take.new.self it.alloc it.start it.end c.take.result
+    c.self.invariant (some g c) c.take.ensures.changes
+
+pub invariant_of-self : goal.invariant_of-self
+invariant_of-self g c = (facts g c).walked
+
+pub returns-clause-items : goal.returns-clause-items
+returns-clause-items g c =
+    let it = c.self.inside in
+    let parted = last-item it.block c.take.new.self it.alloc it.start it.end c.take.result
+    c.self.invariant (some g c) c.take.ensures.value in
+    sym (ap (λ v. v.items) c.self.view_is)
+    ∙ (parted ∙ ap (λ xs. xs ++ c.take.result ∷ []) (sym (facts g c).items))
+
+pub returns-clause-changes : goal.returns-clause-changes
+returns-clause-changes g c =
+    thin_of-keeps c.self.view_is c.take.new.self (facts g c).cap refl (search rules)

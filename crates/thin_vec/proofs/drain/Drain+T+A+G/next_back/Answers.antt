@@ -1,6 +1,0 @@
--- The last item that is left, if there is one.
-use Rattle.std.proofs.Common.{arith, ◌∙◌}
-use Rattle.thin_vec.proofs.drain.Drain+T+A+G.next_back.Goals as goal
-
-pub returns : goal.returns
-returns g c = search (arith, ◌∙◌)

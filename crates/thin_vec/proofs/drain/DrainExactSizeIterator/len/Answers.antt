@@ -1,6 +1,0 @@
--- As many items come as are left.
-use Rattle.std.proofs.Common.{arith, ◌∙◌}
-use Rattle.thin_vec.proofs.drain.DrainExactSizeIterator.len.Goals as goal
-
-pub returns-clause-value : goal.returns-clause-value
-returns-clause-value g c = search (arith, ◌∙◌)

@@ -1,9 +1,0 @@
--- As many items come as are left.
-use Rattle.std.proofs.Common.{arith, ◌∙◌}
-use Rattle.thin_vec.proofs.drain.DrainIterator.size_hint.Goals as goal
-
-pub returns-clause-lower : goal.returns-clause-lower
-returns-clause-lower g c = search (arith, ◌∙◌)
-
-pub returns-clause-value : goal.returns-clause-value
-returns-clause-value g c = search (arith, ◌∙◌)

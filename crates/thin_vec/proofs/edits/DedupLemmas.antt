@@ -1,0 +1,576 @@
+-- What is left of items of which each was asked about beside the last one kept, as one stretch of
+-- items follows another.
+use Rattle.std.proofs.Common.{◌≡◌, ℕ, zero, suc, ◌+◌, ◌<◌, ◌≤◌, Bool, true, false, List, [], ◌∷◌, ◌++◌, length, take, drop, refl, sym, ap, subst, ◌∙◌, arith, inl, inr, append_assoc}
+use Rattle.std.proofs.lemmas.List.{append-nil, drop_at, length_push, replicate-append-replicate, take_at}
+use Rattle.std.specs.List.{dedup, dedup_from}
+use Rattle.std.specs.Prelude.{MatchBool, cond, if◌then◌else◌, not, replicate}
+use Rattle.thin_block.specs.Cost.{Cost, moving}
+use Rattle.thin_vec.specs.Edits.Retain.{moved_up, trues}
+use Rattle.thin_vec.specs.Edits.Dedup.{AskedLast, AskedPairs, Compares, IsDedupedBy, IsDedupedTo, unlike, unlike_from}
+use Rattle.thin_vec.specs.Open.{Open}
+use Rattle.thin_vec.specs.OpenBlock.Dedup.{IsLastAsked, IsNextAsked, IsPairAskedAt, IsDeduped, PairRuns, Dedups}
+use Rattle.thin_vec.specs.ThinVec.{Thin}
+use Rattle.thin_vec.proofs.RetainLemmas.{cons-head, cons-not-nil, cons-tail, moving-more, moving-none, single}
+use Rattle.thin_vec.proofs.OpenBlockLemmas.{last-of}
+
+-- a relation of a state, a later item, the last item kept, whether the later one goes, the state
+-- afterwards and both items as they were left
+abbrev OnPairs : Type 0 → Type 0 → Type 1
+OnPairs S T = S → T → T → Bool → S → T → T → Type 0
+
+-- two ends of one list
+last-same : {X : Type 0} (a b : List X) (x y : X) → a ++ x ∷ [] ≡ b ++ y ∷ [] → (a ≡ b) × (x ≡ y)
+last-same [] [] x y e = (refl, cons-head e)
+last-same [] (z ∷ b) x y e = let n = ap length e in absurd (omega (arith, n, length_push b y))
+last-same (z ∷ a) [] x y e = let n = ap length e in absurd (omega (arith, n, length_push a x))
+last-same (z ∷ a) (q ∷ b) x y e =
+    let p = last-same a b x y (cons-tail e) in
+    ((λ i. cons-head e i ∷ p.0 i), p.1)
+
+-- flags of items that all stay
+abbrev pub all-stay : ℕ → List Bool
+all-stay n = replicate n true
+
+trues-join : (a b : List Bool) → trues (a ++ b) ≡ trues a + trues b
+trues-join [] b = omega arith
+trues-join (true ∷ a) b = let e = trues-join a b in omega arith
+trues-join (false ∷ a) b = trues-join a b
+
+trues-all : (n : ℕ) → trues (replicate n true) ≡ n
+trues-all zero = refl
+trues-all (suc n) = ap suc (trues-all n)
+
+moved-all : (n : ℕ) (b : List Bool) → moved_up (replicate n true ++ b) ≡ moved_up b
+moved-all zero b = refl
+moved-all (suc n) b = moved-all n b
+
+-- a fact for each of the two results of a closure
+by-answer : (b : Bool) (P Q G : Type 0) → (P → G) → (Q → G) → MatchBool b P Q → G
+by-answer true P Q G f g m = f m
+by-answer false P Q G f g m = g m
+
+map-answer : (b : Bool) {P Q P' Q' : Type 0} → (P → P') → (Q → Q') → MatchBool b P Q
+    → MatchBool b P' Q'
+map-answer true f g m = f m
+map-answer false f g m = g m
+
+-- a list of two and more, by its first and its last
+after-first : {X : Type 0} (pre zs : List X) (k l : X) → pre ++ l ∷ [] ≡ k ∷ zs → 0 < length zs
+    → (p : List X) × (zs ≡ p ++ l ∷ []) × (pre ≡ k ∷ p)
+after-first [] zs k l e some = let n = ap length e in absurd (omega (arith, n, some))
+after-first (a ∷ p) zs k l e some = (p, sym (cons-tail e), ap (λ z. z ∷ p) (cons-head e))
+
+module _ {S T : Type 0} (R : OnPairs S T) where
+  -- the last item kept is always there
+  pub last-some : (xs : List T) (s t : S) (k : T) (stays : List Bool) (ys : List T)
+      → AskedLast R s k xs stays ys t → 0 < length ys
+  last-some [] s t k stays ys h = omega (arith, ap length h.1)
+  last-some (x ∷ xs) s t k stays ys h =
+      by-answer h.0 _ _ (0 < length ys) (λ m. last-some xs h.3 t h.2 h.4 ys m)
+      (λ m. omega (arith, ap length m.2)) h.7
+
+  -- one item goes, or stays
+  pub last-goes : (s t : S) (k x x' k' : T) → R s x k true t x' k'
+      → AskedLast R s k (x ∷ []) (false ∷ []) (k' ∷ []) t
+  last-goes s t k x x' k' h = (true, x', k', t, [], h, refl, (refl, refl, refl))
+
+  -- the later item stays, and is the last that does then
+  pub last-stays : (s t : S) (k x x' k' : T) → R s x k false t x' k'
+      → AskedLast R s k (x ∷ []) (true ∷ []) (k' ∷ x' ∷ []) t
+  last-stays s t k x x' k' h = (false, x', k', t, [], h, refl, (x' ∷ [], (refl, refl, refl), refl))
+
+  -- a stretch that begins in the state t with l as the last item kept
+  module _ (t u : S) (l : T) (g : List Bool) (ws zs : List T) (m : AskedLast R t l zs g ws u) where
+    -- a stretch that begins in t, with l kept, goes on after one that ended so
+    last-append : (xs : List T) (s : S) (k : T) (f : List Bool) (pre : List T)
+        → AskedLast R s k xs f (pre ++ l ∷ []) t → AskedLast R s k (xs ++ zs) (f ++ g) (pre ++ ws) u
+    last-append [] s k f pre h =
+        let e = last-same pre [] l k h.1 in
+        subst (λ (a : List Bool). AskedLast R s k zs (a ++ g) (pre ++ ws) u) (sym h.0)
+        (subst (λ (a : List T). AskedLast R s k zs g (a ++ ws) u) (sym e.0)
+        (subst (λ (a : T). AskedLast R s a zs g ws u) e.1
+        (subst (λ (a : S). AskedLast R a l zs g ws u) h.2 m)))
+    last-append (x ∷ xs) s k f pre h = (
+      h.0,
+      h.1,
+      h.2,
+      h.3,
+      h.4 ++ g,
+      h.5,
+      ap (λ (a : List Bool). a ++ g) h.6,
+      map-answer h.0
+          (λ p. last-append xs h.3 h.2 h.4 pre p)
+          (λ q.
+          let c = after-first pre q.0 h.2 l q.2 (last-some xs h.3 t h.1 h.4 q.0 q.1) in (
+            c.0 ++ ws,
+            last-append xs h.3 h.1 h.4 c.0
+                (subst (λ (a : List T). AskedLast R h.3 h.1 xs h.4 a t) c.1 q.1),
+            ap (λ (a : List T). a ++ ws) c.2,
+          ))
+          h.7,
+    )
+
+  -- ---- a run of items that stay
+
+  -- from the first of xs on, m stay so far
+  pub record PairStays (m : ℕ) (s : S) (xs : List T) (t : S) (ys : List T) : Type 0 where
+    pub first : T
+    pub done : List T
+    pub after : List T
+    pub pre : List T
+    pub last : T
+    pub was : xs ≡ first ∷ (done ++ after)
+    pub asked : AskedLast R s first done (all-stay (length pre)) (pre ++ last ∷ []) t
+    pub kept : suc (length pre) ≡ m
+    pub now : ys ≡ pre ++ last ∷ after
+
+  -- before the first question the first item alone stays
+  pub pair-start : (s : S) (xs : List T) → 0 < length xs → PairStays 1 s xs s xs
+  pair-start s [] some = absurd (omega arith)
+  pair-start s (x ∷ xs) some =
+      record {
+        first = x;
+        done = [];
+        after = xs;
+        pre = [];
+        last = x;
+        was = refl;
+        asked = (refl, refl, refl);
+        kept = refl;
+        now = refl;
+      }
+
+  module _ (m : ℕ) (s : S) (xs : List T) (t : S) (ys : List T) (h : PairStays m s xs t ys) where
+    -- where the next two items stand
+    pub record NextPair (b : Bool) (u : S) (zs : List T)
+        (a : IsPairAskedAt R m t ys b u zs) : Type 0 where
+      pub front : a.before ≡ h.pre
+      pub last : a.kept ≡ h.last
+      pub after : h.after ≡ a.later ∷ a.after
+
+    next-pair : (b : Bool) (u : S) (zs : List T) (a : IsPairAskedAt R m t ys b u zs)
+        → NextPair b u zs a
+    next-pair b u zs a =
+        let e : h.pre ++ h.last ∷ h.after ≡ a.before ++ a.kept ∷ a.later ∷ a.after = sym h.now
+        ∙ a.was in
+        let n : length a.before ≡ length h.pre = omega (arith, a.place, h.kept) in
+        let fronts : h.pre ≡ a.before =
+        sym (take_at h.pre (h.last ∷ h.after) (length h.pre) refl)
+        ∙ (ap (take (length h.pre)) e
+        ∙ take_at a.before (a.kept ∷ a.later ∷ a.after) (length h.pre) n) in
+        let rests : h.last ∷ h.after ≡ a.kept ∷ a.later ∷ a.after =
+        sym (drop_at h.pre (h.last ∷ h.after) (length h.pre) refl)
+        ∙ (ap (drop (length h.pre)) e
+        ∙ drop_at a.before (a.kept ∷ a.later ∷ a.after) (length h.pre) n) in
+        record { front = sym fronts; last = sym (cons-head rests); after = cons-tail rests }
+
+    -- what was asked of the next item
+    next-asked : (b : Bool) (u : S) (zs : List T) (a : IsPairAskedAt R m t ys b u zs)
+        → R t a.later h.last b u a.later_left a.kept_left
+    next-asked b u zs a = subst (λ (k : T). R t a.later k b u a.later_left a.kept_left)
+        (next-pair b u zs a).last a.asked
+
+    next-was : (b : Bool) (u : S) (zs : List T) (a : IsPairAskedAt R m t ys b u zs)
+        → xs ≡ h.first ∷ ((h.done ++ a.later ∷ []) ++ a.after)
+    next-was b u zs a = h.was ∙ ap (λ (l : List T). h.first ∷ l)
+        (ap (λ (l : List T). h.done ++ l) (next-pair b u zs a).after
+        ∙ sym (append_assoc h.done (a.later ∷ []) a.after))
+
+    next-now : (b : Bool) (u : S) (zs : List T) (a : IsPairAskedAt R m t ys b u zs)
+        → zs ≡ (h.pre ++ a.kept_left ∷ []) ++ a.later_left ∷ a.after
+    next-now b u zs a =
+        a.now ∙ (ap (λ (l : List T). l ++ a.kept_left ∷ a.later_left ∷ a.after)
+        (next-pair b u zs a).front
+        ∙ sym (append_assoc h.pre (a.kept_left ∷ []) (a.later_left ∷ a.after)))
+
+    pub pair-more : (u : S) (zs : List T) → IsPairAskedAt R m t ys false u zs
+        → PairStays (m + 1) s xs u zs
+    pair-more u zs a =
+        let pre : List T = h.pre ++ a.kept_left ∷ [] in
+        let longer : length h.pre + 1 ≡ length pre = sym (length_push h.pre a.kept_left) in
+        let flags : all-stay (length h.pre) ++ true ∷ [] ≡ all-stay (length pre) =
+        replicate-append-replicate (length h.pre) 1 true ∙ ap (λ (n : ℕ). all-stay n) longer in
+        let asked = last-append t u h.last (true ∷ []) (a.kept_left ∷ a.later_left ∷ [])
+        (a.later ∷ [])
+        (last-stays t u h.last a.later a.later_left a.kept_left (next-asked false u zs a))
+        h.done s h.first (all-stay (length h.pre)) h.pre h.asked in
+        record {
+          first = h.first;
+          done = h.done ++ a.later ∷ [];
+          after = a.after;
+          pre = pre;
+          last = a.later_left;
+          was = next-was false u zs a;
+          asked = subst (λ (l : List T). AskedLast R s h.first (h.done ++ a.later ∷ [])
+              (all-stay (length pre)) l u)
+              (sym (append_assoc h.pre (a.kept_left ∷ []) (a.later_left ∷ [])))
+              (subst (λ (f : List Bool). AskedLast R s h.first (h.done ++ a.later ∷ []) f
+              (h.pre ++ a.kept_left ∷ a.later_left ∷ []) u) flags asked);
+          kept = omega (arith, longer, h.kept);
+          now = next-now false u zs a;
+        }
+
+    pub pair-goes : (u : S) (zs : List T) → IsPairAskedAt R m t ys true u zs
+        → PairRuns R m s xs u zs
+    pair-goes u zs a =
+        record {
+          first = h.first;
+          done = h.done ++ a.later ∷ [];
+          after = a.after;
+          more = length h.pre;
+          stays = all-stay (length h.pre) ++ false ∷ [];
+          left = h.pre ++ a.kept_left ∷ [];
+          over = a.later_left ∷ [];
+          was = next-was true u zs a;
+          asked = last-append t u h.last (false ∷ []) (a.kept_left ∷ []) (a.later ∷ [])
+              (last-goes t u h.last a.later a.later_left a.kept_left (next-asked true u zs a))
+              h.done s h.first (all-stay (length h.pre)) h.pre h.asked;
+          kept = h.kept;
+          long = omega (arith, length_push h.pre a.kept_left, h.kept);
+          now = next-now true u zs a;
+          stops = inl (refl, refl);
+        }
+
+  -- ---- what a run leaves, once its items are in front
+
+  module _ (m : ℕ) (s : S) (xs : List T) (t : S) (ys : List T) (r : PairRuns R m s xs t ys) where
+    pub run-left : take m ys ≡ r.left
+    run-left = ap (take m) r.now ∙ take_at r.left (r.over ++ r.after) m r.long
+
+    pub run-over : drop m ys ≡ r.over ++ r.after
+    run-over = ap (drop m) r.now ∙ drop_at r.left (r.over ++ r.after) m r.long
+
+    -- the item after the run goes, or there is none
+    pub run-goes : (value : T) (rest : List T) → drop m ys ≡ value ∷ rest → (r.after ≡ rest)
+        × (r.stays ≡ all-stay r.more ++ false ∷ [])
+    run-goes value rest k =
+        elim r.stops [
+          | inl p ↦ let v = single r.over p.0 in
+              (cons-tail (ap (λ (l : List T). l ++ r.after) (sym v.1) ∙ (sym run-over ∙ k)), p.1)
+          | inr q ↦ absurd (cons-not-nil (sym k ∙ (run-over ∙ (λ i. q.0 i ++ q.1.0 i))))
+        ]
+
+    pub run-ends : drop m ys ≡ [] → (r.after ≡ []) × (r.stays ≡ all-stay r.more)
+    run-ends k =
+        elim r.stops [
+          | inl p ↦ let v = single r.over p.0 in
+              absurd (cons-not-nil
+              (ap (λ (l : List T). l ++ r.after) (sym v.1) ∙ (sym run-over ∙ k)))
+          | inr q ↦ (q.1.0, q.1.1)
+        ]
+
+    pub run-count : (f : List Bool) → trues f ≡ 0 → r.stays ≡ all-stay r.more ++ f
+        → suc (trues r.stays) ≡ m
+    run-count f none e =
+        omega (arith, ap trues e, trues-join (all-stay r.more) f, trues-all r.more, none, r.kept)
+
+  -- ---- on blocks that are open
+
+  module _ {A : Type 0} (v w : Open T A) where
+    -- w is v with another front, gap and middle run, at this cost
+    abbrev Moved : List T → Cost → Type 0
+    Moved front cost = w ≡ record v
+        { front = front; before = w.before; rest = w.rest; cost = cost }
+
+    moved : {f f' : List T} {k k' : Cost} → f ≡ f' → k ≡ k'
+        → record v { front = f; before = w.before; rest = w.rest; cost = k }
+        ≡ record v { front = f'; before = w.before; rest = w.rest; cost = k' }
+    moved e n = λ i. record v { front = e i; before = w.before; rest = w.rest; cost = n i }
+
+    module _ (s t : S) where
+      dedups-of : (before : List T) (first : T) (done : List T) (stays : List Bool) (kept : List T)
+          → v.front ≡ before ++ first ∷ [] → v.rest ≡ done ++ w.rest
+          → AskedLast R s first done stays kept t → 0 < w.before
+          → Moved (before ++ kept) (moving (trues stays) v.cost) → Dedups R s v t w
+      dedups-of before first done stays kept was rest asked gap now =
+          record {
+            before = before;
+            first = first;
+            done = done;
+            stays = stays;
+            kept = kept;
+            was = was;
+            rest = rest;
+            asked = asked;
+            gap = gap;
+            now = now;
+          }
+
+    -- the next item goes
+    pub dedups-goes : {s t : S} (x y : T) (front : List T)
+        → IsLastAsked R s x v.front true t y front → v.rest ≡ x ∷ w.rest → 0 < w.before
+        → Moved front v.cost → Dedups R s v t w
+    dedups-goes {s} {t} x y front a rest gap now =
+        dedups-of s t a.before a.kept (x ∷ []) (false ∷ []) (a.kept_left ∷ []) a.was rest
+        (last-goes s t a.kept x y a.kept_left a.asked) gap
+        (now ∙ moved (λ i. a.now i) (sym (moving-none v.cost)))
+
+    -- the next item stays
+    pub dedups-stays : {s t : S} (x y : T) (front : List T)
+        → IsLastAsked R s x v.front false t y front → v.rest ≡ x ∷ w.rest
+        → 0 < w.before → Moved (front ++ y ∷ []) (moving 1 v.cost) → Dedups R s v t w
+    dedups-stays {s} {t} x y front a rest gap now =
+        dedups-of s t a.before a.kept (x ∷ []) (true ∷ []) (a.kept_left ∷ y ∷ []) a.was rest
+        (last-stays s t a.kept x y a.kept_left a.asked) gap
+        (now ∙ moved (ap (λ (l : List T). l ++ y ∷ []) a.now
+        ∙ append_assoc a.before (a.kept_left ∷ []) (y ∷ [])) refl)
+
+    module _ (s t u : S) (x y z : T) (front ys zs : List T)
+        (a : IsLastAsked R s x v.front false t y front) (b : Bool)
+        (n : IsNextAsked R t y ys b u z zs) (whole : v.rest ≡ x ∷ ys) where
+      -- what is in front once two items stayed
+      two-front : (front ++ z ∷ [] ≡ a.before ++ a.kept_left ∷ z ∷ [])
+      two-front = ap (λ (l : List T). l ++ z ∷ []) a.now
+          ∙ append_assoc a.before (a.kept_left ∷ []) (z ∷ [])
+
+      -- the next item stays, and the one after it goes
+      pub dedups-two : b ≡ true → (value : T) → zs ≡ value ∷ w.rest → 0 < w.before
+          → Moved (front ++ z ∷ []) (moving 1 v.cost) → Dedups R s v u w
+      dedups-two e value rest gap now =
+          let asked = last-append t u y (false ∷ []) (z ∷ []) (n.later ∷ [])
+          (last-goes t u y n.later n.later_left z
+          (subst (λ (q : Bool). R t n.later y q u n.later_left z) e n.asked))
+          (x ∷ []) s a.kept (true ∷ []) (a.kept_left ∷ [])
+          (last-stays s t a.kept x y a.kept_left a.asked) in
+          let same : n.after ≡ w.rest = cons-tail (sym n.now ∙ rest) in
+          dedups-of s u a.before a.kept (x ∷ n.later ∷ []) (true ∷ false ∷ [])
+          (a.kept_left ∷ z ∷ []) a.was (whole ∙ ap (λ (l : List T). x ∷ l)
+          (n.was ∙ ap (λ (l : List T). n.later ∷ l) same)) asked gap (now ∙ moved two-front refl)
+
+      -- the next two items stay, with a run, and the one after the run goes
+      pub dedups-run : b ≡ false → (m : ℕ) (q : S) (ws : List T) (r : PairRuns R m u zs q ws)
+          → r.after ≡ w.rest → suc (trues r.stays) ≡ m
+          → 0 < w.before → Moved ((front ++ z ∷ []) ++ take m ws) (moving m (moving 1 v.cost))
+          → Dedups R s v q w
+      dedups-run e m q ws r rest count gap now =
+          let pair = last-append t u y (true ∷ []) (z ∷ n.later_left ∷ []) (n.later ∷ [])
+          (last-stays t u y n.later n.later_left z
+          (subst (λ (c : Bool). R t n.later y c u n.later_left z) e n.asked))
+          (x ∷ []) s a.kept (true ∷ []) (a.kept_left ∷ [])
+          (last-stays s t a.kept x y a.kept_left a.asked) in
+          let heads : n.later_left ∷ n.after ≡ r.first ∷ (r.done ++ r.after) = sym n.now
+          ∙ r.was in
+          let from : AskedLast R u n.later_left r.done r.stays r.left q =
+          subst (λ (k : T). AskedLast R u k r.done r.stays r.left q)
+          (sym (cons-head heads)) r.asked in
+          let asked = last-append u q n.later_left r.stays r.left r.done from
+          (x ∷ n.later ∷ []) s a.kept (true ∷ true ∷ []) (a.kept_left ∷ z ∷ []) pair in
+          let all : v.rest ≡ x ∷ n.later ∷ (r.done ++ w.rest) =
+          whole ∙ ap (λ (l : List T). x ∷ l)
+          (n.was ∙ ap (λ (l : List T). n.later ∷ l)
+          (cons-tail heads ∙ ap (λ (l : List T). r.done ++ l) rest)) in
+          let paid : 1 + m ≡ suc (suc (trues r.stays)) = omega (arith, count) in
+          dedups-of s q a.before a.kept (x ∷ n.later ∷ r.done) (true ∷ true ∷ r.stays)
+          (a.kept_left ∷ z ∷ r.left) a.was all asked gap
+          (now ∙ moved ((λ i. two-front i ++ run-left m u zs q ws r i)
+          ∙ append_assoc a.before (a.kept_left ∷ z ∷ []) r.left)
+          (moving-more m 1 v.cost ∙ ap (λ (k : ℕ). moving k v.cost) paid))
+
+  -- nothing was asked yet; and one stretch after another
+  pub dedups-start : {A : Type 0} (s : S) (v : Open T A) → 0 < length v.front
+      → 0 < v.before → Dedups R s v s v
+  dedups-start s v some gap =
+      let p = last-of v.front some in
+      record {
+        before = p.0;
+        first = p.1;
+        done = [];
+        stays = [];
+        kept = p.1 ∷ [];
+        was = p.2;
+        rest = refl;
+        asked = (refl, refl, refl);
+        gap = gap;
+        now = λ i. record v { front = p.2 i; cost = sym (moving-none v.cost) i };
+      }
+
+  -- one round after another
+  pub dedups-then : {A : Type 0} {s t u : S} {v w z : Open T A} → Dedups R s v t w
+      → Dedups R t w u z → Dedups R s v u z
+  dedups-then {s = s} {t} {u} {v} {w} {z} h k =
+      let p = last-of h.kept (last-some h.done s t h.first h.stays h.kept h.asked) in
+      let e : (h.before ++ p.0) ++ p.1 ∷ [] ≡ k.before ++ k.first ∷ [] =
+      append_assoc h.before p.0 (p.1 ∷ [])
+      ∙ (ap (λ (l : List T). h.before ++ l) (sym p.2)
+      ∙ (sym (ap (λ u. u.front) h.now) ∙ k.was)) in
+      let ends = last-same (h.before ++ p.0) k.before p.1 k.first e in
+      record {
+        before = h.before;
+        first = h.first;
+        done = h.done ++ k.done;
+        stays = h.stays ++ k.stays;
+        kept = p.0 ++ k.kept;
+        was = h.was;
+        rest = h.rest ∙ (ap (λ (l : List T). h.done ++ l) k.rest
+            ∙ sym (append_assoc h.done k.done z.rest));
+        asked = last-append t u p.1 k.stays k.kept k.done
+            (subst (λ (l : T). AskedLast R t l k.done k.stays k.kept u) (sym ends.1) k.asked)
+            h.done s h.first h.stays p.0
+            (subst (λ (l : List T). AskedLast R s h.first h.done h.stays l t) p.2 h.asked);
+        gap = k.gap;
+        now = k.now ∙ ((λ i. let u = h.now i in record u {
+          front = k.before ++ k.kept;
+          before = z.before;
+          rest = z.rest;
+          cost = moving (trues k.stays) u.cost;
+        })
+            ∙ moved v z (ap (λ (l : List T). l ++ k.kept) (sym ends.0)
+            ∙ append_assoc h.before p.0 k.kept)
+            (moving-more (trues k.stays) (trues h.stays) v.cost
+            ∙ ap (λ (n : ℕ). moving n v.cost) (sym (trues-join h.stays k.stays))));
+      }
+
+  module _ {A : Type 0} (v w : Open T A) (m : ℕ) (s t : S) (ys : List T)
+      (r : PairRuns R m s v.rest t ys) where
+    -- of v, w has the tail, the slots and where they came from, and the run in front, for nothing
+    abbrev RunPassed : Type 0
+    RunPassed = Moved v w (take m ys) v.cost
+
+    -- the item after the run goes, and then all others were asked about
+    pub deduped-goes : (value : T) (u : S) (z : Open T A) → RunPassed → drop m ys ≡ value ∷ w.rest
+        → Dedups R t w u z → z.rest ≡ [] → IsDeduped R s v u z
+    deduped-goes value u z p k h none =
+        let g = run-goes m s v.rest t ys r value w.rest k in
+        let here : w.front ≡ r.left = ap (λ x. x.front) p
+        ∙ run-left m s v.rest t ys r in
+        let flags : r.stays ++ h.stays ≡ all-stay r.more ++ false ∷ h.stays =
+        ap (λ (f : List Bool). f ++ h.stays) g.1 ∙ append_assoc (all-stay r.more)
+        (false ∷ []) h.stays in
+        let up : moved_up (r.stays ++ h.stays) ≡ trues h.stays = ap moved_up flags
+        ∙ moved-all r.more (false ∷ h.stays) in
+        let all : r.after ≡ h.done = g.0
+        ∙ (h.rest ∙ (ap (λ (l : List T). h.done ++ l) none ∙ append-nil h.done)) in
+        let asked : AskedLast R s r.first (r.done ++ h.done) (r.stays ++ h.stays)
+        (h.before ++ h.kept) u =
+        last-append t u h.first h.stays h.kept h.done h.asked r.done s r.first r.stays h.before
+        (subst (λ (l : List T). AskedLast R s r.first r.done r.stays l t)
+        (sym here ∙ h.was) r.asked) in
+        record {
+          stays = r.stays ++ h.stays;
+          asked = subst (λ (l : List T). AskedPairs R s l (r.stays ++ h.stays) z.front u)
+              (ap (λ (l : List T). r.first ∷ (r.done ++ l)) (sym all) ∙ sym r.was)
+              (subst (λ (l : List T). AskedLast R s r.first (r.done ++ h.done) (r.stays ++ h.stays)
+              l u) (sym (ap (λ x. x.front) h.now)) asked);
+          now = h.now ∙ (λ i. let x = p i in record x {
+            front = sym (ap (λ y. y.front) h.now) i;
+            before = z.before;
+            rest = none i;
+            cost = moving (sym up i) x.cost;
+          });
+        }
+
+    -- all items stay
+    pub deduped-ends : RunPassed → drop m ys ≡ [] → w.rest ≡ [] → IsDeduped R s v t w
+    deduped-ends p k none =
+        let g = run-ends m s v.rest t ys r k in
+        let up : moved_up r.stays ≡ 0 = ap moved_up (g.1 ∙ sym (append-nil (all-stay r.more)))
+        ∙ moved-all r.more [] in
+        record {
+          stays = r.stays;
+          asked = subst (λ (l : List T). AskedPairs R s l r.stays w.front t)
+              (sym (append-nil (r.first ∷ r.done))
+              ∙ (ap (λ (l : List T). r.first ∷ (r.done ++ l)) (sym g.0) ∙ sym r.was))
+              (subst (λ (l : List T). AskedLast R s r.first r.done r.stays l t)
+              (sym (ap (λ x. x.front) p ∙ run-left m s v.rest t ys r)) r.asked);
+          now = p ∙ (λ i. record v {
+            front = sym (ap (λ x. x.front) p) i;
+            before = w.before;
+            rest = none i;
+            cost = (sym (moving-none v.cost) ∙ ap (λ (n : ℕ). moving n v.cost) (sym up)) i;
+          });
+        }
+
+-- a judge that holds a closure decides as the closure does
+module _ {J S T : Type 0} (R : OnPairs S T) (inside : J → S) where
+  abbrev through : OnPairs J T
+  through s x k b t y l = R (inside s) x k b (inside t) y l
+
+  last-through : (xs : List T) (s t : J) (k : T) (f : List Bool) (ys : List T)
+      → AskedLast through s k xs f ys t → AskedLast R (inside s) k xs f ys (inside t)
+  last-through [] s t k f ys h = (h.0, h.1, ap inside h.2)
+  last-through (x ∷ xs) s t k f ys h = (
+    h.0,
+    h.1,
+    h.2,
+    inside h.3,
+    h.4,
+    h.5,
+    h.6,
+    map-answer h.0 (λ p. last-through xs h.3 t h.2 h.4 ys p)
+        (λ q. (q.0, last-through xs h.3 t h.1 h.4 q.0 q.1, q.2)) h.7,
+  )
+
+  pairs-through : (xs : List T) (s t : J) (f : List Bool) (ys : List T)
+      → AskedPairs through s xs f ys t → AskedPairs R (inside s) xs f ys (inside t)
+  pairs-through [] s t f ys h = (h.0, h.1, ap inside h.2)
+  pairs-through (x ∷ xs) s t f ys h = last-through xs s t x f ys h
+
+  -- a list that such a judge deduped is one that the closure deduped
+  pub deduped-through : {A : Type 0} (s : J) (v w : Thin T A) (t : J) → IsDedupedTo through s v w t
+      → IsDedupedBy R (inside s) v w
+  deduped-through s v w t h = (
+    inside t,
+    record {
+      stays = h.stays;
+      asked = pairs-through v.items s t h.stays w.items
+          h.asked;
+      cost = h.cost;
+    },
+  )
+
+-- where a test decides, what is left and what moves are functions of the items
+module _ {S T : Type 0} (E : T → T → Bool) where
+  last-compares : (xs : List T) (s t : S) (k : T) (f : List Bool) (ys : List T)
+      → AskedLast (Compares E) s k xs f ys t → (f ≡ unlike_from E k xs) × (ys ≡ dedup_from E k xs)
+  last-compares [] s t k f ys h = (h.0, h.1)
+  last-compares (x ∷ xs) s t k f ys h =
+      elim h.0 as (λ b. b ≡ E x k → f ≡ not b ∷ h.4
+      → MatchBool b (AskedLast (Compares E) h.3 h.2 xs h.4 ys t)
+      ((zs : List T) × AskedLast (Compares E) h.3 h.1 xs h.4 zs t × (ys ≡ h.2 ∷ zs))
+      → (f ≡ unlike_from E k (x ∷ xs)) × (ys ≡ dedup_from E k (x ∷ xs))) [
+        | true ↦ λ e st m. let r = last-compares xs h.3 t h.2 h.4 ys m in (
+          st ∙ (ap (λ (l : List Bool). false ∷ l) (r.0 ∙ ap (λ (l : T). unlike_from E l xs) h.5.2)
+              ∙ ap (λ (b : Bool). if b then false ∷ unlike_from E k xs else
+              true ∷ unlike_from E x xs) e),
+          r.1 ∙ (ap (λ (l : T). dedup_from E l xs) h.5.2
+              ∙ ap (λ (b : Bool). cond b (dedup_from E k xs) (k ∷ dedup_from E x xs)) e),
+        )
+        | false ↦ λ e st m. let r = last-compares xs h.3 t h.1 h.4 m.0 m.1 in (
+          st ∙ (ap (λ (l : List Bool). true ∷ l) (r.0 ∙ ap (λ (l : T). unlike_from E l xs) h.5.1)
+              ∙ ap (λ (b : Bool). if b then false ∷ unlike_from E k xs else
+              true ∷ unlike_from E x xs) e),
+          m.2 ∙ ((λ i. h.5.2 i ∷ (r.1 ∙ ap (λ (l : T). dedup_from E l xs) h.5.1) i)
+              ∙ ap (λ (b : Bool). cond b (dedup_from E k xs) (k ∷ dedup_from E x xs)) e),
+        )
+      ]
+      h.5.0 h.6 h.7
+
+  -- the flags and the items that stay are those of the definition
+  pub pairs-compare : (xs : List T) (s t : S) (f : List Bool) (ys : List T)
+      → AskedPairs (Compares E) s xs f ys t → (f ≡ unlike E xs) × (ys ≡ dedup E xs)
+  pairs-compare [] s t f ys h = (h.0, h.1)
+  pairs-compare (x ∷ xs) s t f ys h = last-compares xs s t x f ys h
+
+module _ {S T : Type 0} (R : OnPairs S T) where
+  -- no more items stay than there were
+  few-last : (xs : List T) (s t : S) (k : T) (stays : List Bool) (ys : List T)
+      → AskedLast R s k xs stays ys t → length ys ≤ suc (length xs)
+  few-last [] s t k stays ys h = omega (arith, ap length h.1)
+  few-last (x ∷ xs) s t k stays ys h =
+      one h.0 h.7 (λ l zs m. few-last xs h.3 t l h.4 zs m)
+    where
+      one : (b : Bool) → MatchBool b (AskedLast R h.3 h.2 xs h.4 ys t)
+          ((zs : List T) × AskedLast R h.3 h.1 xs h.4 zs t × (ys ≡ h.2 ∷ zs))
+          → ((l : T) (zs : List T) → AskedLast R h.3 l xs h.4 zs t → length zs ≤ suc (length xs))
+          → length ys ≤ suc (suc (length xs))
+      one true m few = let f = few h.2 ys m in omega (arith, f)
+      one false m few = let f = few h.1 m.0 m.1 in omega (arith, f, ap length m.2)
+
+  few-pairs : (xs : List T) (s t : S) (stays : List Bool) (ys : List T)
+      → AskedPairs R s xs stays ys t → length ys ≤ length xs
+  few-pairs [] s t stays ys h = omega (arith, ap length h.1)
+  few-pairs (x ∷ xs) s t stays ys h = few-last xs s t x stays ys h
+
+  pub few-deduped : {A : Type 0} (s : S) (v w : Thin T A) → IsDedupedBy R s v w
+      → length w.items ≤ length v.items
+  few-deduped s v w h = few-pairs v.items s h.0 h.1.stays w.items h.1.asked

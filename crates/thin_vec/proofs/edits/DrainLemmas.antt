@@ -1,0 +1,46 @@
+-- What calls of `next` of a `Drain` give, and what they keep.
+use Rattle.std.proofs.Common.{[], ◌∷◌, ap, refl, subst, ◌∙◌, length}
+use Rattle.std.proofs.iter.runs.Sources.{as_is, as_is_back, from_back, from_front}
+use Rattle.std.specs.Iterator.Runs.{YieldsInOrder, YieldsInReverse}
+use Rattle.thin_block.specs.declared.growth.Growth.{Ghosts}
+use Rattle.thin_vec.specs.Edits.Drain.{DrainKeeps, DrainKeepsAlong, DrainSteps, DrainStepsBack, drain_rest}
+use Rattle.thin_vec.specs.Open.{Open}
+use Rattle.thin_vec.specs.declared.edits.drain.Drain.{Drain}
+use Rattle.thin_vec.specs.declared.edits.holder.Holder.{Holder}
+use Rattle.thin_vec.specs.declared.edits.holder.Holds.{Ghosts as HoldsGhosts}
+
+module _ {T A G : Type 0} {g : Ghosts G} {h : HoldsGhosts (Holder (Open T A)) (Open T A)} where
+  drain_keeps_more : (a b c : Drain T A G (Holder (Open T A)) g h) → DrainKeeps a b
+      → DrainKeeps b c → DrainKeeps a c
+  drain_keeps_more a b c p q =
+      record {
+        lender = q.lender ∙ p.lender;
+        kept = q.kept ∙ p.kept;
+        capacity = q.capacity
+            ∙ p.capacity;
+        alloc = q.alloc ∙ p.alloc;
+        cost = q.cost ∙ p.cost;
+      }
+
+  -- calls of `next` keep what one of them keeps
+  pub drain_keeps_along : (d : Drain T A G (Holder (Open T A)) g h) → DrainKeepsAlong d
+  drain_keeps_along d [] later e = subst (λ t. DrainKeeps d t) e
+      (record { lender = refl; kept = refl; capacity = refl; alloc = refl; cost = refl })
+  drain_keeps_along d (x ∷ xs) later e = drain_keeps_more d e.0 later e.1.keeps
+      (drain_keeps_along e.0 xs later e.2)
+
+  -- calls of `next` yield the range from its first item on
+  pub drains_in_order : YieldsInOrder (DrainSteps {T = T} {A = A} {G = G} {g = g} {h = h})
+      drain_rest
+  drains_in_order p s =
+      as_is p (drain_rest p.from)
+      (from_front DrainSteps (λ x. x) drain_rest (λ a b n. ap length n.gave.0)
+      (λ a x b n. n.gave) p s)
+
+  -- calls of `next_back` yield the range from its last item on
+  pub drains_in_reverse : YieldsInReverse (DrainStepsBack {T = T} {A = A} {G = G} {g = g} {h = h})
+      drain_rest
+  drains_in_reverse p s =
+      as_is_back p (drain_rest p.from)
+      (from_back DrainStepsBack (λ x. x) drain_rest (λ a b n. ap length n.gave.0)
+      (λ a x b n. n.gave) p s)

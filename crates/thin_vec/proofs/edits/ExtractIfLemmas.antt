@@ -1,0 +1,129 @@
+-- What a closure picked, as items are asked about up to the first that goes.
+use Rattle.std.proofs.Common.{◌≡◌, ℕ, ◌+◌, ◌≤◌, Bool, true, false, List, [], ◌∷◌, ◌++◌, Option, None, Some, length, take, drop, refl, sym, ap, subst, ◌∙◌, arith, length-append}
+use Rattle.std.proofs.lemmas.List.{drop_at, length-take-le, nil_from_length, take_at}
+use Rattle.std.specs.List.Retain.{ExtractsNext}
+use Rattle.std.specs.Option.{option_to_list}
+use Rattle.std.specs.Prelude.{◌==◌, MatchBool, if◌then◌else◌, not}
+use Rattle.thin_block.specs.Cost.{Cost, moving}
+use Rattle.thin_vec.specs.Edits.Retain.{Answers, Asked, stay}
+use Rattle.thin_vec.specs.OpenBlock.Sift.{Runs, Stops}
+use Rattle.thin_vec.proofs.RetainLemmas.{cons-head, cons-not-nil, cons-tail}
+
+-- a test that is negated twice
+pub not-not : (b : Bool) → not (not b) ≡ b
+not-not true = refl
+not-not false = refl
+
+module _ {F T : Type 0} (R : F → T → Bool → F → T → Type 0) where
+  -- each item stays, was yielded, or is still to be asked about
+  pub picked-count : (s : F) (xs : List T) (item : Option T) (t : F) (kept rest : List T)
+      → ExtractsNext R s xs item t kept rest → length xs ≡ length kept + length
+      (option_to_list item) + length rest
+  picked-count s [] item t kept rest e =
+      let i = ap (λ (o : Option T). length (option_to_list o)) e.0 in
+      let k = ap length e.2 in
+      let r = ap length e.3 in
+      omega (arith, i, k, r)
+  picked-count s (x ∷ xs) item t kept rest e =
+      answered e.0 (λ ks m. picked-count e.1 xs item t ks rest m) e.4
+    where
+      answered : (b : Bool)
+          → ((ks : List T) → ExtractsNext R e.1 xs item t ks rest
+          → length xs ≡ length ks + length (option_to_list item) + length rest)
+          → MatchBool b ((item ≡ Some e.2) × (t ≡ e.1) × (kept ≡ []) × (rest ≡ xs))
+          ((ks : List T) × ExtractsNext R e.1 xs item t ks rest × (kept ≡ e.2 ∷ ks))
+          → length (x ∷ xs) ≡ length kept + length (option_to_list item) + length rest
+      answered true more m =
+          let i = ap (λ (o : Option T). length (option_to_list o)) m.0 in
+          omega (arith, i, ap length m.2, ap length m.3)
+      answered false more m = omega (arith, more m.0 m.1, ap length m.2)
+
+  module _ {S : Type 0} (of : S → F) where
+    -- a judge that keeps what the closure does not pick
+    abbrev J : S → T → Bool → S → T → Type 0
+    J s x b t y = R (of s) x (not b) (of t) y
+
+    -- the item that was picked from those after a run that stays
+    module _ (between : S) (after : List T) (item : Option T) (t : F) (rest : List T)
+        (e : ExtractsNext R (of between) after item t [] rest) where
+      picked-after : (s : S) (run left : List T) → Asked J s run (stay left) between
+          → ExtractsNext R (of s) (run ++ after) item t left rest
+      picked-after s [] [] a =
+          subst (λ (q : S). ExtractsNext R (of q) after item t [] rest) a.1 e
+      picked-after s [] (y ∷ left) a = absurd (cons-not-nil a.0)
+      picked-after s (x ∷ run) [] a = absurd (cons-not-nil (sym a.6))
+      picked-after s (x ∷ run) (z ∷ left) a =
+          let h = cons-head a.6 in
+          let answer : true ≡ a.0 = ap (λ (p : Bool × T). p.0) h in
+          let as_left : z ≡ a.1 = ap (λ (p : Bool × T). p.1) h in
+          let called : R (of s) x false (of a.2) z =
+          subst (λ (w : T). R (of s) x false (of a.2) w) (sym as_left)
+          (subst (λ (b : Bool). R (of s) x (not b) (of a.2) a.1) (sym answer) a.4) in
+          let on : Asked J a.2 run (stay left) between =
+          subst (λ (q : Answers T). Asked J a.2 run q between) (sym (cons-tail a.6)) a.5 in
+          (false, of a.2, z, called, (left, picked-after a.2 run left on, refl))
+
+    stops-at-end : (between t : S) (after ys : List T) → Stops J between after t ys → ys ≡ []
+        → ExtractsNext R (of between) after None (of t) [] ys
+    stops-at-end between t [] ys a none = (refl, ap of a.1, refl, none)
+    stops-at-end between t (x ∷ xs) ys a none = absurd (cons-not-nil (sym a.2 ∙ none))
+
+    stops-at-item : (between t : S) (after ys : List T) (v : T) (zs : List T)
+        → Stops J between after t ys → ys ≡ v ∷ zs → ExtractsNext R (of between)
+        after (Some v) (of t) [] zs
+    stops-at-item between t [] ys v zs a some = absurd (cons-not-nil (sym some ∙ a.0))
+    stops-at-item between t (x ∷ xs) ys v zs a some =
+        let same : v ∷ zs ≡ a.0 ∷ xs = sym some ∙ a.2 in
+        (true, of t, a.0, a.1, (ap Some (cons-head same), refl, refl, cons-tail same))
+
+    module _ (m : ℕ) (s : S) (xs : List T) (t : S) (ys : List T) (h : Runs J 0 m s xs t ys) where
+      none-before : h.before ≡ []
+      none-before = nil_from_length h.before h.place
+
+      was : xs ≡ h.run ++ h.after
+      was = h.was ∙ ap (λ (l : List T). l ++ (h.run ++ h.after)) none-before
+
+      now : ys ≡ h.left ++ h.end
+      now = h.now ∙ ap (λ (l : List T). l ++ (h.left ++ h.end)) none-before
+
+      reached : length h.left ≡ m
+      reached = omega (arith, h.reached)
+
+      left-is : take m ys ≡ h.left
+      left-is = ap (take m) now ∙ take_at h.left h.end m reached
+
+      end-is : drop m ys ≡ h.end
+      end-is = ap (drop m) now ∙ drop_at h.left h.end m reached
+
+      pub picked-room : m ≤ length ys
+      picked-room = omega (arith, reached, ap length now, length-append h.left h.end)
+
+      whole : (item : Option T) (rest : List T) → ExtractsNext R (of h.between) h.after item (of t)
+          [] rest → ExtractsNext R (of s) xs item (of t) (take m ys) rest
+      whole item rest e =
+          subst (λ (l : List T). ExtractsNext R (of s) l item (of t) (take m ys) rest) (sym was)
+          (subst (λ (l : List T). ExtractsNext R (of s) (h.run ++ h.after) item (of t) l rest)
+          (sym left-is)
+          (picked-after h.between h.after item (of t) rest e s h.run h.left h.asked))
+
+      -- no item goes
+      pub picked-none : drop m ys ≡ [] → ExtractsNext R (of s) xs None (of t)
+          (take m ys) (drop m ys)
+      picked-none none =
+          whole None (drop m ys)
+          (subst (λ (l : List T). ExtractsNext R (of h.between) h.after None (of t) [] l)
+          (sym end-is) (stops-at-end h.between t h.after h.end h.stops (sym end-is ∙ none)))
+
+      -- the item v goes
+      pub picked-some : (v : T) (zs : List T) → drop m ys ≡ v ∷ zs
+          → ExtractsNext R (of s) xs (Some v) (of t) (take m ys) zs
+      picked-some v zs some =
+          whole (Some v) zs (stops-at-item h.between t h.after h.end v zs
+          h.stops (sym end-is ∙ some))
+
+-- what some first items cost where there is a gap, by how many they are
+pub cost-of : {T : Type 0} (before : ℕ) (cost : Cost) (k : ℕ) (xs : List T) → k ≤ length xs
+    → (if before == 0 then cost else moving k cost)
+    ≡ (if before == 0 then cost else moving (length (take k xs)) cost)
+cost-of before cost k xs room =
+    ap (λ (n : ℕ). if before == 0 then cost else moving n cost) (sym (length-take-le k xs room))

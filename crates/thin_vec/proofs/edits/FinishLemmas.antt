@@ -1,0 +1,239 @@
+-- The steps by which a splice's gap is filled, and what they come to.
+use Rattle.std.proofs.Common.{if◌then◌else◌, inl, inr, Option, drop, take, subst, ◌≡◌, ℕ, ◌+◌, ◌-◌, ◌*◌, ◌<◌, ◌≤◌, Bool, true, false, eqb, List, [], ◌++◌, ap, arith, length, length-append, refl, sym, ◌∙◌}
+use Rattle.std.proofs.lemmas.List.{length-drop, length-take-le}
+use Rattle.std.specs.Borrow.{RattleType}
+use Rattle.std.specs.Prelude.{IfErr, IsOk, OnErr, OnOk}
+use Rattle.std.specs.declared.result.Result.{Result}
+use Rattle.std.specs.declared.result.Result.TheVariants.{Ok, Err}
+use Rattle.std.specs.Iterator.{Count, Drains, IsFinite, Yields, size}
+use Rattle.thin_block.specs.Cost.{moving}
+use Rattle.thin_block.specs.Growth.{KeepsLaw, Rule, ruled_capacity}
+use Rattle.thin_vec.specs.List.Extend.{Gives, IsExtended, IsNamed}
+use Rattle.thin_vec.specs.Edits.Splice.{IsStopCause, Stopped, left_of, with_between}
+use Rattle.thin_vec.specs.Edits.Finish.{HasTaken, IsFilled, IsFinished}
+use Rattle.thin_vec.specs.Open.{Open}
+use Rattle.thin_vec.specs.ThinVec.{Thin}
+use Rattle.thin_vec.specs.declared.errors.SpliceRefused.{SpliceRefused}
+use Rattle.thin_vec.proofs.list.ExtendLemmas.{yields-join}
+use Rattle.thin_vec.proofs.edits.SpliceLemmas.{between-length, between-more, drains-more, run-moves, stopped-more, taken-join, taken-spare}
+
+module _ {T A : Type 0} where
+  -- the list u was opened as b at the slot `at`, `count` slots wide
+  pub record IsWide (b : Open T A) (u : Thin T A) (at count : ℕ) : Type 0 where
+    pub in_bounds : at ≤ length u.items
+    pub front : b.front ≡ take at u.items
+    pub tail : b.tail ≡ drop at u.items
+    pub capacity : b.capacity ≡ u.capacity
+    pub cost : b.cost ≡ (if eqb count 0 then u.cost else moving (length u.items - at) u.cost)
+
+module _ {S T A : Type 0} (steps : S → Option T → S → Type 0) (can : S → Type 0)
+    (remaining : S → Count) where
+  -- the list u has the items of v, and xs in its gap up to the slot `end`, which s gave: the gap is
+  -- full, and t is asked next
+  pub record IsReached (v : Open T A) (s : S) (u : Thin T A) (xs : List T) (end : ℕ)
+      (t : S) : Type 0 where
+    pub items : u.items ≡ with_between v xs
+    pub ends : end ≡ length v.front + length xs
+    pub gave : Yields steps s xs t
+    pub full : v.before ≤ length xs
+    pub can_next : can t
+    pub finite : IsFinite (remaining t)
+    pub nearer : length xs + size (remaining t) ≤ size (remaining s)
+
+module _ {S T A : Type 0} {steps : S → Option T → S → Type 0} {can : S → Type 0}
+    {remaining : S → Count} where
+  module _ {v : Open T A} {a : A} {s : S} {w : Thin T A} {end : ℕ} {rest : S} {ended : Bool}
+      (p : IsFilled steps can remaining v a s w end rest ended) where
+    -- how many items there are once the gap is filled
+    pub filled-long : length w.items ≡ length v.front + length v.tail + (end - length v.front)
+    filled-long = omega (arith, ap length p.items.1, between-length v p.items.0, p.items.2)
+
+    -- the iterator went on: the gap is full
+    pub filled-reached : ended ≡ false
+        → IsReached steps can remaining v s w p.items.0 end rest
+    filled-reached more = record {
+      items = p.items.1;
+      ends = p.items.2;
+      gave = subst (λ b. Gives steps s p.items.0 b rest) more p.items.3;
+      full = omega (arith, p.items.2, p.full more);
+      can_next = (p.asked more).0;
+      finite = (p.asked more).1;
+      nearer = omega (arith, p.items.2, p.full more, p.nearer more);
+    }
+
+    -- the iterator ended
+    pub filled-drains : ended ≡ true → Drains steps s p.items.0
+    filled-drains done = (rest, subst (λ b. Gives steps s p.items.0 b rest) done p.items.3)
+
+    module _ (rule : Rule) (R : RattleType) (n : ℕ) (left : Count) where
+      -- what filling the gap cost
+      pub filled-taken : p.cost.0 ≤ n → HasTaken rule R (left_of v a) w n left
+      filled-taken few =
+          taken-spare rule R (left_of v a) w (end - length v.front) p.cost.0 n left p.cost.1
+          p.capacity (omega (arith, filled-long, length-append v.front v.tail)) few p.alloc
+
+      -- what filling the gap of a list that was opened for it cost
+      pub wide-taken : (u : Thin T A) (at count : ℕ) → IsWide v u at count → a ≡ u.alloc
+          → p.cost.0 + (length u.items - at) ≤ n → HasTaken rule R u w n left
+      wide-taken u at count wide from few =
+          let all = run-moves count (length u.items - at) (end - length v.front) p.cost.0 u.cost
+          v.cost wide.cost in
+          taken-spare rule R u w (end - length v.front) all.0 n left (p.cost.1 ∙ all.1)
+          (p.capacity ∙ wide.capacity)
+          (omega (
+            arith,
+            filled-long,
+            ap length wide.front,
+            ap length wide.tail,
+            length-take-le at u.items wide.in_bounds,
+            length-drop at u.items,
+            wide.in_bounds,
+          ))
+          (omega (arith, all.2, few)) (p.alloc ∙ from)
+
+  module _ {v : Open T A} {s t : S} {u : Thin T A} {xs : List T} {end : ℕ}
+      (p : IsReached steps can remaining v s u xs end t) where
+    -- the tail lies after the slot `end`
+    pub reached-long : length u.items ≡ end + length v.tail
+    reached-long = omega (arith, ap length p.items, between-length v xs, p.ends)
+
+    -- a growth of the list u changes nothing of what was reached
+    pub reached-grown : (w : Thin T A) → w.items ≡ u.items
+        → IsReached steps can remaining v s w xs end t
+    reached-grown w same = record {
+      items = same ∙ p.items;
+      ends = p.ends;
+      gave = p.gave;
+      full = p.full;
+      can_next = p.can_next;
+      finite = p.finite;
+      nearer = p.nearer;
+    }
+
+    -- what was taken before u, and from u on
+    pub reached-taken : (rule : Rule) (R : RattleType) → KeepsLaw rule → (a : A) (w : Thin T A)
+        (m n k : ℕ) → m + n ≤ k → HasTaken rule R (left_of v a) u m (remaining s)
+        → HasTaken rule R u w n (remaining t) → HasTaken rule R (left_of v a) w k (remaining s)
+    reached-taken rule R law a w m n k few before now =
+        let long = between-length v xs in let left = length-append v.front v.tail in
+        taken-join rule R law (left_of v a) u w m n k (remaining s) (remaining t) few
+        (omega (arith, ap length p.items, long, left))
+        (λ fit same. omega (arith, fit, same, ap length p.items, long, left, p.nearer))
+        before now
+
+    -- where a capacity comes from that was named after u
+    pub reached-extended : (rule : Rule) (R : RattleType) (a : A) (d n : ℕ)
+        → u.capacity ≡ v.capacity → IsExtended rule R u d n (remaining t)
+        → IsExtended rule R (left_of v a) d n (remaining s)
+    reached-extended rule R a d n same (inl e) =
+        inl (subst (λ c. IsNamed rule R c d n) same e)
+    reached-extended rule R a d n same (inr e) =
+        let within : e.0 ≤ size (remaining t) = e.1 p.finite in
+        let want : length v.front + length v.tail + (length xs + e.0) ≡ length u.items + e.0 =
+        omega (arith, ap length p.items, between-length v xs) in
+        inr (
+          length xs + e.0,
+          (λ _. omega (arith, p.nearer, within)),
+          (λ i. ruled_capacity rule R (sym same i)
+              ((ap (λ n. n + (length xs + e.0)) (length-append v.front v.tail) ∙ want) i)) ∙ e.2,
+        )
+
+    -- the list opened at `end` has the tail for its tail
+    pub reached-wide : {b : Open T A} (count : ℕ) → IsWide b u end count
+        → length b.tail ≡ length v.tail
+    reached-wide count wide =
+        omega (arith, ap length wide.tail, length-drop end u.items, reached-long)
+
+    -- the list u was opened at `end`, and what came next filled that gap
+    pub reached-more : {b : Open T A} {a : A} {w : Thin T A} {last : ℕ} {rest : S} {ended : Bool}
+        (count : ℕ) → IsWide b u end count
+        → (q : IsFilled steps can remaining b a t w last rest ended) → ended ≡ false
+        → IsReached steps can remaining v s w (xs ++ q.items.0) last rest
+    reached-more {b} count wide q more =
+        let now = filled-reached q more in
+        let long = length-append xs q.items.0 in
+        record {
+          items = now.items
+              ∙ ((λ i. (wide.front i ++ q.items.0) ++ wide.tail i)
+              ∙ between-more v u.items xs q.items.0 end p.items p.ends);
+          ends = omega (
+            arith,
+            now.ends,
+            ap length wide.front,
+            length-take-le end u.items wide.in_bounds,
+            p.ends,
+            long,
+          );
+          gave = yields-join steps s t _ xs q.items.0 p.gave now.gave;
+          full = omega (arith, p.full, long);
+          can_next = now.can_next;
+          finite = now.finite;
+          nearer = omega (arith, p.nearer, now.nearer, long);
+        }
+
+  module _ {rule : Rule} {R : RattleType} (v : Open T A) (a : A) (s : S) (w : Thin T A) where
+    -- all that the iterator gave is in the list
+    pub finished-ok : (x : Unit {0})
+        → (xs : List T) × Drains steps s xs × (w.items ≡ with_between v xs)
+        → HasTaken rule R (left_of v a) w (2 * length v.tail) (remaining s)
+        → IsExtended rule R (left_of v a) w.capacity (length w.items) (remaining s)
+        → IsFinished steps can remaining rule R v a s w (Ok x)
+    finished-ok x items taken named = record {
+      succeeds = λ _. refl;
+      succeeds_at_end = λ _ _. refl;
+      items = items;
+      taken = taken;
+      named = named;
+      placed = tt;
+      range = tt;
+      cause = tt;
+      held = tt;
+      full = tt;
+      err = tt;
+    }
+
+    -- what was placed before a tail, and what then became of the rest
+    pub finished-from : {t : S} {u : Thin T A} {xs : List T} {end : ℕ}
+        (r : Result (Unit {0}) (SpliceRefused T S A))
+        → IsReached steps can remaining v s u xs end t → 0 < length v.tail
+        → (size (remaining t) ≡ 0 → IsOk r)
+        → OnOk r ((ys : List T) × Drains steps t ys
+        × (w.items ≡ (take end u.items ++ ys) ++ drop end u.items))
+        → IfErr r (λ refused. Stopped steps can remaining t [] refused.held.items
+        refused.in_hand refused.rest)
+        → IfErr r (λ refused. IsStopCause rule R w v.tail refused.held.items refused.in_hand
+        (remaining refused.rest) refused.cause)
+        → OnErr r (w ≡ u)
+        → HasTaken rule R (left_of v a) w (2 * length v.tail) (remaining s)
+        → IsExtended rule R (left_of v a) w.capacity (length w.items) (remaining s)
+        → IsFinished steps can remaining rule R v a s w r
+    finished-from {t} {u} {xs} {end} (Ok x) p some ends items placed cause err taken named =
+        finished-ok x (
+          xs ++ items.0,
+          drains-more steps can remaining s t xs items.0 p.gave items.1,
+          items.2 ∙ between-more v u.items xs items.0 end p.items p.ends,
+        )
+        taken named
+    finished-from {t} {u} {xs} (Err e) p some ends items placed cause err taken named = record {
+      succeeds = λ few. ends (omega (arith, few, p.full, p.nearer));
+      succeeds_at_end = λ none _. absurd (omega (arith, some, ap length none));
+      items = tt;
+      taken = taken;
+      named = named;
+      placed = (
+        xs,
+        ap (λ z. z.items) err ∙ p.items,
+        stopped-more steps can remaining s t e.rest xs e.held.items e.in_hand p.gave placed,
+      );
+      range = λ _. omega (
+        arith,
+        ap (λ z. length z.items) err,
+        reached-long p,
+        p.ends,
+        p.full,
+      );
+      cause = cause;
+      held = λ none. absurd (omega (arith, some, ap length none));
+      full = λ none. absurd (omega (arith, some, ap length none));
+      err = λ none. absurd (omega (arith, some, ap length none));
+    }

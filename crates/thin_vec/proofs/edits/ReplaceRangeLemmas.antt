@@ -1,0 +1,287 @@
+-- What a list holds while clones that are to replace a range lie beside it, and what an open block
+-- shows once they go there.
+use Rattle.std.proofs.Common.{if◌then◌else◌, inl, inr, eqb, min, Bool, true, false, ◌≡◌, ℕ, zero, suc, ◌+◌, ◌-◌, ◌≤◌, List, [], ◌∷◌, ◌++◌, None, Option, append_assoc, ap, arith, drop, length, length-append, refl, sym, take, ◌∙◌}
+use Rattle.std.proofs.lemmas.List.{drop_at, length-drop, length-take-le, replicate-append-replicate, take-append-drop, take-append-le, take_at}
+use Rattle.std.proofs.lemmas.Bool.{cases_lt}
+use Rattle.std.proofs.lemmas.Bool.Decides.{nat_tests}
+use Rattle.std.proofs.lemmas.List.Elements.{length_all_zip}
+use Rattle.std.specs.List.{AllZip, replace_range}
+use Rattle.thin_block.specs.Cost.{Cost, moving}
+use Rattle.thin_block.specs.Slots.{empty, full, moved}
+use Rattle.thin_block.specs.declared.block.Block.{Block}
+use Rattle.thin_block.proofs.SlotsLemmas.{moved_back}
+use Rattle.thin_vec.specs.OpenBlock.{IsOpen, open_of}
+use Rattle.thin_vec.specs.Open.{Open, reach, row_of}
+use Rattle.thin_vec.specs.declared.open_block.OpenBlock.TheInside.{Inside}
+use Rattle.thin_vec.specs.Edits.ReplaceRange.{MovesAtMost, ReplacesByClones}
+use Rattle.thin_vec.proofs.list.InsertRemoveLemmas.{full-append}
+use Rattle.thin_vec.proofs.edits.SpliceLemmas.{moving-add, moving-zero}
+use Rattle.thin_vec.proofs.OpenBlockLemmas.{Found, found, past_tail, reached}
+use Rattle.thin_vec.proofs.ListLemmas.{length-empty, length-full}
+
+-- the clones of two lists of sources are those of the two as one
+pub all_zip-append : {X : Type 0} (R : X → X → Type 0) (ss ts xs ys : List X) → AllZip R ss xs
+    → AllZip R ts ys → AllZip R (ss ++ ts) (xs ++ ys)
+all_zip-append R [] ts [] ys e h = h
+all_zip-append R [] ts (x ∷ xs) ys e h = absurd e
+all_zip-append R (a ∷ ss) ts [] ys e h = absurd e
+all_zip-append R (a ∷ ss) ts (x ∷ xs) ys e h = (e.0, all_zip-append R ss ts xs ys e.1 h)
+
+module _ {T : Type 0} where
+  -- fewer of the first items are the first of all
+  take-less : (xs : List T) (i j : ℕ) → i ≤ j → take i (take j xs) ≡ take i xs
+  take-less xs zero j h = refl
+  take-less xs (suc i) zero h = absurd (omega arith)
+  take-less [] (suc i) (suc j) h = refl
+  take-less (x ∷ xs) (suc i) (suc j) h = ap (λ (l : List T). x ∷ l)
+      (take-less xs i j (omega arith))
+
+  -- items that went in at i and go out again leave the list as it was
+  pub put-and-gone : (xs ys : List T) {zs : List T} (i : ℕ) {n : ℕ} → i ≤ length xs
+      → length ys ≡ n → zs ≡ replace_range xs i i ys → take i zs ++ drop (i + n) zs ≡ xs
+  put-and-gone xs ys {zs} i {n} within count is =
+      let p : List T = take i xs in
+      let few : length p ≡ i = length-take-le i xs within in
+      let front : take i zs ≡ p =
+      ap (take i) (is ∙ append_assoc p ys (drop i xs)) ∙ take_at p (ys ++ drop i xs) i few in
+      let past : drop (i + n) zs ≡ drop i xs =
+      ap (drop (i + n)) is
+      ∙ drop_at (p ++ ys) (drop i xs) (i + n) (omega (arith, length-append p ys, few, count)) in
+      (λ m. front m ++ past m) ∙ take-append-drop i xs
+
+module _ {T : Type 0} (xs : List T) (i j : ℕ) (order : i ≤ j) (within : j ≤ length xs) where
+  -- clones of the first sources lie after the list and those of the others after the range: the
+  -- first go to its place
+  pub brought-in : (ys zs : List T) {w : List T} {n : ℕ} → length ys ≡ n
+      → w ≡ replace_range xs j j zs ++ ys
+      → (take i w ++ drop (length w - n) w) ++ take (length w - n - j) (drop j w)
+      ≡ replace_range xs i j (ys ++ zs)
+  brought-in ys zs {w} {n} count is =
+      let p : List T = take j xs in
+      let r : List T = drop j xs in
+      let few : length p ≡ j = length-take-le j xs within in
+      let all : length w ≡ j + length zs + length r + n =
+      omega (
+        arith,
+        ap length is,
+        length-append ((p ++ zs) ++ r) ys,
+        length-append (p ++ zs) r,
+        length-append p zs,
+        few,
+        count,
+      ) in
+      let parts : w ≡ p ++ ((zs ++ r) ++ ys) =
+      is ∙ (ap (λ (l : List T). l ++ ys) (append_assoc p zs r) ∙ append_assoc p (zs ++ r) ys) in
+      let front : take i w ≡ take i xs =
+      ap (take i) parts
+      ∙ (take-append-le i p ((zs ++ r) ++ ys) (omega (arith, few)) ∙ take-less xs i j order) in
+      let last : drop (length w - n) w ≡ ys =
+      ap (drop (length w - n)) is
+      ∙ drop_at ((p ++ zs) ++ r) ys (length w - n)
+      (omega (arith, all, length-append (p ++ zs) r, length-append p zs, few)) in
+      let mid : take (length w - n - j) (drop j w) ≡ zs ++ r =
+      ap (take (length w - n - j))
+      (ap (drop j) parts ∙ drop_at p ((zs ++ r) ++ ys) j few)
+      ∙ take_at (zs ++ r) ys (length w - n - j) (omega (arith, all, length-append zs r)) in
+      (λ m. (front m ++ last m) ++ mid m)
+      ∙ (sym (append_assoc (take i xs ++ ys) zs r)
+      ∙ ap (λ (l : List T). l ++ r) (append_assoc (take i xs) ys zs))
+
+module _ {T A : Type 0} (h : Inside T A) (o : IsOpen h) (b : Block T A) (k : ℕ)
+    (few : k ≤ length (open_of h).tail) (room : k ≤ (open_of h).before) where
+  abbrev v : Open T A
+  v = open_of h
+
+  -- the last items of the tail lie after the front
+  abbrev pub brought : Inside T A
+  brought = record {
+    block = b;
+    front_end = h.front_end + k;
+    rest_start = h.rest_start;
+    rest_end = h.rest_end;
+    tail_start = h.tail_start;
+    len = h.len - k;
+  }
+
+  -- what is seen of the block then: the tail is shorter, and the front longer
+  abbrev pub brought-seen : Open T A
+  brought-seen = record {
+    front = v.front ++ drop (length v.tail - k) v.tail;
+    before = v.before - k;
+    rest = v.rest;
+    after = v.after;
+    tail = take (length v.tail - k) v.tail;
+    capacity = v.capacity;
+    alloc = b.alloc;
+    cost = b.cost;
+  }
+
+  -- the slots lie so once the last items of the tail have moved
+  pub bring-step : b.slots ≡ moved (h.len - k) h.front_end k h.block.slots
+      → Found brought brought-seen
+  bring-step now =
+      let m : ℕ = length v.tail - k in
+      let zs : List T = take m v.tail in
+      let ys : List T = drop m v.tail in
+      let past : List (Option T) = past_tail v in
+      let lz : length zs ≡ m = length-take-le m v.tail (omega arith) in
+      let ly : length ys ≡ k = omega (arith, length-drop m v.tail, few) in
+      let more : length (v.front ++ ys) ≡ h.front_end + k =
+      omega (arith, length-append v.front ys, o.front, ly) in
+      let mid : List (Option T) =
+      empty (v.before - k) ++ (full v.rest ++ (empty v.after ++ full zs)) in
+      let spread : (r : List (Option T)) → mid ++ r ≡ empty (v.before - k)
+      ++ (full v.rest ++ (empty v.after ++ (full zs ++ r))) =
+      λ r. append_assoc (empty (v.before - k)) (full v.rest ++ (empty v.after ++ full zs)) r
+      ∙ ap (λ (l : List (Option T)). empty (v.before - k) ++ l)
+      (append_assoc (full v.rest) (empty v.after ++ full zs) r
+      ∙ ap (λ (l : List (Option T)). full v.rest ++ l)
+      (append_assoc (empty v.after) (full zs) r)) in
+      let tail : full v.tail ++ past ≡ full zs ++ (full ys ++ past) =
+      ap (λ (l : List T). full l ++ past) (sym (take-append-drop m v.tail))
+      ∙ (ap (λ (l : List (Option T)). l ++ past) (full-append zs ys)
+      ∙ append_assoc (full zs) (full ys) past) in
+      let apart : (r : List (Option T)) → empty v.before ++ r ≡ empty k
+      ++ (empty (v.before - k) ++ r) =
+      λ r. ap (λ (n : ℕ). empty n ++ r)
+      (let e : v.before ≡ k + (v.before - k) = omega (arith, room) in e)
+      ∙ (ap (λ (l : List (Option T)). l ++ r)
+      (sym (replicate-append-replicate k (v.before - k) None))
+      ∙ append_assoc (empty k) (empty (v.before - k)) r) in
+      let row : h.block.slots ≡ full v.front ++ (empty k ++ (mid ++ (full ys ++ past))) =
+      o.row
+      ∙ (ap (λ (l : List (Option T)). full v.front
+      ++ (empty v.before ++ (full v.rest ++ (empty v.after ++ l)))) tail
+      ∙ (ap (λ (l : List (Option T)). full v.front ++ l)
+      (apart (full v.rest ++ (empty v.after ++ (full zs ++ (full ys ++ past)))))
+      ∙ ap (λ (l : List (Option T)). full v.front ++ (empty k ++ l))
+      (sym (spread (full ys ++ past))))) in
+      let from : h.len - k ≡ h.front_end + k + length mid =
+      omega (
+        arith,
+        length-append (empty {T = T} (v.before - k)) (full v.rest ++ (empty v.after ++ full zs)),
+        length-append (full v.rest) (empty v.after ++ full zs),
+        length-append (empty {T = T} v.after) (full zs),
+        length-empty T (v.before - k),
+        length-empty T v.after,
+        length-full v.rest,
+        length-full zs,
+        lz,
+        o.front,
+        o.before,
+        o.rest,
+        o.after,
+        o.tail,
+        few,
+        room,
+      ) in
+      let after : b.slots ≡ full v.front ++ (full ys ++ (mid ++ (empty k ++ past))) =
+      now ∙ (ap (moved (h.len - k) h.front_end k) row
+      ∙ moved_back (h.len - k) h.front_end k (full v.front) (full ys) mid past
+      (sym (length-full v.front ∙ o.front)) from (sym (length-full ys ∙ ly))) in
+      let left : k + (v.capacity - reach v) ≡ v.capacity - reach brought-seen =
+      omega (
+        arith,
+        length-append v.front ys,
+        ly,
+        lz,
+        few,
+        room,
+        o.room,
+        reached h v o,
+      ) in
+      let lies : b.slots ≡ row_of brought-seen =
+      after
+      ∙ (ap (λ (l : List (Option T)). full v.front ++ (full ys ++ l)) (spread (empty k ++ past))
+      ∙ (sym (append_assoc (full v.front) (full ys)
+      (empty (v.before - k) ++ (full v.rest ++ (empty v.after ++ (full zs ++ (empty k ++ past))))))
+      ∙ (ap (λ (l : List (Option T)). l
+      ++ (empty (v.before - k)
+      ++ (full v.rest ++ (empty v.after ++ (full zs ++ (empty k ++ past))))))
+      (sym (full-append v.front ys))
+      ∙ ap (λ (l : List (Option T)). full (v.front ++ ys)
+      ++ (empty (v.before - k) ++ (full v.rest ++ (empty v.after ++ (full zs ++ l)))))
+      (replicate-append-replicate k (v.capacity - reach v) None ∙ ap (λ (n : ℕ). empty n) left))))
+      in
+      found brought brought-seen
+      (record {
+        row = lies;
+        front = more;
+        before = omega (arith, o.before, room);
+        rest = o.rest;
+        after = o.after;
+        tail = omega (arith, o.tail, lz, few);
+        room = omega (arith, o.room);
+      }) refl refl
+
+-- the length of a list with clones in the place of a range
+pub replaced-length : {T : Type 0} (clones : T → T → Type 0) (xs : List T) (i : ℕ)
+    (sources ys : List T) → i ≤ length xs → ReplacesByClones clones xs i i sources ys
+    → length ys ≡ length xs + length sources
+replaced-length clones xs i sources ys within is =
+    let zs = is.copies in
+    omega (
+      arith,
+      ap length is.items,
+      length-append (take i xs ++ zs) (drop i xs),
+      length-append (take i xs) zs,
+      length-take-le i xs within,
+      length-drop i xs,
+      length_all_zip clones sources zs is.cloned,
+    )
+
+-- moves that add up stay few
+pub at-most-more : {n m k : ℕ} {c d e : Cost} → MovesAtMost n c d → (few : m ≤ k)
+    → e ≡ moving m d → MovesAtMost (n + k) c e
+at-most-more {n} {m} {k} {c} {d} {e} h few is = record {
+  moves = h.moves + m;
+  few = omega (arith, h.few, few);
+  cost = is ∙ (ap (λ q. moving m q) h.cost ∙ moving-add m h.moves c);
+}
+
+-- a bound on the moves may be any larger number
+pub at-most-le : {n m : ℕ} {c d : Cost} → MovesAtMost n c d → n ≤ m → MovesAtMost m c d
+at-most-le {n} {m} {c} {d} h le = record {
+  moves = h.moves;
+  few = omega (arith, h.few, le);
+  cost = h.cost;
+}
+
+-- a bound on moves that are none, or a known number
+pub at-most-if : (b : Bool) (n : ℕ) (c d : Cost) → d ≡ (if b then c else moving n c)
+    → MovesAtMost n c d
+at-most-if true n c d is = record { moves = 0; few = omega arith; cost = is ∙ moving-zero c }
+at-most-if false n c d is = record { moves = n; few = omega arith; cost = is }
+
+-- what is added where a test fails is no more than what is always added
+pub if-le : (b : Bool) (k n : ℕ) → k + (if b then 0 else n) ≤ k + n
+if-le true k n = omega arith
+if-le false k n = omega arith
+
+-- of k clones that come in beside a range of r items, k1 go to its places, and k2 are more
+pub record IsParted (k r k1 k2 : ℕ) : Type 0 where
+  -- as many clones go to places as there are places
+  pub first : k1 ≡ min k r
+  -- each clone goes to a place or is one more
+  pub all : k1 + k2 ≡ k
+
+-- the moves of such clones, with t items after the range: k2 of them come in after the range, and
+-- k1 after the list, from where they go to its places
+pub cloning-moves : {k r k1 k2 : ℕ} → IsParted k r k1 k2 → (t : ℕ) {z u : ℕ} → z ≡ 0 → u ≡ t + k2
+    → ((k2 + (if eqb k2 z then 0 else t)) + k1) + (k1 + (if eqb k1 r then 0 else u))
+    ≡ (k + (if eqb k r then 0 else t)) + min k r
+cloning-moves {k} {r} {k1} {k2} parted t {z} {u} none past =
+    let first : k1 ≡ min k r = parted.first in
+    let all : k1 + k2 ≡ k = parted.all in
+    elim (cases_lt r k) [
+      | inl more ↦ let one : k1 ≡ r = omega (arith, first) in
+          let e1 : eqb k2 z ≡ false = grind (arith, nat_tests, none, all, one, more) in
+          let e2 : eqb k1 r ≡ true = grind (arith, nat_tests, one) in
+          let e3 : eqb k r ≡ false = grind (arith, nat_tests, more) in
+          rw (e1, e2, e3) (omega (arith, first, all, past))
+      | inr few ↦ let one : k1 ≡ k = omega (arith, first) in
+          let two : k2 ≡ 0 = omega (arith, one, all) in
+          let same : u ≡ t = omega (arith, past, two) in
+          let e1 : eqb k2 z ≡ true = grind (arith, nat_tests, none, two) in
+          rw (e1, one, same) (omega (arith, first, two))
+    ]

@@ -1,0 +1,387 @@
+-- What a splice moves, and what it costs.
+use Rattle.std.proofs.Common.{if◌then◌else◌, inl, inr, Option, Some, None, append_assoc, drop, take, subst, ◌≡◌, ℕ, ◌+◌, ◌-◌, ◌*◌, ◌^◌, ◌<◌, ◌≤◌, Bool, true, false, eqb, List, [], ◌∷◌, ◌++◌, ap, arith, length, length-append, refl, sym, ◌∙◌}
+use Rattle.std.proofs.lemmas.List.{append-nil, drop_at, length-drop, length-take-le, take_at}
+use Rattle.std.specs.Borrow.{RattleType}
+use Rattle.std.specs.Option.{option_to_list}
+use Rattle.std.specs.Prelude.{◌↔◌, IfErr, IsSome}
+use Rattle.std.specs.declared.result.Result.{Result}
+use Rattle.std.specs.declared.result.Result.TheVariants.{Ok, Err}
+use Rattle.std.specs.Iterator.{Count, Drains, IsFinite, Yields, YieldsThen, size}
+use Rattle.thin_vec.specs.Cheap.{IsCheap}
+use Rattle.thin_vec.specs.List.Extend.{GaveUp, IsExtendCost, IsNamed, Overflows}
+use Rattle.std.proofs.lemmas.Bool.Decides.{nat_tests}
+use Rattle.thin_block.specs.declared.errors.ThinVecError.{ThinVecError}
+use Rattle.thin_block.specs.declared.errors.ThinVecError.TheVariants.{CapacityOverflow, OutOfMemory}
+use Rattle.thin_block.specs.Cost.{Cost, moving}
+use Rattle.thin_block.specs.Growth.{KeepsLaw, Rule}
+use Rattle.std.proofs.lemmas.Bool.{cases_lt, false≢true}
+use Rattle.thin_vec.specs.Open.{Open, cost_closed, items_of}
+use Rattle.thin_vec.specs.Edits.Splice.{IsSpliced, IsStopCause, Stopped, left_of, with_between}
+use Rattle.thin_vec.specs.Edits.Finish.{HasTaken}
+use Rattle.thin_vec.specs.ThinVec.{HasRoomFor, Thin, capacity_for, cost_at}
+use Rattle.thin_vec.proofs.list.ExtendLemmas.{filled-reserved, loose-join, loose-le, loose-ruled, yields-join, yields-more}
+use Rattle.thin_vec.proofs.ThinVecLemmas.{cap-kept, cost_at-copied}
+
+-- moves add up
+pub moving-add : (a b : ℕ) (c : Cost) → moving a (moving b c) ≡ moving (b + a) c
+moving-add a b c = ap (λ m. let d : Cost = record c { moves = m } in d)
+    (let e : c.moves + b + a ≡ c.moves + (b + a) = omega arith in e)
+
+-- no move changes nothing
+pub moving-zero : (c : Cost) → c ≡ moving 0 c
+moving-zero c = ap (λ m. let d : Cost = record c { moves = m } in d)
+    (let e : c.moves ≡ c.moves + 0 = omega arith in e)
+
+-- the moves of a filled gap that is closed, beside those of its items
+pub closed-moves : {T A : Type 0} (v w : Open T A) (n : ℕ) → w.cost ≡ moving (v.before - w.before)
+    v.cost → w.rest ≡ [] → w.tail ≡ v.tail → n ≡ v.before - w.before
+    → (m : ℕ) × (cost_closed w ≡ moving (n + m) v.cost) × (m ≤ length v.tail)
+    × (w.before ≡ 0 → m ≡ 0)
+closed-moves v w n paid none same count = go (eqb w.before 0) refl
+  where
+    filled : w.cost ≡ moving n v.cost
+    filled = paid ∙ ap (λ k. moving k v.cost) (sym count)
+
+    go : (b : Bool) → eqb w.before 0 ≡ b → (m : ℕ)
+        × ((if b then w.cost else moving (length w.rest + length w.tail) w.cost) ≡ moving (n + m)
+        v.cost) × (m ≤ length v.tail) × (w.before ≡ 0 → m ≡ 0)
+    go true e = (
+      0,
+      filled ∙ ap (λ k. moving k v.cost) (let z : n ≡ n + 0 = omega arith in z),
+      omega arith,
+      λ _. refl,
+    )
+    go false e =
+        let all : length w.rest + length w.tail ≡ length v.tail =
+        omega (arith, ap length none, ap length same) in (
+          length v.tail,
+          ap (λ k. moving k w.cost) all
+              ∙ (ap (λ c. moving (length v.tail) c) filled ∙ moving-add (length v.tail) n v.cost),
+          omega arith,
+          λ z. let t : eqb w.before 0 ≡ true = grind (arith, nat_tests, z) in
+              absurd (false-true (sym e ∙ t)),
+        )
+      where
+        false-true : false ≡ true → ⊥
+        false-true h = cc
+
+-- the moves of items that went into a list, when the items after them were moved up before
+pub run-moves : (count n k m : ℕ) (c d : Cost) → d ≡ (if eqb count 0 then c else moving n c)
+    → (x : ℕ) × (moving (k + m) d ≡ moving (k + x) c) × (x ≤ n + m)
+run-moves count n k m c d e = go (eqb count 0) e
+  where
+    go : (b : Bool) → d ≡ (if b then c else moving n c) → (x : ℕ)
+        × (moving (k + m) d ≡ moving (k + x) c) × (x ≤ n + m)
+    go true e = (m, ap (λ q. moving (k + m) q) e, omega arith)
+    go false e = (
+      n + m,
+      ap (λ q. moving (k + m) q) e
+          ∙ (moving-add (k + m) n c
+          ∙ ap (λ j. moving j c) (let f : n + (k + m) ≡ k + (n + m) = omega arith in f)),
+      omega arith,
+    )
+
+module _ {S X : Type 0} (steps : S → Option X → S → Type 0) where
+  -- what was held, what came after it, and one call more
+  pub yields-held : (s t u : S) (xs ys zs : List X) (o : Option X) → Yields steps s xs t
+      → zs ≡ xs ++ ys → YieldsThen steps t ys o u → YieldsThen steps s zs o u
+  yields-held s t u xs ys zs o before e now = (
+    now.0,
+    subst (λ l. Yields steps s l now.0) (sym e)
+        (yields-join steps s t now.0 xs ys before now.1),
+    now.2,
+  )
+
+  -- what was held and one call more, where that call gave an item
+  pub yields-drawn : (s u : S) (xs : List X) (o : Option X) (x : X) → o ≡ Some x
+      → YieldsThen steps s xs o u → Yields steps s (xs ++ x ∷ []) u
+  yields-drawn s u xs o x is all =
+      yields-more steps s all.0 u xs x all.1 (subst (λ r. steps all.0 r u) is all.2)
+
+module _ {T A : Type 0} where
+  -- what a growth alone has cost
+  pub spliced-reserved : (v w : Thin T A) → w.cost ≡ cost_at v w.capacity
+      → w.items ≡ v.items
+      → (cost_at v w.capacity).grown + v.capacity ≤ v.cost.grown + w.capacity → IsSpliced v w 0
+  spliced-reserved v w e n few =
+      let f = filled-reserved v w e n few in
+      record {
+        copied = f.copied;
+        least = omega (arith, f.moves);
+        moves = omega (arith, f.moves);
+        kept = f.kept;
+        grown = f.grown;
+      }
+
+  -- what items have cost that went into spare room
+  pub spliced-run : (v w : Thin T A) (k m n : ℕ) → w.cost ≡ moving (k + m) v.cost
+      → w.capacity ≡ v.capacity → length w.items ≡ length v.items + k → m ≤ n → IsSpliced v w n
+  spliced-run v w k m n e same long few = record {
+    copied = omega (arith, ap (λ c. c.grown) e, same);
+    least = omega (arith, ap (λ c. c.moves) e, long);
+    moves = omega (arith, ap (λ c. c.moves) e, long, few);
+    kept = λ _. (ap (λ c. c.blocks) e, ap (λ c. c.grown) e);
+    grown = λ more. absurd (omega (arith, more, same));
+  }
+
+  -- one step after another
+  pub spliced-join : (v u w : Thin T A) (m n k : ℕ) → m + n ≤ k → v.capacity ≤ u.capacity
+      → u.capacity ≤ w.capacity → length v.items ≤ length u.items → IsSpliced v u m
+      → IsSpliced u w n → IsSpliced v w k
+  spliced-join v u w m n k few low high long p q = record {
+    copied = omega (arith, p.copied, q.copied);
+    least = omega (arith, p.least, q.least);
+    moves = omega (arith, p.moves, q.moves, few);
+    kept = λ same. let a : u.capacity ≡ v.capacity = omega arith in
+        let b : w.capacity ≡ u.capacity = omega arith in let f = p.kept a in let h = q.kept b in
+        (h.0 ∙ f.0, h.1 ∙ f.1);
+    grown = λ more. elim (cases_lt v.capacity u.capacity) [
+      | inl first ↦ elim (cases_lt u.capacity w.capacity) [
+        | inl again ↦ let f = p.grown first in let h = q.grown again in
+            (omega (arith, f.0, h.0), omega (arith, f.1, h.1))
+        | inr still ↦ let f = p.grown first in let h = q.kept (omega arith) in
+            (omega (arith, f.0, h.0), omega (arith, f.1, h.1))
+      ]
+      | inr still ↦ let f = p.kept (omega arith) in let h = q.grown (omega arith) in
+          (omega (arith, f.0, h.0), omega (arith, f.1, h.1, long))
+    ];
+  }
+
+-- a fact of an outcome gives another
+pub if-err : {X E : Type 0} {P Q : E → Type 0} (r : Result X E) → ((e : E) → r ≡ Err e → P e → Q e)
+    → IfErr r P → IfErr r Q
+if-err (Ok _) h p = p
+if-err (Err e) h p = h e refl p
+
+-- a fact of each error
+pub any-err : {X E : Type 0} {Q : E → Type 0} (r : Result X E) → ((e : E) → Q e) → IfErr r Q
+any-err (Ok _) h = tt
+any-err (Err e) h = h e
+
+-- how many items there are once some went in
+pub inserted-long : {T : Type 0} (xs ys : List T) (at : ℕ) → at ≤ length xs
+    → length ((take at xs ++ ys) ++ drop at xs) ≡ length xs + length ys
+inserted-long xs ys at in_bounds =
+    omega (
+      arith,
+      length-append (take at xs ++ ys) (drop at xs),
+      length-append (take at xs) ys,
+      length-take-le at xs in_bounds,
+      length-drop at xs,
+      in_bounds,
+    )
+
+module _ {S X : Type 0} (steps : S → Option X → S → Type 0) (can : S → Type 0)
+    (remaining : S → Count) where
+  -- what was given up to the first `None`, after what was given before
+  pub drains-more : (s t : S) (xs ys : List X) → Yields steps s xs t → Drains steps t ys
+      → Drains steps s (xs ++ ys)
+  drains-more s t xs ys before now =
+      (now.0, (now.1.0, yields-join steps s t now.1.0 xs ys before now.1.1, now.1.2))
+
+  -- what was held and in hand, after what was placed before
+  pub stopped-more : (s t rest : S) (xs held : List X) (in_hand : Option X) → Yields steps s xs t
+      → Stopped steps can remaining t [] held in_hand rest
+      → Stopped steps can remaining s xs held in_hand rest
+  stopped-more s t rest xs held in_hand before (inl now) =
+      let last : List X = option_to_list in_hand in
+      inl (
+        subst (λ l. Yields steps s l rest) (sym (append_assoc xs held last))
+            (yields-join steps s t rest xs (held ++ last) before now.0),
+        now.1,
+        now.2,
+        now.3,
+      )
+  stopped-more s t rest xs held in_hand before (inr now) =
+      inr (
+        now.0,
+        now.1,
+        (now.2.0, yields-join steps s t now.2.0 xs held before now.2.1, now.2.2),
+      )
+
+  -- where nothing is held
+  pub stopped-now : (s rest : S) (xs held : List X) (in_hand : Option X) → held ≡ []
+      → GaveUp steps s xs in_hand rest → can rest → IsFinite (remaining rest)
+      → Stopped steps can remaining s xs held in_hand rest
+  stopped-now s rest xs held in_hand none gave asked fin =
+      inl (
+        subst (λ l. Yields steps s (l ++ option_to_list in_hand) rest)
+            (sym (append-nil xs) ∙ ap (λ l. xs ++ l) (sym none)) gave,
+        λ _. none,
+        asked,
+        fin,
+      )
+
+-- why a splice stopped
+module _ {T A : Type 0} (rule : Rule) (R : RattleType) (v : Thin T A) (tail held : List T)
+    (in_hand : Option T) (left : Count) (cause : ThinVecError) where
+  -- before a tail, at the hint
+  pub stop-at-hint : 0 < length tail → held ≡ [] → in_hand ≡ None
+      → (cause ≡ CapacityOverflow → Overflows rule R v None left)
+      → IsStopCause rule R v tail held in_hand left cause
+  stop-at-hint some none empty over = record {
+    by_hint = λ _ _. over;
+    by_held = λ more _. absurd (omega (arith, more, ap length none));
+    by_in_hand = λ _ is. absurd (false≢true (subst IsSome empty is));
+    by_push = λ no_tail. absurd (omega (arith, some, ap length no_tail));
+  }
+
+  -- before a tail, at an item that was to be held, or at what was held
+  pub stop-at-held : 0 < length tail → (in_hand ≡ None → 0 < length held)
+      → (in_hand ≡ None
+      → (cause ≡ CapacityOverflow) ↔ (capacity_for rule R v (length held) ≡ None))
+      → (IsSome in_hand → cause ≡ OutOfMemory)
+      → IsStopCause rule R v tail held in_hand left cause
+  stop-at-held some more over memory = record {
+    by_hint = λ none empty. absurd (omega (arith, more empty, ap length none));
+    by_held = λ _ empty. over empty;
+    by_in_hand = λ _ is. memory is;
+    by_push = λ no_tail. absurd (omega (arith, some, ap length no_tail));
+  }
+
+  -- with no tail, as `extend` does
+  pub stop-at-end : tail ≡ [] → held ≡ []
+      → (IsSome in_hand → capacity_for rule R v 1 ≡ None → cause ≡ CapacityOverflow)
+      → (cause ≡ CapacityOverflow → Overflows rule R v in_hand left)
+      → IsStopCause rule R v tail held in_hand left cause
+  stop-at-end no_tail none over why = record {
+    by_hint = λ _ empty is. subst (λ o. Overflows rule R v o left) empty (why is);
+    by_held = λ more _. absurd (omega (arith, more, ap length none));
+    by_in_hand = λ some _. absurd (omega (arith, some, ap length no_tail));
+    by_push = λ _ some. (λ is. one in_hand some (why is), over some);
+  }
+    where
+      one : (o : Option T) → IsSome o → Overflows rule R v o left
+          → capacity_for rule R v 1 ≡ None
+      one (Some x) some now = now
+      one None some now = absurd (false≢true some)
+
+module _ (rule : Rule) (R : RattleType) where
+  -- a ruled capacity was named for what it was ruled for
+  pub named-ruled : KeepsLaw rule → {T A : Type 0} (v : Thin T A) (k d n : ℕ)
+      → capacity_for rule R v k ≡ Some d → length v.items + k ≤ n
+      → IsNamed rule R v.capacity d n
+  named-ruled law v k d n e less =
+      elim (cases_lt v.capacity (length v.items + k)) [
+        | inl more ↦ inr (v.capacity, length v.items + k, more, less, e)
+        | inr spare ↦ inl (cap-kept rule R law v k d spare e)
+      ]
+
+-- no move is none
+unmoved : (b : Bool) (c : Cost) (n : ℕ) → n ≡ 0 → (if b then c else moving n c) ≡ c
+unmoved true c n none = refl
+unmoved false c n none = ap (λ k. moving k c) none ∙ sym (moving-zero c)
+
+module _ {T A : Type 0} where
+  -- an open block with no item after its front, once it is closed
+  pub closed-left : (v : Open T A) (u : Thin T A) → v.rest ≡ [] → v.tail ≡ []
+      → record u { items = items_of v; capacity = v.capacity; cost = cost_closed v }
+      ≡ left_of v u.alloc
+  closed-left v u none no_tail =
+      let free : cost_closed v ≡ v.cost =
+      unmoved (eqb v.before 0) v.cost (length v.rest + length v.tail)
+      (omega (arith, ap length none, ap length no_tail)) in
+      λ i. record {
+        items = v.front ++ (none i ++ v.tail);
+        capacity = v.capacity;
+        alloc = u.alloc;
+        cost = free i;
+      }
+
+  -- more items go in after those that went in before
+  pub between-more : (v : Open T A) (us xs ys : List T) (end : ℕ) → us ≡ with_between v xs
+      → end ≡ length v.front + length xs
+      → (take end us ++ ys) ++ drop end us ≡ with_between v (xs ++ ys)
+  between-more v us xs ys end e ends =
+      let pre : List T = v.front ++ xs in
+      let here : length pre ≡ end = omega (arith, length-append v.front xs, ends) in
+      (λ i. (take end (e i) ++ ys) ++ drop end (e i))
+      ∙ ((λ i. (take_at pre v.tail end here i ++ ys) ++ drop_at pre v.tail end here i)
+      ∙ ap (λ l. l ++ v.tail) (append_assoc v.front xs ys))
+
+  -- how many items there are with xs in the place of the middle run
+  pub between-length : (v : Open T A) (xs : List T)
+      → length (with_between v xs) ≡ length v.front + length xs + length v.tail
+  between-length v xs =
+      omega (arith, length-append (v.front ++ xs) v.tail, length-append v.front xs)
+
+  -- with no tail, what lies in the gap lies after all
+  pub after-items : (v : Open T A) (xs : List T) → v.tail ≡ []
+      → (v.front ++ v.tail) ++ xs ≡ with_between v xs
+  after-items v xs none =
+      (λ i. (v.front ++ none i) ++ xs)
+      ∙ (ap (λ l. l ++ xs) (append-nil v.front)
+      ∙ (sym (append-nil (v.front ++ xs)) ∙ (λ i. (v.front ++ xs) ++ sym none i)))
+
+  -- the cost of what went after all is that of what went between
+  pub spliced-extended : (v w : Thin T A) (n : ℕ) → IsExtendCost v w → IsSpliced v w n
+  spliced-extended v w n p =
+      record {
+        copied = p.copied;
+        least = omega (arith, p.moves);
+        moves = omega (arith, p.moves);
+        kept = p.kept;
+        grown = p.grown;
+      }
+
+-- what a step of a splice's end does to a list
+module _ (rule : Rule) (R : RattleType) {T A : Type 0} where
+  -- items that went into spare room
+  pub taken-spare : (v w : Thin T A) (k m n : ℕ) (left : Count) → w.cost ≡ moving (k + m) v.cost
+      → w.capacity ≡ v.capacity → length w.items ≡ length v.items + k → m ≤ n → w.alloc ≡ v.alloc
+      → HasTaken rule R v w n left
+  taken-spare v w k m n left paid same long few from = record {
+    capacity = inl same;
+    had_room = λ _. same;
+    cost = spliced-run v w k m n paid same long few;
+    alloc = from;
+    cheap = λ p. record {
+      none = λ z. let f = p.none (omega (arith, z, same)) in
+          (ap (λ c. c.blocks) paid ∙ f.0, ap (λ c. c.grown) paid ∙ f.1);
+      grown = λ some. omega (
+        arith,
+        p.grown (omega (arith, some, same)),
+        ap (λ c. c.grown) paid,
+        same,
+      );
+      blocks = λ some. subst (λ b. 2 ^ b ≤ 2 * w.capacity) (sym (ap (λ c. c.blocks) paid))
+          (subst (λ d. 2 ^ v.cost.blocks ≤ 2 * d) (sym same)
+          (p.blocks (omega (arith, some, same))));
+    };
+  }
+
+  -- nothing went in
+  pub taken-none : (v w : Thin T A) (n : ℕ) (left : Count) → w ≡ v → HasTaken rule R v w n left
+  taken-none v w n left e =
+      taken-spare v w 0 0 n left (ap (λ z. z.cost) e ∙ moving-zero v.cost)
+      (ap (λ z. z.capacity) e) (omega (arith, ap (λ z. length z.items) e)) (omega arith)
+      (ap (λ z. z.alloc) e)
+
+  module _ (law : KeepsLaw rule) where
+    -- room was made for h items, which `left` allows
+    pub taken-reserved : (v w : Thin T A) (h : ℕ) (left : Count)
+        → capacity_for rule R v h ≡ Some w.capacity → w.items ≡ v.items → w.alloc ≡ v.alloc
+        → w.cost ≡ cost_at v w.capacity → (IsCheap v → IsCheap w) → h ≤ size left
+        → length v.items ≤ v.capacity → HasTaken rule R v w 0 left
+    taken-reserved v w h left named same from paid cheap allowed room = record {
+      capacity = loose-ruled rule R law v h w.capacity named;
+      had_room = λ fit. cap-kept rule R law v h w.capacity (omega (arith, fit, allowed)) named;
+      cost = spliced-reserved v w paid same
+          (cost_at-copied rule R law v h w.capacity room named);
+      alloc = from;
+      cheap = cheap;
+    }
+
+    -- one step after another
+    pub taken-join : (v u w : Thin T A) (m n k : ℕ) (left more : Count) → m + n ≤ k
+        → length v.items ≤ length u.items
+        → (HasRoomFor v (size left) → u.capacity ≡ v.capacity → HasRoomFor u (size more))
+        → HasTaken rule R v u m left → HasTaken rule R u w n more → HasTaken rule R v w k left
+    taken-join v u w m n k left more few long room p q = record {
+      capacity = loose-join rule R law v.capacity u.capacity w.capacity p.capacity q.capacity;
+      had_room = λ fit. let same = p.had_room fit in q.had_room (room fit same) ∙ same;
+      cost = spliced-join v u w m n k few (loose-le rule R law v.capacity u.capacity p.capacity)
+          (loose-le rule R law u.capacity w.capacity q.capacity) long p.cost q.cost;
+      alloc = q.alloc ∙ p.alloc;
+      cheap = λ c. q.cheap (p.cheap c);
+    }

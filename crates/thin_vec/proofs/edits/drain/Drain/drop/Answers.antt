@@ -1,0 +1,12 @@
+-- The items after the range close up to those in front of it.
+use Rattle.std.proofs.Common.{arith, ◌∙◌}
+use Rattle.thin_vec.proofs.edits.drain.Drain.drop.Goals as goal
+
+pub close-requires-clause-after : goal.close-requires-clause-after
+close-requires-clause-after g c = search (arith, ◌∙◌)
+
+pub returns-clause-items : goal.returns-clause-items
+returns-clause-items g c = search (arith, ◌∙◌)
+
+pub returns-clause-cost : goal.returns-clause-cost
+returns-clause-cost g c = search (arith, ◌∙◌)

@@ -1,0 +1,60 @@
+-- Those that stay joined the front, and the next item goes, or none is left.
+use Rattle.std.proofs.Common.{◌≡◌, ◌∙◌, [], ap, arith, rules, sym, take}
+use Rattle.std.proofs.lemmas.Bool.{false≢true}
+use Rattle.std.specs.Fn.{CalledAtMut}
+use Rattle.thin_vec.proofs.edits.ExtractIfLemmas.{cost-of, picked-count, picked-none, picked-room, picked-some}
+use Rattle.thin_vec.proofs.RetainLemmas.{none-left}
+use Rattle.thin_vec.proofs.edits.extract_if.Extracting.next_picked.Goals as goal
+
+-- an item goes
+pub returns-then-advance-clause-extracts : goal.returns-then-advance-clause-extracts
+returns-then-advance-clause-extracts g c =
+    let R = CalledAtMut g.F.FnMut in
+    let v = c.args.self.now in
+    let a = c.advance.ensures.advances in
+    let t = c.advance.new.judge in
+    let z = c.take_first.new.self in
+    let x = c.take_first.result in
+    let asked = picked-some R (λ s. s.pick) a.count v.picks v.block.rest t a.left a.run x z.rest
+    (sym (ap (λ w. w.rest) a.now) ∙ c.take_first.ensures.rest) in
+    record {
+      kept = take a.count a.left;
+      asked = asked;
+      count = picked-count R v.picks.pick v.block.rest _ t.pick (take a.count a.left) z.rest asked;
+      front = search rules;
+      before = search rules;
+      tail = search rules;
+      capacity = search rules;
+      alloc = search rules;
+      cost = ap (λ w. w.cost) c.take_first.ensures.changes
+          ∙ (ap (λ w. w.cost) a.now ∙ cost-of v.block.before v.block.cost a.count a.left
+          (picked-room R (λ s. s.pick) a.count v.picks v.block.rest t a.left a.run));
+    }
+
+-- no item goes any more
+pub returns-else-advance-clause-extracts : goal.returns-else-advance-clause-extracts
+returns-else-advance-clause-extracts g c =
+    let R = CalledAtMut g.F.FnMut in
+    let v = c.args.self.now in
+    let a = c.advance.ensures.advances in
+    let t = c.advance.new.judge in
+    let w = c.advance.new.self in
+    let rest = ap (λ u. u.rest) a.now in
+    let none : w.rest ≡ [] =
+    none-left w.rest
+    (λ some. false≢true (sym c.if-advance.false ∙ c.advance.ensures.goes.1 some)) in
+    let asked = picked-none R (λ s. s.pick) a.count v.picks v.block.rest t a.left a.run
+    (sym rest ∙ none) in
+    record {
+      kept = take a.count a.left;
+      asked = rw rest asked;
+      count = rw rest
+          (picked-count R v.picks.pick v.block.rest _ t.pick (take a.count a.left) _ asked);
+      front = ap (λ u. u.front) a.now;
+      before = omega (arith, ap (λ u. u.before) a.now);
+      tail = ap (λ u. u.tail) a.now;
+      capacity = ap (λ u. u.capacity) a.now;
+      alloc = ap (λ u. u.alloc) a.now;
+      cost = ap (λ u. u.cost) a.now ∙ cost-of v.block.before v.block.cost a.count a.left
+          (picked-room R (λ s. s.pick) a.count v.picks v.block.rest t a.left a.run);
+    }

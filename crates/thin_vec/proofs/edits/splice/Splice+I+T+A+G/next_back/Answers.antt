@@ -1,0 +1,7 @@
+-- The last item that is left, if there is one.
+use Rattle.std.proofs.Common.{arith}
+use Rattle.std.proofs.lemmas.Grind.{common_steps}
+use Rattle.thin_vec.proofs.edits.splice.Splice+I+T+A+G.next_back.Goals as goal
+
+pub returns : goal.returns
+returns g c = grind (arith, common_steps)

@@ -1,6 +1,0 @@
--- One step of the walk.
-use Rattle.std.proofs.Common.{arith, ◌∙◌}
-use Rattle.thin_vec.proofs.extract_if.ExtractIfIterator.next.Goals as goal
-
-pub returns-clause-steps : goal.returns-clause-steps
-returns-clause-steps g c = search (arith, ◌∙◌)

@@ -1,6 +1,0 @@
--- The walk is that over the whole slice.
-use Rattle.std.proofs.Common.{arith, ◌∙◌}
-use Rattle.thin_vec.proofs.indexing.RefMutThinVecIntoIterator.into_iter.Goals as goal
-
-pub returns : goal.returns
-returns g c = search (arith, ◌∙◌)

@@ -1,6 +1,0 @@
--- As many items come as are left.
-use Rattle.std.proofs.Common.{arith, ◌∙◌}
-use Rattle.thin_vec.proofs.into_iter.IntoIter.len.Goals as goal
-
-pub returns : goal.returns
-returns g c = search (arith, ◌∙◌)

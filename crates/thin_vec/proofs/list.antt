@@ -1,0 +1,6 @@
+-- The lemmas of `src/list/`. (rattle makes this module, so no line of Lib.antt names it.)
+pub mod AppendSplitLemmas
+pub mod CapacityLemmas
+pub mod ClonesLemmas
+pub mod ExtendLemmas
+pub mod InsertRemoveLemmas

@@ -1,0 +1,98 @@
+-- What a block holds while clones go into its spare slots, and once the list counts them; and the
+-- items of a range of a list, read from the list that grows after them.
+use Rattle.std.proofs.Common.{◌≡◌, ◌+◌, ◌-◌, ◌<◌, ◌≤◌, [], ◌∷◌, ◌++◌, ◌∙◌, List, Option, Some, ap, append_assoc, arith, drop, get_or, length, refl, suc, sym, take, zero, ℕ}
+use Rattle.std.proofs.lemmas.List.{get_or-drop, get_or-take, get_or_append_left, length-drop, length-take-le, map_push, replicate-append-replicate}
+use Rattle.std.proofs.lemmas.List.Elements.{All-from_recursion, all_zip_more, length_all_zip, recursion_from_All}
+use Rattle.std.specs.List.{AllByRecursion, AllZip}
+use Rattle.std.specs.Borrow.{RattleType}
+use Rattle.std.specs.Prelude.{All, HoldsAt, replicate, slice_range}
+use lib.ListN.{set}
+use Rattle.thin_block.specs.Growth.{Rule, ruled_capacity}
+use Rattle.thin_block.specs.Slots.{full, laid}
+use Rattle.thin_block.proofs.SlotsLemmas.{laid-one}
+use Rattle.thin_vec.specs.List.Clones.{AppendsRepeats, CloneEquals, LaysClones}
+use Rattle.thin_vec.specs.ThinVec.{IsNew, Thin, capacity_for}
+use Rattle.thin_vec.proofs.ListLemmas.{length-full}
+
+module _ {T : Type 0} {clones : T → T → Type 0} {sources : List T} {n i : ℕ}
+    {s s' : List (Option T)} (lays : LaysClones clones sources n i s s') where
+  -- as many clones as sources
+  pub length-copies : n ≤ length sources → length lays.copies ≡ n
+  length-copies few = sym (length_all_zip clones (take n sources) lays.copies lays.cloned)
+      ∙ length-take-le n sources few
+
+  -- a clone of the next source is put after those that are there
+  pub lays-more : (y : T) {x : T} {s'' : List (Option T)} → n < length sources
+      → i + length sources ≤ length s → x ≡ get_or sources n x → clones x y
+      → s'' ≡ set s' (i + n) (Some y) → LaysClones clones sources (n + 1) i s s''
+  lays-more y {x} more room is is_clone put =
+      let ys = lays.copies in
+      let long : i + n ≡ i + length (full ys) =
+      omega (arith, length-copies (omega arith), length-full ys) in
+      record {
+        copies = ys ++ y ∷ [];
+        cloned = all_zip_more clones sources ys n x y more is lays.cloned is_clone;
+        slots = put ∙ (ap (λ r. set r (i + n) (Some y)) lays.slots
+            ∙ (laid-one i (full ys) s (i + n) (Some y) long (omega arith)
+            ∙ ap (λ r. laid i r s) (sym (map_push Some ys y))));
+      }
+
+-- clones of n of the same items, all x, are n clones of x
+pub all-repeated : {T : Type 0} (clones : T → T → Type 0) (x : T) (n m : ℕ) (ys : List T)
+    → AllZip clones (take n (replicate m x)) ys → All (clones x) ys
+all-repeated {T} clones x n m ys cloned = All-from_recursion (clones x) ys (each n m ys cloned)
+  where
+    each : (n m : ℕ) (ys : List T) → AllZip clones (take n (replicate m x)) ys
+        → AllByRecursion (clones x) ys
+    each zero m [] e = tt
+    each zero m (y ∷ ys) e = absurd e
+    each (suc n) zero [] e = tt
+    each (suc n) zero (y ∷ ys) e = absurd e
+    each (suc n) (suc m) [] e = absurd e
+    each (suc n) (suc m) (y ∷ ys) e = (e.0, each n m ys e.1)
+
+module _ {T : Type 0} (clones : T → T → Type 0) where
+  -- where each clone of x is equal to it, n clones and x itself are x so often and once more
+  pub equal-repeated : (n m : ℕ) {x : T} {xs ys zs : List T} → CloneEquals clones x
+      → AppendsRepeats clones x n xs ys → zs ≡ ys ++ x ∷ [] → m ≡ n + 1 → zs ≡ xs ++ replicate m x
+  equal-repeated n m {x} {xs} equal repeats last one =
+      let copies = repeats.copies in
+      let same : copies ≡ replicate n x =
+      each copies (recursion_from_All (clones x) copies repeats.cloned)
+      ∙ ap (λ k. replicate k x) repeats.count in
+      last
+      ∙ (ap (λ (l : List T). l ++ x ∷ []) (repeats.items ∙ ap (λ (l : List T). xs ++ l) same)
+      ∙ (append_assoc xs (replicate n x) (x ∷ []) ∙ ap (λ (l : List T). xs ++ l)
+      (replicate-append-replicate n 1 x ∙ ap (λ k. replicate k x) (sym one))))
+    where
+      each : (ys : List T) → AllByRecursion (clones x) ys → ys ≡ replicate (length ys) x
+      each [] e = refl
+      each (y ∷ ys) e = λ i. equal y e.0 i ∷ each ys e.1 i
+
+-- the capacity at which a new list gets the length k
+pub capacity-new : {T A : Type 0} (rule : Rule) (R : RattleType) (v : Thin T A) (a : A) (k : ℕ)
+    → IsNew v a → capacity_for rule R v (k - length v.items) ≡ ruled_capacity rule R 0 k
+capacity-new rule R v a k new =
+    ap (λ c. ruled_capacity rule R c (length v.items + (k - length v.items))) new.capacity
+    ∙ ap (λ n. ruled_capacity rule R 0 n)
+    (let e : length v.items + (k - length v.items) ≡ k = omega (arith, ap length new.items) in
+    e)
+
+-- not all clones succeed where one may fail
+pub not-all : {X : Type 0} (P : X → Type 0) (xs : List X) (i : ℕ) → i < length xs
+    → HoldsAt (λ x. ¬ (P x)) xs i → All P xs → ⊥
+not-all P [] i low never all = absurd (omega arith)
+not-all P (x ∷ xs) i low never all = never x (all i x low)
+
+pub ruleset new_lists = (capacity-new)
+
+module _ {T : Type 0} (xs : List T) (a b : ℕ) (within : b ≤ length xs) where
+  -- a range has as many items as it is long
+  pub length-range : length (slice_range xs a b) ≡ b - a
+  length-range = length-take-le (b - a) (drop a xs) (omega (arith, length-drop a xs))
+
+  -- the i-th item of a range, whatever came after the list
+  pub get-range : (ys : List T) (i : ℕ) (x : T) → i < b - a → x ≡ get_or (xs ++ ys) (a + i) x
+      → x ≡ get_or (slice_range xs a b) i x
+  get-range ys i x less is = is ∙ (get_or_append_left xs ys x (a + i) (omega arith)
+      ∙ sym (get_or-take (b - a) (drop a xs) i x less ∙ get_or-drop a xs i x))

@@ -1,0 +1,221 @@
+-- What calls of `next` gave, and what a block and a list are once it was placed.
+use Rattle.std.proofs.Common.{true, ◌≡◌, ℕ, ◌+◌, ◌<◌, ◌≤◌, List, [], ◌∷◌, ◌++◌, inl, inr, length, Option, Some, refl, sym, ap, subst, ◌∙◌, arith, false, Bool, ltb}
+use Rattle.std.proofs.lemmas.Bool.{cases_lt, lt-ltb}
+use borrow.Author.Tests.{le-ltb}
+use Rattle.std.proofs.lemmas.List.{map-append}
+use Rattle.std.specs.Borrow.{RattleType}
+use Rattle.std.proofs.iter.runs.Made.{run, to_end}
+use Rattle.std.specs.Iterator.{Count, Drains, Yields}
+use Rattle.std.specs.Iterator.SizeHint.{IsWithinCount}
+use Rattle.std.specs.Iterator.Runs.{SomeRun, WholeRun}
+use Rattle.std.specs.declared.result.Result.{Result}
+use Rattle.std.specs.declared.result.Result.TheVariants.{Ok, Err}
+use Rattle.std.specs.Prelude.{OnOk, IfErr}
+use Rattle.std.proofs.lemmas.Bool.{false≢true}
+use Rattle.std.specs.Option.{option_to_list}
+use lib.ListN.{set}
+use Rattle.thin_block.specs.Block.{Seen}
+use Rattle.thin_block.specs.Cost.{moving}
+use Rattle.thin_block.specs.Growth.{Rule, KeepsLaw, exact_capacity}
+use Rattle.thin_block.specs.Slots.{full, laid}
+use Rattle.thin_block.proofs.CapacityLemmas.{ruled-grows}
+use Rattle.thin_block.proofs.SlotsLemmas.{laid-one}
+use Rattle.std.specs.Prelude.{◌⊎◌}
+use Rattle.thin_vec.specs.List.Extend.{GaveUp, IsCollected, IsExtendCost, IsLoose, IsNamed}
+use Rattle.thin_vec.specs.ThinVec.{Thin, capacity_for, cost_at}
+use Rattle.thin_vec.proofs.RetainLemmas.{moving-more, moving-none}
+use Rattle.thin_vec.proofs.ListLemmas.{length-full}
+use Rattle.thin_vec.proofs.ThinVecLemmas.{cap-kept, cost_at-more, cost_at-moves, cost_at-same}
+
+module _ {S X : Type 0} (steps : S → Option X → S → Type 0) where
+  -- one call more
+  pub yields-more : (s t u : S) (xs : List X) (x : X) → Yields steps s xs t → steps t (Some x) u
+      → Yields steps s (xs ++ x ∷ []) u
+  yields-more s t u [] x e now = (u, subst (λ r. steps r (Some x) u) (sym e) now, λ _. u)
+  yields-more s t u (y ∷ ys) x e now = (e.0, e.1, yields-more e.0 t u ys x e.2 now)
+
+  -- one run of calls after another
+  pub yields-join : (s t u : S) (xs ys : List X) → Yields steps s xs t → Yields steps t ys u
+      → Yields steps s (xs ++ ys) u
+  yields-join s t u [] ys e more = subst (λ r. Yields steps r ys u) (sym e) more
+  yields-join s t u (x ∷ xs) ys e more = (e.0, e.1, yields-join e.0 t u xs ys e.2 more)
+
+  -- the first of several calls, alone
+  pub yields-first : (s u : S) (xs ys : List X) → Yields steps s (xs ++ ys) u
+      → (t : S) × Yields steps s xs t
+  yields-first s u [] ys e = (s, refl)
+  yields-first s u (x ∷ xs) ys e =
+      let rest = yields-first e.0 u xs ys e.2 in (rest.0, (e.0, e.1, rest.1))
+
+  -- calls that went on to `None`, as a run
+  pub run_of : (s : S) (P : List X → Type 0) → (xs : List X) × Drains steps s xs × P xs
+      → WholeRun steps s (λ p. P p.items)
+  run_of s P all = (run steps s all.0 true (to_end steps s all.0 all.1), refl, refl, all.2)
+
+  -- calls that went on to `None`, as a run, where the result is `Ok`
+  pub run_of_ok : {E : Type 0} (s : S) (P : List X → Type 0) (r : Result (Unit {0}) E)
+      → OnOk r ((xs : List X) × Drains steps s xs × P xs)
+      → OnOk r (WholeRun steps s (λ p. P p.items))
+  run_of_ok s P (Ok _) all = run_of s P all
+  run_of_ok s P (Err _) all = tt
+
+module _ {S X : Type 0} (steps : S → Option X → S → Type 0) (s : S) where
+  -- what calls yielded up to a failure, as a run
+  pub run_given : (xs : List X) (o : Option X) (t : S) (P : List X → Type 0)
+      → GaveUp steps s xs o t → P (xs ++ option_to_list o) → SomeRun steps s (λ p. P p.items)
+  run_given xs o t P gave h =
+      (run steps s (xs ++ option_to_list o) false (t, gave, λ e. absurd (false≢true e)), refl, h)
+
+  -- what calls yielded up to a failure, as a run, where the result is `Err`
+  pub run_given_err : {E : Type 0} (hand : E → Option X) (rest : E → S)
+      (P : List X → Type 0) (r : Result (Unit {0}) E)
+      → IfErr r (λ e. (xs : List X) × P xs × GaveUp steps s xs (hand e) (rest e))
+      → IfErr r (λ e. SomeRun steps s
+      (λ p. (xs : List X) × P xs × (p.items ≡ xs ++ option_to_list (hand e))))
+  run_given_err hand rest P (Ok _) all = tt
+  run_given_err hand rest P (Err e) all =
+      run_given all.0 (hand e) (rest e)
+      (λ l. (xs : List X) × P xs × (l ≡ xs ++ option_to_list (hand e)))
+      all.2 (all.0, all.1, refl)
+
+module _ {T : Type 0} where
+  module _ (s s' r : List (Option T)) where
+    -- one item more in a row
+    pub laid-more : (i k : ℕ) (xs : List T) (x : T) → s ≡ laid i (full xs) r → k ≡ i + length xs
+        → k < length r → s' ≡ set s k (Some x) → s' ≡ laid i (full (xs ++ x ∷ [])) r
+    laid-more i k xs x e at within e' =
+        let long : k ≡ i + length (full xs) = omega (arith, at, length-full xs) in
+        e' ∙ (ap (λ (l : List (Option T)). set l k (Some x)) e
+        ∙ (laid-one i (full xs) r k (Some x) long within
+        ∙ ap (λ (l : List (Option T)). laid i l r)
+        (sym (map-append (λ (y : T). Some y) xs (x ∷ [])))))
+
+module _ {T A : Type 0} where
+  -- a block before the first item is put
+  pub put-none : (v : Seen T A) (n : ℕ) → n ≡ 0 → v ≡ record v { cost = moving n v.cost }
+  put-none v n none = λ i. record v
+      { cost = (sym (moving-none v.cost) ∙ ap (λ (k : ℕ). moving k v.cost) (sym none)) i }
+
+  -- a block after one item more is put
+  pub put-more : (u : Seen T A) {v w : Seen T A} {s : List (Option T)} (n k : ℕ) → k ≡ n + 1
+      → w ≡ record v { slots = s; cost = moving 1 v.cost }
+      → v ≡ record u { slots = v.slots; cost = moving n u.cost }
+      → w ≡ record u { slots = w.slots; cost = moving k u.cost }
+  put-more u {w = w} n k one put was = λ i. record {
+    slots = w.slots;
+    len = (ap (λ (z : Seen T A). z.len) put ∙ ap (λ (z : Seen T A). z.len) was) i;
+    alloc = (ap (λ (z : Seen T A). z.alloc) put ∙ ap (λ (z : Seen T A). z.alloc) was) i;
+    cost = (ap (λ (z : Seen T A). z.cost) put
+        ∙ (ap (λ (z : Seen T A). moving 1 z.cost) was
+        ∙ (moving-more 1 n u.cost ∙ ap (λ (m : ℕ). moving m u.cost) (sym one)))) i;
+  }
+
+-- an iterator ended where it left room
+pub short-ends : (b : Bool) (m n : ℕ) → (b ≡ true → m < n) → (b ≡ false → m ≡ n) → b ≡ ltb m n
+short-ends true m n short full = sym (lt-ltb m n (short refl))
+short-ends false m n short full = sym (le-ltb m n (omega (arith, full refl)))
+
+-- ---- how a capacity grows over several calls
+
+module _ (rule : Rule) (R : RattleType) (law : KeepsLaw rule) where
+  -- what a loose capacity grew to is not less than before
+  pub loose-le : (c d : ℕ) → IsLoose rule R c d → c ≤ d
+  loose-le c d (inl e) = omega arith
+  loose-le c d (inr p) = let g = ruled-grows rule R c p.0 p.1 law p.2 p.3 in
+      omega (arith, g.doubled, p.4)
+
+  -- one loose growth after another
+  pub loose-join : (c d e : ℕ) → IsLoose rule R c d → IsLoose rule R d e → IsLoose rule R c e
+  loose-join c d e (inl p) q = subst (λ n. IsLoose rule R n e) p q
+  loose-join c d e (inr p) q = inr (p.0, p.1, p.2, p.3, omega (arith, p.4, loose-le d e q))
+
+  -- a capacity that was named for fewer was named for more
+  pub named-more : (c n m : ℕ) {d d' : ℕ} → d' ≡ d → n ≤ m → IsNamed rule R c d n
+      → IsNamed rule R c d' m
+  named-more c n m same more (inl e) = inl (same ∙ e)
+  named-more c n m same more (inr p) =
+      inr (p.0, p.1, p.2, omega (arith, p.3, more), p.4 ∙ ap Some (sym same))
+
+  -- a capacity that was named after another growth
+  pub named-after : (c d e n : ℕ) (P : Type 0) → IsNamed rule R d e n → (e ≡ d → P)
+      → IsNamed rule R c e n ⊎ P
+  named-after c d e n P (inl same) f = inr (f same)
+  named-after c d e n P (inr p) f = inl (inr p)
+
+  -- a list that took exactly as many places as a hint says
+  pub collected-after : {c d : ℕ} (n h : ℕ) (left : Count) → IsWithinCount h left
+      → exact_capacity R 0 h ≡ Some c → IsNamed rule R c d n → IsCollected rule R d n left
+  collected-after n h left hint e (inl same) = inr (h, hint, e ∙ ap Some (sym same))
+  collected-after n h left hint e (inr p) = inl p
+
+  -- a ruled capacity
+  pub loose-ruled : {T A : Type 0} (v : Thin T A) (k d : ℕ) → capacity_for rule R v k ≡ Some d
+      → IsLoose rule R v.capacity d
+  loose-ruled v k d e =
+      elim (cases_lt v.capacity (length v.items + k)) [
+        | inl more ↦ inr (length v.items + k, d, more, e, omega arith)
+        | inr spare ↦ inl (cap-kept rule R law v k d spare e)
+      ]
+
+module _ {T A : Type 0} where
+  -- k items that came in by as many moves, after at most one growth
+  pub filled-at : (v w : Thin T A) (k : ℕ) → w.cost ≡ moving k (cost_at v w.capacity)
+      → length w.items ≡ length v.items + k
+      → (cost_at v w.capacity).grown + v.capacity ≤ v.cost.grown + w.capacity → IsExtendCost v w
+  filled-at v w k e n few = record {
+    copied = omega (arith, ap (λ c. c.grown) e, few);
+    moves = omega (arith, ap (λ c. c.moves) e, cost_at-moves v w.capacity, n);
+    kept = λ same. (
+      ap (λ c. c.blocks) (e ∙ ap (λ c. moving k c) (cost_at-same v w.capacity same)),
+      ap (λ c. c.grown) (e ∙ ap (λ c. moving k c) (cost_at-same v w.capacity same)),
+    );
+    grown = λ more. let f = e ∙ ap (λ c. moving k c) (cost_at-more v w.capacity more) in
+        (omega (arith, ap (λ c. c.blocks) f), omega (arith, ap (λ c. c.grown) f));
+  }
+
+  -- where no item came in, the cost is that of the room
+  pub filled-reserved : (v w : Thin T A) → w.cost ≡ cost_at v w.capacity
+      → w.items ≡ v.items
+      → (cost_at v w.capacity).grown + v.capacity ≤ v.cost.grown + w.capacity → IsExtendCost v w
+  filled-reserved v w e n few =
+      filled-at v w 0 (e
+      ∙ (λ i. record {
+        blocks = (cost_at v w.capacity).blocks;
+        grown = (cost_at v w.capacity).grown;
+        moves =
+            (let z : (cost_at v w.capacity).moves
+            ≡ (cost_at v w.capacity).moves + 0 = omega arith in
+            z) i;
+      })) (omega (arith, ap length n)) few
+
+  -- items came in without a growth
+  pub filled-spare : (v w : Thin T A) (k : ℕ)
+      → w ≡ record v { items = w.items; cost = moving k v.cost }
+      → length w.items ≡ length v.items + k → IsExtendCost v w
+  filled-spare v w k e n =
+      let same : w.capacity ≡ v.capacity = ap (λ u. u.capacity) e in
+      let kept : cost_at v w.capacity ≡ v.cost = cost_at-same v w.capacity same in
+      filled-at v w k (ap (λ u. u.cost) e ∙ ap (λ c. moving k c) (sym kept)) n
+      (omega (arith, ap (λ c. c.grown) kept, same))
+
+  -- one step after another
+  pub filled-join : {v u w : Thin T A} → IsExtendCost v u → IsExtendCost u w
+      → v.capacity ≤ u.capacity → u.capacity ≤ w.capacity → length v.items ≤ length u.items
+      → IsExtendCost v w
+  filled-join {v} {u} {w} p q low high long = record {
+    copied = omega (arith, p.copied, q.copied);
+    moves = omega (arith, p.moves, q.moves);
+    kept = λ same. let a : u.capacity ≡ v.capacity = omega arith in
+        let b : w.capacity ≡ u.capacity = omega arith in let f = p.kept a in let h = q.kept b in
+        (h.0 ∙ f.0, h.1 ∙ f.1);
+    grown = λ more. elim (cases_lt v.capacity u.capacity) [
+      | inl first ↦ elim (cases_lt u.capacity w.capacity) [
+        | inl again ↦ let f = p.grown first in let h = q.grown again in
+            (omega (arith, f.0, h.0), omega (arith, f.1, h.1))
+        | inr still ↦ let f = p.grown first in let h = q.kept (omega arith) in
+            (omega (arith, f.0, h.0), omega (arith, f.1, h.1))
+      ]
+      | inr still ↦ let f = p.kept (omega arith) in let h = q.grown (omega arith) in
+          (omega (arith, f.0, h.0), omega (arith, f.1, h.1, long))
+    ];
+  }

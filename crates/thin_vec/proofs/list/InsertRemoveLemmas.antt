@@ -1,0 +1,321 @@
+-- What a block holds while items leave it or move along it, and afterwards.
+use Rattle.thin_vec.proofs.list.CapacityLemmas.{front-none}
+use Rattle.std.proofs.Common.{◌≡◌, ◌≢◌, ℕ, zero, suc, ◌+◌, ◌-◌, ◌<◌, ◌≤◌, List, [], ◌∷◌, ◌++◌, length, take, drop, Option, Some, None, refl, sym, ap, ◌∙◌, subst, arith, get_or, length-append, append_assoc}
+use Rattle.std.proofs.Math.Seq.{drop-length, take-append_seam}
+use Rattle.std.proofs.lemmas.List.{set_comm, set-append_left, length-replicate, length-take-le, length_push, take-append-drop, replicate-append-replicate, set_at, get_or_at, map-append, length-take, length-drop}
+use Rattle.std.proofs.lemmas.List.Edits.{length-insert, length-remove}
+use Rattle.std.specs.Prelude.{IsSome, insert, remove}
+use Rattle.std.specs.List.{swap_remove}
+use lib.ListN.{set, length-set, replicate}
+use Rattle.thin_block.specs.Cost.{Cost}
+use Rattle.thin_block.specs.Slots.{full, empty, slot, items_in, front, moved}
+use Rattle.thin_block.specs.declared.block.Block.{Block}
+use Rattle.thin_vec.specs.ThinVec.{IsThin}
+use Rattle.thin_vec.proofs.ListLemmas.{IsWritten, Settled, settle-front, front-pop, last-item, length-full, settle-pop, thin-filled, thin-room, full-take}
+use Rattle.thin_block.proofs.BlockLemmas.{slots-are}
+use Rattle.thin_block.proofs.SlotsLemmas.{same_or_not, the_item, moved_left, moved_right}
+use lib.Seq.{set-set, take-set-le}
+use mathlib.Core.Logic.{⊎_elim}
+
+-- ---- a run moves by one place
+
+module _ {T : Type 0} where
+  -- one item is taken, and those after it close the gap
+  pub front-remove : (xs : List T) (c i : ℕ) {j k : ℕ} → i < length xs → length xs ≤ c → j ≡ i + 1
+      → k ≡ length xs - j → moved j i k (set (front xs c) i None) ≡ front (remove xs i) c
+  front-remove [] c i h l e n = absurd (omega arith)
+  front-remove (x ∷ ws) c i {j} {k} h l e n =
+      let xs : List T = x ∷ ws in
+      let a : List T = take i xs in let b : List T = drop (suc i) xs in
+      let r : List (Option T) = replicate (c - length xs) None in
+      let p : i ≡ length (full a) = omega (arith, length-full a, length-take i xs) in
+      let q : k ≡ length (full b) = omega (arith, length-full b, length-drop (suc i) xs) in
+      let m : 1 + (c - length xs) ≡ c - length (remove xs i) =
+      omega (arith, length-remove xs i h) in
+      ap (λ (s : List (Option T)). moved j i k s) (full-take xs r i x h)
+      ∙ (moved_left j i k 1 (full a) (full b) r p e q
+      ∙ (sym (append_assoc (full a) (full b) (None ∷ r))
+      ∙ (ap (λ (s : List (Option T)). s ++ (None ∷ r)) (sym (map-append (λ (y : T). Some y) a b))
+      ∙ ap (λ (s : List (Option T)). full (remove xs i) ++ s)
+      (replicate-append-replicate 1 (c - length xs) None
+      ∙ ap (λ (z : ℕ). replicate z None) m))))
+
+  -- the items from i on make room for one
+  module _ (xs : List T) (c i : ℕ) {j k : ℕ} (h : i ≤ length xs) (l : length xs < c) (e : j ≡ i + 1)
+      (n : k ≡ length xs - i) where
+    -- the slots after the room for the item
+    after : List (Option T)
+    after = full (drop i xs) ++ replicate (c - length xs - 1) None
+
+    -- how many slots lie before the room for the item
+    before : i ≡ length (full (take i xs))
+    before = omega (arith, length-full (take i xs), length-take i xs)
+
+    -- the room between the slots before it and after it is one empty slot
+    apart : moved i j k (front xs c) ≡ full (take i xs) ++ (None ∷ after)
+    unfolding after
+    apart =
+        let a : List T = take i xs in let b : List T = drop i xs in
+        let o : ℕ = c - length xs - 1 in let r : List (Option T) = replicate o None in
+        let q : k ≡ length (full b) = omega (arith, length-full b, length-drop i xs) in
+        let w : c - length xs ≡ suc o = omega arith in
+        let s : front xs c ≡ full a ++ (full b ++ (None ∷ r)) =
+        ap (λ (ys : List T). full ys ++ replicate (c - length xs) None)
+        (sym (take-append-drop i xs))
+        ∙ (ap (λ (ys : List (Option T)). ys ++ replicate (c - length xs) None)
+        (map-append (λ (y : T). Some y) a b)
+        ∙ (append_assoc (full a) (full b) (replicate (c - length xs) None)
+        ∙ ap (λ (z : ℕ). full a ++ (full b ++ replicate z None)) w)) in
+        ap (λ (ys : List (Option T)). moved i j k ys) s
+        ∙ moved_right i j k 1 (full a) (full b) r before e q
+
+    -- the slots once the item is in
+    pub front-insert : (v : T)
+        → set (moved i j k (front xs c)) i (Some v) ≡ front (insert xs i v) c
+    unfolding after
+    front-insert v =
+        let a : List T = take i xs in let b : List T = drop i xs in
+        let o : ℕ = c - length xs - 1 in let r : List (Option T) = replicate o None in
+        let m : o ≡ c - length (insert xs i v) = omega (arith, length-insert xs i v h) in
+        ap (λ (ys : List (Option T)). set ys i (Some v)) apart
+        ∙ (set_at (full a) None (full b ++ r) (Some v) i (sym before)
+        ∙ (sym (append_assoc (full a) (full (v ∷ b)) r)
+        ∙ (ap (λ (ys : List (Option T)). ys ++ r) (sym (map-append (λ (y : T). Some y) a (v ∷ b)))
+        ∙ ap (λ (z : ℕ). full (insert xs i v) ++ replicate z None) m)))
+
+    -- before the item is in, its slot is empty
+    front-gap : slot (moved i j k (front xs c)) i ≡ None
+    front-gap =
+        ap (λ (ys : List (Option T)). slot ys i) apart
+        ∙ get_or_at (full (take i xs)) None after None i (sym before)
+
+module _ {T A : Type 0} {b : Block T A} {a : A} (t : IsThin b a) where
+  -- an item came out
+  pub settle-remove : (b' : Block T A) (i : ℕ) {j k : ℕ} → i < length (items_in b.slots)
+      → j ≡ i + 1 → k ≡ b.len - j → {l : ℕ} {m : Cost} → l ≡ b.len
+      → IsWritten b b' (moved j i k (set b.slots i None)) (l - 1) m
+      → Settled b' a (remove (items_in b.slots) i) (length b.slots)
+  settle-remove b' i {j} {k} h e n len w =
+      let xs : List T = items_in b.slots in let c : ℕ = length b.slots in
+      settle-front t b' (remove xs i) c w
+      (ap (λ (r : List (Option T)). moved j i k (set r i None)) t.packed.row
+      ∙ front-remove xs c i h (thin-room b a t) e (omega (arith, n, t.packed.len)))
+      (omega (arith, len, t.packed.len, length-remove xs i h))
+      (omega (arith, thin-room b a t, length-remove xs i h))
+
+  -- an item went in
+  pub settle-insert : (b' : Block T A) (i : ℕ) (v : T) {j k : ℕ} → i ≤ length (items_in b.slots)
+      → b.len < length b.slots → j ≡ i + 1 → k ≡ b.len - i → {l : ℕ} {m : Cost} → l ≡ b.len
+      → IsWritten b b' (set (moved i j k b.slots) i (Some v)) (l + 1) m
+      → Settled b' a (insert (items_in b.slots) i v) (length b.slots)
+  settle-insert b' i v {j} {k} h o e n len w =
+      let xs : List T = items_in b.slots in let c : ℕ = length b.slots in
+      settle-front t b' (insert xs i v) c w
+      (ap (λ (r : List (Option T)). set (moved i j k r) i (Some v)) t.packed.row
+      ∙ front-insert xs c i h (omega (arith, o, t.packed.len)) e (omega (arith, n, t.packed.len)) v)
+      (omega (arith, len, t.packed.len, length-insert xs i v h))
+      (omega (arith, o, t.packed.len, length-insert xs i v h))
+
+  -- after a run has moved one place back, the slot that it left is empty
+  pub thin-gap : (i : ℕ) {j k : ℕ} → i ≤ length (items_in b.slots) → b.len < length b.slots
+      → j ≡ i + 1 → k ≡ b.len - i → slot (moved i j k b.slots) i ≡ None
+  thin-gap i {j} {k} h o e n =
+      ap (λ (r : List (Option T)). slot (moved i j k r) i) t.packed.row
+      ∙ front-gap (items_in b.slots) (length b.slots) i h (omega (arith, o, t.packed.len)) e
+      (omega (arith, n, t.packed.len))
+
+-- ---- items leave
+
+module _ {T : Type 0} where
+  -- c slots that held xs, of which those from k up to i were emptied
+  abbrev pub emptying : List T → ℕ → ℕ → ℕ → List (Option T)
+  emptying xs k i c =
+      full (take k xs) ++ (empty (i - k) ++ (full (drop i xs) ++ empty (c - length xs)))
+
+  -- the item at i, and those after it
+  item-at : (xs : List T) (i : ℕ) → i < length xs → (x : T) × (drop i xs ≡ x ∷ drop (i + 1) xs)
+  item-at [] i h = absurd (omega arith)
+  item-at (x ∷ xs) zero h = (x, refl)
+  item-at (x ∷ xs) (suc i) h =
+      let r = item-at xs i (omega arith) in
+      let same : i + 1 + 1 ≡ suc i + 1 = omega arith in (
+        r.0,
+        r.1 ∙ ap (λ k. r.0 ∷ drop k (x ∷ xs)) (let e : suc (i + 1) ≡ suc i + 1 = omega arith in
+            e),
+      )
+
+  -- filled slots after filled slots
+  pub full-append : (xs ys : List T) → full (xs ++ ys) ≡ full xs ++ full ys
+  full-append xs ys = map-append (λ (x : T). Some x) xs ys
+
+  -- with no item out, the slots are those of the list
+  pub emptying-none : (xs : List T) (k c : ℕ) → emptying xs k k c ≡ front xs c
+  emptying-none xs k c =
+      let r : List (Option T) = empty (c - length xs) in
+      let none : k - k ≡ 0 = omega arith in
+      ap (λ (m : ℕ). full (take k xs) ++ (empty m ++ (full (drop k xs) ++ r))) none
+      ∙ (sym (append_assoc (full (take k xs)) (full (drop k xs)) r)
+      ∙ ap (λ (s : List (Option T)). s ++ r) (sym (full-append (take k xs) (drop k xs))
+      ∙ ap full (take-append-drop k xs)))
+
+  module _ (xs : List T) (k i c : ℕ) (order : k ≤ i) (bound : i < length xs) where
+    pre : List (Option T)
+    pre = full (take k xs) ++ empty (i - k)
+
+    post : List (Option T)
+    post = full (drop (i + 1) xs) ++ empty (c - length xs)
+
+    length-pre : length pre ≡ i
+    unfolding pre
+    length-pre =
+        omega (
+          arith,
+          length-append (full (take k xs)) (empty (i - k)),
+          length-full (take k xs),
+          length-take-le k xs (omega arith),
+          length-replicate {A = Option T} (i - k) None,
+        )
+
+    split : emptying xs k i c ≡ pre ++ (Some (item-at xs i bound).0 ∷ post)
+    unfolding pre post
+    split =
+        let r = item-at xs i bound in
+        ap (λ (s : List T). full (take k xs)
+        ++ (empty (i - k) ++ (full s ++ empty (c - length xs)))) r.1
+        ∙ sym (append_assoc (full (take k xs)) (empty (i - k))
+        (Some r.0 ∷ (full (drop (i + 1) xs) ++ empty (c - length xs))))
+
+    pub emptying-filled : IsSome (slot (emptying xs k i c) i)
+    emptying-filled = rw (ap (λ (s : List (Option T)). slot s i) split
+        ∙ get_or_at pre (Some (item-at xs i bound).0) post None i length-pre) refl
+
+    pub emptying-take : set (emptying xs k i c) i None ≡ emptying xs k (i + 1) c
+    unfolding pre post
+    emptying-take =
+        let more : (i - k) + 1 ≡ i + 1 - k = omega arith in
+        ap (λ (s : List (Option T)). set s i None) split
+        ∙ (set_at pre (Some (item-at xs i bound).0) post None i length-pre
+        ∙ (append_assoc (full (take k xs)) (empty (i - k)) (None ∷ post)
+        ∙ ap (λ (s : List (Option T)). full (take k xs) ++ s)
+        (sym (append_assoc (empty (i - k)) (None ∷ []) post)
+        ∙ ap (λ (s : List (Option T)). s ++ post)
+        (replicate-append-replicate (i - k) 1 None ∙ ap empty more))))
+
+  -- once all items from k on are out, the first k are left
+  pub emptying-all : (xs : List T) (k c : ℕ) → k ≤ length xs → length xs ≤ c
+      → emptying xs k (length xs) c ≡ front (take k xs) c
+  emptying-all xs k c order room =
+      let many : (length xs - k) + (c - length xs) ≡ c - length (take k xs) =
+      omega (arith, length-take-le k xs order) in
+      ap (λ (s : List T). full (take k xs)
+      ++ (empty (length xs - k) ++ (full s ++ empty (c - length xs)))) (drop-length xs)
+      ∙ ap (λ (s : List (Option T)). full (take k xs) ++ s)
+      (replicate-append-replicate (length xs - k) (c - length xs) None ∙ ap empty many)
+
+  -- an item that is written over
+  pub full-set : (xs : List T) (s : List (Option T)) (i : ℕ) (m : T) → i < length xs
+      → set (full xs ++ s) i (Some m) ≡ full (set xs i m) ++ s
+  full-set [] s i m h = absurd (omega arith)
+  full-set (x ∷ xs) s zero m h = refl
+  full-set (x ∷ xs) s (suc i) m h = ap (λ (r : List (Option T)). Some x ∷ r)
+      (full-set xs s i m (omega arith))
+
+  -- the last item in place of another
+  front-swap_remove : (ys : List T) (c i : ℕ) (v m : T) → i < length ys → length (ys ++ m ∷ []) ≤ c
+      → set (set (set (front (ys ++ m ∷ []) c) i None) (length ys) None) i (Some m) ≡ front
+      (swap_remove (ys ++ m ∷ []) i v) c
+  front-swap_remove ys c i v m h room =
+      let xs : List T = ys ++ m ∷ [] in
+      let n : length xs ≡ length ys + 1 = length_push ys m in
+      let other : i ≢ length ys = omega arith in
+      let last : get_or xs (length xs - 1) v ≡ m = ap (λ (k : ℕ). get_or xs k v)
+      (let e : length xs - 1 ≡ length ys = omega arith in e)
+      ∙ get_or_at ys m [] v (length ys) refl in
+      let cut : swap_remove xs i v ≡ set ys i m =
+      ap (λ (k : ℕ). take k (set xs i (get_or xs (length xs - 1) v)))
+      (let e : length xs - 1 ≡ length (set ys i m) = omega (arith, length-set ys i m) in e)
+      ∙ (ap (λ (x : T). take (length (set ys i m)) (set xs i x)) last
+      ∙ (ap (take (length (set ys i m))) (set-append_left ys (m ∷ []) i m h)
+      ∙ take-append_seam (set ys i m) (m ∷ []))) in
+      ap (λ (s : List (Option T)). set s i (Some m))
+      (set_comm (front xs c) i (length ys) None None other
+      ∙ ap (λ (s : List (Option T)). set s i None) (front-pop ys c m room))
+      ∙ (set-set (front ys c) i None (Some m)
+      ∙ (full-set ys (empty (c - length ys)) i m h
+      ∙ (ap (λ (k : ℕ). full (set ys i m) ++ empty (c - k)) (sym (length-set ys i m))
+      ∙ ap (λ (l : List T). front l c) (sym cut))))
+
+module _ {T A : Type 0} where
+  -- once all items are out
+  pub settle-emptied : {b : Block T A} {a : A} → IsThin b a → (b' : Block T A)
+      {s : List (Option T)} {m : Cost} → IsWritten b b' s 0 m → s ≡ empty (length b.slots)
+      → Settled b' a [] (length b.slots)
+  settle-emptied {b} t b' w e =
+      settle-front t b' [] (length b.slots) w (e ∙ front-none (length b.slots)) refl (omega arith)
+
+  module _ {b : Block T A} {a : A} (t : IsThin b a) (b' : Block T A) (i last : ℕ) where
+    -- an item came out, and the last one went into its place
+    settle-swap_remove : (v : T) {m : T} → i < last → last + 1 ≡ b.len → slot b.slots last ≡ Some m
+        → {k : Cost} → IsWritten b b' (set (set (set b.slots i None) last None) i (Some m)) last k
+        → Settled b' a (swap_remove (items_in b.slots) i v) (length b.slots)
+    settle-swap_remove v {m} lt n held w =
+        let xs : List T = items_in b.slots in
+        let c : ℕ = length b.slots in
+        let at_end = last-item b a m last t n held in
+        let ys : List T = take last xs in
+        let long : length ys ≡ last = length-take-le last xs (omega arith) in
+        let room : length (ys ++ m ∷ []) ≤ c = omega (arith, thin-room b a t, ap length at_end) in
+        let slots : set (set (set b.slots i None) last None) i (Some m) ≡ set
+        (set (set (front (ys ++ m ∷ []) c) i None) (length ys) None) i (Some m) =
+        ap (λ (s : List (Option T)). set (set (set s i None) last None) i (Some m))
+        (t.packed.row ∙ ap (λ (l : List T). front l c) at_end)
+        ∙ ap (λ (k : ℕ). set (set (set (front (ys ++ m ∷ []) c) i None) k None) i (Some m))
+        (sym long) in
+        let cut : length (swap_remove (ys ++ m ∷ []) i v) ≡ last =
+        length-swap_remove ys i v m long (omega arith) in
+        let done : Settled b' a (swap_remove (ys ++ m ∷ []) i v) c =
+        settle-front t b' (swap_remove (ys ++ m ∷ []) i v) c w
+        (slots ∙ front-swap_remove ys c i v m (omega (arith, long)) room) (sym cut)
+        (omega (arith, cut, room, length_push ys m, long)) in
+        subst (λ (l : List T). Settled b' a (swap_remove l i v) c) (sym at_end) done
+      where
+        length-swap_remove : (ys : List T) (i : ℕ) (v m : T) {k : ℕ} → length ys ≡ k → i < k
+            → length (swap_remove (ys ++ m ∷ []) i v) ≡ k
+        length-swap_remove ys i v m {k} long lt =
+            let xs : List T = ys ++ m ∷ [] in
+            let s : List T = set xs i (get_or xs (length xs - 1) v) in
+            omega (
+              arith,
+              length-take-le (length xs - 1) s
+                  (omega (arith, length-set xs i (get_or xs (length xs - 1) v))),
+              length_push ys m,
+              long,
+            )
+
+    -- the last item takes the place of the i-th, which may be the last itself
+    pub settle-replaced : (v : T) → i ≤ last → last + 1 ≡ b.len → slot b.slots i ≡ Some v
+        → {k : Cost} → IsWritten b b' (set (set b.slots i (slot b.slots last)) last None) last k
+        → Settled b' a (swap_remove (items_in b.slots) i v) (length b.slots)
+    settle-replaced v le n gave w =
+        let xs : List T = items_in b.slots in
+        let c : ℕ = length b.slots in
+        let low : last < length xs = omega (arith, n, t.packed.len) in
+        let short : length xs - 1 ≡ last = omega (arith, n, t.packed.len) in
+        ⊎_elim (λ (same : i ≡ last).
+        let popped : Settled b' a (take last xs) c =
+        settle-pop t b' v last n (sym (ap (λ (k : ℕ). slot b.slots k) same) ∙ gave)
+        (slots-are w (ap (λ (k : ℕ). set (set b.slots k (slot b.slots last)) last None) same
+        ∙ set-set b.slots last (slot b.slots last) None)) in
+        let is : take last xs ≡ swap_remove xs i v =
+        sym (ap (λ (k : ℕ). take k (set xs i (get_or xs k v))) short
+        ∙ take-set-le last xs i (get_or xs last v) (omega (arith, same))) in
+        subst (λ (ys : List T). Settled b' a ys c) is popped)
+        (λ (apart : i ≡ last → ⊥).
+        let m = the_item (slot b.slots last) (thin-filled b a last t low) in
+        settle-swap_remove v {m = m.0} (omega (arith, le, apart)) n m.1
+        (slots-are w (ap (λ (o : Option T). set (set b.slots i o) last None) m.1
+        ∙ (set_comm b.slots i last (Some m.0) None apart
+        ∙ sym (ap (λ (r : List (Option T)). set r i (Some m.0))
+        (set_comm b.slots i last None None apart)
+        ∙ set-set (set b.slots last None) i None (Some m.0))))))
+        (same_or_not i last)

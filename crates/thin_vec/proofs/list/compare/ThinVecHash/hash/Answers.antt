@@ -1,0 +1,6 @@
+-- The hash is that of the slice.
+use Rattle.std.proofs.Common.{arith, ◌∙◌}
+use Rattle.thin_vec.proofs.list.compare.ThinVecHash.hash.Goals as goal
+
+pub returns : goal.returns
+returns g c = search (arith, ◌∙◌)

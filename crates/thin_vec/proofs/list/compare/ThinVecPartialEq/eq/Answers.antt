@@ -1,0 +1,6 @@
+-- The lists are equal where their items are.
+use Rattle.std.proofs.Common.{arith, ◌∙◌}
+use Rattle.thin_vec.proofs.list.compare.ThinVecPartialEq.eq.Goals as goal
+
+pub returns : goal.returns
+returns g c = search (arith, ◌∙◌)

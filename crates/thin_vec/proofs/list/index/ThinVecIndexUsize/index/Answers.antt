@@ -1,0 +1,10 @@
+-- The item is that of the slice.
+use Rattle.std.proofs.Common.{arith}
+use Rattle.std.proofs.lemmas.Grind.{elements}
+use Rattle.thin_vec.proofs.list.index.ThinVecIndexUsize.index.Goals as goal
+
+pub returns-clause-value : goal.returns-clause-value
+returns-clause-value g c = grind (arith, elements)
+
+pub returns-clause-item : goal.returns-clause-item
+returns-clause-item g c = grind (arith, elements)

@@ -1,0 +1,290 @@
+-- What asking about items, each beside the last one kept, leaves of an open block, step by step.
+use Rattle.std.proofs.Common.{◌≡◌, ◌≢◌, ℕ, zero, suc, ◌+◌, ◌-◌, ◌<◌, ◌≤◌, List, [], ◌∷◌, ◌++◌, Option, Some, None, length, take, drop, refl, sym, ap, ◌∙◌, arith, length-append, append_assoc, get_or}
+use Rattle.std.proofs.lemmas.List.{drop_at, get_or_at, get_or-set_other, length-drop, length-take-le, length_push, set_at, take_at}
+use Rattle.std.specs.Prelude.{IsSome, slice_range}
+use lib.ListN.{set}
+use Rattle.thin_block.proofs.BlockLemmas.{slots-are}
+use Rattle.thin_block.specs.Block.{Seen, seen}
+use Rattle.thin_block.specs.Cost.{Cost}
+use Rattle.thin_block.specs.Lends.{over, with_item}
+use Rattle.thin_block.specs.Slots.{empty, full, slot}
+use Rattle.thin_block.specs.declared.block.Block.{Block}
+use Rattle.thin_vec.specs.OpenBlock.{IsOpen, Shows, open_of}
+use Rattle.thin_vec.specs.Open.{Open, reach, row_of}
+use Rattle.thin_vec.specs.declared.open_block.OpenBlock.TheInside.{Inside}
+use Rattle.thin_vec.proofs.RetainLemmas.{cons-head, cons-not-nil, cons-tail, single}
+use Rattle.thin_block.proofs.Outcomes.{some-same}
+use Rattle.thin_vec.proofs.OpenBlockLemmas.{Found, found, last-of, past_rest, slot-in-full}
+use Rattle.thin_vec.proofs.ListLemmas.{length-full}
+use Rattle.thin_vec.proofs.open_block.SiftLemmas.{row-at, same-past, write-step, written}
+
+module _ {T : Type 0} where
+  -- ---- two items that lie side by side
+
+  over-none : (s : List (Option T)) → over s 0 [] ≡ s
+  over-none [] = refl
+  over-none (None ∷ s) = refl
+  over-none (Some x ∷ s) = refl
+
+  -- two items side by side are what is lent, and what is written is what their slots hold
+  pub record Neighbours (s : List (Option T)) (i : ℕ) (k x k' x' : T) : Type 0 where
+    pub first : slot s i ≡ Some k
+    pub second : slot s (suc i) ≡ Some x
+    pub now : over s i (k' ∷ x' ∷ []) ≡ set (set s i (Some k')) (suc i) (Some x')
+
+  -- two items that are lent side by side are those of two slots
+  pub neighbours : (s : List (Option T)) (i : ℕ) (k x k' x' : T) → Some k ∷ Some x ∷ [] ≡ take 2
+      (drop i s) → Neighbours s i k x k' x'
+  neighbours [] zero k x k' x' e = absurd (cons-not-nil e)
+  neighbours (p ∷ []) zero k x k' x' e = absurd (cons-not-nil (cons-tail e))
+  neighbours (p ∷ q ∷ s) zero k x k' x' e =
+      let one : Some k ≡ p = cons-head e in
+      let two : Some x ≡ q = cons-head (cons-tail e) in
+      record {
+        first = sym one;
+        second = sym two;
+        now = (λ i. over (sym one i ∷ sym two i ∷ s) 0 (k' ∷ x' ∷ []))
+            ∙ ap (λ (r : List (Option T)). Some k' ∷ Some x' ∷ r) (over-none s);
+      }
+  neighbours [] (suc i) k x k' x' e = absurd (cons-not-nil e)
+  neighbours (p ∷ s) (suc i) k x k' x' e =
+      let h = neighbours s i k x k' x' e in
+      record { first = h.first; second = h.second; now = ap (λ (r : List (Option T)). p ∷ r) h.now }
+
+  -- two items side by side, as the two parts of a slice of two
+  module _ (s : List (Option T)) (i : ℕ) (all a b : List T) (within : i + 2 ≤ length s)
+      (lent : full all ≡ slice_range s i (i + 2)) (cut : all ≡ a ++ b) (one : length a ≡ 1) where
+    pub parts-of : {k x : T} (k' x' : T) → k ≡ get_or a 0 k → x ≡ get_or b 0 x
+        → Neighbours s i k x k' x'
+        × (over s i (set a 0 k' ++ set b 0 x') ≡ set (set s i (Some k')) (suc i) (Some x'))
+    parts-of {k} {x} k' x' is isn =
+        let n : i + 2 - i ≡ 2 = omega arith in
+        let lent' : full all ≡ take 2 (drop i s) = lent ∙ ap (λ (m : ℕ). take m (drop i s)) n in
+        let few : length (take 2 (drop i s)) ≡ 2 = length-take-le 2 (drop i s)
+        (omega (arith, length-drop i s)) in
+        let two : length b ≡ 1 = omega (
+          arith,
+          length-full all,
+          ap length lent',
+          few,
+          ap length cut,
+          length-append a b,
+          one,
+        ) in
+        let p = single a one in
+        let q = single b two in
+        let first : k ≡ p.0 = is ∙ ap (λ (l : List T). get_or l 0 k) p.1 in
+        let second : x ≡ q.0 = isn ∙ ap (λ (l : List T). get_or l 0 x) q.1 in
+        let both : all ≡ p.0 ∷ q.0 ∷ [] = cut ∙ (λ j. p.1 j ++ q.1 j) in
+        let h = neighbours s i k x k' x' ((λ j. Some (first j) ∷ Some (second j) ∷ [])
+        ∙ (sym (ap full both) ∙ lent')) in
+        (h, (λ j. over s i (set (p.1 j) 0 k' ++ set (q.1 j) 0 x')) ∙ h.now)
+
+module _ {T A : Type 0} where
+  -- ---- on a block that is open
+
+  -- two items of the middle run were written, one after the other
+  pub record WrittenTwo (h : Inside T A) (o : IsOpen h) (k : ℕ) (b : Block T A)
+      (x y x' y' : T) : Type 0 where
+    pub pre : List T
+    pub post : List T
+    pub place : length pre ≡ k
+    pub was : (open_of h).rest ≡ pre ++ x ∷ y ∷ post
+    pub shown : Found (record {
+      block = b;
+      front_end = h.front_end;
+      rest_start = h.rest_start;
+      rest_end = h.rest_end;
+      tail_start = h.tail_start;
+      len = h.len;
+    }) (record (open_of h) { rest = pre ++ x' ∷ y' ∷ post })
+
+  module _ (h : Inside T A) (o : IsOpen h) (b : Block T A)
+      (kept : seen b ≡ record (seen h.block) { slots = b.slots }) where
+    -- writing to two items of the middle run changes nothing else
+    pub write-two-step : (k : ℕ) {x y : T} (x' y' : T) → suc k < length (open_of h).rest
+        → slot h.block.slots (h.rest_start + k) ≡ Some x
+        → slot h.block.slots (suc (h.rest_start + k)) ≡ Some y
+        → b.slots ≡ set (set h.block.slots (h.rest_start + k) (Some x')) (suc (h.rest_start + k))
+        (Some y')
+        → WrittenTwo h o k b x y x' y'
+    write-two-step k {x} {y} x' y' low first second now =
+        let c : Block T A = with_item h.block (h.rest_start + k) x' in
+        let one = write-step h o c k (omega arith) x x' first refl in
+        let m : Inside T A = written h o c k (omega arith) in
+        let next : suc (h.rest_start + k) ≡ h.rest_start + suc k = omega arith in
+        let apart : suc (h.rest_start + k) ≢ h.rest_start + k = λ e. let n : suc (h.rest_start + k)
+        ≡ h.rest_start + k =
+        e in omega (arith, n) in
+        let rest : (open_of m).rest ≡ one.pre ++ x' ∷ one.post = ap (λ v. v.rest) one.shown.view in
+        let count : length (one.pre ++ x' ∷ one.post) ≡ length (open_of h).rest =
+        omega (
+          arith,
+          ap length one.was,
+          length-append one.pre (x ∷ one.post),
+          length-append one.pre (x' ∷ one.post),
+        ) in
+        let there : slot c.slots (h.rest_start + suc k) ≡ Some y =
+        ap (slot c.slots) (sym next)
+        ∙ (get_or-set_other h.block.slots (h.rest_start + k) (suc (h.rest_start + k)) (Some x')
+        None apart ∙ second) in
+        let two = write-step m one.shown.lies b (suc k)
+        (omega (arith, low, ap length rest, count)) y y' there
+        (slots-are kept (now ∙ ap (λ (n : ℕ). set c.slots n (Some y')) next)) in
+        let same : one.pre ++ x' ∷ one.post ≡ two.pre ++ y ∷ two.post = sym rest ∙ two.was in
+        let long : length (one.pre ++ x' ∷ []) ≡ suc k =
+        omega (arith, length_push one.pre x', one.place) in
+        let same' : (one.pre ++ x' ∷ []) ++ one.post ≡ two.pre ++ y ∷ two.post =
+        append_assoc one.pre (x' ∷ []) one.post ∙ same in
+        let left : one.pre ++ x' ∷ [] ≡ two.pre =
+        sym (take_at (one.pre ++ x' ∷ []) one.post (suc k) long)
+        ∙ (ap (take (suc k)) same' ∙ take_at two.pre (y ∷ two.post) (suc k) two.place) in
+        let right : one.post ≡ y ∷ two.post =
+        sym (drop_at (one.pre ++ x' ∷ []) one.post (suc k) long)
+        ∙ (ap (drop (suc k)) same' ∙ drop_at two.pre (y ∷ two.post) (suc k) two.place) in
+        let final : two.pre ++ y' ∷ two.post ≡ one.pre ++ x' ∷ y' ∷ two.post =
+        ap (λ (l : List T). l ++ y' ∷ two.post) (sym left)
+        ∙ append_assoc one.pre (x' ∷ []) (y' ∷ two.post) in
+        record {
+          pre = one.pre;
+          post = two.post;
+          place = one.place;
+          was = one.was ∙ ap (λ (l : List T). one.pre ++ x ∷ l) right;
+          shown = record {
+            lies = two.shown.lies;
+            view = two.shown.view
+                ∙ (λ i. record (one.shown.view i) { rest = final i });
+          };
+        }
+
+  -- the last item in front was written
+  pub record WrittenLast (h : Inside T A) (b : Block T A) (x y : T) : Type 0 where
+    pub pre : List T
+    pub was : (open_of h).front ≡ pre ++ x ∷ []
+    pub shown : Found (record {
+      block = b;
+      front_end = h.front_end;
+      rest_start = h.rest_start;
+      rest_end = h.rest_end;
+      tail_start = h.tail_start;
+      len = h.len;
+    }) (record (open_of h) { front = pre ++ y ∷ [] })
+
+  -- writing to the last item in front changes nothing else
+  pub write-last-step : (h : Inside T A) (o : IsOpen h) (b : Block T A) {x : T} (y : T)
+      → 0 < length (open_of h).front → slot h.block.slots (h.front_end - 1) ≡ Some x
+      → seen b ≡ record (seen h.block) { slots = set h.block.slots (h.front_end - 1) (Some y) }
+      → WrittenLast h b x y
+  write-last-step h o b {x} y some is now =
+      let v : Open T A = open_of h in
+      let p = last-of v.front some in
+      let pre : List T = p.0 in
+      let z : List (Option T) = empty v.before ++ (full v.rest ++ past_rest v) in
+      let row : h.block.slots ≡ full pre ++ (Some p.1 ∷ z) = o.row
+      ∙ (ap (λ (l : List T). full l ++ z) p.2 ∙ row-at [] pre p.1 [] z) in
+      let here : length (full pre) ≡ h.front_end - 1 =
+      omega (arith, length-full pre, o.front, ap length p.2, length_push pre p.1) in
+      let same : p.1 ≡ x = some-same
+      (sym (get_or_at (full pre) (Some p.1) z None (h.front_end - 1) here)
+      ∙ (ap (λ (r : List (Option T)). slot r (h.front_end - 1)) (sym row) ∙ is)) in
+      let w : Open T A = record v { front = pre ++ y ∷ [] } in
+      let count : length (pre ++ y ∷ []) ≡ length v.front =
+      omega (arith, length_push pre y, ap length p.2, length_push pre p.1) in
+      let left : v.capacity - reach v ≡ w.capacity - reach w = omega (arith, count) in
+      let after : b.slots ≡ row_of w =
+      ap (λ (z : Seen T A). z.slots) now
+      ∙ (ap (λ (r : List (Option T)). set r (h.front_end - 1) (Some y)) row
+      ∙ (set_at (full pre) (Some p.1) z (Some y) (h.front_end - 1) here
+      ∙ (sym (row-at [] pre y [] z)
+      ∙ ap (λ (r : List (Option T)). full (pre ++ y ∷ [])
+      ++ (empty v.before ++ (full v.rest ++ r))) (same-past v w refl refl left)))) in
+      let i : Inside T A =
+      record {
+        block = b;
+        front_end = h.front_end;
+        rest_start = h.rest_start;
+        rest_end = h.rest_end;
+        tail_start = h.tail_start;
+        len = h.len;
+      } in
+      let shows : Shows i w = record {
+        row = after;
+        front = count ∙ o.front;
+        before = o.before;
+        rest = o.rest;
+        after = o.after;
+        tail = o.tail;
+        room = o.room;
+      } in
+      record {
+        pre = pre;
+        was = p.2 ∙ ap (λ (q : T). pre ++ q ∷ []) same;
+        shown = found i w shows (ap (λ (z : Seen T A). z.alloc) now)
+            (ap (λ (z : Seen T A). z.cost) now);
+      }
+
+  -- an item goes after the front
+  pub put-step : (h : Inside T A) (o : IsOpen h) (b : Block T A) (x : T) {c : Cost}
+      → 0 < (open_of h).before
+      → seen b ≡ record (seen h.block)
+      { slots = set h.block.slots h.front_end (Some x); cost = c }
+      → Found (record {
+        block = b;
+        front_end = h.front_end + 1;
+        rest_start = h.rest_start;
+        rest_end = h.rest_end;
+        tail_start = h.tail_start;
+        len = h.len;
+      }) (record (open_of h) {
+        front = (open_of h).front ++ x ∷ [];
+        before =
+            (open_of h).before - 1;
+        cost = b.cost;
+      })
+  put-step h o b x gap now =
+      let v : Open T A = open_of h in
+      let g : ℕ = v.before - 1 in
+      let wide : v.before ≡ suc g = omega arith in
+      let z : List (Option T) = full v.rest ++ past_rest v in
+      let w : Open T A = record v { front = v.front ++ x ∷ []; before = g; cost = b.cost } in
+      let longer : length w.front ≡ length v.front + 1 = length_push v.front x in
+      let left : v.capacity - reach v ≡ w.capacity - reach w = omega (arith, longer, wide) in
+      let after : b.slots ≡ row_of w =
+      ap (λ (z : Seen T A). z.slots) now
+      ∙ (ap (λ (r : List (Option T)). set r h.front_end (Some x))
+      (o.row ∙ ap (λ (n : ℕ). full v.front ++ (empty n ++ z)) wide)
+      ∙ (set_at (full v.front) None (empty g ++ z) (Some x) h.front_end
+      (length-full v.front ∙ o.front)
+      ∙ (sym (row-at [] v.front x [] (empty g ++ z))
+      ∙ ap (λ (r : List (Option T)). full w.front ++ (empty g ++ (full v.rest ++ r)))
+      (same-past v w refl refl left)))) in
+      let i : Inside T A =
+      record {
+        block = b;
+        front_end = h.front_end + 1;
+        rest_start = h.rest_start;
+        rest_end = h.rest_end;
+        tail_start = h.tail_start;
+        len = h.len;
+      } in
+      let shows : Shows i w =
+      record {
+        row = after;
+        front = omega (arith, longer, o.front);
+        before = omega (arith, o.before, wide);
+        rest = o.rest;
+        after = o.after;
+        tail =
+            o.tail;
+        room = o.room;
+      } in
+      found i w shows (ap (λ (z : Seen T A). z.alloc) now) refl
+
+  -- the slot of the last item in front is filled
+  pub last-filled : (h : Inside T A) (o : IsOpen h) → 0 < length (open_of h).front
+      → IsSome (slot h.block.slots (h.front_end - 1))
+  last-filled h o some =
+      let v : Open T A = open_of h in
+      rw (ap (λ (r : List (Option T)). slot r (h.front_end - 1)) o.row)
+      (slot-in-full [] v.front (empty v.before ++ (full v.rest ++ past_rest v)) (h.front_end - 1)
+      (omega arith) (omega (arith, o.front, some)))

@@ -1,0 +1,256 @@
+-- What a block that is open shows once an item of its middle run was asked about, and once some
+-- first items of it went to the front.
+use Rattle.std.proofs.Common.{◌≡◌, ℕ, zero, suc, ◌+◌, ◌-◌, ◌<◌, ◌≤◌, List, [], ◌∷◌, ◌++◌, Option, Some, None, length, take, drop, refl, sym, ap, ◌∙◌, arith, length-append, append_assoc}
+use Rattle.std.proofs.lemmas.List.{get_or_at, length-drop, length-take-le, set_at, take-append-drop}
+use lib.ListN.{set}
+use Rattle.thin_block.specs.Block.{Seen, seen}
+use Rattle.thin_block.specs.Cost.{Cost}
+use Rattle.thin_block.specs.Slots.{empty, full, moved, slot}
+use Rattle.thin_block.specs.declared.block.Block.{Block}
+use Rattle.thin_block.proofs.SlotsLemmas.{moved_left}
+use Rattle.thin_vec.specs.OpenBlock.{IsOpen, Shows, open_of}
+use Rattle.thin_vec.specs.Open.{Open, reach, row_of}
+use Rattle.thin_vec.specs.declared.open_block.OpenBlock.TheInside.{Inside}
+use Rattle.thin_vec.proofs.list.InsertRemoveLemmas.{full-append}
+use Rattle.thin_block.proofs.Outcomes.{some-same}
+use Rattle.thin_vec.proofs.OpenBlockLemmas.{Found, at_rest, by_rest, empty-more, first-of, found, past_rest, to_rest}
+use Rattle.thin_vec.proofs.ListLemmas.{length-full}
+
+-- a list, by the item at k
+pub split-at : {X : Type 0} (xs : List X) (k : ℕ) → k < length xs → (pre : List X) × (x : X)
+    × (post : List X) × (length pre ≡ k) × (xs ≡ pre ++ x ∷ post)
+split-at [] k low = absurd (omega arith)
+split-at (x ∷ xs) zero low = ([], x, xs, refl, refl)
+split-at (x ∷ xs) (suc k) low =
+    let low' : suc k < suc (length xs) = low in
+    let p = split-at xs k (omega arith) in
+    (x ∷ p.0, p.1, p.2, ap suc p.3, ap (λ l. x ∷ l) p.4)
+
+module _ {T : Type 0} where
+  -- a row, by the slot of one item
+  pub row-at : (a : List (Option T)) (pre : List T) (x : T) (post : List T) (z : List (Option T))
+      → a ++ (full (pre ++ x ∷ post) ++ z) ≡ (a ++ full pre) ++ (Some x ∷ (full post ++ z))
+  row-at a pre x post z =
+      ap (λ (r : List (Option T)). a ++ (r ++ z)) (full-append pre (x ∷ post))
+      ∙ (ap (λ (r : List (Option T)). a ++ r) (append_assoc (full pre) (full (x ∷ post)) z)
+      ∙ sym (append_assoc a (full pre) (Some x ∷ (full post ++ z))))
+
+module _ {T A : Type 0} where
+  -- the row from the middle run on, where as many slots lie after it
+  pub same-past : (v w : Open T A) → w.after ≡ v.after → w.tail ≡ v.tail
+      → v.capacity - reach v ≡ w.capacity - reach w → past_rest v ≡ past_rest w
+  same-past v w b t n = λ i. empty (sym b i) ++ (full (sym t i) ++ empty (n i))
+
+  module _ (h : Inside T A) (o : IsOpen h) (b : Block T A) (k : ℕ)
+      (low : k < length (open_of h).rest) where
+    abbrev v : Open T A
+    v = open_of h
+
+    -- the item at k of the middle run was written
+    abbrev pub written : Inside T A
+    written = record {
+      block = b;
+      front_end = h.front_end;
+      rest_start = h.rest_start;
+      rest_end = h.rest_end;
+      tail_start = h.tail_start;
+      len = h.len;
+    }
+
+    abbrev pub written-seen : List T → Open T A
+    written-seen ys = record v { rest = ys }
+
+    -- the middle run and its item at k, which lies in its slot; and what the block shows with
+    -- another item there
+    pub record Written (x y : T) : Type 0 where
+      pub pre : List T
+      pub post : List T
+      pub place : length pre ≡ k
+      pub was : v.rest ≡ pre ++ x ∷ post
+      pub shown : Found written (written-seen (pre ++ y ∷ post))
+
+    pub write-step : (x y : T) → slot h.block.slots (h.rest_start + k) ≡ Some x
+        → seen b ≡ record (seen h.block)
+        { slots = set h.block.slots (h.rest_start + k) (Some y) } → Written x y
+    write-step x y is now =
+        let p = split-at v.rest k low in
+        let pre : List T = p.0 in
+        let post : List T = p.2 in
+        let row : h.block.slots ≡ (to_rest v ++ full pre) ++ (Some p.1 ∷ (full post ++ past_rest v))
+        =
+        by_rest h v o ∙ (ap (λ (r : List T). to_rest v ++ (full r ++ past_rest v)) p.4
+        ∙ row-at (to_rest v) pre p.1 post (past_rest v)) in
+        let here : length (to_rest v ++ full pre) ≡ h.rest_start + k =
+        omega (arith, length-append (to_rest v) (full pre), at_rest h v o, length-full pre, p.3)
+        in
+        let same : p.1 ≡ x =
+        some-same (sym (get_or_at (to_rest v ++ full pre) (Some p.1) (full post ++ past_rest v) None
+        (h.rest_start + k) here) ∙ (ap (λ (r : List (Option T)). slot r (h.rest_start + k))
+        (sym row) ∙ is)) in
+        let count : length (pre ++ y ∷ post) ≡ length v.rest =
+        omega (
+          arith,
+          length-append pre (y ∷ post),
+          ap length p.4,
+          length-append pre (p.1 ∷ post),
+        ) in
+        let w : Open T A = written-seen (pre ++ y ∷ post) in
+        let left : v.capacity - reach v ≡ w.capacity - reach w = omega (arith, count) in
+        let after : b.slots ≡ row_of w =
+        ap (λ (z : Seen T A). z.slots) now
+        ∙ (ap (λ (r : List (Option T)). set r (h.rest_start + k) (Some y)) row
+        ∙ (set_at (to_rest v ++ full pre) (Some p.1) (full post ++ past_rest v)
+        (Some y) (h.rest_start + k) here
+        ∙ (sym (row-at (to_rest v) pre y post (past_rest v))
+        ∙ (append_assoc (full v.front) (empty v.before) (full (pre ++ y ∷ post) ++ past_rest v)
+        ∙ ap (λ (r : List (Option T)). full v.front
+        ++ (empty v.before ++ (full (pre ++ y ∷ post) ++ r))) (same-past v w refl refl left)))))
+        in
+        let shows : Shows written w =
+        record {
+          row = after;
+          front = o.front;
+          before = o.before;
+          rest = omega (arith, o.rest, count);
+          after = o.after;
+          tail = o.tail;
+          room = o.room;
+        }
+        in
+        record {
+          pre = pre;
+          post = post;
+          place = p.3;
+          was = p.4 ∙ ap (λ (z : T). pre ++ z ∷ post)
+              same;
+          shown = found written w shows (ap (λ (z : Seen T A). z.alloc) now)
+              (ap (λ (z : Seen T A). z.cost) now);
+        }
+
+  -- the first k items of the middle run go to the front
+  module _ (h : Inside T A) (o : IsOpen h) (k : ℕ) (low : k ≤ length (open_of h).rest) where
+    abbrev u : Open T A
+    u = open_of h
+
+    abbrev pub moved_down : Block T A → Inside T A
+    moved_down b = record {
+      block = b;
+      front_end = h.front_end + k;
+      rest_start = h.rest_start + k;
+      rest_end = h.rest_end;
+      tail_start = h.tail_start;
+      len = h.len;
+    }
+
+    abbrev pub moved_down-seen : Block T A → Open T A
+    moved_down-seen b = record u
+        { front = u.front ++ take k u.rest; rest = drop k u.rest; cost = b.cost }
+
+    -- the items that went are the run's, and none is new
+    moved_down-shows : (b : Block T A)
+        → b.slots ≡ full u.front
+        ++ (full (take k u.rest) ++ (empty u.before ++ (full (drop k u.rest) ++ past_rest u)))
+        → b.alloc ≡ h.block.alloc → Found (moved_down b) (moved_down-seen b)
+    moved_down-shows b now alloc =
+        let w : Open T A = moved_down-seen b in
+        let few : length (take k u.rest) ≡ k = length-take-le k u.rest low in
+        let rest : length (drop k u.rest) ≡ length u.rest - k = length-drop k u.rest in
+        let more : length w.front ≡ length u.front + k =
+        omega (arith, length-append u.front (take k u.rest), few) in
+        let left : u.capacity - reach u ≡ w.capacity - reach w = omega (arith, more, rest) in
+        let after : b.slots ≡ row_of w =
+        now ∙ (sym (append_assoc (full u.front) (full (take k u.rest))
+        (empty u.before ++ (full (drop k u.rest) ++ past_rest u)))
+        ∙ (ap (λ (r : List (Option T)). r
+        ++ (empty u.before ++ (full (drop k u.rest) ++ past_rest u)))
+        (sym (full-append u.front (take k u.rest)))
+        ∙ ap (λ (r : List (Option T)). full w.front ++ (empty u.before ++ (full w.rest ++ r)))
+        (same-past u w refl refl left))) in
+        found (moved_down b) w
+        (record {
+          row = after;
+          front = omega (arith, o.front, more);
+          before = omega (arith, o.before);
+          rest = omega (arith, o.rest, rest);
+          after = o.after;
+          tail = o.tail;
+          room = o.room;
+        })
+        alloc refl
+
+    -- the slots from the middle run on, cut after its first k items
+    cut : full u.rest ++ past_rest u ≡ full (take k u.rest) ++ (full (drop k u.rest) ++ past_rest u)
+    cut =
+        ap (λ (l : List T). full l ++ past_rest u) (sym (take-append-drop k u.rest))
+        ∙ (ap (λ (r : List (Option T)). r ++ past_rest u)
+        (full-append (take k u.rest) (drop k u.rest)) ∙ append_assoc (full (take k u.rest))
+        (full (drop k u.rest)) (past_rest u))
+
+    parted : h.block.slots ≡ full u.front
+        ++ (empty u.before ++ (full (take k u.rest) ++ (full (drop k u.rest) ++ past_rest u)))
+    parted = o.row ∙ ap (λ (r : List (Option T)). full u.front ++ (empty u.before ++ r)) cut
+
+    -- the first k items of the middle run join the front where no empty slot lies between
+    pub pass-step : u.before ≡ 0 → Found (moved_down h.block) (moved_down-seen h.block)
+    pass-step none =
+        moved_down-shows h.block
+        (parted ∙ (ap (λ (n : ℕ). full u.front
+        ++ (empty n ++ (full (take k u.rest) ++ (full (drop k u.rest) ++ past_rest u)))) none
+        ∙ ap (λ (n : ℕ). full u.front
+        ++ (full (take k u.rest) ++ (empty n ++ (full (drop k u.rest) ++ past_rest u))))
+        (sym none))) refl
+
+    -- the first k items of the middle run move to the front as one run
+    pub move_run_down-step : (b : Block T A) {c : Cost}
+        → seen b ≡ record (seen h.block)
+        { slots = moved h.rest_start h.front_end k h.block.slots; cost = c }
+        → Found (moved_down b) (moved_down-seen b)
+    move_run_down-step b now =
+        let few : length (full (take k u.rest)) ≡ k = length-full (take k u.rest)
+        ∙ length-take-le k u.rest low in
+        moved_down-shows b
+        (ap (λ (z : Seen T A). z.slots) now ∙ (ap (moved h.rest_start h.front_end k) parted
+        ∙ moved_left h.rest_start h.front_end k u.before (full u.front) (full (take k u.rest))
+        (full (drop k u.rest) ++ past_rest u) (sym (length-full u.front ∙ o.front))
+        (sym o.before) (sym few))) (ap (λ (z : Seen T A). z.alloc) now)
+
+  -- one item moves to the front, in line
+  pub move_one_down-step : (h : Inside T A) (o : IsOpen h) (some : 1 ≤ length (open_of h).rest)
+      → 0 < (open_of h).before → (b : Block T A) {x : T} {c : Cost}
+      → slot h.block.slots h.rest_start ≡ Some x
+      → seen b ≡ record (seen h.block)
+      { slots = set (set h.block.slots h.rest_start None) h.front_end (Some x); cost = c }
+      → Found (moved_down h o 1 some b) (moved_down-seen h o 1 some b)
+  move_one_down-step h o some gap b {x} is now =
+      let w : Open T A = open_of h in
+      let parts = first-of w.rest some in
+      let y : T = parts.0 in
+      let z : List (Option T) = full parts.1 ++ past_rest w in
+      let row : h.block.slots ≡ to_rest w ++ (Some y ∷ z) = by_rest h w o
+      ∙ ap (λ (r : List T). to_rest w ++ (full r ++ past_rest w)) parts.2 in
+      let same : y ≡ x = some-same
+      (sym (get_or_at (to_rest w) (Some y) z None h.rest_start (at_rest h w o))
+      ∙ (ap (λ (r : List (Option T)). slot r h.rest_start) (sym row) ∙ is)) in
+      let g : ℕ = w.before - 1 in
+      let wide : w.before ≡ suc g = omega arith in
+      let wide' : g + 1 ≡ w.before = omega arith in
+      let opened : set h.block.slots h.rest_start None
+      ≡ full w.front ++ (None ∷ (empty g ++ (None ∷ z))) =
+      ap (λ (r : List (Option T)). set r h.rest_start None) row
+      ∙ (set_at (to_rest w) (Some y) z None h.rest_start (at_rest h w o)
+      ∙ (append_assoc (full w.front) (empty w.before) (None ∷ z)
+      ∙ ap (λ (n : ℕ). full w.front ++ (empty n ++ (None ∷ z))) wide)) in
+      moved_down-shows h o 1 some b
+      (ap (λ (z : Seen T A). z.slots) now
+      ∙ (ap (λ (r : List (Option T)). set r h.front_end (Some x)) opened
+      ∙ (set_at (full w.front) None (empty g ++ (None ∷ z)) (Some x) h.front_end
+      (length-full w.front ∙ o.front)
+      ∙ (ap (λ (r : List (Option T)). full w.front ++ (Some x ∷ r))
+      (empty-more g z ∙ ap (λ (n : ℕ). empty n ++ z) wide')
+      ∙ (λ i. full w.front
+      ++ (full (take 1 (firsts same parts.2 i))
+      ++ (empty w.before ++ (full (drop 1 (firsts same parts.2 i)) ++ past_rest w))))))))
+      (ap (λ (z : Seen T A). z.alloc) now)
+    where
+      firsts : {x y : T} {ys xs : List T} → y ≡ x → xs ≡ y ∷ ys → x ∷ ys ≡ xs
+      firsts {x} {y} {ys} e f = ap (λ (a : T). a ∷ ys) (sym e) ∙ sym f

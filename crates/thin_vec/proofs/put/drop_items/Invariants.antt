@@ -1,0 +1,10 @@
+-- The slots before i are empty, and those from i on still hold items.
+use Rattle.std.proofs.Common.{◌≡◌, length}
+use Rattle.thin_block.specs.Block.{seen}
+use Rattle.thin_block.specs.Slots.{items_in}
+use Rattle.thin_vec.proofs.list.InsertRemoveLemmas.{emptying}
+use Rattle.thin_vec.proofs.put.drop_items.Given as goal
+
+abbrev pub invariant-loop-i : goal.invariant-loop-i
+invariant-loop-i g l = seen l.block ≡ record (seen l.fn.block)
+    { slots = emptying (items_in l.fn.block.slots) 0 l.i (length l.fn.block.slots) }

@@ -1,0 +1,15 @@
+-- So many clones are laid.
+use Rattle.std.proofs.Common.{◌≡◌}
+use Rattle.thin_block.specs.Block.{seen}
+use Rattle.thin_block.specs.Cost.{moving}
+use Rattle.thin_vec.specs.List.Clones.{LaysClones}
+use Rattle.thin_vec.proofs.put.put_clones.Given as goal
+
+-- the first i items are cloned, and as many moves counted
+abbrev pub invariant-loop-i : goal.invariant-loop-i
+invariant-loop-i g l =
+    record {
+      slots : LaysClones g.T.Clone.is_clone l.items l.i l.start l.fn.block.slots l.block.slots;
+      same : seen l.block ≡ record (seen l.fn.block)
+          { slots = l.block.slots; cost = moving l.i l.fn.block.cost };
+    }

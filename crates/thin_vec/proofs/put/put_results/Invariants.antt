@@ -1,0 +1,18 @@
+-- So many results are laid.
+use Rattle.std.proofs.Common.{◌≡◌, List, length}
+use Rattle.std.specs.Fn.{Called}
+use Rattle.std.specs.List.{FoldsTo}
+use Rattle.thin_block.specs.Block.{seen}
+use Rattle.thin_block.specs.Cost.{moving}
+use Rattle.thin_block.specs.Slots.{full, laid}
+use Rattle.thin_vec.proofs.put.put_results.Given as goal
+
+-- what i calls returned stands there, and as many moves are counted
+abbrev pub invariant-loop-i : goal.invariant-loop-i
+invariant-loop-i g l = record {
+  placed : (xs : List g.row.T.Denot) × (l.block.slots ≡ laid l.start (full xs) l.fn.block.slots)
+      × (l.i ≡ length xs) × FoldsTo (λ f y f'. Called g.F.FnMut f tt y f') l.fn.make xs l.make;
+  same : seen l.block ≡ record (seen l.fn.block)
+      { slots = l.block.slots; cost = moving l.i l.fn.block.cost };
+  callable : goal.F-IsAlwaysCallable g l.make;
+}

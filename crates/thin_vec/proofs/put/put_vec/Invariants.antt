@@ -1,0 +1,18 @@
+-- The items that the `Vec` has given up lie in their slots, and as many moves are counted.
+use Rattle.std.proofs.Common.{◌≡◌, ◌-◌, length}
+use Rattle.thin_block.specs.Block.{seen}
+use Rattle.thin_block.specs.Cost.{moving}
+use Rattle.thin_vec.proofs.PutLemmas.{IsMoving}
+use Rattle.thin_vec.proofs.put.put_vec.Given as goal
+
+abbrev pub invariant-loop-item : goal.invariant-loop-item
+invariant-loop-item g l = record {
+  slots : IsMoving l.fn.items.items l.items.items l.start l.fn.block.slots l.block.slots;
+  same : seen l.block ≡ record (seen l.fn.block) {
+    slots = l.block.slots;
+    cost = moving (length l.fn.items.items - length l.items.items) l.fn.block.cost;
+  };
+}
+
+abbrev pub decreases-loop-item : goal.decreases-loop-item
+decreases-loop-item g l = length l.items.items

@@ -1,6 +1,0 @@
--- The hash is that of the slice.
-use Rattle.std.proofs.Common.{arith, ◌∙◌}
-use Rattle.thin_vec.proofs.traits.ThinVecHash.hash.Goals as goal
-
-pub returns : goal.returns
-returns g c = search (arith, ◌∙◌)

@@ -1,0 +1,2 @@
+-- The words of conversions.
+pub mod IntoIter

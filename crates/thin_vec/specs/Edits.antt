@@ -1,0 +1,8 @@
+-- The words of the edits.
+pub mod Dedup
+pub mod Drain
+pub mod ExtractIf
+pub mod Finish
+pub mod ReplaceRange
+pub mod Retain
+pub mod Splice

@@ -1,0 +1,89 @@
+-- What a contract sees of an `ExtractIf`, and what a call of `next` does. (std: `Vec::extract_if`)
+use Rattle.std.specs.Prelude.{◌≡◌, ◌+◌, ◌==◌, ◌++◌, Bool, List, Option, if◌then◌else◌, length, ℕ}
+use Rattle.std.specs.List.Retain.{ExtractsNext}
+use Rattle.std.specs.Option.{option_to_list}
+use Rattle.std.specs.Borrow.{GName}
+use Rattle.thin_block.specs.Cost.{Cost, moving}
+use Rattle.thin_block.specs.declared.growth.Growth.{Ghosts}
+use Rattle.thin_vec.specs.declared.edits.extract_if.Extracting.{Extracting}
+use Rattle.thin_vec.specs.declared.edits.extract_if.ExtractIf.{ExtractIf}
+use Rattle.thin_vec.specs.declared.edits.holder.Holder.{Holder}
+use Rattle.thin_vec.specs.declared.edits.holder.Holds.{Ghosts as HoldsGhosts}
+
+module _ {T F A : Type 0} (R : F → T → Bool → F → T → Type 0) where
+  -- items were asked about up to the first that goes, which is the item, or up to the end. `kept`
+  -- are those that stay, as they were left: they stand in front, for a move each where there was a
+  -- gap
+  pub record Extracts (old : Extracting T F A) (item : Option T)
+      (new : Extracting T F A) : Type 0 where
+    pub kept : List T
+    pub asked : ExtractsNext R old.picks.pick old.block.rest item new.picks.pick kept new.block.rest
+    pub count : length old.block.rest ≡ length kept + length
+        (option_to_list item) + length new.block.rest
+    pub front : new.block.front ≡ old.block.front ++ kept
+    pub before : new.block.before ≡ old.block.before + length (option_to_list item)
+    pub tail : new.block.tail ≡ old.block.tail
+    pub capacity : new.block.capacity ≡ old.block.capacity
+    pub alloc : new.block.alloc ≡ old.block.alloc
+    pub cost : new.block.cost ≡ (if old.block.before == 0 then old.block.cost else moving
+        (length kept) old.block.cost)
+
+-- All of it speaks of the holder that users get by default.
+module _ {T F A G : Type 0} {g : Ghosts G}
+    {h : HoldsGhosts (Holder (Extracting T F A)) (Extracting T F A)} where
+  -- the items that stay in front: those before the range, and those that were asked about and stay,
+  -- as the closure left them
+  abbrev pub extract_front : ExtractIf T F A G (Holder (Extracting T F A)) g h → List T
+  extract_front e = e.holder.value.block.front
+
+  -- the items that are still to be asked about
+  abbrev pub extract_rest : ExtractIf T F A G (Holder (Extracting T F A)) g h → List T
+  extract_rest e = e.holder.value.block.rest
+
+  -- the items after the range
+  abbrev pub extract_tail : ExtractIf T F A G (Holder (Extracting T F A)) g h → List T
+  extract_tail e = e.holder.value.block.tail
+
+  -- how many items were yielded
+  abbrev pub extract_gone : ExtractIf T F A G (Holder (Extracting T F A)) g h → ℕ
+  extract_gone e = e.holder.value.block.before
+
+  -- the closure
+  abbrev pub extract_callee : ExtractIf T F A G (Holder (Extracting T F A)) g h → F
+  extract_callee e = e.holder.value.picks.pick
+
+  -- what the list's blocks have cost so far
+  abbrev pub extract_cost : ExtractIf T F A G (Holder (Extracting T F A)) g h → Cost
+  extract_cost e = e.holder.value.block.cost
+
+  -- the capacity of the list once the `ExtractIf` is dropped
+  abbrev pub extract_capacity : ExtractIf T F A G (Holder (Extracting T F A)) g h → ℕ
+  extract_capacity e = e.holder.value.block.capacity
+
+  -- the allocator of the list
+  abbrev pub extract_alloc : ExtractIf T F A G (Holder (Extracting T F A)) g h → A
+  extract_alloc e = e.list.now.alloc
+
+  -- the ghost name of the reference to the list
+  abbrev pub extract_lender : ExtractIf T F A G (Holder (Extracting T F A)) g h → GName
+  extract_lender e = e.list.ghost_name
+
+  -- `next` took old to new, and returned the item. It asked about items up to the first that goes,
+  -- which is that item, or up to the end. `kept` are those that stay, as the closure left them:
+  -- they stand in front, for a move each where items were yielded before
+  pub record ExtractSteps (R : F → T → Bool → F → T → Type 0)
+      (old : ExtractIf T F A G (Holder (Extracting T F A)) g h) (item : Option T)
+      (new : ExtractIf T F A G (Holder (Extracting T F A)) g h) : Type 0 where
+    pub kept : List T
+    pub asked : ExtractsNext R (extract_callee old) (extract_rest old) item (extract_callee new)
+        kept (extract_rest new)
+    pub count : length (extract_rest old) ≡ length kept + length
+        (option_to_list item) + length (extract_rest new)
+    pub front : extract_front new ≡ extract_front old ++ kept
+    pub gone : extract_gone new ≡ extract_gone old + length (option_to_list item)
+    pub tail : extract_tail new ≡ extract_tail old
+    pub cost : extract_cost new ≡ (if extract_gone old == 0 then extract_cost old else moving
+        (length kept) (extract_cost old))
+    pub lender : extract_lender new ≡ extract_lender old
+    pub capacity : extract_capacity new ≡ extract_capacity old
+    pub alloc : extract_alloc new ≡ extract_alloc old

@@ -1,0 +1,4 @@
+-- The words of the calls of `src/list/`.
+pub mod Clones
+pub mod Extend
+pub mod InsertRemove

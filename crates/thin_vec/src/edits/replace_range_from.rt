@@ -1,0 +1,179 @@
+//! A range of a list's items is replaced by copies, or by the items of a list, all or nothing.
+ghost use Rattle.std.specs.Prelude.{◌≡◌, ◌+◌, ◌-◌, ◌==◌, ◌<◌, ◌≤◌, [], IfErr, IsErrOf, IsOk, None, OnErr, OnOk, Some, drop, if◌then◌else◌, length, take};
+ghost use Rattle.std.specs.List.{replace_range};
+ghost use Rattle.thin_block.specs.Cost.{moving, no_cost};
+ghost use Rattle.thin_vec.specs.Cheap.{IsCheap};
+ghost use Rattle.thin_vec.specs.Open.{IsOf};
+ghost use Rattle.thin_vec.specs.Edits.ReplaceRange.{moves_replacing};
+ghost use Rattle.thin_vec.specs.ThinVec.{HasRoomFor, IsCause, IsWithin, capacity_for, cost_at};
+
+use crate::list::ThinVec;
+use crate::open_block::OpenBlock;
+use std::alloc::Allocator;
+use thin_block::{Growth, ThinVecError};
+
+impl<T: Copy, A: Allocator, G: Growth> ThinVec<T, A, G> {
+    /// Puts copies of `items` in the place of the items from `start` up to `end`, which are
+    /// dropped. (own)
+    ///
+    /// It fails as `reserve` does for the items that come in beyond the range, and then nothing
+    /// changes.
+    pub fn replace_range_from_copies(
+        &mut self,
+        start: usize,
+        end: usize,
+        items: &[T],
+    ) -> Result<(), ThinVecError>
+        requires start_le_end { start ≤ end }
+        requires in_bounds { end ≤ length self.old.items }
+        ensures succeeds { HasRoomFor self.old (length items.now - (end - start)) → IsOk result }
+        ensures succeeds_shorter { length items.now ≤ end - start → IsOk result }
+        ensures overflow { capacity_for G.rule T.row self.old (length items.now - (end - start))
+            ≡ None → IsErrOf result ThinVecError.CapacityOverflow }
+        ensures cause { IfErr result (IsCause (capacity_for G.rule T.row self.old
+            (length items.now - (end - start)))) }
+
+        // The capacity is the ruled one.
+        ensures items { OnOk result (self.new.items
+            ≡ replace_range self.old.items start end items.now) }
+        ensures capacity { OnOk result (capacity_for G.rule T.row self.old (length items.now -
+            (end - start)) ≡ Some self.new.capacity) }
+        ensures had_room { HasRoomFor self.old (length items.now - (end - start))
+            → self.new.capacity ≡ self.old.capacity }
+        ensures cost { OnOk result (self.new.cost
+            ≡ moving (moves_replacing self.old start end (length items.now))
+            (cost_at self.old self.new.capacity)) }
+        ensures alloc { self.new.alloc ≡ self.old.alloc }
+        ensures cheap { IsCheap self.old → IsCheap self.new }
+        ensures err { OnErr result (self.new ≡ self.old) }
+        ensures never_less { self.old.capacity ≤ self.new.capacity }
+        ensures within { IsWithin T.row self.old × IsWithin T.row self.new }
+    {
+        match self.reserve(items.len().saturating_sub(end - start)) {
+            Ok(()) => (),
+            Err(cause) => return Err(cause),
+        }
+        self.replace_reserved_from_copies(start, end, items);
+        Ok(())
+    }
+
+    // `replace_range_from_copies` where there is room.
+    fn replace_reserved_from_copies(&mut self, start: usize, end: usize, items: &[T])
+        requires start_le_end { start ≤ end }
+        requires in_bounds { end ≤ length self.old.items }
+        requires room { HasRoomFor self.old (length items.now - (end - start)) }
+        requires within { IsWithin T.row self.old }
+        ensures changes { self.new ≡ record self.old {
+          items = replace_range self.old.items start end items.now;
+          cost = moving (moves_replacing self.old start end (length items.now)) self.old.cost;
+        } }
+        ensures within { IsWithin T.row self.new }
+    {
+        let mut block = self.open_range(start, end, items.len());
+        block.fill_from_copies(items);
+        self.close(block);
+    }
+}
+
+impl<T: Drop, A: Allocator, G: Growth> ThinVec<T, A, G> {
+    /// Moves all items of `other` to the place of the items from `start` up to `end`, which are
+    /// dropped. `other` is left empty, with its capacity. (own)
+    ///
+    /// It fails as `reserve` does for the items that come in beyond the range, and then neither
+    /// list changes.
+    pub fn replace_range_from_list(
+        &mut self,
+        start: usize,
+        end: usize,
+        other: &mut ThinVec<T, A, G>,
+    ) -> Result<(), ThinVecError>
+        requires start_le_end { start ≤ end }
+        requires in_bounds { end ≤ length self.old.items }
+        ensures succeeds { HasRoomFor self.old (length other.old.items - (end - start))
+            → IsOk result }
+        ensures succeeds_shorter { length other.old.items ≤ end - start → IsOk result }
+        ensures overflow { capacity_for G.rule T.row self.old (length other.old.items -
+            (end - start)) ≡ None → IsErrOf result ThinVecError.CapacityOverflow }
+        ensures cause { IfErr result (IsCause (capacity_for G.rule T.row self.old
+            (length other.old.items - (end - start)))) }
+
+        // The capacity is the ruled one.
+        ensures items { OnOk result (self.new.items
+            ≡ replace_range self.old.items start end other.old.items) }
+        ensures capacity { OnOk result (capacity_for G.rule T.row self.old
+            (length other.old.items - (end - start)) ≡ Some self.new.capacity) }
+        ensures had_room { HasRoomFor self.old (length other.old.items - (end - start))
+            → self.new.capacity ≡ self.old.capacity }
+        ensures cost { OnOk result (self.new.cost
+            ≡ moving (moves_replacing self.old start end (length other.old.items))
+            (cost_at self.old self.new.capacity)) }
+        ensures alloc { self.new.alloc ≡ self.old.alloc }
+        ensures cheap { IsCheap self.old → IsCheap self.new }
+
+        // The other list keeps its block.
+        ensures other_items { OnOk result (other.new.items ≡ []) }
+        ensures other_changes { other.new ≡ record other.old { items = other.new.items } }
+
+        // Where it fails, nothing changed.
+        ensures err { OnErr result (self.new ≡ self.old) }
+        ensures other_err { OnErr result (other.new ≡ other.old) }
+        ensures never_less { self.old.capacity ≤ self.new.capacity }
+        ensures within { IsWithin T.row self.old × IsWithin T.row self.new }
+        ensures other_within { IsWithin T.row other.old × IsWithin T.row other.new }
+    {
+        match self.reserve(other.len().saturating_sub(end - start)) {
+            Ok(()) => (),
+            Err(cause) => return Err(cause),
+        }
+        self.replace_reserved_from_list(start, end, other);
+        Ok(())
+    }
+
+    // `replace_range_from_list` where there is room.
+    fn replace_reserved_from_list(&mut self, start: usize, end: usize, other: &mut ThinVec<T, A, G>)
+        requires start_le_end { start ≤ end }
+        requires in_bounds { end ≤ length self.old.items }
+        requires room { HasRoomFor self.old (length other.old.items - (end - start)) }
+        requires within { IsWithin T.row self.old }
+        requires other_within { IsWithin T.row other.old }
+        ensures changes { self.new ≡ record self.old {
+          items = replace_range self.old.items start end other.old.items;
+          cost = moving (moves_replacing self.old start end (length other.old.items)) self.old.cost;
+        } }
+        ensures within { IsWithin T.row self.new }
+        ensures other_changes { other.new ≡ record other.old { items = [] } }
+        ensures other_within { IsWithin T.row other.new }
+    {
+        let mut block = self.open_range(start, end, other.len());
+        block.fill_from_list(other);
+        self.close(block);
+    }
+
+    // Drops the items from `start` up to `end`. Returns the list's block, open where they were,
+    // with room there for `count` items: those after the range move up, as one run, where that is
+    // more. The list is left empty and without a block.
+    fn open_range(&mut self, start: usize, end: usize, count: usize) -> OpenBlock<T, A>
+        requires start_le_end { start ≤ end }
+        requires in_bounds { end ≤ length self.old.items }
+        requires room { HasRoomFor self.old (count - (end - start)) }
+        ensures front { result.front ≡ take start self.old.items }
+        ensures before { result.before ≡ end - start + (count - (end - start)) }
+        ensures rest { result.rest ≡ [] }
+        ensures after { result.after ≡ 0 }
+        ensures tail { result.tail ≡ drop end self.old.items }
+        ensures other_capacity { result.capacity ≡ self.old.capacity }
+        ensures from { IsOf result.alloc self.old.alloc }
+        ensures other_cost { result.cost ≡ (if count -
+            (end - start) == 0 then self.old.cost else moving
+            (length self.old.items - end) self.old.cost) }
+        ensures changes { self.new ≡ record self.old { items = []; capacity = 0; cost = no_cost } }
+    {
+        let mut block = self.open(start, end);
+        block.drop_rest();
+        if count > end - start {
+            block.widen(count - (end - start));
+            block.join();
+        }
+        block
+    }
+}

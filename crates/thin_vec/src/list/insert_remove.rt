@@ -1,0 +1,193 @@
+//! The calls by which one item goes in or out, or the rest of a list goes.
+ghost use Rattle.std.specs.Prelude.{◌≡◌, ◌+◌, ◌-◌, ◌<◌, ◌≤◌, ◌==◌, [], ◌∷◌, ◌++◌, IfErr, IfOk, IsErrAnd, IsOk, None, OnErr, OnOk, Some, if◌then◌else◌, insert, length, remove, slice_get, take};
+ghost use Rattle.std.specs.List.{swap_remove};
+ghost use Rattle.std.specs.List.Retain.{PopsIf};
+ghost use types.Logic.{sem};
+ghost use Rattle.thin_block.specs.Cost.{moving};
+ghost use Rattle.thin_vec.specs.List.InsertRemove.{LendsAdded};
+
+use crate::errors::Rejected;
+use crate::list::ThinVec;
+use std::alloc::Allocator;
+use thin_block::{Growth, ThinVecError};
+
+impl<T, A: Allocator, G: Growth> ThinVec<T, A, G> {
+    ghost use Rattle.thin_vec.specs.Cheap.{IsCheap};
+    ghost use Rattle.thin_vec.specs.ThinVec.{HasRoomFor, IsCause, IsWithin, capacity_for, cost_at};
+
+    /// Puts `value` at `index`, and moves the items from there on one place back. The list owns it
+    /// afterwards.
+    ///
+    /// It fails as `push` does.
+    pub fn insert(&mut self, index: usize, value: T) -> Result<(), Rejected<T>>
+        requires in_bounds { index ≤ length self.old.items }
+        ensures succeeds { HasRoomFor self.old 1 → IsOk result }
+        ensures overflow { capacity_for G.rule T.row self.old 1 ≡ None
+            → IsErrAnd result (λ refused. refused.cause ≡ ThinVecError.CapacityOverflow) }
+        ensures cause { IfErr result
+            (λ refused. IsCause (capacity_for G.rule T.row self.old 1) refused.cause) }
+
+        // The capacity is the ruled one.
+        ensures items { OnOk result (self.new.items ≡ insert self.old.items index value) }
+        ensures capacity { OnOk result
+            (capacity_for G.rule T.row self.old 1 ≡ Some self.new.capacity) }
+        ensures had_room { HasRoomFor self.old 1 → self.new.capacity ≡ self.old.capacity }
+        ensures cost { OnOk result (self.new.cost ≡ moving (length self.old.items - index + 1)
+            (cost_at self.old self.new.capacity)) }
+        ensures alloc { self.new.alloc ≡ self.old.alloc }
+        ensures cheap { IsCheap self.old → IsCheap self.new }
+
+        // Where it fails, the caller has the value back, and nothing changed.
+        ensures err { OnErr result (self.new ≡ self.old) }
+        ensures value_returned { IfErr result (λ refused. refused.value ≡ value) }
+        ensures never_less { self.old.capacity ≤ self.new.capacity }
+        ensures within { IsWithin T.row self.old × IsWithin T.row self.new }
+    {
+        if let Err(cause) = self.reserve(1) {
+            return Err(Rejected { value, cause });
+        }
+        self.insert_reserved(index, value);
+        Ok(())
+    }
+
+    /// `insert` into room that the caller has shown to be there: it returns no `Result`. (own)
+    pub fn insert_reserved(&mut self, index: usize, value: T)
+        requires in_bounds { index ≤ length self.old.items }
+        requires room { HasRoomFor self.old 1 }
+        ensures items { self.new.items ≡ insert self.old.items index value }
+        ensures capacity { self.new.capacity ≡ self.old.capacity }
+        ensures alloc { self.new.alloc ≡ self.old.alloc }
+        ensures cost { self.new.cost ≡ moving (length self.old.items - index + 1) self.old.cost }
+        ensures cheap { IsCheap self.old → IsCheap self.new }
+        ensures within { IsWithin T.row self.old × IsWithin T.row self.new }
+    {
+        let len = self.block.len();
+        self.block.move_run(index, index + 1, len - index);
+        self.block.put_and_store(index, value, len + 1);
+    }
+
+    /// `push` that lends the item: what is written is what the list holds. (own)
+    ///
+    /// It fails as `push` does, and then nothing changes.
+    pub fn push_mut(&mut self, value: T) -> Result<&mut T, Rejected<T>>
+        ensures* writes_back { sem 𝓛
+            (LendsAdded T.row A.row G.row A.Allocator G.Growth self.entry
+            (λ x. self.old.items ++ x ∷ []) 1 result) }
+        ensures value { IfOk result (λ item. item.now ≡ value) }
+        ensures succeeds { HasRoomFor self.old 1 → IsOk result }
+        ensures overflow { capacity_for G.rule T.row self.old 1 ≡ None
+            → IsErrAnd result (λ refused. refused.cause ≡ ThinVecError.CapacityOverflow) }
+        ensures cause { IfErr result
+            (λ refused. IsCause (capacity_for G.rule T.row self.old 1) refused.cause) }
+        ensures value_returned { IfErr result (λ refused. refused.value ≡ value) }
+        ensures within { IsWithin T.row self.old }
+    {
+        let len = self.len();
+        self.push(value)?;
+        Ok(&mut self[len])
+    }
+
+    /// `insert` that lends the item: what is written is what the list holds. (own)
+    ///
+    /// It fails as `insert` does, and then nothing changes.
+    pub fn insert_mut(&mut self, index: usize, value: T) -> Result<&mut T, Rejected<T>>
+        requires in_bounds { index ≤ length self.old.items }
+        ensures* writes_back { sem 𝓛
+            (LendsAdded T.row A.row G.row A.Allocator G.Growth self.entry
+            (insert self.old.items index) (length self.old.items - index + 1) result) }
+        ensures value { IfOk result (λ item. item.now ≡ value) }
+        ensures succeeds { HasRoomFor self.old 1 → IsOk result }
+        ensures overflow { capacity_for G.rule T.row self.old 1 ≡ None
+            → IsErrAnd result (λ refused. refused.cause ≡ ThinVecError.CapacityOverflow) }
+        ensures cause { IfErr result
+            (λ refused. IsCause (capacity_for G.rule T.row self.old 1) refused.cause) }
+        ensures value_returned { IfErr result (λ refused. refused.value ≡ value) }
+        ensures within { IsWithin T.row self.old }
+    {
+        self.insert(index, value)?;
+        Ok(&mut self[index])
+    }
+
+    /// Removes the item at `index` and returns it. The items after it move one place forward.
+    pub fn remove(&mut self, index: usize) -> T
+        requires in_bounds { index < length self.old.items }
+        ensures value { slice_get self.old.items index ≡ Some result }
+        ensures items { self.new.items ≡ remove self.old.items index }
+        ensures capacity { self.new.capacity ≡ self.old.capacity }
+        ensures alloc { self.new.alloc ≡ self.old.alloc }
+        ensures cost { self.new.cost ≡ moving (length self.old.items - (index + 1)) self.old.cost }
+        ensures within { IsWithin T.row self.old × IsWithin T.row self.new }
+    {
+        let len = self.block.len();
+        let value = self.block.take(index);
+        self.block.move_down(index, 1, len - (index + 1));
+        self.block.store_len(len - 1);
+        value
+    }
+
+    /// Removes the item at `index` and returns it. The last item takes its place, and no other
+    /// moves.
+    pub fn swap_remove(&mut self, index: usize) -> T
+        requires in_bounds { index < length self.old.items }
+        ensures value { slice_get self.old.items index ≡ Some result }
+        ensures items { self.new.items ≡ swap_remove self.old.items index result }
+        ensures capacity { self.new.capacity ≡ self.old.capacity }
+        ensures alloc { self.new.alloc ≡ self.old.alloc }
+        ensures cost { self.new.cost ≡ moving (if index + 1 == length self.old.items then 0 else 1)
+            self.old.cost }
+        ensures within { IsWithin T.row self.old × IsWithin T.row self.new }
+    {
+        let last = self.block.len() - 1;
+        let value = self.block.take_replacing(index, last);
+        self.block.store_len(last);
+        value
+    }
+
+    /// Removes the last item and returns it, where `predicate` returns true of it; else it stays,
+    /// as `predicate` left it. It is called once, and not for an empty list. The capacity stays.
+    /// (own)
+    pub fn pop_if<P: FnOnce(&mut T) -> bool>(&mut self, predicate: P) -> Option<T>
+        requires callable { P.IsAlwaysCallable predicate }
+        ensures popped { PopsIf P.FnOnce self.old.items self.new.items predicate result }
+        ensures changes { self.new ≡ record self.old { items = self.new.items } }
+        ensures within { IsWithin T.row self.old × IsWithin T.row self.new }
+    {
+        let len = self.len();
+        if len == 0 {
+            return None;
+        }
+        if predicate(&mut self[len - 1]) {
+            return Some(self.pop_last());
+        }
+        None
+    }
+}
+
+impl<T: Drop, A: Allocator, G: Growth> ThinVec<T, A, G> {
+    ghost use Rattle.thin_vec.specs.ThinVec.{IsWithin};
+
+    /// Keeps the first `len` items and drops the rest. The capacity stays.
+    pub fn truncate(&mut self, len: usize)
+        ensures items { self.new.items ≡ take len self.old.items }
+        ensures changes { self.new ≡ record self.old { items = self.new.items } }
+        ensures within { IsWithin T.row self.old × IsWithin T.row self.new }
+    {
+        let old = self.block.len();
+        if len >= old {
+            return;
+        }
+        self.block.store_len(len);
+        for i in len..old {
+            drop(self.block.take(i));
+        }
+    }
+
+    /// Drops every item. The capacity stays.
+    pub fn clear(&mut self)
+        ensures items { self.new.items ≡ [] }
+        ensures changes { self.new ≡ record self.old { items = self.new.items } }
+        ensures within { IsWithin T.row self.old × IsWithin T.row self.new }
+    {
+        self.truncate(0);
+    }
+}

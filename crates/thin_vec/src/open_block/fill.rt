@@ -1,0 +1,125 @@
+//! Steps on a block that is open: what comes in goes after the front, into the gap.
+ghost use Rattle.std.specs.Prelude.{◌≡◌, ◌+◌, ◌-◌, ◌<◌, ◌≤◌, [], ◌++◌, HoldsAt, List, drop, false, length, take, true};
+ghost use Rattle.std.specs.Iterator.{IsFinite, size};
+ghost use Rattle.std.specs.List.{AllZip};
+ghost use Rattle.thin_block.specs.Cost.{moving};
+ghost use Rattle.thin_vec.specs.List.Extend.{Gives};
+
+use crate::list::ThinVec;
+use crate::open_block::OpenBlock;
+use crate::put::{put_clones, put_iter, put_vec};
+use std::alloc::Allocator;
+use std::iter::Iterator;
+use thin_block::Growth;
+
+impl<T, A: Allocator> OpenBlock<T, A> {
+    // Puts what `iter` yields after the front. Returns the iterator, and whether it ended before
+    // the gap was full.
+    pub(crate) fn fill<I: Iterator<Item = T>>(&mut self, iter: I) -> (I, bool)
+        requires can_next { I.can_next iter }
+        requires finite { IsFinite (I.remaining iter) }
+        ensures front { (xs : List T) × (self.new.front ≡ self.old.front ++ xs)
+            × (self.new.before + length xs ≡ self.old.before)
+            × Gives I.next_gives iter xs result.1 result.0 }
+        ensures changes { self.new ≡ record self.old {
+          front = self.new.front;
+          before = self.new.before;
+          cost = moving (self.old.before - self.new.before) self.old.cost;
+        } }
+        ensures full { result.1 ≡ false → self.new.before ≡ 0 }
+        ensures short { result.1 ≡ true → 0 < self.new.before }
+        ensures asked { result.1 ≡ false → I.can_next result.0 × IsFinite (I.remaining result.0) }
+        ensures nearer { result.1 ≡ false → self.old.before + size (I.remaining result.0) ≤ size
+            (I.remaining iter) }
+    {
+        let (rest, end, ended) = put_iter(&mut self.block, self.front_end, self.rest_start, iter);
+        self.front_end = end;
+        (rest, ended)
+    }
+
+    // Puts the items of `items` after the front.
+    pub(crate) fn fill_from_vec<B: Allocator>(&mut self, items: Vec<T, B>)
+        requires room { length items.items ≤ self.old.before }
+        ensures { self.new ≡ record self.old {
+          front = self.old.front ++ items.items;
+          before = self.old.before - length items.items;
+          cost = moving (length items.items) self.old.cost;
+        } }
+    {
+        let count = items.len();
+        put_vec(&mut self.block, self.front_end, items);
+        self.front_end += count;
+    }
+
+    // Moves the items of `other` after the front, as one run. `other` is left empty, with its
+    // block.
+    pub(crate) fn fill_from_list<G: Growth>(&mut self, other: &mut ThinVec<T, A, G>)
+        requires room { length other.old.items ≤ self.old.before }
+        ensures changes { self.new ≡ record self.old {
+          front = self.old.front ++ other.old.items;
+          before = self.old.before - length other.old.items;
+          cost = moving (length other.old.items) self.old.cost;
+        } }
+        ensures other_changes { other.new ≡ record other.old { items = [] } }
+    {
+        let count = other.block.len();
+        other
+            .block
+            .move_run_to(0, count, &mut self.block, self.front_end);
+        other.block.set_len(0);
+        self.front_end += count;
+    }
+
+    // The last `count` items of the tail move after the front, as one run.
+    pub(crate) fn move_last_down(&mut self, count: usize)
+        requires room { count ≤ self.old.before }
+        requires in_bounds { count ≤ length self.old.tail }
+        ensures { self.new ≡ record self.old {
+          front = self.old.front ++ drop (length self.old.tail - count) self.old.tail;
+          before = self.old.before - count;
+          tail = take (length self.old.tail - count) self.old.tail;
+          cost = moving count self.old.cost;
+        } }
+    {
+        self.block.move_run(self.len - count, self.front_end, count);
+        self.front_end += count;
+        self.len -= count;
+    }
+}
+
+impl<T: Copy, A: Allocator> OpenBlock<T, A> {
+    // Copies `items` after the front, as one run.
+    pub(crate) fn fill_from_copies(&mut self, items: &[T])
+        requires room { length items.now ≤ self.old.before }
+        ensures { self.new ≡ record self.old {
+          front = self.old.front ++ items.now;
+          before = self.old.before - length items.now;
+          cost = moving (length items.now) self.old.cost;
+        } }
+    {
+        self.block.copy_in(self.front_end, items);
+        self.front_end += items.len();
+    }
+}
+
+impl<T: Clone, A: Allocator> OpenBlock<T, A> {
+    // Puts clones of `items` after the front, and returns how many: it ends before a clone that
+    // fails.
+    pub(crate) fn fill_from_clones(&mut self, items: &[T]) -> usize
+        requires room { length items.now ≤ self.old.before }
+        ensures in_bounds { result ≤ length items.now }
+        ensures front { (copies : List T) × AllZip T.is_clone (take result items.now) copies
+            × (self.new.front ≡ self.old.front ++ copies) }
+        ensures changes { self.new ≡ record self.old {
+          front = self.new.front;
+          before = self.old.before - result;
+          cost = moving result self.old.cost;
+        } }
+        ensures refused { result < length items.now
+            → HoldsAt (λ x. ¬ (T.is_infallible x)) items.now result }
+    {
+        let placed = put_clones(&mut self.block, self.front_end, items);
+        self.front_end += placed;
+        placed
+    }
+}

@@ -1,0 +1,167 @@
+//! Loops over a block: items are put into its empty slots, or taken out to be dropped.
+ghost use Rattle.std.specs.Iterator.{IsFinite, size};
+ghost use Rattle.std.specs.List.{FoldsTo};
+ghost use Rattle.std.specs.Prelude.{true, false, ◌≡◌, ℕ, ◌+◌, ◌-◌, ◌<◌, ◌≤◌, List, HoldsAt, length, replicate};
+ghost use Rattle.thin_block.specs.Block.{seen};
+ghost use Rattle.thin_block.specs.Cost.{moving};
+ghost use Rattle.thin_block.specs.Slots.{AreEmpty, IsPacked, empty, full, laid, slot};
+ghost use Rattle.thin_vec.specs.List.Clones.{LaysClones};
+ghost use Rattle.thin_vec.specs.List.Extend.{Gives};
+
+use std::alloc::Allocator;
+use std::iter::Iterator;
+use thin_block::Block;
+
+// Drops the first `len` items of a block, which are all that it has.
+pub(crate) fn drop_items<T: Drop, A: Allocator>(block: &mut Block<T, A>, len: usize)
+    requires packed { IsPacked block.old.slots len }
+    ensures changes { seen block.new
+        ≡ record (seen block.old) { slots = empty (length block.old.slots) } }
+{
+    for i in 0..len {
+        drop(block.take(i));
+    }
+}
+
+// Moves the items of `items` into the empty slots from `start` on. They leave the `Vec` from the
+// last on.
+pub(crate) fn put_vec<T, A: Allocator, B: Allocator>(
+    block: &mut Block<T, A>,
+    start: usize,
+    mut items: Vec<T, B>,
+)
+    requires in_bounds { start + length items.items ≤ length block.old.slots }
+    requires empty { AreEmpty block.old.slots start (length items.items) }
+    ensures changes { seen block.new ≡ record (seen block.old) {
+      slots = laid start (full items.items) block.old.slots;
+      cost = moving (length items.items) block.old.cost;
+    } }
+{
+    // No capacity is past `isize::MAX`, so no index is.
+    let _whole = block.cap();
+    while let Some(item) = items.pop() {
+        block.put(start + items.len(), item);
+    }
+    items.destroy_empty();
+}
+
+// Puts clones of `items` into the empty slots from `start` on, and returns how many: it ends before
+// a clone that fails.
+pub(crate) fn put_clones<T: Clone, A: Allocator>(
+    block: &mut Block<T, A>,
+    start: usize,
+    items: &[T],
+) -> usize
+    requires in_bounds { start + length items.now ≤ length block.old.slots }
+    requires empty { AreEmpty block.old.slots start (length items.now) }
+    ensures in_bounds { result ≤ length items.now }
+    ensures slots { LaysClones T.is_clone items.now result start block.old.slots block.new.slots }
+    ensures changes { seen block.new ≡ record (seen block.old) {
+      slots = block.new.slots;
+      cost = moving result block.old.cost;
+    } }
+    ensures refused { result < length items.now
+        → HoldsAt (λ x. ¬ (T.is_infallible x)) items.now result }
+{
+    // No capacity is past `isize::MAX`, so no index is.
+    let _whole = block.cap();
+    for i in 0..items.len() {
+        match items[i].clone() {
+            Ok(item) => block.put(start + i, item),
+            Err(_) => return i,
+        }
+    }
+    items.len()
+}
+
+// Puts clones of `value` into the `count` empty slots from `start` on, and returns how many: it
+// ends before a clone that fails.
+pub(crate) fn put_repeated<T: Clone, A: Allocator>(
+    block: &mut Block<T, A>,
+    start: usize,
+    value: &T,
+    count: usize,
+) -> usize
+    requires in_bounds { start + count ≤ length block.old.slots }
+    requires empty { AreEmpty block.old.slots start count }
+    ensures in_bounds { result ≤ count }
+    ensures slots { LaysClones T.is_clone (replicate count value.now) result start block.old.slots
+        block.new.slots }
+    ensures changes { seen block.new ≡ record (seen block.old) {
+      slots = block.new.slots;
+      cost = moving result block.old.cost;
+    } }
+    ensures refused { result < count → ¬ (T.is_infallible value.now) }
+{
+    // No capacity is past `isize::MAX`, so no index is.
+    let _whole = block.cap();
+    for i in 0..count {
+        match value.clone() {
+            Ok(item) => block.put(start + i, item),
+            Err(_) => return i,
+        }
+    }
+    count
+}
+
+// Puts what calls of `make` return into the `count` empty slots from `start` on.
+pub(crate) fn put_results<T, A: Allocator, F: FnMut() -> T>(
+    block: &mut Block<T, A>,
+    start: usize,
+    count: usize,
+    mut make: F,
+)
+    requires in_bounds { start + count ≤ length block.old.slots }
+    requires empty { AreEmpty block.old.slots start count }
+    requires callable { F.IsAlwaysCallable make }
+    ensures slots { (xs : List T) × (last : F) × (length xs ≡ count) × FoldsTo F.step make xs last
+        × (block.new.slots ≡ laid start (full xs) block.old.slots) }
+    ensures changes { seen block.new ≡ record (seen block.old) {
+      slots = block.new.slots;
+      cost = moving count block.old.cost;
+    } }
+{
+    // No capacity is past `isize::MAX`, so no index is.
+    let _whole = block.cap();
+    for i in 0..count {
+        block.put(start + i, make());
+    }
+}
+
+// Puts what `iter` yields into the empty slots from `start` up to `end`. Returns the iterator,
+// where it stopped, and whether the iterator ended before the slots were full.
+pub(crate) fn put_iter<T, A: Allocator, I: Iterator<Item = T>>(
+    block: &mut Block<T, A>,
+    start: usize,
+    end: usize,
+    iter: I,
+) -> (I, usize, bool)
+    requires start_le_end { start ≤ end }
+    requires in_bounds { end ≤ length block.old.slots }
+    requires empty { (k : ℕ) → start ≤ k → k < end → slot block.old.slots k ≡ None }
+    requires can_next { I.can_next iter }
+    requires finite { IsFinite (I.remaining iter) }
+    ensures slots { (xs : List T) × (block.new.slots ≡ laid start (full xs) block.old.slots)
+        × (result.1 ≡ start + length xs) × Gives I.next_gives iter xs result.2 result.0 }
+    ensures within { result.1 ≤ end }
+    ensures changes { seen block.new ≡ record (seen block.old) {
+      slots = block.new.slots;
+      cost = moving (result.1 - start) block.old.cost;
+    } }
+    ensures rest { result.2 ≡ false → I.can_next result.0 × IsFinite (I.remaining result.0) }
+    ensures nearer { result.2 ≡ false → result.1 + size (I.remaining result.0) ≤ start + size
+        (I.remaining iter) }
+    ensures full { result.2 ≡ false → result.1 ≡ end }
+    ensures short { result.2 ≡ true → result.1 < end }
+{
+    let mut rest = iter;
+    let mut i = start;
+    while i < end {
+        let Some(item) = rest.next() else {
+            return (rest, i, true);
+        };
+        block.put(i, item);
+        i += 1;
+    }
+    (rest, i, false)
+}
