@@ -4,7 +4,6 @@
 
 pub mod checks;
 pub mod filtering;
-pub mod first_list;
 pub mod growing;
 pub mod handed_over;
 pub mod indices;

@@ -1,4 +1,4 @@
--- The headline, from a run.
+-- The main theorem follows from a run of all commands.
 use Rattle.std.proofs.Common.{◌≡◌, List, [], ◌++◌, ap, sym, subst, ◌∙◌}
 use Rattle.std.proofs.lemmas.List.{append-nil}
 use Rattle.thin_vec.specs.Growth.{KeepsLaw}
@@ -17,7 +17,7 @@ use Rattle.thin_runner.proofs.SlackLemmas.{runs-slack}
 
 module _ {T A G J : Type 0} (here : Setting T A J) (law : KeepsLaw here.rule) where
   module _ {old new : Thin T A} where
-    -- once all commands have run
+    -- if no command is left, a run is one of which the main theorem speaks
     pub headline : {commands left : List (Command T A G)} {before after : List (Reply T A G)}
         → IsWithin here.R old → IsWithin here.R new → left ≡ []
         → HasRun here old commands left before after new
@@ -30,9 +30,9 @@ module _ {T A G J : Type 0} (here : Setting T A J) (law : KeepsLaw here.rule) wh
         record {
           replies = replies;
           appended = h.appended;
+          plain = λ equal ok. run-plain here equal old new commands replies ok run;
           allowed = run;
           within = within;
-          plain = λ equal ok. run-plain here equal old new commands replies ok run;
           stays_cheap = λ only.
               (runs-paid here law old new commands replies only was.room run).cheap;
           copied = λ only.

@@ -4,7 +4,6 @@ use crate::tests::items::{list_of, push, refusing_nth};
 use std::alloc::Global;
 use std::io::ErrorKind;
 use std::process::Abort;
-use thin_examples::first_list::first_list;
 use thin_examples::moved_range::move_range;
 use thin_examples::moves::{edited, extracted_first, spliced_middle};
 use thin_examples::refused_push::push_or_return;
@@ -95,12 +94,6 @@ fn counts_are_kept_by_row_and_column(rt: HostRuntime) {
     if counts.rows() == 2 {
         assert_same(&rt, is_row_empty(&counts, 1), true);
     }
-}
-
-#[test]
-fn a_first_list_has_its_items(rt: HostRuntime) {
-    let list = first_list(rt.alloc()).expect(&rt, "memory");
-    assert_items(&rt, list.as_slice(), &[3, 4, 5]);
 }
 
 #[test]
