@@ -3,6 +3,7 @@
 #![tactic(auto)]
 
 pub mod checks;
+pub mod commands;
 pub mod filtering;
 pub mod growing;
 pub mod handed_over;

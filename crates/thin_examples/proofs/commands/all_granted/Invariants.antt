@@ -1,0 +1,7 @@
+-- All replies that the loop has read are granted.
+use Rattle.std.specs.List.{AllWithin}
+use Rattle.thin_runner.specs.Replies.{IsGranted}
+use Rattle.thin_examples.proofs.commands.all_granted.Given as goal
+
+abbrev pub invariant-loop-reply : goal.invariant-loop-reply
+invariant-loop-reply g l = AllWithin IsGranted l.replies 0 l.reply-index

@@ -1,0 +1,30 @@
+-- If all replies are granted, the main theorem says that the items are a fold over the commands.
+use Rattle.std.proofs.Common.{◌≡◌, Result, Ok, Err, List, [], All, OnOk, subst, ◌∙◌, ap, ◌++◌, fold}
+use Rattle.thin_vec.specs.List.Clones.{ClonesEqual}
+use Rattle.thin_vec.specs.ThinVec.{Thin}
+use Rattle.thin_runner.specs.Headline.{Headline}
+use Rattle.thin_runner.specs.Plain.{items_after}
+use Rattle.thin_runner.specs.Replies.{IsGranted}
+use Rattle.thin_runner.specs.Setting.{Setting}
+use Rattle.thin_runner.specs.declared.command.Command.{Command}
+use Rattle.thin_runner.specs.declared.command.Reply.{Reply}
+use Rattle.thin_examples.proofs.commands.carry_out.Goals as goal
+
+-- if all replies seen are granted, the items of a run are a fold over its commands
+carried : {T A G J E : Type 0} (here : Setting T A J) (old new : Thin T A)
+    (commands : List (Command T A G)) (before after seen : List (Reply T A G))
+    (result : Result (Unit {0}) E) → ClonesEqual here.clones → before ≡ [] → seen ≡ after
+    → Headline here old commands before after new → OnOk result (All IsGranted seen)
+    → OnOk result (new.items ≡ fold (items_after here) old.items commands)
+carried here old new commands before after seen (Ok u) equal none same h granted =
+    let all : seen ≡ h.replies = same ∙ (h.appended ∙ ap (λ l. l ++ h.replies) none) in
+    (h.plain equal (subst (All IsGranted) all granted)).0
+carried here old new commands before after seen (Err e) equal none same h granted = tt
+
+pub returns-in-Ok : goal.returns-in-Ok
+returns-in-Ok g c = record {
+  items = carried _ c.args.list.now c.run.new.list c.args.commands.items
+      c.new-replies.result.items c.run.new.replies.items c.as_slice.result.now
+      c.all_granted.result c.requires.clones_equal c.new-replies.ensures.items
+      c.as_slice.ensures.value c.in-Ok.ensures.ok c.all_granted.ensures.granted;
+}

@@ -1,0 +1,70 @@
+//! Commands on a list whose result a contract computes, by the main theorem.
+ghost use Rattle.std.specs.Prelude.{◌≡◌, [], ◌∷◌, ◌++◌, All, OnOk, fold};
+ghost use Rattle.thin_vec.specs.List.Clones.{ClonesEqual};
+ghost use Rattle.thin_runner.specs.Plain.{items_after};
+ghost use Rattle.thin_runner.specs.Replies.{IsGranted};
+ghost use Rattle.thin_runner.specs.Setting.{setting};
+
+use std::alloc::Allocator;
+use thin_runner::command::{Command, Reply};
+use thin_runner::judge::Judge;
+use thin_runner::runner::run;
+use thin_vec::{Growth, ThinVec, ThinVecError};
+
+/// Pushes 1, 2 and 3 and pops an item, as commands. If no call fails, an empty list is then 1, 2.
+pub fn one_and_two<A: Allocator + Copy, J: Judge<u64>>(
+    alloc: A,
+    list: &mut ThinVec<u64, A>,
+    judge: &J,
+) -> Result<(), ThinVecError>
+    ensures items { list.old.items ≡ [] → OnOk result (list.new.items ≡ 1 ∷ 2 ∷ []) }
+{
+    let mut commands = Vec::new(alloc);
+    add(&mut commands, Command::Push(1))?;
+    add(&mut commands, Command::Push(2))?;
+    add(&mut commands, Command::Push(3))?;
+    add(&mut commands, Command::Pop)?;
+    carry_out(alloc, list, commands, judge)
+}
+
+/// Carries out the commands in order. Fails if any of their calls failed; the commands after that
+/// call are carried out all the same.
+pub fn carry_out<T: Clone + Eq, A: Allocator + Copy, G: Growth, J: Judge<T>>(
+    alloc: A,
+    list: &mut ThinVec<T, A, G>,
+    commands: Vec<Command<T, A, G>, A>,
+    judge: &J,
+) -> Result<(), ThinVecError>
+    requires clones_equal { ClonesEqual T.is_clone }
+    ensures items { OnOk result (list.new.items ≡ fold
+        (items_after (setting T.is_clone T.is_infallible T.eq J.judging G.rule T.row alloc
+        judge.now)) list.old.items commands.items) }
+{
+    let mut replies = Vec::new(alloc);
+    match run(alloc, list, commands, &mut replies, judge) {
+        Ok(()) => all_granted(replies.as_slice()),
+        Err(cause) => Err(cause),
+    }
+}
+
+// Fails with the cause of the first call that failed, if any did.
+fn all_granted<T, A: Allocator, G: Growth>(replies: &[Reply<T, A, G>]) -> Result<(), ThinVecError>
+    ensures granted { OnOk result (All IsGranted replies.now) }
+{
+    for reply in replies {
+        if let Some(cause) = reply.refusal() {
+            return Err(cause);
+        }
+    }
+    Ok(())
+}
+
+// Appends an item to the vector.
+fn add<T: Drop, A: Allocator>(items: &mut Vec<T, A>, item: T) -> Result<(), ThinVecError>
+    ensures items { OnOk result (items.new.items ≡ items.old.items ++ item ∷ []) }
+{
+    match items.push(item) {
+        Ok(()) => Ok(()),
+        Err(_refused) => Err(ThinVecError::OutOfMemory),
+    }
+}
