@@ -4,16 +4,15 @@ use Rattle.std.proofs.lemmas.Bool.{false≢true}
 use Rattle.std.proofs.Math.Seq.{drop-length, take-length}
 use Rattle.std.proofs.lemmas.List.{append-nil, length-drop, take-append-drop}
 use Rattle.std.specs.Iterator.{Count, at_most}
-use Rattle.std.specs.Prelude.{IsSome}
 use Rattle.std.specs.Borrow.{RattleType}
 use Rattle.std.specs.declared.iter.Iterator.{can_next-default}
 use Rattle.std.specs.Option.{option_to_list}
 use Rattle.thin_vec.specs.Cheap.{IsCheap}
-use Rattle.thin_vec.specs.List.Extend.{IsExtendCost, IsExtended, IsLoose, Overflows}
+use Rattle.thin_vec.specs.List.Extend.{IsExtendCost, IsExtended, IsLoose, MustOverflow, Overflows}
 use Rattle.thin_vec.specs.Edits.Splice.{IsSpliced, IsStopCause, Stopped, left_of}
 use Rattle.thin_vec.specs.Growth.{Rule}
 use Rattle.thin_vec.specs.Open.{Open}
-use Rattle.thin_vec.specs.ThinVec.{HasRoomFor, IsWithin, Thin, capacity_for}
+use Rattle.thin_vec.specs.ThinVec.{HasRoomFor, IsWithin, Thin}
 use Rattle.thin_vec.specs.declared.ThinVecError.{ThinVecError}
 use Rattle.thin_vec.specs.declared.ThinVecError.TheVariants.{CapacityOverflow}
 use Rattle.thin_runner.specs.Hinted.{HintedSteps, hinted_claim, hinted_count, hinted_items}
@@ -192,10 +191,10 @@ module _ {T A : Type 0} (rule : Rule) (R : RattleType) (old new : Thin T A) wher
   pub stop-cause-end : (tail held : List T) (in_hand : Option T) (left : Count)
       (cause : ThinVecError) → length tail ≡ 0 → held ≡ []
       → (cause ≡ CapacityOverflow → Overflows rule R new in_hand left)
-      → (IsSome in_hand → capacity_for rule R new 1 ≡ None → cause ≡ CapacityOverflow)
+      → (MustOverflow rule R new in_hand left → cause ≡ CapacityOverflow)
       → IsStopCause rule R new tail held in_hand left cause
   stop-cause-end tail held None left cause short none over back = record {
-    by_hint = λ _ _. over;
+    by_hint = λ _ _. (back, over);
     by_held = λ some _. absurd (omega (arith, ap length none, some));
     by_in_hand = λ some _. absurd (omega (arith, short, some));
     by_push = λ _ some. absurd (false≢true some);
@@ -204,5 +203,5 @@ module _ {T A : Type 0} (rule : Rule) (R : RattleType) (old new : Thin T A) wher
     by_hint = λ _ wrong. absurd (some-none wrong);
     by_held = λ some _. absurd (omega (arith, ap length none, some));
     by_in_hand = λ some _. absurd (omega (arith, short, some));
-    by_push = λ _ some. (over, back some);
+    by_push = λ _ some. (over, back);
   }

@@ -8,7 +8,7 @@ use Rattle.std.specs.declared.result.Result.{Result}
 use Rattle.std.specs.declared.result.Result.TheVariants.{Ok, Err}
 use Rattle.std.specs.Iterator.{Count, Drains, IsFinite, Yields, YieldsThen, size}
 use Rattle.thin_vec.specs.Cheap.{IsCheap}
-use Rattle.thin_vec.specs.List.Extend.{GaveUp, IsExtendCost, IsNamed, Overflows}
+use Rattle.thin_vec.specs.List.Extend.{GaveUp, IsExtendCost, IsNamed, MustOverflow, Overflows}
 use Rattle.std.proofs.lemmas.Bool.Decides.{nat_tests}
 use Rattle.thin_block.specs.declared.errors.ThinVecError.{ThinVecError}
 use Rattle.thin_block.specs.declared.errors.ThinVecError.TheVariants.{CapacityOverflow, OutOfMemory}
@@ -217,10 +217,11 @@ module _ {T A : Type 0} (rule : Rule) (R : RattleType) (v : Thin T A) (tail held
     (in_hand : Option T) (left : Count) (cause : ThinVecError) where
   -- before a tail, at the hint
   pub stop-at-hint : 0 < length tail → held ≡ [] → in_hand ≡ None
+      → (MustOverflow rule R v None left → cause ≡ CapacityOverflow)
       → (cause ≡ CapacityOverflow → Overflows rule R v None left)
       → IsStopCause rule R v tail held in_hand left cause
-  stop-at-hint some none empty over = record {
-    by_hint = λ _ _. over;
+  stop-at-hint some none empty over why = record {
+    by_hint = λ _ _. (over, why);
     by_held = λ more _. absurd (omega (arith, more, ap length none));
     by_in_hand = λ _ is. absurd (false≢true (subst IsSome empty is));
     by_push = λ no_tail. absurd (omega (arith, some, ap length no_tail));
@@ -241,16 +242,27 @@ module _ {T A : Type 0} (rule : Rule) (R : RattleType) (v : Thin T A) (tail held
 
   -- with no tail, as `extend` does
   pub stop-at-end : tail ≡ [] → held ≡ []
-      → (IsSome in_hand → capacity_for rule R v 1 ≡ None → cause ≡ CapacityOverflow)
+      → (MustOverflow rule R v in_hand left → cause ≡ CapacityOverflow)
       → (cause ≡ CapacityOverflow → Overflows rule R v in_hand left)
       → IsStopCause rule R v tail held in_hand left cause
   stop-at-end no_tail none over why = record {
-    by_hint = λ _ empty is. subst (λ o. Overflows rule R v o left) empty (why is);
+    by_hint = λ _ empty. (
+      λ must. over (subst (λ o. MustOverflow rule R v o left) (sym empty) must),
+      λ is. subst (λ o. Overflows rule R v o left) empty (why is),
+    );
     by_held = λ more _. absurd (omega (arith, more, ap length none));
     by_in_hand = λ some _. absurd (omega (arith, some, ap length no_tail));
-    by_push = λ _ some. (λ is. one in_hand some (why is), over some);
+    by_push = λ _ some. (
+      λ is. one in_hand some (why is),
+      λ now. over (must in_hand some now),
+    );
   }
     where
+      must : (o : Option T) → IsSome o → capacity_for rule R v 1 ≡ None
+          → MustOverflow rule R v o left
+      must (Some x) some now = now
+      must None some now = absurd (false≢true some)
+
       one : (o : Option T) → IsSome o → Overflows rule R v o left
           → capacity_for rule R v 1 ≡ None
       one (Some x) some now = now

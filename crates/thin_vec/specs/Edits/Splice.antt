@@ -2,14 +2,13 @@
 -- `Vec::splice`)
 use Rattle.std.specs.Prelude.{◌≡◌, ◌⊎◌, ◌↔◌, ◌+◌, ◌<◌, ◌≤◌, [], ◌++◌, ◌∷◌, IsSome, List, MatchOption, Option, length, ℕ}
 use Rattle.std.specs.Iterator.{Count, IsFinite, YieldsThen}
-use Rattle.std.specs.Iterator.SizeHint.{IsWithinCount}
 use Rattle.std.specs.declared.option.Option.TheVariants.{None}
 use Rattle.std.specs.Borrow.{GName, RattleType}
 use Rattle.thin_block.specs.declared.errors.ThinVecError.{ThinVecError}
 use Rattle.thin_block.specs.declared.errors.ThinVecError.TheVariants.{CapacityOverflow, OutOfMemory}
 use Rattle.thin_block.specs.Growth.{Rule}
 use Rattle.thin_block.specs.declared.growth.Growth.{Ghosts}
-use Rattle.thin_vec.specs.List.Extend.{GaveUp}
+use Rattle.thin_vec.specs.List.Extend.{GaveUp, MustOverflow, Overflows}
 use Rattle.thin_vec.specs.Open.{Open}
 use Rattle.thin_vec.specs.ThinVec.{Thin, capacity_for}
 use Rattle.thin_vec.specs.declared.edits.splice.Splice.{Splice}
@@ -43,9 +42,11 @@ module _ {T A : Type 0} where
   -- iterator still has `left` to give
   pub record IsStopCause (rule : Rule) (R : RattleType) (v : Thin T A) (tail held : List T)
       (in_hand : Option T) (left : Count) (cause : ThinVecError) : Type 0 where
-    -- nothing was drawn for which there was no room: no capacity is ruled for some allowed hint
-    pub by_hint : held ≡ [] → in_hand ≡ None → cause ≡ CapacityOverflow
-        → (h : ℕ) × IsWithinCount h left × (capacity_for rule R v h ≡ None)
+    -- nothing was drawn for which there was no room: the cause is an overflow if no capacity is
+    -- ruled for any allowed hint that lacks room, and only if none is ruled for some allowed hint
+    pub by_hint : held ≡ [] → in_hand ≡ None
+        → (MustOverflow rule R v None left → cause ≡ CapacityOverflow)
+        × (cause ≡ CapacityOverflow → Overflows rule R v None left)
     -- items are held: exactly where no capacity is ruled for them
     pub by_held : 0 < length held → in_hand ≡ None
         → (cause ≡ CapacityOverflow) ↔ (capacity_for rule R v (length held) ≡ None)

@@ -7,7 +7,7 @@ use Rattle.std.specs.Option.{option_to_list}
 use Rattle.std.specs.declared.option.Option.TheVariants.{None, Some}
 use Rattle.std.specs.Borrow.{RattleType}
 use Rattle.thin_block.specs.Growth.{Rule, exact_capacity, ruled_capacity}
-use Rattle.thin_vec.specs.ThinVec.{Thin, capacity_for}
+use Rattle.thin_vec.specs.ThinVec.{HasRoomFor, Thin, capacity_for}
 
 -- the capacity d after c: as before, or at least one that the rule names after c
 abbrev pub IsLoose : Rule → RattleType → ℕ → ℕ → Type 0
@@ -56,11 +56,27 @@ module _ {T A : Type 0} where
   Overflows rule R v (Some x) left = capacity_for rule R v 1 ≡ None
   Overflows rule R v None left = (h : ℕ) × IsWithinCount h left × (capacity_for rule R v h ≡ None)
 
+  -- no capacity is ruled for anything that may be wanted: one place more, for the item in hand, or,
+  -- where no item was drawn, each number of places that v lacks and that a hint allows of an
+  -- iterator that has `left` to give
+  abbrev pub MustOverflow : Rule → RattleType → Thin T A → Option T → Count → Type 0
+  MustOverflow rule R v (Some x) left = capacity_for rule R v 1 ≡ None
+  MustOverflow rule R v None left =
+      (h : ℕ) → IsWithinCount h left → ¬ (HasRoomFor v h) → capacity_for rule R v h ≡ None
+
   -- a new list, which takes exactly what the hint says, found no capacity: for one place more, for
   -- the item in hand, or, where no item was drawn, for as many as some hint allows
   abbrev pub OverflowsNew : Rule → RattleType → Thin T A → Option T → Count → Type 0
   OverflowsNew rule R v (Some x) left = capacity_for rule R v 1 ≡ None
   OverflowsNew rule R v None left = (h : ℕ) × IsWithinCount h left × (exact_capacity R 0 h ≡ None)
+
+  -- a new list, which takes exactly what the hint says, finds no capacity for anything that may be
+  -- wanted: one place more, for the item in hand, or, where no item was drawn, each number of
+  -- places but 0 that a hint allows
+  abbrev pub MustOverflowNew : Rule → RattleType → Thin T A → Option T → Count → Type 0
+  MustOverflowNew rule R v (Some x) left = capacity_for rule R v 1 ≡ None
+  MustOverflowNew rule R v None left =
+      (h : ℕ) → IsWithinCount h left → 0 < h → exact_capacity R 0 h ≡ None
 
 -- calls of `next` from s gave what was placed, then the item in hand, and led to the rest
 abbrev pub GaveUp : {S X : Type 0} → (S → Option X → S → Type 0) → S → List X

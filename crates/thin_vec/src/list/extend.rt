@@ -7,7 +7,7 @@ ghost use Rattle.thin_block.specs.Cost.{moving};
 ghost use Rattle.thin_block.specs.Growth.{doubling};
 ghost use Rattle.thin_block.specs.Slots.{full, laid, slot};
 ghost use Rattle.thin_vec.specs.Cheap.{IsCheap};
-ghost use Rattle.thin_vec.specs.List.Extend.{GaveUp, IsCollected, IsExtended, IsExtendCost, IsLoose, IsNamed, Overflows, OverflowsNew, Gives};
+ghost use Rattle.thin_vec.specs.List.Extend.{GaveUp, IsCollected, IsExtended, IsExtendCost, IsLoose, IsNamed, MustOverflow, MustOverflowNew, Overflows, OverflowsNew, Gives};
 ghost use Rattle.thin_vec.specs.ThinVec.{HasRoomFor, IsCause, IsNew, IsWithin, capacity_for};
 ghost use Rattle.std.specs.Iterator.SizeHint.{IsWithinCount};
 
@@ -31,9 +31,9 @@ impl<T, A: Allocator, G: Growth> ThinVec<T, A, G> {
         requires finite { IsFinite (I.remaining iter) }
         ensures succeeds { HasRoomFor self.old (size (I.remaining iter)) → IsOk result }
         ensures succeeds_empty { size (I.remaining iter) ≡ 0 → IsOk result }
-        ensures overflow { IfErr result (λ refused. IsSome refused.in_hand
-            → capacity_for G.rule T.row self.new 1 ≡ None
-            → refused.cause ≡ ThinVecError.CapacityOverflow) }
+        ensures overflow { IfErr result
+            (λ refused. MustOverflow G.rule T.row self.new refused.in_hand
+            (I.remaining refused.rest) → refused.cause ≡ ThinVecError.CapacityOverflow) }
         ensures cause { IfErr result (λ refused. refused.cause ≡ ThinVecError.CapacityOverflow
             → Overflows G.rule T.row self.new refused.in_hand (I.remaining refused.rest)) }
         ensures items { OnOk result ((xs : List T) × Drains I.next_gives iter xs
@@ -201,9 +201,9 @@ impl<T, A: Allocator> ThinVec<T, A> {
         requires can_next { I.can_next iter }
         requires finite { IsFinite (I.remaining iter) }
         ensures succeeds { size (I.remaining iter) ≡ 0 → IsOk result }
-        ensures overflow { IfErr result (λ refused. IsSome refused.in_hand
-            → capacity_for doubling T.row refused.list 1 ≡ None
-            → refused.cause ≡ ThinVecError.CapacityOverflow) }
+        ensures overflow { IfErr result
+            (λ refused. MustOverflowNew doubling T.row refused.list refused.in_hand
+            (I.remaining refused.rest) → refused.cause ≡ ThinVecError.CapacityOverflow) }
         ensures cause { IfErr result (λ refused. refused.cause ≡ ThinVecError.CapacityOverflow
             → OverflowsNew doubling T.row refused.list refused.in_hand (I.remaining refused.rest)) }
         ensures items { IfOk result (λ list. Drains I.next_gives iter list.items) }

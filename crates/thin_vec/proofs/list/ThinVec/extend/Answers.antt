@@ -7,7 +7,9 @@ use Rattle.std.specs.Option.{option_to_list}
 use Rattle.std.specs.Prelude.{IfErr, OnOk}
 use denote.Param.{param}
 use Rattle.thin_vec.proofs.ThinVecLemmas.{cost_at-copied}
-use Rattle.thin_vec.specs.ThinVec.{capacity_for}
+use Rattle.std.proofs.lemmas.Bool.{false≢true}
+use Rattle.thin_block.proofs.Outcomes.{err-same}
+use Rattle.thin_vec.specs.ThinVec.{HasRoomFor, capacity_for}
 use Rattle.std.proofs.Common.{inl, sym, Some, List, None, [], refl}
 use Rattle.thin_vec.proofs.list.ExtendLemmas.{named-after, run_of_ok, filled-join, filled-reserved, loose-join, loose-le, loose-ruled, run_given, run_given_err}
 use Rattle.thin_vec.proofs.list.ThinVec.extend.Goals as goal
@@ -55,6 +57,14 @@ returns-in-Err-clause-cause g c = λ over. (
   ap (λ v. capacity_for g.G.Growth.rule (param 0 g.row.T) v c.size_hint.result.0)
       c.in-Err.ensures.err ∙ c.in-Err.ensures.cause over,
 )
+
+pub returns-in-Err-clause-overflow : goal.returns-in-Err-clause-overflow
+returns-in-Err-clause-overflow g c = λ must.
+    let hint = c.size_hint.result.0 in let same = c.in-Err.ensures.err in
+    err-same (c.in-Err.ensures.overflow
+    (sym (ap (λ v. capacity_for g.G.Growth.rule (param 0 g.row.T) v hint) same)
+    ∙ must hint c.size_hint.ensures.lower
+    (λ room. false≢true (c.in-Err.ensures.succeeds (subst (λ v. HasRoomFor v hint) same room)))))
 
 pub returns-in-Ok-clause-runs : goal.returns-in-Ok-clause-runs
 returns-in-Ok-clause-runs g c =

@@ -4,7 +4,9 @@ use denote.Param.{param}
 use Rattle.thin_vec.specs.List.Extend.{IsExtended, IsNamed}
 use Rattle.thin_vec.specs.Edits.Splice.{left_of}
 use Rattle.thin_vec.specs.Edits.Finish.{HasTaken}
-use Rattle.thin_vec.specs.ThinVec.{capacity_for}
+use Rattle.thin_vec.specs.ThinVec.{HasRoomFor, capacity_for}
+use Rattle.std.proofs.lemmas.Bool.{false≢true}
+use Rattle.thin_block.proofs.Outcomes.{err-same}
 use Rattle.thin_vec.proofs.list.ExtendLemmas.{named-after}
 use Rattle.thin_vec.proofs.edits.SpliceLemmas.{if-err, stop-at-hint, stopped-now, taken-reserved}
 use Rattle.thin_vec.proofs.edits.FinishLemmas.{IsReached, IsWide, filled-drains, filled-reached, filled-taken, finished-from, finished-ok, reached-extended, reached-grown, reached-long, reached-more, reached-taken, reached-wide, wide-taken}
@@ -95,6 +97,9 @@ returns-in-Err g c =
     c.new.ensures.items refl here.can_next here.finite)
     (stop-at-hint rule T w v.tail c.new.result.items None (left t) c.in-Err.cause c.requires.some
     c.new.ensures.items refl
+    (λ must. err-same (c.in-Err.ensures.overflow
+    (sym (ap (λ z. capacity_for rule T z hint) same) ∙ must hint c.size_hint-hint.ensures.lower
+    (λ room. false≢true (c.in-Err.ensures.succeeds (subst (λ z. HasRoomFor z hint) same room))))))
     (λ over. (
       hint,
       c.size_hint-hint.ensures.lower,

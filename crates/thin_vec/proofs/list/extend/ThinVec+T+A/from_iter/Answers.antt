@@ -1,7 +1,9 @@
 -- What was taken where it fails, the capacity, and the whole run of the iterator.
 use Rattle.std.specs.Option.{option_to_list}
-use Rattle.std.proofs.Common.{None, [], refl, Some, inr, ◌++◌, ◌≡◌, ◌∙◌, ap, arith, sym}
+use Rattle.std.proofs.Common.{None, [], refl, Some, inl, inr, ◌<◌, ◌++◌, ◌≡◌, ◌∙◌, ap, arith, sym}
+use Rattle.std.proofs.lemmas.Bool.{cases_lt, false≢true}
 use denote.Param.{param}
+use Rattle.thin_block.proofs.Outcomes.{err-same}
 use Rattle.thin_block.specs.Growth.{doubling}
 use Rattle.thin_block.specs.GrowthLaws.{doubling_law}
 use Rattle.thin_block.proofs.CapacityLemmas.{exact-same}
@@ -11,6 +13,16 @@ use Rattle.thin_vec.proofs.list.extend.ThinVec+T+A.from_iter.Goals as goal
 pub returns-in-Err-clause-cause : goal.returns-in-Err-clause-cause
 returns-in-Err-clause-cause g c = λ over.
     (c.size_hint.result.0, c.size_hint.ensures.lower, c.in-Err.ensures.cause over)
+
+pub returns-in-Err-clause-overflow : goal.returns-in-Err-clause-overflow
+returns-in-Err-clause-overflow g c = λ must.
+    let hint = c.size_hint.result.0 in
+    let some : 0 < hint =
+    elim (cases_lt 0 hint) [
+      | inl some ↦ some
+      | inr none ↦ absurd (false≢true (c.in-Err.ensures.succeeds_empty (omega (arith, none))))
+    ] in
+    err-same (c.in-Err.ensures.overflow (must hint c.size_hint.ensures.lower some))
 
 pub returns-in-Ok-extend_unhinted-clause-runs : goal.returns-in-Ok-extend_unhinted-clause-runs
 returns-in-Ok-extend_unhinted-clause-runs g c =
@@ -83,6 +95,9 @@ returns-in-Err-extend_unhinted-clause-err_moves g c = search (arith, ◌∙◌)
 
 pub returns-in-Err-extend_unhinted-clause-full : goal.returns-in-Err-extend_unhinted-clause-full
 returns-in-Err-extend_unhinted-clause-full g c = search (arith, ◌∙◌)
+
+pub returns-in-Err-extend_unhinted-clause-overflow : goal.returns-in-Err-extend_unhinted-clause-overflow
+returns-in-Err-extend_unhinted-clause-overflow g c = search (arith, ◌∙◌)
 
 pub returns-in-Err-extend_unhinted-clause-placed : goal.returns-in-Err-extend_unhinted-clause-placed
 returns-in-Err-extend_unhinted-clause-placed g c = search (arith, ◌∙◌)
