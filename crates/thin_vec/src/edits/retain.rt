@@ -13,6 +13,7 @@ use std::alloc::Allocator;
 use thin_block::Growth;
 
 impl<T: Drop, A: Allocator, G: Growth> ThinVec<T, A, G> {
+    ghost use Rattle.thin_vec.specs.Cheap.{IsCheap};
     ghost use Rattle.thin_vec.specs.Edits.Retain.{IsRetained, IsRetainedTo, Looks};
     ghost use Rattle.thin_vec.specs.ThinVec.{IsWithin};
 
@@ -29,6 +30,7 @@ impl<T: Drop, A: Allocator, G: Growth> ThinVec<T, A, G> {
         ensures alloc { self.new.alloc ≡ self.old.alloc }
         ensures blocks { self.new.cost.blocks ≡ self.old.cost.blocks }
         ensures grown { self.new.cost.grown ≡ self.old.cost.grown }
+        ensures cheap { IsCheap self.old → IsCheap self.new }
         ensures within { IsWithin T.row self.old × IsWithin T.row self.new }
     {
         let mut judge = Looking { keep };
@@ -46,6 +48,7 @@ impl<T: Drop, A: Allocator, G: Growth> ThinVec<T, A, G> {
         ensures alloc { self.new.alloc ≡ self.old.alloc }
         ensures blocks { self.new.cost.blocks ≡ self.old.cost.blocks }
         ensures grown { self.new.cost.grown ≡ self.old.cost.grown }
+        ensures cheap { IsCheap self.old → IsCheap self.new }
         ensures within { IsWithin T.row self.old × IsWithin T.row self.new }
     {
         let mut judge = Writing { keep };

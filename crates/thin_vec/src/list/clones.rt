@@ -118,6 +118,7 @@ impl<T: Clone, A: Allocator, G: Growth> ThinVec<T, A, G> {
         ensures cost { OnOk result (self.new.cost ≡ moving (length items.now) self.old.cost) }
         ensures capacity { self.new.capacity ≡ self.old.capacity }
         ensures alloc { self.new.alloc ≡ self.old.alloc }
+        ensures cheap { IsCheap self.old → IsCheap self.new }
         ensures err_items { OnErr result (self.new.items ≡ self.old.items) }
         ensures refused { OnErr result
             (StopsAtClone T.is_infallible items.now self.old.cost self.new.cost) }

@@ -116,6 +116,7 @@ impl<T, A: Allocator, G: Growth> ThinVec<T, A, G> {
         ensures capacity { self.new.capacity ≡ self.old.capacity }
         ensures alloc { self.new.alloc ≡ self.old.alloc }
         ensures cost { self.new.cost ≡ moving (length self.old.items - (index + 1)) self.old.cost }
+        ensures cheap { IsCheap self.old → IsCheap self.new }
         ensures within { IsWithin T.row self.old × IsWithin T.row self.new }
     {
         let len = self.block.len();
@@ -135,6 +136,7 @@ impl<T, A: Allocator, G: Growth> ThinVec<T, A, G> {
         ensures alloc { self.new.alloc ≡ self.old.alloc }
         ensures cost { self.new.cost ≡ moving (if index + 1 == length self.old.items then 0 else 1)
             self.old.cost }
+        ensures cheap { IsCheap self.old → IsCheap self.new }
         ensures within { IsWithin T.row self.old × IsWithin T.row self.new }
     {
         let last = self.block.len() - 1;

@@ -1,5 +1,8 @@
 -- A growth, and then clones of the items in its room.
-use Rattle.std.proofs.Common.{◌∙◌, arith}
+use Rattle.std.proofs.Common.{Some, ◌∙◌, ap, arith, inr, subst, sym}
+use Rattle.thin_block.proofs.Outcomes.{on-err}
+use Rattle.thin_vec.specs.List.Clones.{StopsAtClone}
+use Rattle.thin_vec.specs.ThinVec.{cost_at}
 use Rattle.thin_vec.proofs.list.ThinVec.extend_from_slice.Goals as goal
 
 pub returns-clause-alloc : goal.returns-clause-alloc
@@ -24,7 +27,14 @@ pub returns-clause-items_if_clones_equal : goal.returns-clause-items_if_clones_e
 returns-clause-items_if_clones_equal g c = search (arith, ◌∙◌)
 
 pub returns-clause-refused : goal.returns-clause-refused
-returns-clause-refused g c = search (arith, ◌∙◌)
+returns-clause-refused g c =
+    let w = c.extend_from_slice_reserved.new.self in
+    let same = sym c.extend_from_slice_reserved.ensures.capacity in
+    on-err c.extend_from_slice_reserved.result (λ stops. inr (record {
+      capacity = c.in_ok-reserve.ensures.capacity ∙ ap Some same;
+      stopped = subst (λ k. StopsAtClone g.T.Clone.is_infallible c.args.items.now k w.cost)
+          (c.in_ok-reserve.ensures.cost ∙ ap (λ n. cost_at c.args.self.now n) same) stops;
+    })) c.extend_from_slice_reserved.ensures.refused
 
 pub returns-clause-succeeds_empty : goal.returns-clause-succeeds_empty
 returns-clause-succeeds_empty g c = search (arith, ◌∙◌)
