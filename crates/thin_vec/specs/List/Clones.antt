@@ -5,7 +5,8 @@ use Rattle.std.specs.List.{AllZip}
 use Rattle.thin_block.specs.Cost.{Cost, moving}
 use Rattle.thin_block.specs.Growth.{Rule}
 use Rattle.thin_block.specs.Slots.{full, laid}
-use Rattle.thin_vec.specs.ThinVec.{Thin, capacity_for, cost_at}
+use Rattle.thin_vec.specs.Cheap.{IsCheap}
+use Rattle.thin_vec.specs.ThinVec.{IsWithin, Thin, capacity_for, cost_at, cost_new}
 
 module _ {T : Type 0} (clones : T → T → Type 0) where
   -- each clone of x is equal to it
@@ -21,6 +22,14 @@ module _ {T : Type 0} (clones : T → T → Type 0) where
     pub copies : List T
     pub cloned : AllZip clones (take n sources) copies
     pub slots : s' ≡ laid i (full copies) s
+
+  -- what std's `Clone` says of the list w that was cloned from v: a clone of each item, at the same
+  -- allocator, in a block of exactly their number
+  abbrev pub IsClonedList : {A : Type 0} → RattleType → Thin T A → Thin T A → Type 0
+  IsClonedList R v w =
+      AllZip clones v.items w.items × (length w.items ≡ length v.items)
+      × (w.capacity ≡ length v.items) × (w.alloc ≡ v.alloc)
+      × (w.cost ≡ moving (length v.items) (cost_new (length v.items))) × IsCheap w × IsWithin R w
 
 -- ys is xs, and after it n clones of x
 pub record AppendsRepeats {T : Type 0} (clones : T → T → Type 0) (x : T) (n : ℕ)

@@ -7,7 +7,8 @@ use Rattle.std.specs.Option.{option_to_list}
 use Rattle.std.specs.declared.option.Option.TheVariants.{None, Some}
 use Rattle.std.specs.Borrow.{RattleType}
 use Rattle.thin_block.specs.Growth.{Rule, exact_capacity, ruled_capacity}
-use Rattle.thin_vec.specs.ThinVec.{HasRoomFor, Thin, capacity_for}
+use Rattle.thin_vec.specs.Cheap.{IsCheap}
+use Rattle.thin_vec.specs.ThinVec.{HasRoomFor, IsWithin, Thin, capacity_for}
 
 -- the capacity d after c: as before, or at least one that the rule names after c
 abbrev pub IsLoose : Rule → RattleType → ℕ → ℕ → Type 0
@@ -49,6 +50,20 @@ module _ {T A : Type 0} where
         × (v.cost.grown + length v.items ≤ w.cost.grown)
     -- growth has copied at most as many items as the capacity has grown by
     pub copied : w.cost.grown + v.capacity ≤ v.cost.grown + w.capacity
+
+  -- what std's `Extend` says of the list v that became w, on success and on failure: the items xs
+  -- went in after its own
+  abbrev pub Extends : Rule → RattleType → Thin T A → List T → Thin T A → Type 0
+  Extends rule R v xs w =
+      (w.items ≡ v.items ++ xs) × (length w.items ≡ length v.items + length xs)
+      × (v.capacity ≤ w.capacity) × IsLoose rule R v.capacity w.capacity × IsExtendCost v w
+      × (w.alloc ≡ v.alloc) × (IsCheap v → IsCheap w) × IsWithin R w
+
+  -- what std's `FromIterator` says of the list v that was made of the items xs
+  abbrev pub IsMadeOf : RattleType → List T → Thin T A → Type 0
+  IsMadeOf R xs v =
+      (v.items ≡ xs) × (length v.items ≡ length xs) × (v.cost.moves ≡ length xs) × IsCheap v
+      × IsWithin R v
 
   -- no capacity is ruled for what was wanted: one place more, for the item in hand, or, where no
   -- item was drawn, as many more as some hint allows of an iterator that has `left` to give

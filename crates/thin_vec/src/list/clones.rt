@@ -4,7 +4,7 @@ ghost use Rattle.std.specs.Prelude.{◌≡◌, ◌⊎◌, ◌+◌, ◌<◌, ◌�
 ghost use Rattle.std.specs.List.{AllZip, AppendsClones};
 ghost use Rattle.thin_block.specs.Capacity.{Fits};
 ghost use Rattle.thin_block.specs.Cost.{moving};
-ghost use Rattle.thin_vec.specs.List.Clones.{ClonesEqual, IsCloneRefused, StopsAtClone};
+ghost use Rattle.thin_vec.specs.List.Clones.{ClonesEqual, IsCloneRefused, IsClonedList, StopsAtClone};
 
 use crate::list::ThinVec;
 use crate::put::put_clones;
@@ -257,7 +257,7 @@ impl<T: Clone, A: Allocator, G: Growth> ThinVec<T, A, G> {
 }
 
 impl<T: Clone, A: Allocator + Copy, G: Growth> Clone for ThinVec<T, A, G> {
-    ghost is_clone = { λ list other. AllZip T.is_clone list.items other.items };
+    ghost is_clone = { IsClonedList T.is_clone T.row };
 
     ghost is_infallible = { λ list. list.items ≡ [] };
 

@@ -7,7 +7,7 @@ ghost use Rattle.thin_block.specs.Cost.{moving};
 ghost use Rattle.thin_block.specs.Growth.{doubling};
 ghost use Rattle.thin_block.specs.Slots.{full, laid, slot};
 ghost use Rattle.thin_vec.specs.Cheap.{IsCheap};
-ghost use Rattle.thin_vec.specs.List.Extend.{GaveUp, IsCollected, IsExtended, IsExtendCost, IsLoose, IsNamed, MustOverflow, MustOverflowNew, Overflows, OverflowsNew, Gives};
+ghost use Rattle.thin_vec.specs.List.Extend.{Extends, GaveUp, IsCollected, IsExtended, IsExtendCost, IsLoose, IsMadeOf, IsNamed, MustOverflow, MustOverflowNew, Overflows, OverflowsNew, Gives};
 ghost use Rattle.thin_vec.specs.ThinVec.{HasRoomFor, IsCause, IsNew, IsWithin, capacity_for};
 ghost use Rattle.std.specs.Iterator.SizeHint.{IsWithinCount};
 
@@ -271,7 +271,7 @@ impl<T, A: Allocator> ThinVec<T, A> {
 }
 
 impl<T: Drop, A: Allocator, G: Growth> Extend<T> for ThinVec<T, A, G> {
-    ghost extend_gives = { λ list xs extended. extended.items ≡ list.items ++ xs };
+    ghost extend_gives = { Extends G.rule T.row };
 
     // Where it fails, what was not placed is dropped.
     fn extend<U: IntoIterator<Item = T>>(&mut self, iter: U) -> Result<(), AllocError> {
@@ -285,7 +285,7 @@ impl<T: Drop, A: Allocator, G: Growth> Extend<T> for ThinVec<T, A, G> {
 impl<T: Drop, A: Allocator> FromIterator<T> for ThinVec<T, A> {
     type Alloc = A;
 
-    ghost from_iter_gives = { λ xs list. list.items ≡ xs };
+    ghost from_iter_gives = { IsMadeOf T.row };
 
     // Where it fails, what was drawn is dropped.
     fn from_iter<U: IntoIterator<Item = T>>(

@@ -1,19 +1,54 @@
--- Where it fails, what was placed is what the first calls yielded.
-use Rattle.std.proofs.Common.{arith, ◌∙◌}
+-- What `extend` says of the list, in the words of the trait. Where it fails, what was placed is what
+-- the first calls yielded.
+use Rattle.std.proofs.Common.{arith, ap, length, length-append, ◌∙◌}
 use Rattle.thin_vec.proofs.list.ExtendLemmas.{yields-first}
 use Rattle.thin_vec.proofs.list.extend.ThinVecExtend.extend.Goals as goal
 
+pub returns-in-Ok : goal.returns-in-Ok
+returns-in-Ok g c =
+    let e = c.in-Ok.ensures in let xs = e.items.0 in let old = c.args.self.now.items in
+    record {
+      ran = (
+        c.into_iter.result,
+        xs,
+        c.into_iter.ensures.into_iter_gives,
+        (
+          e.items.2,
+          ap length e.items.2 ∙ length-append old xs,
+          e.never_less,
+          e.capacity,
+          e.cost,
+          e.alloc,
+          e.cheap,
+          e.within.1,
+        ),
+        e.items.1,
+      );
+    }
+
 pub returns-in-Err : goal.returns-in-Err
 returns-in-Err g c =
-    let placed = c.in-Err.ensures.placed in
+    let e = c.in-Err.ensures in let placed = e.placed in let old = c.args.self.now.items in
     let steps = g.U.IntoIter.Iterator.next_gives in
     let first = yields-first steps c.into_iter.result c.in-Err._refused.rest placed.0 _ placed.2 in
     record {
-      ran = (c.into_iter.result, placed.0, c.into_iter.ensures.into_iter_gives, placed.1, first);
+      ran = (
+        c.into_iter.result,
+        placed.0,
+        c.into_iter.ensures.into_iter_gives,
+        (
+          placed.1,
+          ap length placed.1 ∙ length-append old placed.0,
+          e.never_less,
+          e.capacity,
+          e.cost,
+          e.alloc,
+          e.cheap,
+          e.within.1,
+        ),
+        first,
+      );
     }
 
 pub extend-requires-clause-can_next : goal.extend-requires-clause-can_next
 extend-requires-clause-can_next g c = search (arith, ◌∙◌)
-
-pub returns-in-Ok : goal.returns-in-Ok
-returns-in-Ok g c = search (arith, ◌∙◌)

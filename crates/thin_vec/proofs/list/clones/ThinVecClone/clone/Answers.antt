@@ -1,0 +1,19 @@
+-- What `clone` says of the list, in the words of the trait.
+use Rattle.std.proofs.Common.{sym, ◌∙◌}
+use Rattle.std.proofs.lemmas.List.Elements.{length_all_zip}
+use Rattle.thin_vec.proofs.list.clones.ThinVecClone.clone.Goals as goal
+
+pub returns-in-Ok : goal.returns-in-Ok
+returns-in-Ok g c =
+    let e = c.in-Ok.ensures in
+    record {
+      cases = (
+        e.items,
+        sym (length_all_zip g.T.Clone.is_clone c.args.self.now.items c.in-Ok.other.items e.items),
+        e.capacity,
+        e.alloc ∙ c.allocator.ensures.value,
+        e.cost,
+        e.cheap,
+        e.within,
+      );
+    }
