@@ -1,5 +1,5 @@
 //! Lists of bytes: made from text, and written to.
-ghost use Rattle.std.specs.Prelude.{◌≡◌, ◌+◌, [], ◌++◌, IfErr, IfOk, IsErrAnd, IsErrOf, IsOk, None, OnErr, OnOk, Some, length, ◌≤◌};
+ghost use Rattle.std.specs.Prelude.{◌≡◌, ◌+◌, [], ◌++◌, IfErr, IfOk, IsErr, IsErrOf, IsOk, None, OnErr, OnOk, Some, length, ◌≤◌};
 ghost use Rattle.std.specs.Borrow.{u8};
 ghost use Rattle.std.specs.IoError.{error_kind};
 ghost use Rattle.thin_block.specs.Cost.{moving};
@@ -49,8 +49,7 @@ impl<A: Allocator, G: Growth> Write for ThinVec<u8, A, G> {
     fn write(&mut self, buf: &[u8]) -> io::Result<usize>
         ensures succeeds { HasRoomFor self.old (length buf.now) → IsOk result }
         ensures succeeds_empty { length buf.now ≡ 0 → IsOk result }
-        ensures overflow { capacity_for G.rule u8 self.old (length buf.now) ≡ None
-            → IsErrAnd result (λ error. error_kind error ≡ ErrorKind.OutOfMemory) }
+        ensures overflow { capacity_for G.rule u8 self.old (length buf.now) ≡ None → IsErr result }
         ensures cause { IfErr result (λ error. error_kind error ≡ ErrorKind.OutOfMemory) }
         ensures value { IfOk result (λ count. count ≡ length buf.now) }
         ensures items { OnOk result (self.new.items ≡ self.old.items ++ buf.now) }
@@ -76,8 +75,7 @@ impl<A: Allocator, G: Growth> Write for ThinVec<u8, A, G> {
     fn write_all(&mut self, buf: &[u8]) -> io::Result<()>
         ensures succeeds { HasRoomFor self.old (length buf.now) → IsOk result }
         ensures succeeds_empty { length buf.now ≡ 0 → IsOk result }
-        ensures overflow { capacity_for G.rule u8 self.old (length buf.now) ≡ None
-            → IsErrAnd result (λ error. error_kind error ≡ ErrorKind.OutOfMemory) }
+        ensures overflow { capacity_for G.rule u8 self.old (length buf.now) ≡ None → IsErr result }
         ensures cause { IfErr result (λ error. error_kind error ≡ ErrorKind.OutOfMemory) }
         ensures items { OnOk result (self.new.items ≡ self.old.items ++ buf.now) }
         ensures capacity { OnOk result

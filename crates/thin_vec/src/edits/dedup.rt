@@ -26,8 +26,6 @@ impl<T: Drop, A: Allocator, G: Growth> ThinVec<T, A, G> {
         ensures bound { length self.new.items ≤ length self.old.items }
         ensures capacity { self.new.capacity ≡ self.old.capacity }
         ensures alloc { self.new.alloc ≡ self.old.alloc }
-        ensures blocks { self.new.cost.blocks ≡ self.old.cost.blocks }
-        ensures grown { self.new.cost.grown ≡ self.old.cost.grown }
         ensures cheap { IsCheap self.old → IsCheap self.new }
         ensures within { IsWithin T.row self.old × IsWithin T.row self.new }
     {
@@ -64,8 +62,6 @@ impl<T: Drop, A: Allocator, G: Growth> ThinVec<T, A, G> {
         ensures bound { length self.new.items ≤ length self.old.items }
         ensures capacity { self.new.capacity ≡ self.old.capacity }
         ensures alloc { self.new.alloc ≡ self.old.alloc }
-        ensures blocks { self.new.cost.blocks ≡ self.old.cost.blocks }
-        ensures grown { self.new.cost.grown ≡ self.old.cost.grown }
         ensures cheap { IsCheap self.old → IsCheap self.new }
         ensures within { IsWithin T.row self.old × IsWithin T.row self.new }
     {

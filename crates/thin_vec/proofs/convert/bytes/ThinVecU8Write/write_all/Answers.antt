@@ -14,7 +14,7 @@ returns-clause-capacity g c =
     ∙ ap (λ n. Some n) (sym c.extend_from_copies_reserved.ensures.capacity))
 
 pub returns-clause-overflow : goal.returns-clause-overflow
-returns-clause-overflow g c = λ none. none-some none (returns-clause-capacity g c)
+returns-clause-overflow g c = λ none. absurd (none-some none (returns-clause-capacity g c))
 
 pub returns-clause-cheap : goal.returns-clause-cheap
 returns-clause-cheap g c = search (arith, ◌∙◌)
