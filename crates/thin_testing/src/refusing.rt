@@ -1,10 +1,11 @@
 //! An allocator for tests, which refuses the request that the test names.
 //!
-//! Take it by reference, as `&Refusing<Global>`: a `&` to an allocator is one too, and `Copy`. A
-//! growth asks for a new block, so each growth of a list is one request.
+//! Take it by reference, as `&Refusing<Global>`: a `&` to an allocator is one too, and `Copy`. Each
+//! call of `allocate`, `grow` or `shrink` is one request, so each growth of a list is one. `grow` and
+//! `shrink` are those of `inner`, which may leave a block where it lies.
 //!
 //! `blocks` counts the blocks that are out, so that a test sees a leak: no contract says that a
-//! list gives its block back.
+//! list gives its block back. A block that grows or shrinks counts as the same one.
 //!
 //! A contract can't say what a cell holds, so none says which request is refused, or what
 //! `requests` and `blocks` return: the tests show it. What is proved is that the blocks are those
@@ -101,5 +102,31 @@ unsafe impl<B: Allocator> Allocator for Refusing<B> {
     unsafe fn deallocate(&self, ptr: *mut u8, size: usize, align: usize) {
         returned(&self.counts);
         self.inner.deallocate(ptr, size, align);
+    }
+
+    unsafe fn grow<T>(
+        &self,
+        ptr: *mut T,
+        len: usize,
+        old_cap: usize,
+        new_cap: usize,
+    ) -> Result<*mut T, AllocError> {
+        if refuses(&self.counts) {
+            return Err(AllocError);
+        }
+        self.inner.grow(ptr, len, old_cap, new_cap)
+    }
+
+    unsafe fn shrink<T>(
+        &self,
+        ptr: *mut T,
+        len: usize,
+        old_cap: usize,
+        new_cap: usize,
+    ) -> Result<*mut T, AllocError> {
+        if refuses(&self.counts) {
+            return Err(AllocError);
+        }
+        self.inner.shrink(ptr, len, old_cap, new_cap)
     }
 }
