@@ -28,6 +28,7 @@ mod reports;
 mod requests;
 pub mod rooms;
 mod rows;
+mod runs;
 mod scarce;
 mod shrinks;
 mod sizes;

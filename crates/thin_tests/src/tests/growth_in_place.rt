@@ -1,89 +1,225 @@
-//! Lists of words and of pairs of words, which grow in place once they are long: each growth is
-//! refused first, and then granted.
+//! Lists of items that make words, which grow and shrink in place once they are long: each request
+//! is refused first, and then granted.
 use crate::tests::assertions::assert_same;
-use crate::tests::items::refusing_nth;
+use crate::tests::items::push;
+use bumpalo::Bump;
 use std::alloc::{Allocator, Global};
 use std::fmt::Debug;
+use std::mem::size_of;
 use std::process::Abort;
-use thin_testing::Refusing;
-use thin_vec::ThinVec;
+use thin_testing::{Refusing, Ruled};
+use thin_vec::{Doubling, Growth, PowerBytes, ThinVec, ThinVecError};
 
 // An item that tells its number.
 trait Numbered: Copy + PartialEq + Debug + Drop {
-    fn numbered(number: u64) -> Self;
+    fn numbered(number: usize) -> Self;
+}
+
+// Bytes that are whole words apart differ.
+impl Numbered for u8 {
+    fn numbered(number: usize) -> u8 {
+        (number % 251) as u8
+    }
+}
+
+impl Numbered for u16 {
+    fn numbered(number: usize) -> u16 {
+        (number % 65521) as u16
+    }
+}
+
+impl Numbered for u32 {
+    fn numbered(number: usize) -> u32 {
+        !((number % 65521) as u32)
+    }
+}
+
+impl Numbered for (u32, u32) {
+    fn numbered(number: usize) -> (u32, u32) {
+        ((number % 65521) as u32, u32::numbered(number))
+    }
 }
 
 impl Numbered for u64 {
-    fn numbered(number: u64) -> u64 {
-        number
+    fn numbered(number: usize) -> u64 {
+        number as u64
     }
 }
 
 impl Numbered for [u64; 2] {
-    fn numbered(number: u64) -> [u64; 2] {
-        [number, !number]
+    fn numbered(number: usize) -> [u64; 2] {
+        [number as u64, !(number as u64)]
     }
 }
 
-// Asserts that the list holds the items of the first numbers, `len` of them.
-fn assert_numbered<T: Numbered, A: Allocator>(rt: &impl Abort, list: &ThinVec<T, A>, len: u64) {
-    assert_same(rt, list.len() as u64, len);
-    let mut number = 0_u64;
-    for item in list.as_slice() {
-        assert_same(rt, *item, T::numbered(number));
-        number = number.wrapping_add(1);
+impl Numbered for u128 {
+    fn numbered(number: usize) -> u128 {
+        !(number as u128)
     }
 }
 
-// Tries to push, which fails where there is no spare room, and leaves the list as it was.
-fn push_in_spare_room<T: Numbered, A: Allocator>(
+// Asserts the capacity, and that the list holds the items of the first numbers, `len` of them.
+fn assert_numbered<T: Numbered, A: Allocator, G: Growth>(
     rt: &impl Abort,
-    list: &mut ThinVec<T, A>,
-    number: u64,
-) -> bool {
-    let capacity = list.capacity();
-    let is_full = list.len() == capacity;
-    let is_in = list.push(T::numbered(number)).is_ok();
-    assert_same(rt, is_in, !is_full);
-    if is_full {
-        assert_same(rt, list.capacity(), capacity);
-        assert_numbered(rt, list, number);
-    }
-    is_in
-}
-
-// Makes a list by 600 pushes, each growth failing first.
-fn assert_pushes<T: Numbered>(rt: &impl Abort, refusing: &'static Refusing<Global>) {
-    let mut list = ThinVec::<T, &'static Refusing<Global>>::new(refusing);
-    for number in 0..600 {
-        refusing.refuse(1);
-        if !push_in_spare_room(rt, &mut list, number) {
-            list.push(T::numbered(number)).ok().expect(rt, "memory");
-            assert_same(rt, refusing.requests(), 2);
+    list: &ThinVec<T, A, G>,
+    len: usize,
+    capacity: usize,
+) {
+    let mut right = 0_usize;
+    for item in list.as_slice() {
+        if *item == T::numbered(right) {
+            right = right.saturating_add(1);
         }
     }
-    assert_numbered(rt, &list, 600);
+    let found = (right, list.len(), list.capacity());
+    assert_same(rt, found, (len, len, capacity));
+}
+
+// Pushes the items of the next numbers until there is no spare room.
+fn fill<T: Numbered, A: Allocator, G: Growth>(rt: &impl Abort, list: &mut ThinVec<T, A, G>) {
+    for number in list.len()..list.capacity() {
+        push(rt, list, T::numbered(number));
+    }
+}
+
+// Pushes to a full list, which fails first and leaves the list as it was.
+fn assert_grows<T: Numbered, B: Allocator, G: Ruled>(
+    rt: &impl Abort,
+    refusing: &Refusing<B>,
+    list: &mut ThinVec<T, &Refusing<B>, G>,
+) {
+    let full = list.len();
+    let longer = full.saturating_add(1);
+    refusing.refuse(1);
+    assert_same(rt, list.push(T::numbered(full)).is_ok(), false);
+    assert_numbered(rt, list, full, full);
+    push(rt, list, T::numbered(full));
+    assert_numbered(rt, list, longer, G::named(size_of::<T>(), full, longer));
+    assert_same(rt, refusing.requests(), 2);
+}
+
+// Makes a list of 600 items or more by pushes, from this capacity on.
+fn assert_pushes<T: Numbered, B: Allocator, G: Ruled>(
+    rt: &impl Abort,
+    refusing: &Refusing<B>,
+    first: usize,
+) {
+    refusing.refuse(0);
+    let mut list = ThinVec::<T, &Refusing<B>, G>::ruled(refusing);
+    list.reserve_exact(first).expect(rt, "memory");
+    for _ in 0..12 {
+        fill(rt, &mut list);
+        if list.len() < 600 {
+            assert_grows(rt, refusing, &mut list);
+        }
+    }
+    assert_same(rt, (list.len() >= 600, refusing.blocks()), (true, 1));
+}
+
+// Makes the capacity another, by one request.
+fn make_capacity<T: Drop, A: Allocator, G: Growth>(
+    list: &mut ThinVec<T, A, G>,
+    capacity: usize,
+) -> Result<(), ThinVecError> {
+    if capacity > list.capacity() {
+        list.reserve_exact(capacity.saturating_sub(list.len()))
+    } else {
+        list.shrink_to(capacity)
+    }
+}
+
+// The same, but asserts that it fails first and leaves the list as it was.
+fn assert_capacity_made<T: Numbered, B: Allocator>(
+    rt: &impl Abort,
+    refusing: &Refusing<B>,
+    list: &mut ThinVec<T, &Refusing<B>>,
+    capacity: usize,
+) {
+    let (len, before) = (list.len(), list.capacity());
+    refusing.refuse(1);
+    let refused = make_capacity(list, capacity);
+    assert_same(rt, refused, Err(ThinVecError::OutOfMemory));
+    assert_numbered(rt, list, len, before);
+    make_capacity(list, capacity).expect(rt, "memory");
+    assert_numbered(rt, list, len, capacity);
+    assert_same(rt, refusing.requests(), 2);
+}
+
+// Makes the capacity of a list of `len` items greater twice, and less twice, `more` apart. Each
+// slot of the smaller block is filled meanwhile.
+fn assert_capacities<T: Numbered, B: Allocator>(
+    rt: &impl Abort,
+    refusing: &Refusing<B>,
+    len: usize,
+    more: usize,
+) {
+    refusing.refuse(0);
+    let mut list = ThinVec::<T, &Refusing<B>>::new(refusing);
+    list.reserve_exact(len).expect(rt, "memory");
+    fill(rt, &mut list);
+    let larger = len.saturating_add(more);
+    assert_capacity_made(rt, refusing, &mut list, larger);
+    assert_capacity_made(rt, refusing, &mut list, larger.saturating_add(more));
+    assert_capacity_made(rt, refusing, &mut list, larger);
+    fill(rt, &mut list);
+    assert_numbered(rt, &list, larger, larger);
+    list.truncate(len);
+    assert_capacity_made(rt, refusing, &mut list, len);
     assert_same(rt, refusing.blocks(), 1);
 }
 
-#[test]
-fn a_long_list_keeps_its_items(rt: HostRuntime) {
-    let refusing = refusing_nth(&rt, rt.alloc(), 0);
-    assert_pushes::<u64>(&rt, refusing);
-    assert_pushes::<[u64; 2]>(&rt, refusing);
-}
-
-// The same by the allocator's own `grow`, which may leave a block where it lies.
-fn assert_grows<T: Numbered>(rt: &impl Abort, alloc: Global) {
-    let mut list = ThinVec::<T, Global>::new(alloc);
-    for number in 0..600 {
-        list.push(T::numbered(number)).ok().expect(rt, "memory");
+// Asserts all this of one type of item, for lists about as long as the shortest that stay in place,
+// of 32 words, and capacities up to two words more: some are whole words, and others are not.
+fn assert_type<T: Numbered, B: Allocator>(rt: &impl Abort, refusing: &Refusing<B>) {
+    for first in [0, 5, 261] {
+        assert_pushes::<T, B, Doubling>(rt, refusing, first);
+        assert_pushes::<T, B, PowerBytes>(rt, refusing, first);
     }
-    assert_numbered(rt, &list, 600);
+    let long = 256_usize.checked_div(size_of::<T>()).unwrap_or(0);
+    for len in long.saturating_sub(1)..long.saturating_add(9) {
+        for more in 1..10 {
+            assert_capacities::<T, B>(rt, refusing, len, more);
+        }
+    }
 }
 
 #[test]
-fn a_long_list_of_the_global_allocator_keeps_its_items(rt: HostRuntime) {
-    assert_grows::<u64>(&rt, rt.alloc());
-    assert_grows::<[u64; 2]>(&rt, rt.alloc());
+fn a_list_of_bytes_grows_and_shrinks_in_place(rt: HostRuntime) {
+    assert_type::<u8, Global>(&rt, &Refusing::new(rt.alloc(), 0));
+}
+
+#[test]
+fn a_list_of_u16_grows_and_shrinks_in_place(rt: HostRuntime) {
+    assert_type::<u16, Global>(&rt, &Refusing::new(rt.alloc(), 0));
+}
+
+#[test]
+fn a_list_of_u32_grows_and_shrinks_in_place(rt: HostRuntime) {
+    assert_type::<u32, Global>(&rt, &Refusing::new(rt.alloc(), 0));
+}
+
+#[test]
+fn a_list_of_words_grows_and_shrinks_in_place(rt: HostRuntime) {
+    let refusing = Refusing::new(rt.alloc(), 0);
+    assert_type::<u64, Global>(&rt, &refusing);
+    assert_type::<(u32, u32), Global>(&rt, &refusing);
+}
+
+#[test]
+fn a_list_of_pairs_of_words_grows_and_shrinks_in_place(rt: HostRuntime) {
+    let refusing = Refusing::new(rt.alloc(), 0);
+    assert_type::<[u64; 2], Global>(&rt, &refusing);
+    assert_type::<u128, Global>(&rt, &refusing);
+}
+
+// In an arena a block that grows moves each time, and one that shrinks never moves.
+#[test]
+fn a_list_in_an_arena_grows_and_shrinks(rt: HostRuntime) {
+    let arena = Bump::new(rt.alloc());
+    let refusing = Refusing::new(&arena, 0);
+    assert_type::<u8, &Bump>(&rt, &refusing);
+    assert_type::<u16, &Bump>(&rt, &refusing);
+    assert_type::<u32, &Bump>(&rt, &refusing);
+    assert_type::<u64, &Bump>(&rt, &refusing);
+    assert_type::<u128, &Bump>(&rt, &refusing);
 }

@@ -176,6 +176,27 @@ fn a_full_row_makes_no_request_for_an_entry_that_is_there(rt: HostRuntime) {
     assert_entries(&rt, &table, 0, &[(1, 7), (2, 7), (3, 8)]);
 }
 
+// Sets each entry of a row of so many once more, and asserts that this asks for no memory.
+fn assert_set_again(rt: &impl Abort, refusing: &Refusing<Global>, columns: usize) {
+    let mut table = Rows::with_rows(refusing, 1).expect(rt, "memory");
+    for column in 0..columns {
+        assert_set(rt, &mut table, (0, column), 7, None);
+    }
+    refusing.refuse(1);
+    for column in 0..columns {
+        assert_set(rt, &mut table, (0, column), 8, Some(7));
+    }
+    assert_counts(rt, refusing, 0, 2);
+}
+
+#[test]
+fn a_row_of_any_length_makes_no_request_for_an_entry_that_is_there(rt: HostRuntime) {
+    for columns in 1..20 {
+        let refusing = Refusing::new(rt.alloc(), 0);
+        assert_set_again(&rt, &refusing, columns);
+    }
+}
+
 // Numbers that are the same in each run.
 #[derive(Drop)]
 struct Numbers {

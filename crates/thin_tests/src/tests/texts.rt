@@ -55,6 +55,16 @@ fn test_drain_debug(rt: HostRuntime) {
     );
 }
 
+#[test]
+fn prints_a_drain_of_many_items(rt: HostRuntime) {
+    let mut list = list_of(&rt, rt.alloc(), &[1, 2, 3, 4, 5, 6, 7, 8, 9]);
+    assert_len(&rt, &list, 9);
+    let mut drain = list.drain(0, 8);
+    assert_text(&rt, rt.alloc(), &drain, "Drain([1, 2, 3, 4, 5, 6, 7, 8])");
+    assert_same(&rt, (drain.next(), drain.next_back()), (Some(1), Some(8)));
+    assert_text(&rt, rt.alloc(), &drain, "Drain([2, 3, 4, 5, 6, 7])");
+}
+
 // Asserts that a refusal with that cause is printed by its name in one line and in many, and tells
 // its cause.
 fn assert_told<E: Debug + Display>(

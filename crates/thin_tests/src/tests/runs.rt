@@ -1,0 +1,18 @@
+//! `run` of commands: what no clause says of it.
+use crate::tests::assertions::assert_same;
+use crate::tests::items::refusing_nth;
+use std::alloc::Global;
+use thin_examples::rows::judges::Evens;
+use thin_runner::runner::run;
+use thin_testing::Refusing;
+use thin_vec::ThinVec;
+
+#[test]
+fn a_run_of_no_command_makes_no_request(rt: HostRuntime) {
+    let refusing = refusing_nth(&rt, rt.alloc(), 1);
+    let mut list = ThinVec::<i32, &'static Refusing<Global>>::new(refusing);
+    let mut replies = Vec::new(refusing);
+    let answer = run(refusing, &mut list, Vec::new(refusing), &mut replies, &Evens);
+    assert_same(&rt, answer, Ok(()));
+    assert_same(&rt, refusing.requests(), 0);
+}
