@@ -1,8 +1,7 @@
-//! Lists of items that make words, which grow and shrink in place once they are long: each request
-//! is refused first, and then granted.
+//! Lists of items that make words, which grow and shrink in place once they are long. Each request is
+//! refused first, and then granted.
 use crate::tests::assertions::assert_same;
 use crate::tests::items::push;
-use bumpalo::Bump;
 use std::alloc::{Allocator, Global};
 use std::fmt::Debug;
 use std::mem::size_of;
@@ -212,14 +211,26 @@ fn a_list_of_pairs_of_words_grows_and_shrinks_in_place(rt: HostRuntime) {
     assert_type::<u128, Global>(&rt, &refusing);
 }
 
-// In an arena a block that grows moves each time, and one that shrinks never moves.
+// Pushes 3,000 items. Before each growth a neighbour takes the memory after the list's block, so that
+// the block cannot be extended where it is.
+fn assert_pushes_beside_neighbours<T: Numbered>(rt: &impl Abort, alloc: Global) {
+    let mut neighbours = ThinVec::<ThinVec<u8>>::new(alloc);
+    let mut list = ThinVec::<T>::new(alloc);
+    for number in 0..3000 {
+        if list.len() == list.capacity() {
+            let neighbour = ThinVec::with_capacity(alloc, 40).expect(rt, "memory");
+            push(rt, &mut neighbours, neighbour);
+        }
+        push(rt, &mut list, T::numbered(number));
+    }
+    assert_numbered(rt, &list, 3000, 4096);
+}
+
 #[test]
-fn a_list_in_an_arena_grows_and_shrinks(rt: HostRuntime) {
-    let arena = Bump::new(rt.alloc());
-    let refusing = Refusing::new(&arena, 0);
-    assert_type::<u8, &Bump>(&rt, &refusing);
-    assert_type::<u16, &Bump>(&rt, &refusing);
-    assert_type::<u32, &Bump>(&rt, &refusing);
-    assert_type::<u64, &Bump>(&rt, &refusing);
-    assert_type::<u128, &Bump>(&rt, &refusing);
+fn a_list_moves_if_it_cannot_grow_in_place(rt: HostRuntime) {
+    assert_pushes_beside_neighbours::<u8>(&rt, rt.alloc());
+    assert_pushes_beside_neighbours::<u16>(&rt, rt.alloc());
+    assert_pushes_beside_neighbours::<u32>(&rt, rt.alloc());
+    assert_pushes_beside_neighbours::<u64>(&rt, rt.alloc());
+    assert_pushes_beside_neighbours::<u128>(&rt, rt.alloc());
 }

@@ -12,7 +12,13 @@ fn a_run_of_no_command_makes_no_request(rt: HostRuntime) {
     let refusing = refusing_nth(&rt, rt.alloc(), 1);
     let mut list = ThinVec::<i32, &'static Refusing<Global>>::new(refusing);
     let mut replies = Vec::new(refusing);
-    let answer = run(refusing, &mut list, Vec::new(refusing), &mut replies, &Evens);
+    let answer = run(
+        refusing,
+        &mut list,
+        Vec::new(refusing),
+        &mut replies,
+        &Evens,
+    );
     assert_same(&rt, answer, Ok(()));
     assert_same(&rt, refusing.requests(), 0);
 }

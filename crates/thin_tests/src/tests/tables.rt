@@ -135,7 +135,11 @@ fn prints_a_row_of_many_entries(rt: HostRuntime) {
         assert_set(&rt, &mut table, (0, column), 1, None);
     }
     let line = format!(in rt.alloc(); "{table:?}").expect(&rt, "memory");
-    assert_same(&rt, line.as_str(), "[{0: 1, 1: 1, 2: 1, 3: 1, 4: 1, 5: 1, 6: 1}]");
+    assert_same(
+        &rt,
+        line.as_str(),
+        "[{0: 1, 1: 1, 2: 1, 3: 1, 4: 1, 5: 1, 6: 1}]",
+    );
 }
 
 // Sets an entry in each of so many columns of the row 0, the last column first.
@@ -168,7 +172,11 @@ fn a_full_row_makes_no_request_for_an_entry_that_is_there(rt: HostRuntime) {
     assert_set(&rt, &mut table, (0, 3), 8, Some(7));
     assert_row(&rt, &table, 0);
     assert_same(&rt, table.get_mut(0, 2).copied(), Some(7));
-    assert_same(&rt, Rows::<u32, &Refusing<Global>>::with_rows(refusing, 0).is_ok(), true);
+    assert_same(
+        &rt,
+        Rows::<u32, &Refusing<Global>>::with_rows(refusing, 0).is_ok(),
+        true,
+    );
     assert_removed(&rt, &mut table, (0, 0), Some(7));
     assert_removed(&rt, &mut table, (0, 9), None);
     assert_value(&rt, &table, (0, 3), Some(8));
@@ -284,7 +292,14 @@ fn assert_both<A: Allocator>(rt: &impl Abort, table: &Rows<u32, A>, reference: &
 }
 
 // As many random calls of a table of as many rows, and what both hold every now and then.
-fn run_both(rt: &impl Abort, refusing: &Refusing<Global>, alloc: Global, rows: usize, calls: u32, nth: u64) {
+fn run_both(
+    rt: &impl Abort,
+    refusing: &Refusing<Global>,
+    alloc: Global,
+    rows: usize,
+    calls: u32,
+    nth: u64,
+) {
     let mut numbers = Numbers { state: rows as u64 };
     let mut reference = BTreeMap::new(alloc);
     let mut table = match Rows::with_rows(refusing, rows) {

@@ -75,8 +75,15 @@ fn assert_told<E: Debug + Display>(
     cause: ThinVecError,
 ) {
     let line = format!(in alloc; "{name} {{ cause: {cause:?}, .. }}").expect(rt, "memory");
-    let lines = format!(in alloc; "{name} {{\n    cause: {cause:?},\n    ..\n}}").expect(rt, "memory");
-    assert_texts(rt, alloc, refused, [line.as_str(), lines.as_str(), line.as_str()]);
+    let lines = format!(in alloc; "{name} {{\n    cause: {cause:?},\n    ..\n}}").expect(
+        rt, "memory",
+    );
+    assert_texts(
+        rt,
+        alloc,
+        refused,
+        [line.as_str(), lines.as_str(), line.as_str()],
+    );
     let told = format!(in alloc; "{refused}").expect(rt, "memory");
     let wanted = format!(in alloc; "{cause}").expect(rt, "memory");
     assert_same(rt, told.as_str(), wanted.as_str());
