@@ -16,17 +16,18 @@ const COUNTS: usize = 7;
 // Each count for each range.
 const EACH_COUNT: Cases = [COUNTS; 7];
 
-// How many items come in: none, one, about as many as the range has, and many.
+// How many items come in: more than the range has, or about as many, or few. Of a long list the
+// first two numbers alone are tried, and each of them makes it longer.
 fn count_for(range: Ranged) -> usize {
     let width = range.width();
     match range.number % COUNTS {
-        0 => 0,
-        1 => 1,
-        2 => width.saturating_sub(1),
-        3 => width,
-        4 => width.saturating_add(1),
-        5 => width.saturating_add(2),
-        _ => width.saturating_add(9),
+        0 => width.saturating_add(2),
+        1 => width.saturating_add(9),
+        2 => 0,
+        3 => 1,
+        4 => width.saturating_sub(1),
+        5 => width,
+        _ => width.saturating_add(1),
     }
 }
 

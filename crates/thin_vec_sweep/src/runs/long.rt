@@ -62,7 +62,8 @@ fn steps<R: Abort>(rt: &R, alloc: Global, count: u32) -> Vec<Step, Global> {
     steps
 }
 
-// Each command that asks for memory, on a list of thousands, and by thousands.
+// Each command that asks for memory, by thousands and by one, and before each the one that leaves
+// no spare room.
 fn long_commands<R: Abort>(rt: &R, alloc: Global) -> Vec<Command<u32, Global>, Global> {
     let many = || numbers(rt, alloc, 6000);
     let mut commands = Vec::new(alloc);
@@ -72,17 +73,20 @@ fn long_commands<R: Abort>(rt: &R, alloc: Global) -> Vec<Command<u32, Global>, G
         Command::Push(1),
         Command::ExtendFromSlice(many()),
         Command::Append(listed(rt, alloc, 6000)),
+        Command::Extend(many(), 0),
         Command::Reserve(9000),
-        Command::ReserveExact(40000),
+        Command::ReserveExact(9000),
+        Command::Resize(24003, 1),
         Command::Resize(30000, 1),
+        Command::Splice(1, 6000, steps(rt, alloc, 6000), many(), 0),
         Command::Clone,
         Command::SplitOff(29000),
-        Command::ShrinkToFit,
         Command::Drain(0, 6000, steps(rt, alloc, 6000)),
         Command::ExtractIf(0, 6000, 6000),
-        Command::Splice(1, 6000, steps(rt, alloc, 6000), many(), 0),
     ] {
-        put(&mut commands, command).ok().expect(rt, "memory");
+        for one in [Command::ShrinkToFit, command] {
+            put(&mut commands, one).ok().expect(rt, "memory");
+        }
     }
     commands
 }
@@ -98,6 +102,7 @@ fn commands_by_thousands_are_not_refused(rt: HostRuntime) {
         assert!(rt; reply.refusal().is_none(), "command {number}");
         put(&mut replies, reply).ok().expect(&rt, "memory");
     }
+    assert_eq!(rt; list.len(), 22968);
     let mut more = Vec::new(alloc);
     put(&mut more, Command::Pop).ok().expect(&rt, "memory");
     let ran = run(alloc, &mut list, more, &mut replies, &EACH_SECOND);
