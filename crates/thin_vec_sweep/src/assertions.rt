@@ -1,5 +1,5 @@
 //! Where a case stands, and what is asserted there.
-use crate::ledger::Ledger;
+use crate::ledger::{Counts, Ledger, count};
 use crate::samples::Sample;
 use crate::shapes::Shape;
 use std::fmt::Debug;
@@ -13,9 +13,11 @@ pub struct At {
     pub argument: usize,
     /// The number of the request that is refused, or 0.
     pub refused: u64,
+    /// Where each comparison is counted.
+    pub counts: &'static Counts,
 }
 
-/// Asserts that both are the same.
+/// Asserts that both are the same, and counts the comparison.
 pub fn same<T: PartialEq + Debug + Drop, R: Abort>(
     rt: &R,
     at: &At,
@@ -23,6 +25,7 @@ pub fn same<T: PartialEq + Debug + Drop, R: Abort>(
     value: T,
     wanted: T,
 ) {
+    count(&at.counts.comparisons);
     assert_eq!(rt; value, wanted, "{what}, {at:?}");
 }
 

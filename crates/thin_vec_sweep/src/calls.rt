@@ -19,7 +19,9 @@ pub mod splices;
 use crate::calls::arrays::Listed;
 use crate::calls::clones::{ExtendFromWithin, Resize, ResizeWith};
 use crate::calls::compared::{Compare, Print};
-use crate::calls::conversions::{FromOthers, FromStr, IntoOthers, New, Repeated, WithCapacity};
+use crate::calls::conversions::{
+    FromOthers, FromStr, IntoOthers, New, Repeated, TryTake, WithCapacity,
+};
 use crate::calls::ends::{
     Clear, Insert, InsertMut, InsertReserved, Pop, Push, PushMut, PushReserved, Remove, SwapRemove,
     Truncate,
@@ -29,7 +31,7 @@ use crate::calls::filters::{Dedup, DedupBy, DedupByKey, PopIf, Retain, RetainMut
 use crate::calls::into_iter::{IntoIter, IntoIterClone};
 use crate::calls::joins::{Append, AppendReserved, SplitOff};
 use crate::calls::ranges::{Bounds, Drained, Extracted};
-use crate::calls::reads::{AsMutSlice, Index, IndexMut, Iterate, IterateMut, Read};
+use crate::calls::reads::{AsMutSlice, GetMut, Index, IndexMut, Iterate, IterateMut, Read};
 use crate::calls::replaced::{ReplaceRange, ReplaceRangeFromCopies, ReplaceRangeFromList};
 use crate::calls::rooms::{Reserve, ReserveExact, ShrinkTo, ShrinkToFit};
 use crate::calls::seconds::{
@@ -80,6 +82,7 @@ pub fn every_edit<T: Sample, G: Ruled, R: Abort>(rt: &R, scope: &Scope) {
     sweep::<SplitOff, T, G, R>(rt, scope);
     sweep::<IntoIter, T, G, R>(rt, scope);
     sweep::<IntoOthers, T, G, R>(rt, scope);
+    sweep::<TryTake, T, G, R>(rt, scope);
 }
 
 /// Sweeps the calls that put items in the place of a range, and those that fill room that was
@@ -117,6 +120,7 @@ pub fn every_reading<T: Sample, G: Ruled, R: Abort>(rt: &R, scope: &Scope) {
     sweep::<Iterate, T, G, R>(rt, scope);
     sweep::<AsMutSlice, T, G, R>(rt, scope);
     sweep::<IndexMut, T, G, R>(rt, scope);
+    sweep::<GetMut, T, G, R>(rt, scope);
     sweep::<IterateMut, T, G, R>(rt, scope);
     sweep::<MakeSecond<CloneOn>, T, G, R>(rt, scope);
     sweep::<MakeSecond<CloneAsTrait>, T, G, R>(rt, scope);

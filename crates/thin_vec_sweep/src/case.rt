@@ -50,6 +50,8 @@ pub struct Case<T: Drop, G: Ruled> {
     pub requests: u64,
     /// How many clones are due.
     pub clones: u64,
+    /// Whether the call was left out, since it would take too much memory.
+    pub is_left_out: bool,
 }
 
 impl<T: Sample, G: Ruled> Case<T, G> {
@@ -66,6 +68,7 @@ impl<T: Sample, G: Ruled> Case<T, G> {
             capacity: at.shape.length.saturating_add(at.shape.spare),
             requests: 0,
             clones: 0,
+            is_left_out: false,
         }
     }
 
@@ -93,6 +96,19 @@ impl<T: Sample, G: Ruled> Case<T, G> {
     pub fn exact(&self, additional: usize) -> Option<usize> {
         let want = self.items.len().checked_add(additional)?;
         fitting::<T>(want.max(self.capacity))
+    }
+
+    /// Whether the capacity fits, but would take more memory than there is. Such a call is made only
+    /// where its first request is refused, and left out otherwise.
+    pub fn is_too_much(&mut self, capacity: Option<usize>) -> bool {
+        let is_great = capacity.is_some_and(|capacity| capacity > 1_000_000);
+        self.is_left_out = is_great && self.at.refused != 1 && T::LIMIT < isize::MAX as usize;
+        self.is_left_out
+    }
+
+    /// How many requests the call made, or would make with memory in plenty.
+    pub fn requests_in_turn(&self) -> u64 {
+        if self.is_left_out { 1 } else { self.requests }
     }
 
     /// What a call ends as that gives the list this capacity, and then makes so many clones.
@@ -304,10 +320,11 @@ impl<T: Sample, G: Ruled> Case<T, G> {
         assert_out::<T, R>(rt, &self.at, self.ledger, self.items.len(), self.capacity);
     }
 
-    /// Ends the case, and asserts that nothing of it is left.
+    /// Ends the case, counts it, and asserts that nothing of it is left.
     pub fn end<R: Abort>(self, rt: &R) {
         let at = self.at;
         let ledger = self.ledger;
+        ledger.count_case(at.refused, self.requests);
         drop(self);
         assert_out::<T, R>(rt, &at, ledger, 0, 0);
     }

@@ -4,6 +4,17 @@ use std::cell::Cell;
 use std::process::Abort;
 use thin_testing::Refusing;
 
+/// How much a test has done.
+#[derive(Debug, Drop)]
+pub struct Counts {
+    /// How many cases were run to their end.
+    pub cases: Cell<u64>,
+    /// In how many of them a request was refused.
+    pub refusals: Cell<u64>,
+    /// How many comparisons were made.
+    pub comparisons: Cell<u64>,
+}
+
 /// The allocator of a test's lists, and the counts that its items keep.
 pub struct Ledger {
     /// Where every list of the test has its block from, and every item that owns one.
@@ -18,6 +29,8 @@ pub struct Ledger {
     pub asked: Cell<u64>,
     /// How often an iterator was asked for its hint since `begin`.
     pub hinted: Cell<u64>,
+    /// How much the test has done since it began.
+    pub counts: Counts,
 }
 
 impl Ledger {
@@ -30,6 +43,11 @@ impl Ledger {
             clones: Cell::new(0),
             asked: Cell::new(0),
             hinted: Cell::new(0),
+            counts: Counts {
+                cases: Cell::new(0),
+                refusals: Cell::new(0),
+                comparisons: Cell::new(0),
+            },
         };
         Box::leak(Box::new(alloc, ledger).ok().expect(rt, "memory"))
     }
@@ -42,6 +60,25 @@ impl Ledger {
         self.asked.set(0);
         self.hinted.set(0);
     }
+
+    /// Counts a case that has ended, of which so many requests were made, and whether one of them
+    /// was refused.
+    pub fn count_case(&self, refused: u64, requests: u64) {
+        count(&self.counts.cases);
+        if 0 < refused && refused <= requests {
+            count(&self.counts.refusals);
+        }
+    }
+
+    /// How many cases, refusals and comparisons there were.
+    pub fn counted(&self) -> (u64, u64, u64) {
+        let Counts {
+            cases,
+            refusals,
+            comparisons,
+        } = &self.counts;
+        (cases.get(), refusals.get(), comparisons.get())
+    }
 }
 
 impl Drop for Ledger {
@@ -53,6 +90,7 @@ impl Drop for Ledger {
             clones: _,
             asked: _,
             hinted: _,
+            counts: _,
         } = self;
     }
 }

@@ -3,10 +3,10 @@
 //! (`runs.rt`).
 //!
 //! A sweep makes the call on each shape of a list (`shapes.rt`), with each argument, with memory in
-//! plenty and with its first request refused, its second, and so on until none is. After each it
-//! compares what the call returned, the items, the capacity, how many requests and clones were
-//! made, how many items stand, and how many blocks are out: then, and once the list is gone. With
-//! memory in plenty no call may fail but by an overflow.
+//! plenty and with each of the requests that it made there refused in turn. After each it compares
+//! what the call returned, the items, the capacity, how many requests and clones were made, how
+//! many items stand, and how many blocks are out: then, and once the list is gone. With memory in
+//! plenty no call may fail but by an overflow. That all this is done is tested too (`checks.rt`).
 //!
 //! How a call joins: a struct in a file of `calls/`, with an impl of `Call` (`sweep.rt`), and a
 //! line in `calls.rt`. Its `arguments` says how many arguments are tried on a list of a shape;
@@ -19,7 +19,7 @@
 //! and one that makes a second list an impl of `MakesSecond` (`calls/seconds.rt`). What a closure
 //! returns is in `closures.rt`, steps from both ends are in `walks.rt`: on lists and ranges of up
 //! to 6 items all there are. An iterator that a call is given is one of `claims.rt`, which counts
-//! how often it is asked.
+//! how often it is asked. A call that joins changes a line of the counts in `checks.rt`.
 //!
 //! A growth rule joins by an impl of `Ruled` (`thin_testing`) and a test, and an item type by an
 //! impl of `Sample` (`samples.rt`) and tests. A `Scope` (`sweep.rt`) says which shapes a test
@@ -32,6 +32,8 @@ mod assertions;
 mod calls;
 #[cfg(test)]
 mod case;
+#[cfg(test)]
+mod checks;
 #[cfg(test)]
 mod claims;
 #[cfg(test)]

@@ -98,8 +98,8 @@ impl Shape {
         self.length < 5
     }
 
-    /// How many requests are refused at most, one after another: all, but where items own blocks
-    /// and there are many.
+    /// How often a call is made at most with one argument: with memory in plenty, and with one
+    /// request refused after another, the first 49, or on a long list the first alone.
     pub fn rounds(self) -> u64 {
         if self.is_long() { 2 } else { 50 }
     }

@@ -39,33 +39,36 @@ pub fn sweep<C: Call<T, G>, T: Sample, G: Ruled, R: Abort>(rt: &R, scope: &Scope
     for number in scope.shapes.start..scope.shapes.end {
         let shape = Shape::nth(number);
         for argument in 0..C::arguments(shape) {
-            until_granted::<C, T, G, R>(rt, scope.ledger, shape, argument);
+            each_refusal::<C, T, G, R>(rt, scope.ledger, shape, argument);
         }
     }
 }
 
-// With memory in plenty, and then with the first request refused, the second, and so on until none
-// is.
-fn until_granted<C: Call<T, G>, T: Sample, G: Ruled, R: Abort>(
+// Makes the call with memory in plenty, and then with each request that it made there refused in
+// turn.
+fn each_refusal<C: Call<T, G>, T: Sample, G: Ruled, R: Abort>(
     rt: &R,
     ledger: &'static Ledger,
     shape: Shape,
     argument: usize,
 ) {
-    for refused in 0..shape.rounds() {
-        let at = At {
-            call: C::NAME,
-            shape,
-            argument,
-            refused,
-        };
-        if case::<C, T, G, R>(rt, ledger, at) < refused {
-            return;
+    let mut at = At {
+        call: C::NAME,
+        shape,
+        argument,
+        refused: 0,
+        counts: &ledger.counts,
+    };
+    let requests = case::<C, T, G, R>(rt, ledger, at);
+    for refused in 1..shape.rounds() {
+        if refused <= requests {
+            at.refused = refused;
+            let _requests = case::<C, T, G, R>(rt, ledger, at);
         }
     }
 }
 
-// One case. Returns how many requests the call made.
+// One case. Returns how many requests the call made, or would make with memory in plenty.
 #[inline(never)]
 fn case<C: Call<T, G>, T: Sample, G: Ruled, R: Abort>(
     rt: &R,
@@ -75,7 +78,7 @@ fn case<C: Call<T, G>, T: Sample, G: Ruled, R: Abort>(
     let mut case = Case::new(rt, ledger, at);
     C::run(rt, &mut case, at.argument);
     case.check(rt);
-    let requests = case.requests;
+    let requests = case.requests_in_turn();
     case.end(rt);
     requests
 }

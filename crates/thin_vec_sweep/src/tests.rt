@@ -41,9 +41,19 @@ fn longest<R: Abort>(rt: &R, alloc: Global) -> Scope {
     }
 }
 
+// Asserts that a sweep made at least so many cases, and that in so many of them a request was
+// refused.
+fn assert_swept<R: Abort>(rt: &R, scope: &Scope, cases: u64, refusals: u64) {
+    let counted = scope.ledger.counted();
+    let is_swept = counted.0 >= cases && counted.1 >= refusals;
+    assert!(rt; is_swept, "cases, refusals, comparisons: {counted:?}");
+}
+
 // The growths of lists of such items.
 fn growths<T: Sample, G: Ruled, R: Abort>(rt: &R, alloc: Global) {
-    every_growth::<T, G, R>(rt, &all::<T, R>(rt, alloc));
+    let scope = all::<T, R>(rt, alloc);
+    every_growth::<T, G, R>(rt, &scope);
+    assert_swept(rt, &scope, 30_000, 5_000);
 }
 
 // Their edits.
@@ -51,6 +61,7 @@ fn edits<T: Sample, G: Ruled, R: Abort>(rt: &R, alloc: Global) {
     let scope = all::<T, R>(rt, alloc);
     every_edit::<T, G, R>(rt, &scope);
     every_filter::<T, G, R>(rt, &scope);
+    assert_swept(rt, &scope, 20_000, 400);
 }
 
 // How they are read, and made.
@@ -61,6 +72,7 @@ fn readings<T: Sample, R: Abort>(rt: &R, alloc: Global)
     every_reading::<T, Doubling, R>(rt, &scope);
     every_making::<T, R>(rt, &scope);
     every_array::<T, R>(rt, &scope);
+    assert_swept(rt, &scope, 10_000, 1_000);
 }
 
 // How lists of items that can be copied are read and made.
@@ -73,12 +85,30 @@ fn readings_and_copies<T: Sample + Copy, R: Abort>(rt: &R, alloc: Global)
 
 // How ranges of them give way to others.
 fn replacings<T: Sample, G: Ruled, R: Abort>(rt: &R, alloc: Global) {
-    every_replacing::<T, G, R>(rt, &short(rt, alloc));
+    let scope = short(rt, alloc);
+    every_replacing::<T, G, R>(rt, &scope);
+    assert_swept(rt, &scope, 10_000, 2_000);
 }
 
 // How ranges of them give way to copies.
 fn replacings_by_copies<T: Sample + Copy, R: Abort>(rt: &R, alloc: Global) {
-    every_replacing_by_copies::<T, Doubling, R>(rt, &short(rt, alloc));
+    let scope = short(rt, alloc);
+    every_replacing_by_copies::<T, Doubling, R>(rt, &scope);
+    assert_swept(rt, &scope, 3_000, 500);
+}
+
+// The first shape of a scope, and the one after its last.
+fn ends(scope: &Scope) -> (usize, usize) {
+    (scope.shapes.start, scope.shapes.end)
+}
+
+#[test]
+fn each_scope_has_its_shapes(rt: HostRuntime) {
+    let alloc = rt.alloc();
+    assert_eq!(rt; ends(&all::<u8, _>(&rt, alloc)), (0, 110));
+    assert_eq!(rt; ends(&all::<Inner, _>(&rt, alloc)), (0, 107));
+    assert_eq!(rt; ends(&short(&rt, alloc)), (0, 107));
+    assert_eq!(rt; ends(&longest(&rt, alloc)), (110, 112));
 }
 
 #[test]
@@ -233,7 +263,9 @@ fn sweeps_edits_of_i32_by_powers(rt: HostRuntime) {
 
 #[test]
 fn sweeps_readings_of_i32_by_powers(rt: HostRuntime) {
-    every_reading::<i32, PowerBytes, _>(&rt, &all::<i32, _>(&rt, rt.alloc()));
+    let scope = all::<i32, _>(&rt, rt.alloc());
+    every_reading::<i32, PowerBytes, _>(&rt, &scope);
+    assert_swept(&rt, &scope, 4_000, 500);
 }
 
 #[test]
@@ -269,6 +301,7 @@ fn sweeps_comparisons_and_texts(rt: HostRuntime) {
     let scope = all::<i32, _>(&rt, rt.alloc());
     every_comparing::<(), _>(&rt, &scope);
     every_comparing::<i32, _>(&rt, &scope);
+    assert_swept(&rt, &scope, 1_000, 0);
 }
 
 #[test]
@@ -276,6 +309,7 @@ fn sweeps_bytes_and_bounds(rt: HostRuntime) {
     let scope = all::<u8, _>(&rt, rt.alloc());
     every_call_of_bytes(&rt, &scope);
     every_bound(&rt, &scope);
+    assert_swept(&rt, &scope, 20_000, 1_000);
 }
 
 #[test]
@@ -284,6 +318,7 @@ fn sweeps_growths_of_a_long_list(rt: HostRuntime) {
     every_growth::<Counted, Doubling, _>(&rt, &scope);
     every_replacing::<Counted, Doubling, _>(&rt, &scope);
     every_replacing_by_copies::<i32, Doubling, _>(&rt, &scope);
+    assert_swept(&rt, &scope, 40, 5);
 }
 
 #[test]
@@ -291,6 +326,7 @@ fn sweeps_edits_of_a_long_list(rt: HostRuntime) {
     let scope = longest(&rt, rt.alloc());
     every_edit::<Counted, Doubling, _>(&rt, &scope);
     every_filter::<Counted, Doubling, _>(&rt, &scope);
+    assert_swept(&rt, &scope, 40, 5);
 }
 
 #[test]
@@ -300,4 +336,5 @@ fn sweeps_readings_and_makings_of_a_long_list(rt: HostRuntime) {
     every_making::<Counted, _>(&rt, &scope);
     every_copying::<u64, _>(&rt, &scope);
     every_call_of_bytes(&rt, &scope);
+    assert_swept(&rt, &scope, 40, 5);
 }

@@ -14,26 +14,31 @@ use std::process::Abort;
 use thin_testing::Refusing;
 use thin_vec::{Doubling, ThinVec, ThinVecError, thin_vec};
 
-/// `thin_vec![alloc => x, y]`, with as many items as the shape has: one to three.
+/// `thin_vec![alloc => x, y]` and `thin_vec![in alloc; x, y]`, with as many items as the shape has:
+/// one to three.
 pub struct Listed {}
 
 impl<T: Sample> Call<T, Doubling> for Listed {
-    const NAME: &'static str = "thin_vec![a => x, y]";
+    const NAME: &'static str = "thin_vec![a => x, y], thin_vec![in a; x, y]";
 
     fn arguments(shape: Shape) -> usize {
         match shape.length {
-            1..=3 => shape.alone(1),
+            1..=3 => shape.alone(2),
             _ => 0,
         }
     }
 
-    fn run<R: Abort>(rt: &R, case: &mut Case<T, Doubling>, _argument: usize) {
+    fn run<R: Abort>(rt: &R, case: &mut Case<T, Doubling>, argument: usize) {
         drop(case.take());
         let count = case.at.shape.length;
         let (x, y, z) = (case.item(rt, 1), case.item(rt, 2), case.item(rt, 3));
         let verdict = case.growth(Some(count), 0);
         case.begin();
-        let list = written_out(&case.ledger.alloc, count, x, y, z);
+        let list = if argument == 0 {
+            written_out(&case.ledger.alloc, count, x, y, z)
+        } else {
+            written_out_in(&case.ledger.alloc, count, x, y, z)
+        };
         made(rt, case, list, verdict);
         if verdict == Verdict::Done {
             case.items = numbers(rt, case.ledger, 1, count);
@@ -53,6 +58,21 @@ fn written_out<T: Sample>(
         1 => thin_vec![alloc => x],
         2 => thin_vec![alloc => x, y],
         _ => thin_vec![alloc => x, y, z],
+    }
+}
+
+// The same by the form with `in`.
+fn written_out_in<T: Sample>(
+    alloc: &'static Refusing<Global>,
+    count: usize,
+    x: T,
+    y: T,
+    z: T,
+) -> Result<List<T, Doubling>, ThinVecError> {
+    match count {
+        1 => thin_vec![in alloc; x],
+        2 => thin_vec![in alloc; x, y],
+        _ => thin_vec![in alloc; x, y, z],
     }
 }
 
@@ -80,6 +100,7 @@ fn arrays<T: Sample, const N: usize, R: Abort>(rt: &R, ledger: &'static Ledger)
                     shape,
                     argument: N,
                     refused,
+                    counts: &ledger.counts,
                 };
                 array::<T, N, R>(rt, ledger, at);
             }

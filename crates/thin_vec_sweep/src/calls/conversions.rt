@@ -1,10 +1,11 @@
 //! Lists made from other types, and other types that a list is turned into.
-use crate::calls::rooms::is_too_much;
 use crate::case::{Case, List, Verdict, numbers, put};
 use crate::samples::Sample;
 use crate::shapes::Shape;
 use crate::sweep::Call;
 use std::alloc::Global;
+use std::default::MadeWith;
+use std::mem;
 use std::process::Abort;
 use thin_testing::{Refusing, Ruled};
 use thin_vec::{Doubling, Rejected, ThinVec, ThinVecError, thin_vec};
@@ -55,6 +56,24 @@ fn into_other<T: Sample, G: Ruled>(
     match list.into_boxed_slice(alloc) {
         Ok(boxed) => Ok(boxed.into_vec()),
         Err(refused) => Err(refused),
+    }
+}
+
+/// `mem::try_take`, which leaves an empty list without a block, and asks for no memory.
+pub struct TryTake {}
+
+impl<T: Sample, G: Ruled> Call<T, G> for TryTake {
+    const NAME: &'static str = "mem::try_take";
+
+    fn run<R: Abort>(rt: &R, case: &mut Case<T, G>, _argument: usize) {
+        let items = mem::replace(&mut case.items, Vec::new(case.ledger.global));
+        let capacity = mem::replace(&mut case.capacity, 0);
+        case.begin();
+        let taken = match mem::try_take(&mut case.list) {
+            Ok(list) => Ok(list),
+            Err(_refused) => Err(ThinVecError::OutOfMemory),
+        };
+        case.second(rt, taken, Verdict::Done, items.as_slice(), capacity);
     }
 }
 
@@ -177,7 +196,7 @@ impl<T: Sample> Call<T, Doubling> for WithCapacity {
             _ => usize::MAX,
         };
         let capacity = case.exact(wanted);
-        if is_too_much::<T>(capacity, case.at.refused) {
+        if case.is_too_much(capacity) {
             return;
         }
         let verdict = case.growth(capacity, 0);
@@ -191,29 +210,29 @@ impl<T: Sample> Call<T, Doubling> for WithCapacity {
     }
 }
 
-/// `thin_vec![alloc => x; k]`: k is the length of the shape.
+/// `thin_vec![alloc => x; k]` and `thin_vec![in alloc; x; k]`: k is the length of the shape.
 pub struct Repeated {}
 
 impl<T: Sample> Call<T, Doubling> for Repeated {
-    const NAME: &'static str = "thin_vec![a => x; k]";
+    const NAME: &'static str = "thin_vec![a => x; k], thin_vec![in a; x; k]";
 
     fn arguments(shape: Shape) -> usize {
-        shape.alone(1)
+        shape.alone(2)
     }
 
-    fn run<R: Abort>(rt: &R, case: &mut Case<T, Doubling>, _argument: usize) {
+    fn run<R: Abort>(rt: &R, case: &mut Case<T, Doubling>, argument: usize) {
         drop(case.take());
         let count = case.at.shape.length;
         let item = case.item(rt, FRESH);
         let capacity = case.ruled(count);
         let verdict = case.growth(capacity, count.saturating_sub(1));
         case.begin();
-        made(
-            rt,
-            case,
-            thin_vec![&case.ledger.alloc => item; count],
-            verdict,
-        );
+        let list = if argument == 0 {
+            thin_vec![&case.ledger.alloc => item; count]
+        } else {
+            thin_vec![in &case.ledger.alloc; item; count]
+        };
+        made(rt, case, list, verdict);
         if verdict == Verdict::Done {
             case.items.resize(count, FRESH).expect(rt, "memory");
         }
@@ -224,14 +243,14 @@ impl<T: Sample> Call<T, Doubling> for Repeated {
     }
 }
 
-/// `new`, `default_in` and `thin_vec![alloc =>]`.
+/// `new`, `default_in`, `made_with`, `thin_vec![alloc =>]` and `thin_vec![in alloc]`.
 pub struct New {}
 
 impl<T: Sample> Call<T, Doubling> for New {
-    const NAME: &'static str = "new, default_in, thin_vec![a =>]";
+    const NAME: &'static str = "new, default_in, made_with, thin_vec![a =>], thin_vec![in a]";
 
     fn arguments(shape: Shape) -> usize {
-        if shape.length == 0 { 3 } else { 0 }
+        if shape.length == 0 { 5 } else { 0 }
     }
 
     fn run<R: Abort>(rt: &R, case: &mut Case<T, Doubling>, argument: usize) {
@@ -240,6 +259,8 @@ impl<T: Sample> Call<T, Doubling> for New {
         let list = match argument {
             0 => Ok(ThinVec::new(&case.ledger.alloc)),
             1 => Ok(ThinVec::default_in(&case.ledger.alloc)),
+            2 => Ok(MadeWith::made_with(&case.ledger.alloc)),
+            3 => thin_vec![in &case.ledger.alloc],
             _ => thin_vec![&case.ledger.alloc =>],
         };
         made(rt, case, list, Verdict::Done);

@@ -1,6 +1,5 @@
 //! `extend` and `from_iter`, with a hint that is short, true, too great, or past every capacity.
 use crate::assertions::same;
-use crate::calls::rooms::is_too_much;
 use crate::case::{Case, Verdict, numbers, put, source};
 use crate::claims::Claims;
 use crate::ledger::Ledger;
@@ -239,7 +238,7 @@ fn extension<T: Sample, G: Ruled, R: Abort>(
     let count = shape.count(argument / HINTS);
     let hint = hint::<T>(argument % HINTS, count, shape.length);
     let hinted = case.ruled(hint);
-    if is_too_much::<T>(hinted, case.at.refused) {
+    if case.is_too_much(hinted) {
         return None;
     }
     let claims = claims(rt, case, count, hint);
@@ -320,7 +319,7 @@ fn collection<T: Sample, R: Abort>(
     let hint = hint::<T>(argument, count, 0);
     drop(case.take());
     let hinted = case.exact(hint);
-    if is_too_much::<T>(hinted, case.at.refused) {
+    if case.is_too_much(hinted) {
         return None;
     }
     let claims = claims(rt, case, count, hint);

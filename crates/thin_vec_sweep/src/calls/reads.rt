@@ -127,6 +127,40 @@ impl<T: Sample, G: Ruled> Call<T, G> for IndexMut {
     }
 }
 
+/// `get_mut` of each index, of the length, and of the greatest number: where there is an item, it
+/// is exchanged.
+pub struct GetMut {}
+
+impl<T: Sample, G: Ruled> Call<T, G> for GetMut {
+    const NAME: &'static str = "get_mut";
+
+    fn arguments(shape: Shape) -> usize {
+        shape.indices().saturating_add(1)
+    }
+
+    fn run<R: Abort>(rt: &R, case: &mut Case<T, G>, argument: usize) {
+        let shape = case.at.shape;
+        let index = if argument < shape.indices() {
+            shape.index(argument)
+        } else {
+            usize::MAX
+        };
+        let mut item = case.item(rt, FRESH);
+        case.begin();
+        let mut is_there = false;
+        if let Some(place) = case.list.get_mut(index) {
+            mem::swap(place, &mut item);
+            is_there = true;
+        }
+        let length = case.items.len();
+        same(rt, &case.at, "is there", is_there, index < length);
+        if index < length {
+            let number = mem::replace(&mut case.items[index], FRESH);
+            case.handed(rt, &item, number);
+        }
+    }
+}
+
 /// An iteration over `&mut list`, in which each item comes into the place of the one after it.
 pub struct IterateMut {}
 

@@ -20,7 +20,7 @@ impl<T: Sample, G: Ruled> Call<T, G> for Reserve {
     fn run<R: Abort>(rt: &R, case: &mut Case<T, G>, argument: usize) {
         let additional = additional::<T>(case.at.shape, argument);
         let capacity = case.ruled(additional);
-        if is_too_much::<T>(capacity, case.at.refused) {
+        if case.is_too_much(capacity) {
             return;
         }
         let verdict = case.growth(capacity, 0);
@@ -43,7 +43,7 @@ impl<T: Sample, G: Ruled> Call<T, G> for ReserveExact {
     fn run<R: Abort>(rt: &R, case: &mut Case<T, G>, argument: usize) {
         let additional = additional::<T>(case.at.shape, argument);
         let capacity = case.exact(additional);
-        if is_too_much::<T>(capacity, case.at.refused) {
+        if case.is_too_much(capacity) {
             return;
         }
         let verdict = case.growth(capacity, 0);
@@ -109,14 +109,5 @@ fn additional<T: Sample>(shape: Shape, argument: usize) -> usize {
         Some(3) => isize::MAX as usize,
         Some(4) => usize::MAX - shape.length.min(10_000),
         Some(_) => usize::MAX,
-    }
-}
-
-/// Whether the capacity fits, but would take more memory than there is: then it is only tried where
-/// memory is refused.
-pub fn is_too_much<T: Sample>(capacity: Option<usize>, refused: u64) -> bool {
-    match capacity {
-        Some(capacity) => capacity > 1_000_000 && refused != 1 && T::LIMIT < isize::MAX as usize,
-        None => false,
     }
 }

@@ -232,3 +232,46 @@ fn a_worked_run_under_power_bytes(rt: HostRuntime) {
         &WORKED_POWERS,
     );
 }
+
+// What a command replies on an empty list, or `Never` where the definition, on that model, does
+// something else.
+fn form_beside<'a, R: Abort>(
+    rt: &R,
+    alloc: Lender<'a>,
+    model: Model<u64, Lender<'a>, Doubling>,
+    kind: Kind,
+) -> Form {
+    let mut list = ThinVec::ruled(alloc);
+    let mut model = model;
+    let order = plain(kind, 0, 0, 0, 0, 0);
+    let answer = both(alloc, &mut list, &mut model, order, &Evens, 0).ok();
+    let (form, _cause) = answer.expect(rt, "memory");
+    form
+}
+
+// A model of a list of one item.
+fn one_item<'a, R: Abort>(rt: &R, alloc: Lender<'a>) -> Model<u64, Lender<'a>, Doubling> {
+    let mut model = Model::new(alloc);
+    put(&mut model.items, 1).ok().expect(rt, "memory");
+    model
+}
+
+#[test]
+fn each_difference_from_the_definition_is_found(rt: HostRuntime) {
+    let refusing = Refusing::new(rt.alloc(), 0);
+    let alloc = &refusing;
+    let same = form_beside(&rt, alloc, Model::new(alloc), Kind::Reserve);
+    assert_eq!(rt; same, Form::Done);
+    let other_items = form_beside(&rt, alloc, one_item(&rt, alloc), Kind::Dedup);
+    assert_eq!(rt; other_items, Form::Never);
+    let other_reply = form_beside(&rt, alloc, one_item(&rt, alloc), Kind::Pop);
+    assert_eq!(rt; other_reply, Form::Never);
+    let mut model = Model::new(alloc);
+    model.capacity = 1;
+    let other_capacity = form_beside(&rt, alloc, model, Kind::Reserve);
+    assert_eq!(rt; other_capacity, Form::Never);
+    let block = Box::new(alloc, 1u64).ok().expect(&rt, "memory");
+    let block_more = form_beside(&rt, alloc, Model::new(alloc), Kind::Reserve);
+    assert_eq!(rt; block_more, Form::Never);
+    drop(block);
+}

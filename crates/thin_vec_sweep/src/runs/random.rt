@@ -143,17 +143,58 @@ pub fn assert_alike<'a, T: Sample<Lender<'a>>, G: Ruled, J: Judge<T> + From<u64>
 // rules, and two of them under two more, 100,000.
 const RUNS: u64 = 5_000;
 
-// Asserts that all runs from a seed on are alike.
+// How many commands were done, for how many of them a request was named, and to how many one was
+// refused: the others made fewer requests.
+#[derive(Debug, Drop)]
+struct Tally {
+    commands: u64,
+    named: u64,
+    refused: u64,
+}
+
+impl Tally {
+    // Of no command.
+    fn new() -> Tally {
+        Tally {
+            commands: 0,
+            named: 0,
+            refused: 0,
+        }
+    }
+
+    // Counts these commands too.
+    fn add(&mut self, done: &[Done]) {
+        for (_order, nth, _form, cause) in done {
+            let named = u64::from(*nth > 0);
+            let refused = u64::from(*cause == Some(ThinVecError::OutOfMemory));
+            self.commands = self.commands.saturating_add(1);
+            self.named = self.named.saturating_add(named);
+            self.refused = self.refused.saturating_add(refused);
+        }
+    }
+}
+
+// Asserts that all runs from a seed on are alike, and returns what they did.
 fn assert_all_from<'a, T: Sample<Lender<'a>>, G: Ruled, R: Abort>(
     rt: &R,
     alloc: Lender<'a>,
     global: Global,
     first: u64,
-) {
+) -> Tally {
     let mut done = Vec::new(global);
+    let mut tally = Tally::new();
     for seed in first..first.saturating_add(RUNS) {
         assert_alike::<T, G, Digits, R>(rt, alloc, seed, &mut done);
+        tally.add(done.as_slice());
     }
+    tally
+}
+
+// Asserts that there were so many commands, and that for so many a request was named: both numbers
+// were worked out by another program. To one command of fifty at least a request was refused.
+fn assert_tally<R: Abort>(rt: &R, tally: &Tally, commands: u64, named: u64) {
+    assert_eq!(rt; (tally.commands, tally.named), (commands, named));
+    assert!(rt; tally.refused > commands / 50, "{tally:?}");
 }
 
 // Asserts that all runs are alike, under the rules that `thin_vec` has.
@@ -162,8 +203,10 @@ fn assert_all_alike<'a, T: Sample<Lender<'a>>, R: Abort>(
     alloc: Lender<'a>,
     global: Global,
 ) {
-    assert_all_from::<T, Doubling, R>(rt, alloc, global, 0);
-    assert_all_from::<T, PowerBytes, R>(rt, alloc, global, 10_000);
+    let tally = assert_all_from::<T, Doubling, R>(rt, alloc, global, 0);
+    assert_tally(rt, &tally, 75_199, 64_549);
+    let tally = assert_all_from::<T, PowerBytes, R>(rt, alloc, global, 10_000);
+    assert_tally(rt, &tally, 74_928, 64_471);
 }
 
 // The same under two rules of the tests' own.
@@ -172,8 +215,58 @@ fn assert_alike_by_other_rules<'a, T: Sample<Lender<'a>>, R: Abort>(
     alloc: Lender<'a>,
     global: Global,
 ) {
-    assert_all_from::<T, Threefold, R>(rt, alloc, global, 20_000);
-    assert_all_from::<T, Fourfold, R>(rt, alloc, global, 30_000);
+    let tally = assert_all_from::<T, Threefold, R>(rt, alloc, global, 20_000);
+    assert_tally(rt, &tally, 74_935, 64_505);
+    let tally = assert_all_from::<T, Fourfold, R>(rt, alloc, global, 30_000);
+    assert_tally(rt, &tally, 75_223, 64_590);
+}
+
+// A seed whose run has no command.
+const NO_COMMANDS: u64 = 52;
+
+// How many commands the runs of the first seeds have.
+const COMMANDS: [usize; 12] = [7, 24, 9, 24, 10, 26, 10, 27, 12, 27, 12, 29];
+
+#[test]
+fn each_seed_has_its_own_run(rt: HostRuntime) {
+    let refusing = Refusing::new(rt.alloc(), 0);
+    let mut done = Vec::new(rt.alloc());
+    let mut tally = Tally::new();
+    for (seed, commands) in COMMANDS.iter().enumerate() {
+        assert_alike::<u64, Doubling, Digits, _>(&rt, &refusing, seed as u64, &mut done);
+        assert_eq!(rt; done.len(), *commands, "seed {seed}");
+        tally.add(done.as_slice());
+    }
+    let counted = (tally.commands, tally.named, tally.refused);
+    assert_eq!(rt; counted, (217, 187, 12));
+}
+
+// A block that none of the runs has made.
+fn block<'a, R: Abort>(rt: &R, alloc: Lender<'a>) -> Box<u64, Lender<'a>> {
+    Box::new(alloc, 1).ok().expect(rt, "memory")
+}
+
+#[test]
+fn a_run_finds_a_difference(rt: HostRuntime) {
+    let refusing = Refusing::new(rt.alloc(), 0);
+    let mut done = Vec::new(rt.alloc());
+    let mut dice = Dice { state: 1 };
+    let block = block(&rt, &refusing);
+    let no_commands = runs_alike::<u64, Doubling, Digits>(&refusing, NO_COMMANDS, &mut done);
+    assert_eq!(rt; no_commands.ok(), Some(false));
+    let one = are_alike::<u64, Doubling, Digits>(&refusing, &mut dice, 1, &mut done);
+    assert_eq!(rt; one.ok(), Some(false));
+    drop(block);
+}
+
+#[test]
+#[should_panic(expected = "seed 1, done")]
+fn a_difference_ends_a_test(rt: HostRuntime) {
+    let refusing = Refusing::new(rt.alloc(), 0);
+    let mut done = Vec::new(rt.alloc());
+    let block = block(&rt, &refusing);
+    assert_alike::<u64, Doubling, Digits, _>(&rt, &refusing, 1, &mut done);
+    drop(block);
 }
 
 #[test]

@@ -1,0 +1,269 @@
+//! That the sweep does its work: a small one makes each of its cases, and each comparison fails at
+//! a difference.
+use crate::assertions::At;
+use crate::calls::arrays::every_array;
+use crate::calls::clones::Resize;
+use crate::calls::filling::{Ending, asked};
+use crate::calls::{
+    every_bound, every_call_of_bytes, every_comparing, every_copying, every_edit, every_filter,
+    every_growth, every_making, every_reading, every_replacing, every_replacing_by_copies,
+};
+use crate::case::{Case, List, Verdict, filled};
+use crate::closures::Questions;
+use crate::ledger::Ledger;
+use crate::samples::{Counted, Inner};
+use crate::shapes::Shape;
+use crate::sweep::{Scope, sweep};
+use std::alloc::Global;
+use std::process::Abort;
+use thin_vec::Doubling;
+
+// `resize` by k items makes k requests where there is no spare room: one for the block, and one for
+// each clone but the last. There is a case without a refusal, and one for each request: k + 1, but
+// at most 50. By no items it is tried twice, and by 1 to 9, 17 and 100 once.
+//
+// An empty list without a block: 2 + (2 + .. + 10) + 18 + 50 = 124 cases, and in
+// (1 + .. + 9) + 17 + 49 = 111 of them a request is refused. With room for one item more there is
+// no request by one item: 123 cases, 110 refusals. Each case makes ten comparisons: the answer,
+// seven of `check`, two of `end`.
+#[test]
+fn a_small_sweep_makes_each_case(rt: HostRuntime) {
+    let ledger = Ledger::new(&rt, rt.alloc());
+    let scope = Scope {
+        ledger,
+        shapes: 0..2,
+    };
+    sweep::<Resize, Inner, Doubling, _>(&rt, &scope);
+    assert_eq!(rt; ledger.counted(), (247, 221, 2470));
+}
+
+// Lists of one and of two items, with up to four places beside them.
+fn few<R: Abort>(rt: &R, alloc: Global) -> Scope {
+    Scope {
+        ledger: Ledger::new(rt, alloc),
+        shapes: 5..15,
+    }
+}
+
+// How many cases, refusals and comparisons each list of calls makes on those. A call that joins
+// changes the line of its list, and nothing else does.
+const COUNTS: [(u64, u64, u64); 12] = [
+    // every_growth
+    (6334, 2380, 81767),
+    // every_edit
+    (442, 69, 5012),
+    // every_replacing
+    (844, 174, 9656),
+    // every_replacing_by_copies
+    (412, 77, 4120),
+    // every_filter
+    (645, 0, 7725),
+    // every_reading
+    (300, 50, 3630),
+    // every_making
+    (2184, 904, 23817),
+    // every_copying
+    (460, 200, 4660),
+    // every_comparing
+    (50, 0, 590),
+    // every_array
+    (390, 23, 4336),
+    // every_call_of_bytes
+    (848, 364, 9512),
+    // every_bound
+    (722, 0, 7220),
+];
+
+#[test]
+fn each_call_makes_its_comparisons(rt: HostRuntime) {
+    let alloc = rt.alloc();
+    let growths = few(&rt, alloc);
+    every_growth::<i32, Doubling, _>(&rt, &growths);
+    let edits = few(&rt, alloc);
+    every_edit::<i32, Doubling, _>(&rt, &edits);
+    let replacings = few(&rt, alloc);
+    every_replacing::<i32, Doubling, _>(&rt, &replacings);
+    let copied_in = few(&rt, alloc);
+    every_replacing_by_copies::<i32, Doubling, _>(&rt, &copied_in);
+    let filters = few(&rt, alloc);
+    every_filter::<i32, Doubling, _>(&rt, &filters);
+    let readings = few(&rt, alloc);
+    every_reading::<i32, Doubling, _>(&rt, &readings);
+    let makings = few(&rt, alloc);
+    every_making::<i32, _>(&rt, &makings);
+    let copies = few(&rt, alloc);
+    every_copying::<i32, _>(&rt, &copies);
+    let comparisons = few(&rt, alloc);
+    every_comparing::<i32, _>(&rt, &comparisons);
+    let arrays = few(&rt, alloc);
+    every_array::<i32, _>(&rt, &arrays);
+    let bytes = few(&rt, alloc);
+    every_call_of_bytes(&rt, &bytes);
+    let bounds = few(&rt, alloc);
+    every_bound(&rt, &bounds);
+    let counts = [
+        growths.ledger.counted(),
+        edits.ledger.counted(),
+        replacings.ledger.counted(),
+        copied_in.ledger.counted(),
+        filters.ledger.counted(),
+        readings.ledger.counted(),
+        makings.ledger.counted(),
+        copies.ledger.counted(),
+        comparisons.ledger.counted(),
+        arrays.ledger.counted(),
+        bytes.ledger.counted(),
+        bounds.ledger.counted(),
+    ];
+    assert_eq!(rt; counts, COUNTS);
+}
+
+// A case of two counted items and one place beside them.
+fn two_items<R: Abort>(rt: &R, alloc: Global) -> Case<Counted, Doubling> {
+    let ledger = Ledger::new(rt, alloc);
+    let shape = Shape {
+        length: 2,
+        spare: 1,
+    };
+    let at = At {
+        call: "none",
+        shape,
+        argument: 0,
+        refused: 0,
+        counts: &ledger.counts,
+    };
+    Case::new(rt, ledger, at)
+}
+
+// A block beside the one that a case has.
+fn block<R: Abort>(rt: &R, case: &Case<Counted, Doubling>) -> List<Counted, Doubling> {
+    let shape = Shape {
+        length: 0,
+        spare: 1,
+    };
+    filled(rt, case.ledger, shape, 1)
+}
+
+#[test]
+fn a_case_without_a_call_passes(rt: HostRuntime) {
+    let case = two_items(&rt, rt.alloc());
+    let ledger = case.ledger;
+    case.check(&rt);
+    case.end(&rt);
+    assert_eq!(rt; ledger.counted(), (1, 0, 9));
+}
+
+#[test]
+#[should_panic(expected = "failed: first item that differs, At")]
+fn another_item_is_seen(rt: HostRuntime) {
+    let mut case = two_items(&rt, rt.alloc());
+    if let Some(last) = case.items.last_mut() {
+        *last = 7;
+    }
+    case.check(&rt);
+}
+
+#[test]
+#[should_panic(expected = "failed: length, At")]
+fn an_item_less_is_seen(rt: HostRuntime) {
+    let mut case = two_items(&rt, rt.alloc());
+    let _last = case.items.pop();
+    case.check(&rt);
+}
+
+#[test]
+#[should_panic(expected = "failed: capacity, At")]
+fn another_capacity_is_seen(rt: HostRuntime) {
+    let mut case = two_items(&rt, rt.alloc());
+    case.capacity = 4;
+    case.check(&rt);
+}
+
+#[test]
+#[should_panic(expected = "failed: requests, At")]
+fn a_request_less_is_seen(rt: HostRuntime) {
+    let mut case = two_items(&rt, rt.alloc());
+    case.requests = 1;
+    case.check(&rt);
+}
+
+#[test]
+#[should_panic(expected = "failed: clones, At")]
+fn a_clone_less_is_seen(rt: HostRuntime) {
+    let mut case = two_items(&rt, rt.alloc());
+    case.clones = 1;
+    case.check(&rt);
+}
+
+#[test]
+#[should_panic(expected = "failed: items that are not dropped, At")]
+fn an_item_more_is_seen(rt: HostRuntime) {
+    let case = two_items(&rt, rt.alloc());
+    let item = case.item(&rt, 7);
+    case.check(&rt);
+    drop(item);
+}
+
+#[test]
+#[should_panic(expected = "failed: blocks that are out, At")]
+fn a_block_more_is_seen(rt: HostRuntime) {
+    let case = two_items(&rt, rt.alloc());
+    let block = block(&rt, &case);
+    case.begin();
+    case.check(&rt);
+    drop(block);
+}
+
+#[test]
+#[should_panic(expected = "failed: items that are not dropped, At")]
+fn an_item_that_is_left_is_seen(rt: HostRuntime) {
+    let case = two_items(&rt, rt.alloc());
+    let item = case.item(&rt, 7);
+    case.end(&rt);
+    drop(item);
+}
+
+#[test]
+#[should_panic(expected = "failed: blocks that are out, At")]
+fn a_block_that_is_left_is_seen(rt: HostRuntime) {
+    let case = two_items(&rt, rt.alloc());
+    let block = block(&rt, &case);
+    case.end(&rt);
+    drop(block);
+}
+
+#[test]
+#[should_panic(expected = "failed: answer, At")]
+fn another_answer_is_seen(rt: HostRuntime) {
+    let case = two_items(&rt, rt.alloc());
+    case.answered(&rt, Ok(()), Verdict::NoRoom);
+}
+
+#[test]
+#[should_panic(expected = "failed: item, At")]
+fn another_item_that_is_returned_is_seen(rt: HostRuntime) {
+    let case = two_items(&rt, rt.alloc());
+    let item = case.item(&rt, 7);
+    case.handed(&rt, &item, 8);
+}
+
+#[test]
+#[should_panic(expected = "failed: item, At")]
+fn no_item_for_one_is_seen(rt: HostRuntime) {
+    let case = two_items(&rt, rt.alloc());
+    case.handed_or_none(&rt, None, Some(7));
+}
+
+#[test]
+#[should_panic(expected = "failed: questions, At")]
+fn a_question_less_is_seen(rt: HostRuntime) {
+    let case = two_items(&rt, rt.alloc());
+    Questions::new().end(&rt, &case.at, 1);
+}
+
+#[test]
+#[should_panic(expected = "failed: calls of next and size_hint, At")]
+fn a_call_of_an_iterator_less_is_seen(rt: HostRuntime) {
+    let case = two_items(&rt, rt.alloc());
+    asked(&rt, &case, &Ending::done(1));
+}
