@@ -1,6 +1,7 @@
 -- The lemmas and the steps of the walks. Those that are `pub` are for the crates above too.
 mod SizesLemmas
 mod PowersLemmas
+mod GrowthLemmas
 mod Walks
 mod HeaderMemory
 mod SlotMemory
