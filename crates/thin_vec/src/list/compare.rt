@@ -8,8 +8,8 @@ ghost use Rattle.std.specs.Prelude.{◌≡◌, []};
 
 use crate::list::ThinVec;
 use std::alloc::{AllocError, Allocator};
-use std::default::{Emptied, MadeWith};
 use std::cmp::Ordering;
+use std::default::{Emptied, MadeWith};
 use std::fmt;
 use std::hash::{Hash, Hasher};
 use thin_block::Growth;
