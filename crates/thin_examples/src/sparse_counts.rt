@@ -2,7 +2,7 @@
 //! block.
 ghost use Rattle.std.specs.FinMap as columns;
 ghost use Rattle.std.specs.Option.{unwrap_or};
-ghost use Rattle.std.specs.Prelude.{◌≡◌, ◌↔◌, ◌+◌, ◌-◌, ◌^◌, ◌<◌, ◌/◌, IfErr, IfOk, IfSome, IsNone, IsOk, IsSome, IsTrue, None, OnErr, OnOk, length, min, replicate};
+ghost use Rattle.std.specs.Prelude.{◌≡◌, ◌↔◌, ◌+◌, ◌-◌, ◌^◌, ◌<◌, ◌/◌, IfErr, IfOk, IfSome, IsNone, IsOk, IsSome, IsTrue, None, OnErr, OnOk, Some, length, min, replicate};
 ghost use Rattle.thin_rows.specs.Table.{row_of, value_at, with_value, without_value};
 
 use std::alloc::{AllocError, Allocator, Global};
@@ -36,6 +36,23 @@ pub fn add<A: Allocator>(
     let count = counts.get(row, column).copied().unwrap_or(0);
     counts.set(row, column, count.saturating_add(more))?;
     Ok(())
+}
+
+/// Sets the count at a row and a column, and returns the count that is read there afterwards. A lemma
+/// for callers says that they are the same.
+#[tactic(auto, using(thin_rows::proofs::TableLemmas::written))]
+pub fn set_and_read<A: Allocator>(
+    counts: &mut Rows<u32, A>,
+    row: usize,
+    column: usize,
+    count: u32,
+) -> Result<Option<u32>, AllocError>
+    requires in_bounds { row < length counts.old }
+    ensures value { IfOk result (λ there. there ≡ Some count) }
+    ensures err { OnErr result (counts.new ≡ counts.old) }
+{
+    counts.set(row, column, count)?;
+    Ok(counts.get(row, column).copied())
 }
 
 /// Takes the count at a row and a column out of the table.
