@@ -1,11 +1,11 @@
 //! An allocator for tests, which refuses the request that the test names.
 //!
-//! Take it by reference, as `&Refusing<Global>`: a `&` to an allocator is one too, and `Copy`. Each
-//! call of `allocate`, `grow` or `shrink` is one request, so each growth of a list is one. `grow` and
-//! `shrink` are those of `inner`, which may leave a block where it lies.
+//! Take it by reference, as `&Refusing<Global>`: a `&` to an allocator is one too, and `Copy`. A
+//! request is a call of `allocate`, `grow` or `shrink`, so each growth of a list is one request.
+//! `grow` and `shrink` are those of `inner`, which may leave a block where it lies.
 //!
 //! `blocks` counts the blocks that are out, so that a test sees a leak: no contract says that a
-//! list gives its block back. A block that grows or shrinks counts as the same one.
+//! list gives its block back. A block that grows or shrinks still counts once.
 //!
 //! A contract can't say what a cell holds, so none says which request is refused, or what
 //! `requests` and `blocks` return: the tests show it. What is proved is that the blocks are those
