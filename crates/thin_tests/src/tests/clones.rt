@@ -73,21 +73,28 @@ fn row_37_clone_refused(rt: HostRuntime) {
     assert_same(&rt, drops.get(), 8);
 }
 
-// Puts three items in the place of the first of two, where two clones are granted.
+// Replaces the first of two items by clones of three, of which `granted` succeed: fewer than three.
 fn replace_scarcely(rt: &impl Abort, alloc: Global, drops: &Cell<u32>, granted: &Cell<u32>) {
     let item = || Scarce::new(drops, granted);
     let three = [item(), item(), item()];
     let mut list = thin_vec![alloc => item(), item()].expect(rt, "memory");
     assert_len(rt, &list, 2);
+    let count = granted.get();
     let answer = list.replace_range(0, 1, &three);
     assert_same(rt, answer, Err(ThinVecError::OutOfMemory));
-    assert_same(rt, (list.len(), list.capacity(), drops.get()), (2, 5, 2));
+    assert_same(
+        rt,
+        (list.len(), list.capacity(), drops.get()),
+        (2, 5, count),
+    );
 }
 
 #[test]
 fn a_refused_replace_range_drops_its_clones(rt: HostRuntime) {
-    let drops = Cell::new(0);
-    let granted = Cell::new(2);
-    replace_scarcely(&rt, rt.alloc(), &drops, &granted);
-    assert_same(&rt, drops.get(), 7);
+    for count in 0..3 {
+        let drops = Cell::new(0);
+        let granted = Cell::new(count);
+        replace_scarcely(&rt, rt.alloc(), &drops, &granted);
+        assert_same(&rt, drops.get(), count.saturating_add(5));
+    }
 }

@@ -4,7 +4,6 @@ use crate::tests::assertions::assert_same;
 use crate::tests::items::push;
 use std::alloc::{Allocator, Global};
 use std::fmt::Debug;
-use std::mem::size_of;
 use std::process::Abort;
 use thin_testing::{Refusing, Ruled};
 use thin_vec::{Doubling, Growth, PowerBytes, ThinVec, ThinVecError};
@@ -81,11 +80,12 @@ fn fill<T: Numbered, A: Allocator, G: Growth>(rt: &impl Abort, list: &mut ThinVe
     }
 }
 
-// Pushes to a full list, which fails first and leaves the list as it was.
+// Pushes to a full list of items of `size` bytes, which fails first and leaves the list as it was.
 fn assert_grows<T: Numbered, B: Allocator, G: Ruled>(
     rt: &impl Abort,
     refusing: &Refusing<B>,
     list: &mut ThinVec<T, &Refusing<B>, G>,
+    size: usize,
 ) {
     let full = list.len();
     let longer = full.saturating_add(1);
@@ -93,7 +93,7 @@ fn assert_grows<T: Numbered, B: Allocator, G: Ruled>(
     assert_same(rt, list.push(T::numbered(full)).is_ok(), false);
     assert_numbered(rt, list, full, full);
     push(rt, list, T::numbered(full));
-    assert_numbered(rt, list, longer, G::named(size_of::<T>(), full, longer));
+    assert_numbered(rt, list, longer, G::named(size, full, longer));
     assert_same(rt, refusing.requests(), 2);
 }
 
@@ -101,6 +101,7 @@ fn assert_grows<T: Numbered, B: Allocator, G: Ruled>(
 fn assert_pushes<T: Numbered, B: Allocator, G: Ruled>(
     rt: &impl Abort,
     refusing: &Refusing<B>,
+    size: usize,
     first: usize,
 ) {
     refusing.refuse(0);
@@ -109,7 +110,7 @@ fn assert_pushes<T: Numbered, B: Allocator, G: Ruled>(
     for _ in 0..12 {
         fill(rt, &mut list);
         if list.len() < 600 {
-            assert_grows(rt, refusing, &mut list);
+            assert_grows(rt, refusing, &mut list, size);
         }
     }
     assert_same(rt, (list.len() >= 600, refusing.blocks()), (true, 1));
@@ -167,48 +168,48 @@ fn assert_capacities<T: Numbered, B: Allocator>(
     assert_same(rt, refusing.blocks(), 1);
 }
 
-// Asserts all this of one type of item, for lists about as long as the shortest that stay in place,
-// of 32 words, and capacities up to two words more: some are whole words, and others are not.
-fn assert_type<T: Numbered, B: Allocator>(rt: &impl Abort, refusing: &Refusing<B>) {
+// Asserts all this of one type of item, of `size` bytes. The lists are about as long as the shortest
+// that stay in place, which has 32 words. Their capacities are up to two words more: some are a
+// whole number of words, and others are not.
+fn assert_type<T: Numbered>(rt: &impl Abort, alloc: Global, size: usize) {
+    let refusing = Refusing::new(alloc, 0);
     for first in [0, 5, 261] {
-        assert_pushes::<T, B, Doubling>(rt, refusing, first);
-        assert_pushes::<T, B, PowerBytes>(rt, refusing, first);
+        assert_pushes::<T, Global, Doubling>(rt, &refusing, size, first);
+        assert_pushes::<T, Global, PowerBytes>(rt, &refusing, size, first);
     }
-    let long = 256_usize.checked_div(size_of::<T>()).unwrap_or(0);
+    let long = 256_usize.checked_div(size).unwrap_or(0);
     for len in long.saturating_sub(1)..long.saturating_add(9) {
         for more in 1..10 {
-            assert_capacities::<T, B>(rt, refusing, len, more);
+            assert_capacities::<T, Global>(rt, &refusing, len, more);
         }
     }
 }
 
 #[test]
 fn a_list_of_bytes_grows_and_shrinks_in_place(rt: HostRuntime) {
-    assert_type::<u8, Global>(&rt, &Refusing::new(rt.alloc(), 0));
+    assert_type::<u8>(&rt, rt.alloc(), 1);
 }
 
 #[test]
 fn a_list_of_u16_grows_and_shrinks_in_place(rt: HostRuntime) {
-    assert_type::<u16, Global>(&rt, &Refusing::new(rt.alloc(), 0));
+    assert_type::<u16>(&rt, rt.alloc(), 2);
 }
 
 #[test]
 fn a_list_of_u32_grows_and_shrinks_in_place(rt: HostRuntime) {
-    assert_type::<u32, Global>(&rt, &Refusing::new(rt.alloc(), 0));
+    assert_type::<u32>(&rt, rt.alloc(), 4);
 }
 
 #[test]
 fn a_list_of_words_grows_and_shrinks_in_place(rt: HostRuntime) {
-    let refusing = Refusing::new(rt.alloc(), 0);
-    assert_type::<u64, Global>(&rt, &refusing);
-    assert_type::<(u32, u32), Global>(&rt, &refusing);
+    assert_type::<u64>(&rt, rt.alloc(), 8);
+    assert_type::<(u32, u32)>(&rt, rt.alloc(), 8);
 }
 
 #[test]
 fn a_list_of_pairs_of_words_grows_and_shrinks_in_place(rt: HostRuntime) {
-    let refusing = Refusing::new(rt.alloc(), 0);
-    assert_type::<[u64; 2], Global>(&rt, &refusing);
-    assert_type::<u128, Global>(&rt, &refusing);
+    assert_type::<[u64; 2]>(&rt, rt.alloc(), 16);
+    assert_type::<u128>(&rt, rt.alloc(), 16);
 }
 
 // Pushes 3,000 items. Before each growth a neighbour takes the memory after the list's block, so that

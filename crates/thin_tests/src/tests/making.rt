@@ -3,7 +3,7 @@ use crate::tests::assertions::{assert_counts, assert_same};
 use crate::tests::counted::Counted;
 use std::cell::Cell;
 use thin_testing::Refusing;
-use thin_vec::{ThinVecError, thin_vec};
+use thin_vec::{ThinVec, ThinVecError, thin_vec};
 
 #[test]
 fn a_refused_list_written_out_makes_no_item(rt: HostRuntime) {
@@ -13,4 +13,11 @@ fn a_refused_list_written_out_makes_no_item(rt: HostRuntime) {
     let wanted = Some(ThinVecError::OutOfMemory);
     assert_same(&rt, (refused, drops.get()), (wanted, 0));
     assert_counts(&rt, &refusing, 1, 0);
+}
+
+#[test]
+fn a_long_array_becomes_a_list(rt: HostRuntime) {
+    let list = ThinVec::from_array(rt.alloc(), [7; 5000]);
+    let list = list.ok().expect(&rt, "memory");
+    assert_same(&rt, (list.len(), list.capacity()), (5000, 5000));
 }

@@ -130,15 +130,15 @@ fn prints_each_row_as_a_map(rt: HostRuntime) {
 
 #[test]
 fn prints_a_row_of_many_entries(rt: HostRuntime) {
-    let mut table = Rows::with_rows(rt.alloc(), 1).expect(&rt, "memory");
+    let mut table = Rows::with_rows(rt.alloc(), 7).expect(&rt, "memory");
     for column in 0..7 {
-        assert_set(&rt, &mut table, (0, column), 1, None);
+        assert_set(&rt, &mut table, (6, column), 1, None);
     }
     let line = format!(in rt.alloc(); "{table:?}").expect(&rt, "memory");
     assert_same(
         &rt,
         line.as_str(),
-        "[{0: 1, 1: 1, 2: 1, 3: 1, 4: 1, 5: 1, 6: 1}]",
+        "[{}, {}, {}, {}, {}, {}, {0: 1, 1: 1, 2: 1, 3: 1, 4: 1, 5: 1, 6: 1}]",
     );
 }
 
@@ -154,7 +154,7 @@ fn fill_columns<A: Allocator>(rt: &impl Abort, table: &mut Rows<u32, A>, columns
 #[test]
 fn a_row_takes_thousands_of_columns(rt: HostRuntime) {
     let refusing = refusing_nth(&rt, rt.alloc(), 0);
-    let mut table = Rows::with_rows(refusing, 2).expect(&rt, "memory");
+    let mut table = Rows::with_rows(refusing, 1000).expect(&rt, "memory");
     fill_columns(&rt, &mut table, 4000);
     assert_counts(&rt, refusing, 23, 3);
     assert_same(&rt, table.len(), 8000);
@@ -180,8 +180,9 @@ fn a_full_row_makes_no_request_for_an_entry_that_is_there(rt: HostRuntime) {
     assert_removed(&rt, &mut table, (0, 0), Some(7));
     assert_removed(&rt, &mut table, (0, 9), None);
     assert_value(&rt, &table, (0, 3), Some(8));
-    assert_counts(&rt, refusing, 0, 2);
     assert_entries(&rt, &table, 0, &[(1, 7), (2, 7), (3, 8)]);
+    assert_same(&rt, table.len(), 3);
+    assert_counts(&rt, refusing, 0, 2);
 }
 
 // Sets each entry of a row of so many once more, and asserts that this asks for no memory.

@@ -73,7 +73,7 @@ fn long_commands<R: Abort>(rt: &R, alloc: Global) -> Vec<Command<u32, Global>, G
         Command::Push(1),
         Command::ExtendFromSlice(many()),
         Command::Append(listed(rt, alloc, 6000)),
-        Command::Extend(many(), 0),
+        Command::Extend(many(), 6000),
         Command::Reserve(9000),
         Command::ReserveExact(9000),
         Command::Resize(24003, 1),
