@@ -316,17 +316,29 @@ fn sweeps_bytes_and_bounds(rt: HostRuntime) {
 fn sweeps_growths_of_a_long_list(rt: HostRuntime) {
     let scope = longest(&rt, rt.alloc());
     every_growth::<Counted, Doubling, _>(&rt, &scope);
+    assert_swept(&rt, &scope, 40, 5);
+}
+
+#[test]
+fn sweeps_replaced_ranges_of_a_long_list(rt: HostRuntime) {
+    let scope = longest(&rt, rt.alloc());
     every_replacing::<Counted, Doubling, _>(&rt, &scope);
     every_replacing_by_copies::<i32, Doubling, _>(&rt, &scope);
-    assert_swept(&rt, &scope, 40, 5);
+    assert_swept(&rt, &scope, 30, 5);
 }
 
 #[test]
 fn sweeps_edits_of_a_long_list(rt: HostRuntime) {
     let scope = longest(&rt, rt.alloc());
     every_edit::<Counted, Doubling, _>(&rt, &scope);
-    every_filter::<Counted, Doubling, _>(&rt, &scope);
     assert_swept(&rt, &scope, 40, 5);
+}
+
+#[test]
+fn sweeps_filters_of_a_long_list(rt: HostRuntime) {
+    let scope = longest(&rt, rt.alloc());
+    every_filter::<Counted, Doubling, _>(&rt, &scope);
+    assert_swept(&rt, &scope, 20, 0);
 }
 
 #[test]
