@@ -4,3 +4,4 @@ pub mod CapacityLemmas
 pub mod ClonesLemmas
 pub mod ExtendLemmas
 pub mod InsertRemoveLemmas
+pub mod ReservesLemmas

@@ -1,9 +1,10 @@
 //! The list: its type, what a contract sees of it, and the calls that most callers make.
-ghost use Rattle.std.specs.Prelude.{◌≡◌, ◌↔◌, ◌+◌, ◌-◌, ◌<◌, ◌≤◌, [], ◌∷◌, ◌++◌, IfErr, IsErrAnd, IsOk, IsSome, IsTrue, None, OnErr, OnOk, Some, length, take};
+ghost use Rattle.std.specs.Prelude.{◌≡◌, ◌↔◌, ◌+◌, ◌-◌, ◌<◌, [], ◌∷◌, ◌++◌, IfErr, IsOk, IsSome, IsTrue, None, OnErr, OnOk, Some, length};
 ghost use Rattle.std.specs.Option.{option_to_list};
 ghost use Rattle.thin_block.specs.Capacity.{Fits};
 ghost use Rattle.thin_block.specs.Cost.{moving};
 ghost use Rattle.thin_block.specs.Slots.{empty};
+ghost use Rattle.thin_vec.specs.List.Capacity.{Costs, Keeps, Reserves, causes};
 
 mod append_split;
 mod capacity;
@@ -69,8 +70,7 @@ impl<T, A: Allocator, G: Growth> ThinVec<T, A, G> {
     ghost use Rattle.thin_block.specs.Block.{IsFrom};
     ghost use Rattle.thin_block.specs.Slots.{front};
     ghost use Rattle.thin_vec.specs.Lends.{LendsItems};
-    ghost use Rattle.thin_vec.specs.ThinVec.{HasRoomFor, IsCause, IsNew, IsWithin, capacity_for, cost_at};
-    ghost use Rattle.thin_vec.specs.Cheap.{IsCheap};
+    ghost use Rattle.thin_vec.specs.ThinVec.{HasRoomFor, IsNew, IsWithin};
 
     /// `new` under any growth rule. (own)
     pub fn ruled(alloc: A) -> ThinVec<T, A, G>
@@ -129,26 +129,18 @@ impl<T, A: Allocator, G: Growth> ThinVec<T, A, G> {
     /// It fails only where there is no spare room, and then because the ruled capacity overflows,
     /// or the allocator fails.
     pub fn push(&mut self, value: T) -> Result<(), Rejected<T>>
-        ensures succeeds { HasRoomFor self.old 1 → IsOk result }
-        ensures overflow { capacity_for G.rule T.row self.old 1 ≡ None
-            → IsErrAnd result (λ refused. refused.cause ≡ ThinVecError.CapacityOverflow) }
-        ensures cause { IfErr result
-            (λ refused. IsCause (capacity_for G.rule T.row self.old 1) refused.cause) }
-
-        // The capacity is the ruled one.
+        // On success.
         ensures items { OnOk result (self.new.items ≡ self.old.items ++ value ∷ []) }
-        ensures capacity { OnOk result
-            (capacity_for G.rule T.row self.old 1 ≡ Some self.new.capacity) }
-        ensures had_room { HasRoomFor self.old 1 → self.new.capacity ≡ self.old.capacity }
-        ensures cost { OnOk result (self.new.cost ≡ moving 1 (cost_at self.old self.new.capacity)) }
-        ensures alloc { self.new.alloc ≡ self.old.alloc }
-        ensures cheap { IsCheap self.old → IsCheap self.new }
+        ensures cost { OnOk result (Costs 1 self.old self.new) }
 
-        // Where it fails, the caller has the value back, and nothing changed.
+        // On failure nothing changes, and the value is in the error. A push into spare capacity succeeds.
+        ensures succeeds { HasRoomFor self.old 1 → IsOk result }
         ensures err { OnErr result (self.new ≡ self.old) }
-        ensures value_returned { IfErr result (λ refused. refused.value ≡ value) }
-        ensures never_less { self.old.capacity ≤ self.new.capacity }
-        ensures within { IsWithin T.row self.old × IsWithin T.row self.new }
+        ensures value_returned { IfErr result (λ error. error.value ≡ value) }
+
+        // In any case. The capacity and the cause of a failure are those of `reserve(1)`.
+        ensures reserves { Reserves G.rule T.row 1 self.old self.new (causes result) }
+        ensures keeps { Keeps T.row self.old self.new }
     {
         if let Err(cause) = self.reserve(1) {
             return Err(Rejected { value, cause });
@@ -181,11 +173,9 @@ impl<T, A: Allocator, G: Growth> ThinVec<T, A, G> {
     pub fn push_reserved(&mut self, value: T)
         requires room { HasRoomFor self.old 1 }
         ensures items { self.new.items ≡ self.old.items ++ value ∷ [] }
-        ensures capacity { self.new.capacity ≡ self.old.capacity }
-        ensures alloc { self.new.alloc ≡ self.old.alloc }
         ensures cost { self.new.cost ≡ moving 1 self.old.cost }
-        ensures cheap { IsCheap self.old → IsCheap self.new }
-        ensures within { IsWithin T.row self.old × IsWithin T.row self.new }
+        ensures capacity { self.new.capacity ≡ self.old.capacity }
+        ensures keeps { Keeps T.row self.old self.new }
     {
         let len = self.block.len();
         self.block.put_and_store(len, value, len + 1);

@@ -1,10 +1,10 @@
 //! `thin_vec!`: a list written out, and what it calls.
-ghost use Rattle.std.specs.Prelude.{◌≡◌, [], ◌∷◌, ◌++◌, IfErr, IfOk, IsErrOf, IsOk, None, Some, replicate};
+ghost use Rattle.std.specs.Prelude.{◌≡◌, [], ◌∷◌, ◌++◌, IfOk, IsOk, Some, replicate};
 ghost use Rattle.thin_block.specs.Cost.{moving};
 ghost use Rattle.thin_block.specs.Growth.{doubling, ruled_capacity};
 ghost use Rattle.thin_vec.specs.List.Clones.{CloneEquals, IsResized};
-ghost use Rattle.thin_vec.specs.Cheap.{IsCheap};
-ghost use Rattle.thin_vec.specs.ThinVec.{HasRoomFor, IsCause, IsWithin, cost_new};
+ghost use Rattle.thin_vec.specs.ThinVec.{HasRoomFor, cost_new};
+ghost use Rattle.thin_vec.specs.List.Capacity.{Keeps, TellsOverflow, IsMade};
 
 use crate::list::ThinVec;
 use std::alloc::Allocator;
@@ -65,11 +65,9 @@ macro_rules! count_items {
 pub fn place<T, A: Allocator>(list: &mut ThinVec<T, A>, value: T)
     requires room { HasRoomFor list.old 1 }
     ensures items { list.new.items ≡ list.old.items ++ value ∷ [] }
-    ensures capacity { list.new.capacity ≡ list.old.capacity }
-    ensures alloc { list.new.alloc ≡ list.old.alloc }
     ensures cost { list.new.cost ≡ moving 1 list.old.cost }
-    ensures cheap { IsCheap list.old → IsCheap list.new }
-    ensures within { IsWithin T.row list.old × IsWithin T.row list.new }
+    ensures capacity { list.new.capacity ≡ list.old.capacity }
+    ensures keeps { Keeps T.row list.old list.new }
 {
     list.push_reserved(value);
 }
@@ -81,19 +79,18 @@ pub fn repeated<T: Clone, A: Allocator>(
     value: T,
     count: usize,
 ) -> Result<ThinVec<T, A>, ThinVecError>
-    ensures succeeds { count ≡ 0 → IsOk result }
-    ensures overflow { ruled_capacity doubling T.row 0 count ≡ None
-        → IsErrOf result ThinVecError.CapacityOverflow }
-    ensures cause { IfErr result (IsCause (ruled_capacity doubling T.row 0 count)) }
+    // On success.
     ensures items { IfOk result (λ list. IsResized T.is_clone [] count value list.items) }
     ensures items_if_clones_equal { IfOk result (λ list. CloneEquals T.is_clone value
         → list.items ≡ replicate count value) }
     ensures capacity { IfOk result
         (λ list. ruled_capacity doubling T.row 0 count ≡ Some list.capacity) }
-    ensures alloc { IfOk result (λ list. list.alloc ≡ alloc) }
     ensures cost { IfOk result (λ list. list.cost ≡ moving count (cost_new list.capacity)) }
-    ensures cheap { IfOk result (λ list. IsCheap list) }
-    ensures within { IfOk result (λ list. IsWithin T.row list) }
+    ensures made { IfOk result (IsMade T.row alloc) }
+
+    // On failure.
+    ensures succeeds { count ≡ 0 → IsOk result }
+    ensures overflow { TellsOverflow (ruled_capacity doubling T.row 0 count) result }
 {
     let mut list = ThinVec::new(alloc);
     list.resize(count, value)?;

@@ -31,10 +31,6 @@ pub record MovesAtMost (n : ℕ) (before after : Cost) : Type 0 where
   pub few : moves ≤ n
   pub cost : after ≡ moving moves before
 
--- there was room for k clones beside the items of v, or it was made, and then a clone failed: by
--- then each clone had moved once at most, and each item after the range, which ends at j, at most
--- three times
-pub record IsReplaceStopped {T A : Type 0} (rule : Rule) (R : RattleType) (k j : ℕ)
-    (v w : Thin T A) : Type 0 where
-  pub capacity : capacity_for rule R v k ≡ Some w.capacity
-  pub stopped : MovesAtMost (k + 3 * (length v.items - j)) (cost_at v w.capacity) w.cost
+-- w has cost what growing v cost, and at most n moves more
+abbrev pub CostsAtMost : {T A : Type 0} → ℕ → Thin T A → Thin T A → Type 0
+CostsAtMost n v w = MovesAtMost n (cost_at v w.capacity) w.cost

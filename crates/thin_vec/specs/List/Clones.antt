@@ -55,9 +55,7 @@ pub record StopsAtClone {T : Type 0} (infallible : T → Type 0) (sources : List
   pub fallible : HoldsAt (λ x. ¬ (infallible x)) sources at
   pub cost : after ≡ moving at before
 
--- there was room for k items more than those of v, or it was made, and then the clone of a source
--- failed
-pub record IsCloneRefused {T A : Type 0} (rule : Rule) (R : RattleType) (infallible : T → Type 0)
-    (sources : List T) (k : ℕ) (v w : Thin T A) : Type 0 where
-  pub capacity : capacity_for rule R v k ≡ Some w.capacity
-  pub stopped : StopsAtClone infallible sources (cost_at v w.capacity) w.cost
+-- w has cost what growing v cost, and one move for each source before one whose clone can fail
+abbrev pub CostsUpToClone : {T A : Type 0} → (T → Type 0) → List T → Thin T A → Thin T A → Type 0
+CostsUpToClone infallible sources v w =
+    StopsAtClone infallible sources (cost_at v w.capacity) w.cost

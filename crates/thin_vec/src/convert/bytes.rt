@@ -1,11 +1,11 @@
 //! Lists of bytes: made from text, and written to.
-ghost use Rattle.std.specs.Prelude.{◌≡◌, ◌+◌, [], ◌++◌, IfErr, IfOk, IsErr, IsErrOf, IsOk, None, OnErr, OnOk, Some, length, ◌≤◌};
+ghost use Rattle.std.specs.Prelude.{◌≡◌, ◌+◌, ◌++◌, IfErr, IfOk, IsErr, IsOk, None, OnErr, OnOk, Some, length};
 ghost use Rattle.std.specs.Borrow.{u8};
 ghost use Rattle.std.specs.IoError.{error_kind};
 ghost use Rattle.thin_block.specs.Cost.{moving};
 ghost use Rattle.thin_block.specs.Growth.{exact_capacity};
-ghost use Rattle.thin_vec.specs.Cheap.{IsCheap};
-ghost use Rattle.thin_vec.specs.ThinVec.{HasRoomFor, IsCause, IsWithin};
+ghost use Rattle.thin_vec.specs.ThinVec.{HasRoomFor};
+ghost use Rattle.thin_vec.specs.List.Capacity.{Costs, Keeps, TellsOverflow, IsMade};
 
 use crate::list::ThinVec;
 use std::alloc::Allocator;
@@ -14,31 +14,29 @@ use std::io::{ErrorKind, Write};
 use thin_block::{Growth, ThinVecError};
 
 impl<A: Allocator> ThinVec<u8, A> {
-    ghost use Rattle.thin_vec.specs.ThinVec.{IsCause, cost_new};
+    ghost use Rattle.thin_vec.specs.ThinVec.{cost_new};
 
     /// Makes a list of the text's bytes, with exactly that capacity. An empty text needs no
     /// allocation.
     ///
     /// It fails where that capacity does not fit or the allocator fails.
     pub fn from_str(alloc: A, text: &str) -> Result<ThinVec<u8, A>, ThinVecError>
-        ensures succeeds_empty { length text.now ≡ 0 → IsOk result }
-        ensures overflow { exact_capacity u8 0 (length text.now) ≡ None
-            → IsErrOf result ThinVecError.CapacityOverflow }
-        ensures cause { IfErr result (IsCause (exact_capacity u8 0 (length text.now))) }
+        // On success.
         ensures items { IfOk result (λ list. list.items ≡ text.now) }
         ensures capacity { IfOk result (λ list. list.capacity ≡ length text.now) }
-        ensures alloc { IfOk result (λ list. list.alloc ≡ alloc) }
-        ensures cost { IfOk result
-            (λ list. list.cost ≡ moving (length text.now) (cost_new (length text.now))) }
-        ensures cheap { IfOk result (λ list. IsCheap list) }
-        ensures within { IfOk result (λ list. IsWithin u8 list) }
+        ensures cost { IfOk result (λ list. list.cost ≡ moving (length text.now) (cost_new (length text.now))) }
+        ensures made { IfOk result (IsMade u8 alloc) }
+
+        // On failure.
+        ensures succeeds_empty { length text.now ≡ 0 → IsOk result }
+        ensures overflow { TellsOverflow (exact_capacity u8 0 (length text.now)) result }
     {
         ThinVec::from_copies(alloc, text.as_bytes())
     }
 }
 
 impl<A: Allocator, G: Growth> Write for ThinVec<u8, A, G> {
-    ghost use Rattle.thin_vec.specs.ThinVec.{HasRoomFor, capacity_for, cost_at};
+    ghost use Rattle.thin_vec.specs.ThinVec.{HasRoomFor, capacity_for};
 
     ghost contents = { λ list. Some list.items };
 
@@ -47,23 +45,23 @@ impl<A: Allocator, G: Growth> Write for ThinVec<u8, A, G> {
     /// It fails as `reserve` does, and then nothing changes. The error's kind is `OutOfMemory` also
     /// where the ruled capacity overflows.
     fn write(&mut self, buf: &[u8]) -> io::Result<usize>
-        ensures succeeds { HasRoomFor self.old (length buf.now) → IsOk result }
-        ensures succeeds_empty { length buf.now ≡ 0 → IsOk result }
-        ensures overflow { capacity_for G.rule u8 self.old (length buf.now) ≡ None → IsErr result }
-        ensures cause { IfErr result (λ error. error_kind error ≡ ErrorKind.OutOfMemory) }
+        // On success.
         ensures value { IfOk result (λ count. count ≡ length buf.now) }
         ensures items { OnOk result (self.new.items ≡ self.old.items ++ buf.now) }
         ensures capacity { OnOk result
             (capacity_for G.rule u8 self.old (length buf.now) ≡ Some self.new.capacity) }
+        ensures cost { OnOk result (Costs (length buf.now) self.old self.new) }
+
+        // On failure nothing changes. Into spare capacity it succeeds.
+        ensures succeeds { HasRoomFor self.old (length buf.now) → IsOk result }
+        ensures overflow { capacity_for G.rule u8 self.old (length buf.now) ≡ None → IsErr result }
+        ensures cause { IfErr result (λ error. error_kind error ≡ ErrorKind.OutOfMemory) }
+        ensures err { OnErr result (self.new ≡ self.old) }
+
+        // In any case.
         ensures had_room { HasRoomFor self.old (length buf.now)
             → self.new.capacity ≡ self.old.capacity }
-        ensures cost { OnOk result
-            (self.new.cost ≡ moving (length buf.now) (cost_at self.old self.new.capacity)) }
-        ensures alloc { self.new.alloc ≡ self.old.alloc }
-        ensures cheap { IsCheap self.old → IsCheap self.new }
-        ensures err { OnErr result (self.new ≡ self.old) }
-        ensures never_less { self.old.capacity ≤ self.new.capacity }
-        ensures within { IsWithin u8 self.old × IsWithin u8 self.new }
+        ensures keeps { Keeps u8 self.old self.new }
     {
         self.write_all(buf)?;
         Ok(buf.len())
@@ -73,22 +71,22 @@ impl<A: Allocator, G: Growth> Write for ThinVec<u8, A, G> {
     ///
     /// It fails as `write` does.
     fn write_all(&mut self, buf: &[u8]) -> io::Result<()>
-        ensures succeeds { HasRoomFor self.old (length buf.now) → IsOk result }
-        ensures succeeds_empty { length buf.now ≡ 0 → IsOk result }
-        ensures overflow { capacity_for G.rule u8 self.old (length buf.now) ≡ None → IsErr result }
-        ensures cause { IfErr result (λ error. error_kind error ≡ ErrorKind.OutOfMemory) }
+        // On success.
         ensures items { OnOk result (self.new.items ≡ self.old.items ++ buf.now) }
         ensures capacity { OnOk result
             (capacity_for G.rule u8 self.old (length buf.now) ≡ Some self.new.capacity) }
+        ensures cost { OnOk result (Costs (length buf.now) self.old self.new) }
+
+        // On failure nothing changes. Into spare capacity it succeeds.
+        ensures succeeds { HasRoomFor self.old (length buf.now) → IsOk result }
+        ensures overflow { capacity_for G.rule u8 self.old (length buf.now) ≡ None → IsErr result }
+        ensures cause { IfErr result (λ error. error_kind error ≡ ErrorKind.OutOfMemory) }
+        ensures err { OnErr result (self.new ≡ self.old) }
+
+        // In any case.
         ensures had_room { HasRoomFor self.old (length buf.now)
             → self.new.capacity ≡ self.old.capacity }
-        ensures cost { OnOk result
-            (self.new.cost ≡ moving (length buf.now) (cost_at self.old self.new.capacity)) }
-        ensures alloc { self.new.alloc ≡ self.old.alloc }
-        ensures cheap { IsCheap self.old → IsCheap self.new }
-        ensures err { OnErr result (self.new ≡ self.old) }
-        ensures never_less { self.old.capacity ≤ self.new.capacity }
-        ensures within { IsWithin u8 self.old × IsWithin u8 self.new }
+        ensures keeps { Keeps u8 self.old self.new }
     {
         match self.reserve_run(buf.len()) {
             Ok(()) => (),

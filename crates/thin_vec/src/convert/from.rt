@@ -1,13 +1,13 @@
 //! Lists made from other types.
-ghost use Rattle.std.specs.Prelude.{◌≡◌, ◌≤◌, [], IfErr, IfOk, IsErrAnd, IsErrOf, IsOk, None, length};
+ghost use Rattle.std.specs.Prelude.{◌≡◌, ◌≤◌, [], IfErr, IfOk, IsOk, length};
 ghost use Rattle.std.specs.Box.{boxed_slice_items};
 ghost use Rattle.std.specs.List.{AllZip};
 ghost use Rattle.thin_block.specs.Cost.{moving};
 ghost use Rattle.thin_block.specs.Growth.{exact_capacity};
 ghost use Rattle.thin_block.specs.Slots.{empty};
 ghost use Rattle.thin_vec.specs.List.Clones.{ClonesEqual};
-ghost use Rattle.thin_vec.specs.Cheap.{IsCheap};
-ghost use Rattle.thin_vec.specs.ThinVec.{IsCause, IsWithin, cost_new};
+ghost use Rattle.thin_vec.specs.ThinVec.{IsWithin, cost_new};
+ghost use Rattle.thin_vec.specs.List.Capacity.{TellsOverflow, IsMade, causes};
 
 use crate::errors::Rejected;
 use crate::list::ThinVec;
@@ -27,17 +27,16 @@ impl<T, A: Allocator> ThinVec<T, A> {
         alloc: A,
         items: [T; N],
     ) -> Result<ThinVec<T, A>, Rejected<[T; N]>>
-        ensures succeeds { N ≡ 0 → IsOk result }
-        ensures overflow { exact_capacity T.row 0 N ≡ None
-            → IsErrAnd result (λ refused. refused.cause ≡ ThinVecError.CapacityOverflow) }
-        ensures cause { IfErr result (λ refused. IsCause (exact_capacity T.row 0 N) refused.cause) }
+        // On success.
         ensures items { IfOk result (λ list. list.items ≡ items) }
         ensures capacity { IfOk result (λ list. list.capacity ≡ N) }
-        ensures alloc { IfOk result (λ list. list.alloc ≡ alloc) }
         ensures cost { IfOk result (λ list. list.cost ≡ moving N (cost_new N)) }
-        ensures cheap { IfOk result (λ list. IsCheap list) }
-        ensures value_returned { IfErr result (λ refused. refused.value ≡ items) }
-        ensures within { IfOk result (λ list. IsWithin T.row list) }
+        ensures made { IfOk result (IsMade T.row alloc) }
+
+        // On failure the array is in the error.
+        ensures succeeds { N ≡ 0 → IsOk result }
+        ensures value_returned { IfErr result (λ error. error.value ≡ items) }
+        ensures overflow { TellsOverflow (exact_capacity T.row 0 N) (causes result) }
     {
         match ThinVec::with_capacity(alloc, N) {
             Ok(mut list) => {
@@ -62,19 +61,16 @@ impl<T, A: Allocator> ThinVec<T, A> {
         alloc: A,
         items: Vec<T, B>,
     ) -> Result<ThinVec<T, A>, Rejected<Vec<T, B>>>
-        ensures succeeds_empty { length items.items ≡ 0 → IsOk result }
-        ensures overflow { exact_capacity T.row 0 (length items.items) ≡ None
-            → IsErrAnd result (λ refused. refused.cause ≡ ThinVecError.CapacityOverflow) }
-        ensures cause { IfErr result
-            (λ refused. IsCause (exact_capacity T.row 0 (length items.items)) refused.cause) }
+        // On success.
         ensures items { IfOk result (λ list. list.items ≡ items.items) }
         ensures capacity { IfOk result (λ list. list.capacity ≡ length items.items) }
-        ensures alloc { IfOk result (λ list. list.alloc ≡ alloc) }
-        ensures cost { IfOk result (λ list. list.cost ≡ moving (length items.items)
-            (cost_new (length items.items))) }
-        ensures cheap { IfOk result (λ list. IsCheap list) }
-        ensures value_returned { IfErr result (λ refused. refused.value ≡ items) }
-        ensures within { IfOk result (λ list. IsWithin T.row list) }
+        ensures cost { IfOk result (λ list. list.cost ≡ moving (length items.items) (cost_new (length items.items))) }
+        ensures made { IfOk result (IsMade T.row alloc) }
+
+        // On failure the vector is in the error.
+        ensures succeeds_empty { length items.items ≡ 0 → IsOk result }
+        ensures value_returned { IfErr result (λ error. error.value ≡ items) }
+        ensures overflow { TellsOverflow (exact_capacity T.row 0 (length items.items)) (causes result) }
     {
         match ThinVec::with_capacity(alloc, items.len()) {
             Ok(mut list) => {
@@ -97,20 +93,16 @@ impl<T, A: Allocator> ThinVec<T, A> {
         alloc: A,
         items: BoxedSlice<T, B>,
     ) -> Result<ThinVec<T, A>, Rejected<BoxedSlice<T, B>>>
-        ensures succeeds_empty { length (boxed_slice_items items) ≡ 0 → IsOk result }
-        ensures overflow { exact_capacity T.row 0 (length (boxed_slice_items items)) ≡ None
-            → IsErrAnd result (λ refused. refused.cause ≡ ThinVecError.CapacityOverflow) }
-        ensures cause { IfErr result
-            (λ refused. IsCause (exact_capacity T.row 0 (length (boxed_slice_items items)))
-            refused.cause) }
+        // On success.
         ensures items { IfOk result (λ list. list.items ≡ boxed_slice_items items) }
         ensures capacity { IfOk result (λ list. list.capacity ≡ length (boxed_slice_items items)) }
-        ensures alloc { IfOk result (λ list. list.alloc ≡ alloc) }
-        ensures cost { IfOk result (λ list. list.cost ≡ moving (length (boxed_slice_items items))
-            (cost_new (length (boxed_slice_items items)))) }
-        ensures cheap { IfOk result (λ list. IsCheap list) }
-        ensures value_returned { IfErr result (λ refused. refused.value ≡ items) }
-        ensures within { IfOk result (λ list. IsWithin T.row list) }
+        ensures cost { IfOk result (λ list. list.cost ≡ moving (length (boxed_slice_items items)) (cost_new (length (boxed_slice_items items)))) }
+        ensures made { IfOk result (IsMade T.row alloc) }
+
+        // On failure the boxed slice is in the error.
+        ensures succeeds_empty { length (boxed_slice_items items) ≡ 0 → IsOk result }
+        ensures value_returned { IfErr result (λ error. error.value ≡ items) }
+        ensures overflow { TellsOverflow (exact_capacity T.row 0 (length (boxed_slice_items items))) (causes result) }
     {
         match ThinVec::with_capacity(alloc, items.len()) {
             Ok(mut list) => {
@@ -146,17 +138,15 @@ impl<T: Copy, A: Allocator> ThinVec<T, A> {
     ///
     /// It fails where a capacity of their number does not fit or the allocator fails.
     pub fn from_copies(alloc: A, items: &[T]) -> Result<ThinVec<T, A>, ThinVecError>
-        ensures succeeds_empty { length items.now ≡ 0 → IsOk result }
-        ensures overflow { exact_capacity T.row 0 (length items.now) ≡ None
-            → IsErrOf result ThinVecError.CapacityOverflow }
-        ensures cause { IfErr result (IsCause (exact_capacity T.row 0 (length items.now))) }
+        // On success.
         ensures items { IfOk result (λ list. list.items ≡ items.now) }
         ensures capacity { IfOk result (λ list. list.capacity ≡ length items.now) }
-        ensures alloc { IfOk result (λ list. list.alloc ≡ alloc) }
-        ensures cost { IfOk result
-            (λ list. list.cost ≡ moving (length items.now) (cost_new (length items.now))) }
-        ensures cheap { IfOk result (λ list. IsCheap list) }
-        ensures within { IfOk result (λ list. IsWithin T.row list) }
+        ensures cost { IfOk result (λ list. list.cost ≡ moving (length items.now) (cost_new (length items.now))) }
+        ensures made { IfOk result (IsMade T.row alloc) }
+
+        // On failure.
+        ensures succeeds_empty { length items.now ≡ 0 → IsOk result }
+        ensures overflow { TellsOverflow (exact_capacity T.row 0 (length items.now)) result }
     {
         match ThinVec::with_capacity(alloc, items.len()) {
             Ok(mut list) => {
@@ -176,19 +166,17 @@ impl<T: Clone, A: Allocator> ThinVec<T, A> {
     /// and then the clones made before are dropped.
     #[tactic(auto, using(thin_block::proofs::CapacityLemmas::exact))]
     pub fn from_slice(alloc: A, items: &[T]) -> Result<ThinVec<T, A>, ThinVecError>
-        ensures succeeds_empty { length items.now ≡ 0 → IsOk result }
-        ensures overflow { exact_capacity T.row 0 (length items.now) ≡ None
-            → IsErrOf result ThinVecError.CapacityOverflow }
-        ensures cause { IfErr result (IsCause (exact_capacity T.row 0 (length items.now))) }
+        // On success.
         ensures items { IfOk result (λ list. AllZip T.is_clone items.now list.items) }
         ensures items_if_clones_equal { IfOk result (λ list. ClonesEqual T.is_clone
             → list.items ≡ items.now) }
         ensures capacity { IfOk result (λ list. list.capacity ≡ length items.now) }
-        ensures alloc { IfOk result (λ list. list.alloc ≡ alloc) }
-        ensures cost { IfOk result
-            (λ list. list.cost ≡ moving (length items.now) (cost_new (length items.now))) }
-        ensures cheap { IfOk result (λ list. IsCheap list) }
-        ensures within { IfOk result (λ list. IsWithin T.row list) }
+        ensures cost { IfOk result (λ list. list.cost ≡ moving (length items.now) (cost_new (length items.now))) }
+        ensures made { IfOk result (IsMade T.row alloc) }
+
+        // On failure.
+        ensures succeeds_empty { length items.now ≡ 0 → IsOk result }
+        ensures overflow { TellsOverflow (exact_capacity T.row 0 (length items.now)) result }
     {
         if !fits::<T>(items.len()) {
             return Err(ThinVecError::CapacityOverflow);

@@ -3,6 +3,7 @@ ghost use Rattle.std.specs.Prelude.{◌≡◌, ◌+◌, ◌<◌, ◌≤◌, leng
 ghost use Rattle.std.specs.Fn.{CalledAtPairMut, ComparesKeys};
 ghost use Rattle.std.specs.List.{dedup};
 ghost use Rattle.thin_block.specs.Cost.{moving};
+ghost use Rattle.thin_vec.specs.List.Capacity.{Keeps};
 
 use crate::list::ThinVec;
 use crate::open_block::dedup::AsksPairs;
@@ -10,7 +11,6 @@ use std::alloc::Allocator;
 use thin_block::Growth;
 
 impl<T: Drop, A: Allocator, G: Growth> ThinVec<T, A, G> {
-    ghost use Rattle.thin_vec.specs.Cheap.{IsCheap};
     ghost use Rattle.thin_vec.specs.Edits.Dedup.{IsDedupedBy, IsDedupedTo};
     ghost use Rattle.thin_vec.specs.ThinVec.{IsWithin};
 
@@ -25,9 +25,7 @@ impl<T: Drop, A: Allocator, G: Growth> ThinVec<T, A, G> {
         ensures deduped { IsDedupedBy (CalledAtPairMut F.FnMut) same self.old self.new }
         ensures bound { length self.new.items ≤ length self.old.items }
         ensures capacity { self.new.capacity ≡ self.old.capacity }
-        ensures alloc { self.new.alloc ≡ self.old.alloc }
-        ensures cheap { IsCheap self.old → IsCheap self.new }
-        ensures within { IsWithin T.row self.old × IsWithin T.row self.new }
+        ensures keeps { Keeps T.row self.old self.new }
     {
         let mut judge = Deduping { same };
         self.dedup_those(&mut judge);
@@ -61,9 +59,7 @@ impl<T: Drop, A: Allocator, G: Growth> ThinVec<T, A, G> {
         ensures deduped { IsDedupedBy (ComparesKeys F.FnMut K.eq) key self.old self.new }
         ensures bound { length self.new.items ≤ length self.old.items }
         ensures capacity { self.new.capacity ≡ self.old.capacity }
-        ensures alloc { self.new.alloc ≡ self.old.alloc }
-        ensures cheap { IsCheap self.old → IsCheap self.new }
-        ensures within { IsWithin T.row self.old × IsWithin T.row self.new }
+        ensures keeps { Keeps T.row self.old self.new }
     {
         let mut judge = Keying { key };
         self.dedup_those(&mut judge);
@@ -72,7 +68,6 @@ impl<T: Drop, A: Allocator, G: Growth> ThinVec<T, A, G> {
 }
 
 impl<T: PartialEq + Drop, A: Allocator, G: Growth> ThinVec<T, A, G> {
-    ghost use Rattle.thin_vec.specs.Cheap.{IsCheap};
     ghost use Rattle.thin_vec.specs.Edits.Retain.{moved_up};
     ghost use Rattle.thin_vec.specs.Edits.Dedup.{unlike};
     ghost use Rattle.thin_vec.specs.ThinVec.{IsWithin};
@@ -83,13 +78,11 @@ impl<T: PartialEq + Drop, A: Allocator, G: Growth> ThinVec<T, A, G> {
     /// What moves is as for `retain`.
     pub fn dedup(&mut self)
         ensures items { self.new.items ≡ dedup T.eq self.old.items }
-        ensures bound { length self.new.items ≤ length self.old.items }
-        ensures capacity { self.new.capacity ≡ self.old.capacity }
-        ensures alloc { self.new.alloc ≡ self.old.alloc }
         ensures cost { self.new.cost ≡ moving (moved_up (unlike T.eq self.old.items))
             self.old.cost }
-        ensures cheap { IsCheap self.old → IsCheap self.new }
-        ensures within { IsWithin T.row self.old × IsWithin T.row self.new }
+        ensures bound { length self.new.items ≤ length self.old.items }
+        ensures capacity { self.new.capacity ≡ self.old.capacity }
+        ensures keeps { Keeps T.row self.old self.new }
     {
         let mut judge = Comparing {};
         self.dedup_those(&mut judge);

@@ -1,11 +1,11 @@
 //! `replace_range`: a range of a list's items is replaced by clones of others, all or nothing.
-ghost use Rattle.std.specs.Prelude.{◌≡◌, ◌⊎◌, ◌+◌, ◌-◌, ◌*◌, ◌==◌, ◌<◌, ◌≤◌, ◌++◌, All, IfErr, IsErrOf, IsOk, None, OnErr, OnOk, Some, drop, if◌then◌else◌, length, take};
+ghost use Rattle.std.specs.Prelude.{◌≡◌, ◌⊎◌, ◌+◌, ◌-◌, ◌*◌, ◌==◌, ◌<◌, ◌≤◌, ◌++◌, All, IfErr, IsOk, OnErr, OnOk, drop, if◌then◌else◌, length, take};
 ghost use Rattle.std.specs.List.{replace_range};
 ghost use Rattle.thin_block.specs.Cost.{moving};
-ghost use Rattle.thin_vec.specs.Cheap.{IsCheap};
 ghost use Rattle.thin_vec.specs.List.Clones.{ClonesEqual};
-ghost use Rattle.thin_vec.specs.Edits.ReplaceRange.{IsReplaceStopped, MovesAtMost, ReplacesByClones, moves_cloning, moves_replacing};
-ghost use Rattle.thin_vec.specs.ThinVec.{HasRoomFor, IsCause, IsWithin, capacity_for, cost_at};
+ghost use Rattle.thin_vec.specs.Edits.ReplaceRange.{MovesAtMost, ReplacesByClones, moves_cloning, moves_replacing, CostsAtMost};
+ghost use Rattle.thin_vec.specs.ThinVec.{HasRoomFor, IsWithin};
+ghost use Rattle.thin_vec.specs.List.Capacity.{Costs, Keeps, Reserves};
 
 use crate::list::ThinVec;
 use std::alloc::Allocator;
@@ -26,36 +26,28 @@ impl<T: Clone, A: Allocator, G: Growth> ThinVec<T, A, G> {
     ) -> Result<(), ThinVecError>
         requires start_le_end { start ≤ end }
         requires in_bounds { end ≤ length self.old.items }
-        ensures succeeds { HasRoomFor self.old (length items.now) → All T.is_infallible items.now
-            → IsOk result }
-        ensures succeeds_empty { length items.now ≡ 0 → IsOk result }
-        ensures overflow { capacity_for G.rule T.row self.old (length items.now) ≡ None
-            → IsErrOf result ThinVecError.CapacityOverflow }
-        ensures cause { IfErr result (IsCause (capacity_for G.rule T.row self.old
-            (length items.now))) }
 
-        // The capacity is the ruled one.
+        // On success.
         ensures items { OnOk result (ReplacesByClones T.is_clone self.old.items start end items.now
             self.new.items) }
         ensures items_if_clones_equal { OnOk result (ClonesEqual T.is_clone
-            → self.new.items ≡ replace_range self.old.items start end items.now) }
-        ensures capacity { OnOk result (capacity_for G.rule T.row self.old (length items.now)
-            ≡ Some self.new.capacity) }
-        ensures had_room { HasRoomFor self.old (length items.now)
-            → self.new.capacity ≡ self.old.capacity }
-        ensures cost { OnOk result (self.new.cost
-            ≡ moving (moves_cloning self.old start end (length items.now))
-            (cost_at self.old self.new.capacity)) }
-        ensures alloc { self.new.alloc ≡ self.old.alloc }
-        ensures cheap { IsCheap self.old → IsCheap self.new }
+            → self.new.items ≡ (take start self.old.items ++ items.now) ++ drop end self.old.items) }
+        ensures cost { OnOk result
+            (Costs (moves_cloning self.old start end (length items.now)) self.old self.new) }
 
-        // Where it fails, nothing changed, or there was room and a clone failed.
+        // It fails if it cannot grow: then nothing changes. It fails also if a clone fails: then the
+        // clones made are dropped, the items are as before, and the new capacity stays.
+        ensures succeeds { HasRoomFor self.old (length items.now) → All T.is_infallible items.now
+            → IsOk result }
         ensures err_items { OnErr result (self.new.items ≡ self.old.items) }
-        ensures refused { OnErr result ((self.new ≡ self.old)
-            ⊎ IsReplaceStopped G.rule T.row (length items.now) end self.old self.new) }
         ensures err { All T.is_infallible items.now → OnErr result (self.new ≡ self.old) }
-        ensures never_less { self.old.capacity ≤ self.new.capacity }
-        ensures within { IsWithin T.row self.old × IsWithin T.row self.new }
+        ensures err_cost { OnErr result ((self.new ≡ self.old) ⊎ CostsAtMost
+            (length items.now + 3 * (length self.old.items - end)) self.old self.new) }
+
+        // In any case. The capacity and the cause of a failure are those of `reserve` for all the
+        // clones, which are made beside the old items.
+        ensures reserves { Reserves G.rule T.row (length items.now) self.old self.new result }
+        ensures keeps { Keeps T.row self.old self.new }
     {
         self.reserve(items.len())?;
         self.replace_reserved_by_clones(start, end, items)

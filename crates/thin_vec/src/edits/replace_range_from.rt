@@ -1,11 +1,11 @@
 //! A range of a list's items is replaced by copies, or by the items of a list, all or nothing.
-ghost use Rattle.std.specs.Prelude.{◌≡◌, ◌+◌, ◌-◌, ◌==◌, ◌<◌, ◌≤◌, [], IfErr, IsErrOf, IsOk, None, OnErr, OnOk, Some, drop, if◌then◌else◌, length, take};
+ghost use Rattle.std.specs.Prelude.{◌≡◌, ◌+◌, ◌-◌, ◌==◌, ◌<◌, ◌≤◌, ◌++◌, [], IsOk, OnErr, OnOk, drop, if◌then◌else◌, length, take};
 ghost use Rattle.std.specs.List.{replace_range};
 ghost use Rattle.thin_block.specs.Cost.{moving, no_cost};
-ghost use Rattle.thin_vec.specs.Cheap.{IsCheap};
 ghost use Rattle.thin_vec.specs.Open.{IsOf};
 ghost use Rattle.thin_vec.specs.Edits.ReplaceRange.{moves_replacing};
-ghost use Rattle.thin_vec.specs.ThinVec.{HasRoomFor, IsCause, IsWithin, capacity_for, cost_at};
+ghost use Rattle.thin_vec.specs.ThinVec.{HasRoomFor, IsWithin};
+ghost use Rattle.thin_vec.specs.List.Capacity.{Costs, Keeps, Reserves};
 
 use crate::list::ThinVec;
 use crate::open_block::OpenBlock;
@@ -26,28 +26,23 @@ impl<T: Copy, A: Allocator, G: Growth> ThinVec<T, A, G> {
     ) -> Result<(), ThinVecError>
         requires start_le_end { start ≤ end }
         requires in_bounds { end ≤ length self.old.items }
+
+        // On success.
+        ensures items { OnOk result (self.new.items
+            ≡ (take start self.old.items ++ items.now) ++ drop end self.old.items) }
+        ensures cost { OnOk result (Costs
+            (moves_replacing self.old start end (length items.now)) self.old self.new) }
+
+        // On failure nothing changes. A range that gets no longer, or spare capacity, is enough to succeed.
         ensures succeeds { HasRoomFor self.old (length items.now - (end - start)) → IsOk result }
         ensures succeeds_shorter { length items.now ≤ end - start → IsOk result }
-        ensures overflow { capacity_for G.rule T.row self.old (length items.now - (end - start))
-            ≡ None → IsErrOf result ThinVecError.CapacityOverflow }
-        ensures cause { IfErr result (IsCause (capacity_for G.rule T.row self.old
-            (length items.now - (end - start)))) }
-
-        // The capacity is the ruled one.
-        ensures items { OnOk result (self.new.items
-            ≡ replace_range self.old.items start end items.now) }
-        ensures capacity { OnOk result (capacity_for G.rule T.row self.old (length items.now -
-            (end - start)) ≡ Some self.new.capacity) }
-        ensures had_room { HasRoomFor self.old (length items.now - (end - start))
-            → self.new.capacity ≡ self.old.capacity }
-        ensures cost { OnOk result (self.new.cost
-            ≡ moving (moves_replacing self.old start end (length items.now))
-            (cost_at self.old self.new.capacity)) }
-        ensures alloc { self.new.alloc ≡ self.old.alloc }
-        ensures cheap { IsCheap self.old → IsCheap self.new }
         ensures err { OnErr result (self.new ≡ self.old) }
-        ensures never_less { self.old.capacity ≤ self.new.capacity }
-        ensures within { IsWithin T.row self.old × IsWithin T.row self.new }
+
+        // In any case. The capacity and the cause of a failure are those of `reserve` for the items
+        // beyond the range's places.
+        ensures reserves { Reserves G.rule T.row (length items.now - (end - start)) self.old self.new
+            result }
+        ensures keeps { Keeps T.row self.old self.new }
     {
         match self.reserve(items.len().saturating_sub(end - start)) {
             Ok(()) => (),
@@ -89,36 +84,25 @@ impl<T: Drop, A: Allocator, G: Growth> ThinVec<T, A, G> {
     ) -> Result<(), ThinVecError>
         requires start_le_end { start ≤ end }
         requires in_bounds { end ≤ length self.old.items }
-        ensures succeeds { HasRoomFor self.old (length other.old.items - (end - start))
-            → IsOk result }
-        ensures succeeds_shorter { length other.old.items ≤ end - start → IsOk result }
-        ensures overflow { capacity_for G.rule T.row self.old (length other.old.items -
-            (end - start)) ≡ None → IsErrOf result ThinVecError.CapacityOverflow }
-        ensures cause { IfErr result (IsCause (capacity_for G.rule T.row self.old
-            (length other.old.items - (end - start)))) }
 
-        // The capacity is the ruled one.
+        // On success, `other` is empty, and keeps its capacity.
         ensures items { OnOk result (self.new.items
-            ≡ replace_range self.old.items start end other.old.items) }
-        ensures capacity { OnOk result (capacity_for G.rule T.row self.old
-            (length other.old.items - (end - start)) ≡ Some self.new.capacity) }
-        ensures had_room { HasRoomFor self.old (length other.old.items - (end - start))
-            → self.new.capacity ≡ self.old.capacity }
-        ensures cost { OnOk result (self.new.cost
-            ≡ moving (moves_replacing self.old start end (length other.old.items))
-            (cost_at self.old self.new.capacity)) }
-        ensures alloc { self.new.alloc ≡ self.old.alloc }
-        ensures cheap { IsCheap self.old → IsCheap self.new }
+            ≡ (take start self.old.items ++ other.old.items) ++ drop end self.old.items) }
+        ensures cost { OnOk result (Costs
+            (moves_replacing self.old start end (length other.old.items)) self.old self.new) }
+        ensures other { OnOk result (other.new ≡ record other.old { items = [] }) }
 
-        // The other list keeps its block.
-        ensures other_items { OnOk result (other.new.items ≡ []) }
-        ensures other_changes { other.new ≡ record other.old { items = other.new.items } }
-
-        // Where it fails, nothing changed.
+        // On failure neither list changes. A range that gets no longer, or spare capacity, is enough to succeed.
+        ensures succeeds { HasRoomFor self.old (length other.old.items - (end - start)) → IsOk result }
+        ensures succeeds_shorter { length other.old.items ≤ end - start → IsOk result }
         ensures err { OnErr result (self.new ≡ self.old) }
         ensures other_err { OnErr result (other.new ≡ other.old) }
-        ensures never_less { self.old.capacity ≤ self.new.capacity }
-        ensures within { IsWithin T.row self.old × IsWithin T.row self.new }
+
+        // In any case. The capacity and the cause of a failure are those of `reserve` for the items
+        // beyond the range's places.
+        ensures reserves { Reserves G.rule T.row (length other.old.items - (end - start)) self.old self.new
+            result }
+        ensures keeps { Keeps T.row self.old self.new }
         ensures other_within { IsWithin T.row other.old × IsWithin T.row other.new }
     {
         match self.reserve(other.len().saturating_sub(end - start)) {

@@ -6,6 +6,7 @@
 ghost use Rattle.std.specs.Prelude.{◌≡◌, ◌<◌, ◌≤◌, length};
 ghost use Rattle.std.specs.List.Retain.{IsFiltered};
 ghost use Rattle.std.specs.Fn.{CalledAt, CalledAtMut};
+ghost use Rattle.thin_vec.specs.List.Capacity.{Keeps};
 
 use crate::list::ThinVec;
 use crate::open_block::sift::Asks;
@@ -13,7 +14,6 @@ use std::alloc::Allocator;
 use thin_block::Growth;
 
 impl<T: Drop, A: Allocator, G: Growth> ThinVec<T, A, G> {
-    ghost use Rattle.thin_vec.specs.Cheap.{IsCheap};
     ghost use Rattle.thin_vec.specs.Edits.Retain.{IsRetained, IsRetainedTo, Looks};
     ghost use Rattle.thin_vec.specs.ThinVec.{IsWithin};
 
@@ -27,9 +27,7 @@ impl<T: Drop, A: Allocator, G: Growth> ThinVec<T, A, G> {
         ensures filtered { IsFiltered (CalledAt F.FnMut) keep self.old.items self.new.items }
         ensures bound { length self.new.items ≤ length self.old.items }
         ensures capacity { self.new.capacity ≡ self.old.capacity }
-        ensures alloc { self.new.alloc ≡ self.old.alloc }
-        ensures cheap { IsCheap self.old → IsCheap self.new }
-        ensures within { IsWithin T.row self.old × IsWithin T.row self.new }
+        ensures keeps { Keeps T.row self.old self.new }
     {
         let mut judge = Looking { keep };
         self.keep_those(&mut judge);
@@ -43,9 +41,7 @@ impl<T: Drop, A: Allocator, G: Growth> ThinVec<T, A, G> {
         ensures retained { IsRetained (CalledAtMut F.FnMut) keep self.old self.new }
         ensures bound { length self.new.items ≤ length self.old.items }
         ensures capacity { self.new.capacity ≡ self.old.capacity }
-        ensures alloc { self.new.alloc ≡ self.old.alloc }
-        ensures cheap { IsCheap self.old → IsCheap self.new }
-        ensures within { IsWithin T.row self.old × IsWithin T.row self.new }
+        ensures keeps { Keeps T.row self.old self.new }
     {
         let mut judge = Writing { keep };
         self.keep_those(&mut judge);

@@ -1,47 +1,33 @@
 //! Two lists: one is appended to the other, or one is cut in two.
-ghost use Rattle.std.specs.Prelude.{◌≡◌, ◌+◌, ◌-◌, ◌≤◌, ◌++◌, [], IfErr, IfOk, IsErrOf, IsOk, None, OnErr, OnOk, Some, drop, length, take};
+ghost use Rattle.std.specs.Prelude.{◌≡◌, ◌+◌, ◌-◌, ◌≤◌, ◌++◌, [], IfErr, IfOk, IsOk, OnErr, OnOk, drop, length, take};
 ghost use Rattle.thin_block.specs.Cost.{moving};
+ghost use Rattle.thin_vec.specs.List.Capacity.{Costs, Keeps, Reserves, IsMade};
 
 use crate::list::ThinVec;
 use std::alloc::Allocator;
 use thin_block::{Growth, ThinVecError};
 
 impl<T, A: Allocator, G: Growth> ThinVec<T, A, G> {
-    ghost use Rattle.thin_vec.specs.Cheap.{IsCheap};
-    ghost use Rattle.thin_vec.specs.ThinVec.{HasRoomFor, IsCause, IsWithin, capacity_for, cost_at, cost_new};
+    ghost use Rattle.thin_vec.specs.ThinVec.{HasRoomFor, IsWithin, cost_new};
 
     /// Moves all items of `other` to the end of this list. `other` is left empty, with its
     /// capacity.
     ///
     /// It fails as `reserve` does, before either list changes.
     pub fn append(&mut self, other: &mut ThinVec<T, A, G>) -> Result<(), ThinVecError>
-        ensures succeeds { HasRoomFor self.old (length other.old.items) → IsOk result }
-        ensures succeeds_empty { length other.old.items ≡ 0 → IsOk result }
-        ensures overflow { capacity_for G.rule T.row self.old (length other.old.items) ≡ None
-            → IsErrOf result ThinVecError.CapacityOverflow }
-        ensures cause { IfErr result
-            (IsCause (capacity_for G.rule T.row self.old (length other.old.items))) }
-
-        // The capacity is the ruled one.
+        // On success, `other` is empty, and keeps its capacity.
         ensures items { OnOk result (self.new.items ≡ self.old.items ++ other.old.items) }
-        ensures capacity { OnOk result (capacity_for G.rule T.row self.old (length other.old.items)
-            ≡ Some self.new.capacity) }
-        ensures had_room { HasRoomFor self.old (length other.old.items)
-            → self.new.capacity ≡ self.old.capacity }
-        ensures cost { OnOk result (self.new.cost ≡ moving (length other.old.items)
-            (cost_at self.old self.new.capacity)) }
-        ensures alloc { self.new.alloc ≡ self.old.alloc }
-        ensures cheap { IsCheap self.old → IsCheap self.new }
+        ensures cost { OnOk result (Costs (length other.old.items) self.old self.new) }
+        ensures other { OnOk result (other.new ≡ record other.old { items = [] }) }
 
-        // The other list keeps its block.
-        ensures other_items { OnOk result (other.new.items ≡ []) }
-        ensures other_changes { other.new ≡ record other.old { items = other.new.items } }
-
-        // Where it fails, nothing changed.
+        // On failure neither list changes. Into spare capacity it succeeds.
+        ensures succeeds { HasRoomFor self.old (length other.old.items) → IsOk result }
         ensures err { OnErr result (self.new ≡ self.old) }
         ensures other_err { OnErr result (other.new ≡ other.old) }
-        ensures never_less { self.old.capacity ≤ self.new.capacity }
-        ensures within { IsWithin T.row self.old × IsWithin T.row self.new }
+
+        // In any case. The capacity and the cause of a failure are those of `reserve` for the items.
+        ensures reserves { Reserves G.rule T.row (length other.old.items) self.old self.new result }
+        ensures keeps { Keeps T.row self.old self.new }
         ensures other_within { IsWithin T.row other.old × IsWithin T.row other.new }
     {
         match self.reserve(other.len()) {
@@ -59,21 +45,23 @@ impl<T, A: Allocator, G: Growth> ThinVec<T, A, G> {
     /// allocation.
     pub fn split_off(&mut self, alloc: A, at: usize) -> Result<ThinVec<T, A, G>, ThinVecError>
         requires in_bounds { at ≤ length self.old.items }
-        ensures succeeds { at ≡ length self.old.items → IsOk result }
-        ensures cause { IfErr result (λ cause. cause ≡ ThinVecError.OutOfMemory) }
-        ensures items { OnOk result (self.new.items ≡ take at self.old.items) }
-        ensures changes { self.new ≡ record self.old { items = self.new.items } }
-        ensures err { OnErr result (self.new ≡ self.old) }
 
-        // The second list.
+        // On success: what the list keeps, and what the second list is.
+        ensures items { OnOk result (self.new.items ≡ take at self.old.items) }
         ensures other_items { IfOk result (λ tail. tail.items ≡ drop at self.old.items) }
         ensures other_capacity { IfOk result (λ tail. tail.capacity ≡ length self.old.items - at) }
         ensures other_cost { IfOk result (λ tail. tail.cost ≡ moving (length self.old.items - at)
             (cost_new (length self.old.items - at))) }
-        ensures other_alloc { IfOk result (λ tail. tail.alloc ≡ alloc) }
-        ensures other_cheap { IfOk result (λ tail. IsCheap tail) }
+        ensures other_made { IfOk result (IsMade T.row alloc) }
+
+        // On failure nothing changes. At the length it succeeds.
+        ensures succeeds { at ≡ length self.old.items → IsOk result }
+        ensures cause { IfErr result (λ cause. cause ≡ ThinVecError.OutOfMemory) }
+        ensures err { OnErr result (self.new ≡ self.old) }
+
+        // In any case.
+        ensures changes { self.new ≡ record self.old { items = self.new.items } }
         ensures within { IsWithin T.row self.old × IsWithin T.row self.new }
-        ensures other_within { IfOk result (λ tail. IsWithin T.row tail) }
     {
         let mut tail = ThinVec::with_fitting_capacity(alloc, self.len() - at)?;
         tail.append_from(self, at);
@@ -84,13 +72,10 @@ impl<T, A: Allocator, G: Growth> ThinVec<T, A, G> {
     pub fn append_reserved(&mut self, other: &mut ThinVec<T, A, G>)
         requires room { HasRoomFor self.old (length other.old.items) }
         ensures items { self.new.items ≡ self.old.items ++ other.old.items }
-        ensures capacity { self.new.capacity ≡ self.old.capacity }
-        ensures alloc { self.new.alloc ≡ self.old.alloc }
         ensures cost { self.new.cost ≡ moving (length other.old.items) self.old.cost }
-        ensures cheap { IsCheap self.old → IsCheap self.new }
-        ensures other_items { other.new.items ≡ [] }
-        ensures other_changes { other.new ≡ record other.old { items = other.new.items } }
-        ensures within { IsWithin T.row self.old × IsWithin T.row self.new }
+        ensures capacity { self.new.capacity ≡ self.old.capacity }
+        ensures other { other.new ≡ record other.old { items = [] } }
+        ensures keeps { Keeps T.row self.old self.new }
         ensures other_within { IsWithin T.row other.old × IsWithin T.row other.new }
     {
         self.append_from(other, 0);

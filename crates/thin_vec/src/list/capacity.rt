@@ -4,6 +4,7 @@ ghost use Rattle.std.specs.Prelude.{◌≡◌, ◌+◌, ◌<◌, ◌≤◌, [], 
 ghost use Rattle.thin_block.specs.Capacity.{Fits};
 ghost use Rattle.thin_block.specs.Cost.{growing};
 ghost use Rattle.thin_block.specs.Growth.{Grows, exact_capacity};
+ghost use Rattle.thin_vec.specs.List.Capacity.{Keeps, Reserves, TellsOverflow, IsMade};
 
 use crate::list::ThinVec;
 use std::alloc::Allocator;
@@ -19,22 +20,18 @@ impl<T, A: Allocator, G: Growth> ThinVec<T, A, G> {
     ///
     /// It fails where that capacity overflows, or the allocator fails, and then nothing changes.
     pub fn reserve(&mut self, additional: usize) -> Result<(), ThinVecError>
-        ensures succeeds { HasRoomFor self.old additional → IsOk result }
-        ensures succeeds_empty { additional ≡ 0 → IsOk result }
-        ensures overflow { capacity_for G.rule T.row self.old additional ≡ None
-            → IsErrOf result ThinVecError.CapacityOverflow }
-        ensures cause { IfErr result (IsCause (capacity_for G.rule T.row self.old additional)) }
-        ensures items { self.new.items ≡ self.old.items }
-        ensures capacity { OnOk result
-            (capacity_for G.rule T.row self.old additional ≡ Some self.new.capacity) }
-        ensures had_room { HasRoomFor self.old additional → self.new.capacity ≡ self.old.capacity }
+        // On success.
         ensures room { OnOk result (HasRoomFor self.new additional) }
-        ensures never_less { self.old.capacity ≤ self.new.capacity }
-        ensures within { IsWithin T.row self.old × IsWithin T.row self.new }
-        ensures alloc { self.new.alloc ≡ self.old.alloc }
         ensures cost { OnOk result (self.new.cost ≡ cost_at self.old self.new.capacity) }
+
+        // On failure nothing changes. A call for room that is there succeeds.
+        ensures succeeds { HasRoomFor self.old additional → IsOk result }
         ensures err { OnErr result (self.new ≡ self.old) }
-        ensures cheap { IsCheap self.old → IsCheap self.new }
+
+        // In any case.
+        ensures items { self.new.items ≡ self.old.items }
+        ensures reserves { Reserves G.rule T.row additional self.old self.new result }
+        ensures keeps { Keeps T.row self.old self.new }
     {
         if additional <= self.capacity() - self.len() {
             return Ok(());
@@ -49,19 +46,21 @@ impl<T, A: Allocator, G: Growth> ThinVec<T, A, G> {
     /// A list that grows by this call alone copies its items each time: see `reserve`.
     #[tactic(auto, using(thin_block::proofs::CapacityLemmas::exact))]
     pub fn reserve_exact(&mut self, additional: usize) -> Result<(), ThinVecError>
-        ensures succeeds { HasRoomFor self.old additional → IsOk result }
-        ensures succeeds_empty { additional ≡ 0 → IsOk result }
-        ensures overflow { exact_for T.row self.old additional ≡ None
-            → IsErrOf result ThinVecError.CapacityOverflow }
-        ensures cause { IfErr result (IsCause (exact_for T.row self.old additional)) }
-        ensures items { self.new.items ≡ self.old.items }
+        // On success.
+        ensures room { OnOk result (HasRoomFor self.new additional) }
         ensures capacity { OnOk result
             (exact_for T.row self.old additional ≡ Some self.new.capacity) }
-        ensures had_room { HasRoomFor self.old additional → self.new.capacity ≡ self.old.capacity }
-        ensures room { OnOk result (HasRoomFor self.new additional) }
-        ensures alloc { self.new.alloc ≡ self.old.alloc }
         ensures cost { OnOk result (self.new.cost ≡ cost_at self.old self.new.capacity) }
+
+        // On failure nothing changes. A call for room that is there succeeds.
+        ensures succeeds { HasRoomFor self.old additional → IsOk result }
         ensures err { OnErr result (self.new ≡ self.old) }
+        ensures overflow { TellsOverflow (exact_for T.row self.old additional) result }
+
+        // In any case.
+        ensures items { self.new.items ≡ self.old.items }
+        ensures had_room { HasRoomFor self.old additional → self.new.capacity ≡ self.old.capacity }
+        ensures alloc { self.new.alloc ≡ self.old.alloc }
         ensures never_less { self.old.capacity ≤ self.new.capacity }
         ensures within { IsWithin T.row self.old × IsWithin T.row self.new }
     {
@@ -108,24 +107,18 @@ impl<T, A: Allocator, G: Growth> ThinVec<T, A, G> {
     // comparison too.)
     #[tactic(auto, using(thin_block::proofs::CapacityLemmas::ruled))]
     pub(crate) fn reserve_run(&mut self, additional: usize) -> Result<(), ThinVecError>
-        ensures succeeds { HasRoomFor self.old additional → IsOk result }
-        ensures succeeds_empty { additional ≡ 0 → IsOk result }
-        ensures overflow { capacity_for G.rule T.row self.old additional ≡ None
-            → IsErrOf result ThinVecError.CapacityOverflow }
-        ensures cause { IfErr result (IsCause (capacity_for G.rule T.row self.old additional)) }
-        ensures changes { self.new ≡ record self.old {
-          capacity = self.new.capacity;
-          cost = self.new.cost;
-        } }
-        ensures capacity { OnOk result
-            (capacity_for G.rule T.row self.old additional ≡ Some self.new.capacity) }
-        ensures had_room { HasRoomFor self.old additional → self.new.capacity ≡ self.old.capacity }
+        // On success.
         ensures room { OnOk result (HasRoomFor self.new additional) }
         ensures cost { OnOk result (self.new.cost ≡ cost_at self.old self.new.capacity) }
+
+        // On failure nothing changes.
+        ensures succeeds { HasRoomFor self.old additional → IsOk result }
         ensures err { OnErr result (self.new ≡ self.old) }
-        ensures cheap { IsCheap self.old → IsCheap self.new }
-        ensures never_less { self.old.capacity ≤ self.new.capacity }
-        ensures within { IsWithin T.row self.old × IsWithin T.row self.new }
+
+        // In any case.
+        ensures items { self.new.items ≡ self.old.items }
+        ensures reserves { Reserves G.rule T.row additional self.old self.new result }
+        ensures keeps { Keeps T.row self.old self.new }
     {
         if !self.has_room_for(additional) {
             return self.grow_for(additional);
@@ -152,9 +145,7 @@ impl<T, A: Allocator, G: Growth> ThinVec<T, A, G> {
     #[cold]
     fn grow_for(&mut self, additional: usize) -> Result<(), ThinVecError>
         requires more { self.old.capacity < length self.old.items + additional }
-        ensures overflow { capacity_for G.rule T.row self.old additional ≡ None
-            → IsErrOf result ThinVecError.CapacityOverflow }
-        ensures cause { IfErr result (IsCause (capacity_for G.rule T.row self.old additional)) }
+        ensures overflow { TellsOverflow (capacity_for G.rule T.row self.old additional) result }
         ensures changes { self.new ≡ record self.old {
           capacity = self.new.capacity;
           cost = self.new.cost;
@@ -245,16 +236,15 @@ impl<T, A: Allocator> ThinVec<T, A> {
     /// It fails where that capacity does not fit, or the allocator fails.
     #[tactic(auto, using(thin_block::proofs::CapacityLemmas::exact))]
     pub fn with_capacity(alloc: A, capacity: usize) -> Result<ThinVec<T, A>, ThinVecError>
-        ensures succeeds { capacity ≡ 0 → IsOk result }
-        ensures overflow { exact_capacity T.row 0 capacity ≡ None
-            → IsErrOf result ThinVecError.CapacityOverflow }
-        ensures cause { IfErr result (IsCause (exact_capacity T.row 0 capacity)) }
+        // On success.
         ensures items { IfOk result (λ list. list.items ≡ []) }
         ensures capacity { IfOk result (λ list. list.capacity ≡ capacity) }
-        ensures alloc { IfOk result (λ list. list.alloc ≡ alloc) }
         ensures cost { IfOk result (λ list. list.cost ≡ cost_new capacity) }
-        ensures cheap { IfOk result (λ list. IsCheap list) }
-        ensures within { IfOk result (λ list. IsWithin T.row list) }
+        ensures made { IfOk result (IsMade T.row alloc) }
+
+        // On failure.
+        ensures succeeds { capacity ≡ 0 → IsOk result }
+        ensures overflow { TellsOverflow (exact_capacity T.row 0 capacity) result }
     {
         if !fits::<T>(capacity) {
             return Err(ThinVecError::CapacityOverflow);

@@ -1,10 +1,11 @@
 //! The calls that clone items. Each clones into spare room that it has made before, with no test
 //! per item.
-ghost use Rattle.std.specs.Prelude.{◌≡◌, ◌⊎◌, ◌+◌, ◌<◌, ◌≤◌, [], ◌++◌, ◌-◌, All, HoldsAt, IfErr, IfOk, IsErrOf, IsOk, None, OnErr, OnOk, Some, length, slice_range, take};
+ghost use Rattle.std.specs.Prelude.{◌≡◌, ◌⊎◌, ◌+◌, ◌<◌, ◌≤◌, [], ◌++◌, ◌-◌, All, HoldsAt, IfErr, IfOk, IsOk, OnErr, OnOk, length, slice_range, take};
 ghost use Rattle.std.specs.List.{AllZip, AppendsClones};
 ghost use Rattle.thin_block.specs.Capacity.{Fits};
 ghost use Rattle.thin_block.specs.Cost.{moving};
-ghost use Rattle.thin_vec.specs.List.Clones.{ClonesEqual, IsCloneRefused, IsClonedList, StopsAtClone};
+ghost use Rattle.thin_vec.specs.List.Clones.{ClonesEqual, IsClonedList, StopsAtClone, CostsUpToClone};
+ghost use Rattle.thin_vec.specs.List.Capacity.{Costs, Keeps, Reserves, IsMade};
 
 use crate::list::ThinVec;
 use crate::put::put_clones;
@@ -13,7 +14,7 @@ use thin_block::{Growth, ThinVecError};
 
 impl<T: Clone, A: Allocator, G: Growth> ThinVec<T, A, G> {
     ghost use Rattle.thin_vec.specs.Cheap.{IsCheap};
-    ghost use Rattle.thin_vec.specs.ThinVec.{HasRoomFor, IsCause, IsWithin, capacity_for, cost_at, cost_new};
+    ghost use Rattle.thin_vec.specs.ThinVec.{HasRoomFor, IsWithin, cost_new};
 
     /// Appends a clone of each of `items`, in order. For items that are `Copy`,
     /// `extend_from_copies` is faster.
@@ -22,36 +23,25 @@ impl<T: Clone, A: Allocator, G: Growth> ThinVec<T, A, G> {
     /// a clone does: the clones made before are dropped, the list has its old items, and the room
     /// that was made stays.
     pub fn extend_from_slice(&mut self, items: &[T]) -> Result<(), ThinVecError>
-        ensures succeeds { HasRoomFor self.old (length items.now) → All T.is_infallible items.now
-            → IsOk result }
-        ensures succeeds_empty { length items.now ≡ 0 → IsOk result }
-        ensures overflow { capacity_for G.rule T.row self.old (length items.now) ≡ None
-            → IsErrOf result ThinVecError.CapacityOverflow }
-        ensures cause { IfErr result
-            (IsCause (capacity_for G.rule T.row self.old (length items.now))) }
-
-        // The capacity is the ruled one.
+        // On success.
         ensures items { OnOk result
             (AppendsClones T.is_clone self.old.items self.new.items items.now) }
         ensures items_if_clones_equal { OnOk result (ClonesEqual T.is_clone
             → self.new.items ≡ self.old.items ++ items.now) }
-        ensures capacity { OnOk result
-            (capacity_for G.rule T.row self.old (length items.now) ≡ Some self.new.capacity) }
-        ensures had_room { HasRoomFor self.old (length items.now)
-            → self.new.capacity ≡ self.old.capacity }
-        ensures cost { OnOk result
-            (self.new.cost ≡ moving (length items.now) (cost_at self.old self.new.capacity)) }
-        ensures alloc { self.new.alloc ≡ self.old.alloc }
-        ensures cheap { IsCheap self.old → IsCheap self.new }
+        ensures cost { OnOk result (Costs (length items.now) self.old self.new) }
 
-        // Where it fails, nothing changed, or there was room and a clone failed.
+        // It fails if it cannot grow: then nothing changes. It fails also if a clone fails: then the
+        // clones made are dropped, the items are as before, and the new capacity stays.
+        ensures succeeds { HasRoomFor self.old (length items.now) → All T.is_infallible items.now
+            → IsOk result }
         ensures err_items { OnErr result (self.new.items ≡ self.old.items) }
-        ensures refused { OnErr result
-            ((self.new ≡ self.old) ⊎ IsCloneRefused G.rule T.row T.is_infallible items.now
-            (length items.now) self.old self.new) }
         ensures err { All T.is_infallible items.now → OnErr result (self.new ≡ self.old) }
-        ensures never_less { self.old.capacity ≤ self.new.capacity }
-        ensures within { IsWithin T.row self.old × IsWithin T.row self.new }
+        ensures err_cost { OnErr result ((self.new ≡ self.old)
+            ⊎ CostsUpToClone T.is_infallible items.now self.old self.new) }
+
+        // In any case. The capacity and the cause of a failure are those of `reserve` for the clones.
+        ensures reserves { Reserves G.rule T.row (length items.now) self.old self.new result }
+        ensures keeps { Keeps T.row self.old self.new }
     {
         self.reserve(items.len())?;
         self.extend_from_slice_reserved(items)
@@ -64,17 +54,18 @@ impl<T: Clone, A: Allocator, G: Growth> ThinVec<T, A, G> {
     /// It fails where the allocator or the clone of an item fails, and then the clones made before
     /// are dropped.
     pub fn clone(&self, alloc: A) -> Result<ThinVec<T, A, G>, ThinVecError>
-        ensures succeeds_empty { length self.now.items ≡ 0 → IsOk result }
-        ensures cause { IfErr result (λ cause. cause ≡ ThinVecError.OutOfMemory) }
+        // On success.
         ensures items { IfOk result (λ list. AllZip T.is_clone self.now.items list.items) }
         ensures items_if_clones_equal { IfOk result (λ list. ClonesEqual T.is_clone
             → list.items ≡ self.now.items) }
         ensures capacity { IfOk result (λ list. list.capacity ≡ length self.now.items) }
-        ensures alloc { IfOk result (λ list. list.alloc ≡ alloc) }
         ensures cost { IfOk result (λ list. list.cost ≡ moving (length self.now.items)
             (cost_new (length self.now.items))) }
-        ensures cheap { IfOk result (λ list. IsCheap list) }
-        ensures within { IfOk result (λ list. IsWithin T.row list) }
+        ensures made { IfOk result (IsMade T.row alloc) }
+
+        // On failure.
+        ensures succeeds_empty { length self.now.items ≡ 0 → IsOk result }
+        ensures cause { IfErr result (λ cause. cause ≡ ThinVecError.OutOfMemory) }
     {
         // The number of a list's items fits.
         let _len = self.len();
@@ -110,20 +101,24 @@ impl<T: Clone, A: Allocator, G: Growth> ThinVec<T, A, G> {
     /// clone does, with `OutOfMemory`. The clones made until then are dropped. (own)
     pub fn extend_from_slice_reserved(&mut self, items: &[T]) -> Result<(), ThinVecError>
         requires room { HasRoomFor self.old (length items.now) }
-        ensures succeeds { All T.is_infallible items.now → IsOk result }
+
+        // On success.
         ensures items { OnOk result
             (AppendsClones T.is_clone self.old.items self.new.items items.now) }
         ensures items_if_clones_equal { OnOk result (ClonesEqual T.is_clone
             → self.new.items ≡ self.old.items ++ items.now) }
         ensures cost { OnOk result (self.new.cost ≡ moving (length items.now) self.old.cost) }
-        ensures capacity { self.new.capacity ≡ self.old.capacity }
-        ensures alloc { self.new.alloc ≡ self.old.alloc }
-        ensures cheap { IsCheap self.old → IsCheap self.new }
-        ensures err_items { OnErr result (self.new.items ≡ self.old.items) }
-        ensures refused { OnErr result
-            (StopsAtClone T.is_infallible items.now self.old.cost self.new.cost) }
+
+        // It fails if a clone fails: then the clones made are dropped, and the items are as before.
+        ensures succeeds { All T.is_infallible items.now → IsOk result }
         ensures cause { IfErr result (λ cause. cause ≡ ThinVecError.OutOfMemory) }
-        ensures within { IsWithin T.row self.old × IsWithin T.row self.new }
+        ensures err_items { OnErr result (self.new.items ≡ self.old.items) }
+        ensures err_cost { OnErr result (StopsAtClone T.is_infallible items.now self.old.cost
+            self.new.cost) }
+
+        // In any case.
+        ensures capacity { self.new.capacity ≡ self.old.capacity }
+        ensures keeps { Keeps T.row self.old self.new }
     {
         let len = self.len();
         if self.push_clones_reserved(items) < items.len() {
@@ -160,36 +155,27 @@ impl<T: Clone, A: Allocator, G: Growth> ThinVec<T, A, G> {
     pub fn extend_from_within(&mut self, start: usize, end: usize) -> Result<(), ThinVecError>
         requires start_le_end { start ≤ end }
         requires in_bounds { end ≤ length self.old.items }
-        ensures succeeds { HasRoomFor self.old (end - start)
-            → All T.is_infallible (slice_range self.old.items start end) → IsOk result }
-        ensures succeeds_empty { start ≡ end → IsOk result }
-        ensures overflow { capacity_for G.rule T.row self.old (end - start) ≡ None
-            → IsErrOf result ThinVecError.CapacityOverflow }
-        ensures cause { IfErr result (IsCause (capacity_for G.rule T.row self.old (end - start))) }
 
-        // The capacity is the ruled one.
-        ensures items { OnOk result (AppendsClones T.is_clone self.old.items self.new.items
+        // On success.
+        ensures items { OnOk result
+            (AppendsClones T.is_clone self.old.items self.new.items
             (slice_range self.old.items start end)) }
         ensures items_if_clones_equal { OnOk result (ClonesEqual T.is_clone
             → self.new.items ≡ self.old.items ++ slice_range self.old.items start end) }
-        ensures capacity { OnOk result
-            (capacity_for G.rule T.row self.old (end - start) ≡ Some self.new.capacity) }
-        ensures had_room { HasRoomFor self.old (end - start)
-            → self.new.capacity ≡ self.old.capacity }
-        ensures cost { OnOk result
-            (self.new.cost ≡ moving (end - start) (cost_at self.old self.new.capacity)) }
-        ensures alloc { self.new.alloc ≡ self.old.alloc }
-        ensures cheap { IsCheap self.old → IsCheap self.new }
+        ensures cost { OnOk result (Costs (end - start) self.old self.new) }
 
-        // Where it fails, nothing changed, or there was room and a clone failed.
+        // It fails if it cannot grow: then nothing changes. It fails also if a clone fails: then the
+        // clones made are dropped, the items are as before, and the new capacity stays.
+        ensures succeeds { HasRoomFor self.old (end - start) → All T.is_infallible (slice_range self.old.items start end)
+            → IsOk result }
         ensures err_items { OnErr result (self.new.items ≡ self.old.items) }
-        ensures refused { OnErr result
-            ((self.new ≡ self.old) ⊎ IsCloneRefused G.rule T.row T.is_infallible
-            (slice_range self.old.items start end) (end - start) self.old self.new) }
-        ensures err { All T.is_infallible (slice_range self.old.items start end)
-            → OnErr result (self.new ≡ self.old) }
-        ensures never_less { self.old.capacity ≤ self.new.capacity }
-        ensures within { IsWithin T.row self.old × IsWithin T.row self.new }
+        ensures err { All T.is_infallible (slice_range self.old.items start end) → OnErr result (self.new ≡ self.old) }
+        ensures err_cost { OnErr result ((self.new ≡ self.old)
+            ⊎ CostsUpToClone T.is_infallible (slice_range self.old.items start end) self.old self.new) }
+
+        // In any case. The capacity and the cause of a failure are those of `reserve` for the clones.
+        ensures reserves { Reserves G.rule T.row (end - start) self.old self.new result }
+        ensures keeps { Keeps T.row self.old self.new }
     {
         self.reserve(end - start)?;
         self.extend_from_within_reserved(start, end)

@@ -1,10 +1,11 @@
 //! The calls by which one item goes in or out, or the rest of a list goes.
-ghost use Rattle.std.specs.Prelude.{◌≡◌, ◌+◌, ◌-◌, ◌<◌, ◌≤◌, ◌==◌, [], ◌∷◌, ◌++◌, IfErr, IfOk, IsErrAnd, IsOk, None, OnErr, OnOk, Some, if◌then◌else◌, insert, length, remove, slice_get, take};
+ghost use Rattle.std.specs.Prelude.{◌≡◌, ◌+◌, ◌-◌, ◌<◌, ◌≤◌, ◌==◌, [], ◌∷◌, ◌++◌, IfErr, IfOk, IsOk, None, OnErr, OnOk, Some, if◌then◌else◌, insert, length, remove, slice_get, take};
 ghost use Rattle.std.specs.List.{swap_remove};
 ghost use Rattle.std.specs.List.Retain.{PopsIf};
 ghost use types.Logic.{sem};
 ghost use Rattle.thin_block.specs.Cost.{moving};
 ghost use Rattle.thin_vec.specs.List.InsertRemove.{LendsAdded};
+ghost use Rattle.thin_vec.specs.List.Capacity.{Costs, Keeps, Reserves, TellsOverflow, causes};
 
 use crate::errors::Rejected;
 use crate::list::ThinVec;
@@ -12,8 +13,7 @@ use std::alloc::Allocator;
 use thin_block::{Growth, ThinVecError};
 
 impl<T, A: Allocator, G: Growth> ThinVec<T, A, G> {
-    ghost use Rattle.thin_vec.specs.Cheap.{IsCheap};
-    ghost use Rattle.thin_vec.specs.ThinVec.{HasRoomFor, IsCause, IsWithin, capacity_for, cost_at};
+    ghost use Rattle.thin_vec.specs.ThinVec.{HasRoomFor, IsWithin, capacity_for};
 
     /// Puts `value` at `index`, and moves the items from there on one place back. The list owns it
     /// afterwards.
@@ -21,27 +21,19 @@ impl<T, A: Allocator, G: Growth> ThinVec<T, A, G> {
     /// It fails as `push` does.
     pub fn insert(&mut self, index: usize, value: T) -> Result<(), Rejected<T>>
         requires in_bounds { index ≤ length self.old.items }
-        ensures succeeds { HasRoomFor self.old 1 → IsOk result }
-        ensures overflow { capacity_for G.rule T.row self.old 1 ≡ None
-            → IsErrAnd result (λ refused. refused.cause ≡ ThinVecError.CapacityOverflow) }
-        ensures cause { IfErr result
-            (λ refused. IsCause (capacity_for G.rule T.row self.old 1) refused.cause) }
 
-        // The capacity is the ruled one.
+        // On success.
         ensures items { OnOk result (self.new.items ≡ insert self.old.items index value) }
-        ensures capacity { OnOk result
-            (capacity_for G.rule T.row self.old 1 ≡ Some self.new.capacity) }
-        ensures had_room { HasRoomFor self.old 1 → self.new.capacity ≡ self.old.capacity }
-        ensures cost { OnOk result (self.new.cost ≡ moving (length self.old.items - index + 1)
-            (cost_at self.old self.new.capacity)) }
-        ensures alloc { self.new.alloc ≡ self.old.alloc }
-        ensures cheap { IsCheap self.old → IsCheap self.new }
+        ensures cost { OnOk result (Costs (length self.old.items - index + 1) self.old self.new) }
 
-        // Where it fails, the caller has the value back, and nothing changed.
+        // On failure nothing changes, and the value is in the error. Into spare capacity it succeeds.
+        ensures succeeds { HasRoomFor self.old 1 → IsOk result }
         ensures err { OnErr result (self.new ≡ self.old) }
-        ensures value_returned { IfErr result (λ refused. refused.value ≡ value) }
-        ensures never_less { self.old.capacity ≤ self.new.capacity }
-        ensures within { IsWithin T.row self.old × IsWithin T.row self.new }
+        ensures value_returned { IfErr result (λ error. error.value ≡ value) }
+
+        // In any case. The capacity and the cause of a failure are those of `reserve(1)`.
+        ensures reserves { Reserves G.rule T.row 1 self.old self.new (causes result) }
+        ensures keeps { Keeps T.row self.old self.new }
     {
         if let Err(cause) = self.reserve(1) {
             return Err(Rejected { value, cause });
@@ -55,11 +47,9 @@ impl<T, A: Allocator, G: Growth> ThinVec<T, A, G> {
         requires in_bounds { index ≤ length self.old.items }
         requires room { HasRoomFor self.old 1 }
         ensures items { self.new.items ≡ insert self.old.items index value }
-        ensures capacity { self.new.capacity ≡ self.old.capacity }
-        ensures alloc { self.new.alloc ≡ self.old.alloc }
         ensures cost { self.new.cost ≡ moving (length self.old.items - index + 1) self.old.cost }
-        ensures cheap { IsCheap self.old → IsCheap self.new }
-        ensures within { IsWithin T.row self.old × IsWithin T.row self.new }
+        ensures capacity { self.new.capacity ≡ self.old.capacity }
+        ensures keeps { Keeps T.row self.old self.new }
     {
         let len = self.block.len();
         self.block.move_run(index, index + 1, len - index);
@@ -70,16 +60,18 @@ impl<T, A: Allocator, G: Growth> ThinVec<T, A, G> {
     ///
     /// It fails as `push` does, and then nothing changes.
     pub fn push_mut(&mut self, value: T) -> Result<&mut T, Rejected<T>>
+        // On success, the item is lent, and the list has what was written to it.
         ensures* writes_back { sem 𝓛
             (LendsAdded T.row A.row G.row A.Allocator G.Growth self.entry
             (λ x. self.old.items ++ x ∷ []) 1 result) }
         ensures value { IfOk result (λ item. item.now ≡ value) }
+
+        // On failure nothing changes, and the value is in the error. Into spare capacity it succeeds.
         ensures succeeds { HasRoomFor self.old 1 → IsOk result }
-        ensures overflow { capacity_for G.rule T.row self.old 1 ≡ None
-            → IsErrAnd result (λ refused. refused.cause ≡ ThinVecError.CapacityOverflow) }
-        ensures cause { IfErr result
-            (λ refused. IsCause (capacity_for G.rule T.row self.old 1) refused.cause) }
-        ensures value_returned { IfErr result (λ refused. refused.value ≡ value) }
+        ensures value_returned { IfErr result (λ error. error.value ≡ value) }
+        ensures overflow { TellsOverflow (capacity_for G.rule T.row self.old 1) (causes result) }
+
+        // In any case.
         ensures within { IsWithin T.row self.old }
     {
         let len = self.len();
@@ -92,16 +84,19 @@ impl<T, A: Allocator, G: Growth> ThinVec<T, A, G> {
     /// It fails as `insert` does, and then nothing changes.
     pub fn insert_mut(&mut self, index: usize, value: T) -> Result<&mut T, Rejected<T>>
         requires in_bounds { index ≤ length self.old.items }
+
+        // On success, the item is lent, and the list has what was written to it.
         ensures* writes_back { sem 𝓛
             (LendsAdded T.row A.row G.row A.Allocator G.Growth self.entry
             (insert self.old.items index) (length self.old.items - index + 1) result) }
         ensures value { IfOk result (λ item. item.now ≡ value) }
+
+        // On failure nothing changes, and the value is in the error. Into spare capacity it succeeds.
         ensures succeeds { HasRoomFor self.old 1 → IsOk result }
-        ensures overflow { capacity_for G.rule T.row self.old 1 ≡ None
-            → IsErrAnd result (λ refused. refused.cause ≡ ThinVecError.CapacityOverflow) }
-        ensures cause { IfErr result
-            (λ refused. IsCause (capacity_for G.rule T.row self.old 1) refused.cause) }
-        ensures value_returned { IfErr result (λ refused. refused.value ≡ value) }
+        ensures value_returned { IfErr result (λ error. error.value ≡ value) }
+        ensures overflow { TellsOverflow (capacity_for G.rule T.row self.old 1) (causes result) }
+
+        // In any case.
         ensures within { IsWithin T.row self.old }
     {
         self.insert(index, value)?;
@@ -113,11 +108,9 @@ impl<T, A: Allocator, G: Growth> ThinVec<T, A, G> {
         requires in_bounds { index < length self.old.items }
         ensures value { slice_get self.old.items index ≡ Some result }
         ensures items { self.new.items ≡ remove self.old.items index }
-        ensures capacity { self.new.capacity ≡ self.old.capacity }
-        ensures alloc { self.new.alloc ≡ self.old.alloc }
         ensures cost { self.new.cost ≡ moving (length self.old.items - (index + 1)) self.old.cost }
-        ensures cheap { IsCheap self.old → IsCheap self.new }
-        ensures within { IsWithin T.row self.old × IsWithin T.row self.new }
+        ensures capacity { self.new.capacity ≡ self.old.capacity }
+        ensures keeps { Keeps T.row self.old self.new }
     {
         let len = self.block.len();
         let value = self.block.take(index);
@@ -132,12 +125,10 @@ impl<T, A: Allocator, G: Growth> ThinVec<T, A, G> {
         requires in_bounds { index < length self.old.items }
         ensures value { slice_get self.old.items index ≡ Some result }
         ensures items { self.new.items ≡ swap_remove self.old.items index result }
-        ensures capacity { self.new.capacity ≡ self.old.capacity }
-        ensures alloc { self.new.alloc ≡ self.old.alloc }
         ensures cost { self.new.cost ≡ moving (if index + 1 == length self.old.items then 0 else 1)
             self.old.cost }
-        ensures cheap { IsCheap self.old → IsCheap self.new }
-        ensures within { IsWithin T.row self.old × IsWithin T.row self.new }
+        ensures capacity { self.new.capacity ≡ self.old.capacity }
+        ensures keeps { Keeps T.row self.old self.new }
     {
         let last = self.block.len() - 1;
         let value = self.block.take_replacing(index, last);

@@ -1,8 +1,9 @@
 //! The length becomes another: `resize`, `resize_with`.
-ghost use Rattle.std.specs.Prelude.{◌≡◌, ◌⊎◌, ◌+◌, ◌-◌, ◌<◌, ◌≤◌, ◌++◌, IfErr, IsErrOf, IsOk, None, OnErr, OnOk, Some, length, replicate, take};
+ghost use Rattle.std.specs.Prelude.{◌≡◌, ◌⊎◌, ◌+◌, ◌-◌, ◌<◌, ◌≤◌, ◌++◌, IfErr, IsOk, OnErr, OnOk, length, replicate, take};
 ghost use Rattle.std.specs.List.{AppendsResults};
 ghost use Rattle.thin_block.specs.Cost.{moving};
-ghost use Rattle.thin_vec.specs.List.Clones.{AppendsRepeats, CloneEquals, IsCloneRefused, IsResized, StopsAtClone};
+ghost use Rattle.thin_vec.specs.List.Clones.{AppendsRepeats, CloneEquals, IsResized, StopsAtClone, CostsUpToClone};
+ghost use Rattle.thin_vec.specs.List.Capacity.{Costs, Keeps, Reserves};
 
 use crate::list::ThinVec;
 use crate::put::{put_repeated, put_results};
@@ -11,7 +12,7 @@ use thin_block::{Growth, ThinVecError};
 
 impl<T: Clone, A: Allocator, G: Growth> ThinVec<T, A, G> {
     ghost use Rattle.thin_vec.specs.Cheap.{IsCheap};
-    ghost use Rattle.thin_vec.specs.ThinVec.{HasRoomFor, IsCause, IsWithin, capacity_for, cost_at};
+    ghost use Rattle.thin_vec.specs.ThinVec.{HasRoomFor, IsWithin};
 
     /// Makes the length `len`: drops the items from there on, or appends clones of `value`, the
     /// last one `value` itself. Where none is appended, `value` is dropped.
@@ -21,38 +22,29 @@ impl<T: Clone, A: Allocator, G: Growth> ThinVec<T, A, G> {
     /// list has its old items, and the room that was made stays. Where it fails, `value` is
     /// dropped.
     pub fn resize(&mut self, len: usize, value: T) -> Result<(), ThinVecError>
-        ensures succeeds { len ≤ self.old.capacity → T.is_infallible value → IsOk result }
-        ensures succeeds_shorter { len ≤ length self.old.items → IsOk result }
-        ensures succeeds_by_one { len ≡ length self.old.items + 1 → HasRoomFor self.old 1
-            → IsOk result }
-        ensures overflow { capacity_for G.rule T.row self.old (len - length self.old.items) ≡ None
-            → IsErrOf result ThinVecError.CapacityOverflow }
-        ensures cause { IfErr result
-            (IsCause (capacity_for G.rule T.row self.old (len - length self.old.items))) }
-
-        // The capacity is the ruled one: the same where the list is not to be longer.
+        // On success.
         ensures items { OnOk result (IsResized T.is_clone self.old.items len value self.new.items) }
         ensures items_if_clones_equal { OnOk result (CloneEquals T.is_clone value
             → self.new.items ≡ take len self.old.items ++ replicate
             (len - length self.old.items) value) }
-        ensures capacity { OnOk result
-            (capacity_for G.rule T.row self.old (len - length self.old.items)
-            ≡ Some self.new.capacity) }
-        ensures had_room { len ≤ self.old.capacity → self.new.capacity ≡ self.old.capacity }
-        ensures cost { OnOk result (self.new.cost ≡ moving (len - length self.old.items)
-            (cost_at self.old self.new.capacity)) }
-        ensures alloc { self.new.alloc ≡ self.old.alloc }
-        ensures cheap { IsCheap self.old → IsCheap self.new }
+        ensures cost { OnOk result (Costs (len - length self.old.items) self.old self.new) }
 
-        // Where it fails, nothing changed, or there was room and a clone failed.
+        // It fails if it cannot grow: then nothing changes. It fails also if a clone fails: then the
+        // clones made are dropped, the items are as before, and the new capacity stays.
+        ensures succeeds { len ≤ self.old.capacity → T.is_infallible value → IsOk result }
+        ensures succeeds_shorter { len ≤ length self.old.items → IsOk result }
+        ensures succeeds_by_one { len ≡ length self.old.items + 1 → HasRoomFor self.old 1
+            → IsOk result }
         ensures err_items { OnErr result (self.new.items ≡ self.old.items) }
-        ensures refused { OnErr result
-            ((self.new ≡ self.old) ⊎ IsCloneRefused G.rule T.row T.is_infallible
-            (replicate (len - length self.old.items - 1) value)
-            (len - length self.old.items) self.old self.new) }
         ensures err { T.is_infallible value → OnErr result (self.new ≡ self.old) }
-        ensures never_less { self.old.capacity ≤ self.new.capacity }
-        ensures within { IsWithin T.row self.old × IsWithin T.row self.new }
+        ensures err_cost { OnErr result ((self.new ≡ self.old) ⊎ CostsUpToClone T.is_infallible
+            (replicate (len - length self.old.items - 1) value) self.old self.new) }
+
+        // In any case. The capacity and the cause of a failure are those of `reserve` for the items
+        // that are added.
+        ensures reserves { Reserves G.rule T.row (len - length self.old.items) self.old self.new
+            result }
+        ensures keeps { Keeps T.row self.old self.new }
     {
         let old = self.len();
         if len <= old {
@@ -118,7 +110,7 @@ impl<T: Clone, A: Allocator, G: Growth> ThinVec<T, A, G> {
 
 impl<T: Drop, A: Allocator, G: Growth> ThinVec<T, A, G> {
     ghost use Rattle.thin_vec.specs.Cheap.{IsCheap};
-    ghost use Rattle.thin_vec.specs.ThinVec.{HasRoomFor, IsCause, IsWithin, capacity_for, cost_at};
+    ghost use Rattle.thin_vec.specs.ThinVec.{HasRoomFor, IsWithin};
 
     /// Makes the length `len`: drops the items from there on, or appends what `make` returns, which
     /// is called once for each new item, in order. (own)
@@ -127,27 +119,22 @@ impl<T: Drop, A: Allocator, G: Growth> ThinVec<T, A, G> {
     /// `make` was not called.
     pub fn resize_with<F: FnMut() -> T>(&mut self, len: usize, make: F) -> Result<(), ThinVecError>
         requires callable { F.IsAlwaysCallable make }
-        ensures succeeds { len ≤ self.old.capacity → IsOk result }
-        ensures overflow { capacity_for G.rule T.row self.old (len - length self.old.items) ≡ None
-            → IsErrOf result ThinVecError.CapacityOverflow }
-        ensures cause { IfErr result
-            (IsCause (capacity_for G.rule T.row self.old (len - length self.old.items))) }
 
-        // The capacity is the ruled one: the same where the list is not to be longer.
+        // On success.
         ensures items { OnOk result
             (AppendsResults F.step (take len self.old.items) self.new.items make) }
         ensures len { OnOk result (length self.new.items ≡ len) }
-        ensures capacity { OnOk result
-            (capacity_for G.rule T.row self.old (len - length self.old.items)
-            ≡ Some self.new.capacity) }
-        ensures had_room { len ≤ self.old.capacity → self.new.capacity ≡ self.old.capacity }
-        ensures cost { OnOk result (self.new.cost ≡ moving (len - length self.old.items)
-            (cost_at self.old self.new.capacity)) }
-        ensures alloc { self.new.alloc ≡ self.old.alloc }
-        ensures cheap { IsCheap self.old → IsCheap self.new }
+        ensures cost { OnOk result (Costs (len - length self.old.items) self.old self.new) }
+
+        // On failure nothing changes. Up to the capacity it succeeds.
+        ensures succeeds { len ≤ self.old.capacity → IsOk result }
         ensures err { OnErr result (self.new ≡ self.old) }
-        ensures never_less { self.old.capacity ≤ self.new.capacity }
-        ensures within { IsWithin T.row self.old × IsWithin T.row self.new }
+
+        // In any case. The capacity and the cause of a failure are those of `reserve` for the items
+        // that are added.
+        ensures reserves { Reserves G.rule T.row (len - length self.old.items) self.old self.new
+            result }
+        ensures keeps { Keeps T.row self.old self.new }
     {
         let old = self.len();
         if len <= old {

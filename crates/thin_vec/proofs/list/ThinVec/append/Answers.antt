@@ -1,30 +1,22 @@
 -- The capacity is that for the other list's length.
-use Rattle.std.proofs.Common.{arith, ap, ◌∙◌}
+use Rattle.std.proofs.Common.{Ok, arith, ap, sym, ◌∙◌}
 use denote.Param.{param}
 use Rattle.thin_vec.specs.ThinVec.{capacity_for}
+use Rattle.thin_vec.proofs.list.ReservesLemmas.{reserves-then}
 use Rattle.thin_vec.proofs.list.ThinVec.append.Goals as goal
-
-pub returns-in-Err-clause-overflow : goal.returns-in-Err-clause-overflow
-returns-in-Err-clause-overflow g c = λ none. c.in-Err.ensures.overflow
-    (ap (λ n. capacity_for g.G.Growth.rule (param 0 g.row.T) c.args.self.now n) c.len.ensures.value
-    ∙ none)
-
-pub returns-clause-overflow : goal.returns-clause-overflow
-returns-clause-overflow g c = λ none. c.in-Ok.ensures.overflow
-    (ap (λ n. capacity_for g.G.Growth.rule (param 0 g.row.T) c.args.self.now n) c.len.ensures.value
-    ∙ none)
-
-pub returns-clause-alloc : goal.returns-clause-alloc
-returns-clause-alloc g c = search (arith, ◌∙◌)
-
-pub returns-clause-capacity : goal.returns-clause-capacity
-returns-clause-capacity g c = search (arith, ◌∙◌)
 
 pub returns-clause-items : goal.returns-clause-items
 returns-clause-items g c = search (arith, ◌∙◌)
 
-pub returns-in-Err-clause-cause : goal.returns-in-Err-clause-cause
-returns-in-Err-clause-cause g c = search (arith, ◌∙◌)
-
 pub returns-in-Err-clause-err : goal.returns-in-Err-clause-err
 returns-in-Err-clause-err g c = search (arith, ◌∙◌)
+
+pub returns-in-Err-clause-reserves : goal.returns-in-Err-clause-reserves
+returns-in-Err-clause-reserves g c = rw c.len.ensures.value at c.in-Err.ensures.reserves
+
+pub returns-clause-reserves : goal.returns-clause-reserves
+returns-clause-reserves g c =
+    reserves-then _ c.args.self.now g.G.Growth.rule (param 0 g.row.T) c.len.result _
+    c.reserve.new.self _ (Ok tt) (sym c.len.ensures.value)
+    (ap (λ n. capacity_for g.G.Growth.rule (param 0 g.row.T) c.args.self.now n)
+    (sym c.len.ensures.value)) c.append_reserved.ensures.capacity c.in-Ok.ensures.reserves tt

@@ -1,6 +1,6 @@
 -- One growth for the hint, and those of the rest: capacity, cost and cause of both.
 use Rattle.std.proofs.lemmas.Grind.{common_steps}
-use Rattle.std.proofs.Common.{◌≡◌, ◌++◌, ◌∙◌, ap, arith, length, subst}
+use Rattle.std.proofs.Common.{◌≡◌, ◌++◌, ◌∙◌, Err, ap, arith, length, subst}
 use Rattle.std.proofs.lemmas.List.{append-nil}
 use Rattle.std.specs.Iterator.Runs.{SomeRun, WholeRun}
 use Rattle.std.specs.Option.{option_to_list}
@@ -19,7 +19,7 @@ returns-in-Ok-clause-capacity g c =
     let rule = g.G.Growth.rule in let T = param 0 g.row.T in let law = g.met.G.Growth.law in
     let v = c.args.self.now in let u = c.reserve.new.self in
     loose-join rule T law v.capacity u.capacity c.extend_unhinted.new.self.capacity
-    (loose-ruled rule T law v c.size_hint.result.0 u.capacity c.in-Ok.ensures.capacity)
+    (loose-ruled rule T law v c.size_hint.result.0 u.capacity c.in-Ok.ensures.reserves.ok)
     c.extend_unhinted.ensures.capacity
 
 pub returns-in-Ok-clause-cost : goal.returns-in-Ok-clause-cost
@@ -27,11 +27,11 @@ returns-in-Ok-clause-cost g c =
     let rule = g.G.Growth.rule in let T = param 0 g.row.T in let law = g.met.G.Growth.law in
     let v = c.args.self.now in let u = c.reserve.new.self in let w = c.extend_unhinted.new.self in
     filled-join (filled-reserved v u c.in-Ok.ensures.cost c.reserve.ensures.items
-    (cost_at-copied rule T law v c.size_hint.result.0 u.capacity c.reserve.ensures.within.0.room
-    c.in-Ok.ensures.capacity))
+    (cost_at-copied rule T law v c.size_hint.result.0 u.capacity c.reserve.ensures.keeps.within.0.room
+    c.in-Ok.ensures.reserves.ok))
     c.extend_unhinted.ensures.cost
     (loose-le rule T law v.capacity u.capacity
-    (loose-ruled rule T law v c.size_hint.result.0 u.capacity c.in-Ok.ensures.capacity))
+    (loose-ruled rule T law v c.size_hint.result.0 u.capacity c.in-Ok.ensures.reserves.ok))
     (loose-le rule T law u.capacity w.capacity c.extend_unhinted.ensures.capacity)
     (omega (arith, ap length c.reserve.ensures.items))
 
@@ -44,7 +44,7 @@ returns-in-Ok-clause-named g c =
     (λ same. (
       c.size_hint.result.0,
       c.size_hint.ensures.lower,
-      c.in-Ok.ensures.capacity ∙ ap Some (sym same),
+      c.in-Ok.ensures.reserves.ok ∙ ap Some (sym same),
     ))
 
 pub returns-in-Err-clause-named : goal.returns-in-Err-clause-named
@@ -55,13 +55,13 @@ returns-in-Err-clause-cause g c = λ over. (
   c.size_hint.result.0,
   c.size_hint.ensures.lower,
   ap (λ v. capacity_for g.G.Growth.rule (param 0 g.row.T) v c.size_hint.result.0)
-      c.in-Err.ensures.err ∙ c.in-Err.ensures.cause over,
+      c.in-Err.ensures.err ∙ c.in-Err.ensures.reserves.overflow.0 (ap Err over),
 )
 
 pub returns-in-Err-clause-overflow : goal.returns-in-Err-clause-overflow
 returns-in-Err-clause-overflow g c = λ must.
     let hint = c.size_hint.result.0 in let same = c.in-Err.ensures.err in
-    err-same (c.in-Err.ensures.overflow
+    err-same (c.in-Err.ensures.reserves.overflow.1
     (sym (ap (λ v. capacity_for g.G.Growth.rule (param 0 g.row.T) v hint) same)
     ∙ must hint c.size_hint.ensures.lower
     (λ room. false≢true (c.in-Err.ensures.succeeds (subst (λ v. HasRoomFor v hint) same room)))))

@@ -1,11 +1,13 @@
 -- The copies lie after the items.
 use Rattle.std.proofs.lemmas.Grind.{common_steps}
-use Rattle.std.proofs.Common.{◌++◌, ◌∙◌, ap, arith, length, refl}
+use Rattle.std.proofs.Common.{◌++◌, ◌∙◌, ap, arith, length, refl, ◌≡◌}
 use Rattle.thin_block.proofs.BlockLemmas.{then-len}
 use Rattle.thin_block.specs.Slots.{items_in}
 use Rattle.thin_vec.proofs.list.AppendSplitLemmas.{settle-more}
 use Rattle.thin_vec.proofs.ListLemmas.{Settled}
 use Rattle.thin_vec.proofs.ThinVecLemmas.{within-kept, within-of}
+use Rattle.thin_vec.proofs.list.ReservesLemmas.{keeps-kept}
+use Rattle.thin_vec.specs.ThinVec.{thin_of}
 use Rattle.thin_vec.proofs.list.ThinVec.extend_from_copies_reserved.Goals as goal
 
 facts : (g : _) (c : goal.After-store_len g) → Settled c.store_len.new.self c.self.inside.alloc
@@ -28,20 +30,28 @@ invariant_of-self g c = (facts g c).thin
 pub returns-clause-items : goal.returns-clause-items
 returns-clause-items g c = (facts g c).items ∙ ap (λ v. v.items ++ c.args.items.now) c.self.view_is
 
-pub returns-clause-within : goal.returns-clause-within
-returns-clause-within g c =
-    within-kept _ _ _ _ _ _ c.self.invariant c.self.view_is c.len-len.ensures.slots_fit (facts g c)
-
-pub returns-clause-alloc : goal.returns-clause-alloc
-returns-clause-alloc g c = search (arith, ◌∙◌)
-
 pub returns-clause-capacity : goal.returns-clause-capacity
 returns-clause-capacity g c = grind (arith, common_steps)
 
 pub returns-then-is_empty-clause-items : goal.returns-then-is_empty-clause-items
 returns-then-is_empty-clause-items g c = grind (arith, common_steps)
 
-pub returns-then-is_empty-clause-within : goal.returns-then-is_empty-clause-within
-returns-then-is_empty-clause-within g c =
+pub returns-clause-keeps : goal.returns-clause-keeps
+returns-clause-keeps g c =
+    let v = c.args.self.now in let w = thin_of c.store_len.new.self c.self.inside.alloc in
+    let alloc : w.alloc ≡ v.alloc = search (arith, ◌∙◌) in
+    let capacity : w.capacity ≡ v.capacity = grind (arith, common_steps) in
+    let blocks : w.cost.blocks ≡ v.cost.blocks = grind (arith, common_steps) in
+    let grown : w.cost.grown ≡ v.cost.grown = grind (arith, common_steps) in
+    keeps-kept _ v w alloc capacity (blocks, grown)
+    (within-kept _ _ _ _ _ _ c.self.invariant c.self.view_is c.len-len.ensures.slots_fit (facts g c))
+
+pub returns-then-is_empty-clause-keeps : goal.returns-then-is_empty-clause-keeps
+returns-then-is_empty-clause-keeps g c =
     let same = within-of _ _ _ _ c.self.invariant c.self.view_is c.len-len.ensures.slots_fit in
-    (same, same)
+    record {
+      alloc = refl;
+      never_less = omega arith;
+      cheap = λ cheap. cheap;
+      within = (same, same);
+    }

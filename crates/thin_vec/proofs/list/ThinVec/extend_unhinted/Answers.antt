@@ -1,13 +1,13 @@
 -- What came in so far, and one item more.
 use Rattle.std.proofs.lemmas.Grind.{common_steps}
-use Rattle.std.proofs.Common.{◌++◌, ◌∷◌, [], ◌-◌, ◌∙◌, ap, arith, append_assoc, length, length-append, subst, sym, ◌+◌, inr}
+use Rattle.std.proofs.Common.{Err, ◌++◌, ◌∷◌, [], ◌-◌, ◌∙◌, ap, arith, append_assoc, length, length-append, subst, sym, ◌+◌, inr}
 use Rattle.std.proofs.lemmas.List.{length_push}
 use denote.Param.{param}
 use Rattle.thin_vec.specs.List.Extend.{IsLoose}
 use Rattle.thin_vec.specs.ThinVec.{capacity_for}
 use Rattle.thin_vec.proofs.list.ExtendLemmas.{named-more, filled-at, filled-join, filled-spare, loose-join, loose-le, loose-ruled, yields-join, yields-more}
 use Rattle.thin_vec.proofs.ThinVecLemmas.{cost_at-copied}
-use Rattle.thin_block.proofs.Outcomes.{at-some}
+use Rattle.thin_block.proofs.Outcomes.{at-some, err-same}
 use Rattle.thin_vec.proofs.list.ThinVec.extend_unhinted.Goals as goal
 
 pub returns-in_default-clause-items : goal.returns-in_default-clause-items
@@ -87,12 +87,12 @@ loop-item-preserved g c =
     let long = ap length pushed.items ∙ length_push w.items c.in-Some.item in
     let more = ap length now.1 ∙ length-append u.items now.0 in
     let some = ap length before.1 ∙ length-append v.items before.0 in
-    let grown = loose-ruled rule T law w 1 z.capacity pushed.capacity in
+    let grown = loose-ruled rule T law w 1 z.capacity pushed.reserves.ok in
     let spare = filled-spare u w (length w.items - length u.items)
     c.extend_reserved-left.ensures.changes (omega (arith, more)) in
     let push = filled-at w z 1 pushed.cost long
     (cost_at-copied rule T law w 1 z.capacity c.extend_reserved-left.ensures.within.1.room
-    pushed.capacity) in
+    pushed.reserves.ok) in
     let high = loose-le rule T law w.capacity z.capacity grown in
     let low = loose-le rule T law v.capacity u.capacity held.capacity in
     record {
@@ -110,11 +110,11 @@ loop-item-preserved g c =
       never_less = omega (
         arith,
         held.never_less,
-        pushed.never_less,
+        pushed.keeps.never_less,
         kept,
       );
       had_room = λ fit. let same = held.had_room fit in
-          pushed.had_room (omega (
+          pushed.reserves.had_room (omega (
             arith,
             fit,
             held.nearer,
@@ -133,11 +133,11 @@ loop-item-preserved g c =
             length w.items + 1,
             omega (arith, full),
             omega (arith, long),
-            pushed.capacity,
+            pushed.reserves.ok,
           );
-      alloc = pushed.alloc
+      alloc = pushed.keeps.alloc
           ∙ (ap (λ y. y.alloc) c.extend_reserved-left.ensures.changes ∙ held.alloc);
-      cheap = λ first. pushed.cheap (c.extend_reserved-left.ensures.cheap (held.cheap first));
+      cheap = λ first. pushed.keeps.cheap (c.extend_reserved-left.ensures.cheap (held.cheap first));
     }
 
 pub returns-in-Err-clause-succeeds : goal.returns-in-Err-clause-succeeds
@@ -158,9 +158,9 @@ returns-in-Err-clause-succeeds g c = λ fit.
 
 pub returns-in-Err-clause-overflow : goal.returns-in-Err-clause-overflow
 returns-in-Err-clause-overflow g c =
-    λ none. c.in-Err.ensures.overflow
+    λ none. err-same (c.in-Err.ensures.reserves.overflow.1
     (ap (λ v. capacity_for g.G.Growth.rule (param 0 g.row.T) v 1) (sym c.in-Err.ensures.err)
-    ∙ none)
+    ∙ none))
 
 pub returns-in-Err-clause-cost : goal.returns-in-Err-clause-cost
 returns-in-Err-clause-cost g c =
@@ -182,10 +182,16 @@ pub returns-in-Err-clause-alloc : goal.returns-in-Err-clause-alloc
 returns-in-Err-clause-alloc g c = search (arith, ◌∙◌)
 
 pub returns-in-Err-clause-capacity : goal.returns-in-Err-clause-capacity
-returns-in-Err-clause-capacity g c = search (arith, ◌∙◌)
+returns-in-Err-clause-capacity g c =
+    let kept = ap (λ z. z.capacity) c.in-Err.ensures.err
+    ∙ ap (λ z. z.capacity) c.extend_reserved-left.ensures.changes in
+    subst (λ n. IsLoose g.G.Growth.rule (param 0 g.row.T) c.args.self.now.capacity n) (sym kept)
+    c.loop-item.invariant.capacity
 
 pub returns-in-Err-clause-cause : goal.returns-in-Err-clause-cause
-returns-in-Err-clause-cause g c = search (arith, ◌∙◌)
+returns-in-Err-clause-cause g c = λ over.
+    ap (λ v. capacity_for g.G.Growth.rule (param 0 g.row.T) v 1) c.in-Err.ensures.err
+    ∙ c.in-Err.ensures.reserves.overflow.0 (ap Err over)
 
 pub returns-in-Err-clause-cheap : goal.returns-in-Err-clause-cheap
 returns-in-Err-clause-cheap g c = search (arith, ◌∙◌)

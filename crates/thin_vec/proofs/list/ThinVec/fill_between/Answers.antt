@@ -46,10 +46,10 @@ grown g c =
     reached-taken first rule T law c.args.self.now.alloc c.reserve.new.self 0 0 0 (omega arith)
     (filled-taken p rule T 0 (left c.args.iter) (omega (arith, p.cost.3 c.if-ended.false)))
     (taken-reserved rule T law c.close_filled-end.new.self c.reserve.new.self
-    c.size_hint-hint.result.0 (left c.close_filled-end.result.1) c.in_default.ensures.capacity
-    c.reserve.ensures.items c.reserve.ensures.alloc c.in_default.ensures.cost
-    c.reserve.ensures.cheap (c.size_hint-hint.ensures.lower first.finite)
-    c.reserve.ensures.within.0.room)
+    c.size_hint-hint.result.0 (left c.close_filled-end.result.1) c.in_default.ensures.reserves.ok
+    c.reserve.ensures.items c.reserve.ensures.keeps.alloc c.in_default.ensures.cost
+    c.reserve.ensures.keeps.cheap (c.size_hint-hint.ensures.lower first.finite)
+    c.reserve.ensures.keeps.within.0.room)
 
 -- where a capacity comes from that was named after that
 named : (g : _) (c : After-close_filled-last g) (d n : ℕ)
@@ -66,7 +66,7 @@ named g c d n e =
     (λ same. (
       c.size_hint-hint.result.0,
       c.size_hint-hint.ensures.lower,
-      c.in_default.ensures.capacity ∙ ap Some (sym same),
+      c.in_default.ensures.reserves.ok ∙ ap Some (sym same),
     )))
 
 pub returns-then-ended : goal.returns-then-ended
@@ -90,20 +90,25 @@ returns-in-Err g c =
     let same = c.in-Err.ensures.err in
     let here = reached-grown (filled-reached p c.if-ended.false) w c.reserve.ensures.items in
     finished-from v a c.args.iter w (Err _) here c.requires.some
-    (λ none. c.in-Err.ensures.succeeds_empty
-    (omega (arith, none, c.size_hint-hint.ensures.lower here.finite)))
+    (λ none. c.in-Err.ensures.succeeds
+    (omega (
+      arith,
+      none,
+      c.size_hint-hint.ensures.lower here.finite,
+      c.reserve.ensures.keeps.within.0.room,
+    )))
     tt
     (stopped-now g.I.Iterator.next_gives g.I.Iterator.can_next left t t [] c.new.result.items None
     c.new.ensures.items refl here.can_next here.finite)
     (stop-at-hint rule T w v.tail c.new.result.items None (left t) c.in-Err.cause c.requires.some
     c.new.ensures.items refl
-    (λ must. err-same (c.in-Err.ensures.overflow
+    (λ must. err-same (c.in-Err.ensures.reserves.overflow.1
     (sym (ap (λ z. capacity_for rule T z hint) same) ∙ must hint c.size_hint-hint.ensures.lower
     (λ room. false≢true (c.in-Err.ensures.succeeds (subst (λ z. HasRoomFor z hint) same room))))))
     (λ over. (
       hint,
       c.size_hint-hint.ensures.lower,
-      ap (λ z. capacity_for rule T z hint) same ∙ c.in-Err.ensures.cause over,
+      ap (λ z. capacity_for rule T z hint) same ∙ c.in-Err.ensures.reserves.overflow.0 (ap Err over),
     )))
     refl
     (subst (λ z. HasTaken rule T (left_of v a) z (2 * length v.tail) (left c.args.iter)) (sym same)

@@ -2,9 +2,6 @@
 use Rattle.std.proofs.Common.{◌∙◌, arith}
 use Rattle.thin_vec.proofs.list.ThinVec.insert.Goals as goal
 
-pub returns-clause-alloc : goal.returns-clause-alloc
-returns-clause-alloc g c = search (arith, ◌∙◌)
-
 pub returns-clause-items : goal.returns-clause-items
 returns-clause-items g c = search (arith, ◌∙◌)
 

@@ -1,5 +1,5 @@
 -- What was drawn is held, and then goes in, or is returned with the cause.
-use Rattle.std.proofs.Common.{None, Some, inl, inr, ◌≡◌, ◌+◌, ◌-◌, ◌<◌, ◌∙◌, ap, arith, length, refl, subst, sym}
+use Rattle.std.proofs.Common.{Err, None, Some, inl, inr, ◌≡◌, ◌+◌, ◌-◌, ◌<◌, ◌∙◌, ap, arith, length, refl, subst, sym}
 use Rattle.std.proofs.lemmas.Bool.{cases_lt, false≢true}
 use Rattle.std.specs.Option.{option_len}
 use Rattle.std.specs.Prelude.{IsSome}
@@ -20,7 +20,8 @@ more : (g : _) (c : In-Err g) → 0 < length c.draw-held.result.0.items
 more g c = elim (cases_lt 0 (length c.draw-held.result.0.items)) [
   | inl some ↦ some
   | inr none ↦
-      absurd (false≢true (c.in-Err.ensures.succeeds_empty (omega (arith, count g c, none))))
+      absurd (false≢true (c.in-Err.ensures.succeeds
+      (omega (arith, count g c, none, c.reserve.ensures.keeps.within.0.room))))
 ]
 
 -- how many there are then
@@ -58,7 +59,14 @@ returns-in-Err-clause-placed g c =
 pub returns-in-Err-clause-succeeds : goal.returns-in-Err-clause-succeeds
 returns-in-Err-clause-succeeds g c = λ none.
     let here = (goal.at.returns-in-Err-clause-succeeds g c).In-Err in
-    c.in-Err.ensures.succeeds_empty (omega (arith, count g here, none, c.draw-held.ensures.fewer))
+    c.in-Err.ensures.succeeds
+    (omega (
+      arith,
+      count g here,
+      none,
+      c.draw-held.ensures.fewer,
+      c.reserve.ensures.keeps.within.0.room,
+    ))
 
 pub returns-in-Err-clause-cause : goal.returns-in-Err-clause-cause
 returns-in-Err-clause-cause g c = λ tail some.
@@ -71,8 +79,8 @@ returns-in-Err-clause-cause g c = λ tail some.
     stop-at-held rule T c.reserve.new.self tail held None
     (g.I.Iterator.remaining c.draw-held.result.2) c.in-Err.cause some (λ _. more g here)
     (λ _. (
-      λ over. sym same ∙ c.in-Err.ensures.cause over,
-      λ none. err-same (c.in-Err.ensures.overflow (same ∙ none)),
+      λ over. sym same ∙ c.in-Err.ensures.reserves.overflow.0 (ap Err over),
+      λ none. err-same (c.in-Err.ensures.reserves.overflow.1 (same ∙ none)),
     ))
     (λ is. absurd (false≢true is))
 
@@ -91,7 +99,7 @@ returns-clause-named g c =
     let kept = c.insert_vec.ensures.changes in
     subst (λ d. IsNamed rule T v.capacity d (length w.items)) (ap (λ z. z.capacity) (sym kept))
     (named-ruled rule T g.met.G.Growth.law v c.len.result u.capacity (length w.items)
-    c.in_default-reserve.ensures.capacity
+    c.in_default-reserve.ensures.reserves.ok
     (omega (
       arith,
       c.len.ensures ∙ c.draw-held.result.0.ok.0,
@@ -110,10 +118,10 @@ returns-clause-taken g c =
     let kept = c.insert_vec.ensures.changes in let paid = c.insert_vec.ensures.cost in
     taken-join rule T law v u c.insert_vec.new.self 0 n n left left (omega arith)
     (omega (arith, old)) (λ fit same. omega (arith, fit, same, old))
-    (taken-reserved rule T law v u c.len.result left c.in_default-reserve.ensures.capacity
-    c.reserve.ensures.items c.reserve.ensures.alloc c.in_default-reserve.ensures.cost
-    c.reserve.ensures.cheap (omega (arith, count, c.draw-held.ensures.fewer))
-    c.reserve.ensures.within.0.room)
+    (taken-reserved rule T law v u c.len.result left c.in_default-reserve.ensures.reserves.ok
+    c.reserve.ensures.items c.reserve.ensures.keeps.alloc c.in_default-reserve.ensures.cost
+    c.reserve.ensures.keeps.cheap (omega (arith, count, c.draw-held.ensures.fewer))
+    c.reserve.ensures.keeps.within.0.room)
     (taken-spare rule T u c.insert_vec.new.self (length c.draw-held.result.0.items) paid.0 n left
     paid.1 (ap (λ z. z.capacity) kept) (long g c) (omega (arith, paid.2, old))
     (ap (λ z. z.alloc) kept))

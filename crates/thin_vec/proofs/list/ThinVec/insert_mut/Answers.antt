@@ -2,8 +2,8 @@
 use Rattle.std.proofs.Common.{◌≡◌, ap, arith, drop, get_or, length, refl, take, ◌∙◌}
 use Rattle.std.proofs.lemmas.List.{get_or_at, length-take-le, set_at}
 use lib.ListN.{length-set, set}
-use Rattle.thin_block.proofs.Outcomes.{none-some}
 use Rattle.thin_vec.proofs.ThinVecLemmas.{within-like}
+use Rattle.thin_vec.proofs.list.ReservesLemmas.{tells-ok}
 use Rattle.thin_vec.proofs.list.ThinVec.insert_mut.Goals as goal
 
 pub returns : goal.returns
@@ -15,15 +15,15 @@ returns g c =
     let put = c.in_ok-insert.ensures.items in
     let at : length (take i xs) ≡ i = length-take-le i xs c.requires.in_bounds in
     let y = c.index_mut.result.now in
-    let within = c.insert.ensures.within in (
+    let within = c.insert.ensures.keeps.within in (
       (
         refl,
         λ w _. record {
           items = ap (λ l. set l i w) put ∙ set_at (take i xs) v (drop i xs) w i at;
-          capacity = c.in_ok-insert.ensures.capacity;
-          alloc = c.insert.ensures.alloc;
+          capacity = c.in_ok-insert.ensures.reserves.ok;
+          alloc = c.insert.ensures.keeps.alloc;
           cost = c.in_ok-insert.ensures.cost;
-          cheap = c.insert.ensures.cheap;
+          cheap = c.insert.ensures.keeps.cheap;
           within = within-like _ _ new within.1 refl
               (omega (arith, length-set new.items i w, within.1.room));
         },
@@ -34,8 +34,7 @@ returns g c =
         value = c.index_mut.ensures.item
             ∙ (ap (λ l. get_or l i y) put ∙ get_or_at (take i xs) v (drop i xs) y i at);
         succeeds = λ _. refl;
-        overflow = λ none. absurd (none-some none c.in_ok-insert.ensures.capacity);
-        cause = tt;
+        overflow = tells-ok _ _ _ c.in_ok-insert.ensures.reserves.ok;
         value_returned = tt;
         within = within.0;
       },

@@ -29,7 +29,7 @@ loop-i-preserved g c =
       );
       len = ap length pushed.items ∙ (length_push _ y ∙ omega (arith, was.len));
       capacity = pushed.capacity ∙ was.capacity;
-      alloc = pushed.alloc ∙ was.alloc;
+      alloc = pushed.keeps.alloc ∙ was.alloc;
       cost = pushed.cost ∙ (ap (λ d. moving 1 d) was.cost ∙ moving-more 1 i c.args.self.now.cost);
-      within = pushed.within.1;
+      within = pushed.keeps.within.1;
     }

@@ -2,8 +2,8 @@
 use Rattle.std.proofs.Common.{[], ap, arith, get_or, refl, sym, ◌∙◌}
 use Rattle.std.proofs.lemmas.List.{get_or_at, set_at}
 use lib.ListN.{length-set, set}
-use Rattle.thin_block.proofs.Outcomes.{none-some}
 use Rattle.thin_vec.proofs.ThinVecLemmas.{within-like}
+use Rattle.thin_vec.proofs.list.ReservesLemmas.{tells-ok}
 use Rattle.thin_vec.proofs.list.ThinVec.push_mut.Goals as goal
 
 pub returns : goal.returns
@@ -15,15 +15,15 @@ returns g c =
     let put = c.in_ok-push.ensures.items in
     let at = sym c.len-len.ensures.value in
     let y = c.index_mut.result.now in
-    let within = c.push.ensures.within in (
+    let within = c.push.ensures.keeps.within in (
       (
         refl,
         λ w _. record {
           items = ap (λ l. set l i w) put ∙ set_at xs v [] w i at;
-          capacity = c.in_ok-push.ensures.capacity;
-          alloc = c.push.ensures.alloc;
+          capacity = c.in_ok-push.ensures.reserves.ok;
+          alloc = c.push.ensures.keeps.alloc;
           cost = c.in_ok-push.ensures.cost;
-          cheap = c.push.ensures.cheap;
+          cheap = c.push.ensures.keeps.cheap;
           within = within-like _ _ new within.1 refl
               (omega (arith, length-set new.items i w, within.1.room));
         },
@@ -34,8 +34,7 @@ returns g c =
         value = c.index_mut.ensures.item
             ∙ (ap (λ l. get_or l i y) put ∙ get_or_at xs v [] y i at);
         succeeds = λ _. refl;
-        overflow = λ none. absurd (none-some none c.in_ok-push.ensures.capacity);
-        cause = tt;
+        overflow = tells-ok _ _ _ c.in_ok-push.ensures.reserves.ok;
         value_returned = tt;
         within = within.0;
       },

@@ -1,5 +1,5 @@
 -- One slot is emptied, and those after it close the gap.
-use Rattle.std.proofs.Common.{◌+◌, ◌-◌, ap, ◌∙◌, length, arith, refl}
+use Rattle.std.proofs.Common.{◌+◌, ◌-◌, ap, ◌∙◌, length, arith, refl, ◌≡◌}
 use Rattle.std.specs.Prelude.{remove}
 use Rattle.thin_vec.proofs.ListLemmas.{Settled, thin-filled, thin-get, kept-filled}
 use Rattle.thin_block.proofs.BlockLemmas.{then-len}
@@ -9,6 +9,9 @@ use Rattle.thin_block.specs.Slots.{items_in, moved}
 use Rattle.thin_vec.proofs.ThinVecLemmas.{within-kept}
 use Rattle.thin_vec.proofs.list.ThinVec.remove.Goals.{After-store_len}
 use Rattle.thin_vec.proofs.list.InsertRemoveLemmas.{settle-remove}
+use Rattle.thin_vec.proofs.list.ReservesLemmas.{keeps-kept}
+use Rattle.thin_vec.specs.ThinVec.{thin_of}
+use Rattle.std.proofs.lemmas.Grind.{common_steps}
 use Rattle.thin_vec.proofs.list.ThinVec.remove.Goals as goal
 
 pub take-value-requires : goal.take-value-requires
@@ -52,6 +55,12 @@ invariant_of-self g c = (facts g c).thin
 pub returns-clause-items : goal.returns-clause-items
 returns-clause-items g c = (facts g c).items ∙ ap (λ v. remove v.items c.args.index) c.self.view_is
 
-pub returns-clause-within : goal.returns-clause-within
-returns-clause-within g c =
-    within-kept _ _ _ _ _ _ c.self.invariant c.self.view_is c.len-len.ensures.slots_fit (facts g c)
+pub returns-clause-keeps : goal.returns-clause-keeps
+returns-clause-keeps g c =
+    let v = c.args.self.now in let w = thin_of c.store_len.new.self c.self.inside.alloc in
+    let alloc : w.alloc ≡ v.alloc = search (arith, ◌∙◌) in
+    let capacity : w.capacity ≡ v.capacity = grind (arith, common_steps) in
+    let blocks : w.cost.blocks ≡ v.cost.blocks = grind (arith, common_steps) in
+    let grown : w.cost.grown ≡ v.cost.grown = grind (arith, common_steps) in
+    keeps-kept _ v w alloc capacity (blocks, grown)
+    (within-kept _ _ _ _ _ _ c.self.invariant c.self.view_is c.len-len.ensures.slots_fit (facts g c))

@@ -1,21 +1,23 @@
--- The capacity is that for the items that come in beyond the range.
-use Rattle.std.proofs.Common.{◌≡◌, ◌-◌, ◌∙◌, ap, arith, length}
+-- The capacity is that for the items beyond the range's places.
+use Rattle.std.proofs.Common.{◌≡◌, ◌-◌, Ok, ap, arith, length}
 use denote.Param.{param}
 use Rattle.thin_vec.specs.ThinVec.{capacity_for}
+use Rattle.thin_vec.proofs.list.ReservesLemmas.{reserves-failed, reserves-then}
 use Rattle.thin_vec.proofs.list.ThinVec.replace_range_from_list.Goals as goal
 
-pub returns-in-Err-clause-overflow : goal.returns-in-Err-clause-overflow
-returns-in-Err-clause-overflow g c =
-    let more : c.saturating_sub.result
-    ≡ length c.args.other.now.items - (c.args.end - c.args.start) =
-    omega arith in
-    λ none. c.in-Err.ensures.overflow
-    (ap (λ n. capacity_for g.G.Growth.rule (param 0 g.row.T) c.args.self.now n) more ∙ none)
+pub returns-clause-reserves : goal.returns-clause-reserves
+returns-clause-reserves g c =
+    let v = c.args.self.now in let rule = g.G.Growth.rule in let T = param 0 g.row.T in
+    let k = c.saturating_sub.result in
+    let more : length c.args.other.now.items - (c.args.end - c.args.start) ≡ k = omega arith in
+    reserves-then _ v rule T k _ c.reserve.new.self _ (Ok tt) more
+    (ap (λ n. capacity_for rule T v n) more)
+    (ap (λ z. z.capacity) c.replace_reserved_from_list.ensures.changes) c.in-Ok.ensures.reserves tt
 
-pub returns-clause-overflow : goal.returns-clause-overflow
-returns-clause-overflow g c =
-    let more : c.saturating_sub.result
-    ≡ length c.args.other.now.items - (c.args.end - c.args.start) =
-    omega arith in
-    λ none. c.in-Ok.ensures.overflow
-    (ap (λ n. capacity_for g.G.Growth.rule (param 0 g.row.T) c.args.self.now n) more ∙ none)
+pub returns-in-Err-clause-reserves : goal.returns-in-Err-clause-reserves
+returns-in-Err-clause-reserves g c =
+    let v = c.args.self.now in let rule = g.G.Growth.rule in let T = param 0 g.row.T in
+    let k = c.saturating_sub.result in
+    let more : length c.args.other.now.items - (c.args.end - c.args.start) ≡ k = omega arith in
+    reserves-failed _ v rule T k _ _ c.in-Err.cause more (ap (λ n. capacity_for rule T v n) more)
+    c.in-Err.ensures.reserves c.in-Err.ensures.err

@@ -53,7 +53,7 @@ pub returns-in-Err-clause-refused : goal.returns-in-Err-clause-refused
 returns-in-Err-clause-refused g c =
     let n = length c.args.self.now.items in
     let k2 = length c.split_at.result.1.now in
-    let stopped = c.in-Err.ensures.refused in
+    let stopped = c.in-Err.ensures.err_cost in
     let long = replaced-length g.T.Clone.is_clone c.args.self.now.items c.args.end
     c.split_at.result.1.now c.insert_clones_reserved.new.self.items c.requires.in_bounds
     c.in_ok-insert_clones_reserved.ensures.items in

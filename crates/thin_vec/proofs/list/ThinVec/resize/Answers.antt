@@ -7,12 +7,9 @@ use Rattle.thin_vec.specs.List.Clones.{CloneEquals, IsResized, StopsAtClone}
 use Rattle.thin_vec.specs.ThinVec.{capacity_for, cost_at}
 use Rattle.thin_block.proofs.Outcomes.{on-err, none-some}
 use Rattle.thin_block.proofs.CapacityLemmas.{ruled}
+use Rattle.thin_vec.specs.List.Capacity.{Reserves}
+use Rattle.thin_vec.proofs.list.ReservesLemmas.{reserves-room, reserves-then}
 use Rattle.thin_vec.proofs.list.ThinVec.resize.Goals as goal
-
-pub returns-clause-overflow : goal.returns-clause-overflow
-returns-clause-overflow g c = λ none.
-    absurd (none-some (ap (λ n. capacity_for g.G.Growth.rule (param 0 g.row.T) c.args.self.now
-    (c.args.len - n)) c.len-old.ensures.value ∙ none) c.in_ok-reserve.ensures.capacity)
 
 pub returns-clause-items : goal.returns-clause-items
 returns-clause-items g c =
@@ -39,54 +36,8 @@ returns-clause-items_if_clones_equal g c =
     (CloneEquals g.T.Clone.is_clone x → c.resize_reserved.new.self.items ≡ xs))
     same c.resize_reserved.ensures.items_if_clones_equal
 
-pub returns-clause-refused : goal.returns-clause-refused
-returns-clause-refused g c =
-    let v = c.args.self.now in
-    let x = c.args.value in
-    let old = c.len-old.ensures.value in
-    let grown = c.reserve.new.self in
-    let new = c.resize_reserved.new.self in
-    let capacity = sym (ap (λ w. w.capacity) c.resize_reserved.ensures.changes) in
-    let paid : grown.cost ≡ cost_at v new.capacity = c.in_ok-reserve.ensures.cost
-    ∙ ap (λ n. cost_at v n) capacity in
-    on-err c.resize_reserved.result (λ stops. inr (record {
-      capacity = sym (ap (λ n. capacity_for g.G.Growth.rule (param 0 g.row.T) v (c.args.len - n))
-          old) ∙ (c.in_ok-reserve.ensures.capacity ∙ ap Some capacity);
-      stopped = subst (λ n. StopsAtClone g.T.Clone.is_infallible (replicate (c.args.len - n - 1) x)
-          (cost_at v new.capacity) new.cost) old
-          (subst (λ k. StopsAtClone g.T.Clone.is_infallible
-          (replicate (c.args.len - c.len-old.result - 1) x) k new.cost) paid stops);
-    })) c.resize_reserved.ensures.refused
-
-pub returns-then-len-old-clause-overflow : goal.returns-then-len-old-clause-overflow
-returns-then-len-old-clause-overflow g c = grind (arith, ruled)
-
-pub returns-then-len-old-clause-capacity : goal.returns-then-len-old-clause-capacity
-returns-then-len-old-clause-capacity g c = grind (arith, ruled)
-
-pub returns-in_err-reserve-clause-overflow : goal.returns-in_err-reserve-clause-overflow
-returns-in_err-reserve-clause-overflow g c = grind (arith, ruled)
-
-pub returns-clause-capacity : goal.returns-clause-capacity
-returns-clause-capacity g c = grind (arith, ruled)
-
-pub returns-clause-alloc : goal.returns-clause-alloc
-returns-clause-alloc g c = search (arith, ◌∙◌)
-
-pub returns-clause-cause : goal.returns-clause-cause
-returns-clause-cause g c = search (arith, ◌∙◌)
-
-pub returns-clause-cheap : goal.returns-clause-cheap
-returns-clause-cheap g c = search (arith, ◌∙◌)
-
 pub returns-clause-err : goal.returns-clause-err
 returns-clause-err g c = search (arith, ◌∙◌)
-
-pub returns-in_err-reserve-clause-capacity : goal.returns-in_err-reserve-clause-capacity
-returns-in_err-reserve-clause-capacity g c = search (arith, ◌∙◌)
-
-pub returns-in_err-reserve-clause-cause : goal.returns-in_err-reserve-clause-cause
-returns-in_err-reserve-clause-cause g c = search (arith, ◌∙◌)
 
 pub returns-in_err-reserve-clause-cost : goal.returns-in_err-reserve-clause-cost
 returns-in_err-reserve-clause-cost g c = search (arith, ◌∙◌)
@@ -103,8 +54,25 @@ returns-in_err-reserve-clause-items g c = search (arith, ◌∙◌)
 pub returns-in_err-reserve-clause-items_if_clones_equal : goal.returns-in_err-reserve-clause-items_if_clones_equal
 returns-in_err-reserve-clause-items_if_clones_equal g c = search (arith, ◌∙◌)
 
-pub returns-in_err-reserve-clause-refused : goal.returns-in_err-reserve-clause-refused
-returns-in_err-reserve-clause-refused g c = search (arith, ◌∙◌)
-
 pub returns-then-len-old-clause-items : goal.returns-then-len-old-clause-items
 returns-then-len-old-clause-items g c = grind (arith, common_steps)
+
+pub returns-then-len-old-clause-reserves : goal.returns-then-len-old-clause-reserves
+returns-then-len-old-clause-reserves g c =
+    reserves-room _ c.args.self.now g.G.Growth.rule _ _
+    (omega (arith, c.len-old.ensures.value, c.if-len-old.true, c.len-old.ensures.within.room))
+    (ap (λ v. v.capacity) c.truncate.ensures.changes)
+
+pub returns-in_err-reserve-clause-reserves : goal.returns-in_err-reserve-clause-reserves
+returns-in_err-reserve-clause-reserves g c =
+    subst (λ n. Reserves g.G.Growth.rule (param 0 g.row.T) (c.args.len - n) c.args.self.now
+    c.reserve.new.self c.from_residual.result) c.len-old.ensures.value (search (arith, ◌∙◌))
+
+pub returns-clause-reserves : goal.returns-clause-reserves
+returns-clause-reserves g c =
+    let rule = g.G.Growth.rule in let T = param 0 g.row.T in let v = c.args.self.now in
+    let len = sym c.len-old.ensures.value in
+    reserves-then _ v rule T (c.args.len - c.len-old.result) _ c.reserve.new.self _ c.resize_reserved.result
+    (ap (λ n. c.args.len - n) len)
+    (ap (λ n. capacity_for rule T v (c.args.len - n)) len)
+    (ap (λ z. z.capacity) c.resize_reserved.ensures.changes) c.in_ok-reserve.ensures.reserves c.resize_reserved.ensures.cause

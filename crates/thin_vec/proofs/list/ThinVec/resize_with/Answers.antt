@@ -1,21 +1,27 @@
--- The capacity is the ruled one, which does not overflow where the list has it.
-use Rattle.std.proofs.Common.{◌-◌, ap, arith, ◌∙◌}
+-- The ruled capacity is that for the items that are added.
+use Rattle.std.proofs.Common.{Ok, ◌-◌, ap, arith, subst, sym, ◌∙◌}
 use denote.Param.{param}
-use Rattle.thin_block.proofs.CapacityLemmas.{ruled}
-use Rattle.thin_block.proofs.Outcomes.{none-some}
+use Rattle.thin_vec.specs.List.Capacity.{Reserves}
 use Rattle.thin_vec.specs.ThinVec.{capacity_for}
+use Rattle.thin_vec.proofs.list.ReservesLemmas.{reserves-room, reserves-then}
 use Rattle.thin_vec.proofs.list.ThinVec.resize_with.Goals as goal
 
-pub returns-clause-overflow : goal.returns-clause-overflow
-returns-clause-overflow g c = λ none.
-    absurd (none-some (ap (λ n. capacity_for g.G.Growth.rule (param 0 g.row.T) c.args.self.now
-    (c.args.len - n)) c.len-old.ensures.value ∙ none) c.in_ok-reserve.ensures.capacity)
+pub returns-then-len-old-clause-reserves : goal.returns-then-len-old-clause-reserves
+returns-then-len-old-clause-reserves g c =
+    reserves-room _ c.args.self.now g.G.Growth.rule _ _
+    (omega (arith, c.len-old.ensures.value, c.if-len-old.true, c.len-old.ensures.within.room))
+    (ap (λ v. v.capacity) c.truncate.ensures.changes)
 
-pub returns-then-len-old-clause-overflow : goal.returns-then-len-old-clause-overflow
-returns-then-len-old-clause-overflow g c = grind (arith, ruled)
+pub returns-in_err-reserve-clause-reserves : goal.returns-in_err-reserve-clause-reserves
+returns-in_err-reserve-clause-reserves g c =
+    subst (λ n. Reserves g.G.Growth.rule (param 0 g.row.T) (c.args.len - n) c.args.self.now
+    c.reserve.new.self c.from_residual.result) c.len-old.ensures.value (search (arith, ◌∙◌))
 
-pub returns-then-len-old-clause-capacity : goal.returns-then-len-old-clause-capacity
-returns-then-len-old-clause-capacity g c = grind (arith, ruled)
-
-pub returns-in_err-reserve-clause-overflow : goal.returns-in_err-reserve-clause-overflow
-returns-in_err-reserve-clause-overflow g c = grind (arith, ruled)
+pub returns-clause-reserves : goal.returns-clause-reserves
+returns-clause-reserves g c =
+    let rule = g.G.Growth.rule in let T = param 0 g.row.T in let v = c.args.self.now in
+    let len = sym c.len-old.ensures.value in
+    reserves-then _ v rule T (c.args.len - c.len-old.result) _ c.reserve.new.self _ (Ok tt)
+    (ap (λ n. c.args.len - n) len)
+    (ap (λ n. capacity_for rule T v (c.args.len - n)) len)
+    (ap (λ z. z.capacity) c.push_results_reserved.ensures.changes) c.in_ok-reserve.ensures.reserves tt

@@ -4,6 +4,7 @@ use Rattle.std.specs.Borrow.{u8}
 use Rattle.std.specs.Prelude.{IfErr, Option, ℕ}
 use Rattle.thin_block.proofs.CapacityLemmas.{exact-at}
 use Rattle.thin_block.specs.Growth.{exact_capacity}
+use Rattle.thin_vec.proofs.list.ReservesLemmas.{tells-same}
 use Rattle.thin_vec.proofs.convert.bytes.ThinVec+u8+A.from_str.Goals as goal
 use Rattle.thin_vec.specs.ThinVec.{IsCause}
 
@@ -11,15 +12,9 @@ use Rattle.thin_vec.specs.ThinVec.{IsCause}
 -- bytes
 pub returns-clause-overflow : goal.returns-clause-overflow
 returns-clause-overflow g c =
-    λ none. c.from_copies.ensures.overflow (exact-at _ u8 0 (length c.as_bytes.result.now) refl refl
-    ∙ (ap (λ bytes. exact_capacity u8 0 (length bytes)) c.as_bytes.ensures.value ∙ none))
-
-pub returns-clause-cause : goal.returns-clause-cause
-returns-clause-cause g c =
-    subst (λ (named : Option ℕ). IfErr c.from_copies.result (IsCause named))
-    (exact-at _ u8 0 (length c.as_bytes.result.now) refl refl
+    tells-same _ _ (exact-at _ u8 0 (length c.as_bytes.result.now) refl refl
     ∙ ap (λ bytes. exact_capacity u8 0 (length bytes)) c.as_bytes.ensures.value)
-    c.from_copies.ensures.cause
+    c.from_copies.ensures.overflow
 
 pub returns-clause-items : goal.returns-clause-items
 returns-clause-items g c = search (arith, ◌∙◌)

@@ -10,11 +10,8 @@ pub returns-clause-capacity : goal.returns-clause-capacity
 returns-clause-capacity g c =
     ruled-at u8 _ c.args.self.now.capacity (length c.args.self.now.items + length c.args.buf.now)
     refl refl g.G.Growth.rule
-    ∙ (c.in-Ok.ensures.capacity
+    ∙ (c.in-Ok.ensures.reserves.ok
     ∙ ap (λ n. Some n) (sym c.extend_from_copies_reserved.ensures.capacity))
 
 pub returns-clause-overflow : goal.returns-clause-overflow
 returns-clause-overflow g c = λ none. absurd (none-some none (returns-clause-capacity g c))
-
-pub returns-clause-cheap : goal.returns-clause-cheap
-returns-clause-cheap g c = search (arith, ◌∙◌)

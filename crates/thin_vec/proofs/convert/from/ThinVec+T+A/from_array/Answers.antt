@@ -31,15 +31,13 @@ pub returns-in-Ok-clause-items : goal.returns-in-Ok-clause-items
 returns-in-Ok-clause-items g c = (facts g c).items ∙ ap (λ xs. xs ++ c.args.items)
     (ap (λ v. v.items) c.list.view_is ∙ c.in-Ok.ensures.items)
 
-pub returns-in-Ok-clause-within : goal.returns-in-Ok-clause-within
-returns-in-Ok-clause-within g c = within-stays _ c.list.inside.block c.list.inside.alloc
-    c.set_len.new.self _ _ c.in-Ok.ensures.within c.list.view_is (facts g c)
-
-pub returns-in-Ok-clause-alloc : goal.returns-in-Ok-clause-alloc
-returns-in-Ok-clause-alloc g c = search (arith, ◌∙◌)
-
-pub returns-in-Ok-clause-cheap : goal.returns-in-Ok-clause-cheap
-returns-in-Ok-clause-cheap g c = search (arith, ◌∙◌)
-
 pub returns-in-Ok-clause-capacity : goal.returns-in-Ok-clause-capacity
 returns-in-Ok-clause-capacity g c = grind (arith, common_steps)
+
+pub returns-in-Ok-clause-made : goal.returns-in-Ok-clause-made
+returns-in-Ok-clause-made g c = record {
+  alloc = search (arith, ◌∙◌);
+  cheap = search (arith, ◌∙◌);
+  within = within-stays _ c.list.inside.block c.list.inside.alloc
+      c.set_len.new.self _ _ c.in-Ok.ensures.made.within c.list.view_is (facts g c);
+}

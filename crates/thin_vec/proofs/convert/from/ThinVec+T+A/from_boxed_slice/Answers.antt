@@ -2,23 +2,24 @@
 use Rattle.std.proofs.Common.{arith, ◌∙◌, ap}
 use denote.Param.{param}
 use Rattle.thin_block.specs.Growth.{exact_capacity}
-use Rattle.thin_block.proofs.Outcomes.{err-same}
+use Rattle.thin_vec.proofs.list.ReservesLemmas.{tells-made, tells-same}
 use Rattle.thin_vec.proofs.convert.from.ThinVec+T+A.from_boxed_slice.Goals as goal
 
 pub returns-in-Err-clause-overflow : goal.returns-in-Err-clause-overflow
 returns-in-Err-clause-overflow g c =
-    λ none. err-same (c.in-Err.ensures.overflow
-    (ap (λ n. exact_capacity (param 0 g.row.T) 0 n) (c.len.ensures ∙ c.args.items.items.ok.0)
-    ∙ none))
+    tells-same _ _ (ap (λ n. exact_capacity (param 0 g.row.T) 0 n) (c.len.ensures ∙ c.args.items.items.ok.0))
+    c.in-Err.ensures.overflow
+
+pub returns-in-Ok-clause-overflow : goal.returns-in-Ok-clause-overflow
+returns-in-Ok-clause-overflow g c =
+    tells-made _ _ (ap (λ n. exact_capacity (param 0 g.row.T) 0 n) (c.len.ensures ∙ c.args.items.items.ok.0))
+    c.in-Ok.ensures.overflow
 
 pub returns-in-Ok-clause-capacity : goal.returns-in-Ok-clause-capacity
 returns-in-Ok-clause-capacity g c = search (arith, ◌∙◌)
 
 pub returns-in-Ok-clause-cost : goal.returns-in-Ok-clause-cost
 returns-in-Ok-clause-cost g c = search (arith, ◌∙◌)
-
-pub returns-in-Ok-clause-alloc : goal.returns-in-Ok-clause-alloc
-returns-in-Ok-clause-alloc g c = search (arith, ◌∙◌)
 
 pub returns-in-Ok-clause-items : goal.returns-in-Ok-clause-items
 returns-in-Ok-clause-items g c = search (arith, ◌∙◌)

@@ -11,9 +11,9 @@ returns-in-Ok g c =
         e.items,
         sym (length_all_zip g.T.Clone.is_clone c.args.self.now.items c.in-Ok.other.items e.items),
         e.capacity,
-        e.alloc ∙ c.allocator.ensures.value,
+        e.made.alloc ∙ c.allocator.ensures.value,
         e.cost,
-        e.cheap,
-        e.within,
+        e.made.cheap,
+        e.made.within,
       );
     }

@@ -1,0 +1,125 @@
+-- How the records `Keeps`, `Reserves` and `TellsOverflow` follow from the facts of a step.
+use Rattle.std.proofs.Common.{◌≡◌, ◌⊎◌, ℕ, ◌+◌, ◌≤◌, Err, None, Ok, Option, Result, Some, ap, arith, inl, inr, length, refl, subst, sym, ◌∙◌}
+use Rattle.std.specs.Borrow.{RattleType}
+use Rattle.std.specs.Prelude.{IfErr, IsErrOf}
+use Rattle.thin_block.specs.declared.errors.ThinVecError.{ThinVecError}
+use Rattle.thin_block.specs.declared.errors.ThinVecError.TheVariants.{CapacityOverflow, OutOfMemory}
+use Rattle.thin_block.specs.Growth.{Rule, ruled_capacity}
+use Rattle.thin_block.proofs.CapacityLemmas.{ruled-same}
+use Rattle.thin_block.proofs.Outcomes.{err-same, none-some, ok-err}
+use Rattle.thin_vec.specs.Cheap.{IsCheap}
+use Rattle.thin_vec.specs.List.Capacity.{Keeps, Reserves, TellsOverflow}
+use Rattle.thin_vec.specs.ThinVec.{HasRoomFor, IsWithin, Thin, capacity_for}
+
+-- if a capacity was named, an `Ok` tells of no overflow
+pub tells-ok : {X : Type 0} (x : X) (named : Option ℕ) (n : ℕ) → named ≡ Some n
+    → TellsOverflow named (Ok x)
+tells-ok x named n is = record {
+  overflow = (λ e. ok-err x CapacityOverflow e, λ none. absurd (none-some none is));
+}
+
+-- if one list was made, no overflow is told of, whichever list is returned
+pub tells-made : {X : Type 0} {x y : X} (named other : Option ℕ) → named ≡ other
+    → TellsOverflow named (Ok x) → TellsOverflow other (Ok y)
+tells-made {x = x} {y} named other e told = record {
+  overflow = (
+    λ over. ok-err y CapacityOverflow over,
+    λ none. ok-err x CapacityOverflow (told.overflow.1 (e ∙ none)),
+  );
+}
+
+-- what tells of an overflow for one named capacity does so for an equal one
+pub tells-same : {X : Type 0} {r : Result X ThinVecError} (named other : Option ℕ)
+    → named ≡ other → TellsOverflow named r → TellsOverflow other r
+tells-same named other e told = record {
+  overflow = (λ over. sym e ∙ told.overflow.0 over, λ none. told.overflow.1 (e ∙ none));
+}
+
+-- no overflow is told of by a cause that is `OutOfMemory`
+memory-no-overflow : {P : Type 0} (cause : ThinVecError) → cause ≡ OutOfMemory
+    → cause ≡ CapacityOverflow → P
+memory-no-overflow cause is over = cc
+
+module _ {T A : Type 0} (R : RattleType) (v : Thin T A) where
+  -- a list stays cheap if its capacity stays and no block and no copied item is added
+  cheap-kept : (w : Thin T A) → w.capacity ≡ v.capacity
+      → (w.cost.blocks ≡ v.cost.blocks) × (w.cost.grown ≡ v.cost.grown) → IsCheap v → IsCheap w
+  cheap-kept w capacity (blocks, grown) cheap = record {
+    none = λ none. let old = cheap.none (sym capacity ∙ none) in
+        (blocks ∙ old.0, grown ∙ old.1);
+    grown = λ some. let old = cheap.grown (omega (arith, capacity, some)) in
+        omega (arith, old, grown, capacity);
+    blocks = λ some. let old = cheap.blocks (omega (arith, capacity, some)) in
+        rw (blocks, capacity) old;
+  }
+
+  -- if the allocator and the capacity stay and no block and no copied item is added, the list keeps
+  -- what `Keeps` says
+  pub keeps-kept : (w : Thin T A) → w.alloc ≡ v.alloc → w.capacity ≡ v.capacity
+      → (w.cost.blocks ≡ v.cost.blocks) × (w.cost.grown ≡ v.cost.grown)
+      → IsWithin R v × IsWithin R w → Keeps R v w
+  keeps-kept w alloc capacity cost within = record {
+    alloc = alloc;
+    never_less = omega (arith, capacity);
+    cheap = cheap-kept w capacity cost;
+    within = within;
+  }
+
+  module _ (rule : Rule) where
+    -- if v has room for k items more and the capacity stays, a success is as `Reserves` says
+    pub reserves-room : {X : Type 0} {x : X} (k : ℕ) (w : Thin T A) → HasRoomFor v k
+        → w.capacity ≡ v.capacity → Reserves rule R k v w (Ok x)
+    reserves-room {x = x} k w room capacity =
+        let named = ruled-same rule R v.capacity (length v.items + k) room
+        ∙ ap Some (sym capacity) in
+        record {
+          had_room = λ _. capacity;
+          ok = named;
+          err = tt;
+          overflow = (λ e. ok-err x CapacityOverflow e, λ none. absurd (none-some none named));
+        }
+
+    -- let S be a type for which the rule names the same capacities as for R, and l equal to k. If v
+    -- grew to u as `Reserves` says, and w has the capacity of u, then a further step that fails
+    -- only with `OutOfMemory` leaves v and w as `Reserves` says
+    pub reserves-then : {X Y : Type 0} {x : X} (S : RattleType) (k l : ℕ) (u w : Thin T A)
+        (r : Result Y ThinVecError) → l ≡ k
+        → capacity_for rule S v l ≡ capacity_for rule R v k → w.capacity ≡ u.capacity
+        → Reserves rule R k v u (Ok x) → IfErr r (λ cause. cause ≡ OutOfMemory)
+        → Reserves rule S l v w r
+    reserves-then S k l u w (Ok y) count same capacity h _ =
+        let named = same ∙ (h.ok ∙ ap Some (sym capacity)) in
+        record {
+          had_room = λ room. capacity ∙ h.had_room (omega (arith, room, count));
+          ok = named;
+          err = tt;
+          overflow = (λ e. ok-err y CapacityOverflow e, λ none. absurd (none-some none named));
+        }
+    reserves-then S k l u w (Err cause) count same capacity h memory =
+        let named = same ∙ (h.ok ∙ ap Some (sym capacity)) in
+        record {
+          had_room = λ room. capacity ∙ h.had_room (omega (arith, room, count));
+          ok = tt;
+          err = inr named;
+          overflow = (
+            λ e. memory-no-overflow cause memory (err-same e),
+            λ none. absurd (none-some none named),
+          );
+        }
+
+    -- let S be a type for which the rule names the same capacities as for R, and l equal to k. If a
+    -- call failed as `Reserves` says for k items of R, it failed so for l items of S
+    pub reserves-failed : {X Y : Type 0} (S : RattleType) (k l : ℕ) (w : Thin T A)
+        (cause : ThinVecError) → l ≡ k
+        → capacity_for rule S v l ≡ capacity_for rule R v k
+        → Reserves rule R k v w (let r : Result X ThinVecError = Err cause in r) → w ≡ v
+        → Reserves rule S l v w (let r : Result Y ThinVecError = Err cause in r)
+    reserves-failed S k l w cause count same h unchanged = record {
+      had_room = λ room. h.had_room (omega (arith, room, count));
+      ok = tt;
+      err = inl unchanged;
+      overflow = (
+        λ e. same ∙ h.overflow.0 (ap Err (err-same e)),
+        λ none. ap Err (err-same (h.overflow.1 (sym same ∙ none))),
+      );
+    }
