@@ -1,0 +1,2 @@
+-- The lemmas: of a run of one command.
+mod RunLemmas

@@ -1,0 +1,2 @@
+-- The words of the contracts: what a judge decides.
+pub mod DivisorJudge
