@@ -1,6 +1,7 @@
 -- What a `DivisorJudge` decides, and what it writes.
-use Rattle.std.specs.Prelude.{ℕ, Bool, ◌+◌, ◌/◌, ◌%◌, ◌^◌, ◌==◌}
+use Rattle.std.specs.Prelude.{◌≡◌, ℕ, List, Bool, ◌+◌, ◌/◌, ◌%◌, ◌^◌, ◌==◌}
 use Rattle.thin_runner.specs.Judge.{Judging}
+use Rattle.thin_replay.specs.Words.{Spells}
 use Rattle.thin_replay.specs.declared.divisor_judge.DivisorJudge.{DivisorJudge}
 
 -- the number for the item x
@@ -32,3 +33,10 @@ judging = record {
   key = λ judge x. (number_for judge x / judge.divisor, written judge x, counted judge);
   take = λ judge x. (chooses judge x, written judge x, counted judge);
 }
+
+-- three texts are the numbers of a judge that was not asked yet
+pub record SpellsJudge (divisor stride added : List ℕ) (judge : DivisorJudge) : Type 0 where
+  pub divisor_is : Spells divisor judge.divisor
+  pub stride_is : Spells stride judge.stride
+  pub added_is : Spells added judge.added
+  pub unasked : judge.offset ≡ 0

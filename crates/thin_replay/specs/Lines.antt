@@ -5,6 +5,7 @@ use Rattle.std.specs.Str.Iter.{split_whitespace_rest, split_whitespace_steps}
 use Rattle.std.specs.declared.str.SplitWhitespace.{SplitWhitespace}
 use Rattle.thin_runner.specs.declared.command.Command.{Command}
 use Rattle.thin_runner.specs.declared.command.Command.TheVariants.{Push, Pop, Insert, Remove, SwapRemove, Set, Truncate, Clear, Reserve, ReserveExact, ShrinkToFit, Resize, ExtendFromSlice, Extend, Append, SplitOff, Clone, Retain, RetainMut, Dedup, DedupBy, DedupByKey, Drain, ExtractIf, Splice}
+use Rattle.thin_replay.specs.DivisorJudge.{SpellsJudge}
 use Rattle.thin_replay.specs.Words.{HasForm, SpellAll, Spells, SpellsSteps, Words, word}
 use Rattle.thin_replay.specs.declared.call.Call.{Call}
 use Rattle.thin_replay.specs.declared.divisor_judge.DivisorJudge.{DivisorJudge}
@@ -57,13 +58,6 @@ Says words (Splice start end steps items lower) = BeginsForm words (codes "splic
     × (SpellsSteps (word words 3) steps.items
     × (Spells (word words 4) lower × SpellAll (drop 5 words) items.items))))
 
--- three texts are the numbers of a judge that was not asked yet
-pub record SpellsJudge (divisor stride added : List ℕ) (judge : DivisorJudge) : Type 0 where
-  pub divisor_is : Spells divisor judge.divisor
-  pub stride_is : Spells stride judge.stride
-  pub added_is : Spells added judge.added
-  pub unasked : judge.offset ≡ 0
-
 -- if the command asks a judge, the last three words are its numbers
 abbrev pub SaysJudge : {A G : Type 0} → Words → Command ℕ A G → DivisorJudge → Type 0
 SaysJudge words Retain judge = SpellsJudge (word words 1) (word words 2) (word words 3) judge
@@ -73,6 +67,27 @@ SaysJudge words DedupByKey judge = SpellsJudge (word words 1) (word words 2) (wo
 SaysJudge words (ExtractIf start end calls) judge =
     SpellsJudge (word words 4) (word words 5) (word words 6) judge
 SaysJudge words command judge = Unit {0}
+
+-- the command asks no judge
+abbrev pub AsksNone : {A G : Type 0} → Command ℕ A G → Type 0
+AsksNone Retain = ⊥
+AsksNone RetainMut = ⊥
+AsksNone DedupBy = ⊥
+AsksNone DedupByKey = ⊥
+AsksNone (ExtractIf start end calls) = ⊥
+AsksNone command = Unit {0}
+
+-- the words are the form of the command, which asks no judge
+abbrev pub SaysUnjudged : {A G : Type 0} → Words → Command ℕ A G → Type 0
+SaysUnjudged words command = Says words command × AsksNone command
+
+-- the command has this name, and takes a judge and nothing else
+abbrev pub IsFilter : {A G : Type 0} → List ℕ → Command ℕ A G → Type 0
+IsFilter name Retain = name ≡ codes "retain"
+IsFilter name RetainMut = name ≡ codes "retain_mut"
+IsFilter name DedupBy = name ≡ codes "dedup_by"
+IsFilter name DedupByKey = name ≡ codes "dedup_by_key"
+IsFilter name command = ⊥
 
 -- the words are the form of the command of this call, with its judge
 abbrev pub IsCall : Words → Call → Type 0

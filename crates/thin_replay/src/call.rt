@@ -1,5 +1,8 @@
 //! The lines that describe commands.
 
+ghost use Rattle.std.specs.Prelude.{IfOk, IfSome};
+ghost use Rattle.thin_replay.specs.Lines.{SaysUnjudged};
+
 mod bulk;
 mod filters;
 mod ranges;
@@ -19,8 +22,13 @@ pub struct Call {
 }
 
 impl Call {
+    ghost use Rattle.std.specs.Prelude.{◌≡◌, IfOk, IfSome};
+    ghost use Rattle.thin_replay.specs.Lines.{IsCall};
+
     /// Parses the words of a line. Returns `None` if they have the form of no command.
-    pub fn parse(alloc: Global, words: &[&str]) -> Result<Option<Call>, LineError> {
+    pub fn parse(alloc: Global, words: &[&str]) -> Result<Option<Call>, LineError>
+        ensures says { IfOk result (λ found. IfSome found (IsCall words.now)) }
+    {
         if let Some(call) = filters::parse(words)? {
             return Ok(Some(call));
         }
@@ -29,14 +37,18 @@ impl Call {
     }
 
     // Returns a command that asks no judge, with some judge.
-    fn unjudged(command: Command<u64>) -> Call {
+    fn unjudged(command: Command<u64>) -> Call
+        ensures command { result.command ≡ command }
+    {
         let judge = DivisorJudge::idle();
         Call { command, judge }
     }
 }
 
 // Parses the words of a command that asks no judge.
-fn parse_command(alloc: Global, words: &[&str]) -> Result<Option<Command<u64>>, LineError> {
+fn parse_command(alloc: Global, words: &[&str]) -> Result<Option<Command<u64>>, LineError>
+    ensures says { IfOk result (λ found. IfSome found (SaysUnjudged words.now)) }
+{
     if let Some(command) = single::parse(words)? {
         return Ok(Some(command));
     }

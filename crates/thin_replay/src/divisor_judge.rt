@@ -19,7 +19,8 @@ pub struct DivisorJudge {
 }
 
 impl DivisorJudge {
-    ghost use Rattle.thin_replay.specs.DivisorJudge.{chooses, counted, number_for, written};
+    ghost use Rattle.std.specs.Prelude.{IfOk};
+    ghost use Rattle.thin_replay.specs.DivisorJudge.{SpellsJudge, chooses, counted, number_for, written};
 
     /// Returns a judge for commands that do not ask it.
     pub fn idle() -> DivisorJudge {
@@ -32,7 +33,9 @@ impl DivisorJudge {
     }
 
     /// Returns the judge that the three words say.
-    pub fn parse(divisor: &str, stride: &str, added: &str) -> Result<DivisorJudge, LineError> {
+    pub fn parse(divisor: &str, stride: &str, added: &str) -> Result<DivisorJudge, LineError>
+        ensures says { IfOk result (SpellsJudge divisor.now stride.now added.now) }
+    {
         let divisor = number_of(divisor, "DIVISOR")?;
         let stride = number_of(stride, "STRIDE")?;
         let added = number_of(added, "ADDED")?;

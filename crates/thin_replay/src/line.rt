@@ -17,14 +17,22 @@ pub enum Line {
 }
 
 impl Line {
+    ghost use Rattle.std.specs.Prelude.{IfOk};
+    ghost use Rattle.thin_replay.specs.Lines.{HasWords, IsLine};
+    ghost use Rattle.thin_replay.specs.Words.{Words};
+
     /// Parses a line.
-    pub fn parse(alloc: Global, text: &str) -> Result<Line, LineError> {
+    pub fn parse(alloc: Global, text: &str) -> Result<Line, LineError>
+        ensures says { IfOk result (λ line. (words : Words) × HasWords text.now words × IsLine words line) }
+    {
         let words: Vec<&str> = text.split_whitespace().collect(alloc)?;
         Line::from_words(alloc, words.as_slice())
     }
 
     // Parses the words of a line.
-    fn from_words(alloc: Global, words: &[&str]) -> Result<Line, LineError> {
+    fn from_words(alloc: Global, words: &[&str]) -> Result<Line, LineError>
+        ensures says { IfOk result (IsLine words.now) }
+    {
         match words {
             ["help"] => Ok(Line::Help),
             ["new"] => Ok(Line::New),

@@ -1,4 +1,6 @@
 //! The commands that ask a judge.
+ghost use Rattle.std.specs.Prelude.{IfOk, IfSome};
+ghost use Rattle.thin_replay.specs.Lines.{IsCall, IsFilter};
 
 use crate::call::Call;
 use crate::divisor_judge::DivisorJudge;
@@ -7,7 +9,9 @@ use crate::words::count_of;
 use thin_runner::command::Command;
 
 /// Parses the words, if they have the form of one of these commands.
-pub fn parse(words: &[&str]) -> Result<Option<Call>, LineError> {
+pub fn parse(words: &[&str]) -> Result<Option<Call>, LineError>
+    ensures says { IfOk result (λ found. IfSome found (IsCall words.now)) }
+{
     match words {
         [name, divisor, stride, added] => {
             let Some(command) = filter(name) else {
@@ -28,7 +32,9 @@ pub fn parse(words: &[&str]) -> Result<Option<Call>, LineError> {
 }
 
 // Returns the command of this name that takes a judge and no other word.
-fn filter(name: &str) -> Option<Command<u64>> {
+fn filter(name: &str) -> Option<Command<u64>>
+    ensures filter { IfSome result (IsFilter name.now) }
+{
     match name {
         "retain" => Some(Command::Retain),
         "retain_mut" => Some(Command::RetainMut),

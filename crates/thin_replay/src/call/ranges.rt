@@ -1,4 +1,6 @@
 //! The commands that remove or replace a range, and `dedup`.
+ghost use Rattle.std.specs.Prelude.{IfOk, IfSome};
+ghost use Rattle.thin_replay.specs.Lines.{SaysUnjudged};
 
 use crate::line_error::LineError;
 use crate::words::{count_of, items_of, steps_of};
@@ -6,7 +8,9 @@ use std::alloc::Global;
 use thin_runner::command::Command;
 
 /// Parses the words, if they have the form of one of these commands.
-pub fn parse(alloc: Global, words: &[&str]) -> Result<Option<Command<u64>>, LineError> {
+pub fn parse(alloc: Global, words: &[&str]) -> Result<Option<Command<u64>>, LineError>
+    ensures says { IfOk result (λ found. IfSome found (SaysUnjudged words.now)) }
+{
     Ok(Some(match words {
         ["dedup"] => Command::Dedup,
         ["drain", start, end, steps] => {
