@@ -1,14 +1,18 @@
 //! What the program prints after a command.
 
 use crate::carry_out::Reply;
-use crate::line::FORMS;
+use crate::line::{FORMS, NOTES};
 use crate::list::{List, capacity_of};
 use std::io::{self, Write};
 
-/// Writes the forms of the lines, one on each line.
-pub fn write_forms(out: &mut impl Write) -> io::Result<()> {
+/// Writes the forms of the lines, one on each line, and what their words mean.
+pub fn write_help(out: &mut impl Write) -> io::Result<()> {
     for form in FORMS {
         writeln!(out, "{form}")?;
+    }
+    writeln!(out)?;
+    for note in NOTES {
+        writeln!(out, "{note}")?;
     }
     Ok(())
 }

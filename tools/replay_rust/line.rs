@@ -84,6 +84,15 @@ pub const FORMS: [&str; 27] = [
     "splice START END STEPS HINT ITEM ..",
 ];
 
+/// What the words of the forms mean.
+pub const NOTES: [&str; 5] = [
+    "All numbers are from 0 to 18446744073709551615.",
+    "STEPS is `-`, or a word of the letters `f` (a call of `next`) and `b` (of `next_back`).",
+    "CALLS is the number of calls of `next`.",
+    "HINT is the lower bound of the iterator's size hint.",
+    "DIVISOR, STRIDE and ADDED describe a closure, as crates/thin_replay/README.md says.",
+];
+
 impl fmt::Display for LineError {
     fn fmt(&self, f: &mut fmt::Formatter<'_>) -> fmt::Result {
         match self {

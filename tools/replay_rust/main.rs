@@ -70,7 +70,7 @@ fn read_lines() -> Result<Vec<Line>, ReplayError> {
 /// Does what the line asks for, and prints what came of it.
 fn answer_line(out: &mut impl Write, list: &mut List, line: Line) -> io::Result<()> {
     match line {
-        Line::Help => return answer::write_forms(out),
+        Line::Help => return answer::write_help(out),
         Line::New => {
             *list = List::new();
             write!(out, "new")?;

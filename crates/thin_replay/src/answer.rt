@@ -1,15 +1,19 @@
 //! What the program prints after a command.
 
-use crate::forms::FORMS;
+use crate::forms::{FORMS, NOTES};
 use std::io::{self, Write};
 use thin_runner::command::Reply;
 use thin_runner::hinted::Hinted;
 use thin_vec::{ThinVec, ThinVecError};
 
-/// Writes the forms of the lines, one on each line.
-pub fn write_forms(out: &mut impl Write) -> io::Result<()> {
+/// Writes the forms of the lines, one on each line, and what their words mean.
+pub fn write_help(out: &mut impl Write) -> io::Result<()> {
     for form in &FORMS {
         writeln!(out, "{form}")?;
+    }
+    writeln!(out)?;
+    for note in &NOTES {
+        writeln!(out, "{note}")?;
     }
     Ok(())
 }

@@ -1,4 +1,4 @@
-//! The forms of the lines.
+//! What `help` prints.
 
 /// The forms, each with the name of the command as its first word.
 pub static FORMS: [&str; 27] = [
@@ -29,6 +29,15 @@ pub static FORMS: [&str; 27] = [
     "drain START END STEPS",
     "extract_if START END CALLS DIVISOR STRIDE ADDED",
     "splice START END STEPS HINT ITEM ..",
+];
+
+/// What the words of the forms mean.
+pub static NOTES: [&str; 5] = [
+    "All numbers are from 0 to 18446744073709551615.",
+    "STEPS is `-`, or a word of the letters `f` (a call of `next`) and `b` (of `next_back`).",
+    "CALLS is the number of calls of `next`.",
+    "HINT is the lower bound of the iterator's size hint.",
+    "DIVISOR, STRIDE and ADDED describe a closure, as crates/thin_replay/README.md says.",
 ];
 
 /// Returns the form whose first word is `name`.

@@ -10,6 +10,8 @@ mod forms;
 mod line;
 mod line_error;
 mod replay_error;
+#[cfg(test)]
+mod tests;
 mod words;
 
 use crate::carried_out::carry_out;
@@ -32,7 +34,7 @@ fn main(rt: HostRuntime) -> ExitCode {
 
 // Reads all lines, and then carries out the commands in order.
 fn replay(rt: &(impl Input + Print), alloc: Global) -> Result<(), ReplayError> {
-    let lines = read_lines(rt, alloc)?;
+    let lines = read_lines(alloc, BufReader::new(alloc, rt.reader())?)?;
     let mut out = BufWriter::new(alloc, io::writer(rt))?;
     let mut list = ThinVec::new(alloc);
     for line in lines {
@@ -42,10 +44,10 @@ fn replay(rt: &(impl Input + Print), alloc: Global) -> Result<(), ReplayError> {
     Ok(())
 }
 
-// Parses all lines of standard input. Blank lines are skipped.
-fn read_lines(rt: &impl Input, alloc: Global) -> Result<Vec<Line>, ReplayError> {
+// Parses all lines. Blank lines are skipped.
+fn read_lines(alloc: Global, reader: impl BufRead + Drop) -> Result<Vec<Line>, ReplayError> {
     let mut lines = Vec::new(alloc);
-    for (index, text) in BufReader::new(alloc, rt.reader())?.lines(alloc).enumerate() {
+    for (index, text) in reader.lines(alloc).enumerate() {
         let text = text?;
         if text.trim().is_empty() {
             continue;
@@ -69,7 +71,7 @@ fn answer_line(
     line: Line,
 ) -> Result<(), ReplayError> {
     match line {
-        Line::Help => answer::write_forms(out)?,
+        Line::Help => answer::write_help(out)?,
         Line::New => {
             *list = ThinVec::new(alloc);
             write!(out, "new")?;
