@@ -1,0 +1,45 @@
+-- The main theorem for a run of one command.
+use Rattle.std.proofs.Common.{◌≡◌, List, [], ◌∷◌, ◌++◌, Option, Some, ap, arith, length, length-append, refl, subst, sym, ◌∙◌}
+use Rattle.std.specs.Option.{option_to_list}
+use Rattle.thin_vec.specs.ThinVec.{Thin}
+use Rattle.thin_runner.specs.Headline.{Headline}
+use Rattle.thin_runner.specs.Run.{Runs}
+use Rattle.thin_runner.specs.Setting.{Setting}
+use Rattle.thin_runner.specs.declared.command.Command.{Command}
+use Rattle.thin_runner.specs.declared.command.Reply.{Reply}
+
+-- A list whose last item is x is x alone if its length is 1.
+alone : {X : Type 0} (front : List X) (x : X) → length (front ++ x ∷ []) ≡ 1
+    → front ++ x ∷ [] ≡ x ∷ []
+alone [] x one = refl
+alone (y ∷ front) x one = absurd (omega (arith, length-append front (x ∷ [])))
+
+-- The commands of a run are one command, and there were no replies before the run.
+module _ {T A G J : Type 0} (here : Setting T A J) (old new : Thin T A)
+    (command : Command T A G) (commands : List (Command T A G)) (before after : List (Reply T A G))
+    (one : commands ≡ command ∷ []) (none : before ≡ [])
+    (headline : Headline here old commands before after new) where
+  -- A run of one command has one reply.
+  has_one : (replies : List (Reply T A G)) → Runs here old (command ∷ []) replies new
+      → length replies ≡ 1
+  has_one [] run = absurd run
+  has_one (reply ∷ []) run = refl
+  has_one (reply ∷ more ∷ replies) run = absurd run.1.1
+
+  -- The run has one reply.
+  pub one_reply : length after ≡ 1
+  one_reply =
+      ap length (headline.appended ∙ ap (λ (l : List (Reply T A G)). l ++ headline.replies) none)
+      ∙ has_one headline.replies
+      (subst (λ cs. Runs here old cs headline.replies new) one headline.allowed)
+
+  -- If the reply was popped from the replies, the main theorem holds for this reply alone.
+  pub headline-one : (left : List (Reply T A G)) (popped : Option (Reply T A G))
+      (reply : Reply T A G) → after ≡ left ++ option_to_list popped → popped ≡ Some reply
+      → Headline here old (command ∷ []) [] (reply ∷ []) new
+  headline-one left popped reply split is =
+      let last : after ≡ left ++ reply ∷ [] = split ∙ ap (λ o. left ++ option_to_list o) is in
+      let same : after ≡ reply ∷ [] = last ∙ alone left reply (ap length (sym last) ∙ one_reply) in
+      subst (λ cs. Headline here old cs [] (reply ∷ []) new) one
+      (subst (λ bs. Headline here old commands bs (reply ∷ []) new) none
+      (subst (λ rs. Headline here old commands before rs new) same headline))

@@ -1,0 +1,23 @@
+-- Each turn reads the next word.
+use Rattle.std.proofs.Common.{◌≡◌, [], ◌∷◌, ◌++◌, rules}
+use Rattle.thin_replay.proofs.WordsLemmas.{zip-all, zip-next}
+use Rattle.thin_replay.specs.Words.{Spells}
+use Rattle.thin_replay.proofs.words.list_of.Goals as goal
+
+pub loop-word-init : goal.loop-word-init
+loop-word-init c = rw c.new-list.ensures.new.items tt
+
+pub loop-word-preserved : goal.loop-word-preserved
+loop-word-preserved c =
+    let grown : c.push.new.self.items ≡ c.loop-word.list.items ++ c.in_ok-item_of.field-0 ∷ [] =
+    search rules in
+    rw grown
+    (zip-next (λ w n. Spells w.now n) c.args.words.now c.loop-word.word-index
+    (record { ref_ptr = (0, 0); now = [] }) c.loop-word.list.items c.in_ok-item_of.field-0
+    c.loop-word-test.true c.loop-word.invariant (search rules))
+
+pub returns : goal.returns
+returns c = record {
+  items = zip-all (λ w n. Spells w.now n) c.args.words.now c.loop-word.word-index
+      c.loop-word.list.items c.loop-word-test.false c.loop-word.invariant;
+}

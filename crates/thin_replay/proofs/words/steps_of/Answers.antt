@@ -1,0 +1,22 @@
+-- Each turn reads the next letter.
+use Rattle.std.proofs.Common.{inr, rules}
+use Rattle.thin_replay.proofs.WordsLemmas.{zip-all, zip-next}
+use Rattle.thin_replay.specs.Words.{IsStep}
+use Rattle.thin_replay.proofs.words.steps_of.Goals as goal
+
+pub loop-letter-init : goal.loop-letter-init
+loop-letter-init c = rw c.new-steps.ensures.items tt
+
+pub loop-letter-preserved : goal.loop-letter-preserved
+loop-letter-preserved c =
+    rw c.in_ok-push.ensures.items
+    (zip-next IsStep c.as_bytes-letters.result.now c.loop-letter.letter-index 0
+    c.loop-letter.steps.items c.in_ok-step_of.field-0 c.loop-letter-test.true
+    c.loop-letter.invariant (search rules))
+
+pub returns : goal.returns
+returns c = record {
+  steps = inr (rw (← c.as_bytes-letters.ensures.value)
+      (zip-all IsStep c.as_bytes-letters.result.now c.loop-letter.letter-index
+      c.loop-letter.steps.items c.loop-letter-test.false c.loop-letter.invariant));
+}

@@ -1,0 +1,42 @@
+-- What a `DivisorJudge` decides, and what it writes.
+use Rattle.std.specs.Prelude.{◌≡◌, ℕ, List, Bool, ◌+◌, ◌/◌, ◌%◌, ◌^◌, ◌==◌}
+use Rattle.thin_runner.specs.Judge.{Judging}
+use Rattle.thin_replay.specs.Words.{Spells}
+use Rattle.thin_replay.specs.declared.divisor_judge.DivisorJudge.{DivisorJudge}
+
+-- the number for the item x
+abbrev pub number_for : DivisorJudge → ℕ → ℕ
+number_for judge x = (x + judge.offset) % 2 ^ 64
+
+-- the judge after an answer
+abbrev pub counted : DivisorJudge → DivisorJudge
+counted judge = record judge { offset = (judge.offset + judge.stride) % 2 ^ 64 }
+
+-- the item x after the judge wrote it
+abbrev pub written : DivisorJudge → ℕ → ℕ
+written judge x = (x + judge.added) % 2 ^ 64
+
+-- whether the divisor divides the number for x
+abbrev pub chooses : DivisorJudge → ℕ → Bool
+chooses judge x = number_for judge x % judge.divisor == 0
+
+abbrev pub judging : Judging ℕ DivisorJudge
+judging = record {
+  look = λ judge x. (chooses judge x, counted judge);
+  keep = λ judge x. (chooses judge x, written judge x, counted judge);
+  same = λ judge later kept. (
+    number_for judge later % judge.divisor == kept % judge.divisor,
+    written judge later,
+    written judge kept,
+    counted judge,
+  );
+  key = λ judge x. (number_for judge x / judge.divisor, written judge x, counted judge);
+  take = λ judge x. (chooses judge x, written judge x, counted judge);
+}
+
+-- three texts are the numbers of a judge that was not asked yet
+pub record SpellsJudge (divisor stride added : List ℕ) (judge : DivisorJudge) : Type 0 where
+  pub divisor_is : Spells divisor judge.divisor
+  pub stride_is : Spells stride judge.stride
+  pub added_is : Spells added judge.added
+  pub unasked : judge.offset ≡ 0

@@ -1,0 +1,105 @@
+-- What a line says: the command, and the judge.
+use Rattle.std.specs.Prelude.{◌≡◌, ℕ, ◌≤◌, List, codes, drop, length, ⊤}
+use Rattle.std.specs.Iterator.{DrainsIf}
+use Rattle.std.specs.Str.Iter.{split_whitespace_rest, split_whitespace_steps}
+use Rattle.std.specs.declared.str.SplitWhitespace.{SplitWhitespace}
+use Rattle.thin_runner.specs.declared.command.Command.{Command}
+use Rattle.thin_runner.specs.declared.command.Command.TheVariants.{Push, Pop, Insert, Remove, SwapRemove, Set, Truncate, Clear, Reserve, ReserveExact, ShrinkToFit, Resize, ExtendFromSlice, Extend, Append, SplitOff, Clone, Retain, RetainMut, Dedup, DedupBy, DedupByKey, Drain, ExtractIf, Splice}
+use Rattle.thin_replay.specs.DivisorJudge.{SpellsJudge}
+use Rattle.thin_replay.specs.Words.{HasForm, SpellAll, Spells, SpellsSteps, Words, word}
+use Rattle.thin_replay.specs.declared.call.Call.{Call}
+use Rattle.thin_replay.specs.declared.divisor_judge.DivisorJudge.{DivisorJudge}
+use Rattle.thin_replay.specs.declared.line.Line.{Line}
+use Rattle.thin_replay.specs.declared.line.Line.TheVariants.{Carry, Help, New}
+
+-- the line has at least this many words, and the first is the name
+abbrev pub BeginsForm : Words → List ℕ → ℕ → Type 0
+BeginsForm words name count = (count ≤ length words) × (word words 0 ≡ name)
+
+-- the words are the form of the command, with its numbers and its items
+abbrev pub Says : {A G : Type 0} → Words → Command ℕ A G → Type 0
+Says words (Push item) = HasForm words (codes "push") 2 × Spells (word words 1) item
+Says words Pop = HasForm words (codes "pop") 1
+Says words (Insert index item) = HasForm words (codes "insert") 3
+    × (Spells (word words 1) index × Spells (word words 2) item)
+Says words (Remove index) = HasForm words (codes "remove") 2 × Spells (word words 1) index
+Says words (SwapRemove index) =
+    HasForm words (codes "swap_remove") 2 × Spells (word words 1) index
+Says words (Set index item) = HasForm words (codes "set") 3
+    × (Spells (word words 1) index × Spells (word words 2) item)
+Says words (Truncate len) = HasForm words (codes "truncate") 2 × Spells (word words 1) len
+Says words Clear = HasForm words (codes "clear") 1
+Says words (Reserve more) = HasForm words (codes "reserve") 2 × Spells (word words 1) more
+Says words (ReserveExact more) =
+    HasForm words (codes "reserve_exact") 2 × Spells (word words 1) more
+Says words ShrinkToFit = HasForm words (codes "shrink_to_fit") 1
+Says words (Resize len item) = HasForm words (codes "resize") 3
+    × (Spells (word words 1) len × Spells (word words 2) item)
+Says words (ExtendFromSlice items) =
+    BeginsForm words (codes "extend_from_slice") 1 × SpellAll (drop 1 words) items.items
+Says words (Extend items lower) = BeginsForm words (codes "extend") 2
+    × (Spells (word words 1) lower × SpellAll (drop 2 words) items.items)
+Says words (Append list) =
+    BeginsForm words (codes "append") 1 × SpellAll (drop 1 words) list.items
+Says words (SplitOff index) = HasForm words (codes "split_off") 2 × Spells (word words 1) index
+Says words Clone = HasForm words (codes "clone") 1
+Says words Retain = HasForm words (codes "retain") 4
+Says words RetainMut = HasForm words (codes "retain_mut") 4
+Says words Dedup = HasForm words (codes "dedup") 1
+Says words DedupBy = HasForm words (codes "dedup_by") 4
+Says words DedupByKey = HasForm words (codes "dedup_by_key") 4
+Says words (Drain start end steps) = HasForm words (codes "drain") 4 × (Spells (word words 1) start
+    × (Spells (word words 2) end × SpellsSteps (word words 3) steps.items))
+Says words (ExtractIf start end calls) = HasForm words (codes "extract_if") 7
+    × (Spells (word words 1) start
+    × (Spells (word words 2) end × Spells (word words 3) calls))
+Says words (Splice start end steps items lower) = BeginsForm words (codes "splice") 5
+    × (Spells (word words 1) start × (Spells (word words 2) end
+    × (SpellsSteps (word words 3) steps.items
+    × (Spells (word words 4) lower × SpellAll (drop 5 words) items.items))))
+
+-- if the command asks a judge, the last three words are its numbers
+abbrev pub SaysJudge : {A G : Type 0} → Words → Command ℕ A G → DivisorJudge → Type 0
+SaysJudge words Retain judge = SpellsJudge (word words 1) (word words 2) (word words 3) judge
+SaysJudge words RetainMut judge = SpellsJudge (word words 1) (word words 2) (word words 3) judge
+SaysJudge words DedupBy judge = SpellsJudge (word words 1) (word words 2) (word words 3) judge
+SaysJudge words DedupByKey judge = SpellsJudge (word words 1) (word words 2) (word words 3) judge
+SaysJudge words (ExtractIf start end calls) judge =
+    SpellsJudge (word words 4) (word words 5) (word words 6) judge
+SaysJudge words command judge = Unit {0}
+
+-- the command asks no judge
+abbrev pub AsksNone : {A G : Type 0} → Command ℕ A G → Type 0
+AsksNone Retain = ⊥
+AsksNone RetainMut = ⊥
+AsksNone DedupBy = ⊥
+AsksNone DedupByKey = ⊥
+AsksNone (ExtractIf start end calls) = ⊥
+AsksNone command = Unit {0}
+
+-- the words are the form of the command, which asks no judge
+abbrev pub SaysUnjudged : {A G : Type 0} → Words → Command ℕ A G → Type 0
+SaysUnjudged words command = Says words command × AsksNone command
+
+-- the command has this name, and takes a judge and nothing else
+abbrev pub IsFilter : {A G : Type 0} → List ℕ → Command ℕ A G → Type 0
+IsFilter name Retain = name ≡ codes "retain"
+IsFilter name RetainMut = name ≡ codes "retain_mut"
+IsFilter name DedupBy = name ≡ codes "dedup_by"
+IsFilter name DedupByKey = name ≡ codes "dedup_by_key"
+IsFilter name command = ⊥
+
+-- the words are the form of the command of this call, with its judge
+abbrev pub IsCall : Words → Call → Type 0
+IsCall words call = Says words call.command × SaysJudge words call.command call.judge
+
+-- the words are the form of this line
+abbrev pub IsLine : Words → Line → Type 0
+IsLine words Help = HasForm words (codes "help") 1
+IsLine words New = HasForm words (codes "new") 1
+IsLine words (Carry call) = IsCall words call
+
+-- the text has these words, with white space between them
+abbrev pub HasWords : List ℕ → Words → Type 0
+HasWords text words = (it : SplitWhitespace)
+    × (split_whitespace_rest it ≡ text) × DrainsIf split_whitespace_steps ⊤ it words

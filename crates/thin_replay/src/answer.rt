@@ -1,0 +1,77 @@
+//! What the program prints after a command.
+
+use crate::forms::{FORMS, NOTES};
+use std::io::{self, Write};
+use thin_runner::command::Reply;
+use thin_runner::hinted::Hinted;
+use thin_vec::{ThinVec, ThinVecError};
+
+/// Writes the forms of the lines, one on each line, and what their words mean.
+pub fn write_help(out: &mut impl Write) -> io::Result<()> {
+    for form in &FORMS {
+        writeln!(out, "{form}")?;
+    }
+    writeln!(out)?;
+    for note in &NOTES {
+        writeln!(out, "{note}")?;
+    }
+    Ok(())
+}
+
+/// Writes the items and the capacity of the list, and ends the line.
+pub fn write_list(out: &mut impl Write, list: &ThinVec<u64>) -> io::Result<()> {
+    let capacity = list.capacity();
+    writeln!(out, "; items {list:?}; capacity {capacity}")
+}
+
+/// Writes the reply.
+pub fn write_reply(out: &mut impl Write, reply: Reply<u64>) -> io::Result<()> {
+    match reply {
+        Reply::Done => write!(out, "done"),
+        Reply::Item(item) => write!(out, "item {item:?}"),
+        Reply::Answers(answers) => write!(out, "answers {answers:?}"),
+        Reply::List(list) => {
+            let capacity = list.capacity();
+            write!(out, "list {list:?}; capacity {capacity}")
+        }
+        Reply::Other(other, refused) => write_other(out, &other, refused),
+        Reply::Returned(item, cause) => write!(out, "failed: {cause}; returned {item}"),
+        Reply::Refused(cause) => write!(out, "failed: {cause}"),
+        Reply::Stopped {
+            answers,
+            cause,
+            held,
+            in_hand,
+            rest,
+        } => {
+            write!(
+                out,
+                "failed: {cause}; answers {answers:?}; held {held:?}; in hand {in_hand:?}"
+            )?;
+            write_rest(out, rest)
+        }
+        Reply::OutOfRange(_command) => write!(out, "out of range"),
+    }
+}
+
+// Writes the list that was appended, and the cause if the call failed.
+fn write_other(
+    out: &mut impl Write,
+    other: &ThinVec<u64>,
+    refused: Option<ThinVecError>,
+) -> io::Result<()> {
+    if let Some(cause) = refused {
+        write!(out, "failed: {cause}; ")?;
+    }
+    let capacity = other.capacity();
+    write!(out, "other {other:?}; capacity {capacity}")
+}
+
+// Writes the items that an iterator still yields.
+fn write_rest(out: &mut impl Write, rest: Hinted<u64>) -> io::Result<()> {
+    write!(out, "; rest")?;
+    for item in rest {
+        write!(out, " {item}")?;
+    }
+    Ok(())
+}

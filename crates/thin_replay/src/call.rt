@@ -1,0 +1,62 @@
+//! The lines that describe commands.
+
+ghost use Rattle.std.specs.Prelude.{IfOk, IfSome};
+ghost use Rattle.thin_replay.specs.Lines.{SaysUnjudged};
+
+mod bulk;
+mod filters;
+mod ranges;
+mod room;
+mod single;
+
+use crate::divisor_judge::DivisorJudge;
+use crate::line_error::LineError;
+use std::alloc::Global;
+use thin_runner::command::Command;
+
+/// A command, and the judge that it asks.
+#[derive(Drop)]
+pub struct Call {
+    pub command: Command<u64>,
+    pub judge: DivisorJudge,
+}
+
+impl Call {
+    ghost use Rattle.std.specs.Prelude.{◌≡◌, IfOk, IfSome};
+    ghost use Rattle.thin_replay.specs.Lines.{IsCall};
+
+    /// Parses the words of a line. Returns `None` if they have the form of no command.
+    pub fn parse(alloc: Global, words: &[&str]) -> Result<Option<Call>, LineError>
+        ensures says { IfOk result (λ found. IfSome found (IsCall words.now)) }
+    {
+        if let Some(call) = filters::parse(words)? {
+            return Ok(Some(call));
+        }
+        let command = parse_command(alloc, words)?;
+        Ok(command.map(Call::unjudged))
+    }
+
+    // Returns a command that asks no judge, with some judge.
+    fn unjudged(command: Command<u64>) -> Call
+        ensures command { result.command ≡ command }
+    {
+        let judge = DivisorJudge::idle();
+        Call { command, judge }
+    }
+}
+
+// Parses the words of a command that asks no judge.
+fn parse_command(alloc: Global, words: &[&str]) -> Result<Option<Command<u64>>, LineError>
+    ensures says { IfOk result (λ found. IfSome found (SaysUnjudged words.now)) }
+{
+    if let Some(command) = single::parse(words)? {
+        return Ok(Some(command));
+    }
+    if let Some(command) = room::parse(words)? {
+        return Ok(Some(command));
+    }
+    if let Some(command) = bulk::parse(alloc, words)? {
+        return Ok(Some(command));
+    }
+    ranges::parse(alloc, words)
+}

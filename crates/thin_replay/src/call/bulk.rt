@@ -1,0 +1,24 @@
+//! The commands that add several items.
+ghost use Rattle.std.specs.Prelude.{IfOk, IfSome};
+ghost use Rattle.thin_replay.specs.Lines.{SaysUnjudged};
+
+use crate::line_error::LineError;
+use crate::words::{count_of, item_of, items_of, list_of};
+use std::alloc::Global;
+use thin_runner::command::Command;
+
+/// Parses the words, if they have the form of one of these commands.
+pub fn parse(alloc: Global, words: &[&str]) -> Result<Option<Command<u64>>, LineError>
+    ensures says { IfOk result (λ found. IfSome found (SaysUnjudged words.now)) }
+{
+    Ok(Some(match words {
+        ["resize", length, item] => Command::Resize(count_of(length, "LENGTH")?, item_of(item)?),
+        ["extend_from_slice", items @ ..] => Command::ExtendFromSlice(items_of(alloc, items)?),
+        ["extend", hint, items @ ..] => {
+            let lower = count_of(hint, "HINT")?;
+            Command::Extend(items_of(alloc, items)?, lower)
+        }
+        ["append", items @ ..] => Command::Append(list_of(alloc, items)?),
+        _ => return Ok(None),
+    }))
+}

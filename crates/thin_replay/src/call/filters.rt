@@ -1,0 +1,45 @@
+//! The commands that ask a judge.
+ghost use Rattle.std.specs.Prelude.{IfOk, IfSome};
+ghost use Rattle.thin_replay.specs.Lines.{IsCall, IsFilter};
+
+use crate::call::Call;
+use crate::divisor_judge::DivisorJudge;
+use crate::line_error::LineError;
+use crate::words::count_of;
+use thin_runner::command::Command;
+
+/// Parses the words, if they have the form of one of these commands.
+pub fn parse(words: &[&str]) -> Result<Option<Call>, LineError>
+    ensures says { IfOk result (λ found. IfSome found (IsCall words.now)) }
+{
+    match words {
+        [name, divisor, stride, added] => {
+            let Some(command) = filter(name) else {
+                return Ok(None);
+            };
+            let judge = DivisorJudge::parse(divisor, stride, added)?;
+            Ok(Some(Call { command, judge }))
+        }
+        ["extract_if", start, end, calls, divisor, stride, added] => {
+            let start = count_of(start, "START")?;
+            let end = count_of(end, "END")?;
+            let command = Command::ExtractIf(start, end, count_of(calls, "CALLS")?);
+            let judge = DivisorJudge::parse(divisor, stride, added)?;
+            Ok(Some(Call { command, judge }))
+        }
+        _ => Ok(None),
+    }
+}
+
+// Returns the command of this name that takes a judge and no other word.
+fn filter(name: &str) -> Option<Command<u64>>
+    ensures filter { IfSome result (IsFilter name.now) }
+{
+    match name {
+        "retain" => Some(Command::Retain),
+        "retain_mut" => Some(Command::RetainMut),
+        "dedup_by" => Some(Command::DedupBy),
+        "dedup_by_key" => Some(Command::DedupByKey),
+        _ => None,
+    }
+}

@@ -1,0 +1,30 @@
+//! The commands that remove or replace a range, and `dedup`.
+ghost use Rattle.std.specs.Prelude.{IfOk, IfSome};
+ghost use Rattle.thin_replay.specs.Lines.{SaysUnjudged};
+
+use crate::line_error::LineError;
+use crate::words::{count_of, items_of, steps_of};
+use std::alloc::Global;
+use thin_runner::command::Command;
+
+/// Parses the words, if they have the form of one of these commands.
+pub fn parse(alloc: Global, words: &[&str]) -> Result<Option<Command<u64>>, LineError>
+    ensures says { IfOk result (λ found. IfSome found (SaysUnjudged words.now)) }
+{
+    Ok(Some(match words {
+        ["dedup"] => Command::Dedup,
+        ["drain", start, end, steps] => {
+            let start = count_of(start, "START")?;
+            let end = count_of(end, "END")?;
+            Command::Drain(start, end, steps_of(alloc, steps)?)
+        }
+        ["splice", start, end, steps, hint, items @ ..] => {
+            let start = count_of(start, "START")?;
+            let end = count_of(end, "END")?;
+            let steps = steps_of(alloc, steps)?;
+            let lower = count_of(hint, "HINT")?;
+            Command::Splice(start, end, steps, items_of(alloc, items)?, lower)
+        }
+        _ => return Ok(None),
+    }))
+}

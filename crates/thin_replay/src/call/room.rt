@@ -1,0 +1,21 @@
+//! The commands that change the capacity, split the list or clone it.
+ghost use Rattle.std.specs.Prelude.{IfOk, IfSome};
+ghost use Rattle.thin_replay.specs.Lines.{SaysUnjudged};
+
+use crate::line_error::LineError;
+use crate::words::count_of;
+use thin_runner::command::Command;
+
+/// Parses the words, if they have the form of one of these commands.
+pub fn parse(words: &[&str]) -> Result<Option<Command<u64>>, LineError>
+    ensures says { IfOk result (λ found. IfSome found (SaysUnjudged words.now)) }
+{
+    Ok(Some(match words {
+        ["reserve", count] => Command::Reserve(count_of(count, "COUNT")?),
+        ["reserve_exact", count] => Command::ReserveExact(count_of(count, "COUNT")?),
+        ["shrink_to_fit"] => Command::ShrinkToFit,
+        ["split_off", index] => Command::SplitOff(count_of(index, "INDEX")?),
+        ["clone"] => Command::Clone,
+        _ => return Ok(None),
+    }))
+}

@@ -1,0 +1,112 @@
+//! A judge that four numbers describe.
+ghost use Rattle.std.specs.Prelude.{◌≡◌, ◌<◌};
+
+use crate::line_error::LineError;
+use crate::words::number_of;
+use thin_runner::judge::Judge;
+
+/// Answers by the remainder of a number, and counts its answers.
+///
+/// The number is the item, plus `stride` times the number of the answers before. An item that the
+/// judge may write is greater by `added` afterwards. All sums are modulo 2^64.
+#[derive(Clone, Copy)]
+pub struct DivisorJudge {
+    divisor: u64,
+    stride: u64,
+    added: u64,
+    offset: u64,
+    ghost divides: { 0 < divisor },
+}
+
+impl DivisorJudge {
+    ghost use Rattle.std.specs.Prelude.{IfOk};
+    ghost use Rattle.thin_replay.specs.DivisorJudge.{SpellsJudge, chooses, counted, number_for, written};
+
+    /// Returns a judge for commands that do not ask it.
+    pub fn idle() -> DivisorJudge {
+        DivisorJudge {
+            divisor: 1,
+            stride: 0,
+            added: 0,
+            offset: 0,
+        }
+    }
+
+    /// Returns the judge that the three words say.
+    pub fn parse(divisor: &str, stride: &str, added: &str) -> Result<DivisorJudge, LineError>
+        ensures says { IfOk result (SpellsJudge divisor.now stride.now added.now) }
+    {
+        let divisor = number_of(divisor, "DIVISOR")?;
+        let stride = number_of(stride, "STRIDE")?;
+        let added = number_of(added, "ADDED")?;
+        if divisor == 0 {
+            return Err(LineError::ZeroDivisor);
+        }
+        Ok(DivisorJudge {
+            divisor,
+            stride,
+            added,
+            offset: 0,
+        })
+    }
+
+    // Returns the number for this item, and counts the answer.
+    fn number(&mut self, item: u64) -> u64
+        ensures value { result ≡ number_for self.old item }
+        ensures counted { self.new ≡ counted self.old }
+    {
+        let number = item.wrapping_add(self.offset);
+        self.offset = self.offset.wrapping_add(self.stride);
+        number
+    }
+
+    // Returns whether the divisor divides the number for this item.
+    fn divides(&mut self, item: u64) -> bool
+        ensures value { result ≡ chooses self.old item }
+        ensures counted { self.new ≡ counted self.old }
+    {
+        self.number(item) % self.divisor == 0
+    }
+
+    // Writes an item.
+    fn write(&self, item: &mut u64)
+        ensures written { item.new ≡ written self.now item.old }
+    {
+        *item = item.wrapping_add(self.added);
+    }
+}
+
+impl Judge<u64> for DivisorJudge {
+    ghost use Rattle.thin_replay.specs.DivisorJudge.{judging};
+
+    ghost judging = { judging };
+
+    fn look(&mut self, item: &u64) -> bool {
+        self.divides(*item)
+    }
+
+    fn keep(&mut self, item: &mut u64) -> bool {
+        let keeps = self.divides(*item);
+        self.write(item);
+        keeps
+    }
+
+    fn same(&mut self, later: &mut u64, kept: &mut u64) -> bool {
+        let is_same = self.number(*later) % self.divisor == *kept % self.divisor;
+        self.write(later);
+        self.write(kept);
+        is_same
+    }
+
+    fn key(&mut self, item: &mut u64) -> u64 {
+        let key = self.number(*item) / self.divisor;
+        self.write(item);
+        key
+    }
+
+    fn take(&mut self, item: &mut u64) -> bool {
+        let takes = self.divides(*item);
+        self.write(item);
+        takes
+    }
+}

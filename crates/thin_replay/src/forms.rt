@@ -1,0 +1,51 @@
+//! What `help` prints.
+
+/// The forms, each with the name of the command as its first word.
+pub static FORMS: [&str; 27] = [
+    "help",
+    "new",
+    "push ITEM",
+    "pop",
+    "insert INDEX ITEM",
+    "remove INDEX",
+    "swap_remove INDEX",
+    "set INDEX ITEM",
+    "truncate LENGTH",
+    "clear",
+    "reserve COUNT",
+    "reserve_exact COUNT",
+    "shrink_to_fit",
+    "resize LENGTH ITEM",
+    "extend_from_slice ITEM ..",
+    "extend HINT ITEM ..",
+    "append ITEM ..",
+    "split_off INDEX",
+    "clone",
+    "retain DIVISOR STRIDE ADDED",
+    "retain_mut DIVISOR STRIDE ADDED",
+    "dedup",
+    "dedup_by DIVISOR STRIDE ADDED",
+    "dedup_by_key DIVISOR STRIDE ADDED",
+    "drain START END STEPS",
+    "extract_if START END CALLS DIVISOR STRIDE ADDED",
+    "splice START END STEPS HINT ITEM ..",
+];
+
+/// What the words of the forms mean.
+pub static NOTES: [&str; 5] = [
+    "All numbers are from 0 to 18446744073709551615.",
+    "STEPS is `-`, or a word of the letters `f` (a call of `next`) and `b` (of `next_back`).",
+    "CALLS is the number of calls of `next`.",
+    "HINT is the lower bound of the iterator's size hint.",
+    "DIVISOR, STRIDE and ADDED describe a closure, as crates/thin_replay/README.md says.",
+];
+
+/// Returns the form whose first word is `name`.
+pub fn form_of(name: &str) -> Option<&'static str> {
+    for form in &FORMS {
+        if form.split_whitespace().next() == Some(name) {
+            return Some(form);
+        }
+    }
+    None
+}

@@ -1,0 +1,84 @@
+//! What the words of a line say.
+ghost use Rattle.std.specs.Prelude.{IfOk};
+ghost use Rattle.std.specs.Str.Parse.{ParsesUnsigned};
+ghost use Rattle.thin_replay.specs.Words.{IsStep, SpellAll, SpellsSteps};
+
+use crate::line_error::LineError;
+use std::alloc::{AllocError, Global};
+use thin_runner::command::Step;
+use thin_vec::ThinVec;
+
+/// Returns the item that the word says.
+pub fn item_of(word: &str) -> Result<u64, LineError>
+    ensures parses { ParsesUnsigned 64 10 word.now result }
+{
+    number_of(word, "ITEM")
+}
+
+/// Returns the number that the word says. `name` is the name of the word in an error.
+pub fn number_of(word: &str, name: &'static str) -> Result<u64, LineError>
+    ensures parses { ParsesUnsigned 64 10 word.now result }
+{
+    match word.parse::<u64>() {
+        Ok(number) => Ok(number),
+        Err(_) => Err(LineError::NotANumber(name)),
+    }
+}
+
+/// Returns the index or the count that the word says. `name` is the name of the word in an error.
+pub fn count_of(word: &str, name: &'static str) -> Result<usize, LineError>
+    ensures parses { ParsesUnsigned 64 10 word.now result }
+{
+    match word.parse::<usize>() {
+        Ok(count) => Ok(count),
+        Err(_) => Err(LineError::NotANumber(name)),
+    }
+}
+
+/// Returns the items that the words say.
+pub fn items_of(alloc: Global, words: &[&str]) -> Result<Vec<u64>, LineError>
+    ensures items { IfOk result (λ items. SpellAll words.now items.items) }
+{
+    let mut items = Vec::new(alloc);
+    for word in words {
+        items.push(item_of(word)?)?;
+    }
+    Ok(items)
+}
+
+/// Returns a list of the items that the words say. It grew by a push for each item.
+pub fn list_of(alloc: Global, words: &[&str]) -> Result<ThinVec<u64>, LineError>
+    ensures items { IfOk result (λ list. SpellAll words.now list.items) }
+{
+    let mut list = ThinVec::new(alloc);
+    for word in words {
+        list.push(item_of(word)?).map_err(AllocError::from)?;
+    }
+    Ok(list)
+}
+
+/// Returns the steps that the word says: none for `-`, and otherwise one for each letter.
+pub fn steps_of(alloc: Global, word: &str) -> Result<Vec<Step>, LineError>
+    ensures steps { IfOk result (λ steps. SpellsSteps word.now steps.items) }
+{
+    let mut steps = Vec::new(alloc);
+    if word == "-" {
+        return Ok(steps);
+    }
+    let letters = word.as_bytes();
+    for letter in letters {
+        steps.push(step_of(*letter)?)?;
+    }
+    Ok(steps)
+}
+
+// Returns the step that the letter says.
+fn step_of(letter: u8) -> Result<Step, LineError>
+    ensures step { IfOk result (IsStep letter) }
+{
+    match letter {
+        b'f' => Ok(Step::Front),
+        b'b' => Ok(Step::Back),
+        _ => Err(LineError::BadSteps),
+    }
+}

@@ -1,0 +1,228 @@
+//! The lines of the input.
+
+use crate::judge::Judge;
+use std::fmt;
+use std::str::FromStr;
+
+pub enum Step {
+    Front,
+    Back,
+}
+
+/// A command, with its words as values. A judge stands last.
+pub enum Command {
+    Push(u64),
+    Pop,
+    Insert(usize, u64),
+    Remove(usize),
+    SwapRemove(usize),
+    Set(usize, u64),
+    Truncate(usize),
+    Clear,
+    Reserve(usize),
+    ReserveExact(usize),
+    ShrinkToFit,
+    Resize(usize, u64),
+    ExtendFromSlice(Vec<u64>),
+    Extend(usize, Vec<u64>),
+    Append(Vec<u64>),
+    SplitOff(usize),
+    Clone,
+    Retain(Judge),
+    RetainMut(Judge),
+    Dedup,
+    DedupBy(Judge),
+    DedupByKey(Judge),
+    Drain(usize, usize, Vec<Step>),
+    ExtractIf(usize, usize, usize, Judge),
+    Splice(usize, usize, Vec<Step>, usize, Vec<u64>),
+}
+
+pub enum Line {
+    Help,
+    New,
+    Call(Command),
+}
+
+/// What is wrong with a line.
+pub enum LineError {
+    UnknownCommand,
+    WrongForm(&'static str),
+    NotANumber(&'static str),
+    ZeroDivisor,
+    BadSteps,
+}
+
+/// The forms of the lines, each with the name of the command as its first word.
+pub const FORMS: [&str; 27] = [
+    "help",
+    "new",
+    "push ITEM",
+    "pop",
+    "insert INDEX ITEM",
+    "remove INDEX",
+    "swap_remove INDEX",
+    "set INDEX ITEM",
+    "truncate LENGTH",
+    "clear",
+    "reserve COUNT",
+    "reserve_exact COUNT",
+    "shrink_to_fit",
+    "resize LENGTH ITEM",
+    "extend_from_slice ITEM ..",
+    "extend HINT ITEM ..",
+    "append ITEM ..",
+    "split_off INDEX",
+    "clone",
+    "retain DIVISOR STRIDE ADDED",
+    "retain_mut DIVISOR STRIDE ADDED",
+    "dedup",
+    "dedup_by DIVISOR STRIDE ADDED",
+    "dedup_by_key DIVISOR STRIDE ADDED",
+    "drain START END STEPS",
+    "extract_if START END CALLS DIVISOR STRIDE ADDED",
+    "splice START END STEPS HINT ITEM ..",
+];
+
+/// What the words of the forms mean.
+pub const NOTES: [&str; 5] = [
+    "All numbers are from 0 to 18446744073709551615.",
+    "STEPS is `-`, or a word of the letters `f` (a call of `next`) and `b` (of `next_back`).",
+    "CALLS is the number of calls of `next`.",
+    "HINT is the lower bound of the iterator's size hint.",
+    "DIVISOR, STRIDE and ADDED describe a closure, as crates/thin_replay/README.md says.",
+];
+
+impl fmt::Display for LineError {
+    fn fmt(&self, f: &mut fmt::Formatter<'_>) -> fmt::Result {
+        match self {
+            LineError::UnknownCommand => {
+                write!(f, "no command has this name (`help` lists the commands)")
+            }
+            LineError::WrongForm(form) => write!(f, "the form is `{form}`"),
+            LineError::NotANumber(name) => {
+                write!(f, "{name} is not a number from 0 to {}", u64::MAX)
+            }
+            LineError::ZeroDivisor => write!(f, "DIVISOR is 0"),
+            LineError::BadSteps => {
+                write!(
+                    f,
+                    "STEPS is neither `-` nor a word of the letters `f` and `b`"
+                )
+            }
+        }
+    }
+}
+
+impl Line {
+    /// Parses a line that is not blank.
+    pub fn parse(text: &str) -> Result<Line, LineError> {
+        let words: Vec<&str> = text.split_whitespace().collect();
+        match words[..] {
+            ["help"] => Ok(Line::Help),
+            ["new"] => Ok(Line::New),
+            _ => match command(&words)? {
+                Some(command) => Ok(Line::Call(command)),
+                None => Err(wrong_form(words[0])),
+            },
+        }
+    }
+}
+
+/// Returns what is wrong with a line that begins with this name and has none of the forms.
+fn wrong_form(name: &str) -> LineError {
+    let is_of_name = |form: &&str| form.split(' ').next() == Some(name);
+    match FORMS.into_iter().find(is_of_name) {
+        Some(form) => LineError::WrongForm(form),
+        None => LineError::UnknownCommand,
+    }
+}
+
+/// Parses the words. Returns `None` if they have the form of no command.
+fn command(words: &[&str]) -> Result<Option<Command>, LineError> {
+    Ok(Some(match *words {
+        ["push", item] => Command::Push(number(item, "ITEM")?),
+        ["pop"] => Command::Pop,
+        ["insert", index, item] => Command::Insert(number(index, "INDEX")?, number(item, "ITEM")?),
+        ["remove", index] => Command::Remove(number(index, "INDEX")?),
+        ["swap_remove", index] => Command::SwapRemove(number(index, "INDEX")?),
+        ["set", index, item] => Command::Set(number(index, "INDEX")?, number(item, "ITEM")?),
+        ["truncate", length] => Command::Truncate(number(length, "LENGTH")?),
+        ["clear"] => Command::Clear,
+        ["reserve", count] => Command::Reserve(number(count, "COUNT")?),
+        ["reserve_exact", count] => Command::ReserveExact(number(count, "COUNT")?),
+        ["shrink_to_fit"] => Command::ShrinkToFit,
+        ["resize", length, item] => {
+            Command::Resize(number(length, "LENGTH")?, number(item, "ITEM")?)
+        }
+        ["extend_from_slice", ref items @ ..] => Command::ExtendFromSlice(numbers(items)?),
+        ["extend", hint, ref items @ ..] => Command::Extend(number(hint, "HINT")?, numbers(items)?),
+        ["append", ref items @ ..] => Command::Append(numbers(items)?),
+        ["split_off", index] => Command::SplitOff(number(index, "INDEX")?),
+        ["clone"] => Command::Clone,
+        ["retain", divisor, stride, added] => Command::Retain(judge(divisor, stride, added)?),
+        ["retain_mut", divisor, stride, added] => {
+            Command::RetainMut(judge(divisor, stride, added)?)
+        }
+        ["dedup"] => Command::Dedup,
+        ["dedup_by", divisor, stride, added] => Command::DedupBy(judge(divisor, stride, added)?),
+        ["dedup_by_key", divisor, stride, added] => {
+            Command::DedupByKey(judge(divisor, stride, added)?)
+        }
+        ["drain", start, end, steps] => {
+            let (start, end) = range(start, end)?;
+            Command::Drain(start, end, steps_of(steps)?)
+        }
+        ["extract_if", start, end, calls, divisor, stride, added] => {
+            let (start, end) = range(start, end)?;
+            let calls = number(calls, "CALLS")?;
+            Command::ExtractIf(start, end, calls, judge(divisor, stride, added)?)
+        }
+        ["splice", start, end, steps, hint, ref items @ ..] => {
+            let (start, end) = range(start, end)?;
+            let steps = steps_of(steps)?;
+            Command::Splice(start, end, steps, number(hint, "HINT")?, numbers(items)?)
+        }
+        _ => return Ok(None),
+    }))
+}
+
+fn number<N: FromStr>(word: &str, name: &'static str) -> Result<N, LineError> {
+    word.parse().map_err(|_| LineError::NotANumber(name))
+}
+
+fn numbers(words: &[&str]) -> Result<Vec<u64>, LineError> {
+    words.iter().map(|word| number(word, "ITEM")).collect()
+}
+
+fn range(start: &str, end: &str) -> Result<(usize, usize), LineError> {
+    Ok((number(start, "START")?, number(end, "END")?))
+}
+
+fn judge(divisor: &str, stride: &str, added: &str) -> Result<Judge, LineError> {
+    let judge = Judge {
+        divisor: number(divisor, "DIVISOR")?,
+        stride: number(stride, "STRIDE")?,
+        added: number(added, "ADDED")?,
+        offset: 0,
+    };
+    if judge.divisor == 0 {
+        return Err(LineError::ZeroDivisor);
+    }
+    Ok(judge)
+}
+
+fn steps_of(word: &str) -> Result<Vec<Step>, LineError> {
+    match word {
+        "-" => Ok(Vec::new()),
+        letters => letters.chars().map(step_of).collect(),
+    }
+}
+
+fn step_of(letter: char) -> Result<Step, LineError> {
+    match letter {
+        'f' => Ok(Step::Front),
+        'b' => Ok(Step::Back),
+        _ => Err(LineError::BadSteps),
+    }
+}
