@@ -1,11 +1,11 @@
 //! Lists of bytes: made from text, and written to.
-ghost use Rattle.std.specs.Prelude.{◌≡◌, ◌+◌, [], ◌++◌, IfErr, IfOk, IsErr, IsErrOf, IsOk, None, OnErr, OnOk, Some, length, ◌≤◌};
+ghost use Rattle.std.specs.Prelude.{◌≡◌, ◌+◌, ◌++◌, IfErr, IfOk, IsErr, IsErrOf, IsOk, None, OnErr, OnOk, Some, length, ◌≤◌};
 ghost use Rattle.std.specs.Borrow.{u8};
 ghost use Rattle.std.specs.IoError.{error_kind};
 ghost use Rattle.thin_block.specs.Cost.{moving};
 ghost use Rattle.thin_block.specs.Growth.{exact_capacity};
 ghost use Rattle.thin_vec.specs.Cheap.{IsCheap};
-ghost use Rattle.thin_vec.specs.ThinVec.{HasRoomFor, IsCause, IsWithin};
+ghost use Rattle.thin_vec.specs.ThinVec.{IsWithin};
 
 use crate::list::ThinVec;
 use std::alloc::Allocator;
