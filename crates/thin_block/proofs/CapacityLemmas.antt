@@ -111,17 +111,6 @@ doubling_next R c w some more enough few small =
     subst (Fits R) (sym twice) (small_fits R (2 * c) (omega arith) small) in
     ruled-rule doubling R c w more (omega arith) ∙ (rw fit (ap Some twice))
 
--- doubling gives a list with a block as many places as are wanted, where twice its own are fewer
-pub doubling_wanted : (R : RattleType) (c w : ℕ) → 0 < c → 2 * c < w → w < 2 ^ 31
-    → type_size R < 2 ^ 31 → ruled_capacity doubling R c w ≡ Some w
-unfolding doubling fitting
-doubling_wanted R c w some more few small =
-    let s : ℕ = type_size R in
-    let wanted : max w (if c == 0 then first s else 2 * c) ≡ w = grind (arith, nat_tests) in
-    let fit : fits s (type_align R) (max w (if c == 0 then first s else 2 * c)) ≡ true =
-    subst (Fits R) (sym wanted) (small_fits R w few small) in
-    ruled-rule doubling R c w (omega arith) (omega arith) ∙ (rw fit (ap Some wanted))
-
 -- an exact capacity that suffices stays
 pub exact-same : (R : RattleType) (c w : ℕ) → w ≤ c → exact_capacity R c w ≡ Some c
 unfolding exact_capacity

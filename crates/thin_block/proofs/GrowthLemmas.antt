@@ -1,5 +1,5 @@
 -- Which rules break the law of growth rules.
-use Rattle.std.specs.Prelude.{ℕ, ◌*◌, ◌≤◌, refl}
+use Rattle.std.specs.Prelude.{◌*◌, ◌≤◌, refl}
 use Rattle.std.proofs.Common.{arith}
 use Rattle.thin_block.specs.Capacity.{fits}
 use Rattle.thin_block.specs.Growth.{KeepsLaw, fitting}

@@ -2,7 +2,7 @@
 ghost use Rattle.std.specs.Prelude.{◌≡◌, ◌<◌, ℕ, Option};
 ghost use Rattle.std.specs.Mem.{type_size};
 ghost use Rattle.std.specs.Align.{type_align};
-ghost use Rattle.thin_block.specs.Growth.{Rule, KeepsLaw, fitting};
+ghost use Rattle.thin_block.specs.Growth.{KeepsLaw, fitting};
 
 use crate::sizes::fits;
 

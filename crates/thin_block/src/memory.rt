@@ -59,6 +59,14 @@ impl<T, A: Allocator> Block<T, A> {
         self.resize(alloc, cap)
     }
 
+    // Sets the ghost cost to that of `from` and one growth with its items. Nothing happens at run
+    // time.
+    fn charge_as(&mut self, from: &Block<T, A>)
+        ensures changes { seen self.new ≡ record (seen self.old) {
+          cost = growing from.now.len from.now.cost;
+        } }
+    {}
+
     // `grow` where there is no block: nothing is copied, and nothing freed.
     fn begin(&mut self, alloc: &A, cap: usize) -> Result<(), ThinVecError>
         requires none { self.old.slots ≡ [] }
@@ -95,7 +103,7 @@ impl<T, A: Allocator> Block<T, A> {
         ensures err { OnErr result (self.new ≡ self.old) }
         ensures cause { IfErr result (λ cause. cause ≡ ThinVecError.OutOfMemory) }
     {
-        // Each block fits, and so does a smaller one.
+        // This call tells the prover that the old capacity fits, so that a smaller one fits, too.
         let _whole = self.cap();
         self.resize(alloc, cap)
     }

@@ -66,6 +66,7 @@ impl<T, A: Allocator> Block<T, A> {
         ensures cap { length result.slots ≡ length self.slots }
     {
         let mut block = self;
+        // This call tells the prover that the number of slots is below 2 ^ 63.
         let _cap = block.cap();
         // In each arm the gap is a constant to LLVM, which makes a `memmove` of the loop.
         match gap {

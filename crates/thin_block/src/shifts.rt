@@ -4,7 +4,7 @@
 //! This is `std::ptr::copy`, but for its first test: that compares the two pointers, which is
 //! allowed only in the first half of the address space, and an allocator says nothing of where its
 //! blocks lie. Here the caller says which way the items go.
-ghost use Rattle.std.specs.Prelude.{◌≡◌, ℕ, ◌^◌, ◌<◌, List};
+ghost use Rattle.std.specs.Prelude.{ℕ, ◌^◌, ◌<◌, List};
 ghost use Rattle.core.specs.Ptr.{array_size, memory_before_copy, memory_after_copy};
 ghost use types.Logic.{sem};
 ghost use Rattle.thin_block.specs.Shifts.{IsShifted};

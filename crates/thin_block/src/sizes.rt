@@ -22,7 +22,7 @@ pub(crate) fn item_size<T>() -> usize
 }
 
 // The alignment of an item in bytes.
-pub(crate) fn item_align<T>() -> usize
+fn item_align<T>() -> usize
     ensures value { result ≡ type_align T.row }
     ensures known { IsAlign result }
 {

@@ -1,8 +1,8 @@
 //! One slot, or a few: items go in and out.
-ghost use Rattle.std.specs.Prelude.{◌≡◌, ℕ, ◌+◌, ◌<◌, ◌≤◌, ◌==◌, if◌then◌else◌, IsSome, length, slice_set};
+ghost use Rattle.std.specs.Prelude.{◌≡◌, ◌+◌, ◌<◌, ◌≤◌, ◌==◌, if◌then◌else◌, IsSome, length, slice_set};
 ghost use Rattle.core.specs.Mem.Slots.{IsFull, SamePlaces, slots_items, slots_len};
 ghost use Rattle.std.specs.declared.option.Option.TheVariants.{None, Some};
-ghost use Rattle.thin_block.specs.Cost.{growing, moving};
+ghost use Rattle.thin_block.specs.Cost.{moving};
 ghost use Rattle.thin_block.specs.Slots.{AreEmpty, AreFilled, full, slot, run, laid, emptied};
 
 use crate::block::Block;
@@ -28,14 +28,6 @@ impl<T, A: Allocator> Block<T, A> {
         let at = self.at;
         unsafe { (at.add(HEADER_WORDS) as *mut T).add(i).write(value) }
     }
-
-    // Sets the ghost cost to that of `from` and one growth with its items. Nothing happens at run
-    // time.
-    pub(crate) fn charge_as(&mut self, from: &Block<T, A>)
-        ensures changes { seen self.new ≡ record (seen self.old) {
-          cost = growing from.now.len from.now.cost;
-        } }
-    {}
 
     /// `put`, and then `store_len`: both by one pointer, so that the compiler need not read it
     /// again.

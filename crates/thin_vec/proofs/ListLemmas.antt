@@ -6,7 +6,6 @@ use Rattle.std.specs.Prelude.{IsSome, slice_get, slice_range}
 use lib.ListN.{set, replicate}
 use Rattle.thin_block.specs.Slots.{IsPacked, full, empty, slot, items_in, front}
 use Rattle.thin_block.specs.Block.{IsFrom, seen}
-use Rattle.thin_block.specs.Cost.{Cost}
 use Rattle.thin_block.specs.declared.block.Block.{Block}
 use Rattle.thin_block.specs.Cost.{Cost}
 use Rattle.thin_vec.specs.ThinVec.{IsThin, Thin, thin_of}

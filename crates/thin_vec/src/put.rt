@@ -37,7 +37,7 @@ pub(crate) fn put_vec<T, A: Allocator, B: Allocator>(
       cost = moving (length items.items) block.old.cost;
     } }
 {
-    // No capacity is past `isize::MAX`, so no index is.
+    // This call tells the prover that the number of slots is below 2 ^ 63, so each index is, too.
     let _whole = block.cap();
     while let Some(item) = items.pop() {
         block.put(start + items.len(), item);
@@ -63,7 +63,7 @@ pub(crate) fn put_clones<T: Clone, A: Allocator>(
     ensures refused { result < length items.now
         → HoldsAt (λ x. ¬ (T.is_infallible x)) items.now result }
 {
-    // No capacity is past `isize::MAX`, so no index is.
+    // This call tells the prover that the number of slots is below 2 ^ 63, so each index is, too.
     let _whole = block.cap();
     for i in 0..items.len() {
         match items[i].clone() {
@@ -93,7 +93,7 @@ pub(crate) fn put_repeated<T: Clone, A: Allocator>(
     } }
     ensures refused { result < count → ¬ (T.is_infallible value.now) }
 {
-    // No capacity is past `isize::MAX`, so no index is.
+    // This call tells the prover that the number of slots is below 2 ^ 63, so each index is, too.
     let _whole = block.cap();
     for i in 0..count {
         match value.clone() {
@@ -121,7 +121,7 @@ pub(crate) fn put_results<T, A: Allocator, F: FnMut() -> T>(
       cost = moving count block.old.cost;
     } }
 {
-    // No capacity is past `isize::MAX`, so no index is.
+    // This call tells the prover that the number of slots is below 2 ^ 63, so each index is, too.
     let _whole = block.cap();
     for i in 0..count {
         block.put(start + i, make());

@@ -1,5 +1,5 @@
 -- Ranges of items that go out of a list, step by step. (std: `Vec::drain`, `DoubleEndedIterator`)
-use Rattle.std.specs.Prelude.{ℕ, ◌-◌, List, [], ◌∷◌, Option, drop, length, slice_get, take}
+use Rattle.std.specs.Prelude.{◌-◌, List, [], ◌∷◌, Option, drop, length, slice_get, take}
 use Rattle.thin_runner.specs.declared.command.Step.{Step}
 use Rattle.thin_runner.specs.declared.command.Step.TheVariants.{Front, Back}
 

@@ -1,8 +1,8 @@
 //! What a call makes is on the allocator that it was passed, and not on the list's own; also what
 //! it makes of nothing.
-use crate::tests::assertions::{assert_counts, assert_len, assert_same};
-use crate::tests::claims::Claims;
-use crate::tests::items::{list_of, refusing_nth};
+use crate::tests::support::assertions::{assert_counts, assert_len, assert_same};
+use crate::tests::support::claims::Claims;
+use crate::tests::support::items::{list_of, refusing_nth};
 use std::alloc::{Allocator, Global};
 use std::process::Abort;
 use thin_examples::spliced::splice_by;

@@ -1,6 +1,6 @@
 //! The arguments of `thin_vec!`: each is evaluated once, and in the order in which they are
 //! written.
-use crate::tests::assertions::{assert_list, assert_same};
+use crate::tests::support::assertions::{assert_list, assert_same};
 use std::alloc::Global;
 use std::cell::Cell;
 use std::process::Abort;

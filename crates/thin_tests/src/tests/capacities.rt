@@ -1,6 +1,6 @@
 //! Which capacity a list has after each call, against numbers worked out by hand.
-use crate::tests::assertions::{assert_list, assert_same};
-use crate::tests::items::{push_all, refusing_nth};
+use crate::tests::support::assertions::{assert_list, assert_same};
+use crate::tests::support::items::{push_all, refusing_nth};
 use std::alloc::Global;
 use std::ops::Range;
 use std::process::Abort;

@@ -1,7 +1,7 @@
 //! The calls that clone, also where a clone fails.
-use crate::tests::assertions::{assert_len, assert_list, assert_same};
-use crate::tests::items::{boxes_of, push_all};
-use crate::tests::scarce::Scarce;
+use crate::tests::support::assertions::{assert_len, assert_list, assert_same};
+use crate::tests::support::items::{boxes_of, push_all};
+use crate::tests::support::scarce::Scarce;
 use std::alloc::Global;
 use std::cell::Cell;
 use std::process::Abort;

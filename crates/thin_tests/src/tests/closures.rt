@@ -1,7 +1,7 @@
 //! What a closure owns is dropped with it, once its call ends.
-use crate::tests::assertions::{assert_items, assert_len, assert_same};
-use crate::tests::counted::Counted;
-use crate::tests::items::list_of;
+use crate::tests::support::assertions::{assert_items, assert_len, assert_same};
+use crate::tests::support::counted::Counted;
+use crate::tests::support::items::list_of;
 use std::cell::Cell;
 use std::process::Abort;
 use std::rc::Rc;

@@ -1,6 +1,6 @@
 //! How lists are compared.
-use crate::tests::assertions::assert_same;
-use crate::tests::items::list_of;
+use crate::tests::support::assertions::assert_same;
+use crate::tests::support::items::list_of;
 
 #[test]
 fn test_partial_eq(rt: HostRuntime) {

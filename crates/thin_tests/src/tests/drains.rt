@@ -1,10 +1,10 @@
 //! `drain`: what a program may promise of it, and how it ends.
-ghost use Rattle.std.specs.Prelude.{◌≡◌, ◌+◌, ◌≤◌, ◌++◌, IfOk, IfSome, OnErr, OnOk, drop, length, max, reverse, slice_range, take};
+ghost use Rattle.std.specs.Prelude.{◌≡◌, ◌+◌, ◌≤◌, ◌++◌, IfOk, IfSome, OnOk, drop, length, max, reverse, slice_range, take};
 ghost use Rattle.std.specs.List.{fold, remove_range};
 ghost use Rattle.thin_vec.specs.Edits.Drain.{drain_lender};
 
-use crate::tests::assertions::{assert_items, assert_len, assert_same};
-use crate::tests::items::{list_of, push};
+use crate::tests::support::assertions::{assert_items, assert_len, assert_same};
+use crate::tests::support::items::{list_of, push};
 use std::alloc::{AllocError, Allocator, Global};
 use std::mem;
 use std::ops::Bound;

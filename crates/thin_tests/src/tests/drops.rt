@@ -1,8 +1,8 @@
 //! Each item is dropped once, by the list or by whoever it was handed out to, and each block is
 //! given back.
-use crate::tests::assertions::assert_same;
-use crate::tests::counted::{Counted, counted_list};
-use crate::tests::items::{push, refusing_nth};
+use crate::tests::support::assertions::assert_same;
+use crate::tests::support::counted::{Counted, counted_list};
+use crate::tests::support::items::{push, refusing_nth};
 use std::alloc::Global;
 use std::cell::Cell;
 use thin_vec::ThinVec;

@@ -1,7 +1,7 @@
 //! `?` after a failed call: whatever error it becomes, each value that was returned is dropped
 //! once.
-use crate::tests::assertions::assert_same;
-use crate::tests::counted::{Counted, counted_list};
+use crate::tests::support::assertions::assert_same;
+use crate::tests::support::counted::{Counted, counted_list};
 use std::alloc::{AllocError, Global};
 use std::cell::Cell;
 use std::io;

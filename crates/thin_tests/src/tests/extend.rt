@@ -1,8 +1,8 @@
 //! `extend` and `from_iter`: the Rust crate's own cases, and what is returned on failure.
-use crate::tests::assertions::{assert_counts, assert_list, assert_same};
-use crate::tests::claims::Claims;
-use crate::tests::counted::Counted;
-use crate::tests::items::{list_of, refusing_nth};
+use crate::tests::support::assertions::{assert_counts, assert_list, assert_same};
+use crate::tests::support::claims::Claims;
+use crate::tests::support::counted::Counted;
+use crate::tests::support::items::{list_of, refusing_nth};
 use std::alloc::Global;
 use std::cell::Cell;
 use std::iter::once;

@@ -1,7 +1,7 @@
 //! `retain` and `dedup`, in their forms: what no clause says, and the cases of the Rust crate's own
 //! tests.
-use crate::tests::assertions::{assert_items, assert_list, assert_same};
-use crate::tests::items::{boxes_of, list_of};
+use crate::tests::support::assertions::{assert_items, assert_list, assert_same};
+use crate::tests::support::items::{boxes_of, list_of};
 use std::alloc::Global;
 use std::process::Abort;
 use thin_vec::ThinVec;

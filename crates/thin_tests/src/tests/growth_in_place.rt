@@ -1,7 +1,7 @@
 //! Lists of items that make words, which grow and shrink in place once they are long. Each request is
 //! refused first, and then granted.
-use crate::tests::assertions::assert_same;
-use crate::tests::items::push;
+use crate::tests::support::assertions::assert_same;
+use crate::tests::support::items::push;
 use std::alloc::{Allocator, Global};
 use std::fmt::Debug;
 use std::process::Abort;

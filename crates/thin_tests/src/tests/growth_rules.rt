@@ -1,6 +1,6 @@
 //! Which capacities lists have under `PowerBytes`, at items that the sweep does not make too.
-use crate::tests::assertions::assert_same;
-use crate::tests::items::push;
+use crate::tests::support::assertions::assert_same;
+use crate::tests::support::items::push;
 use std::alloc::Global;
 use std::process::Abort;
 use thin_vec::{PowerBytes, ThinVec};

@@ -1,6 +1,6 @@
 //! Walks over a list that is used up: what remains, and how they end.
-use crate::tests::assertions::{assert_items, assert_list, assert_same};
-use crate::tests::items::{list_of, refusing_nth};
+use crate::tests::support::assertions::{assert_items, assert_list, assert_same};
+use crate::tests::support::items::{list_of, refusing_nth};
 use std::alloc::{Allocator, Global};
 use std::process::Abort;
 use thin_examples::walks::{carried_over, collected, count, least, reversed, reversed_singly};

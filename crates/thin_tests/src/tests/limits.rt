@@ -2,7 +2,7 @@
 ghost use Rattle.std.specs.Prelude.{◌≡◌, IsTrue, IsFalse, ◌^◌, ◌-◌, ◌+◌};
 ghost use Rattle.thin_block.specs.Capacity.{items_offset, fits as fits_at};
 
-use crate::tests::assertions::assert_same;
+use crate::tests::support::assertions::assert_same;
 use std::alloc::AllocError;
 use thin_block::{Growth, PowerBytes, first_capacity, fits, next_capacity};
 use thin_vec::ThinVecError;

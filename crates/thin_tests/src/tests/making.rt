@@ -1,6 +1,6 @@
 //! Lists that are written out, and lists made from an array.
-use crate::tests::assertions::{assert_counts, assert_same};
-use crate::tests::counted::Counted;
+use crate::tests::support::assertions::{assert_counts, assert_same};
+use crate::tests::support::counted::Counted;
 use std::cell::Cell;
 use thin_testing::Refusing;
 use thin_vec::{ThinVec, ThinVecError, thin_vec};

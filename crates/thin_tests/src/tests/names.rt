@@ -1,6 +1,6 @@
 //! The names that a program takes from the crate, and the traits that it relies on: of each is one
 //! use.
-use crate::tests::assertions::assert_same;
+use crate::tests::support::assertions::assert_same;
 use std::alloc::{AllocError, Allocator, Global};
 use std::convert::AsSlice;
 use std::error::Error;

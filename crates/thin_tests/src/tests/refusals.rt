@@ -1,6 +1,6 @@
 //! Memory that is refused, request by request, and what stands afterwards.
-use crate::tests::assertions::{assert_counts, assert_list, assert_same};
-use crate::tests::items::{push_all, refusing_nth};
+use crate::tests::support::assertions::{assert_counts, assert_list, assert_same};
+use crate::tests::support::items::{push_all, refusing_nth};
 use std::alloc::Allocator;
 use std::process::Abort;
 use thin_vec::{ThinVec, ThinVecError};

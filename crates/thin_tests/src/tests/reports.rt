@@ -1,5 +1,5 @@
 //! What is reported, where all goes well and where a write or a request is refused.
-use crate::tests::assertions::assert_text;
+use crate::tests::support::assertions::assert_text;
 use std::alloc::{Allocator, Global};
 use std::io;
 use std::io::{ErrorKind, Write};

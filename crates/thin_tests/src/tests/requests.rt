@@ -1,6 +1,6 @@
 //! Which requests `Refusing` refuses, and what it counts.
-use crate::tests::assertions::{assert_counts, assert_same};
-use crate::tests::items::refusing_nth;
+use crate::tests::support::assertions::{assert_counts, assert_same};
+use crate::tests::support::items::refusing_nth;
 use std::alloc::{Allocator, Global};
 use std::process::Abort;
 use thin_testing::Refusing;

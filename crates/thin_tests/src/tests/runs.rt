@@ -1,6 +1,6 @@
 //! `run` of commands: what no clause says of it.
-use crate::tests::assertions::assert_same;
-use crate::tests::items::refusing_nth;
+use crate::tests::support::assertions::assert_same;
+use crate::tests::support::items::refusing_nth;
 use std::alloc::Global;
 use thin_examples::rows::judges::Evens;
 use thin_runner::runner::run;

@@ -1,6 +1,6 @@
 //! `shrink_to_fit`: what it leaves.
-use crate::tests::assertions::assert_same;
-use crate::tests::items::{push, push_all};
+use crate::tests::support::assertions::assert_same;
+use crate::tests::support::items::{push, push_all};
 use std::alloc::Global;
 use std::process::Abort;
 use thin_vec::ThinVec;

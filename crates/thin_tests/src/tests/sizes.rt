@@ -1,6 +1,6 @@
 //! How wide a list is, and items that are not wide at all.
-use crate::tests::assertions::assert_same;
-use crate::tests::items::push;
+use crate::tests::support::assertions::assert_same;
+use crate::tests::support::items::push;
 use std::alloc::Global;
 use std::mem::size_of;
 use thin_vec::ThinVec;

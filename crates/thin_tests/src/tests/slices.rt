@@ -1,6 +1,6 @@
 //! What is written through a lent slice or a lent item is in the list afterwards.
-use crate::tests::assertions::{assert_items, assert_same};
-use crate::tests::items::list_of;
+use crate::tests::support::assertions::{assert_items, assert_same};
+use crate::tests::support::items::list_of;
 
 fn add(amount: i32, items: &mut [i32]) {
     for item in items {

@@ -1,9 +1,9 @@
 //! `splice`: what a program may promise of it, and what `finish` leaves, wherever it fails.
 ghost use Rattle.std.specs.Prelude.{◌≡◌, ◌≤◌, ◌++◌, OnOk, drop, length, take};
 
-use crate::tests::assertions::{assert_items, assert_len, assert_list, assert_same};
-use crate::tests::claims::Claims;
-use crate::tests::items::{list_of, refusing_nth};
+use crate::tests::support::assertions::{assert_items, assert_len, assert_list, assert_same};
+use crate::tests::support::claims::Claims;
+use crate::tests::support::items::{list_of, refusing_nth};
 use std::alloc::{Allocator, Global};
 use std::iter::empty;
 use std::process::Abort;
@@ -45,6 +45,7 @@ pub fn replace_and_undo<A: Allocator + Copy, G: Growth>(
 {
     let gone = ThinVec::from_copies(alloc, &list.as_slice()[start..end])?;
     replace(list, start, end, numbers, alloc)?;
+    // This call tells the prover that the length is at most `usize::MAX`.
     let _len = list.len();
     replace(list, start, start + numbers.len(), gone.as_slice(), alloc)
 }

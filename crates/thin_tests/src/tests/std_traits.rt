@@ -1,6 +1,6 @@
 //! A list by std's own traits: `IntoIterator`.
-use crate::tests::assertions::{assert_counts, assert_same};
-use crate::tests::items::{push_all, refusing_nth};
+use crate::tests::support::assertions::{assert_counts, assert_same};
+use crate::tests::support::items::{push_all, refusing_nth};
 use std::convert::AsSlice;
 use thin_examples::walks::count;
 use thin_vec::ThinVec;

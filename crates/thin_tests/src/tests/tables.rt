@@ -2,9 +2,9 @@
 //! texts. And many random calls, beside a map of std's that takes the same calls.
 ghost use Rattle.std.specs.Prelude.{◌<◌, length};
 
-use crate::tests::assertions::{assert_counts, assert_same};
-use crate::tests::counted::Counted;
-use crate::tests::items::refusing_nth;
+use crate::tests::support::assertions::{assert_counts, assert_same};
+use crate::tests::support::counted::Counted;
+use crate::tests::support::items::refusing_nth;
 use crate::tests::texts::assert_texts;
 use std::alloc::{Allocator, Global};
 use std::cell::Cell;

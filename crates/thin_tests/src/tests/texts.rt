@@ -1,6 +1,6 @@
 //! How a list, and what walks over it, are printed: in one line, in many, and with a width.
-use crate::tests::assertions::{assert_len, assert_same, assert_text};
-use crate::tests::items::list_of;
+use crate::tests::support::assertions::{assert_len, assert_same, assert_text};
+use crate::tests::support::items::list_of;
 use std::alloc::Global;
 use std::fmt::{Debug, Display};
 use std::process::Abort;

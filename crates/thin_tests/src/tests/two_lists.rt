@@ -1,6 +1,6 @@
 //! `append` and `split_off`: what both lists have afterwards, also on failure.
-use crate::tests::assertions::{assert_counts, assert_list, assert_same};
-use crate::tests::items::{list_of, refusing_nth};
+use crate::tests::support::assertions::{assert_counts, assert_list, assert_same};
+use crate::tests::support::items::{list_of, refusing_nth};
 use thin_vec::ThinVecError;
 
 #[test]

@@ -1,6 +1,6 @@
 //! Each use of `thin_examples`, once.
-use crate::tests::assertions::{assert_items, assert_len, assert_same};
-use crate::tests::items::{list_of, push, refusing_nth};
+use crate::tests::support::assertions::{assert_items, assert_len, assert_same};
+use crate::tests::support::items::{list_of, push, refusing_nth};
 use std::alloc::Global;
 use std::io::ErrorKind;
 use std::process::Abort;

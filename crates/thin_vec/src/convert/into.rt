@@ -92,7 +92,7 @@ impl<T, A: Allocator, G: Growth> ThinVec<T, A, G> {
         ensures value { result ≡ self.old.items }
         ensures items { self.new.items ≡ [] }
     {
-        // Their number fits, as the capacity does.
+        // This call tells the prover that the number of items fits.
         let _len = self.len();
         let items = self.block.take_array(0);
         self.block.set_len(0);

@@ -191,7 +191,7 @@ impl<T: Clone, A: Allocator, G: Growth> IntoIter<T, A, G> {
             (cost_new (length self.now.items))) }
         ensures cheap { IfOk result (λ it. IsCheap it) }
     {
-        // Their number fits, as the capacity does.
+        // This call tells the prover that the capacity fits, so that the number of items fits, too.
         let _room = self.block.cap();
         let list = ThinVec::from_fitting_slice(alloc, self.as_slice())?;
         Ok(list.into_iter())

@@ -4,7 +4,7 @@
 //! Up to the first item that goes nothing moves. From then on the list has a gap, and the items
 //! that stay wait where they are until the next one goes or the range ends: then they go to the
 //! start of the gap together.
-ghost use Rattle.std.specs.Prelude.{◌≡◌, ◌≤◌, ◌==◌, IfSome, Some, drop, length, not, slice_range, take};
+ghost use Rattle.std.specs.Prelude.{◌≡◌, ◌≤◌, IfSome, Some, drop, length, not, slice_range, take};
 ghost use Rattle.std.specs.Fn.{CalledAtMut};
 ghost use Rattle.std.specs.Iterator.{UpTo, at_most};
 ghost use Rattle.std.specs.Iterator.SizeHint.{IsWithinCount};

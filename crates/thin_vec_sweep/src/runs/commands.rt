@@ -8,7 +8,6 @@ use crate::runs::samples::{Lender, Sample, put};
 use crate::runs::shown::Form;
 use std::alloc::{AllocError, Allocator, Global};
 use std::process::Abort;
-use std::test::Fail;
 use thin_runner::judge::Judge;
 use thin_testing::{Refusing, Ruled};
 use thin_vec::{Doubling, Growth, PowerBytes, ThinVec, ThinVecError};

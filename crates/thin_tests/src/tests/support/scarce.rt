@@ -1,5 +1,5 @@
 //! An item whose clones run out.
-use crate::tests::counted::Counted;
+use crate::tests::support::counted::Counted;
 use std::alloc::AllocError;
 use std::cell::Cell;
 

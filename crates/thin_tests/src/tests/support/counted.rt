@@ -1,5 +1,5 @@
 //! An item that counts its drops.
-use crate::tests::items::push;
+use crate::tests::support::items::push;
 use std::alloc::Global;
 use std::cell::Cell;
 use std::process::Abort;
