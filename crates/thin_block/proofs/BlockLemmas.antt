@@ -1,15 +1,15 @@
--- What a contract sees of a block, after one change more.
+-- What a contract sees of a block after two changes, or with its slots written in another way.
 use Rattle.std.proofs.Common.{◌≡◌, ℕ, List, ap, ◌∙◌}
 use Rattle.std.specs.Prelude.{Option}
 use Rattle.thin_block.specs.Block.{Seen}
 
 module _ {T A : Type 0} where
-  -- the slots are also s
+  -- if v equals w, and the slots of w equal s, then v equals w with the slots s
   pub slots-are : {v w : Seen T A} {s : List (Option T)} → v ≡ w → w.slots ≡ s
       → v ≡ record w { slots = s }
   slots-are {w = w} e h = e ∙ ap (λ (s : List (Option T)). record w { slots = s }) h
 
-  -- a length was stored after another change
+  -- if a length was stored after another change, the result is the first block with both changes
   pub then-len : {u v w : Seen T A} {n : ℕ} → w ≡ record v { len = n } → v ≡ u
       → w ≡ record u { len = n }
   then-len {n = n} e h = e ∙ ap (λ (v : Seen T A). record v { len = n }) h

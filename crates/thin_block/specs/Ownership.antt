@@ -1,7 +1,7 @@
 -- What a block owns in memory, and what a `&` to it lends, as formulas. R is the type of an item
 -- with its layout; b and o are the allocation and the offset of an address.
 -- No public clause cites this module.
---     place, places   one slot, and all slots in a row: each is an item in memory, or uninitialised
+--     place, places   one slot, and all slots in a row: each is an item in memory, or uninitialized
 --                     memory for one
 --     frame           a block without its slots: the two words of the header, that the block fits,
 --                     and the backing
@@ -53,7 +53,7 @@ there None = false
 abbrev pub fits_block : RattleType → ℕ → Bool
 fits_block R c = is_small (type_size R) (type_align R) c
 
--- one slot at an address: the item in memory, or uninitialised memory for an item
+-- one slot at an address: the item in memory, or uninitialized memory for an item
 abbrev pub place : (R : RattleType) → Option R.Denot → ℕ → ℕ → Fml
 place R (Some x) b o = lies_at R full_share (block_ptr b o) x
 place R None b o = room_for (raw (lone R.mir)) (block_ptr b o)
@@ -98,29 +98,29 @@ asked_for (Some w) τ c = ty_array (word_of τ w.0) (w.1 + div_ceil c w.0)
 abbrev pub asked : RattleType → ℕ → Ty
 asked R c = asked_for (words_of R) (bare R) c
 
--- uninitialised memory for the two words of the header
+-- uninitialized memory for the two words of the header
 abbrev pub header_room : ℕ → ℕ → Fml
 header_room b o = fsep (froom (ty_int w64) b o) (froom (ty_int w64) b (o + 8))
 
--- uninitialised memory for the parts of a block: the capacity, the length, and c slots
+-- uninitialized memory for the parts of a block: the capacity, the length, and c slots
 abbrev pub parts_for : Ty → ℕ → ℕ → ℕ → Fml
 parts_for τ c b o = fsep (froom (ty_int w64) b o)
     (fsep (froom (ty_int w64) b (o + 8)) (froom (ty_array τ c) b (o + 16)))
 
--- uninitialised memory for the parts of a block of c slots for items of R
+-- uninitialized memory for the parts of a block of c slots for items of R
 abbrev pub parts : RattleType → ℕ → ℕ → ℕ → Fml
 parts R c b o = parts_for (bare R) c b o
 
--- what turns uninitialised memory for m items into uninitialised memory for one word
+-- what turns uninitialized memory for m items into uninitialized memory for one word
 abbrev pub way : Ty → ℕ → ℕ → ℕ → Fml
 way τ m b o = fwand (froom (ty_array τ m) b o) (froom (word_of τ m) b o)
 
--- what turns uninitialised memory for m items into memory for a word, for each of w words in a row
+-- what turns uninitialized memory for m items into memory for a word, for each of w words in a row
 abbrev pub ways : Ty → ℕ → ℕ → ℕ → ℕ → Fml
 ways τ m zero b o = ftrue
 ways τ m (suc w) b o = fsep (way τ m b o) (ways τ m w b (o + size (word_of τ m)))
 
--- what turns uninitialised memory for the header into memory for the k words that take as many
+-- what turns uninitialized memory for the header into memory for the k words that take as many
 -- bytes
 abbrev pub header_way : Ty → ℕ → ℕ → ℕ → ℕ → Fml
 header_way τ m k b o = fwand (header_room b o) (froom (ty_array (word_of τ m) k) b o)
@@ -131,7 +131,7 @@ abbrev pub slots_way : Ty → ℕ → ℕ → ℕ → ℕ → ℕ → Fml
 slots_way τ m w c b o = fsep (ways τ m w b o) (froom (ty_array τ (w * m - c)) b (o + c * size τ))
 
 -- what turns the parts of a block back into the memory of the whole block, with its padding, once
--- these parts are uninitialised
+-- these parts are uninitialized
 abbrev pub way_back : Option (ℕ × ℕ) → Ty → ℕ → ℕ → ℕ → Fml
 way_back None τ c b o = fwand (parts_for τ c b o) (froom (whole_of τ c) b o)
 way_back (Some w) τ c b o = fsep (header_way τ w.0 w.1 b o)
