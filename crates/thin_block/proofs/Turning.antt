@@ -5,8 +5,8 @@
 --     turn_out, turn_back         split the last k words from the others, and join them
 --     turn_up, turn_down          make the array that an allocator can grow, and split it again
 --     units_out                   memory for the words in the header, as memory for its two words
---     header_apart, header_whole  split a block without its slots into what its words need, and join
---                                 it
+--     header_apart, header_whole  split a block without its slots into what its words need, and
+--                                 join it
 use Rattle.std.proofs.Common.{◌≡◌, true, ℕ, Some, None, ◌+◌, ◌-◌, ◌*◌, List, [], ◌∷◌, ◌++◌, length, refl, sym, ap, ◌∙◌, arith, w64, append_assoc}
 use Rattle.std.proofs.lemmas.List.{length-map, length-append, length-replicate, map-append, replicate-append-replicate}
 use Rattle.std.specs.Prelude.{Bool}

@@ -9,8 +9,8 @@
 --                     into memory for the word
 --     backing         what turns the parts of a block back into the memory that was allocated, and
 --                     the right to free that memory
---     block_owns      what a block owns: all of its allocation, or nothing but the shared use of the
---                     static header if there is no allocation
+--     block_owns      what a block owns: all of its allocation; if it has none, it only shares the
+--                     static header
 --     .._lent         what a `&` to a slot, to slots, to a header or to a block shows
 use Rattle.std.specs.Prelude.{◌≡◌, ℕ, zero, suc, ◌+◌, ◌-◌, ◌*◌, List, [], ◌∷◌, length, Bool, true, false, Option}
 use Rattle.std.specs.declared.option.Option.TheVariants.{Some, None}

@@ -1,4 +1,4 @@
--- Where the sum is at most 2 ^ 63, no number on the way to it was past `usize::MAX`.
+-- If the sum is at most 2 ^ 63, no number in its computation exceeds `usize::MAX`.
 use Rattle.std.proofs.Common.{◌≡◌, ◌+◌, ◌*◌, ◌∙◌, ap, arith}
 use Rattle.thin_block.specs.Growth.{least_power}
 use Rattle.thin_block.specs.PowerLaws.{least_power_is, one_least_power}
