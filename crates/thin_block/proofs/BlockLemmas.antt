@@ -1,4 +1,5 @@
--- What a contract sees of a block after two changes, or with its slots written in another way.
+-- Lemmas on what a contract sees of a block: its slots may be written as equal slots, and two
+-- changes may be joined into one.
 use Rattle.std.proofs.Common.{◌≡◌, ℕ, List, ap, ◌∙◌}
 use Rattle.std.specs.Prelude.{Option}
 use Rattle.thin_block.specs.Block.{Seen}

@@ -6,8 +6,8 @@
 --     header, header_fits         a block without its slots, also if it has no allocation; that the
 --                                 block fits
 --     alloc_there                 if there are slots, the block has an allocator
---     block_had, block_made       splits a block into its header and its slots, and joins them
---     block_opens, block_closes   does the same for the block behind a `&mut`
+--     block_had, block_made       split a block into its header and its slots, and join them
+--     block_opens, block_closes   do the same for the block behind a `&mut`
 use Rattle.std.proofs.Common.{◌≡◌, Bool, true, ℕ, Some, None, ◌+◌, ◌*◌, ◌<◌, List, [], ◌∷◌, ◌++◌, length, refl, sym, ap, subst, ◌∙◌, arith, w64}
 use seplogic.Ra.Ura.{Ura}
 use mir.Syntax.{Ty, Tys, Width, Args, w8, w16, w32, w128, a_type, dcons, dnil, ty_int, ty_array, tcons, tnil}
@@ -147,9 +147,9 @@ module _ {M : Type 1} {𝓤 : Ura M} (𝓛 : Logic 𝓤) (R : RattleType) where
       move ! (2 ∷ 4 ∷ []) $ join ! $ move ! (2 ∷ 0 ∷ []) $ join ! $ move ! (1 ∷ 0 ∷ []) $ join ! $
       by ! (apply∗ 𝓤 rooms (H.room (whole R c) b o))
 
--- ---- a block, with its slots apart
--- what a block of c slots owns without these slots: the frame if it has an allocator; otherwise its
--- share of the static header
+-- ---- a block, with its slots apart.
+-- What a block of c slots owns without these slots: the frame if it has an allocator; otherwise its
+-- share of the static header.
 abbrev pub header : {D : Type 0} → (D → Ty → Ptr → Fml) → RattleType → ℕ → ℕ
     → Option D → ℕ → ℕ → Fml
 header t R n c None b o = fsep (lent_at usize (block_ptr b o) 0 [])

@@ -3,17 +3,17 @@
 use Rattle.std.proofs.Common.{Err, None, Ok, Option, Result, Some, subst, ◌≡◌}
 use Rattle.std.specs.Prelude.{OnErr, OnOk, OnSome}
 
--- if P implies Q, and P holds for an `Ok`, then Q holds for it
+-- if P holds whenever r is `Ok`, and P implies Q, then Q holds whenever r is `Ok`
 pub on-ok : {T E P Q : Type 0} (r : Result T E) → (P → Q) → OnOk r P → OnOk r Q
 on-ok (Ok x) h p = h p
 on-ok (Err e) h p = p
 
--- if P implies Q, and P holds for an `Err`, then Q holds for it
+-- if P holds whenever r is `Err`, and P implies Q, then Q holds whenever r is `Err`
 pub on-err : {T E P Q : Type 0} (r : Result T E) → (P → Q) → OnErr r P → OnErr r Q
 on-err (Ok x) h p = tt
 on-err (Err e) h p = h p
 
--- if P holds for a `Some`, and an option is `Some x`, then P holds
+-- if P holds whenever o is `Some`, and o is `Some x`, then P holds
 pub at-some : {X P : Type 0} {o : Option X} {x : X} → o ≡ Some x → OnSome o P → P
 at-some {P = P} e p = subst (λ o. OnSome o P) e p
 

@@ -77,7 +77,8 @@ module _ (E : El) {M : Type 1} {𝓤 : Ura M} (𝓛 : Logic 𝓤) (b o : ℕ) (s
   empty-long : (n : ℕ) → length (empty {T = el_x E} n) ≡ n
   empty-long n = length-replicate n None
 
-  -- the memory for a move down: the run, and the gap of d slots before it
+  -- a run and the d empty slots before it can be taken out of the row, and put back after the run
+  -- has moved down by d slots
   pub slides_down : (d : ℕ) → from ≡ to + d → from + k ≤ length slots → run to d slots ≡ empty d
       → Moves (memory_before_copy (R E) false d k (block_ptr b src) (block_ptr b dst) xs)
       (memory_after_copy (R E) false d k (block_ptr b src) (block_ptr b dst) xs)
@@ -127,7 +128,8 @@ module _ (E : El) {M : Type 1} {𝓤 : Ura M} (𝓛 : Logic 𝓤) (b o : ℕ) (s
             rewrite ! 0 (λ (l : S). ‵ (Row o l)) result refl $ done !;
       }
 
-  -- the memory for a move up: the run, and the gap of d slots after it
+  -- a run and the d empty slots after it can be taken out of the row, and put back after the run
+  -- has moved up by d slots
   slides_up : (d : ℕ) → to ≡ from + d → to + k ≤ length slots → run (from + k) d slots ≡ empty d
       → Moves (memory_before_copy (R E) true d k (block_ptr b src) (block_ptr b dst) xs)
       (memory_after_copy (R E) true d k (block_ptr b src) (block_ptr b dst) xs)
@@ -213,7 +215,8 @@ module _ (E : El) {M : Type 1} {𝓤 : Ura M} (𝓛 : Logic 𝓤) (b o : ℕ) (s
       let same : length mid * s ≡ m * s = ap (λ (n : ℕ). n * s) count in
       omega arith
 
-  -- the memory for a move up, past at least all slots of the run
+  -- a run and k empty slots above it can be taken out of the row, and put back after the run has
+  -- moved up to these slots
   goes_over : (m : ℕ) → to ≡ from + k + m → to + k ≤ length slots
       → run to k slots ≡ empty k → Moves Was Is
   goes_over m apart within gap =
@@ -271,7 +274,8 @@ module _ (E : El) {M : Type 1} {𝓤 : Ura M} (𝓛 : Logic 𝓤) (b o : ℕ) (s
             rewrite ! 0 (λ (l : S). ‵ (Row o l)) result refl $ done !;
       }
 
-  -- the memory for a move down, past at least all slots of the run
+  -- a run and k empty slots below it can be taken out of the row, and put back after the run has
+  -- moved down to these slots
   goes_back : (m : ℕ) → from ≡ to + k + m → from + k ≤ length slots
       → run to k slots ≡ empty k → Moves Was Is
   goes_back m apart within gap =
@@ -334,7 +338,8 @@ module _ (E : El) {M : Type 1} {𝓤 : Ura M} (𝓛 : Logic 𝓤) (b o : ℕ) (s
   abbrev pub Bare : Type 0
   Bare = (i : ℕ) → to ≤ i → i < to + k → (i < from) ⊎ (from + k ≤ i) → slot slots i ≡ None
 
-  -- the memory for a move between runs that do not overlap
+  -- if the two runs of slots do not overlap, the run and its destination can be taken out of the
+  -- row, and put back after the move
   pub apart : from + k ≤ length slots → to + k ≤ length slots → Bare → (from + k ≤ to)
       ⊎ (to + k ≤ from) → Moves Was Is
   apart source target bare far =
@@ -354,7 +359,8 @@ module _ (E : El) {M : Type 1} {𝓤 : Ura M} (𝓛 : Logic 𝓤) (b o : ℕ) (s
   Way up = Moves (memory_before_copy (R E) up (distance up) k (block_ptr b src) (block_ptr b dst)
       xs) (memory_after_copy (R E) up (distance up) k (block_ptr b src) (block_ptr b dst) xs)
 
-  -- the memory for a move between runs that overlap
+  -- if the two runs of slots overlap, the run and the gap next to it can be taken out of the row,
+  -- and put back after the move
   pub slides : from + k ≤ length slots → to + k ≤ length slots → Bare → to < from + k
       → from < to + k → (up : Bool) → ltb from to ≡ up → Way up
   slides source target bare near near' true e =
@@ -370,7 +376,7 @@ module _ (E : El) {M : Type 1} {𝓤 : Ura M} (𝓛 : Logic 𝓤) (b o : ℕ) (s
       (empty-run slots to (from - to) le
       (λ i h j. bare i h (omega arith) (inl (let q : i < from = omega arith in q))))
 
-  -- the target is above or below the source by the distance of the move
+  -- the address of the destination differs from the address of the run by the distance of the move
   pub shifted : (up : Bool) → ltb from to ≡ up → IsShifted (R E) up (distance up)
       (block_ptr b src) (block_ptr b dst)
   shifted true e = let less : from < to = ltb-true from to e in

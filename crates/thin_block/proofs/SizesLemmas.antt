@@ -81,11 +81,11 @@ rounded_to w128 x = record {
 pub align_known : (R : RattleType) → IsAlign (type_align R)
 align_known R = (align_w (layout R), align-bytes (layout R))
 
--- if a is an alignment, what `Rounded` says is true
+-- if a is an alignment, then `Rounded` holds for a and every size x
 pub rounded_at : (a x : ℕ) → IsAlign a → Rounded a x
 rounded_at a x is = subst (λ (k : ℕ). Rounded k x) (sym is.1) (rounded_to is.0 x)
 
--- what `Rounded` says is true for the alignment of each item type
+-- `Rounded` holds for the alignment of each item type, and every size x
 pub rounded : (R : RattleType) (x : ℕ) → Rounded (type_align R) x
 rounded R x = rounded_at (type_align R) x (align_known R)
 

@@ -51,8 +51,8 @@ use Rattle.thin_block.proofs.SlotMemory.{cut, glue, to_items, of_items, to_raw, 
 use Rattle.thin_block.proofs.WordsLemmas.{InWords, nameless}
 use Rattle.thin_block.proofs.words.Words.TheLaws.{the_row_laws}
 
--- ---- uninitialized memory
--- an array of n values from the offset o on ends after n times the size of a value
+-- ---- uninitialized memory.
+-- An array of n values from the offset o on ends after n times the size of a value.
 past-place : (τ : Ty) (n o : ℕ) → past τ n o ≡ place (size τ) o n
 past-place τ zero o = refl
 past-place τ (suc n) o = past-place τ n (o + size τ)
@@ -224,8 +224,8 @@ module _ {M : Type 1} {𝓤 : Ura M} (𝓛 : Logic 𝓤) (τ : Ty) (m k b : ℕ)
         move ! (2 ∷ 3 ∷ 1 ∷ []) $ use3 𝓛 (‵ (froom units b o)) (header_in o) $
         by ! (room_glue 𝓛 ω k w b o)
 
--- ---- items
--- the number of items of a word, as the const parameter of `Words`
+-- ---- items.
+-- The number of items of a word, as the const parameter of `Words`.
 abbrev pub number_of_items : ℕ → RattleType
 number_of_items m = param 1 (number m)
 

@@ -63,13 +63,13 @@ pub record FillsPower (s a c : ℕ) : Type 0 where
   pub holds : items_offset a + c * s ≤ power
   pub is_full : power < items_offset a + (c + 1) * s
 
--- the ruled capacity: the capacity of a block for w items of R, if it was c before. It is c if that
--- suffices, None if w exceeds `usize::MAX`, and otherwise what the rule chooses.
+-- the ruled capacity: the capacity that a block of capacity c gets if it needs room for w items of
+-- R. It is c if c suffices, None if w exceeds `usize::MAX`, and otherwise what the rule chooses.
 unfoldable pub ruled_capacity : Rule → RattleType → ℕ → ℕ → Option ℕ
 ruled_capacity rule R c w = if nat_le w c then Some c else
     (if nat_lt w (2 ^ 64) then rule (type_size R) (type_align R) c w else None)
 
--- the exact capacity: the capacity of a block for exactly w items of R, if it was c before. It is c
--- if that suffices, otherwise w if that fits, and otherwise None.
+-- the exact capacity: the capacity that a block of capacity c gets if it needs room for exactly w
+-- items of R. It is c if c suffices, otherwise w if w fits, and otherwise None.
 unfoldable pub exact_capacity : RattleType → ℕ → ℕ → Option ℕ
 exact_capacity R c w = if nat_le w c then Some c else fitting (type_size R) (type_align R) w

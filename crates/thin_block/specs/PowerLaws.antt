@@ -20,15 +20,15 @@ below_power : (n : ℕ) → n < 2 ^ n
 below_power zero = omega arith
 below_power (suc n) = omega (arith, below_power n, pow_more 2 n)
 
--- if p is a power of two whose half is less than n, then p is the least power of two that is at
--- least n, or p is too small, and the least power is the one that `later` finds
+-- assume that p is a power of two whose half is too small: if p is at least n, then p is the least
+-- power of two that is at least n; otherwise that power is `next`
 one_step : (b : Bool) (n p next : ℕ) → nat_le n p ≡ b → IsPowerOfTwo p → p / 2 < max 1 n
     → (p < n → IsNextPowerOfTwo n next) → IsNextPowerOfTwo n (if b then p else next)
 one_step true n p next e power half later = (power, leb-true n p e, half)
 one_step false n p next e power half later = later (leb-false n p e)
 
--- if k doublings of p suffice to reach n, then `doubled_to` returns the least power of two that is
--- at least n
+-- if p is a power of two whose half is too small, and k doublings of p reach n, then `doubled_to`
+-- returns the least power of two that is at least n
 doubled_is : (k n p : ℕ) → IsPowerOfTwo p → p / 2 < max 1 n → n ≤ 2 ^ k * p
     → IsNextPowerOfTwo n (doubled_to k n p)
 doubled_is zero n p power half enough = (power, omega (arith, enough), half)
@@ -45,8 +45,7 @@ pub least_power_is : (n : ℕ) → IsNextPowerOfTwo n (least_power n)
 unfolding least_power
 least_power_is n = doubled_is n n 1 (0, refl) (omega arith) (omega (arith, below_power n))
 
--- if half of one power of two is less than n, and another power of two is at least n, then the
--- first power is at most the second
+-- if 2 ^ k is at least n, and half of 2 ^ j is too small, then 2 ^ j is at most 2 ^ k
 not_more : (n j k : ℕ) → n ≤ 2 ^ k → 2 ^ j / 2 < max 1 n → 2 ^ j ≤ 2 ^ k
 not_more n zero k enough half = pow_pos k
 not_more n (suc j) k enough half = elim (cases_lt j k) [
@@ -87,7 +86,7 @@ module _ (s a c w n : ℕ) (some : 0 < s) (e : power_bytes s a c w ≡ Some n) w
   abbrev power : ℕ
   power = least_power (items_offset a + wanted)
 
-  -- the number of items for which that power has room is n, and it fits
+  -- n is the number of items for which `power` has room after the header, and this number fits
   named : IsTrue (fits s a ((power - items_offset a) / s)) × ((power - items_offset a) / s ≡ n)
   named = fitting_is s a ((power - items_offset a) / s) n (sym (powers_of_some s a c w some) ∙ e)
 

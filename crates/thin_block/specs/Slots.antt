@@ -42,11 +42,11 @@ module _ {T : Type 0} where
   abbrev pub run : ℕ → ℕ → List (Option T) → List (Option T)
   run i k s = take k (drop i s)
 
-  -- the slots s, where ys replaces as many slots from i on
+  -- the slots s, with ys in place of as many slots from i on
   abbrev pub laid : ℕ → List (Option T) → List (Option T) → List (Option T)
   laid i ys s = take i s ++ (ys ++ drop (i + length ys) s)
 
-  -- the slots s, where the k slots from i on are empty
+  -- the slots s, with the k slots from i on emptied
   abbrev pub emptied : ℕ → ℕ → List (Option T) → List (Option T)
   emptied i k s = laid i (empty k) s
 

@@ -1,4 +1,4 @@
-//! The causes for which a call fails.
+//! The error type `ThinVecError`, which says why a call failed.
 ghost use Rattle.std.specs.IoError.{error_kind};
 ghost use Rattle.std.specs.Prelude.{◌≡◌};
 ghost use Rattle.std.specs.declared.io.ErrorKind.TheVariants as Kind;
@@ -9,7 +9,7 @@ use std::io;
 use std::io::ErrorKind;
 use thiserror::Error;
 
-/// The cause for which a call failed.
+/// Says why a call failed.
 #[derive(Debug, Clone, Copy, PartialEq, Eq, Error)]
 pub enum ThinVecError {
     /// The capacity that the call needs is too large. No memory was requested for this capacity.

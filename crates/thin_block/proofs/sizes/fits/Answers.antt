@@ -1,4 +1,5 @@
--- The comparison with the quotient is true if and only if `Fits` holds.
+-- `fits` compares the capacity with a quotient. This comparison is true if and only if `Fits`
+-- holds.
 use Rattle.std.proofs.Common.{◌≡◌, ℕ, ◌-◌, ◌*◌, ◌/◌, ◌^◌, ◌<◌, true, refl, sym, ap, ◌∙◌, arith, leb}
 use Rattle.std.specs.Mem.{type_size}
 use Rattle.std.specs.Align.{type_align}

@@ -40,34 +40,33 @@ abbrev pub on_slot : {X Y : Type 0} → (X → Y) → Option X → Option Y
 on_slot h None = None
 on_slot h (Some x) = Some (h x)
 
--- slots as a former: the items below a slot are the values of the recursive type that its item
--- contains
+-- slots as a former: how a slot contains values of a type X
 module _ (g : Former {0}) where
-  -- the number of items below a slot with the shape o, plus n
+  -- the number of values of X in a slot with the given shape, plus n
   abbrev pub slot_count : Option g.Shape → Count → Count
   slot_count None n = n
   slot_count (Some a) n = g.count a n
 
-  -- prepends the items below a slot to a row
+  -- prepends the values of X in a slot to a row
   abbrev pub slot_put : (X : Type 0) (o : Option (g.Of X)) (n : Count) → Row X n
       → Row X (slot_count (on_slot (g.shape X) o) n)
   slot_put X None n t = t
   slot_put X (Some y) n t = g.put X y n t
 
-  -- takes the items below a slot from the front of a row
+  -- takes a slot from a row: the values of X in that slot are the first values of the row
   abbrev pub slot_get : (X : Type 0) (a : Option g.Shape) (n : Count) → Row X (slot_count a n)
       → Option (g.Of X) × Row X n
   slot_get X None n v = (None, v)
   slot_get X (Some a) n v = let r : g.Of X × Row X n = g.get X a n v in (Some r.0, r.1)
 
-  -- taking a slot from a row to which its items were prepended returns that slot and the rest of
+  -- taking a slot from a row to which its values were prepended returns that slot and the rest of
   -- the row
   pub slot_get-put : (X : Type 0) (o : Option (g.Of X)) (n : Count) (t : Row X n)
       → slot_get X (on_slot (g.shape X) o) n (slot_put X o n t) ≡ (o, t)
   slot_get-put X None n t = refl
   slot_get-put X (Some y) n t = λ i. (Some (g.get-put X y n t i).0, (g.get-put X y n t i).1)
 
-  -- prepending the items that were taken from the front of a row restores the row
+  -- prepending the values of a slot that was taken from a row restores the row
   pub slot_put-get : (X : Type 0) (a : Option g.Shape) (n : Count) (v : Row X (slot_count a n))
       → ◌≡◌ {A = (b : Option g.Shape) × Row X (slot_count b n)} (
         on_slot (g.shape X) (slot_get X a n v).0,
@@ -104,13 +103,13 @@ module _ (g : Former {0}) where
   }
 
 module _ {g : Former {0}} (w : Weighed g) where
-  -- the depth of the items below a slot
+  -- the depth of a slot: the depth that its item has, or 0 if the slot is empty
   abbrev pub slot_weight : (X : Type 0) → (X → ℕ) → Option (g.Of X) → ℕ
   slot_weight X μ None = 0
   slot_weight X μ (Some y) = w.weight X μ y
 
-  -- the depth of a row to which the items below a slot were prepended is the maximum of the depth
-  -- of the slot and the depth of the row
+  -- the depth of a row to which the values in a slot were prepended is the maximum of the depth of
+  -- the slot and the depth of the row
   pub slot_puts : (X : Type 0) (μ : X → ℕ) (o : Option (g.Of X)) (n : Count) (t : Row X n)
       → deepest μ (slot_count g (on_slot (g.shape X) o) n) (slot_put g X o n t) ≡ max
       (slot_weight X μ o) (deepest μ n t)
@@ -144,13 +143,13 @@ module _ {X Y Z : Type 0} (d : Block X Z) where
   pub fits : (ys : List (Option Y)) → length ys ≡ length d.slots → Fits ys
   fits ys e = (let le = d.sound.0 in omega (arith, e, le), d.sound.1 ∙ sym (any_same d.slots ys e))
 
-  -- two proofs of `Fits` are equal
+  -- two proofs that the block d may hold equal slots are equal
   pub Fits-along : (ys zs : List (Option Y)) (e : ys ≡ zs) (p : Fits ys) (q : Fits zs)
       → PathP (λ i. Fits (e i)) p q
   Fits-along ys zs e = is_prop→PathP (λ i. Fits (e i))
       (λ i p q j. (le_prop p.0 q.0 j, Coded-set coded_bool _ _ p.1 q.1 j))
 
-  -- blocks with equal slots are equal
+  -- if ys and zs are equal, the blocks with the slots ys and zs are equal
   abbrev pub holding_along : (ys zs : List (Option Y)) (e : ys ≡ zs) (p : Fits ys) (q : Fits zs)
       → holding ys p ≡ holding zs q
   holding_along ys zs e p q = λ i. holding (e i) (Fits-along ys zs e p q i)
@@ -161,20 +160,21 @@ mapped h d = holding d (map (on_slot h) d.slots)
     (fits d (map (on_slot h) d.slots) (length-map d.slots (on_slot h)))
 
 module _ (g : Former {0}) (Z : Type 0) where
-  -- the slots that are taken from a row are as many as the slots of the shape
+  -- the slots that are taken from a row are as many as those of the shape a
   pub length_got : (X : Type 0) (a : List (Option g.Shape)) (n : Count)
       (v : Row X (list_count (slot g) a n)) → length (list_get (slot g) X a n v).0 ≡ length a
   length_got X [] n v = refl
   length_got X (a ∷ as') n v =
       ap suc (length_got X as' n ((slot g).get X a (list_count (slot g) as' n) v).1)
 
-  -- takes a block of the shape a from the front of a row: its items are the first items of the row
+  -- takes a block with the shape a from a row: the values of X in that block are the first values
+  -- of the row
   abbrev pub got : (X : Type 0) (a : Block g.Shape Z) (n : Count)
       → Row X (list_count (slot g) a.slots n) → Block (g.Of X) Z × Row X n
   got X a n v = let r : List (Option (g.Of X)) × Row X n = list_get (slot g) X a.slots n v in
       (holding a r.0 (fits a r.0 (length_got X a.slots n v)), r.1)
 
-  -- taking a block from a row to which its items were prepended returns that block and the rest of
+  -- taking a block from a row to which its values were prepended returns that block and the rest of
   -- the row
   pub got-put : (X : Type 0) (d : Block (g.Of X) Z) (n : Count) (t : Row X n)
       → got X (mapped (g.shape X) d) n ((list (slot g)).put X d.slots n t) ≡ (d, t)
@@ -184,7 +184,7 @@ module _ (g : Former {0}) (Z : Type 0) where
     ((list (slot g)).get-put X d.slots n t i).1,
   )
 
-  -- prepending the items of a block that was taken from a row restores the row
+  -- prepending the values of a block that was taken from a row restores the row
   pub put-got : (X : Type 0) (a : Block g.Shape Z) (n : Count)
       (v : Row X (list_count (slot g) a.slots n))
       → ◌≡◌ {A = (b : Block g.Shape Z) × Row X (list_count (slot g) b.slots n)} (
@@ -246,7 +246,7 @@ the_empty Z z = record {
   sound = (omega arith, refl);
 }
 
--- the items below a row of slots are the items that the slots hold
+-- for the former `this`, the values in a row of slots are the items that the slots hold
 pub items_listed : (X : Type 0) (xs : List (Option X))
     → listed _ (children (list (slot this)) X xs) ≡ items_in xs
 items_listed X [] = refl
@@ -257,7 +257,7 @@ items_listed X (Some x ∷ xs) = ap (λ l. x ∷ l) (items_listed X xs)
 abbrev pub the_items : (Z X : Type 0) → Block X Z → List X
 the_items Z X d = items_in d.slots
 
--- the items below a block are its items
+-- for the former `this`, the values in a block are its items
 pub the_items_listed : (Z X : Type 0) (d : Block X Z)
     → listed _ (children (the_former this Z) X d) ≡ the_items Z X d
 the_items_listed Z X d = items_listed X d.slots

@@ -458,9 +458,9 @@ resize_words_spec 𝓤 𝓛 𝓜 𝓡 wired T A m k LT LA fits_m fits_k g d dd m
     exec ! C Λ En (after 2 fn.body) (at_ret En Post) $
     sets ! (of_opd ! (get ! refl)) refl (tt, (record { fits = lit< tt }, (words, tt))) $
     returns ! (look_at ! 0 refl) $ free_all ! refl $
-    -- context: [the two words of the header; the way back of the header; what the last words own;
-    -- their bytes after the other words; the empty words; the right to free; the other words; the
-    -- tokens]
+    -- context: [the two words of the header; the way back from the header to words; what the last
+    -- words own; their bytes after the other words; the empty words; the right to free; the other
+    -- words; the tokens]
     rewrite ! 1 (λ (n : ℕ). ‵ (fat full_share (ty_int w64) b' n (vint w64 len)))
     (let turned : 8 + o' ≡ o' + 8 = omega arith in turned) refl $
     use1 𝓛 (‵ (lies_at usize full_share (block_ptr b' o') cap))
@@ -477,8 +477,8 @@ resize_words_spec 𝓤 𝓛 𝓜 𝓡 wired T A m k LT LA fits_m fits_k g d dd m
     use1 𝓛 (‵ (places Rt news b' (o' + 16)) ⊛ ‵ (slots_way τ' m w' cap b' (o' + 16)))
     (words_back 𝓛 T LT m k b' hd items count j' v' w' cap (o' + 16) whole_words slots_are' fill'
     (hd.counts.covers cap)) $ split ! $
-    -- context: [the slots; the way back of the slots; the length; the capacity; the way back of the
-    -- header; the right to free; the tokens]
+    -- context: [the slots; the way back from the slots to words; the length; the capacity; the way
+    -- back from the header to words; the right to free; the tokens]
     move ! (3 ∷ 2 ∷ 4 ∷ 1 ∷ 5 ∷ []) $ group ! 5 $
     use1 𝓛 (‵ (frame tok Rt len cap b' o'))
     (header_whole 𝓛 T LT b' m k in_words o' tok len cap wanted wanted_is fits_cap) $
@@ -536,9 +536,9 @@ resize_words_spec 𝓤 𝓛 𝓜 𝓡 wired T A m k LT LA fits_m fits_k g d dd m
     exec ! C Λ En (after 2 fn.body) (at_ret En Post) $
     sets ! (of_opd ! (get ! refl)) refl (tt, (record { fits = lit< tt }, (words, tt))) $
     returns ! (look_at ! 0 refl) $ free_all ! refl $
-    -- context: [the two words of the header; the way back of the header; what the last words own;
-    -- their bytes after the other words; the empty words; the right to free; the other words; the
-    -- tokens]
+    -- context: [the two words of the header; the way back from the header to words; what the last
+    -- words own; their bytes after the other words; the empty words; the right to free; the other
+    -- words; the tokens]
     rewrite ! 1 (λ (n : ℕ). ‵ (fat full_share (ty_int w64) b n (vint w64 len)))
     (let turned : 8 + o ≡ o + 8 = omega arith in turned) refl $
     use1 𝓛 (‵ (lies_at usize full_share (block_ptr b o) old)) (uint_in 𝓛 full_share w64 old b o) $
@@ -555,8 +555,8 @@ resize_words_spec 𝓤 𝓛 𝓜 𝓡 wired T A m k LT LA fits_m fits_k g d dd m
     (slots_way τ' m w old b (o + 16)))
     (words_back 𝓛 T LT m k b hd items count j v w old (o + 16) whole_words slots_are fill
     (hd.counts.covers old)) $ split ! $
-    -- context: [the slots; the way back of the slots; the length; the capacity; the way back of the
-    -- header; the right to free; the tokens]
+    -- context: [the slots; the way back from the slots to words; the length; the capacity; the way
+    -- back from the header to words; the right to free; the tokens]
     move ! (3 ∷ 2 ∷ 4 ∷ 1 ∷ 5 ∷ []) $ group ! 5 $
     use1 𝓛 (‵ (frame tok Rt len old b o))
     (header_whole 𝓛 T LT b m k in_words o tok len old held held_is fits_old) $
