@@ -124,7 +124,7 @@ module _ (E : El) {M : Type 1} {𝓤 : Ura M} (𝓛 : Logic 𝓤) (b : ℕ) (κ 
   up_to (y ∷ ys) rest o = qed 𝓛 (‵ (Seen o (Some y ∷ (full ys ++ rest))) ∷ []) ∵ fsplit ! $
       fsplit ! $ keep ! (1 ∷ 2 ∷ []) $ frame ! $ by ! (up_to ys rest (o + s))
 
-  -- a `&` to slots, of which a run holds the items ys, shows the slice of ys
+  -- if a run of slots holds the items ys, a `&` to the slots shows the slice of ys
   pub run_seen : (xs : List (Slot E)) (i k o : ℕ) (ys : List (el_x E)) → i ≤ length xs
       → run i k xs ≡ full ys → ent 𝓤 (sem 𝓛 (Seen o xs))
       (sem 𝓛 (elements_shared (R E) ys b (i * s + o) κ))

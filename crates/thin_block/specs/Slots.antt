@@ -29,7 +29,7 @@ module _ {T : Type 0} where
   items_in (None ∷ s) = items_in s
   items_in (Some x ∷ s) = x ∷ items_in s
 
-  -- c slots, of which the first hold the items of xs, and the others are empty
+  -- c slots: the first ones hold the items of xs, and the others are empty
   abbrev pub front : List T → ℕ → List (Option T)
   front xs c = full xs ++ empty (c - length xs)
 

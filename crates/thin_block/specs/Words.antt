@@ -30,12 +30,12 @@ module _ (T M : RattleType) where
   runs_at (xs ∷ xss) b o = fsep (run_at xs b o)
       (runs_at xss b (o + size (word_of (bare T) (value_of M))))
 
-  -- the items of several words in a row, from the address that a pointer gives
+  -- the items of several words in a row, from the address of a pointer on
   abbrev pub runs_from : List (List T.Denot) → Ptr → Fml
   runs_from xss null_ptr = ffalse
   runs_from xss (block_ptr b o) = runs_at xss b o
 
-  -- several words in a row, from the address that a pointer gives
+  -- several words in a row, from the address of a pointer on
   abbrev pub words_from : List (List T.Denot) → Ptr → Fml
   words_from xss null_ptr = ffalse
   words_from xss (block_ptr b o) = places (the_row T M) (full (map word xss)) b o

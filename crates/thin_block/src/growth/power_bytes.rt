@@ -22,7 +22,7 @@ impl Growth for PowerBytes {
 
     ghost rule = { power_bytes };
 
-    // Returns the capacity for at least `want` items and at least twice `cap`. A block of this
+    // Returns the capacity that the rule chooses. Unless items have size 0, a block of this
     // capacity takes at most a power of two bytes, before its size is rounded up to its alignment.
     // A block with one more item would take more bytes than that power.
     fn next_capacity<T>(cap: usize, want: usize) -> Option<usize>

@@ -1,5 +1,5 @@
 -- The former of `Block`: how a type may contain blocks of itself. A block is determined by the
--- items in its slots and some further values.
+-- items in its slots, and by values that contain no items.
 use Rattle.std.specs.Prelude.{◌≡◌, ℕ, suc, max, ◌+◌, ◌≤◌, List, [], ◌∷◌, map, length, Option}
 use Rattle.std.specs.declared.option.Option.TheVariants.{Some, None}
 use mathlib.Core.Path.{PathP, refl, sym, ap, ◌∙◌}
