@@ -10,7 +10,7 @@ module _ {T A : Type 0} where
       → v ≡ record w { slots = s }
   slots-are {w = w} e h = e ∙ ap (λ (s : List (Option T)). record w { slots = s }) h
 
-  -- if a length was stored after another change, the result is the first block with both changes
+  -- if w is v with the length n, and v equals u, then w is u with the length n
   pub then-len : {u v w : Seen T A} {n : ℕ} → w ≡ record v { len = n } → v ≡ u
       → w ≡ record u { len = n }
   then-len {n = n} e h = e ∙ ap (λ (v : Seen T A). record v { len = n }) h

@@ -140,7 +140,7 @@ no_answer : (b : Bool) (n : ℕ) → (IsTrue b → ⊥) → (if b then Some n el
 no_answer true n never = absurd (never refl)
 no_answer false n never = refl
 
--- a capacity that does not fit is not chosen
+-- if the capacity n does not fit, `fitting` returns None
 pub fitting_none : (R : RattleType) (n : ℕ) → (Fits R n → ⊥)
     → fitting (type_size R) (type_align R) n ≡ None
 unfolding fitting

@@ -45,7 +45,7 @@ use Rattle.std.specs.Align.{type_align}
 use Rattle.thin_block.specs.Capacity.{block_align, block_bytes}
 use Rattle.thin_block.proofs.SizesLemmas.{fits_none}
 
--- the struct with these fields: what it owns does not depend on its name
+-- the struct with the fields Rs: what it owns does not depend on its name
 abbrev pub plainly : List RattleType → RattleType
 plainly Rs = Struct (record { name = []; args = []; types = []; fields = Rs })
 

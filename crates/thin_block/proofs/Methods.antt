@@ -1,6 +1,6 @@
 -- How a walk of a method on a `&mut Block` begins and ends. Assumes `Logic`.
---     dropped, all_go          the method returns none of these parameters, and the contract allows
---                              that
+--     dropped, all_go          the method returns none of the given parameters, and the contract
+--                              allows that
 --     heard_all                splits a `requires` of several facts
 --     block_stays, goes        the method returns the `&mut`, and drops the other parameters
 --     arrives                  the context on entry
@@ -54,13 +54,13 @@ others [] = []
 others (s ∷ ss) = ss
 
 module _ {n : ℕ} where
-  -- none of these parameters is returned
+  -- none of the parameters ss is returned
   abbrev pub dropped : (ss : List (Slot n)) (ks : Kepts ss) → Stays ss ks
   dropped [] ks = tt
   dropped (s ∷ ss) ks = (stay_dropped s ks.0, dropped ss ks.1)
 
 module _ {M : Type 1} {𝓤 : Ura M} (𝓛 : Logic 𝓤) {n : ℕ} where
-  -- the contract says nothing of these parameters when the function returns
+  -- the contract says nothing of the parameters ss when the function returns
   abbrev pub AllSilent : (ss : List (Slot n)) → Kepts ss → Type 1
   AllSilent [] ks = Unit {1}
   AllSilent (s ∷ ss) ks = Silent 𝓛 n s ks.0 × AllSilent ss ks.1

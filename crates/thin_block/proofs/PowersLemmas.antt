@@ -53,7 +53,7 @@ module _ (R : RattleType) (c w size : ℕ) (is : size ≡ capped (type_size R))
   abbrev wanted : ℕ
   wanted = max w (2 * c)
 
-  -- if the header and these items take at most 2 ^ 63 bytes, no number has exceeded `usize::MAX`
+  -- if the header and `items` items take at most 2 ^ 63 bytes, no number has exceeded `usize::MAX`
   module _ (small : 16 + items * size ≤ 2 ^ 63) where
     size_is : s ≡ size
     size_is =
@@ -79,7 +79,7 @@ module _ (R : RattleType) (c w size : ℕ) (is : size ≡ capped (type_size R))
         λ i. ((e ∙ ap least_power bytes) i - offset i) / sym size_is i in
         ap (fitting s a) next ∙ sym (powers_of_some s a c w (omega (arith, size_is, some)))
 
-  -- if the header and these items take more than 2 ^ 63 bytes, the rule chooses no capacity
+  -- if the header and `items` items take more than 2 ^ 63 bytes, the rule chooses no capacity
   pub power_past : 2 ^ 63 < 16 + items * size → None ≡ power_bytes s a c w
   power_past large =
       let offset = (rounded R 0).offset in

@@ -156,7 +156,7 @@ module _ (s a c : ℕ) (is : IsAlign a) where
       (tells_second (ltb c (2 ^ 63)) (ltb (block_bytes s a c) (2 ^ 63)) e) in
       record { few = few; room = (rounded_at a (c * s) is).tells short; short = short }
 
--- the same two lemmas for items of R
+-- the lemmas `small_yes` and `small_tells` for items of R
 module _ (R : RattleType) (c : ℕ) where
   abbrev IsSmall : Type 0
   IsSmall = is_small (type_size R) (type_align R) c ≡ true

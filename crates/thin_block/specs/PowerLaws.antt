@@ -82,7 +82,7 @@ module _ (s a c w n : ℕ) (some : 0 < s) (e : power_bytes s a c w ≡ Some n) w
   abbrev wanted : ℕ
   wanted = max w (2 * c) * s
 
-  -- the least power of two bytes that has room for these items after the header
+  -- the least power of two bytes that has room for the header and `wanted` bytes
   abbrev power : ℕ
   power = least_power (items_offset a + wanted)
 

@@ -116,7 +116,7 @@ module _ {g : Former {0}} (w : Weighed g) where
   slot_puts X μ None n t = none_max (deepest μ n t)
   slot_puts X μ (Some y) n t = w.puts X μ y n t
 
-  -- the former of slots has a depth
+  -- the former of slots, with the depth of its values
   abbrev pub w_slot : Weighed (slot g)
   w_slot = record { weight = slot_weight; puts = slot_puts }
 
