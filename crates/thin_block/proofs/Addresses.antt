@@ -1,7 +1,10 @@
--- The address of a slot, as a walk computes it, and the slot that lies there. Assumes `Logic`.
---     its_ptr            the block's pointer is read
---     slot_found, moves_on    `(p.add(HEADER_WORDS) as *mut T).add(i)`, and `p.add(i)`
---     takes_slot, takes_item, takes_two    a slot comes out of the row; a filled one; two of them
+-- The address of a slot, as a walk computes it, and how the slot at that address is taken out of
+-- the row of slots. Assumes `Logic`.
+--     its_ptr       reads the pointer of the block
+--     slot_found    follows the computation of `(p.add(HEADER_WORDS) as *mut T).add(i)`
+--     moves_on      follows the computation of `p.add(i)`
+--     takes_slot    takes a slot out of the row; takes_item: a filled slot; takes_two: two filled
+--                   slots
 use Rattle.std.proofs.Common.{◌≡◌, ℕ, zero, Some, None, ◌+◌, ◌*◌, ◌^◌, ◌<◌, ◌≤◌, List, [], ◌∷◌, length, true, refl, sym, ap, subst, arith, w64}
 use lib.Dec.{T}
 use lib.ListN.{get_or}
@@ -26,14 +29,14 @@ use Rattle.thin_block.specs.Ownership.{fits_block, place as slot_place, places}
 use Rattle.thin_block.proofs.HeaderMemory.{Br, block_val}
 use Rattle.thin_block.proofs.SlotMemory.{Slot, sz, reach, besides, slot_out, Two}
 
--- a slot lies no further from the first than a word can say
+-- the distance in bytes from the first slot to the slot i fits into a word of 64 bits
 pub near : (E : El) (xs : List (Slot E)) (i : ℕ) → fits_block (R E) (length xs) ≡ true
     → i ≤ length xs → i * sz E < 2 ^ 64
 near E xs i fits le = let low = reach (R E) i (length xs) fits le in omega arith
 
 module _ (E : El) (Y : Al) {M : Type 1} {𝓤 : Ura M} {𝓛 : Logic 𝓤} {K : Type 0}
     {Γ : List (Item 𝓤)} {h s : Item 𝓤} where
-  -- the block's pointer, read through a reference to the block
+  -- reads the pointer of a block through a reference to the block
   pub its_ptr : K → {Ev : Env 𝓤 𝓛.H} {p b o rb ro : ℕ} {q : Share}
       → at 𝓛 p (h ∷ s ∷ ‵
       (cell_at full_share (Br E Y).mir (block_val (block_ptr b o) ∷ []) rb ro) ∷ Γ)
@@ -46,52 +49,54 @@ module _ (E : El) (Y : Al) {M : Type 1} {𝓤 : Ura M} {𝓛 : Logic 𝓤} {K : 
 module _ {M : Type 1} {𝓤 : Ura M} (𝓛 : Logic 𝓤) (Ev : Env 𝓤 𝓛.H) where
   open 𝓛 use {H}
 
-  -- a local's entry where it holds this value
+  -- the entry of the local p if it holds the value v
   abbrev holds : ℕ → Val → Item 𝓤
   holds p v = ‵ (fat full_share (spot_of 𝓤 H Ev p).0 (spot_of 𝓤 H Ev p).1 zero v)
 
-  -- and where it holds any, or none
+  -- the entry of the local p if it may be written: it holds any value of its type, or none
   abbrev free : ℕ → List (Item 𝓤) → Item 𝓤
   free p Γ = nth 𝓛 0 (free_needs 𝓛 (((spot_of 𝓤 H Ev p).0, (spot_of 𝓤 H Ev p).1) ∷ [])
       (at 𝓛 p Γ ∷ ‵ ftrue ∷ []))
 
-  -- it may hold such a value
+  -- the value v has the type of the local p
   abbrev Takes : ℕ → Val → Type 0
   Takes p v = T (has_ty (spot_of 𝓤 H Ev p).0 v)
 
   module _ (Γ : List (Item 𝓤)) (E : El) (b o i p₃ p₄ : ℕ) where
-    -- the locals once p₃ holds the distance
+    -- the context after p₃ holds the distance, which is i times the size of an item
     abbrev far : List (Item 𝓤)
     far = set 𝓛 p₃ (holds p₃ (vint w64 (i * sz E))) Γ
 
-    -- and once p₄ holds the address of the i-th item from o on
+    -- the context after p₄ also holds the address of the item i, counted from the offset o on
     abbrev pub gone : List (Item 𝓤)
     gone = set 𝓛 p₄ (holds p₄ (vptr b (i * sz E + o))) far
 
-    -- the entries that the steps meet, where the first address is in p and the number in pᵢ
+    -- the entries of the context that the steps of `p.add(i)` use, if p holds the first address and
+    -- pᵢ the number i
     abbrev pub goes_by : ℕ → ℕ → List (Item 𝓤)
     goes_by p pᵢ = at 𝓛 pᵢ Γ ∷ at 𝓛 p₃ Γ ∷ at 𝓛 p far ∷ at 𝓛 p₃ far ∷ at 𝓛 p₄ far ∷ []
 
-    -- and those that they need there
+    -- what the entries that `goes_by` lists must be
     abbrev pub goes_with : ℕ → ℕ → List (Item 𝓤)
     goes_with p pᵢ = holds pᵢ (vint w64 i) ∷ free p₃ Γ ∷ holds p (vptr b o)
         ∷ holds p₃ (vint w64 (i * sz E)) ∷ free p₄ far ∷ []
 
   module _ (Γ : List (Item 𝓤)) (E : El) (b o i p₁ p₂ : ℕ) where
-    -- the locals once p₁ holds the address of the first slot
+    -- the context after p₁ holds the address of the first slot
     abbrev first : List (Item 𝓤)
     first = set 𝓛 p₁ (holds p₁ (vptr b (o + 16))) Γ
 
-    -- and once p₂ holds it too
+    -- the context after p₂ also holds the address of the first slot
     abbrev pub turned : List (Item 𝓤)
     turned = set 𝓛 p₂ (holds p₂ (vptr b (o + 16))) first
 
-    -- the entries that the four steps meet, where the block's pointer is in p
+    -- the entries of the context that the four steps of `slot_found` use, if p holds the pointer of
+    -- the block
     abbrev pub meets : ℕ → ℕ → ℕ → ℕ → List (Item 𝓤)
     meets p₃ p₄ p pᵢ = at 𝓛 p Γ ∷ at 𝓛 p₁ Γ ∷ at 𝓛 p₁ first ∷ at 𝓛 p₂ first
         ∷ goes_by turned E b (o + 16) i p₃ p₄ p₂ pᵢ
 
-    -- and those that they need there
+    -- what the entries that `meets` lists must be
     abbrev pub needs : ℕ → ℕ → ℕ → ℕ → List (Item 𝓤)
     needs p₃ p₄ p pᵢ = holds p (vptr b o) ∷ free p₁ Γ ∷ holds p₁ (vptr b (o + 16)) ∷ free p₂ first
         ∷ goes_with turned E b (o + 16) i p₃ p₄ p₂ pᵢ
@@ -99,7 +104,7 @@ module _ {M : Type 1} {𝓤 : Ura M} (𝓛 : Logic 𝓤) (Ev : Env 𝓤 𝓛.H) 
 module _ (E : El) {M : Type 1} {𝓤 : Ura M} {𝓛 : Logic 𝓤} {K : Type 0} {Γ : List (Item 𝓤)} where
   open 𝓛 use {H}
 
-  -- `p.add(i)`, in two steps
+  -- follows the computation of `p.add(i)`, which takes two statements
   pub moves_on : K → {C : Calls 𝓤 H} {Λ : Loops 𝓤 H} {Ev : Env 𝓤 H} {q : Post 𝓤 H} {rest : Body}
       {p pᵢ p₃ p₄ : ℕ} (b o i : ℕ) → i * sz E < 2 ^ 64
       → goes_by 𝓛 Ev Γ E b o i p₃ p₄ p pᵢ ≡ goes_with 𝓛 Ev Γ E b o i p₃ p₄ p pᵢ
@@ -121,7 +126,8 @@ module _ (E : El) {M : Type 1} {𝓤 : Ura M} {𝓛 : Logic 𝓤} {K : Type 0} {
 module _ (E : El) {M : Type 1} {𝓤 : Ura M} {𝓛 : Logic 𝓤} {K : Type 0} {Γ : List (Item 𝓤)} where
   open 𝓛 use {H}
 
-  -- `(p.add(HEADER_WORDS) as *mut T).add(i)`, in four
+  -- follows the computation of `(p.add(HEADER_WORDS) as *mut T).add(i)`, which takes four
+  -- statements
   pub slot_found : K → {C : Calls 𝓤 H} {Λ : Loops 𝓤 H} {Ev : Env 𝓤 H} {q : Post 𝓤 H} {rest : Body}
       {p pᵢ p₁ p₂ p₃ p₄ : ℕ} (b o i : ℕ) → i * sz E < 2 ^ 64
       → meets 𝓛 Ev Γ E b o i p₁ p₂ p₃ p₄ p pᵢ ≡ needs 𝓛 Ev Γ E b o i p₁ p₂ p₃ p₄ p pᵢ
@@ -145,7 +151,8 @@ module _ (E : El) {M : Type 1} {𝓤 : Ura M} {𝓛 : Logic 𝓤} {K : Type 0} {
 
 module _ (E : El) {M : Type 1} {𝓤 : Ura M} {𝓛 : Logic 𝓤} {K : Type 0} {Γ : List (Item 𝓤)}
     {G : Goal 𝓤 𝓛.H} {h : Item 𝓤} where
-  -- from [the header; the slots] to [the slot i, and what it holds; the other slots; the header]
+  -- takes the slot i out of the row: from the context [the header; the slots] to the context [the
+  -- slot i and its content; the other slots; the header]
   pub takes_slot : K → {x : Slot E} (b o : ℕ) (xs : List (Slot E)) (i : ℕ) → i < length xs
       → get_or xs i None ≡ x
       → Step K 𝓛 (‵ (slot_place (R E) x b (i * sz E + o)) ∷ ‵ (besides E 𝓛 b o xs i) ∷ h ∷ Γ) G
@@ -157,18 +164,18 @@ module _ (E : El) {M : Type 1} {𝓤 : Ura M} {𝓛 : Logic 𝓤} {K : Type 0} {
       rewrite k 0 (λ (x : Slot E). ‵ (slot_place (R E) x b (i * sz E + o))) e refl $ rest)
 
 module _ (E : El) {M : Type 1} (𝓤 : Ura M) where
-  -- the bits of an item
+  -- the bytes of an item in memory
   abbrev Bits : ℕ → ℕ → Val → Item 𝓤
   Bits b o v = ‵ (fat full_share (elτ E) b o v)
 
-  -- and what it owns
+  -- what the item owns
   abbrev Owned : el_x E → Val → Item 𝓤
   Owned x v = ‵ (E.row.own_val x (v ∷ []))
 
 module _ (E : El) {M : Type 1} {𝓤 : Ura M} {𝓛 : Logic 𝓤} {K : Type 0} {Γ : List (Item 𝓤)}
     {G : Goal 𝓤 𝓛.H} {h : Item 𝓤} where
-  -- the same for a filled slot, to be read: [the item's bits; what it owns; the other slots; the
-  -- header]
+  -- takes the filled slot i out of the row, so that its item can be read; context: [the item's
+  -- bytes; what the item owns; the other slots; the header]
   pub takes_item : K → {x : el_x E} (b o : ℕ) (xs : List (Slot E)) (i : ℕ) → i < length xs
       → get_or xs i None ≡ Some x
       → ((v : Val) → Good E v → Seq K 𝓛 (Bits E 𝓤 b (i * sz E + o) v ∷ Owned E 𝓤 x v
@@ -179,8 +186,8 @@ module _ (E : El) {M : Type 1} {𝓤 : Ura M} {𝓛 : Logic 𝓤} {K : Type 0} {
       use1 𝓛 (some (λ (v : Val). given (Good E v) (Bits E 𝓤 b (i * sz E + o) v ⊛ Owned E 𝓤 x v)))
       (el_out E 𝓛 b x (i * sz E + o)) $ pick k (λ v. learn k (λ good. split k $ next v good))
 
-  -- two such slots: [the second item's bits; what it owns; the first item's bits; what it owns;
-  -- the other slots; the header]
+  -- takes two filled slots out of the row; context: [the second item's bytes; what the second item
+  -- owns; the first item's bytes; what the first item owns; the other slots; the header]
   pub takes_two : K → {x y : el_x E} (b o : ℕ) (xs : List (Slot E)) (i j : ℕ)
       (p : Two E 𝓛 b o xs i j) → (get_or xs i None ≡ Some x) × (get_or xs j None ≡ Some y)
       → ((v w : Val) → Good E v → Good E w → Seq K 𝓛 (Bits E 𝓤 b (j * sz E + o) w ∷ Owned E 𝓤 y w

@@ -1,4 +1,5 @@
--- What the crates above need to know of capacities.
+-- Lemmas on ruled capacities, exact capacities and capacities that fit. The crates above this one
+-- use them too.
 use Rattle.std.proofs.Common.{if◌then◌else◌, Bool, true, false, IsTrue, ◌≡◌, ℕ, zero, suc, ◌*◌, ◌^◌, ◌<◌, ◌≤◌, ap, refl, subst, sym, ◌∙◌, arith}
 use Rattle.std.specs.declared.option.Option.TheVariants.{Some, None}
 use borrow.Author.Tests.{lt-ltb, le-ltb, le-leb, lt-leb}
@@ -13,25 +14,26 @@ use Rattle.thin_block.specs.Capacity.{fits, first, Fits}
 use Rattle.thin_block.specs.Growth.{Rule, KeepsLaw, doubling, exact_capacity, fitting, ruled_capacity}
 use Rattle.thin_block.proofs.SizesLemmas.{opened, closed, fits_none, fits_tells, fits_yes, rounded}
 
--- a capacity that suffices stays
+-- if the capacity c suffices for w items, the ruled capacity is c
 pub ruled-same : (rule : Rule) (R : RattleType) (c w : ℕ) → w ≤ c
     → ruled_capacity rule R c w ≡ Some c
 unfolding ruled_capacity
 ruled-same rule R c w enough = rw (le-leb w c enough) refl
 
--- a want that no `usize` holds overflows
+-- if the capacity does not suffice, and w exceeds `usize::MAX`, then there is no ruled capacity
 pub ruled-overflow : (rule : Rule) (R : RattleType) (c w : ℕ) → c < w → 2 ^ 64 ≤ w
     → ruled_capacity rule R c w ≡ None
 unfolding ruled_capacity
 ruled-overflow rule R c w more high = rw (lt-leb w c more) (rw (le-ltb w (2 ^ 64) high) refl)
 
--- for any other want the rule decides
+-- if the capacity does not suffice, and w fits into a `usize`, then the ruled capacity is what the
+-- rule chooses
 pub ruled-rule : (rule : Rule) (R : RattleType) (c w : ℕ) → c < w → w < 2 ^ 64
     → ruled_capacity rule R c w ≡ rule (type_size R) (type_align R) c w
 unfolding ruled_capacity
 ruled-rule rule R c w more word = rw (lt-leb w c more) (rw (lt-ltb w (2 ^ 64) word) refl)
 
--- a capacity n that grew from c for w items
+-- n is a capacity to which a block of capacity c may grow in order to hold w items of R
 pub record Grown (R : RattleType) (c w n : ℕ) : Type 0 where
   pub enough : w ≤ n
   pub doubled : 2 * c ≤ n
@@ -40,7 +42,8 @@ pub record Grown (R : RattleType) (c w n : ℕ) : Type 0 where
 none_some : {A B : Type 0} (x : A) → None ≡ Some x → B
 none_some x e = cc
 
--- a growth has room for what was wanted, at least doubles, and fits
+-- if a capacity that does not suffice has a ruled capacity n, then n has room for w items, is at
+-- least 2 * c, and fits
 pub ruled-grows : (rule : Rule) (R : RattleType) (c w n : ℕ) → KeepsLaw rule → c < w
     → ruled_capacity rule R c w ≡ Some n → Grown R c w n
 ruled-grows rule R c w n law more e = elim (dec_lt w (2 ^ 64)) [
@@ -50,15 +53,15 @@ ruled-grows rule R c w n law more e = elim (dec_lt w (2 ^ 64)) [
   | no high ↦ none_some n (sym (ruled-overflow rule R c w more (omega arith)) ∙ e)
 ]
 
--- a capacity that fits is below 2 ^ 63
+-- a capacity that fits is less than 2 ^ 63
 pub fits-small : (R : RattleType) (c : ℕ) → Fits R c → c < 2 ^ 63
 fits-small R c e = (fits_tells R c (opened R c e)).few
 
--- the bytes of as many items as fit are below 2 ^ 63
+-- if the capacity c fits, then c items take less than 2 ^ 63 bytes
 pub fits-bytes : (R : RattleType) (c : ℕ) → Fits R c → c * type_size R < 2 ^ 63
 fits-bytes R c e = let room = (fits_tells R c (opened R c e)).room in omega arith
 
--- what is less than a capacity that fits, fits
+-- if the capacity d fits, then every capacity up to d fits
 pub fits-less : (R : RattleType) (c d : ℕ) → Fits R d → c ≤ d → Fits R c
 fits-less R c d e less =
     let told = fits_tells R d (opened R d e) in
@@ -67,28 +70,28 @@ fits-less R c d e less =
     let under : c * type_size R ≤ d * type_size R = mul-le-mul_right (type_size R) less in
     closed R c (fits_yes R c (omega arith) (omega arith))
 
--- no capacity at all fits
+-- the capacity 0 fits
 pub fits-none : (R : RattleType) → Fits R 0
 fits-none R = closed R 0 (fits_none R)
 
--- ---- numbers that are far below every limit, for callers at a known type: fewer than 2 ^ 31 items
--- of fewer than 2 ^ 31 bytes
+-- ---- numbers that are far below every limit, for callers at a known item type: fewer than 2 ^ 31
+-- items of fewer than 2 ^ 31 bytes each
 
--- fewer than 2 ^ 31 items of fewer than 2 ^ 31 bytes have fewer than 2 ^ 62
+-- fewer than 2 ^ 31 items of fewer than 2 ^ 31 bytes each take less than 2 ^ 62 bytes
 pub few_bytes : (c s : ℕ) → c < 2 ^ 31 → s < 2 ^ 31 → c * s < 2 ^ 62
 few_bytes c s few small =
     let wide : c * s ≤ c * (2 ^ 31) =
     mul-le-mul_left c (let less : s ≤ 2 ^ 31 = omega arith in less) in
     omega arith
 
--- fewer than 2 ^ 31 items of fewer than 2 ^ 31 bytes fit
+-- a capacity for fewer than 2 ^ 31 items of fewer than 2 ^ 31 bytes each fits
 pub small_fits : (R : RattleType) (c : ℕ) → c < 2 ^ 31 → type_size R < 2 ^ 31 → Fits R c
 small_fits R c few small =
     let bytes : c * type_size R < 2 ^ 62 = few_bytes c (type_size R) few small in
     let about = rounded R 0 in
     closed R c (fits_yes R c (omega arith) (omega (arith, about.most)))
 
--- doubling gives a list without a block 4 places, for up to 4 items
+-- if a list has no block and needs room for 1 to 4 items, doubling chooses the capacity 4
 pub doubling_first : (R : RattleType) (c w : ℕ) → c ≡ 0 → 0 < w → w ≤ 4 → type_size R < 2 ^ 31
     → ruled_capacity doubling R c w ≡ Some 4
 unfolding doubling fitting first
@@ -100,7 +103,7 @@ doubling_first R c w none some few small =
     subst (Fits R) (sym four) (small_fits R 4 (omega arith) small) in
     ruled-rule doubling R c w more (omega arith) ∙ (rw fit (ap Some four))
 
--- doubling gives a list with a block twice its places, where they suffice
+-- if a list has a block, and twice its capacity suffices, doubling chooses twice the capacity
 pub doubling_next : (R : RattleType) (c w : ℕ) → 0 < c → c < w → w ≤ 2 * c → c < 2 ^ 30
     → type_size R < 2 ^ 31 → ruled_capacity doubling R c w ≡ Some (2 * c)
 unfolding doubling fitting
@@ -111,12 +114,12 @@ doubling_next R c w some more enough few small =
     subst (Fits R) (sym twice) (small_fits R (2 * c) (omega arith) small) in
     ruled-rule doubling R c w more (omega arith) ∙ (rw fit (ap Some twice))
 
--- an exact capacity that suffices stays
+-- if the capacity c suffices for w items, the exact capacity is c
 pub exact-same : (R : RattleType) (c w : ℕ) → w ≤ c → exact_capacity R c w ≡ Some c
 unfolding exact_capacity
 exact-same R c w enough = rw (le-leb w c enough) refl
 
--- an exact capacity that fits is the want
+-- if the capacity does not suffice, and w fits, then the exact capacity is w
 pub exact-fits : (R : RattleType) (c w : ℕ) → c < w → Fits R w → exact_capacity R c w ≡ Some w
 unfolding exact_capacity fitting
 exact-fits R c w more fit = rw (lt-leb w c more, fit) refl
@@ -125,37 +128,37 @@ no_answer : (b : Bool) (n : ℕ) → (IsTrue b → ⊥) → (if b then Some n el
 no_answer true n never = absurd (never refl)
 no_answer false n never = refl
 
--- a rule names nothing that does not fit
+-- if the capacity n does not fit, `fitting` returns None
 pub fitting_none : (R : RattleType) (n : ℕ) → (Fits R n → ⊥)
     → fitting (type_size R) (type_align R) n ≡ None
 unfolding fitting
 fitting_none R n never = no_answer (fits (type_size R) (type_align R) n) n never
 
--- an exact capacity that does not fit overflows
+-- if the capacity does not suffice, and w does not fit, then there is no exact capacity
 pub exact-overflow : (R : RattleType) (c w : ℕ) → c < w → (Fits R w → ⊥)
     → exact_capacity R c w ≡ None
 unfolding exact_capacity
 exact-overflow R c w more never = rw (lt-leb w c more) (fitting_none R w never)
 
--- from no block on, an exact capacity that does not fit overflows
+-- if a list has no block, and w does not fit, then there is no exact capacity
 pub exact-none : (R : RattleType) (w : ℕ) → (Fits R w → ⊥) → exact_capacity R 0 w ≡ None
 exact-none R zero never = absurd (never (fits-none R))
 exact-none R (suc w) never = exact-overflow R 0 (suc w) (omega arith) never
 
--- no want past `usize::MAX` fits
+-- if the capacity does not suffice, and w exceeds `usize::MAX`, then there is no exact capacity
 pub exact-past : (R : RattleType) (c w : ℕ) → c < w → 2 ^ 64 ≤ w → exact_capacity R c w ≡ None
 exact-past R c w more high =
     exact-overflow R c w more (λ fit. let small = fits-small R w fit in absurd (omega arith))
 
--- two item types of one size and alignment
+-- two item types that have the same size and the same alignment
 module _ (R S : RattleType) (c w : ℕ) (size : type_size R ≡ type_size S)
     (align : type_align R ≡ type_align S) where
-  -- the exact capacity depends on an item by its size and alignment alone
+  -- the exact capacities of the two item types are equal
   pub exact-at : exact_capacity R c w ≡ exact_capacity S c w
   unfolding exact_capacity fitting
   exact-at = rw (size, align) refl
 
-  -- the ruled capacity depends on an item by its size and alignment alone
+  -- the ruled capacities of the two item types are equal
   pub ruled-at : (rule : Rule) → ruled_capacity rule R c w ≡ ruled_capacity rule S c w
   unfolding ruled_capacity
   ruled-at rule = rw (size, align) refl

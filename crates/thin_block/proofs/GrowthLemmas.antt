@@ -1,11 +1,12 @@
--- Which rules break the law of growth rules.
+-- The proof that a rule which always chooses exactly the wanted capacity breaks the law of growth
+-- rules.
 use Rattle.std.specs.Prelude.{◌*◌, ◌≤◌, refl}
 use Rattle.std.proofs.Common.{arith}
 use Rattle.thin_block.specs.Capacity.{fits}
 use Rattle.thin_block.specs.Growth.{KeepsLaw, fitting}
 
--- a rule that names what is wanted, and no more, breaks the law: 5 places after 4 are not twice as
--- many
+-- such a rule breaks the law: if the capacity is 4 and 5 items need room, it chooses 5, which is
+-- less than twice 4
 pub want_alone_breaks : KeepsLaw (λ s a c w. fitting s a w) → ⊥
 unfolding fitting fits
 want_alone_breaks law =

@@ -1,12 +1,13 @@
--- A block as a machine value, its room cut into its parts, and the steps that open and close it.
--- Assumes `Logic`.
+-- A block as a machine value, its memory split into its parts, and the steps that open and close a
+-- block. Assumes `Logic`.
 --     block_val, block_own        the pointer in a struct of three fields, and what the struct owns
---     whole_size, whole_align     the layout of the room that a block is asked for
---     carve                       that room as its parts, with the way back
---     header, header_fits         a block but for its slots, also where there is none; that it fits
---     alloc_there                 where there are slots, there is an allocator
---     block_had, block_made       what a block owns, as its header and its slots, and back
---     block_opens, block_closes   a `&mut` to a block, as its header and its slots, and back
+--     whole_size, whole_align     the size and the alignment of the memory of a whole block
+--     carve                       splits that memory into its parts, and keeps the way back
+--     header, header_fits         a block without its slots, also if it has no allocation; that the
+--                                 block fits
+--     alloc_there                 if there are slots, the block has an allocator
+--     block_had, block_made       split a block into its header and its slots, and join them
+--     block_opens, block_closes   do the same for the block behind a `&mut`
 use Rattle.std.proofs.Common.{◌≡◌, Bool, true, ℕ, Some, None, ◌+◌, ◌*◌, ◌<◌, List, [], ◌∷◌, ◌++◌, length, refl, sym, ap, subst, ◌∙◌, arith, w64}
 use seplogic.Ra.Ura.{Ura}
 use mir.Syntax.{Ty, Tys, Width, Args, w8, w16, w32, w128, a_type, dcons, dnil, ty_int, ty_array, tcons, tnil}
@@ -44,19 +45,19 @@ use Rattle.std.specs.Align.{type_align}
 use Rattle.thin_block.specs.Capacity.{block_align, block_bytes}
 use Rattle.thin_block.proofs.SizesLemmas.{fits_none}
 
--- a struct by its fields alone: what it owns does not read its name
+-- the struct with the fields Rs: what it owns does not depend on its name
 abbrev pub plainly : List RattleType → RattleType
 plainly Rs = Struct (record { name = []; args = []; types = []; fields = Rs })
 
--- the value of a block: its pointer, and two fields without bytes
+-- the machine value of a block: its pointer, and two fields that take no bytes
 abbrev pub block_val : Ptr → Val
 block_val p = vstruct (vcons (ptr_val p) (vcons (vstruct vnil) (vcons (vstruct vnil) vnil)))
 
--- what its fields own
+-- what the fields of a block own
 abbrev pub block_own : Ptr → List Val → Fml
 block_own p = (plainly (RawPtr ∷ plainly [] ∷ plainly [] ∷ [])).own_val (p, (tt, (tt, tt)))
 
--- no block has another value
+-- every machine value of a block is the value that `block_val` computes
 pub block_told : (p : Ptr) (vs : List Val) → shadow (block_own p vs) → vs ≡ block_val p ∷ []
 block_told p vs s = s.1.0
     ∙ (λ i. vstruct (of_list (s.1.1.0 i ++ (s.1.1.1.0.1.0 i ++ (s.1.1.1.1.0.1.0 i ++ [])))) ∷ [])
@@ -99,7 +100,7 @@ module _ (R : RattleType) (c : ℕ) where
   abbrev τ : Ty
   τ = lone R.mir
 
-  -- the type of the slots as one array of room
+  -- the type of the slots, as one array of possibly uninitialized places
   abbrev pub items : Ty
   items = raw (ty_array τ c)
 
@@ -107,7 +108,7 @@ module _ (R : RattleType) (c : ℕ) where
   pub whole_align : align (whole R c) ≡ block_align (type_align R)
   whole_align = ap (λ (a : ℕ). max 8 (max 8 (max a 1))) (align-raw τ) ∙ (aligned τ).0
 
-  -- the size of a whole block
+  -- the size of a whole block in bytes
   pub whole_size : size (whole R c) ≡ block_bytes (type_size R) (type_align R) c
   whole_size =
       let ends : up (align items) 16 + size items ≡ max 16 (align τ) + c * size τ =
@@ -117,7 +118,8 @@ module _ (R : RattleType) (c : ℕ) where
 module _ {M : Type 1} {𝓤 : Ura M} (𝓛 : Logic 𝓤) (R : RattleType) where
   open 𝓛 use {H}
 
-  -- room for a block is room for its parts, with the way back
+  -- splits the memory of a whole block into the capacity, the length and the slots, and keeps the
+  -- way back from these parts to the whole
   pub carve : (c b o : ℕ) → ent 𝓤 (H.room (whole R c) b o)
       (sep 𝓤 (H.room (ty_int w64) b o)
       (sep 𝓤 (H.room (ty_int w64) b (o + 8))
@@ -145,23 +147,23 @@ module _ {M : Type 1} {𝓤 : Ura M} (𝓛 : Logic 𝓤) (R : RattleType) where
       move ! (2 ∷ 4 ∷ []) $ join ! $ move ! (2 ∷ 0 ∷ []) $ join ! $ move ! (1 ∷ 0 ∷ []) $ join ! $
       by ! (apply∗ 𝓤 rooms (H.room (whole R c) b o))
 
--- ---- a block, with its slots apart
--- all of a block of c slots but these: the words that every list without a block shares, or the
--- frame
+-- ---- a block, with its slots apart.
+-- What a block of c slots owns without these slots: the frame if it has an allocator; otherwise its
+-- share of the static header.
 abbrev pub header : {D : Type 0} → (D → Ty → Ptr → Fml) → RattleType → ℕ → ℕ
     → Option D → ℕ → ℕ → Fml
 header t R n c None b o = fsep (lent_at usize (block_ptr b o) 0 [])
     (lent_at usize (block_ptr b (o + 8)) 0 [])
 header t R n c (Some a) b o = frame (t a) R n c b o
 
--- where there are slots, there is an allocator that the block came from
+-- if a block has slots, it has an allocator
 pub alloc_there : {D X : Type 0} (a : Option D) (xs : List X) → there a ≡ any xs → 0 < length xs
     → (h : D) × (a ≡ Some h)
 alloc_there (Some h) xs is some = (h, refl)
 alloc_there None [] is some = absurd (omega arith)
 alloc_there None (x ∷ xs) is some = absurd (clash is)
 
--- a row of at least one slot has any
+-- if the length of a list is positive, the list is non-empty
 pub any_some : {X : Type 0} (xs : List X) → 0 < length xs → true ≡ any xs
 any_some [] some = absurd (omega arith)
 any_some (x ∷ xs) some = refl
@@ -186,7 +188,7 @@ module _ {D : Type 0} (t : D → Ty → Ptr → Fml) (R : RattleType) {M : Type 
 
 module _ {D : Type 0} (t : D → Ty → Ptr → Fml) (R : RattleType) {M : Type 1} {𝓤 : Ura M}
     {𝓛 : Logic 𝓤} {K : Type 0} {Γ : List (Item 𝓤)} {G : Goal 𝓤 𝓛.H} where
-  -- whoever has a block knows that it fits
+  -- the header of a block implies that the block fits
   pub header_fits : K → (n : ℕ) (xs : List (Option R.Denot)) (a : Option D)
       (b o : ℕ) → there a ≡ any xs
       → (fits_block R (length xs) ≡ true → Seq K 𝓛 (‵ (header t R n (length xs) a b o) ∷ Γ) G)
@@ -199,29 +201,29 @@ module _ {D : Type 0} (t : D → Ty → Ptr → Fml) (R : RattleType) {M : Type 
   header_fits k n (x ∷ xs) None b o is next = absurd (clash is)
 
 module _ (E : El) (Y : Al) where
-  -- the type arguments of the block's functions, and the block's row
+  -- the type arguments of the block's functions: the item type and the allocator type
   abbrev pub args : Args
   args = bounded (a_type ∷ a_type ∷ []) (E.row, (Y.row, tt)) (dcons Y.d (dcons Y.drops dnil))
 
-  -- the type of blocks
+  -- the type of blocks, as proofs see types
   abbrev pub Br : RattleType
   Br = block.the_row (param 0 E.row) (param 1 Y.row) Y.g
 
-  -- the right to give room back to an allocator
+  -- the right to free memory of an allocator
   abbrev pub t : Y.row.Denot → Ty → Ptr → Fml
   t = Y.g.dealloc_token
 
-  -- the two words before the slots, and what they are backed by
+  -- the header of the block x: its two words, and the backing
   abbrev pub Header : Br.Denot → ℕ → ℕ → Fml
   Header x b o = header t (R E) x.len (length x.slots) x.alloc b o
 
-  -- the slots in memory
+  -- the slots of the block x in memory
   abbrev pub Slots : Br.Denot → ℕ → ℕ → Fml
   Slots x b o = places (R E) x.slots b (o + 16)
 
 module _ (E : El) (Y : Al) {M : Type 1} {𝓤 : Ura M} {𝓛 : Logic 𝓤} {K : Type 0}
     {Γ : List (Item 𝓤)} {G : Goal 𝓤 𝓛.H} where
-  -- a block that has slots is a header and slots in memory
+  -- splits what a block owns into its header and its slots
   pub block_had : K → (x : (Br E Y).Denot) (vs : List Val)
       → ((b o : ℕ) → x.at ≡ block_ptr b o → vs ≡ block_val (block_ptr b o) ∷ []
       → fits_block (R E) (length x.slots) ≡ true
@@ -236,7 +238,7 @@ module _ (E : El) (Y : Al) {M : Type 1} {𝓤 : Ura M} {𝓛 : Logic 𝓤} {K : 
       header_fits (t E Y) (R E) k x.len x.slots x.alloc b o x.sound.1 (λ fits.
       next b o at (block_told x.at vs is.0 ∙ ap (λ (p : Ptr). block_val p ∷ []) at) fits)))
 
-  -- a header and slots in memory make a block again
+  -- joins a header and the slots into the block again
   pub block_made : K → (x : (Br E Y).Denot) (b o : ℕ) → x.at ≡ block_ptr b o
       → Step K 𝓛 (‵ ((Br E Y).own_val x (block_val (block_ptr b o) ∷ [])) ∷ Γ) G
       (‵ (Header E Y x b o) ∷ ‵ (Slots E Y x b o) ∷ Γ) G
@@ -250,7 +252,8 @@ module _ (E : El) (Y : Al) {M : Type 1} {𝓤 : Ura M} {𝓛 : Logic 𝓤} {K : 
 
 module _ (E : El) (Y : Al) {M : Type 1} {𝓤 : Ura M} {𝓛 : Logic 𝓤} {K : Type 0}
     {Γ : List (Item 𝓤)} {G : Goal 𝓤 𝓛.H} where
-  -- [the header; the slots; the block's cell; the open borrow, in three entries]
+  -- opens the block behind a `&mut`; context: [the header; the slots; the block's cell; three
+  -- entries for the open borrow]
   pub block_opens : K → Soaks G → {κ : Lft} {q : Share} {γ : GName} (x : (Br E Y).Denot) (rb ro : ℕ)
       → ((b o : ℕ) → x.at ≡ block_ptr b o → fits_block (R E) (length x.slots) ≡ true
       → Seq K 𝓛 (‵ (Header E Y x b o) ∷ ‵ (Slots E Y x b o) ∷ ‵
@@ -265,7 +268,7 @@ module _ (E : El) (Y : Al) {M : Type 1} {𝓤 : Ura M} {𝓛 : Logic 𝓤} {K : 
       rewrite k 2 (λ (us : List Val). ‵ (cell_at full_share (Br E Y).mir us rb ro))
       is refl $ next b o at fits))
 
-  -- a header and slots in memory end a borrow of a block
+  -- closes the block behind a `&mut` again, which joins its header and its slots
   pub block_closes : K → Soaks G → {κ : Lft} {q : Share} {u v : Gv} {γ : GName} (x : (Br E Y).Denot)
       (b o rb ro : ℕ) → x.at ≡ block_ptr b o
       → Step K 𝓛 (‵ (fobs γ ((Br E Y).coded.code x)) ∷ ‵

@@ -1,7 +1,8 @@
--- What a block lends to be written comes back, and the block is whole again. Assumes `Logic`.
---     Waiting          the header and the block's own cell, while slots are out
---     item_back        the block once the item in a slot is w
---     items_back       the block once the items in a run of slots are ws
+-- The end of a `&mut` to items of a block: the items return to their slots, and the block is whole
+-- again. Assumes `Logic`.
+--     Waiting       the header and the block's own cell, while slots are lent
+--     item_back     the block after the `&mut` to the item in one slot has ended
+--     items_back    the block after the `&mut` to the items in a run of slots has ended
 use Rattle.std.proofs.Common.{◌≡◌, ℕ, ◌+◌, ◌*◌, ◌<◌, ◌≤◌, List, ◌∷◌, [], length, Some, refl, sym, ◌∙◌, arith}
 use Rattle.std.proofs.lemmas.List.{length-map, length-set}
 use seplogic.Ra.Ura.{Ura}
@@ -29,12 +30,12 @@ module _ (E : El) (Y : Al) {M : Type 1} {𝓤 : Ura M} (𝓛 : Logic 𝓤) (x : 
   abbrev B : Type 0
   B = (Br E Y).Denot
 
-  -- the rest of a block while its slots are lent
+  -- what is left of a block while its slots are lent: the header and the block's own cell
   abbrev pub Waiting : Fml
   Waiting = fsep (Header E Y x b o)
       (cell_at full_share (Br E Y).mir (block_val (block_ptr b o) ∷ []) rb ro)
 
-  -- slots come back
+  -- the slots s, together with what was left of the block, are the block with the slots s
   pub slots_back : (s : List (Slot E)) (same : length s ≡ length x.slots)
       → ent 𝓤 (sep 𝓤 (sem 𝓛 (places (R E) s b (o + 16))) (sem 𝓛 Waiting))
       (sem 𝓛 ((mem (Br E Y)).own_at (with_slots x s same) rb ro))
@@ -48,7 +49,7 @@ module _ (E : El) (Y : Al) {M : Type 1} {𝓤 : Ura M} (𝓛 : Logic 𝓤) (x : 
       (λ us. fsep (cell_at full_share (Br E Y).mir us rb ro)
       ((Br E Y).own_val (with_slots x s same) us)) (block_val (block_ptr b o) ∷ []) $ done !
 
-  -- an item comes back
+  -- if w is the item after the borrow of the slot i, then the block holds w in the slot i
   pub item_back : (i : ℕ) → i < length x.slots → (w : el_x E)
       → ent 𝓤 (sep 𝓤 (sem 𝓛 ((mem (R E)).own_at w b (i * sz E + (o + 16))))
       (sem 𝓛 (fsep (besides E 𝓛 b (o + 16) x.slots i) Waiting)))
@@ -62,7 +63,8 @@ module _ (E : El) (Y : Al) {M : Type 1} {𝓤 : Ura M} (𝓛 : Logic 𝓤) (x : 
       (slot_in E 𝓛 b (o + 16) x.slots i within (Some w)) $
       by ! (slots_back y.slots (length-set x.slots i (Some w)))
 
-  -- a run of items comes back
+  -- if ws are the items after the borrow of the k slots from i on, then the block holds ws in these
+  -- slots
   pub items_back : (i k : ℕ) → i + k ≤ length x.slots
       → ((n : ℕ) → i ≤ n → n < i + k → IsSome (slot x.slots n))
       → (ws : List (el_x E)) → length ws ≡ k

@@ -1,4 +1,4 @@
--- The lemmas and the steps of the walks. Those that are `pub` are for the crates above too.
+-- The lemma files. The files that are `pub` are also for the crates above this one.
 mod SizesLemmas
 mod PowersLemmas
 mod GrowthLemmas

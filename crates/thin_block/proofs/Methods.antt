@@ -1,15 +1,16 @@
 -- How a walk of a method on a `&mut Block` begins and ends. Assumes `Logic`.
---     dropped, all_go          of these parameters nothing is had at exit, and that is enough
---     heard_all                what a `requires` of several facts says
---     block_stays, goes        the `&mut` is had at exit, the other parameters are dropped
---     arrives                  what there is on entry
---     starts, begins, begins_with   the same, with its `&mut` taken apart
---     token_out                a token among the others
---     enters                   the arguments' values are written out, and the body is entered
---     opens_self, closes_over  the block is opened; and closed, with other slots
---     continues                the code after a block
---     seen                     the same of a method on a `&Block`
---     leaves, leaves_with, leaves_unit  all that has to be left at exit
+--     dropped, all_go          the method returns none of the given parameters, and the contract
+--                              allows that
+--     heard_all                splits a `requires` of several facts
+--     block_stays, goes        the method returns the `&mut`, and drops the other parameters
+--     arrives                  the context on entry
+--     starts, begins, begins_with   the context on entry, with the `&mut` taken apart
+--     token_out                takes the first token out of a row of tokens
+--     enters                   enters the body, with the values of the arguments written out
+--     opens_self, closes_over  open the block behind the `&mut`, and close it with other slots
+--     continues                continues after the first statements of a body
+--     seen                     the context on entry of a method on a `&Block`
+--     leaves, leaves_with, leaves_unit  join all that the method must return
 use Rattle.std.proofs.Common.{◌≡◌, true, ℕ, zero, suc, ◌+◌, ◌^◌, ◌<◌, List, [], ◌∷◌, length, refl, sym, w64}
 use lib.Dec.{T}
 use seplogic.Ra.Ura.{Ura}
@@ -47,24 +48,25 @@ use Rattle.thin_block.specs.Ownership.{fits_block, places}
 use Rattle.thin_block.proofs.Walks.{Facts, Shown, after}
 use Rattle.thin_block.proofs.HeaderMemory.{Br, Header, Slots, header, t, block_val, block_opens, block_closes}
 
--- a parameter list without its first
+-- a parameter list without its first parameter
 abbrev pub others : {n : ℕ} → List (Slot n) → List (Slot n)
 others [] = []
 others (s ∷ ss) = ss
 
 module _ {n : ℕ} where
-  -- nothing is had of these parameters at exit
+  -- none of the parameters ss is returned
   abbrev pub dropped : (ss : List (Slot n)) (ks : Kepts ss) → Stays ss ks
   dropped [] ks = tt
   dropped (s ∷ ss) ks = (stay_dropped s ks.0, dropped ss ks.1)
 
 module _ {M : Type 1} {𝓤 : Ura M} (𝓛 : Logic 𝓤) {n : ℕ} where
-  -- of none of these parameters a contract says anything at exit
+  -- the contract says nothing of the parameters ss when the function returns
   abbrev pub AllSilent : (ss : List (Slot n)) → Kepts ss → Type 1
   AllSilent [] ks = Unit {1}
   AllSilent (s ∷ ss) ks = Silent 𝓛 n s ks.0 × AllSilent ss ks.1
 
-  -- then they may be dropped
+  -- if the contract says nothing of the parameters ss when the function returns, these parameters
+  -- may be dropped
   pub all_go : (ss : List (Slot n)) (ks : Kepts ss) → AllSilent ss ks
       → AllGo 𝓛 n ss ks (dropped ss ks)
   all_go [] ks silent = tt
@@ -73,7 +75,7 @@ module _ {M : Type 1} {𝓤 : Ura M} (𝓛 : Logic 𝓤) {n : ℕ} where
 
 module _ {M : Type 1} {𝓤 : Ura M} {𝓛 : Logic 𝓤} {K : Type 0} {Γ : List (Item 𝓤)}
     {G : Goal 𝓤 𝓛.H} where
-  -- what several facts say is learned
+  -- from several facts in the context, learns each of them
   pub heard_all : K → (φs : List (Type 0)) → (Shown φs → Seq K 𝓛 Γ G)
       → Seq K 𝓛 (raw (Facts 𝓤 φs) ∷ Γ) G
   heard_all k [] next = drop k $ next tt
@@ -82,16 +84,16 @@ module _ {M : Type 1} {𝓤 : Ura M} {𝓛 : Logic 𝓤} {K : Type 0} {Γ : List
       use1 𝓛 (raw (fact 𝓤 φ) ⊛ raw (Facts 𝓤 (ψ ∷ φs))) (id⊢ 𝓤 _) $ split k $
       heard k φ (λ x. heard_all k (ψ ∷ φs) (λ xs. next (x, xs)))
 
--- a reference's address as a machine value
+-- the address of a reference, as a machine value
 abbrev pub ptr_of : {X : Type 0} → MutBor X → Val
 ptr_of r = vptr r.ref_ptr.0 r.ref_ptr.1
 
--- a number that a word holds has the word's type
+-- a number less than 2 ^ 64 has the type of a word
 abbrev pub word : {n : ℕ} → n < 2 ^ 64 → T (has_ty (ty_int w64) (vint w64 n)) × WT (vint w64 n)
 word fits = (tt, record { fits = fits })
 
 module _ {M : Type 1} {𝓤 : Ura M} {𝓛 : Logic 𝓤} {K : Type 0} {Γ : List (Item 𝓤)} where
-  -- the body is entered, with the arguments' values written out
+  -- enters the body of a function, with the values of the arguments written out
   pub enters : K → {C : Calls 𝓤 𝓛.H} {Λ : Loops 𝓤 𝓛.H} (f : Fn) {us : List Val}
       {P : Val → SProp 𝓤} (vs : List Val) → us ≡ vs
       → Step K 𝓛 Γ (allocs f.locals (λ E. params' E vs (runs C Λ E f.body (at_ret E P))))
@@ -100,36 +102,37 @@ module _ {M : Type 1} {𝓤 : Ura M} {𝓛 : Logic 𝓤} {K : Type 0} {Γ : List
       regoal k (λ (us : List Val). prop (WpFn 𝓤 𝓛.H C Λ f us P)) e refl $
       enter k C Λ f vs P $ s)
 
--- the type of the items, at a walk's parameters
+-- the item type T with its laws, in the form that walks use
 abbrev pub item : {T : RattleType} → Laws T → El
 item {T} L = record { row = T; laws = L }
 
--- and that of allocators
+-- the allocator type A with its laws and its ghost members, in the form that walks use
 abbrev pub source : {A : RattleType} → Laws A → Ghosts A.Denot → Dict → Dict → Al
 source {A} L g d drops = record { row = A; laws = L; g = g; d = d; drops = drops }
 
--- the arguments of a function that takes a number too
+-- the type arguments of a function that also has a const parameter
 abbrev pub args_at : El → Al → ℕ → Args
 args_at E Y N = bounded (a_type ∷ a_type ∷ a_number ∷ []) (E.row, (Y.row, (number N, tt)))
     (dcons Y.d (dcons Y.drops dnil))
 
 module _ (E : El) (Y : Al) {n : ℕ} (ss : List (Slot (suc n))) where
-  -- the parameters of a method on a `&mut Block`
+  -- the parameters of a method on a `&mut Block`: the `&mut`, and the parameters ss
   abbrev pub on_block : List (Slot (suc n))
   on_block = mut_ref_to (0 ∷ []) tt (plain (λ _. Br E Y)) ∷ ss
 
-  -- at exit it has the `&mut`
+  -- when the method returns, the `&mut` is returned, and the other parameters are not
   abbrev pub block_stays : (ks : Kepts ss) → Stays on_block (yes, ks)
   block_stays ks = (stay_ref (0 ∷ []) tt (plain (λ _. Br E Y)), dropped ss ks)
 
-  -- and that is enough
+  -- if the contract says nothing of the other parameters when the method returns, they may be
+  -- dropped
   pub goes : {M : Type 1} {𝓤 : Ura M} (𝓛 : Logic 𝓤) (ks : Kepts ss) → AllSilent 𝓛 ss ks
       → AllGo 𝓛 (suc n) on_block (yes, ks) (block_stays ks)
   goes 𝓛 ks silent =
       (Goes-ref 𝓛 (suc n) 0 tt (plain (λ _. Br E Y)), all_go 𝓛 ss ks silent)
 
 module _ {M : Type 1} {𝓤 : Ura M} {𝓛 : Logic 𝓤} {K : Type 0} {Γ : List (Item 𝓤)} where
-  -- the body goes on after its first k statements
+  -- continues after the first k statements of the body of f
   pub continues : K → (𝓜 : Model 𝓤 𝓛.H) (𝓡 : Running 𝓤 𝓛.H 𝓜) (f : Fn) (l : ℕ → ℕ) (k : ℕ)
       (P : Val → SProp 𝓤)
       → Step K 𝓛 Γ (runs (tables 𝓤 𝓛.H 𝓜 𝓡 𝓡.env).C (tables 𝓤 𝓛.H 𝓜 𝓡 𝓡.env).Λ
@@ -145,13 +148,13 @@ module _ {n : ℕ} (s : Slot (suc n)) (ss : List (Slot (suc n))) where
   Passed Bd = (κs : Lfts (suc n)) × Shares (suc n) × Bd κs × Denots (types_at (s ∷ ss) κs)
       × Valss (types_at (s ∷ ss) κs)
 
-  -- what there is on entry, but for the `requires`
+  -- the context on entry, without the `requires`
   abbrev Entry : {M : Type 1} {𝓤 : Ura M} (𝓛 : Logic 𝓤) {Bd : Lfts (suc n) → Type 0} → Passed Bd
       → SProp 𝓤
   Entry {𝓤 = 𝓤} 𝓛 x = sep 𝓤 (toks 𝓛 (suc n) x.0 x.1) (sem 𝓛 (owns (types_at (s ∷ ss) x.0) x.3 x.4))
 
-  -- a walk begins: [what the first argument owns; the first token; the other tokens; what the other
-  -- arguments own; the `requires`]
+  -- begins a walk; context: [what the first argument owns; the first token; the other tokens; what
+  -- the other arguments own; the `requires`]
   pub arrives : {M : Type 1} {𝓤 : Ura M} (𝓛 : Logic 𝓤) {Bd : Lfts (suc n) → Type 0} {P : SProp 𝓤}
       (x : Passed Bd) (Q : SProp 𝓤)
       → Sq 𝓛 (‵ ((s.row x.0).own_val x.3.0 x.4.0) ∷ ‵ (flft x.0.0 x.1.0)
@@ -167,31 +170,32 @@ module _ (E : El) (Y : Al) {M : Type 1} {𝓤 : Ura M} (𝓛 : Logic 𝓤) {n : 
   abbrev lent : Slot (suc n)
   lent = mut_ref_to (0 ∷ []) tt (plain (λ _. Br E Y))
 
-  -- and one that is a `&Block`
+  -- a parameter that is a `&Block`
   abbrev shared : Slot (suc n)
   shared = shr_ref_to (0 ∷ []) tt (plain (λ _. Br E Y))
 
-  -- [the `&mut`, in two entries; its token; the other tokens; what the other arguments own]
+  -- context: [two entries for the `&mut`; its token; the other tokens; what the other arguments
+  -- own], followed by the entries of Γ
   abbrev Entered : {Bd : Lfts (suc n) → Type 0} → Passed lent ss Bd → List (Item 𝓤) → List (Item 𝓤)
   Entered x Γ = ‵ (fobs x.3.0.ghost_name ((Br E Y).coded.code x.3.0.now)) ∷ ‵
       (fbor x.0.0 (Body (mem (Br E Y)) x.3.0.ref_ptr.0 x.3.0.ref_ptr.1 x.3.0.ghost_name))
       ∷ ‵ (flft x.0.0 x.1.0) ∷ raw (toks 𝓛 n x.0.1 x.1.1) ∷ ‵
       (owns (types_at ss x.0) x.3.1 x.4.1) ∷ Γ
 
-  -- so a method's walk begins, where the `requires` comes last
+  -- begins the walk of a method on a `&mut Block`; the `requires` is the last entry of the context
   pub starts : {Bd : Lfts (suc n) → Type 0} {P : SProp 𝓤} (x : Passed lent ss Bd) (Q : SProp 𝓤)
       → Sq 𝓛 (Entered x (raw Q ∷ [])) (prop P) → ent 𝓤 (sep 𝓤 (Entry lent ss 𝓛 x) Q) P
   starts x Q next = arrives lent ss 𝓛 x Q (fsplit3 ! $ drop ! $ next)
 
-  -- and so where it says these facts
+  -- begins the walk of a method on a `&mut Block`, whose `requires` says the facts φs
   pub begins_with : {Bd : Lfts (suc n) → Type 0} {P : SProp 𝓤} (x : Passed lent ss Bd)
       (φs : List (Type 0)) → (Shown φs → Sq 𝓛 (Entered x []) (prop P))
       → ent 𝓤 (sep 𝓤 (Entry lent ss 𝓛 x) (Facts 𝓤 φs)) P
   begins_with x φs next = starts x (Facts 𝓤 φs)
       (move ! (5 ∷ []) $ heard_all ! φs (λ said. next said))
 
-  -- the same where the other arguments own nothing that is wanted: [the `&mut`, in two entries; its
-  -- token; the other tokens]
+  -- begins the walk of a method on a `&mut Block` if what the other arguments own is not needed;
+  -- context: [two entries for the `&mut`; its token; the other tokens]
   pub begins : {Bd : Lfts (suc n) → Type 0} {P : SProp 𝓤} (x : Passed lent ss Bd)
       (φs : List (Type 0))
       → (Shown φs → Sq 𝓛 (‵ (fobs x.3.0.ghost_name ((Br E Y).coded.code x.3.0.now)) ∷ ‵
@@ -200,8 +204,8 @@ module _ (E : El) (Y : Al) {M : Type 1} {𝓤 : Ura M} (𝓛 : Logic 𝓤) {n : 
       → ent 𝓤 (sep 𝓤 (Entry lent ss 𝓛 x) (Facts 𝓤 φs)) P
   begins x φs next = begins_with x φs (λ said. keep ! (0 ∷ 1 ∷ 2 ∷ 3 ∷ []) $ next said)
 
-  -- so that of a method on a `&Block`: [what the `&` shows; its token; the other tokens; what the
-  -- other arguments own; the `requires`]
+  -- begins the walk of a method on a `&Block`; context: [what the `&` shows; its token; the other
+  -- tokens; what the other arguments own; the `requires`]
   pub seen : {Bd : Lfts (suc n) → Type 0} {P : SProp 𝓤} (x : Passed shared ss Bd) (Q : SProp 𝓤)
       → Sq 𝓛 (‵ (hidden_shr (Br E Y) x.0.0 x.3.0.now x.3.0.ref_ptr.0 x.3.0.ref_ptr.1)
       ∷ ‵ (flft x.0.0 x.1.0) ∷ raw (toks 𝓛 n x.0.1 x.1.1) ∷ ‵
@@ -211,28 +215,28 @@ module _ (E : El) (Y : Al) {M : Type 1} {𝓤 : Ura M} (𝓛 : Logic 𝓤) {n : 
 
 module _ {M : Type 1} {𝓤 : Ura M} {𝓛 : Logic 𝓤} {K : Type 0} {Γ : List (Item 𝓤)}
     {G : Goal 𝓤 𝓛.H} where
-  -- the first of the other tokens by itself
+  -- takes the first token out of a row of tokens
   pub token_out : K → (n : ℕ) (κs : Lfts (suc n)) (qs : Shares (suc n))
       → Step K 𝓛 (‵ (flft κs.0 qs.0) ∷ raw (toks 𝓛 n κs.1 qs.1) ∷ Γ) G
       (raw (toks 𝓛 (suc n) κs qs) ∷ Γ) G
   token_out k n κs qs = step (λ s.
       use1 𝓛 (‵ (flft κs.0 qs.0) ⊛ raw (toks 𝓛 n κs.1 qs.1)) (id⊢ 𝓤 _) $ split k $ s)
 
--- so many parameters that nothing is had of
+-- what m parameters that are not returned must leave: nothing
 abbrev pub blanks : ℕ → Fml
 blanks zero = ftrue
 blanks (suc m) = fsep ftrue (blanks m)
 
 module _ {M : Type 1} {𝓤 : Ura M} {𝓛 : Logic 𝓤} {K : Type 0} {Γ : List (Item 𝓤)}
     {G : Goal 𝓤 𝓛.H} where
-  -- they are made of nothing
+  -- m parameters that are not returned leave nothing, so nothing is needed for them
   pub blank : K → (m : ℕ) → Step K 𝓛 (‵ (blanks m) ∷ Γ) G Γ G
   blank k zero = nothing k
   blank k (suc m) = step (λ s. blank k m $ nothing k $ fjoin k $ s)
 
 module _ {M : Type 1} {𝓤 : Ura M} {𝓛 : Logic 𝓤} {K : Type 0} {G : Goal 𝓤 𝓛.H} where
-  -- what a function leaves that has nothing of its m parameters: from [a token; the result; the
-  -- other tokens]
+  -- joins what a function must return that returns none of its m parameters, from the context [a
+  -- token; the result; the other tokens]
   pub leaves : K → {Q F : Fml} {T : Item 𝓤} (m : ℕ)
       → Step K 𝓛 (((‵ Q ⊛ T) ⊛ ‵ (blanks m) ⊛ ‵ F) ∷ []) G (‵ Q ∷ ‵ F ∷ T ∷ []) G
   leaves k m = step (λ s. move k (0 ∷ 2 ∷ []) $ join k $ blank k m $ move k (0 ∷ 2 ∷ []) $ join k $
@@ -240,7 +244,7 @@ module _ {M : Type 1} {𝓤 : Ura M} {𝓛 : Logic 𝓤} {K : Type 0} {G : Goal 
 
 module _ (E : El) (Y : Al) {M : Type 1} {𝓤 : Ura M} {𝓛 : Logic 𝓤} {K : Type 0}
     {G : Goal 𝓤 𝓛.H} where
-  -- the block that a `&mut` points to is opened: see `block_opens`
+  -- opens the block behind a `&mut`, as `block_opens` does
   pub opens_self : K → Soaks G → {Γ : List (Item 𝓤)} {κ : Lft} {q : Share}
       (r : MutBor (Br E Y).Denot)
       → ((b o : ℕ) → r.now.at ≡ block_ptr b o → fits_block (R E) (length r.now.slots) ≡ true
@@ -253,8 +257,8 @@ module _ (E : El) (Y : Al) {M : Type 1} {𝓤 : Ura M} {𝓛 : Logic 𝓤} {K : 
       (fbor κ (Body (mem (Br E Y)) r.ref_ptr.0 r.ref_ptr.1 r.ghost_name)) ∷ ‵ (flft κ q) ∷ Γ) G
   opens_self k z r next = block_opens E Y k z r.now r.ref_ptr.0 r.ref_ptr.1 next
 
-  -- and closed, from [the slots, as they are now; the header; the block's cell; the open borrow, in
-  -- three entries]
+  -- closes the block behind a `&mut` again, from the context [the slots as they now are; the
+  -- header; the block's cell; three entries for the open borrow]
   pub closes_over : K → Soaks G → {Γ : List (Item 𝓤)} {κ : Lft} {q : Share} {u v : Gv} {c : ℕ}
       (r : MutBor (Br E Y).Denot) (y : (Br E Y).Denot) (b o : ℕ) → y.at ≡ block_ptr b o
       → length y.slots ≡ c
@@ -268,8 +272,8 @@ module _ (E : El) (Y : Al) {M : Type 1} {𝓤 : Ura M} {𝓛 : Logic 𝓤} {K : 
       rewrite k 1 (λ (c : ℕ). ‵ (header (t E Y) (R E) y.len c y.alloc b o)) (sym long) refl $
       move k (1 ∷ 0 ∷ []) $ block_closes E Y k z y b o r.ref_ptr.0 r.ref_ptr.1 at $ s)
 
-  -- what a method leaves, besides m other parameters: from [the `&mut`, in two entries; its token;
-  -- the result; the other tokens]
+  -- joins what a method with m further parameters must return, from the context [two entries for
+  -- the `&mut`; its token; the result; the other tokens]
   pub leaves_with : K → {κ : Lft} {q : Share} {us : List Val} {F : Fml} {T : Item 𝓤}
       (r : MutBor (Br E Y).Denot) (y : (Br E Y).Denot) (m : ℕ) → us ≡ mut_vals r
       → Step K 𝓛 (((‵ (flft κ q) ⊛ T) ⊛ ‵
@@ -281,7 +285,8 @@ module _ (E : El) (Y : Al) {M : Type 1} {𝓤 : Ura M} {𝓛 : Logic 𝓤} {K : 
       feq_i k (List Val) us (mut_vals r) e $ fjoin3 k $ blank k m $ move k (1 ∷ 0 ∷ []) $ fjoin k $
       move k (0 ∷ 2 ∷ []) $ join k $ move k (1 ∷ 2 ∷ []) $ join k $ join k $ s)
 
-  -- the same where nothing is returned
+  -- joins what a method with m further parameters must return if its result is `()`, from the
+  -- context [two entries for the `&mut`; its token; the other tokens]
   pub leaves_unit : K → {κ : Lft} {q : Share} {us : List Val} {T : Item 𝓤}
       (r : MutBor (Br E Y).Denot) (y : (Br E Y).Denot) (m : ℕ) → us ≡ mut_vals r
       → Step K 𝓛 (((‵ (flft κ q) ⊛ T) ⊛ ‵

@@ -1,4 +1,4 @@
--- What the code of the rule of powers of two computes is what the rule says.
+-- The proof that the code of `PowerBytes` computes what `power_bytes` in specs/Growth.antt says.
 use Rattle.std.proofs.Common.{◌≡◌, ℕ, ◌+◌, ◌-◌, ◌*◌, ◌/◌, ◌^◌, ◌<◌, ◌≤◌, Option, IfSome, inl, inr, max, min, sym, ap, ◌∙◌, arith}
 use Rattle.std.specs.declared.option.Option.TheVariants.{Some, None}
 use Rattle.std.specs.Mem.{type_size}
@@ -15,7 +15,7 @@ use Rattle.thin_block.specs.PowerLaws.{least_power_is, powers_filled, powers_of_
 use Rattle.thin_block.proofs.CapacityLemmas.{fitting_none}
 use Rattle.thin_block.proofs.SizesLemmas.{fits_tells, opened, rounded}
 
--- a number of bytes that the code sees as 0 is 0
+-- if the size of an item that the code sees is 0, then the item takes no bytes
 pub takes_none : (s size : ℕ) → size ≡ capped s → size ≡ 0 → s ≡ 0
 takes_none s size is none =
     let low : s < 2 ^ 63 = capped_small s (omega (arith, is, none)) in
@@ -30,7 +30,8 @@ capped_le s = elim (cases_lt s (2 ^ 64)) [
 takes_some : (s size : ℕ) → size ≡ capped s → 0 < size → 0 < s
 takes_some s size is some = omega (arith, is, some, capped_le s)
 
--- each capacity that the rule names fills a power
+-- for items of at least one byte, each capacity that `power_bytes` chooses fills a power of two
+-- bytes
 pub each_fills : (s a c w : ℕ) (r : Option ℕ) → r ≡ power_bytes s a c w → 0 < s
     → IfSome r (FillsPower s a)
 each_fills s a c w None e some = tt
@@ -44,14 +45,15 @@ module _ (R : RattleType) (c w size : ℕ) (is : size ≡ capped (type_size R))
   abbrev a : ℕ
   a = type_align R
 
-  -- how many items the code and the rule make room for
+  -- the number of items for which the code makes room; a product that exceeds `usize::MAX` counts
+  -- as `usize::MAX`
   abbrev items : ℕ
   items = max w (min (c * 2) (2 ^ 64 - 1))
 
   abbrev wanted : ℕ
   wanted = max w (2 * c)
 
-  -- where their bytes are few, no number was past `usize::MAX`
+  -- if the header and `items` items take at most 2 ^ 63 bytes, no number has exceeded `usize::MAX`
   module _ (small : 16 + items * size ≤ 2 ^ 63) where
     size_is : s ≡ size
     size_is =
@@ -77,7 +79,7 @@ module _ (R : RattleType) (c w size : ℕ) (is : size ≡ capped (type_size R))
         λ i. ((e ∙ ap least_power bytes) i - offset i) / sym size_is i in
         ap (fitting s a) next ∙ sym (powers_of_some s a c w (omega (arith, size_is, some)))
 
-  -- where they are many, the capacity does not fit
+  -- if the header and `items` items take more than 2 ^ 63 bytes, the rule chooses no capacity
   pub power_past : 2 ^ 63 < 16 + items * size → None ≡ power_bytes s a c w
   power_past large =
       let offset = (rounded R 0).offset in

@@ -1,4 +1,5 @@
--- A call of `resized`: what it is passed, and what a caller has of it. Assumes `Logic`.
+-- A call of `resized` in a walk: what the call is passed, and what the caller has afterwards.
+-- Assumes `Logic`.
 use Rattle.std.proofs.Common.{ℕ, ◌≤◌, List, [], ◌∷◌, refl, w64, ◌^◌, ◌<◌}
 use seplogic.Ra.Ura.{Ura}
 use mir.Val.{Val, vint, vptr}
@@ -20,7 +21,7 @@ use Rattle.core.proofs.alloc.Resizes.{Sizes, Flagged, by_flag}
 use Rattle.core.proofs.mem.Param.{El, R, el_x}
 use Rattle.thin_block.specs.contracts.in_place.resized as F
 
--- the sizes that either call takes
+-- the sizes that both `grow` and `shrink` of the allocator accept
 abbrev pub Sized : El → Sizes
 Sized E len held wanted = (len ≤ held) × ((len ≤ wanted)
     × (FitsBlock (R E) held × FitsBlock (R E) wanted))
@@ -29,13 +30,13 @@ module _ (E : El) (Y : Al) {M : Type 1} {𝓤 : Ura M} (𝓛 : Logic 𝓤) (at_m
     (run : Routine → Fun 𝓤) where
   open 𝓛 use {H, A}
 
-  -- the contract
+  -- the contract of `resized`
   abbrev pub Resizing : Contract 𝓤
   Resizing = triple_of 𝓛 (F.signature E.row Y.row) (F.spec E.row Y.row Y.g Y.d Y.drops 𝓛 at_mem run)
 
   module _ (κ κT κA : Lft) (q qT qA : Share) (out : κ ⊑ κA) (p : ℕ × ℕ) (a : Y.row.Denot)
       (b o len held wanted : ℕ) (xs : List (el_x E)) where
-    -- what a call is passed
+    -- the ghost arguments of a call of `resized`
     abbrev pub at_resizing : Resizing.Ghost
     at_resizing = (
       (
@@ -57,7 +58,7 @@ module _ (E : El) (Y : Al) {M : Type 1} {𝓤 : Ura M} (𝓛 : Logic 𝓤) (at_m
     abbrev Block : Fml
     Block = block_with_items (token Y a) (R E) (block_ptr b o) len held xs
 
-    -- what it leaves, by its answer
+    -- what the call leaves, which depends on its result
     abbrev pub leaves : Answer.Denot → Fml
     leaves = resized_if_ok (token Y a) (R E) (block_ptr b o) len held wanted xs
 
@@ -81,7 +82,7 @@ module _ (E : El) (Y : Al) {M : Type 1} {𝓤 : Ura M} (𝓛 : Logic 𝓤) (at_m
         feq_i ! (List Val) (vint w64 len ∷ []) (vint w64 len ∷ []) refl $ fjoin ! $ fjoin ! $
         feq_i ! (List Val) (vptr b o ∷ []) (vptr b o ∷ []) refl $ fjoin ! $ move ! (2 ∷ []) $
         feq_i ! (List Val) (vptr p.0 p.1 ∷ []) (vptr p.0 p.1 ∷ []) refl $ fjoin ! $ fjoin ! $
-        -- [the arguments; the facts, with the block; the three tokens]
+        -- context: [the arguments; the facts, with the block; the three tokens]
         nothing ! $ move ! (5 ∷ 0 ∷ []) $ join ! $ move ! (4 ∷ 0 ∷ []) $ join ! $
         move ! (3 ∷ 0 ∷ []) $ join ! $ join ! $ join ! $ done !
 

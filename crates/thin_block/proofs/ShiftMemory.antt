@@ -1,8 +1,10 @@
--- A run of items and the slots that it goes to come out of one row, and go back once it has moved.
--- Assumes `Logic`.
---     Moves     the way out of the row of what a copy takes, and the way back of what it leaves
---     apart     where the two runs lie apart: the items, and room for them
---     slides    where they overlap: the items, and room beside them as far as they go
+-- How a run of items and the slots to which it moves are taken out of a row, and put back after the
+-- move. Assumes `Logic`.
+--     Moves     how the memory that a copy needs is taken out of the row, and how the memory that
+--               the copy leaves is put back
+--     apart     if the two runs of slots do not overlap: the items, and memory for them
+--     slides    if the two runs of slots overlap: the items, and memory as wide as the distance of
+--               the move
 use Rattle.std.proofs.Common.{◌≡◌, ◌⊎◌, Bool, true, false, ℕ, Some, None, ◌+◌, ◌-◌, ◌*◌, ◌<◌, ◌≤◌, List, [], ◌∷◌, ◌++◌, length, refl, sym, ap, ◌∙◌, arith, append_assoc}
 use Rattle.std.proofs.lemmas.List.{length-map, length-replicate, length-append, length-take}
 use mathlib.Core.Logic.{inl, inr, ⊎_elim}
@@ -28,12 +30,12 @@ use Rattle.thin_block.specs.Shifts.{IsShifted}
 use Rattle.thin_block.proofs.SlotsLemmas.{empty-run, parted-run, run-split, length-run, moved_left, moved_right, moved_over, moved_back}
 use Rattle.thin_block.proofs.SlotMemory.{Slot, sz, cut, glue, around, run_out, run_in, to_items, of_items, to_room, of_room}
 
--- the offset of a slot, from another's
+-- if c is d + a, the offset of the slot c is a slots after the offset of the slot d
 pub further : (a d c s o : ℕ) → c ≡ d + a → c * s + o ≡ d * s + (a * s + o)
 further a d c s o e = let sum = add_times d a s in
     let same : c * s ≡ (d + a) * s = ap (λ (k : ℕ). k * s) e in omega arith
 
--- what is laid over a run of a row, by the row's parts
+-- laying slots over a run of a row replaces that run, and keeps what is before it and after it
 laid-over : {T : Type 0} (s new : List (Option T)) (i n : ℕ) → length new ≡ n
     → laid i new s ≡ take i s ++ (new ++ drop (i + n) s)
 laid-over s new i n long = ap (λ (k : ℕ). take i s ++ (new ++ drop (i + k) s)) long
@@ -62,7 +64,8 @@ module _ (E : El) {M : Type 1} {𝓤 : Ura M} (𝓛 : Logic 𝓤) (b o : ℕ) (s
   abbrev Room : ℕ → ℕ → Fml
   Room n at = froom (ty_array (elτ E) n) b at
 
-  -- the row gives up Was; with Is and what it kept it is the row after the move
+  -- the memory Was can be taken out of the row; if the memory Is is put back instead, it is the row
+  -- after the move
   pub record Moves (Was Is : Fml) : Type 1 where
     pub Rest : Fml
     pub out : ent 𝓤 (sem 𝓛 (Row o slots)) (sep 𝓤 (sem 𝓛 Was) (sem 𝓛 Rest))
@@ -74,7 +77,8 @@ module _ (E : El) {M : Type 1} {𝓤 : Ura M} (𝓛 : Logic 𝓤) (b o : ℕ) (s
   empty-long : (n : ℕ) → length (empty {T = el_x E} n) ≡ n
   empty-long n = length-replicate n None
 
-  -- the run beside a gap of d slots before it
+  -- a run and the d empty slots before it can be taken out of the row, and put back after the run
+  -- has moved down by d slots
   pub slides_down : (d : ℕ) → from ≡ to + d → from + k ≤ length slots → run to d slots ≡ empty d
       → Moves (memory_before_copy (R E) false d k (block_ptr b src) (block_ptr b dst) xs)
       (memory_after_copy (R E) false d k (block_ptr b src) (block_ptr b dst) xs)
@@ -124,7 +128,8 @@ module _ (E : El) {M : Type 1} {𝓤 : Ura M} (𝓛 : Logic 𝓤) (b o : ℕ) (s
             rewrite ! 0 (λ (l : S). ‵ (Row o l)) result refl $ done !;
       }
 
-  -- the run beside a gap of d slots after it
+  -- a run and the d empty slots after it can be taken out of the row, and put back after the run
+  -- has moved up by d slots
   slides_up : (d : ℕ) → to ≡ from + d → to + k ≤ length slots → run (from + k) d slots ≡ empty d
       → Moves (memory_before_copy (R E) true d k (block_ptr b src) (block_ptr b dst) xs)
       (memory_after_copy (R E) true d k (block_ptr b src) (block_ptr b dst) xs)
@@ -172,7 +177,7 @@ module _ (E : El) {M : Type 1} {𝓤 : Ura M} (𝓛 : Logic 𝓤) (b o : ℕ) (s
             rewrite ! 0 (λ (l : S). ‵ (Row o l)) result refl $ done !;
       }
 
-  -- three runs, of which the first and the last have k slots
+  -- splits a row into three runs; the first and the last run have k slots
   cut3 : (ys mid zs : S) (lo hi : ℕ) → length ys ≡ k → hi ≡ length mid * s + (k * s + lo)
       → ent 𝓤 (sem 𝓛 (Row lo (ys ++ (mid ++ zs))))
       (sep 𝓤 (sem 𝓛 (Row lo ys)) (sep 𝓤 (sem 𝓛 (Row hi zs)) (sem 𝓛 (Row (k * s + lo) mid))))
@@ -193,11 +198,11 @@ module _ (E : El) {M : Type 1} {𝓤 : Ura M} (𝓛 : Logic 𝓤) (b o : ℕ) (s
       $ move ! (1 ∷ 0 ∷ []) $
       by ! (glue E 𝓛 b ys (mid ++ zs) lo (k * s + lo) (ap (λ (n : ℕ). n * s + lo) (sym count)))
 
-  -- the run, and room where it goes
+  -- the memory before the move: the items at their old place, and empty slots at their new place
   abbrev pub Was : Fml
   Was = fsep (Items src) (Room k dst)
 
-  -- the run there, and room where it was
+  -- the memory after the move: the items at their new place, and empty slots at their old place
   abbrev pub Is : Fml
   Is = fsep (Items dst) (Room k src)
 
@@ -210,7 +215,8 @@ module _ (E : El) {M : Type 1} {𝓤 : Ura M} (𝓛 : Logic 𝓤) (b o : ℕ) (s
       let same : length mid * s ≡ m * s = ap (λ (n : ℕ). n * s) count in
       omega arith
 
-  -- the items go over what lies after them
+  -- a run and k empty slots above it can be taken out of the row, and put back after the run has
+  -- moved up to these slots
   goes_over : (m : ℕ) → to ≡ from + k + m → to + k ≤ length slots
       → run to k slots ≡ empty k → Moves Was Is
   goes_over m apart within gap =
@@ -268,7 +274,8 @@ module _ (E : El) {M : Type 1} {𝓤 : Ura M} (𝓛 : Logic 𝓤) (b o : ℕ) (s
             rewrite ! 0 (λ (l : S). ‵ (Row o l)) result refl $ done !;
       }
 
-  -- the items go back over what lies before them
+  -- a run and k empty slots below it can be taken out of the row, and put back after the run has
+  -- moved down to these slots
   goes_back : (m : ℕ) → from ≡ to + k + m → from + k ≤ length slots
       → run to k slots ≡ empty k → Moves Was Is
   goes_back m apart within gap =
@@ -326,11 +333,13 @@ module _ (E : El) {M : Type 1} {𝓤 : Ura M} (𝓛 : Logic 𝓤) (b o : ℕ) (s
             rewrite ! 0 (λ (l : S). ‵ (Row o l)) result refl $ done !;
       }
 
-  -- what `move_run` asks of the slots that the run comes to
+  -- the precondition `empty` of `move_run`: the slots to which the run moves are empty, except
+  -- those of the run itself
   abbrev pub Bare : Type 0
   Bare = (i : ℕ) → to ≤ i → i < to + k → (i < from) ⊎ (from + k ≤ i) → slot slots i ≡ None
 
-  -- runs that lie apart
+  -- if the two runs of slots do not overlap, the run and its destination can be taken out of the
+  -- row, and put back after the move
   pub apart : from + k ≤ length slots → to + k ≤ length slots → Bare → (from + k ≤ to)
       ⊎ (to + k ≤ from) → Moves Was Is
   apart source target bare far =
@@ -341,7 +350,7 @@ module _ (E : El) {M : Type 1} {𝓤 : Ura M} (𝓛 : Logic 𝓤) (b o : ℕ) (s
       (empty-run slots to k target
       (λ i h j. bare i h j (inl (let q : i < from = omega arith in q))))) far
 
-  -- how far a run goes
+  -- the distance of the move, in slots
   abbrev pub distance : Bool → ℕ
   distance true = to - from
   distance false = from - to
@@ -350,7 +359,8 @@ module _ (E : El) {M : Type 1} {𝓤 : Ura M} (𝓛 : Logic 𝓤) (b o : ℕ) (s
   Way up = Moves (memory_before_copy (R E) up (distance up) k (block_ptr b src) (block_ptr b dst)
       xs) (memory_after_copy (R E) up (distance up) k (block_ptr b src) (block_ptr b dst) xs)
 
-  -- runs that overlap
+  -- if the two runs of slots overlap, the run and the gap next to it can be taken out of the row,
+  -- and put back after the move
   pub slides : from + k ≤ length slots → to + k ≤ length slots → Bare → to < from + k
       → from < to + k → (up : Bool) → ltb from to ≡ up → Way up
   slides source target bare near near' true e =
@@ -366,7 +376,7 @@ module _ (E : El) {M : Type 1} {𝓤 : Ura M} (𝓛 : Logic 𝓤) (b o : ℕ) (s
       (empty-run slots to (from - to) le
       (λ i h j. bare i h (omega arith) (inl (let q : i < from = omega arith in q))))
 
-  -- the target lies so far from the source
+  -- the address of the destination differs from the address of the run by the distance of the move
   pub shifted : (up : Bool) → ltb from to ≡ up → IsShifted (R E) up (distance up)
       (block_ptr b src) (block_ptr b dst)
   shifted true e = let less : from < to = ltb-true from to e in

@@ -1,4 +1,4 @@
--- When a block fits: the arithmetic.
+-- Arithmetic on sizes: when a block fits.
 use Rattle.std.proofs.Common.{◌≡◌, ℕ, zero, suc, ◌+◌, ◌-◌, ◌*◌, ◌/◌, ◌^◌, ◌<◌, ◌≤◌, Bool, true, false, refl, sym, ap, subst, ◌∙◌, arith, ltb, zero-mul, suc-mul}
 use borrow.Author.Tests.{lt-ltb, le-ltb, ltb-true}
 use mathlib.Core.Bool.{◌&&◌}
@@ -24,7 +24,7 @@ use Rattle.thin_block.specs.Growth.{fitting, doubling}
 
 -- ---- rounding up
 
--- what is known of a block whose items have the alignment a and take x bytes
+-- what is known of the size of a block whose items have the alignment a and take x bytes in total
 pub record Rounded (a x : ℕ) : Type 0 where
   pub least : 8 ≤ block_align a
   pub most : block_align a ≤ 16
@@ -77,21 +77,21 @@ rounded_to w128 x = record {
   short = λ h. omega arith;
 }
 
--- the alignment of each type is one of the five
+-- the alignment of each type is 1, 2, 4, 8 or 16
 pub align_known : (R : RattleType) → IsAlign (type_align R)
 align_known R = (align_w (layout R), align-bytes (layout R))
 
--- rounding up to an alignment
+-- if a is an alignment, then `Rounded` holds for a and every size x
 pub rounded_at : (a x : ℕ) → IsAlign a → Rounded a x
 rounded_at a x is = subst (λ (k : ℕ). Rounded k x) (sym is.1) (rounded_to is.0 x)
 
--- rounding up to the alignment of an item
+-- `Rounded` holds for the alignment of each item type, and every size x
 pub rounded : (R : RattleType) (x : ℕ) → Rounded (type_align R) x
 rounded R x = rounded_at (type_align R) x (align_known R)
 
--- ---- sizes past `usize::MAX`, which the code sees as `usize::MAX`
+-- ---- sizes that exceed `usize::MAX`, which the code sees as `usize::MAX`
 
--- a product that is small has no capped factor
+-- if a product with a capped factor is small, the product with the factor itself is the same
 pub whole_product : (c s : ℕ) → c * capped s < 2 ^ 63 → c * s ≡ c * capped s
 whole_product zero s h = zero-mul s ∙ sym (zero-mul (capped s))
 whole_product (suc c) s h =
@@ -99,7 +99,7 @@ whole_product (suc c) s h =
     let low : s < 2 ^ 63 = capped_small s (omega arith) in
     ap (λ (k : ℕ). suc c * k) (sym (capped_is s (omega arith)))
 
--- in a small product, the capped size is the size
+-- if a product with a factor is small, the product with the capped factor is the same
 pub capped_product : (c s : ℕ) → c * s < 2 ^ 63 → c * capped s ≡ c * s
 capped_product zero s h = zero-mul (capped s) ∙ sym (zero-mul s)
 capped_product (suc c) s h = let more = suc-mul c s in
@@ -119,7 +119,7 @@ tells_second : (x y : Bool) → (x && y) ≡ true → y ≡ true
 tells_second true y f = f
 tells_second false y f = cc
 
--- a number that is not 0 is above it
+-- a number that is not 0 is positive
 pub positive : (n : ℕ) → (n ≡ 0 → ⊥) → 0 < n
 positive zero never = absurd (never refl)
 positive (suc n) never = omega arith
@@ -127,27 +127,27 @@ positive (suc n) never = omega arith
 lt_of_not : (a b : ℕ) → (a ≤ b → ⊥) → b < a
 lt_of_not a b never = omega arith
 
--- ---- when it fits
+-- ---- when a block fits
 
--- the bytes of c items of the size s leave room for the header and the padding
+-- c items of s bytes leave room for the header and the padding, within 2 ^ 63 bytes
 abbrev pub Small : ℕ → ℕ → ℕ → Type 0
 Small s a c = c * s + 16 + block_align a ≤ 2 ^ 63
 
--- what a capacity that fits tells
+-- what follows if the capacity c fits
 pub record Told (s a c : ℕ) : Type 0 where
   pub few : c < 2 ^ 63
   pub room : Small s a c
   pub short : block_bytes s a c < 2 ^ 63
 
 module _ (s a c : ℕ) (is : IsAlign a) where
-  -- few slots whose bytes leave room are small
+  -- if c is less than 2 ^ 63, and its items leave room for header and padding, then c is small
   pub small_yes : c < 2 ^ 63 → Small s a c → is_small s a c ≡ true
   small_yes few room =
       let whole : block_bytes s a c < 2 ^ 63 = (rounded_at a (c * s) is).short room in
       both_true (ltb c (2 ^ 63)) (ltb (block_bytes s a c) (2 ^ 63)) (lt-ltb c (2 ^ 63) few)
       (lt-ltb (block_bytes s a c) (2 ^ 63) whole)
 
-  -- where a block is small, its slots are few and their bytes leave room
+  -- if c is small, then it is less than 2 ^ 63, and its items leave room for header and padding
   pub small_tells : is_small s a c ≡ true → Told s a c
   small_tells e =
       let few : c < 2 ^ 63 =
@@ -156,30 +156,32 @@ module _ (s a c : ℕ) (is : IsAlign a) where
       (tells_second (ltb c (2 ^ 63)) (ltb (block_bytes s a c) (2 ^ 63)) e) in
       record { few = few; room = (rounded_at a (c * s) is).tells short; short = short }
 
--- which capacities fit, for items of R
+-- the lemmas `small_yes` and `small_tells` for items of R
 module _ (R : RattleType) (c : ℕ) where
   abbrev IsSmall : Type 0
   IsSmall = is_small (type_size R) (type_align R) c ≡ true
 
-  -- a block of few items of R whose bytes leave room is small
+  -- if c is less than 2 ^ 63, and c items of R leave room for header and padding, then c is small
   pub fits_yes : c < 2 ^ 63 → Small (type_size R) (type_align R) c → IsSmall
   fits_yes few room = small_yes (type_size R) (type_align R) c (align_known R) few room
 
-  -- where a block of items of R is small, they are few and their bytes leave room
+  -- if c is small for items of R, then it is less than 2 ^ 63, and c items of R leave room for
+  -- header and padding
   pub fits_tells : IsSmall → Told (type_size R) (type_align R) c
   fits_tells e = small_tells (type_size R) (type_align R) c (align_known R) e
 
-  -- the closed word and the open one
+  -- a capacity that fits is small
   pub opened : Fits R c → IsSmall
   unfolding fits
   opened e = e
 
-  -- what is small fits
+  -- a small capacity fits
   pub closed : IsSmall → Fits R c
   unfolding fits
   closed e = e
 
-  -- the test by a division
+  -- if c is at most the quotient that the code computes, then c items leave room for header and
+  -- padding
   pub divided : (size : ℕ) → size ≡ capped (type_size R) → 0 < size
       → c ≤ (2 ^ 63 - block_align (type_align R) - 16) / size → Small (type_size R) (type_align R) c
   divided size is some few =
@@ -193,7 +195,8 @@ module _ (R : RattleType) (c : ℕ) where
       ∙ ap (λ (k : ℕ). c * k) (sym is) in
       omega arith
 
-  -- a small block has at most as many slots as the division says
+  -- if c items leave room for header and padding, then c is at most the quotient that the code
+  -- computes
   pub dividing : (size : ℕ) → size ≡ capped (type_size R) → 0 < size
       → Small (type_size R) (type_align R) c → c ≤ (2 ^ 63 - block_align (type_align R) - 16) / size
   dividing size is some room =
@@ -203,7 +206,7 @@ module _ (R : RattleType) (c : ℕ) where
       let same' : c * size ≡ c * type_size R = ap (λ (k : ℕ). c * k) is ∙ same in
       le-div c (2 ^ 63 - block_align (type_align R) - 16) size some (omega arith)
 
--- the capacity 0 fits
+-- the capacity 0 is small
 pub fits_none : (R : RattleType) → is_small (type_size R) (type_align R) 0 ≡ true
 fits_none R =
     let about = rounded R 0 in
@@ -212,7 +215,7 @@ fits_none R =
 
 -- ---- the first capacity
 
--- small items begin with four
+-- if the code sees a size that exceeds 2 ^ 61 - 1, the first capacity is 1
 pub first_one : (s : ℕ) → 2 ^ 61 - 1 < capped s → 1 ≡ first s
 unfolding first
 first_one s large =
@@ -221,7 +224,7 @@ first_one s large =
     absurd (omega arith)) in
     rw (lt-ltb (2 ^ 61 - 1) s above) refl
 
--- large items begin with one
+-- if the code sees a size of at most 2 ^ 61 - 1, the first capacity is 4
 pub first_many : (s : ℕ) → capped s ≤ 2 ^ 61 - 1 → 4 ≡ first s
 unfolding first
 first_many s small =
@@ -229,7 +232,7 @@ first_many s small =
     let same = capped_is s (omega arith) in
     rw (le-ltb (2 ^ 61 - 1) s (omega arith)) refl
 
--- ---- what doubling rules
+-- ---- what doubling chooses
 
 first_false : (x y : Bool) → x ≡ false → (x && y) ≡ false
 first_false true y f = cc
@@ -240,25 +243,25 @@ unfolding fits
 fits_no s a c many = first_false (ltb c (2 ^ 63)) (ltb (block_bytes s a c) (2 ^ 63))
     (le-ltb c (2 ^ 63) many)
 
--- the capacity that doubling tries
+-- the capacity that doubling tries: it is chosen if it fits
 abbrev pub tried : ℕ → ℕ → ℕ → ℕ
 tried s c w = max w (if c == 0 then first s else 2 * c)
 
--- the capacity that doubling tries where there was none
+-- if the old capacity is 0, doubling tries the first capacity, or w if that is greater
 pub tried_first : (s c w d : ℕ) → c ≡ 0 → d ≡ first s → max w d ≡ tried s c w
 tried_first s c w d none is = grind (arith, nat_tests)
 
--- the capacity that doubling tries where there was one
+-- if the old capacity is not 0, doubling tries twice that capacity, or w if that is greater
 pub tried_twice : (s c w d : ℕ) → (c ≡ 0 → ⊥) → d ≡ 2 * c → max w d ≡ tried s c w
 tried_twice s c w d some is = grind (arith, nat_tests)
 
--- a capacity past every address does not fit
+-- a capacity of 2 ^ 63 or more does not fit
 pub fitting_past : (s a n : ℕ) → 2 ^ 63 ≤ n → fitting s a n ≡ None
 unfolding fitting
 fitting_past s a n many = λ i. if fits_no s a n many i then Some n else None
 
--- what the code tries, of which each number past `usize::MAX` is that number, fits where the rule's
--- fits
+-- the code chooses the same capacity as the rule, although it computes with `usize::MAX` in place
+-- of each number that exceeds `usize::MAX`
 pub doubling_is : (s a c w d : ℕ) → c < w → (c ≡ 0 → d ≡ first s)
     → ((c ≡ 0 → ⊥) → d ≡ min (c * 2) (2 ^ 64 - 1)) → fitting s a (max w d) ≡ doubling s a c w
 unfolding doubling

@@ -1,11 +1,12 @@
--- Slots come out of a block's row of slots and go back. Assumes `Logic`.
+-- How slots are taken out of a block's row of slots, and put back. Assumes `Logic`.
 --     slot_out, slot_in    one slot
 --     run_out, run_in      the k slots from i on
 --     two_slots            two different slots, in either order
---     to_items, of_items   slots that hold the items xs are an array of them
---     to_cells, of_cells   slots that hold the items xs are the cells of a slice
---     to_room, of_room     empty slots are room for an array; to_raw, of_raw: for one of no type
---     reach                how far after the first slot a slot begins: a number that a word holds
+--     to_items, of_items   turn slots that hold the items xs into an array of xs, and back
+--     to_cells, of_cells   turn slots that hold the items xs into the cells of a slice, and back
+--     to_room, of_room     turn empty slots into uninitialized memory for an array, and back
+--     to_raw, of_raw       the same for memory of the bare type, whose fields have no names
+--     reach                the distance in bytes from the first slot to a slot fits into a word
 use Rattle.std.proofs.Common.{◌≡◌, true, ℕ, zero, suc, None, ◌+◌, ◌*◌, ◌^◌, ◌<◌, ◌≤◌, List, [], ◌∷◌, ◌++◌, length, refl, sym, ap, ◌∙◌, arith}
 use native.Mathlib.Nat.{zero-mul, suc-mul}
 use lib.ListN.{take, drop, set, get_or, take-append-drop, length-take, length-drop, length-set}
@@ -35,7 +36,7 @@ use Rattle.thin_block.specs.Ownership.{fits_block, place, places}
 use Rattle.thin_block.specs.Slots.{full, empty, run, laid}
 use Rattle.thin_block.proofs.SizesLemmas.{fits_tells}
 
--- how far after the first slot a slot begins: a number that a word holds
+-- the distance in bytes from the first slot to the slot i is less than 2 ^ 63
 pub reach : (Rw : RattleType) (i c : ℕ) → fits_block Rw c ≡ true → i ≤ c → i * type_size Rw < 2 ^ 63
 reach Rw i c fits le =
     let small = (fits_tells Rw c fits).room in
@@ -43,11 +44,11 @@ reach Rw i c fits le =
     times_below i c (type_size Rw) (2 ^ 63) le all
 
 module _ (E : El) where
-  -- what a slot may hold
+  -- what a slot may hold: an item, or nothing
   abbrev pub Slot : Type 0
   Slot = Option (el_x E)
 
-  -- the bytes of an item
+  -- the size of an item in bytes
   abbrev pub sz : ℕ
   sz = type_size (R E)
 
@@ -60,7 +61,7 @@ module _ (E : El) {M : Type 1} {𝓤 : Ura M} (𝓛 : Logic 𝓤) (b : ℕ) wher
   abbrev Row : ℕ → List (Slot E) → Fml
   Row o xs = places (R E) xs b o
 
-  -- a row of slots is two rows
+  -- splits a row of slots into two rows
   pub cut : (xs ys : List (Slot E)) (o at : ℕ) → at ≡ length xs * s + o
       → ent 𝓤 (sem 𝓛 (Row o (xs ++ ys))) (sep 𝓤 (sem 𝓛 (Row o xs)) (sem 𝓛 (Row at ys)))
   cut [] ys o at e = qed 𝓛 (‵ (Row o ys) ∷ []) ∵ rewrite ! 0 (λ (k : ℕ). ‵ (Row k ys)) {x = at}
@@ -72,7 +73,7 @@ module _ (E : El) {M : Type 1} {𝓤 : Ura M} (𝓛 : Logic 𝓤) (b : ℕ) wher
       (cut xs ys (o + s) at (omega (arith, suc-mul (length xs) s))) $ split ! $
       move ! (2 ∷ 0 ∷ []) $ fjoin ! $ done !
 
-  -- two rows are one
+  -- joins two rows of slots into one row
   pub glue : (xs ys : List (Slot E)) (o at : ℕ) → at ≡ length xs * s + o
       → ent 𝓤 (sep 𝓤 (sem 𝓛 (Row o xs)) (sem 𝓛 (Row at ys))) (sem 𝓛 (Row o (xs ++ ys)))
   glue [] ys o at e = qed 𝓛 (‵ ftrue ∷ ‵ (Row at ys) ∷ []) ∵ skip ! $
@@ -89,7 +90,7 @@ module _ (E : El) {M : Type 1} {𝓤 : Ura M} (𝓛 : Logic 𝓤) (b : ℕ) wher
     before le = let long : i ≡ length (take i xs) = omega (arith, length-take i xs) in
         ap (λ k. k * s + o) long
 
-    -- the slots but for the i-th
+    -- all slots of the row except the slot i
     abbrev pub besides : Fml
     besides = fsep (Row o (take i xs)) (Row (i * s + o + s) (drop (suc i) xs))
 
@@ -115,7 +116,7 @@ module _ (E : El) {M : Type 1} {𝓤 : Ura M} (𝓛 : Logic 𝓤) (b : ℕ) wher
         rewrite ! 0 (λ (l : List (Slot E)). ‵ (Row o l)) (sym (set_split xs i x lt)) refl $ done !
 
     module _ (k : ℕ) where
-      -- the slots but for the k from the i-th on
+      -- all slots of the row except the k slots from i on
       abbrev pub around : Fml
       around = fsep (Row o (take i xs)) (Row (k * s + (i * s + o)) (drop (i + k) xs))
 
@@ -165,20 +166,20 @@ module _ (E : El) {M : Type 1} {𝓤 : Ura M} (𝓛 : Logic 𝓤) (b : ℕ) wher
   of_row [] o = id⊢ 𝓤 (emp 𝓤)
   of_row (x ∷ xs) o = mono_r 𝓤 (sem 𝓛 (part_at (R E) full_share x b o)) (of_row xs (o + s))
 
-  -- filled slots are an array of items
+  -- slots that hold the items xs are an array of xs
   pub to_items : (k : ℕ) (xs : List (el_x E)) (o : ℕ) → length xs ≡ k
       → ent 𝓤 (sem 𝓛 (Row o (full xs))) (sem 𝓛 (part_at (Array (R E) k) full_share xs b o))
   to_items k xs o long = qed 𝓛 (‵ (Row o (full xs)) ∷ []) ∵ use1 𝓛 (‵ (row (R E) full_share xs b o))
       (to_row xs o) $ by ! (arrays.whole E' 𝓛 full_share k xs b o long)
 
-  -- an array of items is filled slots
+  -- an array of the items xs is slots that hold xs
   pub of_items : (k : ℕ) (xs : List (el_x E)) (o : ℕ)
       → ent 𝓤 (sem 𝓛 (part_at (Array (R E) k) full_share xs b o)) (sem 𝓛 (Row o (full xs)))
   of_items k xs o = qed 𝓛 (‵ (part_at (Array (R E) k) full_share xs b o) ∷ []) ∵
       use1 𝓛 (given (length xs ≡ k) (‵ (row (R E) full_share xs b o)))
       (arrays.apart E' 𝓛 full_share k xs b o) $ learn ! (λ _. by ! (of_row xs o))
 
-  -- an array has as many items as its type says
+  -- the number of items of an array is the number that its type says
   pub counted : (k : ℕ) (xs : List (el_x E)) (o : ℕ)
       → ent 𝓤 (sem 𝓛 (part_at (Array (R E) k) full_share xs b o))
       (guard 𝓤 (length xs ≡ k) (sem 𝓛 (part_at (Array (R E) k) full_share xs b o)))
@@ -187,19 +188,19 @@ module _ (E : El) {M : Type 1} {𝓤 : Ura M} (𝓛 : Logic 𝓤) (b : ℕ) wher
       (arrays.apart E' 𝓛 full_share k xs b o) $
       learn ! (λ long. check ! long $ by ! (arrays.whole E' 𝓛 full_share k xs b o long))
 
-  -- filled slots are std's cells
+  -- slots that hold the items xs are the cells of xs, as std sees them
   pub to_cells : (xs : List (el_x E)) (o : ℕ) → ent 𝓤 (sem 𝓛 (Row o (full xs)))
       (sem 𝓛 (cells (mem (R E)) xs b o))
   to_cells [] o = id⊢ 𝓤 (emp 𝓤)
   to_cells (x ∷ xs) o = mono_r 𝓤 (sem 𝓛 (part_at (R E) full_share x b o)) (to_cells xs (o + s))
 
-  -- std's cells are filled slots
+  -- cells of the items xs, as std sees them, are slots that hold xs
   pub of_cells : (xs : List (el_x E)) (o : ℕ) → ent 𝓤 (sem 𝓛 (cells (mem (R E)) xs b o))
       (sem 𝓛 (Row o (full xs)))
   of_cells [] o = id⊢ 𝓤 (emp 𝓤)
   of_cells (x ∷ xs) o = mono_r 𝓤 (sem 𝓛 (part_at (R E) full_share x b o)) (of_cells xs (o + s))
 
-  -- room for an array is empty slots
+  -- uninitialized memory for an array of k items is k empty slots
   pub of_room : (k o : ℕ) → ent 𝓤 (H.room (ty_array (elτ E) k) b o) (sem 𝓛 (Row o (empty k)))
   of_room zero o = qed 𝓛 (‵ (froom (ty_array (elτ E) 0) b o) ∷ []) ∵ keep ! [] $ done !
   of_room (suc k) o = qed 𝓛 (‵ (froom (ty_array (elτ E) (suc k)) b o) ∷ []) ∵
@@ -208,7 +209,7 @@ module _ (E : El) {M : Type 1} {𝓤 : Ura M} (𝓛 : Logic 𝓤) (b : ℕ) wher
       use1 𝓛 (‵ (place (R E) None b o)) (𝓛.laws.room-raw (elτ E) b o) $ keeps ! $
       by ! (of_room k (o + s))
 
-  -- empty slots are room for an array
+  -- k empty slots are uninitialized memory for an array of k items
   pub to_room : (k o : ℕ) → ent 𝓤 (sem 𝓛 (Row o (empty k))) (H.room (ty_array (elτ E) k) b o)
   to_room zero o = 𝓛.laws.room_nil (elτ E) b o
   to_room (suc k) o = qed 𝓛 (‵ (Row o (empty (suc k))) ∷ []) ∵ fsplit ! $
@@ -216,17 +217,17 @@ module _ (E : El) {M : Type 1} {𝓤 : Ura M} (𝓛 : Logic 𝓤) (b : ℕ) wher
       use1 𝓛 (‵ (froom (ty_array (elτ E) k) b (o + s))) (to_room k (o + s)) $ move ! (1 ∷ []) $
       by ! (𝓛.laws.room_cons (elτ E) k b o)
 
-  -- room for an array that has no type is empty slots
+  -- uninitialized memory for the bare type of an array of k items is k empty slots
   pub of_raw : (k o : ℕ) → ent 𝓤 (H.room (bare (ty_array (elτ E) k)) b o) (sem 𝓛 (Row o (empty k)))
   of_raw k o = via 𝓤 (H.room (ty_array (elτ E) k) b o)
       (𝓛.laws.raw-room (ty_array (elτ E) k) b o) (of_room k o)
 
-  -- empty slots are room for no type in particular
+  -- k empty slots are uninitialized memory for the bare type of an array of k items
   pub to_raw : (k o : ℕ) → ent 𝓤 (sem 𝓛 (Row o (empty k))) (H.room (bare (ty_array (elτ E) k)) b o)
   to_raw k o = via 𝓤 (H.room (ty_array (elτ E) k) b o) (to_room k o)
       (𝓛.laws.room-raw (ty_array (elτ E) k) b o)
 
-  -- two slots, of which the i-th comes first
+  -- all slots except the two slots i and j, if i is less than j
   abbrev Others : ℕ → List (Slot E) → ℕ → ℕ → Fml
   Others o xs i j = fsep (besides o (take j xs) i) (Row (j * s + o + s) (drop (suc j) xs))
 
@@ -265,7 +266,7 @@ module _ (E : El) {M : Type 1} {𝓤 : Ura M} (𝓛 : Logic 𝓤) (b : ℕ) wher
       (sym (drop-set-lt (suc j) xs i x (omega arith))) refl $ fjoin ! $ move ! (1 ∷ 0 ∷ []) $
       by ! (slot_in o (set xs i x) j low' y)
 
-  -- two slots of a row come out, and any two go back
+  -- the slots i and j can be taken out of the row, and any content of these two can be put back
   pub record Two (o : ℕ) (xs : List (Slot E)) (i j : ℕ) : Type 1 where
     pub Rest : Fml
     pub out : ent 𝓤 (sem 𝓛 (Row o xs))
@@ -300,7 +301,7 @@ module _ (E : El) {M : Type 1} {𝓤 : Ura M} (𝓛 : Logic 𝓤) (b : ℕ) wher
             done !;
       }
 
-  -- two slots out of the row, and back
+  -- two different slots can be taken out of the row, and put back with any content
   pub two_slots : (o : ℕ) (xs : List (Slot E)) (i j : ℕ) → (i ≡ j → ⊥) → i < length xs
       → j < length xs → Two o xs i j
   two_slots o xs i j apart low low' = ⊎_elim (λ (p : i < j). in_order o xs i j p low')

@@ -1,4 +1,4 @@
--- What the words of `specs/Slots.antt` give.
+-- Lemmas on the definitions of specs/Slots.antt: runs, laid slots, moved runs and packed rows.
 use Rattle.std.proofs.Common.{◌⊎◌, ◌≡◌, ℕ, zero, suc, ◌+◌, ◌-◌, ◌<◌, ◌≤◌, List, [], ◌∷◌, ◌++◌, length, Some, None, refl, sym, ap, subst, ◌∙◌, arith, append_assoc}
 use Rattle.std.proofs.lemmas.List.{take-append-drop, drop-drop, set_at, get_or-append_right, get_or-drop, length-replicate, length-map, length-append, length-take, length-drop, take_at, drop_at, drop-replicate, replicate-append-replicate}
 use mathlib.Core.Logic.{inl, inr, ⊎_elim}
@@ -10,7 +10,7 @@ use Rattle.std.specs.Prelude.{Option, IsSome, take, drop, replicate}
 use Rattle.thin_block.specs.Lends.{over}
 use Rattle.thin_block.specs.Slots.{full, empty, slot, items_in, IsPacked, run, laid, emptied, moved}
 
--- two slots are the same or not
+-- two indices are equal or different
 pub same_or_not : (i j : ℕ) → (i ≡ j) ⊎ (i ≡ j → ⊥)
 same_or_not i j =
     ⊎_elim (λ (p : i < j). inr (λ (e : i ≡ j). absurd (omega arith)))
@@ -18,25 +18,25 @@ same_or_not i j =
     (λ (q : i ≤ j). inl (let e : i ≡ j = omega arith in e)) (order j i)) (order i j)
 
 module _ {T : Type 0} where
-  -- a slot that is swapped with itself
+  -- if i equals j, swapping the slots i and j is the same as writing the slot i to itself
   pub set-same : (s : List (Option T)) (i j : ℕ) → i ≡ j
       → set s i (slot s i) ≡ set (set s i (slot s j)) j (slot s i)
   set-same s i j same =
       sym (set-set s i (slot s i) (slot s i))
       ∙ (λ n. set (set s i (slot s (same n))) (same n) (slot s i))
 
-  -- the item that a filled slot holds
+  -- a filled slot holds an item
   pub the_item : (x : Option T) → IsSome x → (y : T) × (x ≡ Some y)
   the_item (Some y) is = (y, refl)
   the_item None is = absurd (clash is)
 
-  -- a filled slot is one of the row's
+  -- the index of a filled slot is less than the number of slots
   pub filled-within : (s : List (Option T)) (i : ℕ) → IsSome (slot s i) → i < length s
   filled-within [] i is = absurd (clash is)
   filled-within (x ∷ s) zero is = omega arith
   filled-within (x ∷ s) (suc i) is = let low = filled-within s i is in omega arith
 
-  -- a run of filled slots holds a list of items
+  -- if each slot of a run is filled, the run holds a list of items
   pub full-run : (s : List (Option T)) (i k : ℕ) → i + k ≤ length s
       → ((j : ℕ) → i ≤ j → j < i + k → IsSome (slot s j)) → (xs : List T) × (run i k s ≡ full xs)
   full-run [] zero zero le filled = ([], refl)
@@ -51,7 +51,7 @@ module _ {T : Type 0} where
       (λ j p q. filled (suc j) (omega arith) (omega arith)) in
       (item.0 ∷ rest.0, λ n. item.1 n ∷ rest.1 n)
 
-  -- a run of empty slots
+  -- if each slot of a run is empty, the run is k empty slots
   pub empty-run : (s : List (Option T)) (i k : ℕ) → i + k ≤ length s
       → ((j : ℕ) → i ≤ j → j < i + k → slot s j ≡ None) → run i k s ≡ empty k
   empty-run [] zero zero le bare = refl
@@ -64,11 +64,11 @@ module _ {T : Type 0} where
       λ n. bare zero (omega arith) (omega arith) n ∷ empty-run s zero k (omega arith)
       (λ j p q. bare (suc j) (omega arith) (omega arith)) n
 
-  -- a run has as many slots as asked
+  -- if the row has k slots from i on, the run of k slots from i on has k slots
   pub length-run : (s : List (Option T)) (i k : ℕ) → i + k ≤ length s → length (run i k s) ≡ k
   length-run s i k le = omega (arith, length-take k (drop i s), length-drop i s)
 
-  -- a row over which slots are laid stays as long
+  -- laying slots over a row does not change the number of slots of the row
   pub length-laid : (i : ℕ) (ys s : List (Option T)) → i + length ys ≤ length s
       → length (laid i ys s) ≡ length s
   length-laid i ys s le =
@@ -80,7 +80,7 @@ module _ {T : Type 0} where
         length-drop (i + length ys) s,
       )
 
-  -- items written over a run of as many slots
+  -- if the slots from i on are filled, writing ws over their items lays ws over the row
   pub over-laid : (s : List (Option T)) (i : ℕ) (ws : List T) → i + length ws ≤ length s
       → ((j : ℕ) → i ≤ j → j < i + length ws → IsSome (slot s j)) → over s i ws ≡ laid i (full ws) s
   over-laid [] zero [] le held = refl
@@ -103,12 +103,12 @@ module _ {T : Type 0} where
       (λ j low high. held (suc j) (omega arith) (omega arith)))
       ∙ ap (λ (k : ℕ). Some w ∷ (full ws ++ drop k (Some x ∷ s))) more
 
-  -- nothing is laid, or one slot more
+  -- laying no slots over a row does not change the row
   pub laid-none : (i : ℕ) (s : List (Option T)) → laid i [] s ≡ s
   laid-none i s = ap (λ (k : ℕ). take i s ++ drop k s) (let e : i + 0 ≡ i = omega arith in
       e) ∙ take-append-drop i s
 
-  -- one slot more is laid
+  -- laying ys and then setting the next slot to y is the same as laying ys and y
   pub laid-one : (i : ℕ) (ys s : List (Option T)) (k : ℕ) (y : Option T) → k ≡ i + length ys
       → k < length s → set (laid i ys s) k y ≡ laid i (ys ++ y ∷ []) s
   laid-one i ys s k y e within =
@@ -126,7 +126,7 @@ module _ {T : Type 0} where
       (sym (append_assoc ys (y ∷ []) (drop (suc k) s)))
       ∙ ap (λ (n : ℕ). take i s ++ ((ys ++ y ∷ []) ++ drop n s)) long))))
 
-  -- a slot after what is laid stays as it was
+  -- laying slots does not change the slots after them
   pub slot-laid : (i : ℕ) (ys s : List (Option T)) (k : ℕ) → i ≤ length s → i + length ys ≤ k
       → slot (laid i ys s) k ≡ slot s k
   slot-laid i ys s k low past =
@@ -137,19 +137,20 @@ module _ {T : Type 0} where
       ∙ ap (λ (n : ℕ). slot s n)
       (let e : i + length ys + (k - i - length ys) ≡ k = omega arith in e)))
 
-  -- a row, by what lies before, in and after a run
+  -- a row is the slots before a run, the run, and the slots after it
   pub parted-run : (s : List (Option T)) (i k : ℕ) → s ≡ take i s ++ (run i k s ++ drop (i + k) s)
   parted-run s i k =
       sym (take-append-drop i s)
       ∙ ap (λ (l : List (Option T)). take i s ++ l) (sym (take-append-drop k (drop i s))
       ∙ ap (λ (l : List (Option T)). run i k s ++ l) (drop-drop k i s))
 
-  -- a run of two runs
+  -- a run of a + k slots is a run of a slots, followed by a run of k slots
   pub run-split : (s : List (Option T)) (i a k : ℕ) → run i (a + k) s ≡ run i a s ++ run (i + a) k s
   run-split s i a k = take-add a k (drop i s)
       ∙ ap (λ (l : List (Option T)). run i a s ++ take k l) (drop-drop a i s)
 
-  -- what is laid takes the place of as many slots
+  -- if the part `old` of a row begins at the index i and has as many slots as ys, then laying ys at
+  -- i replaces this part
   pub laid-at : (i : ℕ) (pre ys old post : List (Option T)) → i ≡ length pre
       → length ys ≡ length old → laid i ys (pre ++ (old ++ post)) ≡ pre ++ (ys ++ post)
   laid-at i pre ys old post e n =
@@ -159,20 +160,21 @@ module _ {T : Type 0} where
       ∙ drop_at (pre ++ old) post (i + length ys) (length-append pre old ∙ omega arith) in
       λ m. take_at pre (old ++ post) i (sym e) m ++ (ys ++ rest m)
 
-  -- a run, by what lies before and after it
+  -- if the part ys of a row begins at the index i and has k slots, then it is the run of k slots
+  -- from i on
   pub run-at : (i k : ℕ) (pre ys post : List (Option T)) → i ≡ length pre → k ≡ length ys
       → run i k (pre ++ (ys ++ post)) ≡ ys
   run-at i k pre ys post e n = ap (λ (l : List (Option T)). take k l)
       (drop_at pre (ys ++ post) i (sym e)) ∙ take_at ys post k (sym n)
 
   module _ (from to k : ℕ) where
-    -- `moved`, by its three steps
+    -- `moved` in three steps: taking the run, emptying its slots, and laying the run elsewhere
     moved-by : (s ys bare result : List (Option T)) → run from k s ≡ ys → emptied from k s ≡ bare
         → laid to ys bare ≡ result → moved from to k s ≡ result
     unfolding moved
     moved-by s ys bare result e f g = (λ n. laid to (e n) (f n)) ∙ g
 
-  -- a row stays as long when a run moves
+  -- moving a run does not change the number of slots of the row
   pub length-moved : (from to k : ℕ) (s : List (Option T)) → from + k ≤ length s → to + k ≤ length s
       → length (moved from to k s) ≡ length s
   unfolding moved
@@ -184,7 +186,7 @@ module _ {T : Type 0} where
       length-laid to (run from k s) (emptied from k s)
       (omega (arith, left, length-run s from k source)) ∙ left
 
-  -- two runs of empty slots in either order
+  -- two adjacent runs of empty slots may be exchanged
   empty-turn : (a k : ℕ) (post : List (Option T))
       → empty a ++ (empty k ++ post) ≡ empty k ++ (empty a ++ post)
   empty-turn a k post =
@@ -195,7 +197,7 @@ module _ {T : Type 0} where
       ∙ append_assoc (empty k) (empty a) post)
 
   module _ (from to k d : ℕ) where
-    -- a run goes to the front of the gap before it
+    -- if d empty slots precede a run, moving the run down by d puts it before these empty slots
     pub moved_left : (pre ys post : List (Option T)) → to ≡ length pre → from ≡ to + d
         → k ≡ length ys
         → moved from to k (pre ++ (empty d ++ (ys ++ post))) ≡ pre ++ (ys ++ (empty d ++ post))
@@ -220,7 +222,7 @@ module _ {T : Type 0} where
         (laid-at to pre ys (empty k) (empty d ++ post) t (sym m))
 
   module _ (from to k d : ℕ) where
-    -- a run goes to the end of the gap after it
+    -- if d empty slots follow a run, moving the run up by d puts it after these empty slots
     pub moved_right : (pre ys post : List (Option T)) → from ≡ length pre → to ≡ from + d
         → k ≡ length ys
         → moved from to k (pre ++ (ys ++ (empty d ++ post))) ≡ pre ++ (empty d ++ (ys ++ post))
@@ -244,7 +246,8 @@ module _ {T : Type 0} where
         ∙ append_assoc pre (empty d) (ys ++ post))
 
   module _ (from to k : ℕ) where
-    -- a run goes over what lies after it, to empty slots
+    -- if a run is moved up past the slots mid to k empty slots, its old slots are empty, and mid
+    -- does not change
     pub moved_over : (pre ys mid post : List (Option T)) → from ≡ length pre
         → to ≡ from + k + length mid → k ≡ length ys
         → moved from to k (pre ++ (ys ++ (mid ++ (empty k ++ post))))
@@ -266,7 +269,8 @@ module _ {T : Type 0} where
         (laid-at to front ys (empty k) post l (sym m) ∙ joined (ys ++ post))
 
   module _ (from to k : ℕ) where
-    -- a run goes back over what lies before it
+    -- if a run is moved down past the slots mid to k empty slots, its old slots are empty, and mid
+    -- does not change
     pub moved_back : (pre ys mid post : List (Option T)) → to ≡ length pre
         → from ≡ to + k + length mid → k ≡ length ys
         → moved from to k (pre ++ (empty k ++ (mid ++ (ys ++ post))))
@@ -288,13 +292,13 @@ module _ {T : Type 0} where
         ∙ (laid-at from front (empty k) ys post l m ∙ joined (empty k ++ post)))
         (laid-at to pre ys (empty k) (mid ++ (empty k ++ post)) t (sym m))
 
-  -- a slot of an empty row
+  -- every slot of an empty row is empty
   pub slot-empty : (k i : ℕ) → slot (empty {T = T} k) i ≡ None
   slot-empty zero i = refl
   slot-empty (suc k) zero = refl
   slot-empty (suc k) (suc i) = slot-empty k i
 
-  -- a slot of a row that begins with items
+  -- if a row begins with the items xs, its first slots are filled
   full-filled : (xs : List T) (rest : List (Option T)) (i : ℕ) → i < length xs
       → IsSome (slot (full xs ++ rest) i)
   full-filled [] rest i low = absurd (omega arith)
@@ -302,7 +306,7 @@ module _ {T : Type 0} where
   full-filled (x ∷ xs) rest (suc i) low =
       full-filled xs rest i (let low' : suc i < suc (length xs) = low in omega arith)
 
-  -- empty slots at the end, in two parts
+  -- c empty slots after the items xs are a empty slots followed by b more, if c is a + b
   tail-split : (xs : List T) (a b c : ℕ) → c ≡ a + b
       → full xs ++ empty c ≡ (full xs ++ empty a) ++ empty b
   tail-split xs a b c e =
@@ -311,7 +315,7 @@ module _ {T : Type 0} where
       ∙ (ap (λ (l : Row). full xs ++ l) (sym (replicate-append-replicate a b None))
       ∙ sym (append_assoc (full xs) (empty a) (empty b)))
 
--- a row whose items lie in the first n slots
+-- lemmas on a packed row: its n items are in its first n slots
 module _ {T : Type 0} (s : List (Option T)) (n : ℕ) (packed : IsPacked s n) where
   abbrev xs : List T
   xs = items_in s
@@ -325,7 +329,7 @@ module _ {T : Type 0} (s : List (Option T)) (n : ℕ) (packed : IsPacked s n) wh
   parted : s ≡ full xs ++ empty (length s - n)
   parted = packed.row ∙ ap (λ (k : ℕ). full xs ++ empty (length s - k)) (sym packed.len)
 
-  -- there are no more items than slots
+  -- there are at most as many items as slots
   pub packed-le : n ≤ length s
   packed-le =
       let whole : length s ≡ length (full xs ++ empty {T = T} (length s - n)) = ap length parted in
@@ -339,7 +343,7 @@ module _ {T : Type 0} (s : List (Option T)) (n : ℕ) (packed : IsPacked s n) wh
       subst (λ (l : Row). IsSome (slot l i)) (sym packed.row)
       (full-filled xs (empty (length s - length xs)) i (omega arith))
 
-  -- the first n slots hold the items, and the rest hold none
+  -- the run of the first n slots holds the items
   pub packed-run : run 0 n s ≡ full xs
   packed-run = ap (λ (l : Row). take n l) parted
       ∙ take_at (full xs) (empty (length s - n)) n full-long
@@ -348,7 +352,7 @@ module _ {T : Type 0} (s : List (Option T)) (n : ℕ) (packed : IsPacked s n) wh
   packed-rest = ap (λ (l : Row). drop n l) parted
       ∙ drop_at (full xs) (empty (length s - n)) n full-long
 
-  -- with the items taken the row is empty
+  -- after its first n slots are emptied, the row is empty
   pub packed-emptied : emptied 0 n s ≡ empty (length s)
   packed-emptied =
       let le = packed-le in
@@ -359,7 +363,7 @@ module _ {T : Type 0} (s : List (Option T)) (n : ℕ) (packed : IsPacked s n) wh
       ∙ (replicate-append-replicate n (length s - n) None
       ∙ ap (λ (k : ℕ). empty k) (let e : n + (length s - n) ≡ length s = omega arith in e)))
 
-  -- the items in a row of c slots
+  -- laying the first n slots over c empty slots gives the items, followed by empty slots
   pub packed-carried : (c : ℕ) → laid 0 (run 0 n s) (empty c) ≡ full xs ++ empty (c - n)
   packed-carried c =
       let long : 0 + length (full xs) ≡ n = omega (arith, full-long) in
@@ -367,7 +371,8 @@ module _ {T : Type 0} (s : List (Option T)) (n : ℕ) (packed : IsPacked s n) wh
       ∙ (ap (λ (k : ℕ). full xs ++ drop k (empty c)) long ∙ ap (λ (l : Row). full xs ++ l)
       (drop-replicate n c None))
 
-  -- the items in a longer row
+  -- if c is at least the number of slots, laying the items over c empty slots gives the old row,
+  -- followed by empty slots
   pub packed-grown : (c : ℕ) → length s ≤ c
       → laid 0 (run 0 n s) (empty c) ≡ s ++ empty (c - length s)
   packed-grown c more =
@@ -375,7 +380,8 @@ module _ {T : Type 0} (s : List (Option T)) (n : ℕ) (packed : IsPacked s n) wh
       packed-carried c ∙ (tail-split xs (length s - n) (c - length s) (c - n) (omega arith)
       ∙ ap (λ (l : Row). l ++ empty (c - length s)) (sym parted))
 
-  -- the items in a shorter row that has room for them
+  -- if c is at least n and at most the number of slots, laying the items over c empty slots gives
+  -- the first c slots of the old row
   pub packed-shrunk : (c : ℕ) → n ≤ c → c ≤ length s → laid 0 (run 0 n s) (empty c) ≡ take c s
   packed-shrunk c enough less =
       let kept : Row = full xs ++ empty (c - n) in

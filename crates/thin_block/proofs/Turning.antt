@@ -1,11 +1,12 @@
--- A block as an array of words from its start: the last words lie in the header's room meanwhile.
--- Assumes `Logic`.
---     asked_size, asked_align     the layout that a block is asked for at
---     carve_asked, gather         the room of a block as its parts, and back
---     turn_out, turn_back         the last k words apart from the others, and back
---     turn_up, turn_down          a block that an allocator can make larger, and back
---     units_out                   room for the words in the header as room for its two words
---     header_apart, header_whole  a block but for its slots, as what its words need, and back
+-- A block as an array of words from its start: the last words are kept in the place of the header
+-- until the allocator returns. Assumes `Logic`.
+--     asked_size, asked_align     the size and the alignment for which a block is allocated
+--     carve_asked, gather         split the memory of a block into its parts, and join them
+--     turn_out, turn_back         split the last k words from the others, and join them
+--     turn_up, turn_down          make the array that an allocator can grow, and split it again
+--     units_out                   memory for the words in the header, as memory for its two words
+--     header_apart, header_whole  split a block without its slots into what its words need, and
+--                                 join it
 use Rattle.std.proofs.Common.{◌≡◌, true, ℕ, Some, None, ◌+◌, ◌-◌, ◌*◌, List, [], ◌∷◌, ◌++◌, length, refl, sym, ap, ◌∙◌, arith, w64, append_assoc}
 use Rattle.std.proofs.lemmas.List.{length-map, length-append, length-replicate, map-append, replicate-append-replicate}
 use Rattle.std.specs.Prelude.{Bool}
@@ -48,7 +49,7 @@ use Rattle.thin_block.proofs.WordsMemory.{word_el, header_out, header_in, block_
 abbrev half : Ty
 half = ty_int w64
 
--- ---- the layout that a block is asked for at
+-- ---- the layout for which a block is allocated
 module _ (Rw : RattleType) (c : ℕ) where
   abbrev s₀ : ℕ
   s₀ = type_size Rw
@@ -59,7 +60,7 @@ module _ (Rw : RattleType) (c : ℕ) where
   abbrev τ₀ : Ty
   τ₀ = lone Rw.mir
 
-  -- items make as many words with their names as without
+  -- the names of fields do not change how many items make a word
   pub same_words : words_of Rw ≡ in_words s₀
   same_words = ap in_words (size-raw τ₀)
 
@@ -76,29 +77,30 @@ module _ (Rw : RattleType) (c : ℕ) where
   align_for None e = whole_align Rw c
   align_for (Some w) e = ap word_align (align-raw τ₀) ∙ (words_told Rw w.0 w.1 e).align
 
-  -- a block has as many bytes as were asked for
+  -- the size for which a block is allocated is the size of the block in bytes
   pub asked_size : size (asked Rw c) ≡ block_bytes s₀ a₀ c
   asked_size = size_for (words_of Rw) (sym same_words)
 
-  -- a block lies as aligned as was asked for
+  -- the alignment for which a block is allocated is the alignment of the block
   pub asked_align : align (asked Rw c) ≡ block_align a₀
   asked_align = align_for (words_of Rw) (sym same_words)
 
--- ---- the room of a block
+-- ---- the memory of a block
 module _ {M : Type 1} {𝓤 : Ura M} (𝓛 : Logic 𝓤) (E : El) (b c o : ℕ) where
   open 𝓛 use {H}
 
-  -- its words, its slots, and its way back
+  -- the parts of a block: the two words of the header, the slots, and what turns these parts back
+  -- into the whole
   abbrev Parts : Option (ℕ × ℕ) → SProp 𝓤
   Parts w = sep 𝓤 (H.room half b o) (sep 𝓤 (H.room half b (o + 8))
       (sep 𝓤 (H.room (array_of (R E) c) b (o + 16)) (sem 𝓛 (way_back w (bare (R E)) c b o))))
 
-  -- how its words lie
+  -- if the items of the block make words, then `InWords` holds for their bare type
   known : (w : ℕ × ℕ) → in_words (type_size (R E)) ≡ Some w
       → InWords (size (bare (R E))) (align (bare (R E))) w.0 w.1
   known w e = nameless (elτ E) w.0 w.1 (words_told (R E) w.0 w.1 e)
 
-  -- both by what is known of its words
+  -- splits the memory of a block into its parts, whether its items make words or not
   carve_for : (w : Option (ℕ × ℕ)) → in_words (type_size (R E)) ≡ w
       → ent 𝓤 (H.room (asked_for w (bare (R E)) c) b o) (Parts w)
   carve_for None e = carve 𝓛 (R E) c b o
@@ -117,11 +119,12 @@ module _ {M : Type 1} {𝓤 : Ura M} (𝓛 : Logic 𝓤) (E : El) (b c o : ℕ) 
       let h = known w e in
       block_in 𝓛 (bare (R E)) w.0 w.1 b h (div_ceil c w.0) c o (h.counts.covers c)
 
-  -- the room of a block is its parts, and the way back
+  -- splits the memory of a block into its parts, and keeps the way back
   pub carve_asked : ent 𝓤 (H.room (asked (R E) c) b o) (Parts (words_of (R E)))
   carve_asked = carve_for (words_of (R E)) (sym (same_words (R E) c))
 
-  -- a block is whole again where its slots are room
+  -- joins a block without its slots, and uninitialized memory for these, into the memory of the
+  -- whole block
   pub gather : (t : Ty → Ptr → Fml) (n : ℕ)
       → ent 𝓤 (sep 𝓤 (sem 𝓛 (frame t (R E) n c b o)) (H.room (array_of (R E) c) b (o + 16)))
       (sep 𝓤 (H.room (asked (R E) c) b o) (sem 𝓛 (t (asked (R E) c) (block_ptr b o))))
@@ -134,7 +137,7 @@ module _ {M : Type 1} {𝓤 : Ura M} (𝓛 : Logic 𝓤) (E : El) (b c o : ℕ) 
       (uint_out 𝓛 full_share w64 n b (o + 8)) $
       use1 𝓛 (‵ (froom half b (o + 8))) (𝓛.laws.at_room half b (o + 8) (vint w64 n)) $
       move ! (1 ∷ []) $ fsplit ! $ drop ! $ fsplit ! $
-      -- [the way back; the right; the second word; the first; the items]
+      -- context: [the way back; the right to free; the second word; the first word; the items]
       move ! (3 ∷ 2 ∷ 4 ∷ 0 ∷ []) $ group ! 4 $
       use1 𝓛 (‵ (froom (asked (R E) c) b o))
       (gather_for (words_of (R E)) (sym (same_words (R E) c))) $ done !
@@ -150,7 +153,7 @@ module _ {M : Type 1} {𝓤 : Ura M} (𝓛 : Logic 𝓤) (E : El) (b : ℕ) (k :
   abbrev Slots' : ℕ → List (Option (el_x E)) → Fml
   Slots' at xs = places (R E) xs b at
 
-  -- xs, then ys of as many as the header takes the room of, and m empty slots
+  -- the items xs, then the k items ys, which take as many bytes as the header, and m empty slots
   module _ (xs ys : List (el_x E)) (long : length ys ≡ k) (n m : ℕ)
       (count : n ≡ length xs + k) where
     abbrev there : ℕ
@@ -189,7 +192,7 @@ module _ {M : Type 1} {𝓤 : Ura M} (𝓛 : Logic 𝓤) (E : El) (b : ℕ) (k :
     abbrev Last : ℕ → Fml
     Last at = part_at (Array (R E) k) full_share ys b at
 
-    -- the last items apart
+    -- splits the last k items from the others
     pub turn_out : ent 𝓤 (sem 𝓛 (Slots' (o + 16) All))
         (sep 𝓤 (sem 𝓛 (Slots' (o + 16) (full xs)))
         (sep 𝓤 (sem 𝓛 (Last there)) (sem 𝓛 (Slots' past_all (empty m)))))
@@ -202,7 +205,7 @@ module _ {M : Type 1} {𝓤 : Ura M} (𝓛 : Logic 𝓤) (E : El) (b : ℕ) (k :
         (cut E 𝓛 b (full ys) (empty m) there past_all at_end) $ split ! $
         use1 𝓛 (‵ (Last there)) (to_items E 𝓛 b k ys there long) $ move ! (2 ∷ 0 ∷ 1 ∷ []) $ done !
 
-    -- the last items, put back at their place
+    -- joins the last k items with the others, at their old place
     pub turn_back : ent 𝓤 (sep 𝓤 (sem 𝓛 (Slots' (o + 16) (full xs)))
         (sep 𝓤 (sem 𝓛 (Last there)) (sem 𝓛 (Slots' past_all (empty m)))))
         (sem 𝓛 (Slots' (o + 16) All))
@@ -243,7 +246,8 @@ module _ {M : Type 1} {𝓤 : Ura M} (𝓛 : Logic 𝓤) (E : El) (b : ℕ) (k :
       counted' : length (ys ++ xs) ≡ n
       counted' = let a = length-append ys xs in omega arith
 
-      -- the last items in the header's room: an array from the block's start
+      -- if the last k items are in the place of the header, they and the other items are an array
+      -- from the start of the block
       pub turn_up : ent 𝓤 (sep 𝓤 (sem 𝓛 (Last o)) (sep 𝓤 (sem 𝓛 (Slots' (o + 16) (full xs)))
           (sep 𝓤 (H.room (ty_array τ' k) b there)
           (sep 𝓤 (sem 𝓛 (Slots' past_all (empty m))) (sem 𝓛 Token))))) (sem 𝓛 Whole)
@@ -265,8 +269,8 @@ module _ {M : Type 1} {𝓤 : Ura M} (𝓛 : Logic 𝓤) (E : El) (b : ℕ) (k :
           rewrite ! 0 (λ (j : ℕ). ‵ (froom (array_of (R E) spare) b j)) turned refl $
           move ! (1 ∷ 0 ∷ 2 ∷ []) $ fjoin3 ! $ done !
 
-      -- an array from the block's start, as the items before the last and those in the header's
-      -- room
+      -- splits an array from the start of the block into its first k items, which are in the place
+      -- of the header, and the others
       pub turn_down : ent 𝓤 (sem 𝓛 Whole) (sep 𝓤 (sem 𝓛 (Last o))
           (sep 𝓤 (sem 𝓛 (Slots' (o + 16) (full xs))) (sep 𝓤 (H.room (ty_array τ' k) b there)
           (sep 𝓤 (sem 𝓛 (Slots' past_all (empty m))) (sem 𝓛 Token)))))
@@ -286,7 +290,8 @@ module _ {M : Type 1} {𝓤 : Ura M} (𝓛 : Logic 𝓤) (E : El) (b : ℕ) (k :
           use1 𝓛 (‵ (froom (ty_array τ' k) b there)) (to_room E 𝓛 b k there) $
           move ! (2 ∷ 3 ∷ 0 ∷ 1 ∷ 4 ∷ []) $ done !
 
--- ---- the header of a block whose items make words, m a word, and that takes the room of k
+-- ---- the header of a block whose items make words: m items make a word, and the header takes as
+-- many bytes as k words
 module _ {M : Type 1} {𝓤 : Ura M} (𝓛 : Logic 𝓤) (T : RattleType) (L : Laws T) (b m k : ℕ)
     (is : in_words (type_size (param 0 T)) ≡ Some (m, k)) (o : ℕ) where
   open 𝓛 use {H}
@@ -303,14 +308,14 @@ module _ {M : Type 1} {𝓤 : Ura M} (𝓛 : Logic 𝓤) (T : RattleType) (L : L
   hd : InWords (size (bare (R Item))) (align (bare (R Item))) m k
   hd = nameless (elτ Item) m k (words_told (R Item) m k is)
 
-  -- room for the words that the header takes the room of is room for its two words
+  -- uninitialized memory for k words is uninitialized memory for the two words of the header
   pub units_out : ent 𝓤 (H.room units b o)
       (sep 𝓤 (H.room half b o)
       (sep 𝓤 (H.room half b (o + 8)) (sem 𝓛 (header_way (bare (R Item)) m k b o))))
   units_out = via 𝓤 (H.room (array_of (R W) k) b o) (𝓛.laws.room-raw units b o)
       (header_out 𝓛 (bare (R Item)) m k b hd o)
 
-  -- and back
+  -- uninitialized memory for the two words of the header is uninitialized memory for k words
   pub units_in : ent 𝓤 (sep 𝓤 (H.room half b o) (sep 𝓤 (H.room half b (o + 8))
       (sem 𝓛 (header_way (bare (R Item)) m k b o)))) (H.room units b o)
   units_in = via 𝓤 (H.room (array_of (R W) k) b o) (header_in 𝓛 (bare (R Item)) m k b hd o)
@@ -326,7 +331,8 @@ module _ {M : Type 1} {𝓤 : Ura M} (𝓛 : Logic 𝓤) (T : RattleType) (L : L
     asked_words : words_of (R Item) ≡ Some (m, k)
     asked_words = same_words (R Item) c ∙ is
 
-    -- room for the header's words, the slots' way back, and the right to give the block back
+    -- splits a block without its slots: uninitialized memory for the k words of the header, the way
+    -- back from the slots to words, and the right to free the block
     pub header_apart : ent 𝓤 (sem 𝓛 (frame t (R Item) n c b o))
         (sep 𝓤 (H.room units b o) (sep 𝓤 (sem 𝓛 Rest) (sem 𝓛 Right)))
     header_apart =
@@ -342,12 +348,13 @@ module _ {M : Type 1} {𝓤 : Ura M} (𝓛 : Logic 𝓤) (T : RattleType) (L : L
         rewrite ! 0 (λ (w : Option (ℕ × ℕ)). ‵ (backing_for t w (bare (R Item)) c b o)) asked_words
         refl $
         fsplit ! $ fsplit ! $
-        -- [the header's way; the slots' way; the right; the second word; the first]
+        -- context: [the way back from the header to words; the way back from the slots to words;
+        -- the right to free; the second word; the first word]
         move ! (4 ∷ 3 ∷ 0 ∷ []) $ use3 𝓛 (‵ (froom units b o)) units_in $ move ! (2 ∷ []) $
         rewrite ! 0 (λ (j : ℕ). ‵ (t (array_of (R W) j) (block_ptr b o))) (sym total) refl $
         move ! (1 ∷ 2 ∷ 0 ∷ []) $ done !
 
-    -- the two words, the ways back and the right to give the block back make a header
+    -- joins the capacity, the length, the ways back and the right to free into a header
     pub header_whole : fits_block (R Item) c ≡ true
         → ent 𝓤 (sep 𝓤 (sem 𝓛 (lies_at usize full_share (block_ptr b o) c))
         (sep 𝓤 (sem 𝓛 (lies_at usize full_share (block_ptr b (o + 8)) n))

@@ -1,8 +1,8 @@
--- Which items make words, and how words lie: the numbers.
---     InWords        what is known where m items of s bytes make a word, of which the header takes
---                    the room of k
---     words_told     so it is, wherever `in_words` says so
---     nameless       and so it is of types without names
+-- Which item sizes make words, and the size and the alignment of words, as arithmetic.
+--     InWords       what is known if m items of s bytes make a word, and the header takes as many
+--                   bytes as k words
+--     words_told    if `in_words` finds words, then `InWords` holds
+--     nameless      `InWords` also holds for bare types, whose fields have no names
 use Rattle.std.proofs.Common.{◌≡◌, true, false, ℕ, Some, None, ◌+◌, ◌*◌, ◌<◌, ◌≤◌, refl, sym, ap, subst, arith}
 use Rattle.std.proofs.lemmas.Bool.{eqb-true}
 use Rattle.std.specs.Prelude.{◌==◌, if◌then◌else◌, Bool, Option, max}
@@ -21,15 +21,15 @@ use denote.RattleType.{RattleType}
 use Rattle.thin_block.specs.Capacity.{in_words, block_align, block_bytes}
 use Rattle.thin_block.specs.Ownership.{there}
 
--- the alignment of a word, by that of its items
+-- the alignment of a word of items with the alignment a
 abbrev pub word_align : ℕ → ℕ
 word_align a = max a (max 8 1)
 
--- the bytes of a word of m items
+-- the size in bytes of a word of m items of s bytes
 abbrev pub word_size : ℕ → ℕ → ℕ → ℕ
 word_size s a m = up (word_align a) (up 8 (up a 0 + m * s) + 0 * 8)
 
--- how many words of m items there are for so many items
+-- how many words of m items there are for c items
 pub record Counts (m : ℕ) : Type 0 where
   pub some : 0 < m
   pub covers : (c : ℕ) → c ≤ div_ceil c m * m
@@ -38,7 +38,7 @@ pub record Counts (m : ℕ) : Type 0 where
   pub least : (n : ℕ) → n ≤ n * m
   pub few : (c : ℕ) → div_ceil c m ≤ c
 
--- so it is for each number of items that a word may have
+-- `Counts` holds for each number of items that a word may have: 1, 2, 4 and 8
 counts_1 : Counts 1
 counts_1 = record {
   some = omega arith;
@@ -79,13 +79,13 @@ counts_8 = record {
   few = λ c. omega arith;
 }
 
--- how a word lies, and how many bytes a block of words has
+-- the size and the alignment of a word, and the size in bytes of a block of words
 abbrev Laid : ℕ → ℕ → ℕ → ℕ → Type 0
 Laid s a m k = (word_size s a m ≡ m * s) × ((word_align a ≡ block_align a)
     × (Dv 8 (word_align a) × (Dv a (word_align a)
     × ((c : ℕ) → (k + div_ceil c m) * (m * s) ≡ block_bytes s a c))))
 
--- so it is for items of 1, 2, 4, 8 and 16 bytes, whose alignment divides that
+-- `Laid` holds for items of 1, 2, 4, 8 and 16 bytes whose alignment divides their size
 laid_1 : (w : Width) → Dv (bytes w) 1 → Laid 1 (bytes w) 8 2
 laid_1 w8 d = (refl, (refl, (tt, (tt, λ c. omega arith))))
 laid_1 w16 d = absurd d
@@ -121,7 +121,7 @@ laid_16 w32 d = (refl, (refl, (tt, (tt, λ c. omega arith))))
 laid_16 w64 d = (refl, (refl, (tt, (tt, λ c. omega arith))))
 laid_16 w128 d = (refl, (refl, (tt, (tt, λ c. omega arith))))
 
--- m items of s bytes, aligned to a, make a word, and the header takes the room of k words
+-- m items of s bytes, aligned to a, make a word, and the header takes as many bytes as k words
 pub record InWords (s a m k : ℕ) : Type 0 where
   pub counts : Counts m
   pub size : word_size s a m ≡ m * s
@@ -132,7 +132,7 @@ pub record InWords (s a m k : ℕ) : Type 0 where
   pub room : k * (m * s) ≡ 16
   pub any : 0 < k
 
--- all of it by its parts
+-- the parts `Counts` and `Laid` imply `InWords`
 in_words_by : (s a m k : ℕ) → Counts m → 0 < k → k * (m * s) ≡ 16 → Laid s a m k → InWords s a m k
 in_words_by s a m k c any room l = record {
   counts = c;
@@ -145,27 +145,27 @@ in_words_by s a m k c any room l = record {
   any = any;
 }
 
--- whatever the alignment is
+-- `InWords` holds for each alignment that divides the size s
 abbrev AtAny : ℕ → ℕ → ℕ → Type 0
 AtAny s m k = (w : Width) → Dv (bytes w) s → InWords s (bytes w) m k
 
--- two numbers, if there are any
+-- the pair that an option holds, or (0, 0) if it is None
 abbrev pair : Option (ℕ × ℕ) → ℕ × ℕ
 pair None = (0, 0)
 pair (Some p) = p
 
--- items of t bytes, whose words are known
+-- if the words of items of t bytes are known, they are known for items of the same size s
 at_size : (s t : ℕ) (p q : ℕ × ℕ) → s ≡ t → ◌≡◌ {A = Option (ℕ × ℕ)} (Some p) (Some q)
     → AtAny t p.0 p.1 → AtAny s q.0 q.1
 at_size s t p q es e all =
     subst (λ (x : ℕ × (ℕ × ℕ)). AtAny x.0 x.1.0 x.1.1) (λ i. (sym es i, pair (e i))) all
 
--- the words of items, by five tests of their size
+-- the words of items, found by five tests of their size
 abbrev tested : Bool → Bool → Bool → Bool → Bool → Option (ℕ × ℕ)
 tested x y z u v = if x then Some (8, 2) else (if y then Some (4, 2) else
     (if z then Some (2, 2) else (if u then Some (1, 2) else (if v then Some (1, 1) else None))))
 
--- where the tests find words, it is known how these lie
+-- if one of the five tests succeeds, then `InWords` holds
 by_test : (x y z u v : Bool) (s : ℕ) (q : ℕ × ℕ) → (s == 1) ≡ x → (s == 2) ≡ y → (s == 4) ≡ z
     → (s == 8) ≡ u → (s == 16) ≡ v → tested x y z u v ≡ Some q → AtAny s q.0 q.1
 by_test true y z u v s q ex ey ez eu ev e =
@@ -185,7 +185,7 @@ by_test false false false false true s q ex ey ez eu ev e =
     (λ w d. in_words_by 16 (bytes w) 1 1 counts_1 (omega arith) refl (laid_16 w d))
 by_test false false false false false s q ex ey ez eu ev e = absurd (clash (ap there e))
 
--- where items of R make words, it is known how these lie
+-- if items of R make words, then `InWords` holds for R
 pub words_told : (R : RattleType) (m k : ℕ) → in_words (type_size R) ≡ Some (m, k)
     → InWords (type_size R) (type_align R) m k
 words_told R m k e =
@@ -196,7 +196,7 @@ words_told R m k e =
     subst (λ (a : ℕ). InWords s a m k) (sym known)
     (at_width (align_w (layout R)) (subst (λ (a : ℕ). Dv a s) known (align_size (layout R))))
 
--- how words lie does not depend on names
+-- if `InWords` holds for a type, it also holds for the bare type, whose fields have no names
 pub nameless : (τ : Ty) (m k : ℕ) → InWords (size τ) (align τ) m k
     → InWords (size (raw τ)) (align (raw τ)) m k
 nameless τ m k h = subst (λ (p : ℕ × ℕ). InWords p.0 p.1 m k)

@@ -1,10 +1,12 @@
--- Items of a block as words, and back. Assumes `Logic`.
---     ways_out, ways_in      room for words, as room for their items
---     header_out, header_in  room for the words that the header takes the room of, as its two words
---     block_out, block_in    room for a block of words, as its parts
+-- Turning the items of a block into words, and back. Assumes `Logic`.
+--     ways_out, ways_in      turn memory for words into memory for their items, and back
+--     header_out, header_in  turn memory for the words that take as many bytes as the header into
+--                            memory for its two words, and back
+--     block_out, block_in    turn memory for a block of words into memory for its parts, and back
 --     word_el                words as the items of a block
---     word_out               a word, as its items
---     words_in, words_back   filled slots as words that are to be made, and empty ones; and back
+--     word_out               splits a word into its items and the way back
+--     words_in, words_back   turn filled slots into items that can be made words, and empty slots
+--                            into empty words, and back
 use Rattle.std.proofs.Common.{◌≡◌, ℕ, zero, suc, Some, ◌+◌, ◌-◌, ◌*◌, ◌≤◌, List, [], ◌∷◌, ◌++◌, length, map, take, drop as rest, refl, sym, ap, subst, ◌∙◌, arith, zero-mul, suc-mul}
 use Rattle.std.proofs.lemmas.List.{take-append-drop, length-take, length-drop, length-map, map-append}
 use Rattle.std.specs.Prelude.{Option}
@@ -49,8 +51,8 @@ use Rattle.thin_block.proofs.SlotMemory.{cut, glue, to_items, of_items, to_raw, 
 use Rattle.thin_block.proofs.WordsLemmas.{InWords, nameless}
 use Rattle.thin_block.proofs.words.Words.TheLaws.{the_row_laws}
 
--- ---- room
--- where a row of values ends
+-- ---- uninitialized memory.
+-- An array of n values from the offset o on ends after n times the size of a value.
 past-place : (τ : Ty) (n o : ℕ) → past τ n o ≡ place (size τ) o n
 past-place τ zero o = refl
 past-place τ (suc n) o = past-place τ n (o + size τ)
@@ -81,15 +83,15 @@ module _ {M : Type 1} {𝓤 : Ura M} (𝓛 : Logic 𝓤) (τ : Ty) (m k b : ℕ)
   abbrev units : Ty
   units = ty_array ω k
 
-  -- a word ends where its items end
+  -- a word ends where its last item ends
   after_run : (o : ℕ) → past τ m o ≡ o + u
   after_run o = past_is τ m o ∙ ap (λ (n : ℕ). o + n) (sym hd.size)
 
-  -- the items of one more word
+  -- the number of items of w + 1 words is m plus the number of items of w words
   one_more : (w : ℕ) → m + w * m ≡ suc w * m
   one_more w = omega (arith, suc-mul w m)
 
-  -- room for words is room for their items, and the ways back
+  -- splits memory for w words into memory for their items, and the ways back to words
   pub ways_out : (w o : ℕ) → ent 𝓤 (H.room (ty_array ω w) b o)
       (sep 𝓤 (H.room (ty_array τ (w * m)) b o) (sem 𝓛 (ways τ m w b o)))
   ways_out zero o =
@@ -105,14 +107,15 @@ module _ {M : Type 1} {𝓤 : Ura M} (𝓛 : Logic 𝓤) (τ : Ty) (m k b : ℕ)
       split ! $ move ! (2 ∷ []) $
       use1 𝓛 (‵ (froom (ty_array τ (w * m)) b (o + u)) ⊛ ‵ (ways τ m w b (o + u)))
       (ways_out w (o + u)) $ split ! $
-      -- [the other items; the other ways; the first items; their way]
+      -- context: [memory for the other items; the other ways; memory for the first items; the way
+      -- of the first items]
       rewrite ! 0 (λ (n : ℕ). ‵ (froom (ty_array τ (w * m)) b n)) (sym (after_run o)) refl $
       move ! (2 ∷ 0 ∷ []) $ use2 𝓛 (‵ (froom (ty_array τ (m + w * m)) b o))
       (room_glue 𝓛 τ m (w * m) b o) $
       rewrite ! 0 (λ (n : ℕ). ‵ (froom (ty_array τ n) b o)) (one_more w) refl $
       move ! (2 ∷ 1 ∷ 0 ∷ []) $ fjoin ! $ move ! (1 ∷ 0 ∷ []) $ done !
 
-  -- and back
+  -- joins memory for the items of w words and the ways back into memory for w words
   pub ways_in : (w o : ℕ) → ent 𝓤 (sep 𝓤 (H.room (ty_array τ (w * m)) b o) (sem 𝓛 (ways τ m w b o)))
       (H.room (ty_array ω w) b o)
   ways_in zero o = qed 𝓛 (‵ (froom (ty_array τ (0 * m)) b o) ∷ ‵ ftrue ∷ []) ∵ keep ! [] $
@@ -122,21 +125,22 @@ module _ {M : Type 1} {𝓤 : Ura M} (𝓛 : Logic 𝓤) (τ : Ty) (m k b : ℕ)
       rewrite ! 0 (λ (n : ℕ). ‵ (froom (ty_array τ n) b o)) (sym (one_more w)) refl $
       use1 𝓛 (‵ (froom run b o) ⊛ ‵ (froom (ty_array τ (w * m)) b (past τ m o)))
       (room_cut 𝓛 τ m (w * m) b o) $ split ! $ move ! (2 ∷ []) $ fsplit ! $
-      -- [the first way; the other ways; the first items; the other items]
+      -- context: [the first way; the other ways; memory for the first items; memory for the other
+      -- items]
       move ! (2 ∷ 0 ∷ []) $ use2 𝓛 (‵ (froom ω b o)) (apply∗ 𝓤 (H.room run b o) (H.room ω b o)) $
       move ! (2 ∷ 1 ∷ []) $
       rewrite ! 0 (λ (n : ℕ). ‵ (froom (ty_array τ (w * m)) b n)) (after_run o) refl $
       use2 𝓛 (‵ (froom (ty_array ω w) b (o + u))) (ways_in w (o + u)) $ move ! (1 ∷ 0 ∷ []) $
       by ! (𝓛.laws.room_cons ω w b o)
 
-  -- the header takes the room of k words
+  -- the header takes as many bytes as k words
   header_bytes : k * u ≡ 16
   header_bytes = ap (λ (n : ℕ). k * n) hd.size ∙ hd.room
 
   after_header : (o : ℕ) → past ω k o ≡ o + 16
   after_header o = past_is ω k o ∙ ap (λ (n : ℕ). o + n) header_bytes
 
-  -- room for the words that the header takes the room of is room for its two words
+  -- splits memory for k words into memory for the two words of the header, and the way back
   pub header_out : (o : ℕ) → ent 𝓤 (H.room units b o)
       (sep 𝓤 (H.room half b o) (sep 𝓤 (H.room half b (o + 8)) (sem 𝓛 (header_way τ m k b o))))
   header_out o =
@@ -155,14 +159,14 @@ module _ {M : Type 1} {𝓤 : Ura M} (𝓛 : Logic 𝓤) (τ : Ty) (m k b : ℕ)
       move ! (1 ∷ 0 ∷ []) $ use2 𝓛 (‵ (froom two b o)) (𝓛.laws.room_cons half 1 b o) $
       by ! (apply∗ 𝓤 (H.room two b o) (H.room units b o))
 
-  -- and back
+  -- joins memory for the two words of the header and the way back into memory for k words
   pub header_in : (o : ℕ) → ent 𝓤 (sep 𝓤 (H.room half b o) (sep 𝓤 (H.room half b (o + 8))
       (sem 𝓛 (header_way τ m k b o)))) (H.room units b o)
   header_in o =
       qed 𝓛 (‵ (froom half b o) ∷ ‵ (froom half b (o + 8)) ∷ ‵ (header_way τ m k b o) ∷ []) ∵
       fjoin ! $ by ! (apply∗ 𝓤 (sem 𝓛 (header_room b o)) (H.room units b o))
 
-  -- room for words is room for c slots, and their way back
+  -- splits memory for w words into memory for c slots, and the way back
   slots_out : (w c o : ℕ) → c ≤ w * m → ent 𝓤 (H.room (ty_array ω w) b o)
       (sep 𝓤 (H.room (ty_array τ c) b o) (sem 𝓛 (slots_way τ m w c b o)))
   slots_out w c o le =
@@ -176,7 +180,7 @@ module _ {M : Type 1} {𝓤 : Ura M} (𝓛 : Logic 𝓤) (τ : Ty) (m k b : ℕ)
       rewrite ! 0 (λ (n : ℕ). ‵ (froom (ty_array τ pad) b n)) (past_is τ c o) refl $
       move ! (2 ∷ 0 ∷ []) $ fjoin ! $ move ! (1 ∷ 0 ∷ []) $ done !
 
-  -- and back
+  -- joins memory for c slots and the way back into memory for w words
   slots_in : (w c o : ℕ) → c ≤ w * m → ent 𝓤 (sep 𝓤 (H.room (ty_array τ c) b o)
       (sem 𝓛 (slots_way τ m w c b o))) (H.room (ty_array ω w) b o)
   slots_in w c o le =
@@ -193,7 +197,7 @@ module _ {M : Type 1} {𝓤 : Ura M} (𝓛 : Logic 𝓤) (τ : Ty) (m k b : ℕ)
     abbrev Back : Fml
     Back = fsep (header_way τ m k b o) (slots_way τ m w c b (o + 16))
 
-    -- room for a block of words is room for its parts, and the way back
+    -- splits memory for a block of words into memory for its parts, and the way back
     pub block_out : ent 𝓤 (H.room (ty_array ω (k + w)) b o)
         (sep 𝓤 (H.room half b o) (sep 𝓤 (H.room half b (o + 8))
         (sep 𝓤 (H.room (ty_array τ c) b (o + 16)) (sem 𝓛 Back))))
@@ -208,7 +212,7 @@ module _ {M : Type 1} {𝓤 : Ura M} (𝓛 : Logic 𝓤) (τ : Ty) (m k b : ℕ)
         (slots_out w c (o + 16) le) $ split ! $ move ! (4 ∷ 1 ∷ []) $ fjoin ! $
         move ! (2 ∷ 3 ∷ 1 ∷ 0 ∷ []) $ done !
 
-    -- and back
+    -- joins memory for the parts of a block and the way back into memory for a block of words
     pub block_in : ent 𝓤 (sep 𝓤 (H.room half b o) (sep 𝓤 (H.room half b (o + 8))
         (sep 𝓤 (H.room (ty_array τ c) b (o + 16)) (sem 𝓛 Back)))) (H.room (ty_array ω (k + w)) b o)
     block_in =
@@ -220,23 +224,23 @@ module _ {M : Type 1} {𝓤 : Ura M} (𝓛 : Logic 𝓤) (τ : Ty) (m k b : ℕ)
         move ! (2 ∷ 3 ∷ 1 ∷ []) $ use3 𝓛 (‵ (froom units b o)) (header_in o) $
         by ! (room_glue 𝓛 ω k w b o)
 
--- ---- items
--- how many items a word has, as a row
+-- ---- items.
+-- The number of items of a word, as the const parameter of `Words`.
 abbrev pub number_of_items : ℕ → RattleType
 number_of_items m = param 1 (number m)
 
--- the row of words
+-- the type of words, as proofs see types
 abbrev pub word_row : RattleType → ℕ → RattleType
 word_row T m = the_row (param 0 T) (number_of_items m)
 
--- words as the items of a block
+-- the type of words, in the form that walks use for the items of a block
 abbrev pub word_el : (T : RattleType) → Laws T → ℕ → El
 word_el T L m = record {
   row = word_row T m;
   laws = the_row_laws (param 0 T) (number_of_items m) (param_laws 0 T L) refl;
 }
 
--- nothing is rounded up to nothing
+-- rounding 0 up to an alignment gives 0
 zero_at : (w : Width) → up (bytes w) 0 ≡ 0
 zero_at w8 = refl
 zero_at w16 = refl
@@ -244,20 +248,20 @@ zero_at w32 = refl
 zero_at w64 = refl
 zero_at w128 = refl
 
--- a struct's first field lies at its start
+-- the first field of a struct is at the start of the struct
 zero_up : (τ : Ty) → up (align τ) 0 ≡ 0
 zero_up τ = subst (λ (a : ℕ). up a 0 ≡ 0) (sym (align-bytes τ)) (zero_at (align_w τ))
 
--- the first n words of these items
+-- the first n words that the items xs make
 abbrev pub words_made : (T : RattleType) (m n : ℕ) → List T.Denot → List (word_row T m).Denot
 words_made T m n xs = map (word (param 0 T) (number_of_items m)) (first_chunks m n xs)
 
--- there are n runs of items
+-- cutting items into n chunks gives n chunks
 pub chunks_long : {X : Type 0} (m n : ℕ) (xs : List X) → length (first_chunks m n xs) ≡ n
 chunks_long m zero xs = refl
 chunks_long m (suc n) xs = ap suc (chunks_long m n (rest m xs))
 
--- and of the words
+-- the items make n words
 pub words_long : (T : RattleType) (m n : ℕ) (xs : List T.Denot)
     → length (words_made T m n xs) ≡ n
 words_long T m n xs = length-map (first_chunks m n xs) (word (param 0 T) (number_of_items m))
@@ -294,7 +298,7 @@ module _ {M : Type 1} {𝓤 : Ura M} (𝓛 : Logic 𝓤) (T : RattleType) (L : L
   hd' : InWords (size τ') (align τ') m k
   hd' = nameless σ m k hd
 
-  -- a word's bytes are those of its items, and those of the type with its names
+  -- the size of a word is the size of its items, and is the same for the bare type of a word
   wide : u' ≡ m * s
   wide = hd'.size ∙ ap (λ (n : ℕ). m * n) (size-raw σ)
 
@@ -329,7 +333,7 @@ module _ {M : Type 1} {𝓤 : Ura M} (𝓛 : Logic 𝓤) (T : RattleType) (L : L
     abbrev Rooms : SProp 𝓤
     Rooms = rooms_for 𝓤 H fields zero b o
 
-    -- the way back to room for it
+    -- the way back to memory for a word follows from the way back to memory for its fields
     way_out : ent 𝓤 (RoomBack 𝓤 H (the_type (R E) N).name fields b o) (sem 𝓛 (way τ' m b o))
     way_out =
         qed 𝓛 (raw (RoomBack 𝓤 H (the_type (R E) N).name fields b o) ∷ []) ∵
@@ -341,7 +345,7 @@ module _ {M : Type 1} {𝓤 : Ura M} (𝓛 : Logic 𝓤) (T : RattleType) (L : L
         use2 𝓛 (‵ (froom (layout W.row) b o)) (apply∗ 𝓤 Rooms (H.room (layout W.row) b o)) $
         by ! (𝓛.laws.room-raw (layout W.row) b o)
 
-    -- a word is its items, and the way back
+    -- splits a word in memory into its items, and the way back to memory for a word
     pub word_out : (xs : List X) → ent 𝓤 (sem 𝓛 (part_at (R W) full_share (word (R E) N xs) b o))
         (sep 𝓤 (sem 𝓛 (part_at (Array (R E) m) full_share xs b o)) (sem 𝓛 (way τ' m b o)))
     word_out xs =
@@ -368,7 +372,8 @@ module _ {M : Type 1} {𝓤 : Ura M} (𝓛 : Logic 𝓤) (T : RattleType) (L : L
   abbrev words : ℕ → List X → List W.row.Denot
   words n xs = words_made T m n xs
 
-  -- items are those of the first word, and the others
+  -- slots that hold the items xs are the slots of the first word, followed by the slots of the
+  -- others
   parted : (xs : List X) → full xs ≡ full (take m xs) ++ full (rest m xs)
   parted xs = ap full (sym (take-append-drop m xs)) ∙ map-append Some (take m xs) (rest m xs)
 
@@ -385,7 +390,7 @@ module _ {M : Type 1} {𝓤 : Ura M} (𝓛 : Logic 𝓤) (T : RattleType) (L : L
         ap (λ (n : ℕ). n * s) (length-map (take m xs) Some ∙ first_long) in
         let e = wide in omega arith
 
-  -- filled slots, with the ways to words, are words that are to be made
+  -- filled slots and the ways to n + j words are the items of n words, and the ways to j words
   to_runs : (n w j : ℕ) (xs : List X) (o at : ℕ) → length xs ≡ n * m → w ≡ j + n → at ≡ n * u' + o
       → ent 𝓤 (sep 𝓤 (sem 𝓛 (places (R E) (full xs) b o)) (sem 𝓛 (ways τ' m w b o)))
       (sep 𝓤 (sem 𝓛 (runs_at (R E) N (chunks n xs) b o)) (sem 𝓛 (ways τ' m j b at)))
@@ -406,13 +411,13 @@ module _ {M : Type 1} {𝓤 : Ura M} (𝓛 : Logic 𝓤) (T : RattleType) (L : L
       (to_items E 𝓛 b m c o (first_long n xs o long)) $ move ! (2 ∷ []) $
       rewrite ! 0 (λ (n : ℕ). ‵ (ways τ' m n b o)) {x = suc (j + n)} (omega (arith, ew)) refl $
       fsplit ! $
-      -- [the first way; the other ways; the first items; the others]
+      -- context: [the first way; the other ways; the first items; the other items]
       move ! (2 ∷ 0 ∷ []) $ fjoin ! $ move ! (2 ∷ 1 ∷ []) $
       use2 𝓛 (‵ (runs_at (R E) N (chunks n (rest m xs)) b far) ⊛ ‵ (ways τ' m j b at))
       (to_runs n (j + n) j (rest m xs) far at (rest_long n xs o long) refl
       (omega (arith, ea, suc-mul n u'))) $ split ! $ move ! (2 ∷ 0 ∷ []) $ fjoin ! $ done !
 
-  -- words are filled slots, with the ways to words
+  -- n words in a row and the ways to j words are filled slots, and the ways to n + j words
   of_runs : (n w j : ℕ) (xs : List X) (o at : ℕ) → length xs ≡ n * m → w ≡ j + n → at ≡ n * u' + o
       → ent 𝓤 (sep 𝓤 (sem 𝓛 (places (R W) (full (words n xs)) b o)) (sem 𝓛 (ways τ' m j b at)))
       (sep 𝓤 (sem 𝓛 (places (R E) (full xs) b o)) (sem 𝓛 (ways τ' m w b o)))
@@ -434,7 +439,7 @@ module _ {M : Type 1} {𝓤 : Ura M} (𝓛 : Logic 𝓤) (T : RattleType) (L : L
       use2 𝓛 (‵ (places (R E) (full (rest m xs)) b far) ⊛ ‵ (ways τ' m (j + n) b far))
       (of_runs n (j + n) j (rest m xs) far at (rest_long n xs o long) refl
       (omega (arith, ea, suc-mul n u'))) $ split ! $
-      -- [the other items; the other ways; the first items; their way]
+      -- context: [the other items; the other ways; the first items; the way of the first items]
       move ! (2 ∷ 0 ∷ []) $ use2 𝓛 (‵ (places (R E) (full c ++ full (rest m xs)) b o))
       (glue E 𝓛 b (full c) (full (rest m xs)) o far (next n xs o long)) $
       rewrite ! 0 (λ (l : List (Option X)). ‵ (places (R E) l b o)) (sym (parted xs)) refl $
@@ -450,7 +455,7 @@ module _ {M : Type 1} {𝓤 : Ura M} (𝓛 : Logic 𝓤) (T : RattleType) (L : L
     end_at : far ≡ past τ' j at
     end_at = end ∙ sym (past_is τ' j at)
 
-    -- empty slots and the room that no slot takes are room for words
+    -- empty slots, the ways to words, and the memory that no slot takes are empty words
     spare_words : ent 𝓤 (sep 𝓤 (sem 𝓛 (places (R E) (empty j) b at))
         (sep 𝓤 (sem 𝓛 (ways τ' m v b at)) (sem 𝓛 Spare)))
         (sem 𝓛 (places (R W) (empty v) b at))
@@ -464,7 +469,7 @@ module _ {M : Type 1} {𝓤 : Ura M} (𝓛 : Logic 𝓤) (T : RattleType) (L : L
         use2 𝓛 (‵ (froom (ty_array (word_of τ' m) v) b at)) (ways_in 𝓛 τ' m k b hd' v at) $
         by ! (of_raw W 𝓛 b v at)
 
-    -- and back
+    -- empty words are empty slots, the ways to words, and the memory that no slot takes
     spare_slots : ent 𝓤 (sem 𝓛 (places (R W) (empty v) b at))
         (sep 𝓤 (sem 𝓛 (places (R E) (empty j) b at))
         (sep 𝓤 (sem 𝓛 (ways τ' m v b at)) (sem 𝓛 Spare)))
@@ -480,7 +485,7 @@ module _ {M : Type 1} {𝓤 : Ura M} (𝓛 : Logic 𝓤) (T : RattleType) (L : L
         rewrite ! 0 (λ (n : ℕ). ‵ (froom (ty_array τ' pad) b n)) (sym end_at) refl $
         move ! (1 ∷ 2 ∷ 0 ∷ []) $ done !
 
-  -- ---- all slots of a block: n words of items, of c slots in w words
+  -- ---- all slots of a block: its c slots take w words, and n words hold items
   module _ (xs : List X) (n j v w c o : ℕ) (long : length xs ≡ n * m) (all : c ≡ length xs + j)
       (total : w ≡ v + n) (le : c ≤ w * m) where
     abbrev after : ℕ
@@ -514,7 +519,7 @@ module _ {M : Type 1} {𝓤 : Ura M} (𝓛 : Logic 𝓤) (T : RattleType) (L : L
         ap (λ (x : ℕ). length xs * x) (size-raw σ) in
         let e = same_bytes in let a = at_after in omega arith
 
-    -- filled slots as words that are to be made, and the empty ones as empty words
+    -- turns filled slots into items that can be made words, and the empty slots into empty words
     pub words_in : ent 𝓤 (sep 𝓤 (sem 𝓛 (places (R E) (full xs ++ empty j) b o))
         (sem 𝓛 (slots_way τ' m w c b o)))
         (sep 𝓤 (sem 𝓛 (runs_at (R E) N (chunks n xs) b o)) (sem 𝓛 (places (R W) (empty v) b after)))
@@ -522,7 +527,7 @@ module _ {M : Type 1} {𝓤 : Ura M} (𝓛 : Logic 𝓤) (T : RattleType) (L : L
         qed 𝓛 (‵ (places (R E) (full xs ++ empty j) b o) ∷ ‵ (slots_way τ' m w c b o) ∷ []) ∵
         use1 𝓛 (‵ (places (R E) (full xs) b o) ⊛ ‵ (places (R E) (empty j) b after))
         (cut E 𝓛 b (full xs) (empty j) o after last) $ split ! $ move ! (2 ∷ []) $ fsplit ! $
-        -- [the ways; the spare room; the items; the empty slots]
+        -- context: [the ways; the memory that no slot takes; the items; the empty slots]
         move ! (2 ∷ 0 ∷ []) $
         use2 𝓛 (‵ (runs_at (R E) N (chunks n xs) b o) ⊛ ‵ (ways τ' m v b after))
         (to_runs n w v xs o after long total at_after) $ split ! $ move ! (3 ∷ 1 ∷ 2 ∷ []) $
@@ -533,13 +538,13 @@ module _ {M : Type 1} {𝓤 : Ura M} (𝓛 : Logic 𝓤) (T : RattleType) (L : L
     last_word = ap (λ (x : ℕ). x * type_size (R W) + o)
         (sym (length-map (words n xs) Some ∙ words_long T m n xs))
 
-    -- words and the empty ones after them
+    -- joins the words and the empty words after them into one row
     pub words_joined : ent 𝓤 (sep 𝓤 (sem 𝓛 (places (R W) (full (words n xs)) b o))
         (sem 𝓛 (places (R W) (empty v) b after)))
         (sem 𝓛 (places (R W) (full (words n xs) ++ empty v) b o))
     words_joined = glue W 𝓛 b (full (words n xs)) (empty v) o after last_word
 
-    -- words as filled slots, and empty ones, with the way back
+    -- turns words into filled slots, and empty words into empty slots, with the way back
     pub words_back : ent 𝓤 (sem 𝓛 (places (R W) (full (words n xs) ++ empty v) b o))
         (sep 𝓤 (sem 𝓛 (places (R E) (full xs ++ empty j) b o)) (sem 𝓛 (slots_way τ' m w c b o)))
     words_back =
@@ -549,7 +554,7 @@ module _ {M : Type 1} {𝓤 : Ura M} (𝓛 : Logic 𝓤) (T : RattleType) (L : L
         use1 𝓛 (‵ (places (R E) (empty j) b after) ⊛ ‵ (ways τ' m v b after) ⊛ ‵
         (froom (ty_array τ' pad') b (o + c * size τ')))
         (spare_slots j v pad' after (o + c * size τ') whole end) $ split3 ! $
-        -- [the empty slots; their ways; the spare room; the words]
+        -- context: [the empty slots; their ways; the memory that no slot takes; the words]
         move ! (3 ∷ 1 ∷ []) $
         use2 𝓛 (‵ (places (R E) (full xs) b o) ⊛ ‵ (ways τ' m w b o))
         (of_runs n w v xs o after long total at_after) $ split ! $ move ! (0 ∷ 2 ∷ []) $

@@ -1,10 +1,11 @@
--- Words on a block as a contract sees it.
+-- What a contract sees of a block, and when a block is from an allocator.
 use Rattle.std.specs.Prelude.{◌≡◌, ℕ, List, Option}
 use Rattle.std.specs.declared.option.Option.TheVariants.{Some}
 use Rattle.thin_block.specs.Cost.{Cost}
 use Rattle.thin_block.specs.declared.block.Block.{Block}
 
--- a block of items of T from an allocator A, as a contract sees it
+-- what a contract sees of a block of items of T whose allocator has the type A: the slots, the
+-- stored length, the allocator and the cost
 pub record Seen (T A : Type 0) : Type 0 where
   pub slots : List (Option T)
   pub len : ℕ
@@ -12,10 +13,10 @@ pub record Seen (T A : Type 0) : Type 0 where
   pub cost : Cost
 
 module _ {T A : Type 0} where
-  -- what a contract sees of b
+  -- what a contract sees of the block b
   abbrev pub seen : Block T A → Seen T A
   seen b = record { slots = b.slots; len = b.len; alloc = b.alloc; cost = b.cost }
 
-  -- the memory came from the allocator a, or there is none
+  -- the memory of b came from the allocator a, or b has no memory
   abbrev pub IsFrom : Block T A → A → Type 0
   IsFrom b a = (x : A) → b.alloc ≡ Some x → x ≡ a

@@ -1,5 +1,5 @@
--- By which rule a capacity grows. The doubling and the first capacity are those of the Rust crate
--- thin-vec; std's `Vec` promises no rule.
+-- The growth rules as functions on numbers, and the law that each rule keeps. `doubling` and the
+-- first capacity are those of the Rust crate thin-vec; std's `Vec` promises no growth rule.
 use Rattle.std.specs.Prelude.{◌≡◌, ℕ, zero, suc, ◌+◌, ◌-◌, ◌*◌, ◌/◌, ◌^◌, ◌<◌, ◌≤◌, ◌==◌, IsTrue, Option, if◌then◌else◌, max, nat_le, nat_lt}
 use Rattle.std.specs.declared.option.Option.TheVariants.{Some, None}
 use Rattle.std.specs.Mem.{type_size}
@@ -8,35 +8,38 @@ use denote.RattleType.{RattleType}
 use Rattle.std.specs.Int.{IsPowerOfTwo}
 use Rattle.thin_block.specs.Capacity.{fits, first, items_offset}
 
--- from the size and the alignment of an item, a capacity and a want above it: the next capacity, or
--- None where it overflows
+-- a growth rule: from the size and the alignment of an item, a capacity, and a number of items that
+-- exceeds it, it computes the next capacity, or None if that overflows
 abbrev pub Rule : Type 0
 Rule = ℕ → ℕ → ℕ → ℕ → Option ℕ
 
--- the capacity n after c, for w items
+-- n is a capacity to which a block of capacity c may grow in order to hold w items (s and a: the
+-- size and the alignment of an item)
 pub record IsGrown (s a c w n : ℕ) : Type 0 where
   pub enough : w ≤ n
   pub doubled : 2 * c ≤ n
   pub fits : IsTrue (fits s a n)
 
--- the capacity n after c, for w items of R
+-- n is a capacity to which a block of capacity c may grow in order to hold w items of R
 abbrev pub Grows : RattleType → ℕ → ℕ → ℕ → Type 0
 Grows R c w n = IsGrown (type_size R) (type_align R) c w n
 
--- what each rule promises, for each want that a `usize` holds
+-- the law of growth rules: whenever the rule chooses a capacity n for w items after c, and w fits
+-- into a `usize`, then n has room for w items, is at least 2 * c, and fits
 abbrev pub KeepsLaw : Rule → Type 0
 KeepsLaw rule = (s a c w n : ℕ) → c < w → w < 2 ^ 64 → rule s a c w ≡ Some n → IsGrown s a c w n
 
--- n, if it fits
+-- n if it fits, and None otherwise
 unfoldable pub fitting : ℕ → ℕ → ℕ → Option ℕ
 fitting s a n = if fits s a n then Some n else None
 
--- twice the capacity, or the first capacity where that is 0, or the want where it is more
--- (thin-vec: `reserve`)
+-- the rule `Doubling`: twice the capacity, or the first capacity if the capacity is 0, or w if that
+-- is greater (source: `reserve` of thin-vec)
 unfoldable pub doubling : Rule
 doubling s a c w = fitting s a (max w (if c == 0 then first s else 2 * c))
 
--- p, or the first of 2 * p, 4 * p, .. that is at least n, of so many
+-- the first of the numbers p, 2 * p, 4 * p, .. that is at least n; the first argument limits the
+-- number of doublings
 abbrev pub doubled_to : ℕ → ℕ → ℕ → ℕ
 doubled_to zero n p = p
 doubled_to (suc more) n p = if nat_le n p then p else doubled_to more n (2 * p)
@@ -46,25 +49,27 @@ doubled_to (suc more) n p = if nat_le n p then p else doubled_to more n (2 * p)
 unfoldable pub least_power : ℕ → ℕ
 least_power n = doubled_to n n 1
 
--- as many items as fit, after the header, into the least power of two bytes that has room for the
--- want and for twice the capacity; where items take no bytes, as by doubling
+-- the rule `PowerBytes`: as many items as fit, together with the header, into the least power of
+-- two bytes that has room for w items and for twice the capacity. If items take no bytes, the rule
+-- is `doubling`.
 unfoldable pub power_bytes : Rule
 power_bytes s a c w = if s == 0 then doubling s a c w else fitting s a
     ((least_power (items_offset a + max w (2 * c) * s) - items_offset a) / s)
 
--- some power of two has room for the header and c items, and for no further one
+-- some power of two has room for the header and c items, and no room for one more item
 pub record FillsPower (s a c : ℕ) : Type 0 where
   pub power : ℕ
   pub is_power : IsPowerOfTwo power
   pub holds : items_offset a + c * s ≤ power
   pub is_full : power < items_offset a + (c + 1) * s
 
--- the capacity for w items of R after c: c where it suffices, none where w is past `usize::MAX`,
--- and else what the rule says
+-- the ruled capacity: the capacity that a block of capacity c gets if it needs room for w items of
+-- R. It is c if c suffices, None if w exceeds `usize::MAX`, and otherwise what the rule chooses.
 unfoldable pub ruled_capacity : Rule → RattleType → ℕ → ℕ → Option ℕ
 ruled_capacity rule R c w = if nat_le w c then Some c else
     (if nat_lt w (2 ^ 64) then rule (type_size R) (type_align R) c w else None)
 
--- the capacity for exactly w items of R after c: c where it suffices, and else w, if it fits
+-- the exact capacity: the capacity that a block of capacity c gets if it needs room for exactly w
+-- items of R. It is c if c suffices, otherwise w if w fits, and otherwise None.
 unfoldable pub exact_capacity : RattleType → ℕ → ℕ → Option ℕ
 exact_capacity R c w = if nat_le w c then Some c else fitting (type_size R) (type_align R) w

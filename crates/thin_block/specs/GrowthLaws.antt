@@ -1,5 +1,5 @@
--- That doubling keeps the law of growth rules. (Here and not in proofs/, since the impl of `Growth`
--- names it.)
+-- The proof that doubling keeps the law of growth rules. (It is here and not in proofs/, because
+-- the impl of `Growth` names it.)
 use Rattle.std.specs.Prelude.{◌≡◌, ℕ, ◌*◌, ◌≤◌, ◌==◌, Bool, true, false, IsTrue, if◌then◌else◌, max, refl}
 use Rattle.std.specs.declared.option.Option.TheVariants.{Some, None}
 use Rattle.std.proofs.Common.{subst, arith}
@@ -7,21 +7,22 @@ use Rattle.std.proofs.lemmas.Bool.Decides.{nat_tests}
 use Rattle.thin_block.specs.Capacity.{fits, first}
 use Rattle.thin_block.specs.Growth.{KeepsLaw, doubling, fitting}
 
--- a choice that gave a number took the first way
+-- if a conditional with the branches Some m and None is Some n, then its condition is true, and m
+-- is n
 when_some : (b : Bool) (m n : ℕ) → (if b then Some m else None) ≡ Some n → (b ≡ true) × (m ≡ n)
 when_some true m n e = (refl, cc)
 when_some false m n e = cc
 
--- what fits is itself
+-- if `fitting` of m is Some n, then m fits, and m is n
 pub fitting_is : (s a m n : ℕ) → fitting s a m ≡ Some n → IsTrue (fits s a m) × (m ≡ n)
 unfolding fitting
 fitting_is s a m n e = when_some (fits s a m) m n e
 
--- it is at least twice the capacity
+-- the capacity that doubling tries is at least twice the old capacity
 twice : (s c w : ℕ) → 2 * c ≤ max w (if c == 0 then first s else 2 * c)
 twice s c w = grind (arith, nat_tests)
 
--- doubling keeps the law
+-- doubling keeps the law of growth rules
 pub doubling_law : KeepsLaw doubling
 unfolding doubling
 doubling_law s a c w n more word e =

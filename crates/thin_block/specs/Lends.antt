@@ -1,4 +1,4 @@
--- What a block holds once a `&mut` to some of its items ends.
+-- What a block holds after a `&mut` to some of its items has ended.
 use Rattle.std.specs.Prelude.{◌≡◌, ℕ, zero, suc, ◌≤◌, List, [], ◌∷◌, length, Option, slice_set}
 use Rattle.std.specs.declared.option.Option.TheVariants.{None, Some}
 use Rattle.core.specs.declared.alloc.Allocator.{Ghosts}
@@ -10,7 +10,8 @@ use Rattle.thin_block.specs.declared.block.Block.{Block}
 use Rattle.thin_block.specs.contracts.block.Block.{the_row}
 
 module _ {X : Type 0} where
-  -- s with the items ws in the filled slots from i on, as far as both go
+  -- the slots s, after the items of ws were written over the items in the filled slots from i on;
+  -- this stops at the first empty slot, and at the end of s or of ws
   abbrev pub over : List (Option X) → ℕ → List X → List (Option X)
   over [] i ws = []
   over (x ∷ s) (suc i) ws = x ∷ over s i ws
@@ -18,7 +19,7 @@ module _ {X : Type 0} where
   over (Some x ∷ s) zero [] = Some x ∷ s
   over (Some x ∷ s) zero (w ∷ ws) = Some w ∷ over s zero ws
 
-  -- as many slots as before
+  -- writing over items does not change the number of slots
   pub length-over : (s : List (Option X)) (i : ℕ) (ws : List X) → length (over s i ws) ≡ length s
   length-over [] i ws = refl
   length-over (x ∷ s) (suc i) ws = ap suc (length-over s i ws)
@@ -27,7 +28,7 @@ module _ {X : Type 0} where
   length-over (Some x ∷ s) zero (w ∷ ws) = ap suc (length-over s zero ws)
 
 module _ {X Z : Type 0} where
-  -- b with the slots s in place of as many
+  -- the block b with the slots s, which are as many as before
   abbrev pub with_slots : (b : Block X Z) (s : List (Option X))
       → length s ≡ length b.slots → Block X Z
   with_slots b s same =
@@ -40,19 +41,21 @@ module _ {X Z : Type 0} where
         );
       }
 
-  -- b with the item w in the slot i
+  -- the block b with the item w in the slot i
   abbrev pub with_item : Block X Z → ℕ → X → Block X Z
   with_item b i w = with_slots b (slice_set b.slots i (Some w)) (length-set b.slots i (Some w))
 
-  -- b with the items ws in the slots from i on
+  -- the block b with the items ws in the slots from i on
   abbrev pub with_items : Block X Z → ℕ → List X → Block X Z
   with_items b i ws = with_slots b (over b.slots i ws) (length-over b.slots i ws)
 
 module _ (T A : RattleType) (g : Ghosts A.Denot) (b : MutBor (Block T.Denot A.Denot)) where
-  -- r is the item in the slot i of b
+  -- r is a `&mut` to the item in the slot i of b, and b holds what was written to r after r has
+  -- ended
   abbrev pub LendsItem : ℕ → MutBor T.Denot → Fml
   LendsItem i r = Lends (the_row T A g) T b r (with_item b.now i)
 
-  -- r is the items in the slots from i on
+  -- r is a `&mut` to the items of b in the slots from i on, and b holds what was written to r after
+  -- r has ended
   abbrev pub LendsItems : ℕ → MutBor (List T.Denot) → Fml
   LendsItems i r = Lends (the_row T A g) (Array T 0) b r (with_items b.now i)

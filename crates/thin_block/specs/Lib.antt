@@ -1,4 +1,5 @@
--- The words of the contracts, the laws of the growth rules, and how a block is made of its items.
+-- The definitions that the contracts use, the laws of the growth rules, and the former of blocks,
+-- which says how a block is made of its items.
 pub mod Capacity
 pub mod Growth
 pub mod GrowthLaws

@@ -1,5 +1,5 @@
--- That the rule of powers of two keeps the law of rules, and fills its powers. (Here and not in
--- proofs/, since the impl of `Growth` names it.)
+-- The proof that `power_bytes` keeps the law of growth rules, and that its blocks fill a power of
+-- two bytes. (It is here and not in proofs/, because the impl of `Growth` names it.)
 use Rattle.std.specs.Prelude.{◌≡◌, ℕ, zero, suc, ◌+◌, ◌-◌, ◌*◌, ◌/◌, ◌^◌, ◌<◌, ◌≤◌, ◌==◌, nat_le, Bool, true, false, IsTrue, if◌then◌else◌, max, refl}
 use Rattle.std.specs.declared.option.Option.TheVariants.{Some}
 use Rattle.std.specs.Int.{IsPowerOfTwo, IsNextPowerOfTwo}
@@ -15,18 +15,20 @@ use Rattle.thin_block.specs.GrowthLaws.{doubling_law, fitting_is}
 
 -- ---- the least power
 
--- each number is below its power of two
+-- each number n is less than 2 ^ n
 below_power : (n : ℕ) → n < 2 ^ n
 below_power zero = omega arith
 below_power (suc n) = omega (arith, below_power n, pow_more 2 n)
 
--- p is the least power, or where it is too small, the one that comes next is
+-- assume that p is a power of two whose half is too small: if p is at least n, then p is the least
+-- power of two that is at least n; otherwise that power is `next`
 one_step : (b : Bool) (n p next : ℕ) → nat_le n p ≡ b → IsPowerOfTwo p → p / 2 < max 1 n
     → (p < n → IsNextPowerOfTwo n next) → IsNextPowerOfTwo n (if b then p else next)
 one_step true n p next e power half later = (power, leb-true n p e, half)
 one_step false n p next e power half later = later (leb-false n p e)
 
--- doublings that suffice end at the least power
+-- if p is a power of two whose half is too small, and k doublings of p reach n, then `doubled_to`
+-- returns the least power of two that is at least n
 doubled_is : (k n p : ℕ) → IsPowerOfTwo p → p / 2 < max 1 n → n ≤ 2 ^ k * p
     → IsNextPowerOfTwo n (doubled_to k n p)
 doubled_is zero n p power half enough = (power, omega (arith, enough), half)
@@ -38,12 +40,12 @@ doubled_is (suc k) n p power half enough =
     (λ less. doubled_is k n (2 * p) (power.0 + 1, next) (omega (arith, less))
     (omega (arith, enough, twice)))
 
--- the least power of two that is at least n is what its name says
+-- `least_power n` is the least power of two that is at least n
 pub least_power_is : (n : ℕ) → IsNextPowerOfTwo n (least_power n)
 unfolding least_power
 least_power_is n = doubled_is n n 1 (0, refl) (omega arith) (omega (arith, below_power n))
 
--- a power of two whose half is too small is at most one that suffices
+-- if 2 ^ k is at least n, and half of 2 ^ j is too small, then 2 ^ j is at most 2 ^ k
 not_more : (n j k : ℕ) → n ≤ 2 ^ k → 2 ^ j / 2 < max 1 n → 2 ^ j ≤ 2 ^ k
 not_more n zero k enough half = pow_pos k
 not_more n (suc j) k enough half = elim (cases_lt j k) [
@@ -52,7 +54,7 @@ not_more n (suc j) k enough half = elim (cases_lt j k) [
       let some = pow_pos j in absurd (omega (arith, half, enough, under, twice, some)))
 ]
 
--- it is the only one
+-- two numbers that are both the least power of two that is at least n are equal
 pub one_least_power : (n p q : ℕ) → IsNextPowerOfTwo n p → IsNextPowerOfTwo n q → p ≡ q
 one_least_power n p q first second =
     let under = not_more n first.0.0 second.0.0 (subst (λ x. n ≤ x) second.0.1 second.1)
@@ -63,36 +65,36 @@ one_least_power n p q first second =
 
 -- ---- the rule
 
--- whether an item takes a byte decides which of its two ways it goes
+-- for items of size 0, the rule `power_bytes` is `doubling`
 pub powers_of_none : (s a c w : ℕ) → s ≡ 0 → power_bytes s a c w ≡ doubling s a c w
 unfolding power_bytes
 powers_of_none s a c w none = let test : (s == 0) ≡ true = grind (arith, nat_tests) in rw test refl
 
--- an item that takes a byte goes by the least power that has room
+-- for items of at least one byte, the rule `power_bytes` uses the least power of two that has room
 pub powers_of_some : (s a c w : ℕ) → 0 < s → power_bytes s a c w ≡ fitting s a
     ((least_power (items_offset a + max w (2 * c) * s) - items_offset a) / s)
 unfolding power_bytes
 powers_of_some s a c w some = let test : (s == 0) ≡ false = grind (arith, nat_tests) in rw test refl
 
--- what it names, where an item takes a byte
+-- what `power_bytes` chooses for items of at least one byte: assume that it chooses the capacity n
 module _ (s a c w n : ℕ) (some : 0 < s) (e : power_bytes s a c w ≡ Some n) where
-  -- how many bytes of items there is to be room for
+  -- how many bytes the items take for which there must be room
   abbrev wanted : ℕ
   wanted = max w (2 * c) * s
 
-  -- the least power of two with room for them after the header
+  -- the least power of two bytes that has room for the header and `wanted` bytes
   abbrev power : ℕ
   power = least_power (items_offset a + wanted)
 
-  -- as many items as that power has room for fit, and are what the rule names
+  -- n is the number of items for which `power` has room after the header, and this number fits
   named : IsTrue (fits s a ((power - items_offset a) / s)) × ((power - items_offset a) / s ≡ n)
   named = fitting_is s a ((power - items_offset a) / s) n (sym (powers_of_some s a c w some) ∙ e)
 
-  -- the power has room for the header and what is wanted
+  -- the power has room for the header and the wanted items
   room : items_offset a + wanted ≤ power
   room = (least_power_is (items_offset a + wanted)).1
 
-  -- what the rule names is a growth: enough, at least twice the capacity, and it fits
+  -- the capacity n is large enough, at least twice the old capacity, and fits
   pub powers_grow : IsGrown s a c w n
   powers_grow =
       let more : max w (2 * c) ≤ (power - items_offset a) / s =
@@ -103,7 +105,7 @@ module _ (s a c w n : ℕ) (some : 0 < s) (e : power_bytes s a c w ≡ Some n) w
         fits = subst (λ (k : ℕ). IsTrue (fits s a k)) named.1 named.0;
       }
 
-  -- what the rule names fills the power but for less than one item
+  -- a block of n items fills the power, with less than one item to spare
   pub powers_filled : FillsPower s a n
   powers_filled =
       let parts = div-add-mod' (power - items_offset a) s in
@@ -117,7 +119,7 @@ module _ (s a c w n : ℕ) (some : 0 < s) (e : power_bytes s a c w ≡ Some n) w
         is_full = omega (arith, room, parts, whole, rest, next);
       }
 
--- `PowerBytes` keeps the law of a growth rule
+-- `power_bytes` keeps the law of growth rules
 pub power_bytes_law : KeepsLaw power_bytes
 power_bytes_law s a c w n more word e = elim (eq-zero-or-pos s) [
   | inl none ↦ doubling_law s a c w n more word (sym (powers_of_none s a c w none) ∙ e)

@@ -1,4 +1,4 @@
--- A row of slots, each empty or holding an item. (std: `[Option<T>]`)
+-- Rows of slots. Each slot is empty, or holds an item. (std: `[Option<T>]`)
 use Rattle.std.specs.Prelude.{◌≡◌, ℕ, ◌+◌, ◌-◌, ◌<◌, ◌≤◌, List, [], ◌∷◌, ◌++◌, IsSome, Option, length, map, replicate, slice_index_or, take, drop}
 use Rattle.std.specs.declared.option.Option.TheVariants.{Some, None}
 
@@ -11,7 +11,7 @@ module _ {T : Type 0} where
   abbrev pub empty : ℕ → List (Option T)
   empty k = replicate k None
 
-  -- what the slot i holds: nothing where there is no such slot
+  -- the content of the slot i: None if the slot is empty, or if there is no such slot
   abbrev pub slot : List (Option T) → ℕ → Option T
   slot s i = slice_index_or s i None
 
@@ -29,11 +29,11 @@ module _ {T : Type 0} where
   items_in (None ∷ s) = items_in s
   items_in (Some x ∷ s) = x ∷ items_in s
 
-  -- c slots, of which the first hold the items of xs
+  -- c slots: the first ones hold the items of xs, and the others are empty
   abbrev pub front : List T → ℕ → List (Option T)
   front xs c = full xs ++ empty (c - length xs)
 
-  -- the items lie in the first n slots, and in no other
+  -- there are n items, and they are in the first n slots
   pub record IsPacked (s : List (Option T)) (n : ℕ) : Type 0 where
     pub row : s ≡ front (items_in s) (length s)
     pub len : n ≡ length (items_in s)
@@ -42,14 +42,15 @@ module _ {T : Type 0} where
   abbrev pub run : ℕ → ℕ → List (Option T) → List (Option T)
   run i k s = take k (drop i s)
 
-  -- s with the slots ys in place of as many from i on
+  -- the slots s, with ys in place of as many slots from i on
   abbrev pub laid : ℕ → List (Option T) → List (Option T) → List (Option T)
   laid i ys s = take i s ++ (ys ++ drop (i + length ys) s)
 
-  -- s with the k slots from i on emptied
+  -- the slots s, with the k slots from i on emptied
   abbrev pub emptied : ℕ → ℕ → List (Option T) → List (Option T)
   emptied i k s = laid i (empty k) s
 
-  -- s after the run of k slots from `from` on went to `to`
+  -- the slots s, after the content of the k slots from `from` on was moved to the slots from `to`
+  -- on
   unfoldable pub moved : ℕ → ℕ → ℕ → List (Option T) → List (Option T)
   moved from to k s = laid to (run from k s) (emptied from k s)

@@ -1,8 +1,8 @@
--- Items in a row as words, of as many items each as the number says whose row is M. A word is a
--- `Words` of these items.
+-- Items in memory as words. A word is a `Words` of m items of T; M is the const parameter m.
 -- No public clause cites this module.
---     run_at, runs_from    items that may become a word; and in a row, from an address on
---     words_from           words in a row
+--     run_at, runs_from    items that can be turned into a word; and items for several words in a
+--                          row, from an address on
+--     words_from           words in a row, from an address on
 use Rattle.std.specs.Prelude.{ℕ, ◌+◌, List, [], ◌∷◌, map}
 use base.Fraction.{full_share}
 use base.Fml.{Fml, ftrue, ffalse, fsep}
@@ -16,26 +16,26 @@ use Rattle.thin_block.specs.Slots.{full}
 use Rattle.thin_block.specs.contracts.words.Words.{the_row}
 
 module _ (T M : RattleType) where
-  -- the word of these items
+  -- the word that holds the items xs
   abbrev pub word : List T.Denot → (the_row T M).Denot
   word xs = record { items = xs; aligned = [] }
 
-  -- items of a word, and what turns room for them into room for it
+  -- the items of one word in memory, and what turns memory for these items into memory for the word
   abbrev pub run_at : List T.Denot → ℕ → ℕ → Fml
   run_at xs b o = fsep (part_at (ArrayAt T M) full_share xs b o) (way (bare T) (value_of M) b o)
 
-  -- those of words in a row
+  -- the items of several words in a row, each with its conversion into a word
   abbrev pub runs_at : List (List T.Denot) → ℕ → ℕ → Fml
   runs_at [] b o = ftrue
   runs_at (xs ∷ xss) b o = fsep (run_at xs b o)
       (runs_at xss b (o + size (word_of (bare T) (value_of M))))
 
-  -- the same from an address on
+  -- the items of several words in a row, from the address of a pointer on
   abbrev pub runs_from : List (List T.Denot) → Ptr → Fml
   runs_from xss null_ptr = ffalse
   runs_from xss (block_ptr b o) = runs_at xss b o
 
-  -- the words, from an address on
+  -- several words in a row, from the address of a pointer on
   abbrev pub words_from : List (List T.Denot) → Ptr → Fml
   words_from xss null_ptr = ffalse
   words_from xss (block_ptr b o) = places (the_row T M) (full (map word xss)) b o

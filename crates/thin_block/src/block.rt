@@ -1,4 +1,4 @@
-//! The block: what its pointer points to, and its two numbers.
+//! The type `Block`: a pointer to an allocation that holds a capacity, a length and the slots.
 ghost use Rattle.std.specs.Prelude.{◌≡◌, ℕ, ◌^◌, ◌<◌, ◌≤◌, List, [], length, Option};
 ghost use Rattle.std.specs.declared.option.Option.TheVariants.{None};
 ghost use Rattle.std.specs.Coded.{coded_list, coded_option};
@@ -9,30 +9,32 @@ ghost use Rattle.thin_block.specs.Ownership.{block_owns, block_lent, any, there}
 use std::alloc::Allocator;
 use std::marker::{Model, PhantomData};
 
-// What the pointer of a list without a block points to. Every such list shares it, and nothing
-// writes it.
+// The header to which a block without an allocation points. All such blocks share this header, and
+// nothing writes it.
 static NO_BLOCK: Header = Header {
     cap: 0,
     len: 0,
     aligned: [],
 };
 
-// A capacity and a length. An item of any alignment may stand after them.
+// A capacity and a length. The array `aligned` is empty: it only aligns the header, so that items
+// of any alignment may follow.
 struct Header {
     cap: usize,
     len: usize,
     aligned: [u128; 0],
 }
 
-/// At most one allocation that holds a capacity, a stored length and as many slots as the capacity,
-/// each empty or holding an item.
+/// A pointer to an allocation that holds a capacity, a stored length, and as many slots as the
+/// capacity says. Each slot is empty or holds an item. A block may also have no allocation: then it
+/// has no slots, and its length is 0.
 ///
-/// A block is one pointer wide. It has no drop: `release` frees the memory, once every slot is
-/// empty. Contracts see the slots, the stored length, the allocator that the memory came from and
-/// three counters. Only the first two take memory.
+/// A block is one pointer wide. It cannot be dropped: once every slot is empty, `release` frees the
+/// memory. Contracts see the slots, the stored length, the allocator that the memory came from, and
+/// three counters. Only the slots and the length take memory.
 pub struct Block<T, A: Allocator> {
-    // It points to the capacity, which the length and then the slots follow: of the allocation, or
-    // of `NO_BLOCK`.
+    // Points to the capacity, which the length and then the slots follow. Without an allocation, it
+    // points to `NO_BLOCK`.
     pub(crate) at: *mut usize,
     pub(crate) item: PhantomData<T>,
     pub(crate) handle: PhantomData<A>,
@@ -52,7 +54,8 @@ impl<T, A: Allocator> Model for Block<T, A> {
 impl<T, A: Allocator> Block<T, A> {
     ghost use Rattle.thin_block.specs.Block.{seen};
 
-    /// No block: no slot, length 0. It takes no memory, and there is nothing to free.
+    /// Returns a block without an allocation: it has no slots, and its length is 0. There is no
+    /// memory to free.
     pub fn none() -> Block<T, A>
         ensures new { seen result ≡ record {
           slots = [];
@@ -68,7 +71,7 @@ impl<T, A: Allocator> Block<T, A> {
         }
     }
 
-    /// The stored length, in items.
+    /// Returns the stored length, in items.
     pub fn len(&self) -> usize
         ensures value { result ≡ self.now.len }
         ensures in_bounds { result ≤ length self.now.slots }
@@ -80,7 +83,7 @@ impl<T, A: Allocator> Block<T, A> {
         unsafe { *at.add(1) }
     }
 
-    /// The number of slots: 0 exactly where there is no block.
+    /// Returns the number of slots. It is 0 if and only if the block has no allocation.
     pub fn cap(&self) -> usize
         ensures value { result ≡ length self.now.slots }
         ensures in_bounds { self.now.len ≤ result }
@@ -91,7 +94,7 @@ impl<T, A: Allocator> Block<T, A> {
         unsafe { *at }
     }
 
-    /// Stores a length, in items. No slot changes.
+    /// Stores `len` as the length, in items. No slot changes.
     pub fn set_len(&mut self, len: usize)
         requires in_bounds { len ≤ length self.old.slots }
         ensures changes { seen self.new ≡ record (seen self.old) { len = len } }
@@ -101,7 +104,8 @@ impl<T, A: Allocator> Block<T, A> {
         }
     }
 
-    /// `set_len` where there is a block, with no test.
+    /// Stores `len` as the length, as `set_len` does, but without testing whether there is an
+    /// allocation.
     pub fn store_len(&mut self, len: usize)
         requires block { 0 < length self.old.slots }
         requires in_bounds { len ≤ length self.old.slots }

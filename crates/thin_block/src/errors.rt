@@ -1,4 +1,4 @@
-//! Why a call failed.
+//! The error type `ThinVecError`, which says why a call failed.
 ghost use Rattle.std.specs.IoError.{error_kind};
 ghost use Rattle.std.specs.Prelude.{◌≡◌};
 ghost use Rattle.std.specs.declared.io.ErrorKind.TheVariants as Kind;
@@ -9,13 +9,13 @@ use std::io;
 use std::io::ErrorKind;
 use thiserror::Error;
 
-/// Why a call failed.
+/// Says why a call failed.
 #[derive(Debug, Clone, Copy, PartialEq, Eq, Error)]
 pub enum ThinVecError {
-    /// The capacity that the call needs is too large. No memory was requested for it.
+    /// The capacity that the call needs is too large. No memory was requested for this capacity.
     #[error("capacity overflow")]
     CapacityOverflow,
-    /// The allocator failed, or the clone of an item.
+    /// The allocator failed, or cloning an item failed.
     #[error("out of memory")]
     OutOfMemory,
 }
@@ -29,7 +29,7 @@ impl From<AllocError> for ThinVecError {
 }
 
 impl From<ThinVecError> for AllocError {
-    // `AllocError` carries no cause.
+    // The cause is lost, because `AllocError` has no field for it.
     fn from(_cause: ThinVecError) -> AllocError {
         AllocError
     }
@@ -38,7 +38,8 @@ impl From<ThinVecError> for AllocError {
 impl From<ThinVecError> for io::Error {
     ghost from_gives = { λ _ error. error_kind error ≡ Kind.OutOfMemory };
 
-    // An overflow becomes `OutOfMemory` too: std has no kind for it.
+    // `CapacityOverflow` also becomes `OutOfMemory`, because std has no `ErrorKind` for an
+    // overflow.
     fn from(_cause: ThinVecError) -> io::Error {
         io::Error::from(ErrorKind::OutOfMemory)
     }

@@ -1,4 +1,4 @@
-//! The rules by which a capacity grows, on numbers alone. Each has a file in `growth/`.
+//! The trait of growth rules, which choose new capacities. Each rule has a file in `growth/`.
 ghost use Rattle.std.specs.Prelude.{◌≡◌, ◌<◌, ℕ, Option};
 ghost use Rattle.std.specs.Mem.{type_size};
 ghost use Rattle.std.specs.Align.{type_align};
@@ -9,23 +9,27 @@ use crate::sizes::fits;
 pub mod doubling;
 pub mod power_bytes;
 
-/// A rule that names the capacity after one that does not suffice. Nothing else decides by how much
-/// a list grows.
+/// A growth rule: it chooses the new capacity of a list whose capacity is too small. Nothing else
+/// decides by how much a list grows.
 pub trait Growth {
-    /// The rule on numbers: an item's size and alignment in bytes, the capacity and the greater
-    /// want, in items. None is an overflow.
+    /// The rule as a function on numbers. Its arguments are the size and the alignment of an item
+    /// in bytes, the old capacity, and the number of items that need room, which is greater. `None`
+    /// says that the new capacity overflows.
     ghost rule: { ℕ → ℕ → ℕ → ℕ → Option ℕ };
 
-    /// The capacity after `cap` that has room for `want` items, or `None` where it overflows.
+    /// Returns the capacity to which a list of capacity `cap` grows in order to hold `want` items,
+    /// or `None` if that capacity overflows.
     fn next_capacity<T>(cap: usize, want: usize) -> Option<usize>
         requires { cap < want }
         ensures value { result ≡ rule (type_size T.row) (type_align T.row) cap want };
 
-    /// What each rule names suffices, is at least twice the capacity before, and fits.
+    /// Each capacity that the rule chooses has room for the wanted items, is at least twice the old
+    /// capacity, and fits.
     ghost law: { KeepsLaw rule };
 }
 
-// The capacity itself, if it fits: no rule names one that does not.
+// Returns the capacity `next` if it fits, and `None` otherwise: no rule chooses a capacity that
+// does not fit.
 #[tactic(auto, unfolding(crate::specs::Growth::fitting))]
 fn fitting<T>(next: usize) -> Option<usize>
     ensures value { result ≡ fitting (type_size T.row) (type_align T.row) next }

@@ -1,5 +1,6 @@
-//! A block that changes its size in place: where items make words, it is an array of words to the
-//! allocator, whose `grow` and `shrink` may leave it where it lies.
+//! Growing and shrinking a block in place. If the items of a block make words, the allocator can
+//! treat the block as an array of words. Its `grow` and `shrink` may then leave the block at its
+//! address.
 ghost use Rattle.std.specs.Prelude.{◌≡◌, ◌+◌, ◌*◌, ◌/◌, ◌<◌, ◌≤◌, IfErr, IfOk, List, OnErr, OnOk, length};
 ghost use Rattle.std.specs.declared.option.Option.TheVariants.{Some};
 ghost use Rattle.std.specs.Int.{div_ceil};
@@ -18,11 +19,11 @@ use std::alloc::{AllocError, Allocator};
 use std::marker::PhantomData;
 use std::mem::{ManuallyDrop, replace};
 
-// So many words of items, or more, are left to the allocator, which may keep them where they are.
-// For fewer a new block is cheaper.
+// If its items make at least this many words of 8 bytes, a block is resized by the allocator, which
+// may leave the items where they are. For fewer words, a new block is cheaper.
 pub(crate) const LONG: usize = 32;
 
-// The allocator's `grow`, or its `shrink`: whichever the room that is wanted takes.
+// Calls `grow` of the allocator if `wanted` is greater than `held`, and `shrink` otherwise.
 unsafe fn resized<T, A: Allocator>(
     alloc: &A,
     start: *mut T,
@@ -47,8 +48,9 @@ unsafe fn resized<T, A: Allocator>(
 impl<T, A: Allocator> Block<T, A> {
     ghost use Rattle.thin_block.specs.Block.{IsFrom, seen};
 
-    // `remake` where `M` items make a word, the header takes the room of `K` words, and the items
-    // are at least as many words: they may stay where they are.
+    // Resizes the block to `cap` slots, as `remake` does, but the items may stay where they are.
+    // `M` items make a word, the header takes as many bytes as `K` words, and the items make at
+    // least `K` words. The call fails only if the allocator does, and then nothing changes.
     #[cold]
     pub(crate) fn remake_in_place<const M: usize, const K: usize>(
         &mut self,
@@ -94,11 +96,13 @@ impl<T, A: Allocator> Block<T, A> {
         grown
     }
 
-    // A block of `cap` slots with the items of this one, where `M` items make a word, the header
-    // takes the room of `K` words and the items are at least as many, `count`. They become words,
-    // and the last of them lie in the header meanwhile, so that the block is an array of words from
-    // its start, which the allocator can make larger or smaller. `held` and `wanted` are the words'
-    // room before and after.
+    // Returns this block with `cap` slots and the same items. `M` items make a word, the header
+    // takes as many bytes as `K` words, and the items make `count` words, which are at least `K`.
+    // The items are turned into words, and the last `K` words are kept in the place of the header
+    // until the allocator returns. So the block is an array of `count` words from its start, which
+    // the allocator can grow or shrink. `held` and `wanted` are the numbers of words that the block
+    // has room for before and after the call. The call fails only if the allocator does, and then
+    // returns the block unchanged.
     fn resize_words<const M: usize, const K: usize>(
         self,
         alloc: &A,

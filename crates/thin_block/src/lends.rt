@@ -1,4 +1,4 @@
-//! What a block lends: its items in place.
+//! References to the items of a block: to one item, and to the items of a run as a slice.
 ghost use Rattle.std.specs.Prelude.{◌≡◌, ℕ, ◌<◌, ◌≤◌, IsSome, length, slice_range};
 ghost use Rattle.std.specs.declared.option.Option.TheVariants.{Some};
 ghost use types.Logic.{sem};
@@ -11,8 +11,8 @@ use std::alloc::Allocator;
 impl<T, A: Allocator> Block<T, A> {
     ghost use Rattle.thin_block.specs.Lends.{LendsItem, LendsItems};
 
-    /// The items in the slots from `start` up to `end`. The range may be empty, also without a
-    /// block.
+    /// Returns the items in the slots from `start` up to, but not including, `end`. The range may
+    /// be empty, even if the block has no allocation.
     pub fn slice(&self, start: usize, end: usize) -> &[T]
         requires start_le_end { start ≤ end }
         requires in_bounds { end ≤ length self.now.slots }
@@ -26,7 +26,8 @@ impl<T, A: Allocator> Block<T, A> {
         }
     }
 
-    /// The item in the slot `i`, to be written.
+    /// Returns the item in the slot `i` as a `&mut`. The caller may write to the item; after the
+    /// borrow, the slot holds what was written.
     pub fn slot_mut(&mut self, i: usize) -> &mut T
         requires filled { IsSome (slot self.old.slots i) }
         ensures* writes_back { sem 𝓛 (LendsItem T.row A.row A.Allocator self.entry i result) }
@@ -36,8 +37,9 @@ impl<T, A: Allocator> Block<T, A> {
         unsafe { &mut *(at.add(HEADER_WORDS) as *mut T).add(i) }
     }
 
-    /// The items in the slots from `start` up to `end`, to be written. The range may be empty, also
-    /// without a block.
+    /// Returns the items in the slots from `start` up to, but not including, `end`, as a `&mut`
+    /// slice. The caller may write to the items; after the borrow, the slots hold what was written.
+    /// The range may be empty, even if the block has no allocation.
     pub fn slice_mut(&mut self, start: usize, end: usize) -> &mut [T]
         requires start_le_end { start ≤ end }
         requires in_bounds { end ≤ length self.old.slots }

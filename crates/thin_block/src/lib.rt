@@ -1,5 +1,5 @@
-//! One allocation that holds a length, a capacity and slots for items: the only crate of the
-//! product with raw pointers.
+//! The type `Block`: one allocation that holds a length, a capacity and slots for items. This is
+//! the only crate of the product with raw pointers.
 #![tactic(auto)]
 
 mod block;

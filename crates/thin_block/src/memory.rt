@@ -1,4 +1,4 @@
-//! A block as a whole: how its memory is allocated, made larger and freed.
+//! Calls on a whole block: allocating, growing, shrinking and freeing it.
 ghost use Rattle.std.specs.Prelude.{◌≡◌, ◌-◌, ◌++◌, ◌<◌, ◌≤◌, [], take, IfErr, IfOk, OnErr, OnOk, length};
 ghost use Rattle.std.specs.declared.option.Option.TheVariants.{Some};
 ghost use Rattle.std.specs.Mem.{type_size};
@@ -18,8 +18,11 @@ use std::mem::{ManuallyDrop, replace};
 impl<T, A: Allocator> Block<T, A> {
     ghost use Rattle.thin_block.specs.Block.{IsFrom, seen};
 
-    /// A block of `cap` empty slots and length 0, by one allocation. Fails only where the allocator
-    /// does.
+    /// Allocates a block of `cap` empty slots and length 0, by one request for memory.
+    ///
+    /// # Errors
+    ///
+    /// `OutOfMemory` if the allocator fails.
     pub fn allocate(alloc: &A, cap: usize) -> Result<Block<T, A>, ThinVecError>
         requires some { 0 < cap }
         requires fits { Fits T.row cap }
@@ -37,8 +40,11 @@ impl<T, A: Allocator> Block<T, A> {
         }
     }
 
-    /// Makes room for `cap` slots, by one request for memory; the items are copied at most once.
-    /// Fails only where the allocator does, and then nothing changes.
+    /// Grows the block to `cap` slots by one request for memory. The items are copied at most once.
+    ///
+    /// # Errors
+    ///
+    /// `OutOfMemory` if the allocator fails. Then nothing changes.
     #[inline(always)]
     pub fn grow(&mut self, alloc: &A, cap: usize) -> Result<(), ThinVecError>
         requires from { IsFrom self.old alloc.now }
@@ -59,15 +65,16 @@ impl<T, A: Allocator> Block<T, A> {
         self.resize(alloc, cap)
     }
 
-    // Sets the ghost cost to that of `from` and one growth with its items. Nothing happens at run
-    // time.
+    // Sets the ghost cost to the cost of `from`, plus one growth that copies as many items as the
+    // length of `from`. The function does nothing at run time.
     fn charge_as(&mut self, from: &Block<T, A>)
         ensures changes { seen self.new ≡ record (seen self.old) {
           cost = growing from.now.len from.now.cost;
         } }
     {}
 
-    // `grow` where there is no block: nothing is copied, and nothing freed.
+    // Does what `grow` does for a block without an allocation: nothing is copied, and nothing is
+    // freed. The call fails only if the allocator does, and then nothing changes.
     fn begin(&mut self, alloc: &A, cap: usize) -> Result<(), ThinVecError>
         requires none { self.old.slots ≡ [] }
         requires some { 0 < cap }
@@ -87,8 +94,12 @@ impl<T, A: Allocator> Block<T, A> {
         Ok(())
     }
 
-    /// Gives up all slots but the first `cap`, by one request for memory; the items are copied at
-    /// most once. Fails only where the allocator does, and then nothing changes.
+    /// Removes all slots except the first `cap`, by one request for memory. The items are copied at
+    /// most once.
+    ///
+    /// # Errors
+    ///
+    /// `OutOfMemory` if the allocator fails. Then nothing changes.
     pub fn shrink(&mut self, alloc: &A, cap: usize) -> Result<(), ThinVecError>
         requires from { IsFrom self.old alloc.now }
         requires some { 0 < cap }
@@ -103,12 +114,14 @@ impl<T, A: Allocator> Block<T, A> {
         ensures err { OnErr result (self.new ≡ self.old) }
         ensures cause { IfErr result (λ cause. cause ≡ ThinVecError.OutOfMemory) }
     {
-        // This call tells the prover that the old capacity fits, so that a smaller one fits, too.
+        // Tells the prover that the present capacity fits. So the smaller capacity `cap` fits too.
         let _whole = self.cap();
         self.resize(alloc, cap)
     }
 
-    // Moves the items to `cap` slots. Many that make words may stay where they are.
+    // Changes the number of slots to `cap`. If there are many items and they make whole words, they
+    // may stay where they are; otherwise they are moved to a new block. The call fails only if the
+    // allocator does, and then nothing changes.
     #[inline(always)]
     fn resize(&mut self, alloc: &A, cap: usize) -> Result<(), ThinVecError>
         requires from { IsFrom self.old alloc.now }
@@ -135,7 +148,8 @@ impl<T, A: Allocator> Block<T, A> {
         }
     }
 
-    // Moves the items to a new block of `cap` slots, and frees the old one.
+    // Moves the items to a new block of `cap` slots, and frees the old block. The call fails only
+    // if the allocator does, and then nothing changes.
     fn remake(&mut self, alloc: &A, cap: usize) -> Result<(), ThinVecError>
         requires from { IsFrom self.old alloc.now }
         requires some { 0 < cap }
@@ -163,7 +177,7 @@ impl<T, A: Allocator> Block<T, A> {
         Ok(())
     }
 
-    /// Frees the memory, where there is a block. Every slot must be empty.
+    /// Frees the allocation, if there is one. Every slot must be empty.
     pub fn release(self, alloc: &A)
         requires from { IsFrom self alloc.now }
         requires empty { self.slots ≡ empty (length self.slots) }
@@ -176,14 +190,16 @@ impl<T, A: Allocator> Block<T, A> {
         }
     }
 
-    /// `release` where there is no block, with no test.
+    /// Consumes a block without slots, as `release` does, but without testing whether there is an
+    /// allocation.
     pub fn forget_none(self)
         requires none { self.slots ≡ [] }
     {
         let _none = unsafe { ManuallyDrop::new_unchecked(self) };
     }
 
-    // `allocate` at the block's size and alignment.
+    // Allocates a block as `allocate` does. `bytes` and `align` are the size and the alignment of
+    // the block. The call fails only if the allocator does.
     fn allocate_block(
         alloc: &A,
         cap: usize,
@@ -218,7 +234,8 @@ impl<T, A: Allocator> Block<T, A> {
         }
     }
 
-    // `release` where there is a block, at its size and alignment.
+    // Frees the allocation, as `release` does for a block that has one. `bytes` and `align` are the
+    // size and the alignment of the block.
     fn free_block(self, alloc: &A, bytes: usize, align: usize)
         requires from { self.alloc ≡ Some alloc.now }
         requires empty { self.slots ≡ empty (length self.slots) }

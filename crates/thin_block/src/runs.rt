@@ -1,4 +1,4 @@
-//! Runs of slots: their items go along the block, or to another one.
+//! Moving runs of items, within a block or to another block. A run is the items in adjacent slots.
 ghost use Rattle.std.specs.Prelude.{◌≡◌, ◌⊎◌, ℕ, ◌+◌, ◌<◌, ◌≤◌, length};
 ghost use Rattle.std.specs.declared.option.Option.TheVariants.{None};
 ghost use Rattle.thin_block.specs.Cost.{Cost, moving};
@@ -12,8 +12,8 @@ use std::alloc::Allocator;
 impl<T, A: Allocator> Block<T, A> {
     ghost use Rattle.thin_block.specs.Block.{seen};
 
-    /// Moves the `k` items in the slots starting at `from` to those starting at `to`. The two runs
-    /// may overlap.
+    /// Moves the `k` items in the slots from `from` on to the slots from `to` on. The two ranges of
+    /// slots may overlap.
     pub fn move_run(&mut self, from: usize, to: usize, k: usize)
         requires source { from + k ≤ length self.old.slots }
         requires target { to + k ≤ length self.old.slots }
@@ -33,8 +33,9 @@ impl<T, A: Allocator> Block<T, A> {
         }
     }
 
-    /// Moves the `k` items that follow the `gap` empty slots at `to` down into them. Where `gap` is
-    /// a constant, LLVM makes this a `memmove`.
+    /// Moves `k` items down by `gap` slots, so that the first of them is in the slot `to`. The
+    /// `gap` slots from `to` on must be empty, and the items must follow them. If `gap` is a
+    /// constant, LLVM turns this call into a `memmove`.
     #[inline(always)]
     pub fn move_down(&mut self, to: usize, gap: usize, k: usize)
         requires in_bounds { to + gap + k ≤ length self.old.slots }
@@ -53,7 +54,8 @@ impl<T, A: Allocator> Block<T, A> {
         }
     }
 
-    /// `move_down` of a block that is passed by value, so that its pointer stays in a register.
+    /// Moves items down as `move_down` does, and returns the block. The block is passed by value,
+    /// so that its pointer stays in a register.
     #[inline(never)]
     pub fn close_gap(self, to: usize, gap: usize, k: usize) -> Block<T, A>
         requires in_bounds { to + gap + k ≤ length self.slots }
@@ -68,7 +70,7 @@ impl<T, A: Allocator> Block<T, A> {
         let mut block = self;
         // This call tells the prover that the number of slots is below 2 ^ 63.
         let _cap = block.cap();
-        // In each arm the gap is a constant to LLVM, which makes a `memmove` of the loop.
+        // In each arm, `gap` is a constant for LLVM, which turns the loop into a `memmove`.
         match gap {
             1 => block.move_down(to, gap, k),
             2 => block.move_down(to, gap, k),
@@ -90,7 +92,7 @@ impl<T, A: Allocator> Block<T, A> {
         block
     }
 
-    // `move_run` where the runs overlap.
+    // Moves the items as `move_run` does, if the two ranges of slots overlap.
     fn move_overlapping(&mut self, from: usize, to: usize, k: usize)
         requires source { from + k ≤ length self.old.slots }
         requires target { to + k ≤ length self.old.slots }
@@ -111,7 +113,7 @@ impl<T, A: Allocator> Block<T, A> {
         }
     }
 
-    // `move_run` where the runs lie apart.
+    // Moves the items as `move_run` does, if the two ranges of slots do not overlap.
     fn move_apart(&mut self, from: usize, to: usize, k: usize)
         requires source { from + k ≤ length self.old.slots }
         requires target { to + k ≤ length self.old.slots }
@@ -131,8 +133,7 @@ impl<T, A: Allocator> Block<T, A> {
         }
     }
 
-    /// Moves the `k` items in the slots starting at `from` to the empty slots of `other` starting
-    /// at `to`.
+    /// Moves the `k` items in the slots from `from` on to the empty slots of `other` from `to` on.
     pub fn move_run_to(&mut self, from: usize, k: usize, other: &mut Block<T, A>, to: usize)
         requires source { from + k ≤ length self.old.slots }
         requires target { to + k ≤ length other.old.slots }
@@ -149,8 +150,8 @@ impl<T, A: Allocator> Block<T, A> {
         self.move_run_charging(from, other, to, k);
     }
 
-    // Moves the `k` items in the slots starting at `from` to those of `to_block` starting at `to`,
-    // and says what `to_block` has cost by then.
+    // Moves the `k` items in the slots from `from` on to the empty slots of `to_block` from `to`
+    // on. The ghost parameter `cost` is the cost of `to_block` after the call.
     pub(crate) fn move_run_charging(
         &mut self,
         from: usize,

@@ -1,16 +1,15 @@
-//! Items slide along one block, where the places that they leave and those that they come to
-//! overlap.
+//! Moving a run of items within a block if the old and the new slots overlap.
 //!
-//! This is `std::ptr::copy`, but for its first test: that compares the two pointers, which is
-//! allowed only in the first half of the address space, and an allocator says nothing of where its
-//! blocks lie. Here the caller says which way the items go.
+//! The function is `std::ptr::copy` without its first test. That test compares the two pointers,
+//! which is allowed only in the first half of the address space, and an allocator does not promise
+//! where its blocks are. Here the caller says in which direction the items move.
 ghost use Rattle.std.specs.Prelude.{ℕ, ◌^◌, ◌<◌, List};
 ghost use Rattle.core.specs.Ptr.{array_size, memory_before_copy, memory_after_copy};
 ghost use types.Logic.{sem};
 ghost use Rattle.thin_block.specs.Shifts.{IsShifted};
 
-// Moves `count` items from `source` to `target`, which lies as many places above or below it as the
-// ghost number says.
+// Moves `count` items from `source` to `target`. The ghost number `g.0` is the distance of the two
+// pointers in items, and `up` says whether `target` is above `source`.
 pub(crate) unsafe fn slide<T>(source: *const T, target: *mut T, count: usize, up: bool)
     ghost g: { ℕ × List T }
     requires shifted { IsShifted T.row up g.0 source target }

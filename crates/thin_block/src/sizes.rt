@@ -1,4 +1,5 @@
-//! How many bytes a block takes, and which capacities fit: numbers only.
+//! The size of a block in bytes, and which capacities fit. The functions here compute with numbers
+//! only.
 ghost use Rattle.std.specs.Prelude.{◌≡◌, ◌↔◌, IsTrue};
 ghost use Rattle.std.specs.Mem.{type_size};
 ghost use Rattle.std.specs.Align.{type_align};
@@ -7,21 +8,22 @@ ghost use Rattle.thin_block.specs.Capacity.{IsAlign, block_align, block_bytes, F
 
 use std::mem::{align_of, size_of};
 
-// The bytes of the capacity and the length. No type has an alignment above 16, so the items always
-// begin here.
+// The size of the header in bytes. No type has an alignment above 16, so the first item is always
+// this many bytes after the start of the block.
 pub(crate) const HEADER: usize = 16;
 
-// The words of the capacity and the length: how far after the capacity the first item lies.
+// The size of the header in words of 8 bytes: the capacity and the length. The first item is this
+// many words after the capacity.
 pub(crate) const HEADER_WORDS: usize = 2;
 
-// The size of an item in bytes. One past `usize::MAX` counts as `usize::MAX`.
+// Returns the size of an item in bytes, or `usize::MAX` if the size is greater than that.
 pub(crate) fn item_size<T>() -> usize
     ensures value { result ≡ capped (type_size T.row) }
 {
     size_of::<T>()
 }
 
-// The alignment of an item in bytes.
+// Returns the alignment of an item in bytes.
 fn item_align<T>() -> usize
     ensures value { result ≡ type_align T.row }
     ensures known { IsAlign result }
@@ -29,14 +31,14 @@ fn item_align<T>() -> usize
     align_of::<T>()
 }
 
-// The alignment of a block in bytes.
+// Returns the alignment of a block in bytes.
 pub(crate) fn align_of_block<T>() -> usize
     ensures value { result ≡ block_align (type_align T.row) }
 {
     item_align::<T>().max(8)
 }
 
-// The bytes of a block for `cap` items.
+// Returns the size in bytes of a block for `cap` items.
 pub(crate) fn bytes_of_block<T>(cap: usize) -> usize
     requires { Fits T.row cap }
     ensures value { result ≡ block_bytes (type_size T.row) (type_align T.row) cap }
@@ -44,8 +46,8 @@ pub(crate) fn bytes_of_block<T>(cap: usize) -> usize
     (HEADER + cap * item_size::<T>()).next_multiple_of(align_of_block::<T>())
 }
 
-/// Whether a block for `cap` items is small enough to be asked for: neither `cap` nor the block's
-/// bytes are past `isize::MAX`.
+/// Returns whether a block for `cap` items is small enough to be allocated: neither `cap` nor the
+/// size of the block in bytes exceeds `isize::MAX`.
 pub fn fits<T>(cap: usize) -> bool
     ensures value { IsTrue result ↔ Fits T.row cap }
 {

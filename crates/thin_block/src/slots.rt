@@ -1,4 +1,4 @@
-//! One slot, or a few: items go in and out.
+//! Moving items into slots and out of slots, one by one or as an array.
 ghost use Rattle.std.specs.Prelude.{◌≡◌, ◌+◌, ◌<◌, ◌≤◌, ◌==◌, if◌then◌else◌, IsSome, length, slice_set};
 ghost use Rattle.core.specs.Mem.Slots.{IsFull, SamePlaces, slots_items, slots_len};
 ghost use Rattle.std.specs.declared.option.Option.TheVariants.{None, Some};
@@ -10,13 +10,13 @@ use crate::sizes::HEADER_WORDS;
 use core::slots::Slots;
 use std::alloc::Allocator;
 
-// So many items, or fewer, are copied in one by one.
+// At most this many items are copied in one by one.
 const FEW: usize = 16;
 
 impl<T, A: Allocator> Block<T, A> {
     ghost use Rattle.thin_block.specs.Block.{seen};
 
-    /// Moves `value` into the empty slot `i`, which owns it afterwards.
+    /// Moves `value` into the empty slot `i`, which owns the value afterwards.
     pub fn put(&mut self, i: usize, value: T)
         requires in_bounds { i < length self.old.slots }
         requires empty { slot self.old.slots i ≡ None }
@@ -29,8 +29,8 @@ impl<T, A: Allocator> Block<T, A> {
         unsafe { (at.add(HEADER_WORDS) as *mut T).add(i).write(value) }
     }
 
-    /// `put`, and then `store_len`: both by one pointer, so that the compiler need not read it
-    /// again.
+    /// Moves `value` into the empty slot `i` and stores `len` as the length. Both writes use one
+    /// pointer, so that the compiler does not have to read the pointer again.
     pub fn put_and_store(&mut self, i: usize, value: T, len: usize)
         requires in_bounds { i < length self.old.slots }
         requires empty { slot self.old.slots i ≡ None }
@@ -48,8 +48,8 @@ impl<T, A: Allocator> Block<T, A> {
         }
     }
 
-    /// Moves the item out of the slot `i`, which is empty afterwards. Only what comes in counts as
-    /// moved.
+    /// Moves the item out of the slot `i` to the caller. The slot is empty afterwards. An item that
+    /// is moved out does not count as moved.
     pub fn take(&mut self, i: usize) -> T
         requires filled { IsSome (slot self.old.slots i) }
         ensures value { slot self.old.slots i ≡ Some result }
@@ -61,7 +61,7 @@ impl<T, A: Allocator> Block<T, A> {
         unsafe { (at.add(HEADER_WORDS) as *mut T).add(i).read() }
     }
 
-    /// Swaps the items in the slots `i` and `j`, which may be the same.
+    /// Exchanges the items in the slots `i` and `j`, which may be the same slot.
     pub fn swap(&mut self, i: usize, j: usize)
         requires first { IsSome (slot self.old.slots i) }
         requires second { IsSome (slot self.old.slots j) }
@@ -81,8 +81,9 @@ impl<T, A: Allocator> Block<T, A> {
         }
     }
 
-    /// Moves the item out of the slot `i`, and the one in the slot `j` into it. They may be the
-    /// same slot: then nothing moves but what comes out.
+    /// Moves the item out of the slot `i` to the caller, and then moves the item of the slot `j`
+    /// into the slot `i`. The two may be the same slot: then the slot is empty afterwards, and no
+    /// move is counted.
     pub fn take_replacing(&mut self, i: usize, j: usize) -> T
         requires first { IsSome (slot self.old.slots i) }
         requires second { IsSome (slot self.old.slots j) }
@@ -115,7 +116,8 @@ impl<T, A: Allocator> Block<T, A> {
         unsafe { ((at.add(HEADER_WORDS) as *mut T).add(i) as *mut [T; N]).write(values) }
     }
 
-    /// Moves the `N` items out of the slots from `i` on, which are empty afterwards.
+    /// Moves the `N` items out of the slots from `i` on to the caller. The slots are empty
+    /// afterwards.
     pub fn take_array<const N: usize>(&mut self, i: usize) -> [T; N]
         requires in_bounds { i + N ≤ length self.old.slots }
         requires filled { AreFilled self.old.slots i N }
@@ -149,10 +151,10 @@ impl<T: Copy, A: Allocator> Block<T, A> {
     }
 }
 
-// `row` filled with copies of `items`.
+// Returns `row` filled with copies of `items`.
 //
-// `Slots::copy_in` is one copy, by a call and after a test whether the two runs overlap. For a few
-// items that would cost more than the items.
+// `Slots::copy_in` is one call, which first tests whether the two runs overlap. For a few items,
+// call and test would cost more than the copy.
 fn copied<T: Copy>(mut row: Slots<T>, items: &[T]) -> Slots<T>
     requires room { slots_len row ≡ length items.now }
     ensures cap { SamePlaces row result }
@@ -166,7 +168,7 @@ fn copied<T: Copy>(mut row: Slots<T>, items: &[T]) -> Slots<T>
     row
 }
 
-// `copied`, item by item.
+// Copies `items` into `row` as `copied` does, one item after the other.
 fn copied_singly<T: Copy>(mut row: Slots<T>, items: &[T]) -> Slots<T>
     requires room { slots_len row ≡ length items.now }
     ensures cap { SamePlaces row result }

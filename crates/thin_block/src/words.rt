@@ -1,18 +1,18 @@
-//! Words: a few items as one value that is aligned as a block is, so that to the allocator a block
-//! is an array of them.
+//! Words: a word is a value that holds a few items and is aligned as a block is. To the allocator,
+//! a block whose items make words is an array of words.
 ghost use Rattle.std.specs.Prelude.{◌≡◌, ◌*◌, ◌^◌, ◌<◌, List, length};
 ghost use Rattle.std.specs.Mem.{type_size};
 ghost use types.Logic.{sem};
 ghost use Rattle.thin_block.specs.Words.{runs_from, words_from};
 ghost use Rattle.thin_block.specs.contracts.words.Words.{the_row};
 
-// `M` items, as aligned as a block.
+// A word: `M` items, aligned as a block is.
 pub(crate) struct Words<T, const M: usize> {
     pub(crate) items: [T; M],
     pub(crate) aligned: [u64; 0],
 }
 
-// Makes `count` words of the items from `items` on, where they lie. LLVM leaves nothing of it.
+// Turns the items from `items` on into `count` words, in place. LLVM removes the loop.
 pub(crate) unsafe fn make_words<T, const M: usize>(items: *mut [T; M], count: usize)
     ghost runs: { List (List T) }
     requires count { length runs ≡ count }

@@ -1,4 +1,4 @@
-//! The growth rule of a list that names no other: its capacity doubles.
+//! `Doubling`, the default growth rule: the capacity doubles.
 ghost use Rattle.std.specs.Prelude.{◌≡◌};
 ghost use Rattle.std.specs.Mem.{type_size};
 ghost use Rattle.thin_block.specs.Capacity.{first};
@@ -7,8 +7,8 @@ ghost use Rattle.thin_block.specs.Growth.{doubling, ruled_capacity};
 use crate::growth::{Growth, fitting};
 use crate::sizes::item_size;
 
-/// The rule of the Rust crate: twice the capacity, or `first_capacity` where that is 0, or the want
-/// where it is more.
+/// The growth rule of the Rust crate thin-vec: the new capacity is twice the old one, or
+/// `first_capacity` if the old one is 0. If more items need room, it is their number.
 pub struct Doubling {}
 
 impl Growth for Doubling {
@@ -29,8 +29,8 @@ impl Growth for Doubling {
     ghost law = { doubling_law };
 }
 
-/// The capacity of a first block by doubling, unless more is wanted: 4, or 1 for items of more than
-/// `usize::MAX / 8` bytes.
+/// Returns the capacity that doubling chooses for a first block, unless more items need room: 4, or
+/// 1 for items of more than `usize::MAX / 8` bytes.
 pub fn first_capacity<T>() -> usize
     ensures value { result ≡ first (type_size T.row) }
 {
@@ -41,8 +41,8 @@ pub fn first_capacity<T>() -> usize
     }
 }
 
-/// The capacity that doubling rules for `want` items: `cap` where that suffices, and `None` where
-/// it overflows.
+/// Returns the capacity that a list of capacity `cap` has under `Doubling` once it has room for
+/// `want` items. This is `cap` if there is room already, and `None` if the new capacity overflows.
 pub fn next_capacity<T>(cap: usize, want: usize) -> Option<usize>
     ensures value { result ≡ ruled_capacity doubling T.row cap want }
 {

@@ -1,4 +1,4 @@
-//! A growth rule whose blocks fill a power of two bytes.
+//! `PowerBytes`, a growth rule whose blocks fill a power of two bytes.
 ghost use Rattle.std.specs.Prelude.{◌≡◌, ◌+◌, ◌*◌, ◌^◌, ◌<◌, ◌≤◌, IfNone, IfSome};
 ghost use Rattle.std.specs.Mem.{type_size};
 ghost use Rattle.std.specs.Align.{type_align};
@@ -8,11 +8,12 @@ use crate::growth::doubling::Doubling;
 use crate::growth::{Growth, fitting};
 use crate::sizes::{HEADER, item_size};
 
-/// As many items as fit, after the header, into a power of two bytes: the least power that has room
-/// for the want, and for twice the capacity. Allocators that serve powers of two then waste less
-/// than one item of a block. Items of no size grow as by `Doubling`.
+/// A growth rule that chooses as many items as fit, together with the header, into a power of two
+/// bytes. This is the least power of two that has room for the wanted items, and for twice the old
+/// capacity. If an allocator rounds requests up to powers of two, a block then wastes less than one
+/// item. For items of size 0, the rule is the same as `Doubling`.
 ///
-/// The rule is this port's own, after the one that the Rust crate has for Gecko.
+/// The rule is this port's own, modelled on the one that the Rust crate thin-vec has for Gecko.
 pub struct PowerBytes {}
 
 impl Growth for PowerBytes {
@@ -21,8 +22,9 @@ impl Growth for PowerBytes {
 
     ghost rule = { power_bytes };
 
-    // A block of as many items is at most a power of two bytes, before it is rounded up to its
-    // alignment, and one item more would be past that power.
+    // Returns the capacity that the rule chooses. Unless items have size 0, a block of this
+    // capacity takes at most a power of two bytes, before its size is rounded up to its alignment.
+    // A block with one more item would take more bytes than that power.
     fn next_capacity<T>(cap: usize, want: usize) -> Option<usize>
         requires { cap < want }
         ensures value { result ≡ power_bytes (type_size T.row) (type_align T.row) cap want }
@@ -42,8 +44,9 @@ impl Growth for PowerBytes {
     ghost law = { power_bytes_law };
 }
 
-// The least power of two that is at least as many bytes as a header and so many items take, or
-// `None` where that is past 2 ^ 63: then no block of them fits.
+// Returns the least power of two that is at least as many bytes as a header and `items` items of
+// `size` bytes take. Returns `None` if that power is greater than 2 ^ 63: then no block of that
+// many items fits.
 fn power_for(items: usize, size: usize) -> Option<usize>
     ensures none { IfNone result (2 ^ 63 < 16 + items * size) }
     ensures value { IfSome result (λ power. power ≡ least_power (16 + items * size)) }

@@ -1,5 +1,6 @@
--- `slide` moves the items one by one: from the last on for a move up, and from the first on for a
--- move down. It is core's proof of `ptr::copy`, without its test. Assumes `Logic`.
+-- `slide` moves the items one by one: it begins with the last item if they move up, and with the
+-- first item if they move down. The proof is core's proof of `ptr::copy`, without the first test.
+-- Assumes `Logic`.
 use mathlib.Core.Path.{◌≡◌, refl, sym, subst}
 use mathlib.Core.Bool.{Bool, true, false}
 use mathlib.Core.List.{List, [], ◌∷◌}

@@ -1,4 +1,4 @@
--- No sum or product is past what a word holds, where the capacity fits.
+-- If the capacity fits, no sum or product in the computation exceeds `usize::MAX`.
 use Rattle.std.proofs.Common.{◌≡◌, ℕ, ◌+◌, ◌*◌, ap, ◌∙◌, arith}
 use Rattle.std.specs.Mem.{type_size}
 use Rattle.std.specs.Align.{type_align}
@@ -10,7 +10,7 @@ use denote.Param.{param}
 use denote.RattleType.{RattleType}
 use Rattle.thin_block.proofs.sizes.bytes_of_block.Goals as goal
 
--- the sum is the items' end, for the size that the code sees
+-- the sum that the code computes is the offset at which the last item ends
 summed : (R : RattleType) (c size : ℕ) → Fits R c → size ≡ capped (type_size R)
     → 16 + c * size ≡ items_offset (type_align R) + c * type_size R
 summed R c size fits is =

@@ -35,7 +35,7 @@ use Rattle.thin_block.specs.contracts.sizes.item_align.Key.{name as #self}
 use Rattle.thin_block.proofs.sizes.item_align.Statement as stated
 use Rattle.thin_block.proofs.sizes.item_align.Code as code
 
--- an `ensures` of two facts
+-- proves an `ensures` of two facts
 module _ {M : Type 1} {𝓤 : Ura M} {𝓛 : Logic 𝓤} {K : Type 0} {Γ : List (Item 𝓤)} where
   says_both : K → {φ ψ : Type 0} {P : SProp 𝓤} → φ → ψ
       → Step K 𝓛 Γ (prop P) Γ (prop (sep 𝓤 P (sep 𝓤 (fact 𝓤 φ) (fact 𝓤 ψ))))
@@ -45,7 +45,7 @@ module _ {M : Type 1} {𝓤 : Ura M} {𝓛 : Logic 𝓤} {K : Type 0} {Γ : List
         use0 𝓛 (raw (fact 𝓤 φ)) (fact_i 𝓤 φ (emp 𝓤) x) $ done !));
   })
 
--- every alignment is 1, 2, 4, 8 or 16
+-- every alignment, which is 1, 2, 4, 8 or 16, is less than 2 ^ 64
 below : (w : Width) → bytes w < 2 ^ 64
 below w8 = omega arith
 below w16 = omega arith

@@ -1,4 +1,5 @@
--- The first i places hold the first i items, and the places are those of before.
+-- The first i places hold copies of the first i items, and the places are the same as before the
+-- loop.
 use Rattle.std.proofs.Common.{◌≡◌, take}
 use Rattle.core.specs.Mem.Slots.{SamePlaces, slots_filled, slots_items}
 use Rattle.core.specs.Mem.Slots.Ownership.{Filled}

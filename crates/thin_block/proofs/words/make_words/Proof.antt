@@ -1,5 +1,5 @@
--- `make_words` reads the items of each word and writes the word where they lay, from the first on.
--- Assumes `Logic`.
+-- `make_words` reads the items of each word and writes the word at their place, beginning with the
+-- first word. Assumes `Logic`.
 use mathlib.Core.Path.{◌≡◌, refl, sym, ap, ◌∙◌}
 use mathlib.Core.List.{List, [], ◌∷◌, map}
 use mathlib.Core.WellFounded.InvImage
@@ -84,7 +84,7 @@ module _ (E : El) (m : ℕ) where
     (stay_dropped (plain (λ _. usize)) yes, tt),
   )
 
-  -- the items of several words
+  -- the items of several words: one list for each word
   abbrev Runs : Type 0
   Runs = List (List (el_x E))
 
@@ -97,7 +97,7 @@ module _ (E : El) (m : ℕ) where
   abbrev Wr : RattleType
   Wr = word_row E.row m
 
-  -- the value of a word, by that of its items
+  -- the machine value of a word whose items have the machine value v
   abbrev word_val : Val → Val
   word_val v = vstruct (vcons v (vcons (vstruct vnil) vnil))
 
@@ -107,7 +107,7 @@ module _ (E : El) (m : ℕ) where
   word_fits : (v : Val) → Fits (ty_array (layout E.row) m) v → Fits (layout Wr) (word_val v)
   word_fits v fits = (both (has_ty (ty_array (layout E.row) m) v) _ fits.0 tt, (fits.1, (tt, tt)))
 
-  -- what a word owns is what its items own
+  -- a word owns what its items own
   word_made : {M : Type 1} {𝓤 : Ura M} (𝓛 : Logic 𝓤) (xs : List (el_x E)) (v : Val)
       → ent 𝓤 (sem 𝓛 (Arr.own_val xs (v ∷ [])))
       (sem 𝓛 (Wr.own_val (word (R E) N xs) (word_val v ∷ [])))
@@ -165,7 +165,7 @@ module _ (E : El) (m : ℕ) {M : Type 1} {𝓤 : Ura M} (𝓛 : Logic 𝓤) (at_
     abbrev To : Fml
     To = Made g o
 
-    -- what turns the words that are left into all of them
+    -- what turns the words that are not yet made into all words
     abbrev Then : Runs E m → ℕ → SProp 𝓤
     Then xss at = wand 𝓤 (sem 𝓛 (Made xss at)) (sem 𝓛 To)
 
@@ -179,7 +179,7 @@ module _ (E : El) (m : ℕ) {M : Type 1} {𝓤 : Ura M} (𝓛 : Logic 𝓤) (at_
         feq_i ! (List Val) (vunit ∷ []) (vunit ∷ []) refl $ nothing ! $ nothing ! $ fjoin ! $
         nothing ! $ fjoin ! $ join ! $ move ! (2 ∷ 0 ∷ []) $ join ! $ join ! $ done !
 
-    -- how many words are made, and the items of the others
+    -- the state of the loop: i words are made, and xss are the items of the other words
     abbrev Left : Type 0
     Left = (i : ℕ) × ((xss : Runs E m) × (i + length xss ≡ n))
 
@@ -244,7 +244,8 @@ module _ (E : El) (m : ℕ) {M : Type 1} {𝓤 : Ura M} (𝓛 : Logic 𝓤) (at_
           sets ! (bin ! (get ! refl) (size_lit ! (record { fits = fs })) (record { fits = fm }))
           refl (tt, record { fits = fm }) $
           sets ! (bin ! (get ! refl) (get ! refl) tt) refl (tt, tt) $ fsplit ! $ fsplit ! $
-          -- [the items; the way to a word; the other items; what comes then; the tokens]
+          -- context: [the items of the next word; the way to that word; the items of the other
+          -- words; what turns these into all words; the tokens]
           use1 𝓛 (exists (λ (v : Val). ‵ (fat full_share σ b at v) ⊛ ‵
           ((Arr E m).own_val xs (v ∷ [])))) (part_out 𝓛 (Arr E m) refl full_share xs b at) $
           pick ! (λ v. split ! $ move ! (1 ∷ []) $

@@ -1,4 +1,5 @@
--- `Block` as a type that may hold the type that holds it, by the items in its slots.
+-- The former of `Block`: how a type may contain blocks of itself. A block is determined by the
+-- items in its slots, and by values that contain no items.
 use Rattle.std.specs.Prelude.{◌≡◌, ℕ, suc, max, ◌+◌, ◌≤◌, List, [], ◌∷◌, map, length, Option}
 use Rattle.std.specs.declared.option.Option.TheVariants.{Some, None}
 use mathlib.Core.Path.{PathP, refl, sym, ap, ◌∙◌}
@@ -34,37 +35,38 @@ use Rattle.std.specs.Coded.{coded_option}
 use Rattle.thin_block.specs.declared.block.Block.{Block}
 use Rattle.thin_block.specs.contracts.block.Block as C
 
--- a slot, with h applied to its item
+-- the slot, with h applied to its item
 abbrev pub on_slot : {X Y : Type 0} → (X → Y) → Option X → Option Y
 on_slot h None = None
 on_slot h (Some x) = Some (h x)
 
--- a slot as a former
+-- slots as a former: how a slot contains values of a type X
 module _ (g : Former {0}) where
-  -- how many items below it a slot has
+  -- the number of values of X in a slot with the given shape, plus n
   abbrev pub slot_count : Option g.Shape → Count → Count
   slot_count None n = n
   slot_count (Some a) n = g.count a n
 
-  -- the items below a slot, laid in front of a row
+  -- prepends the values of X in a slot to a row
   abbrev pub slot_put : (X : Type 0) (o : Option (g.Of X)) (n : Count) → Row X n
       → Row X (slot_count (on_slot (g.shape X) o) n)
   slot_put X None n t = t
   slot_put X (Some y) n t = g.put X y n t
 
-  -- the items below a slot, taken from the front of a row
+  -- takes a slot from a row: the values of X in that slot are the first values of the row
   abbrev pub slot_get : (X : Type 0) (a : Option g.Shape) (n : Count) → Row X (slot_count a n)
       → Option (g.Of X) × Row X n
   slot_get X None n v = (None, v)
   slot_get X (Some a) n v = let r : g.Of X × Row X n = g.get X a n v in (Some r.0, r.1)
 
-  -- what was laid in front of a row is what is taken from its front
+  -- taking a slot from a row to which its values were prepended returns that slot and the rest of
+  -- the row
   pub slot_get-put : (X : Type 0) (o : Option (g.Of X)) (n : Count) (t : Row X n)
       → slot_get X (on_slot (g.shape X) o) n (slot_put X o n t) ≡ (o, t)
   slot_get-put X None n t = refl
   slot_get-put X (Some y) n t = λ i. (Some (g.get-put X y n t i).0, (g.get-put X y n t i).1)
 
-  -- what was taken from the front of a row, laid there again, makes the row
+  -- prepending the values of a slot that was taken from a row restores the row
   pub slot_put-get : (X : Type 0) (a : Option g.Shape) (n : Count) (v : Row X (slot_count a n))
       → ◌≡◌ {A = (b : Option g.Shape) × Row X (slot_count b n)} (
         on_slot (g.shape X) (slot_get X a n v).0,
@@ -74,7 +76,7 @@ module _ (g : Former {0}) where
   slot_put-get X None n v = refl
   slot_put-get X (Some a) n v = λ i. (Some (g.put-get X a n v i).0, (g.put-get X a n v i).1)
 
-  -- a function that is applied to all is applied to what is taken
+  -- taking a slot from the front of a row commutes with mapping the row
   pub slot_get-map : (X Y : Type 0) (h : X → Y) (a : Option g.Shape) (n : Count)
       (v : Row X (slot_count a n))
       → slot_get Y a n (over h (slot_count a n) v) ≡ (
@@ -101,28 +103,30 @@ module _ (g : Former {0}) where
   }
 
 module _ {g : Former {0}} (w : Weighed g) where
-  -- how deep the items of a slot go
+  -- the depth of a slot: the depth that its item has, or 0 if the slot is empty
   abbrev pub slot_weight : (X : Type 0) → (X → ℕ) → Option (g.Of X) → ℕ
   slot_weight X μ None = 0
   slot_weight X μ (Some y) = w.weight X μ y
 
-  -- a row is as deep as the deepest that was laid in front of it
+  -- the depth of a row to which the values in a slot were prepended is the maximum of the depth of
+  -- the slot and the depth of the row
   pub slot_puts : (X : Type 0) (μ : X → ℕ) (o : Option (g.Of X)) (n : Count) (t : Row X n)
       → deepest μ (slot_count g (on_slot (g.shape X) o) n) (slot_put g X o n t) ≡ max
       (slot_weight X μ o) (deepest μ n t)
   slot_puts X μ None n t = none_max (deepest μ n t)
   slot_puts X μ (Some y) n t = w.puts X μ y n t
 
-  -- slots have a depth
+  -- the former of slots, with the depth of its values
   abbrev pub w_slot : Weighed (slot g)
   w_slot = record { weight = slot_weight; puts = slot_puts }
 
 module _ {X Y Z : Type 0} (d : Block X Z) where
-  -- slots that may stand in the place of the block's
+  -- the block d may hold the slots ys: they are at least as many as its length, and non-empty if
+  -- and only if d has an allocation
   abbrev pub Fits : List (Option Y) → Type 0
   Fits ys = (d.len ≤ length ys) × (there d.alloc ≡ any ys)
 
-  -- the block with these slots
+  -- the block d with the slots ys
   abbrev pub holding : (ys : List (Option Y)) → Fits ys → Block Y Z
   holding ys sound = record {
     at = d.at;
@@ -135,41 +139,43 @@ module _ {X Y Z : Type 0} (d : Block X Z) where
     sound = sound;
   }
 
-  -- as many slots as the block has may stand in their place
+  -- a block may hold any slots that are as many as its own
   pub fits : (ys : List (Option Y)) → length ys ≡ length d.slots → Fits ys
   fits ys e = (let le = d.sound.0 in omega (arith, e, le), d.sound.1 ∙ sym (any_same d.slots ys e))
 
-  -- which proof of `Fits` does not matter
+  -- two proofs that the block d may hold equal slots are equal
   pub Fits-along : (ys zs : List (Option Y)) (e : ys ≡ zs) (p : Fits ys) (q : Fits zs)
       → PathP (λ i. Fits (e i)) p q
   Fits-along ys zs e = is_prop→PathP (λ i. Fits (e i))
       (λ i p q j. (le_prop p.0 q.0 j, Coded-set coded_bool _ _ p.1 q.1 j))
 
-  -- equal slots make equal blocks
+  -- if ys and zs are equal, the blocks with the slots ys and zs are equal
   abbrev pub holding_along : (ys zs : List (Option Y)) (e : ys ≡ zs) (p : Fits ys) (q : Fits zs)
       → holding ys p ≡ holding zs q
   holding_along ys zs e p q = λ i. holding (e i) (Fits-along ys zs e p q i)
 
--- the block with h applied to each item
+-- the block with h applied to each of its items
 abbrev pub mapped : {X Y Z : Type 0} → (X → Y) → Block X Z → Block Y Z
 mapped h d = holding d (map (on_slot h) d.slots)
     (fits d (map (on_slot h) d.slots) (length-map d.slots (on_slot h)))
 
 module _ (g : Former {0}) (Z : Type 0) where
-  -- as many slots are taken from a row as were asked for
+  -- the slots that are taken from a row are as many as those of the shape a
   pub length_got : (X : Type 0) (a : List (Option g.Shape)) (n : Count)
       (v : Row X (list_count (slot g) a n)) → length (list_get (slot g) X a n v).0 ≡ length a
   length_got X [] n v = refl
   length_got X (a ∷ as') n v =
       ap suc (length_got X as' n ((slot g).get X a (list_count (slot g) as' n) v).1)
 
-  -- a block whose items are taken from a row
+  -- takes a block with the shape a from a row: the values of X in that block are the first values
+  -- of the row
   abbrev pub got : (X : Type 0) (a : Block g.Shape Z) (n : Count)
       → Row X (list_count (slot g) a.slots n) → Block (g.Of X) Z × Row X n
   got X a n v = let r : List (Option (g.Of X)) × Row X n = list_get (slot g) X a.slots n v in
       (holding a r.0 (fits a r.0 (length_got X a.slots n v)), r.1)
 
-  -- what was laid in a row is what is taken from it
+  -- taking a block from a row to which its values were prepended returns that block and the rest of
+  -- the row
   pub got-put : (X : Type 0) (d : Block (g.Of X) Z) (n : Count) (t : Row X n)
       → got X (mapped (g.shape X) d) n ((list (slot g)).put X d.slots n t) ≡ (d, t)
   got-put X d n t = λ i. (
@@ -178,7 +184,7 @@ module _ (g : Former {0}) (Z : Type 0) where
     ((list (slot g)).get-put X d.slots n t i).1,
   )
 
-  -- a block whose items were taken from a row, laid there again, makes the row
+  -- prepending the values of a block that was taken from a row restores the row
   pub put-got : (X : Type 0) (a : Block g.Shape Z) (n : Count)
       (v : Row X (list_count (slot g) a.slots n))
       → ◌≡◌ {A = (b : Block g.Shape Z) × Row X (list_count (slot g) b.slots n)} (
@@ -192,7 +198,7 @@ module _ (g : Former {0}) (Z : Type 0) where
     ((list (slot g)).put-get X a.slots n v i).1,
   )
 
-  -- a function that is applied to a row is applied to what is taken from it
+  -- taking a block from a row commutes with mapping the row
   pub got-map : (X Y : Type 0) (h : X → Y) (a : Block g.Shape Z) (n : Count)
       (v : Row X (list_count (slot g) a.slots n))
       → got Y a n (over h (list_count (slot g) a.slots n) v)
@@ -220,14 +226,14 @@ module _ (g : Former {0}) (Z : Type 0) where
     get-map = got-map;
   }
 
--- a block is as deep as its deepest item
+-- the depth of a block is the depth of its deepest item
 abbrev pub the_weighed : {g : Former {0}} → Weighed g → (Z : Type 0) → Weighed (the_former g Z)
 the_weighed w Z = record {
   weight = λ X μ d. most (slot_weight w X μ) d.slots;
   puts = λ X μ d. List-puts (w_slot w) X μ d.slots;
 }
 
--- a block of no slot
+-- a block without slots, which is the block without an allocation
 abbrev pub the_empty : (Z : Type 0) → Z → Block ⊥ Z
 the_empty Z z = record {
   at = null_ptr;
@@ -240,46 +246,47 @@ the_empty Z z = record {
   sound = (omega arith, refl);
 }
 
--- the items below a row of slots are those that the slots hold
+-- for the former `this`, the values in a row of slots are the items that the slots hold
 pub items_listed : (X : Type 0) (xs : List (Option X))
     → listed _ (children (list (slot this)) X xs) ≡ items_in xs
 items_listed X [] = refl
 items_listed X (None ∷ xs) = items_listed X xs
 items_listed X (Some x ∷ xs) = ap (λ l. x ∷ l) (items_listed X xs)
 
--- the items of a block
+-- the items of a block, in order
 abbrev pub the_items : (Z X : Type 0) → Block X Z → List X
 the_items Z X d = items_in d.slots
 
--- the items of a block are those below it
+-- for the former `this`, the values in a block are its items
 pub the_items_listed : (Z X : Type 0) (d : Block X Z)
     → listed _ (children (the_former this Z) X d) ≡ the_items Z X d
 the_items_listed Z X d = items_listed X d.slots
 
--- the codes of a list of items, for a list over a block
+-- if h keeps the code of each item, then mapping h over a list keeps the code of the list (used by
+-- a list over a block)
 pub codes_of : {X Y : Type 0} (c : X → Gv) (c' : Y → Gv) (h : X → Y) → ((x : X) → c' (h x) ≡ c x)
     → (xs : List X) → code_l c' (map h xs) ≡ code_l c xs
 codes_of = codes_placed
 
--- codes that differ in their first part
+-- if two codes are equal, they are equal as the first part of a pair
 first : {a b c : Gv} → a ≡ b → gcons a c ≡ gcons b c
 first {c = c} e = λ i. gcons (e i) c
 
--- codes that differ in their second part
+-- if two codes are equal, they are equal as the second part of a pair
 second : {a b c : Gv} → a ≡ b → gcons c a ≡ gcons c b
 second {c = c} e = λ i. gcons c (e i)
 
 module _ (R R' : RattleType) (h : R.Denot → R'.Denot) (a : Alike R R' h) where
-  -- an item and its image have one size
+  -- an item and its image under h have the same size
   abbrev width : type_size R' ≡ type_size R
   width = λ i. size (lone (a.mir_same i))
 
-  -- a slot lies in memory as its image does
+  -- a slot takes the same memory as its image under h
   place_placed : (x : Option R.Denot) (b o : ℕ) → place R' (on_slot h x) b o ≡ place R x b o
   place_placed None b o = λ i. room_for (raw (lone (a.mir_same i))) (block_ptr b o)
   place_placed (Some x) b o = lies_placed R R' h a full_share (block_ptr b o) x
 
-  -- a row of slots lies in memory as its image does
+  -- a row of slots takes the same memory as its image under h
   places_placed : (xs : List (Option R.Denot)) (b o : ℕ)
       → places R' (map (on_slot h) xs) b o ≡ places R xs b o
   places_placed [] b o = refl
@@ -287,7 +294,7 @@ module _ (R R' : RattleType) (h : R.Denot → R'.Denot) (a : Alike R R' h) where
       (λ i. fsep (place_placed x b o i) (places R' (map (on_slot h) xs) b (o + width i)))
       ∙ ap (fsep (place R x b o)) (places_placed xs b (o + type_size R))
 
-  -- a block lies in memory as its image does
+  -- a block owns the same memory as its image under h
   pub block_placed : {D : Type 0} (t : D → Ty → Ptr → Fml) (p : Ptr) (n : ℕ)
       (xs : List (Option R.Denot)) (w : Option D) → block_owns t R' p n (map (on_slot h) xs)
       w ≡ block_owns t R p n xs w
@@ -297,13 +304,13 @@ module _ (R R' : RattleType) (h : R.Denot → R'.Denot) (a : Alike R R' h) where
       λ i. fsep (frame (t w) (record R { mir = a.mir_same i }) n (length-map xs (on_slot h) i) b o)
       (places_placed xs b (o + 16) i)
 
-  -- a slot that is lent lies as its image does
+  -- a `&` to a slot shows the same memory as a `&` to its image under h
   place_lent_placed : (x : Option R.Denot) (p : Ptr)
       → place_lent R' (on_slot h x) p ≡ place_lent R x p
   place_lent_placed None p = refl
   place_lent_placed (Some x) p = lent_at_placed R R' h a p x
 
-  -- a row of slots that is lent lies as its image does
+  -- a `&` to a row of slots shows the same memory as a `&` to its image under h
   places_lent_placed : (xs : List (Option R.Denot)) (b o : ℕ) → places_lent R' (map (on_slot h) xs)
       b o ≡ places_lent R xs b o
   places_lent_placed [] b o = refl
@@ -312,7 +319,7 @@ module _ (R R' : RattleType) (h : R.Denot → R'.Denot) (a : Alike R R' h) where
       (places_lent R' (map (on_slot h) xs) b (o + width i)))
       ∙ ap (beside (place_lent R x (block_ptr b o))) (places_lent_placed xs b (o + type_size R))
 
-  -- a block that is lent lies as its image does
+  -- a `&` to a block shows the same memory as a `&` to its image under h
   pub block_lent_placed : {D : Type 0} (p : Ptr) (n : ℕ) (xs : List (Option R.Denot)) (w : Option D)
       → block_lent R' p n (map (on_slot h) xs) w ≡ block_lent R p n xs w
   block_lent_placed null_ptr n xs w = refl
@@ -322,7 +329,8 @@ module _ (R R' : RattleType) (h : R.Denot → R'.Denot) (a : Alike R R' h) where
       (places_lent_placed xs b (o + 16) i)
 
 module _ (A : RattleType) (G : Ghosts A.Denot) (R R' : RattleType) (h : R.Denot → R'.Denot) where
-  -- a block of items lies in memory as the block of their images
+  -- if the memory of items is the same as the memory of their images under h, then this is so for
+  -- blocks of these items
   pub the_places : Alike R R' h → Alike (C.the_row R A G) (C.the_row R' A G)
       ((the_former this A.Denot).map R.Denot R'.Denot h)
   the_places a = record {
@@ -334,13 +342,13 @@ module _ (A : RattleType) (G : Ghosts A.Denot) (R R' : RattleType) (h : R.Denot 
         (block_lent_placed R R' h a d.at d.len d.slots d.alloc i) κ;
   }
 
-  -- a slot's code is that of its image
+  -- if h keeps the codes of items, a slot has the same code as its image
   slot_recoded : Recodes R R' h → (x : Option R.Denot) → (coded_option R'.coded).code (on_slot h x)
       ≡ (coded_option R.coded).code x
   slot_recoded e None = refl
   slot_recoded e (Some x) = second (e x)
 
-  -- a block's code is that of its image
+  -- if h keeps the codes of items, a block has the same code as its image
   pub the_codes_placed : Recodes R R' h → Recodes (C.the_row R A G) (C.the_row R' A G)
       ((the_former this A.Denot).map R.Denot R'.Denot h)
   the_codes_placed e d =

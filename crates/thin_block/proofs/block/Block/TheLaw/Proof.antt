@@ -1,5 +1,5 @@
--- A `&` to a block lends each word and each item that is there, each as its own type does. Assumes
--- `Logic`.
+-- A `&` to a block lends each header word and each item present, as a `&` to that word or item
+-- would. Assumes `Logic`.
 use mathlib.Core.List.{List, [], ◌∷◌, ◌++◌, not-mem-nil}
 use Prim.Native.Nat.{ℕ, ◌+◌}
 use mathlib.Core.Bool.{Bool, true}
@@ -71,7 +71,7 @@ module _ (R : RattleType) (L : RowLaws R) where
 module _ {M : Type 1} {𝓤 : Ura M} (𝓛 : Logic 𝓤) where
   open 𝓛 use {H, A}
 
-  -- what is lent for ever is lent again
+  -- what is lent for ever can be lent once more
   Lends-kept : (t : Lft → Fml) → ShrLaws t → (l : Lft) → Lends 𝓛 (t []) t l
   Lends-kept t L l κ ts inc sp =
       let P : Fml = t [] in

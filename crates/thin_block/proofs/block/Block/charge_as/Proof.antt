@@ -1,4 +1,4 @@
--- `charge_as` does nothing: it says what the block has cost. Assumes `Logic`.
+-- `charge_as` does nothing at run time: it sets the cost of the block. Assumes `Logic`.
 use Rattle.std.proofs.Common.{ℕ, ◌∷◌, [], ◌++◌, refl}
 use mir.Val.{vptr, vunit}
 use mir.MapTy.{inst_fn}

@@ -1,11 +1,11 @@
--- The slots laid in a larger row are the old ones and empty ones.
+-- After `grow`, the slots are the old slots, followed by empty slots.
 use Rattle.std.proofs.Common.{arith}
 use Rattle.thin_block.proofs.BlockLemmas.{slots-are}
 use Rattle.thin_block.proofs.SlotsLemmas.{packed-grown}
 use Rattle.thin_block.proofs.Outcomes.{on-ok}
 use Rattle.thin_block.proofs.block.Block.grow.Goals as goal
 
--- the items in a larger row are the old row and empty slots
+-- laying the items over a larger row of empty slots gives the old row, followed by empty slots
 pub returns-clause-ok : goal.returns-clause-ok
 returns-clause-ok g c =
     let larger = c.requires.larger in

@@ -1,5 +1,5 @@
--- `move_overlapping` takes the run and the gap beside it out of the row, lets the items slide into
--- the gap, and puts both back. Assumes `Logic`.
+-- `move_overlapping` takes the run and the gap next to it out of the row, calls `slide` to move the
+-- items into the gap, and puts both back. Assumes `Logic`.
 use Rattle.std.proofs.Common.{◌≡◌, ℕ, Some, ◌+◌, ◌*◌, ◌^◌, ◌<◌, ◌≤◌, List, ◌∷◌, [], ◌++◌, length, refl, sym, ap, subst, ◌∙◌, arith, w64}
 use lib.ListN.{length-map}
 use lib.Dec.{T as Holds}
@@ -103,8 +103,8 @@ move_overlapping_spec 𝓤 𝓛 𝓜 𝓡 wired T A LT LA g d dd met md =
     sets ! (bin ! (get ! refl) (get ! refl) tt) refl (tt, tt) $
     move ! (1 ∷ []) $ use1 𝓛 (‵ Before ⊛ ‵ p.Rest) p.out $ split ! $ move ! (7 ∷ []) $
     token_out ! 1 z.0.0.1 z.0.1.1 $ move ! (2 ∷ 0 ∷ []) $
-    -- [the items and the gap; the token of T; the last token; the other slots; the header; the
-    -- cell; the open borrow, in three entries]
+    -- context: [the items and the gap; the token of T; the last token; the other slots; the header;
+    -- the cell; three entries for the open borrow]
     let G = triple_of 𝓛 (slide.signature T) (slide.spec T 𝓛 𝓜.mem 𝓡.returns) in
     let y₀ : G.Ghost = (
       (
@@ -135,7 +135,7 @@ move_overlapping_spec 𝓤 𝓛 𝓜 𝓡 wired T A LT LA g d dd met md =
     feq_l ! (λ e. move ! (1 ∷ []) $
     pick ! (λ ws. split ! $ drop ! $ move ! (1 ∷ []) $ split ! $ move ! (1 ∷ []) $
     drop ! $ move ! (1 ∷ 0 ∷ []) $
-    -- [what is left of both; the token of T; the last token; ..]
+    -- context: [the moved items and the new gap; the token of T; the last token; ..]
     lands_last ! refl (subst (λ (u : Val). Holds (has_ty ty_unit u) × WT u)
     (sym (ap only e)) (tt, tt)) $
     continues ! 𝓜 𝓡 fn l 2 ((walk_of 𝓛 En₀ hs c).post z) $

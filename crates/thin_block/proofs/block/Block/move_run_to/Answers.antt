@@ -1,4 +1,4 @@
--- The run goes to the slots that are asked for, which are empty.
+-- The slots to which the run moves are empty, as `move_run_to` requires.
 use Rattle.std.proofs.Common.{rules}
 use Rattle.thin_block.proofs.block.Block.move_run_to.Goals as goal
 

@@ -1,4 +1,4 @@
--- The run that moves is filled, and what is left is empty.
+-- The run that `remake` moves is filled, and the old block is empty when `remake` frees it.
 use Rattle.std.proofs.Common.{◌≡◌, ℕ, length, List, None, sym, ap, ◌∙◌, arith}
 use Rattle.std.specs.Prelude.{Option}
 use Rattle.std.proofs.lemmas.List.{length-replicate}
@@ -7,7 +7,7 @@ use Rattle.thin_block.proofs.SlotsLemmas.{packed-filled, packed-le, packed-empti
 use Rattle.thin_block.proofs.block.Block.remake.Goals as goal
 use Rattle.thin_block.proofs.block.Block.remake.Goals.{then-len-gt0, else-len-gt0}
 
--- the items lie in front, and the other block is empty
+-- the items are in the first slots of the old block, and all slots of the new block are empty
 pub move_run_charging-requires : goal.move_run_charging-requires
 move_run_charging-requires g c κs within =
     let old = c.args.self.now.slots in
@@ -34,7 +34,7 @@ move_run_charging-requires g c κs within =
       ),
     )
 
--- the old block is empty once the items are carried, and where it had none
+-- the old block is empty after its items were moved, and also if it had no items
 pub release-requires-clause-empty : goal.release-requires-clause-empty
 release-requires-clause-empty g c =
     let old = c.args.self.now.slots in

@@ -1,7 +1,7 @@
--- The cost that the new block has by then: one block more, with the items.
+-- The cost of the new block after its items were moved to it.
 use Rattle.thin_block.specs.Cost.{growing}
 use Rattle.thin_block.proofs.block.Block.remake.Given as goal
 
--- the other block has cost what the old one had, and this growth
+-- the cost of the old block, plus one growth that copies the items
 abbrev pub ghost-move_run_charging : goal.ghost-move_run_charging
 ghost-move_run_charging g a = growing a.k a.self.now.cost

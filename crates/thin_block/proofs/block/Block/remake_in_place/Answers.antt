@@ -1,12 +1,12 @@
--- The room that is wanted is no more than a word holds.
+-- The number of words that the new capacity needs fits into a `usize`.
 use Rattle.std.proofs.Common.{arith}
 use Rattle.thin_block.proofs.SizesLemmas.{opened, fits_tells}
 use Rattle.thin_block.proofs.WordsLemmas.{words_told}
 use denote.Param.{param}
 use Rattle.thin_block.proofs.block.Block.remake_in_place.Goals as goal
 
--- a capacity that fits is below 2 ^ 63, as many words are no more, and the header takes the room of
--- at most two
+-- a capacity that fits is less than 2 ^ 63, its items make at most that many words, and the header
+-- takes as many bytes as one or two words
 pub overflow_add-wanted : goal.overflow_add-wanted
 overflow_add-wanted g c =
     let T = param 0 g.row.T in

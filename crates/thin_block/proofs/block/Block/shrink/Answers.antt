@@ -1,4 +1,4 @@
--- The slots laid in a smaller row are the first of the old ones.
+-- After `shrink`, the slots are the first slots of the old block.
 use Rattle.std.proofs.Common.{arith}
 use denote.Param.{param}
 use Rattle.thin_block.proofs.BlockLemmas.{slots-are}
@@ -7,14 +7,14 @@ use Rattle.thin_block.proofs.SlotsLemmas.{packed-shrunk}
 use Rattle.thin_block.proofs.Outcomes.{on-ok}
 use Rattle.thin_block.proofs.block.Block.shrink.Goals as goal
 
--- a smaller block fits where the block does
+-- if the old capacity fits, a smaller capacity fits too
 pub resize-requires-clause-fits : goal.resize-requires-clause-fits
 resize-requires-clause-fits g c =
     let smaller = c.requires.smaller in
     let whole = c.cap-whole.ensures.value in
     fits-less (param 0 g.row.T) c.args.cap c.cap-whole.result c.cap-whole.ensures.fits (omega arith)
 
--- the items in a smaller row are the first slots of the old one
+-- laying the items over a smaller row of empty slots gives the first slots of the old row
 pub returns-clause-ok : goal.returns-clause-ok
 returns-clause-ok g c =
     let smaller = c.requires.smaller in

@@ -1,4 +1,4 @@
--- The size that the code reads is past the bound exactly where the type's is.
+-- The size that the code reads exceeds the bound if and only if the size of the type does.
 use Rattle.std.proofs.Common.{arith}
 use Rattle.std.specs.Mem.{type_size}
 use Rattle.thin_block.proofs.SizesLemmas.{first_one, first_many}

@@ -1,4 +1,4 @@
--- A capacity that suffices stays; for any other want the rule decides.
+-- If the capacity suffices, the result is that capacity; otherwise the rule chooses the result.
 use Rattle.std.proofs.Common.{sym, ◌∙◌, arith}
 use Rattle.thin_block.specs.Growth.{doubling}
 use Rattle.thin_block.proofs.CapacityLemmas.{ruled-same, ruled-rule}

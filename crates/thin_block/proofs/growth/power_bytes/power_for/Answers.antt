@@ -1,4 +1,5 @@
--- Where the sum is at most 2 ^ 63, no number on the way to it was past `usize::MAX`.
+-- If the header and the items take at most 2 ^ 63 bytes, no number that the code computes exceeds
+-- `usize::MAX`.
 use Rattle.std.proofs.Common.{◌≡◌, ◌+◌, ◌*◌, ◌∙◌, ap, arith}
 use Rattle.thin_block.specs.Growth.{least_power}
 use Rattle.thin_block.specs.PowerLaws.{least_power_is, one_least_power}

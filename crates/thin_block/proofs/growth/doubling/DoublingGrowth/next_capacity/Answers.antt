@@ -1,4 +1,5 @@
--- Both branches try what the rule tries, or a number that no more fits than the rule's.
+-- In each branch, the code tries the same capacity as the rule, or both try a capacity that does
+-- not fit.
 use Rattle.std.proofs.Common.{◌≡◌, ℕ, ◌*◌, ◌-◌, ◌^◌, ◌∙◌, ap, min}
 use Rattle.std.specs.Mem.{type_size}
 use Rattle.std.specs.Align.{type_align}

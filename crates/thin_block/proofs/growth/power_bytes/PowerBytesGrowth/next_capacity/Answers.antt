@@ -1,4 +1,4 @@
--- The code's numbers are the rule's, or neither fits.
+-- The code and the rule compute the same capacity, or both compute a capacity that does not fit.
 use Rattle.std.proofs.Common.{◌≡◌, ◌+◌, ◌*◌, ◌^◌, ◌<◌, ◌≤◌, ◌∙◌, ap, max, subst, sym}
 use Rattle.std.specs.Mem.{type_size}
 use Rattle.std.specs.Align.{type_align}
