@@ -1,4 +1,5 @@
--- What the map has at a column is the entry at the column's place; at a gap it has none.
+-- If the column has an entry, the value in it is the map's value; if there is only a gap, the map
+-- has no value at the column.
 use Rattle.std.proofs.Common.{sym}
 use Rattle.thin_rows.proofs.RowLemmas.{get_at, get_gap}
 use Rattle.thin_rows.proofs.row.Row.get.Goals as goal

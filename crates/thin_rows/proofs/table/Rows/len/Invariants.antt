@@ -1,9 +1,10 @@
--- What was counted, and what is to come, are all entries, or more than a word holds.
+-- The count so far plus the number of entries in the rows left is the number of all entries, or
+-- both are greater than or equal to `usize::MAX`.
 use Rattle.std.proofs.Common.{◌≡◌, ◌+◌, ◌-◌, ◌^◌, ◌<◌, map, min, sum}
 use Rattle.std.specs.FinMap.{len}
 use Rattle.thin_rows.proofs.table.Rows.len.Given as goal
 
--- what was counted, and what is to come
+-- the two numbers are equal if each is cut off at `usize::MAX`, and the count is a `usize`
 abbrev pub invariant-loop-row : goal.invariant-loop-row
 invariant-loop-row g l =
     (min (l.count + sum (map (λ row. len row) l.row-iterator.rest.now)) (2 ^ 64 - 1)

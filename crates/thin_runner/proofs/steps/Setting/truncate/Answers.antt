@@ -1,4 +1,4 @@
--- What the call ensures is what the command may do.
+-- The clauses of `truncate` imply the case of the command in `Steps`.
 use Rattle.std.proofs.Common.{rules}
 use Rattle.thin_runner.proofs.steps.Setting.truncate.Goals as goal
 
