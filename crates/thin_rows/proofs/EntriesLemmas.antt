@@ -72,7 +72,8 @@ module _ {V : Type 0} where
   columns_increase [] h k inside = absurd (omega arith)
 
   module _ (c : ℕ) where
-    -- without the first entry, the index of column c, or of the gap for it, is one less
+    -- without the first entry, the index of the entry of column c, or the index at which it would
+    -- be inserted, is one less
     place_after : (e : ℕ × V) (entries : List (ℕ × V)) (at : ℕ)
         → IsPlaceOf (e ∷ entries) c (suc at) → IsPlaceOf entries c at
     place_after e entries at p = record { in_bounds = omega (arith, p.in_bounds); same = p.same }
@@ -182,8 +183,8 @@ module _ {V : Type 0} where
         ) in
         grind (arith, nat_tests)
 
-    -- if the entries are rising, a binary search for column c returns the index of its entry, or of
-    -- the gap for it
+    -- if the entries are rising, a binary search for column c returns the index of its entry, or
+    -- the index at which it would be inserted
     pub searched : (entries : List (ℕ × V)) → IsRising entries → (r : Result ℕ ℕ)
         → IsSearchInRange r (length entries)
         → IsBinarySearchResult (λ e. nat_cmp e.0 c) entries r

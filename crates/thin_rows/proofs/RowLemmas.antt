@@ -69,7 +69,8 @@ module _ {V : Type 0} (es : List (ℕ × V)) (rising : IsRising es) where
       pub remove_is : from_sorted (remove es at) ≡ map.remove row c
       remove_is = left_is _ (without_at c es at rising place)
 
-    -- for the index `at` of the gap for column c, which has no entry
+    -- for the index `at` at which an entry of column c would be inserted, if the column has no
+    -- entry
     module _ (at : ℕ) (gap : IsGapFor es c at) where
       pub get_gap : map.get row c ≡ None
       get_gap = get-from_sorted nat_cmp es c rising ∙ find_gap c es at gap

@@ -8,19 +8,19 @@ use Rattle.thin_rows.specs.contracts.row.Row.{the_row}
 use Rattle.thin_rows.specs.contracts.table.Rows.{the_row as table_row}
 
 module _ (V A : RattleType) (allocator : AllocatorGhosts A.Denot) where
-  -- the borrow r of the value at a column: when r ends, the row has the last value of r at this
-  -- column, and is otherwise unchanged. The column has an entry
+  -- r borrows the row's value at a column, which has an entry: when r ends, the row has the last
+  -- value of r at this column, and is otherwise unchanged
   abbrev pub LendsColumn : MutBor (Columns V.Denot) → ℕ → MutBor V.Denot → Fml
   LendsColumn row column r = Lends (the_row V A allocator) V row r (insert row.now column)
 
-  -- the borrow r of the value at a column, if the column has an entry: when r ends, the row has the
+  -- r borrows the row's value at a column, if the column has an entry: when r ends, the row has the
   -- last value of r at this column, and is otherwise unchanged. If the column has no entry, r is
   -- `None`, and the row does not change
   abbrev pub LendsIfThere : MutBor (Columns V.Denot) → ℕ → Option (MutBor V.Denot) → Fml
   LendsIfThere row column r = LendsIf (the_row V A allocator) V row r
       (insert row.now column) row.now
 
-  -- the borrow r of the value at row i and a column, if there is an entry: when r ends, the table
+  -- r borrows the table's value at row i and a column, if there is an entry: when r ends, the table
   -- has the last value of r there, and is otherwise unchanged. If there is no entry, r is `None`,
   -- and the table does not change
   abbrev pub LendsValue : MutBor (Table V.Denot) → ℕ → ℕ → Option (MutBor V.Denot) → Fml

@@ -63,7 +63,7 @@ impl<V, A: Allocator> Row<V, A> {
         self.entries.len()
     }
 
-    // Returns whether the row owns a block, which is the case exactly if it has an entry.
+    // Returns whether the row owns a block. It owns one if and only if it has an entry.
     pub(crate) fn owns_block(&self) -> bool
         ensures value { IsTrue result ↔ (0 < map.len self.now) }
     {
@@ -104,7 +104,7 @@ impl<V, A: Allocator> Row<V, A> {
     }
 
     // Writes `value` at `column`, and returns the value that was there. Only a new entry may need
-    // memory. If it gets none, the call fails, and the error returns `value`.
+    // memory. If this memory cannot be allocated, the call fails, and the error holds `value`.
     pub(crate) fn set(&mut self, column: usize, value: V) -> Result<Option<V>, Rejected<V>>
         ensures succeeds { IsSome (map.get self.old column) → IsOk result }
         ensures value { IfOk result (λ old. old ≡ map.get self.old column) }
@@ -176,7 +176,7 @@ fn give_block_back<T, A: Allocator>(list: &mut ThinVec<T, A>)
 }
 
 // Returns the index of the entry at `column`. If there is none, returns the index at which a new
-// entry belongs, as an `Err`.
+// entry would be inserted, as an `Err`.
 fn place<V>(entries: &[(usize, V)], column: usize) -> Result<usize, usize>
     requires rising { IsRising entries.now }
     ensures found { IfOk result (IsPlaceOf entries.now column) }

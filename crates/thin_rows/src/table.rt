@@ -121,8 +121,8 @@ impl<V, A: Allocator> Rows<V, A> {
     ///
     /// Fails only if there was no entry at this row and column, and the row could not get room for
     /// a new one. The cause is `OutOfMemory` if the allocator fails, and `CapacityOverflow` if the
-    /// new capacity of the row would be too large. The error returns `value` to the caller, and the
-    /// table is unchanged: a row that owned no block still owns none.
+    /// new capacity of the row would be too large. The error holds `value`, which the caller owns
+    /// again, and the table is unchanged: a row that owned no block still owns none.
     pub fn set(&mut self, row: usize, column: usize, value: V) -> Result<Option<V>, Rejected<V>>
         requires in_bounds { row < length self.old }
         ensures succeeds { IsSome (value_at self.old row column) → IsOk result }
@@ -163,7 +163,7 @@ impl<V, A: Allocator> Rows<V, A> {
         self.rows[row].entries()
     }
 
-    /// Returns whether a row owns a block, which is the case exactly if it has an entry.
+    /// Returns whether a row owns a block. It owns one if and only if it has an entry.
     pub fn owns_block(&self, row: usize) -> bool
         requires in_bounds { row < length self.now }
         ensures value { IsTrue result ↔ (0 < columns.len (row_of self.now row)) }

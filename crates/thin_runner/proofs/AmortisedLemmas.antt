@@ -19,8 +19,8 @@ use Rattle.thin_runner.specs.declared.command.Reply.{Reply}
 use Rattle.thin_runner.specs.declared.command.Reply.TheVariants.{Done, Item, Returned, OutOfRange}
 use Rattle.thin_runner.proofs.PaidLemmas.{step-paid}
 
--- holds after m pushes that succeeded: the list v is cheap, has room for its items, which are at
--- most m, and growth has copied fewer than 2m items, or none
+-- the list v is amortised for m pushes: it is cheap, it has room for its items, which are at most
+-- m, and growth has copied fewer than 2m items, or none
 pub record IsAmortised {T A : Type 0} (m : ℕ) (v : Thin T A) : Type 0 where
   pub cheap : IsCheap v
   pub room : length v.items ≤ v.capacity
@@ -74,8 +74,8 @@ copied-kept m more (inl few) same = inl (omega (arith, few, same))
 copied-kept m more (inr none) same = inr (same ∙ none)
 
 module _ {T A G J : Type 0} (here : Setting T A J) (law : KeepsLaw here.rule) where
-  -- if a list is amortised for m pushes, then after one more push or pop it is amortised for m
-  -- pushes, or for m + 1 if a push succeeded
+  -- if a list is amortised for m pushes, it is amortised for m + 1 pushes after a push that
+  -- succeeds, and for m pushes after a pop or a push that fails
   step-amortised : (m : ℕ) (v w : Thin T A) (command : Command T A G) (reply : Reply T A G)
       → IsPushOrPop command → IsAmortised m v → Steps here v command reply w
       → IsAmortised (m + accepted (command ∷ []) (reply ∷ [])) w

@@ -120,7 +120,8 @@ module _ {S T J : Type 0} (R : S → T → Bool → S → T → Type 0) (judge_o
         answered true by m = let wrong = m.0 in absurd (none-some (sym none ∙ wrong))
         answered false by m = by m.0 m.1
 
-    -- what this call and the k calls after it return is `item`, followed by what the k calls return
+    -- what `handed_out` computes for this call and the k calls after it is `item`, followed by what
+    -- it computes for the k calls
     pub handed-by : (s : S) (xs kept : List T) → ExtractsNext R s xs item t kept rest
         → handed_out (suc k) (left_at false (extracting ask (judge_of s) (suc k) xs))
         ≡ item ∷ handed_out k (left_at false (extracting ask (judge_of t) k rest))
@@ -140,8 +141,8 @@ module _ {S T J : Type 0} (R : S → T → Bool → S → T → Type 0) (judge_o
             ∙ ap (left_at false) (none-left (judge_of t) k) in
             subst (λ l. handed_out (suc k) l ≡ None ∷ handed_out k l) (sym empty) refl
 
--- if m moves are counted, and k more if any item was extracted before (`gone` is not 0), then this
--- is the cost c with m moves, and k more in that case
+-- counting m moves, and then k more if an item was extracted before (`gone` is not 0), costs the
+-- same as counting all these moves at once
 charged : (gone m k : ℕ) (c : Cost)
     → (if gone == 0 then moving m c else moving k (moving m c))
     ≡ moving (m + (if gone == 0 then 0 else k)) c
@@ -253,8 +254,8 @@ module _ {T A : Type 0} (v w : Thin T A) (a b : ℕ) (asked : Answers T) where
     pub capacity : w.capacity ≡ v.capacity
     pub alloc : w.alloc ≡ v.alloc
 
-  -- if the extraction has ended, and w is the list that it leaves, then w is `sifted` of v by the
-  -- answers
+  -- if the extraction has ended, and w is the list that it leaves, then w is v with only the items
+  -- that stay by the answers (`sifted`)
   pub extracting-ends : (at : Stand T) (rest tail : List T)
       → IsExtracting asked (take a v.items) v.cost at → at.left ≡ stay rest → tail ≡ drop b v.items
       → IsLeft at rest tail → w ≡ sifted v (around v.items a b asked)

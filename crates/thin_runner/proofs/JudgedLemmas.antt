@@ -31,7 +31,7 @@ module _ {S T J : Type 0} (R : S → T → Bool → S → T → Type 0) (judge_o
       ∙ ap (λ l. (l.0, l.1) ∷ asked ask l.2 xs) (told s x a.0 a.2 a.1 a.4))
 
   -- if the closure was called for each item of v, and w is the list of the items that stay, then w
-  -- is `sifted` of v by the judge's answers
+  -- is v with only the items that stay by the judge's answers (`sifted`)
   pub retained-by : {A : Type 0} (s : S) (v w : Thin T A) → IsRetained R s v w
       → w.capacity ≡ v.capacity → w.alloc ≡ v.alloc
       → w ≡ sifted v (asked ask (judge_of s) v.items)
@@ -86,7 +86,7 @@ module _ {S T J : Type 0} (R : S → T → T → Bool → S → T → T → Type
       in (ap moved_up h.0, h.1)
 
   -- if the items of v were compared in this way, and w is the list of the items that stay, then w
-  -- is `sifted` of v by the judge's answers
+  -- is v with only the items that stay by the judge's answers (`sifted`)
   pub deduped-by : {A : Type 0} (s : S) (v w : Thin T A) → IsDedupedBy R s v w
       → w.capacity ≡ v.capacity → w.alloc ≡ v.alloc
       → w ≡ sifted v (asked_pairs same (judge_of s) v.items)
@@ -102,7 +102,8 @@ module _ {F T A J : Type 0} (g : Mut F (MutBor T × Unit {0}) (ℕ × (MutBor T 
     (told : (f : F) (x : T) (k : ℕ) (f' : F) (x' : T) → CalledAtMut g f x k f' x'
     → (k, x', judge_of f') ≡ key (judge_of f) x) where
   -- if the items of v were compared by their keys, the key of the later item being taken first, and
-  -- w is the list of the items that stay, then w is `sifted` of v by the judge's answers
+  -- w is the list of the items that stay, then w is v with only the items that stay by the judge's
+  -- answers (`sifted`)
   pub deduped-by-keys : (f : F) (v w : Thin T A)
       → IsDedupedBy (ComparesKeys g (λ a b. a == b)) f v w → w.capacity ≡ v.capacity
       → w.alloc ≡ v.alloc → w ≡ sifted v (asked_pairs (same_key key) (judge_of f) v.items)
@@ -157,8 +158,8 @@ module _ {T J : Type 0} where
       → length (left_at true (asked ask j xs)) ≤ length xs
   few-asked ask j xs = omega (arith, few-left (asked ask j xs), asked-length ask j xs)
 
-  -- if items are compared with the last item kept before each of them, there is one answer for
-  -- each; the same is true if the answer for the first item, which stays, is added
+  -- if each item of xs is compared with the last item kept before it, there is one answer for each
+  -- item; the same holds if the first item is kept without a comparison
   last-length : (same : J → T → T → Bool × T × T × J) (j : J) (k : T) (xs : List T)
       → length (asked_last same j k xs).1 ≡ length xs
   last-length same j k [] = refl
@@ -185,8 +186,8 @@ module _ {T J : Type 0} (E : T → T → Bool) (j : J) where
   abbrev pub tells : J → T → T → Bool × T × T × J
   tells j later kept = (E later kept, later, kept, j)
 
-  -- for the items xs after a kept item k, `dedup_from` gives the items that stay by the test E, and
-  -- `unlike_from` the flags
+  -- for the items xs after a kept item k, `dedup_from` computes the items that stay by the test E,
+  -- and `unlike_from` computes the flags
   dedup-last : (k : T) (xs : List T) → Leaves (unlike_from E k xs) (dedup_from E k xs)
       (asked_last tells j k xs)
   dedup-last k [] = (refl, refl)
@@ -201,16 +202,16 @@ module _ {T J : Type 0} (E : T → T → Bool) (j : J) where
       told by true = let h = by k in (ap (λ l. false ∷ l) h.0, h.1)
       told by false = let h = by x in (ap (λ l. true ∷ l) h.0, ap (λ l. k ∷ l) h.1)
 
-  -- for all items of xs, `dedup` gives the items that stay by the test E, and `unlike` gives flags
-  -- with as many moves
+  -- for all items of xs, `dedup` computes the items that stay by the test E, and `unlike` computes
+  -- flags with as many moves
   pub dedup-pairs : (xs : List T)
       → (moved_up (unlike E xs) ≡ moved_up (flags_of (asked_pairs tells j xs)))
       × (dedup E xs ≡ left_at true (asked_pairs tells j xs))
   dedup-pairs [] = (refl, refl)
   dedup-pairs (x ∷ xs) = let h = dedup-last x xs in (ap moved_up h.0, h.1)
 
-  -- if w has the items of `dedup`, its moves, and the capacity and the allocator of v, then w is
-  -- `sifted` of v by the test E
+  -- if w has the items of `dedup`, its moves, and the capacity and the allocator of v, then w is v
+  -- with only the items that stay by the test E (`sifted`)
   pub deduped-alike : {A : Type 0} (v w : Thin T A) → w.items ≡ dedup E v.items → w.cost
       ≡ moving (moved_up (unlike E v.items)) v.cost
       → w.capacity ≡ v.capacity → w.alloc ≡ v.alloc → w ≡ sifted v (asked_pairs tells j v.items)

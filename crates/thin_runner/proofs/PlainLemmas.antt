@@ -31,7 +31,7 @@ use Rattle.thin_runner.proofs.WeakerClonesLemmas.{zip-weaker}
 refused : {X B : Type 0} (x : X) → Some x ≡ None → B
 refused x e = cc
 
--- the test of a range is true exactly if the range is in bounds for n items
+-- the test of a range is true if and only if the range is in bounds for n items
 range-decides : (a b n : ℕ) → Decides (nat_le a b && nat_le b n) ((a ≤ b) × (b ≤ n))
 range-decides a b n = (
   (λ e. let both = and_parts (nat_le a b) (nat_le b n) e in
@@ -40,7 +40,7 @@ range-decides a b n = (
 )
 
 module _ {T A G : Type 0} where
-  -- `in_range` is true exactly if the index or the range of the command is in bounds
+  -- `in_range` is true if and only if the index or the range of the command is in bounds
   in_range-decides : (xs : List T) (command : Command T A G)
       → Decides (in_range xs command) (IsInRange xs command)
   in_range-decides xs (Insert i v) = (leb-true i (length xs), le-leb i (length xs))
@@ -75,8 +75,8 @@ module _ {T : Type 0} where
   zip-equal {clones} equal xs ys z =
       each_same xs ys (zip-weaker clones (λ x y. y ≡ x) equal xs ys z)
 
-  -- if each clone equals its source, and each item of ys is a clone of x, then ys consists of
-  -- copies of x
+  -- if each clone equals its source, and each item of ys is a clone of x, then each item of ys is
+  -- equal to x
   each-equal : {clones : T → T → Type 0} → ClonesEqual clones → (x : T) (ys : List T)
       → AllByRecursion (clones x) ys → ys ≡ replicate (length ys) x
   each-equal equal x [] e = refl

@@ -18,7 +18,7 @@ module _ {T A G : Type 0} (count : Command T A G → Reply T A G → ℕ) where
   counted commands replies = 0
 
 module _ {T A G J : Type 0} (here : Setting T A J) where
-  -- all commands except those `left` have run and turned the list `old` into `new`, and their
+  -- all commands except those in `left` have run and turned the list `old` into `new`, and their
   -- replies were appended to the replies `before`
   pub record HasRun (old : Thin T A) (commands left : List (Command T A G))
       (before after : List (Reply T A G)) (new : Thin T A) : Type 0 where

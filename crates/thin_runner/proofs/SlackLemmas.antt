@@ -15,8 +15,9 @@ use Rattle.thin_runner.specs.declared.command.Command.TheVariants.{Push, Pop}
 use Rattle.thin_runner.specs.declared.command.Reply.{Reply}
 use Rattle.thin_runner.specs.declared.command.Reply.TheVariants.{Done, Item, Returned, OutOfRange}
 
--- if the capacity has such a bound after the first step, and from there to the end of the run, it
--- has such a bound for the whole run
+-- if the first step keeps the capacity within the bound for its length, and the later steps keep it
+-- within the bound for their greatest length, then all steps keep it within the bound for the
+-- greatest length
 slack-join : (before mid after len long rest : ℕ) → mid ≤ max before (max 4 (2 * long))
     → after ≤ max mid (max 4 (2 * rest)) → long ≤ rest
     → after ≤ max before (max 4 (2 * max len rest))

@@ -148,7 +148,7 @@ module _ {T A : Type 0} (old : Thin T A) where
   room-end most = subst (λ (v : Thin T A). HasRoomFor v most) cut-end
 
   -- if `HasPlacesFor` holds for the empty range at the end, then `most` is 0, or the list has room
-  -- for `most` items; so what follows in both cases holds
+  -- for `most` more items; so what follows in both cases holds
   pub places-end : (P : Type 0) (most : ℕ) → (most ≡ 0 → P) → (HasRoomFor old most → P)
       → HasPlacesFor old (length old.items) (length old.items) most → P
   places-end P most none fits (inl few) = none (omega (arith, few))

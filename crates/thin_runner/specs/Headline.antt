@@ -31,9 +31,9 @@ module _ {T A G J : Type 0} (here : Setting T A J) where
     pub allowed : Runs here old commands replies new
     -- the items fit into the capacity, and a block of that capacity is small enough to be allocated
     pub within : IsWithin here.R new
-    -- if no command is `ReserveExact` or `ShrinkToFit`, a cheap list stays cheap. (A new list is
-    -- cheap.) That a list of capacity c is cheap means, if c is not 0: growth has copied fewer than
-    -- c items, and has allocated at most as many blocks as c has binary digits
+    -- if no command is `ReserveExact` or `ShrinkToFit`, a cheap list stays cheap, and a new list is
+    -- cheap. A list of a capacity c other than 0 is cheap if growth has copied fewer than c items,
+    -- and has allocated at most as many blocks as c has binary digits
     pub stays_cheap : All KeepsCheap commands → IsCheap old → IsCheap new
     -- if no command is `ReserveExact` or `ShrinkToFit`, growth has copied at most as many items as
     -- the capacity has grown by, whatever the list was before
@@ -49,7 +49,7 @@ module _ {T A G J : Type 0} (here : Setting T A J) where
     pub slack : here.rule ≡ doubling → All IsPushOrPop commands
         → new.capacity
         ≤ max old.capacity (max 4 (2 * peak here old new commands replies allowed))
-    -- not counting copies by growth, at most as many items were moved as the bounds for the
-    -- commands, given their replies, add up to
+    -- not counting copies by growth, the number of items moved is at most the sum of the bounds for
+    -- the commands and their replies
     pub moves : new.cost.moves
         ≤ old.cost.moves + run_may_move here old new commands replies allowed

@@ -14,8 +14,8 @@ use Rattle.thin_runner.specs.declared.command.Reply.{Reply}
 use Rattle.thin_runner.specs.declared.command.Reply.TheVariants.{Answers, Done, Item, List as Made, Other, OutOfRange}
 use Rattle.thin_runner.specs.declared.command.Step.TheVariants.{Front}
 
--- the part of a reply that the main theorem determines: of the reply `Answers`, only the items of
--- its vector; of any other reply, all of it
+-- the part of a reply that the main theorem determines: for the reply `Answers`, the items of its
+-- vector; for any other reply, the whole reply
 pub data Seen (T A G : Type 0) : Type 0 where
   says : Reply T A G → Seen T A G
   yields : List (Option T) → Seen T A G
@@ -72,7 +72,7 @@ module _ {T A G J : Type 0} (here : Setting T A J) where
       )
   granted xs (Splice a b steps ys lower) =
       (yields (walked (slice_range xs a b) steps.items), replace_range xs a b ys.items)
-  -- each other command filters the items
+  -- all other commands filter the items
   granted xs command = (says Done, left_at true (unwrap_or (answered here xs command) []))
 
   -- the reply to a command that does not fail, and the items that the command leaves of xs. If the

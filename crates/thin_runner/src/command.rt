@@ -101,7 +101,8 @@ pub enum Reply<T, A: Allocator = Global, G: Growth = Doubling> {
     Refused(ThinVecError),
     /// An `extend`, or the `finish` of a splice, failed.
     Stopped {
-        /// What the steps returned before `finish` was called. Empty for an `extend`.
+        /// What the steps returned before `finish` was called. For an `extend`, the vector is
+        /// empty.
         answers: Vec<Option<T>, A>,
         /// The cause of the failure.
         cause: ThinVecError,

@@ -1,5 +1,5 @@
-//! Tools that the tests of several crates share: an allocator that refuses a request of the test's
-//! choice, two more growth rules, and all growth rules once more as plain functions, with which
+//! Tools that the tests of several crates share: an allocator that refuses a request that the test
+//! chooses, two more growth rules, and all growth rules once more as plain functions, with which
 //! tests compare capacities.
 #![tactic(auto)]
 

@@ -50,7 +50,7 @@ pub struct Refusing<B: Allocator> {
 }
 
 impl<B: Allocator> Refusing<B> {
-    /// Makes an allocator that refuses the request of the number `refused`, counting from 1. If
+    /// Makes an allocator that refuses the request with the number `refused`, counting from 1. If
     /// `refused` is 0, it refuses no request. It owns `inner`.
     pub fn new(inner: B, refused: u64) -> Refusing<B> {
         Refusing {
@@ -63,8 +63,8 @@ impl<B: Allocator> Refusing<B> {
         }
     }
 
-    /// Counts requests from 0 again, and refuses the request of the number `refused` from here on,
-    /// or none if `refused` is 0.
+    /// Restarts the count of requests at 0, and from then on refuses the request with the number
+    /// `refused`, or no request if `refused` is 0.
     pub fn refuse(&self, refused: u64) {
         self.counts.requests.set(0);
         self.counts.refused.set(refused);

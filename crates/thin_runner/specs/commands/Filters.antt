@@ -48,7 +48,7 @@ module _ {T J : Type 0} (same : J → T → T → Bool × T × T × J) where
   asked_pairs j (x ∷ xs) = let b = asked_last j x xs in (true, b.0) ∷ b.1
 
 module _ {T : Type 0} where
-  -- the answers for all items of xs: those given for the items from index a up to b, while the
+  -- the answers for all items of xs: `answers` for the items from index a up to b, and that the
   -- items before and after them stay
   abbrev pub around : List T → ℕ → ℕ → Answers T → Answers T
   around xs a b answers = stay (take a xs) ++ (answers ++ stay (drop b xs))

@@ -20,7 +20,7 @@ module _ {T A : Type 0} (old : Thin T A) (a b : ℕ) where
   cut = record old { items = remove_range old.items a b }
 
   -- `most` items need no new memory: they are at most as many as the range has, or no item follows
-  -- the range, and there is room for them without its items
+  -- the range, and there is room for them once the range is removed
   abbrev pub HasPlacesFor : ℕ → Type 0
   HasPlacesFor most = (most ≤ b - a) ⊎ ((b ≡ length old.items) × HasRoomFor cut most)
 

@@ -1,5 +1,5 @@
 -- The closure returns the column of an entry, and the columns are increasing. So the search finds
--- the index of the column's entry, or of the gap for it.
+-- the index of the column's entry, or the index at which this entry would be inserted.
 use Rattle.std.proofs.Common.{rules}
 use Rattle.std.proofs.lemmas.List.Sorted.{answers_always}
 use Rattle.thin_rows.proofs.EntriesLemmas.{searched}

@@ -1,5 +1,5 @@
--- After the entry of the column is removed, the map no longer has the column; if there was only a
--- gap, the map did not have the column before either.
+-- After the entry of the column is removed, the map no longer has the column. If the column had no
+-- entry, the map did not have the column before either.
 use Rattle.std.proofs.Common.{Some, sym, ap, ◌∙◌}
 use Rattle.std.proofs.lemmas.Option.{get_or_from_slice_get}
 use Rattle.thin_rows.proofs.RowLemmas.{get_at, get_gap, remove_is, remove_rises, unchanged}

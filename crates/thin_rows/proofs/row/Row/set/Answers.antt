@@ -1,5 +1,5 @@
--- If the entry of the column is overwritten, or a new entry is inserted into the gap, the entries
--- represent the map with the value inserted.
+-- After the entry of the column is overwritten, or a new entry is inserted at its index, the
+-- entries represent the map with the value inserted.
 use Rattle.std.proofs.Common.{inl, inr, ◌≡◌, ◌+◌, sym, ap, ◌∙◌, length, length-set, arith, refl, Some}
 use Rattle.std.proofs.lemmas.Bool.{cases_lt, false≢true}
 use Rattle.std.specs.FinMap.{len}
@@ -40,7 +40,7 @@ returns-in-Ok-clause-columns g c =
     rw (c.replace-column.ensures.after, ← c.self.view_is)
     (set_is row.items c.self.invariant.rising c.args.column c.in-Ok.at place c.args.value)
 
--- the column had no entry, and a new one is inserted into the gap
+-- the column had no entry, and a new one is inserted at the index found
 pub invariant_of-self-in-Err : goal.invariant_of-self-in-Err
 invariant_of-self-in-Err g c =
     let row = c.self.inside.entries in

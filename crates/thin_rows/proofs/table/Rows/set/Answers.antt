@@ -13,7 +13,8 @@ use Rattle.thin_rows.specs.EntryType.{entry_type}
 use Rattle.thin_rows.specs.Table.{row_of}
 use Rattle.thin_rows.proofs.table.Rows.set.Goals as goal
 
--- if a call on item i fails, and did not change it, then writing it back does not change the list
+-- if a failed call has not changed the item at index i, writing this item back does not change the
+-- list
 left : {X Y E : Type 0} (result : Result Y E) (xs : List X) (i : ℕ) (old new : X)
     → slice_get xs i ≡ Some old → OnErr result (new ≡ old) → OnErr result (slice_set xs i new ≡ xs)
 left (Ok _) xs i old new there same = tt
