@@ -117,7 +117,7 @@ module _ {T A G J : Type 0} (here : Setting T A J) (law : KeepsLaw here.rule) wh
   step-amortised m v w Pop reply only a s = absurd s.1
   step-amortised m v w command reply only a s = absurd only
 
-  -- if each step of a run counts 1 for a push that succeeded, the steps together count the pushes
+  -- the sum over the steps of a run, with 1 for each push that succeeded, is the number of pushes
   -- that succeeded
   accepted-counted : (commands : List (Command T A G)) (replies : List (Reply T A G))
       → counted (λ c r. accepted (c ∷ []) (r ∷ [])) commands replies ≡ accepted commands replies

@@ -13,8 +13,8 @@ some-items [] none = absurd (none refl)
 some-items (x ∷ xs) none = omega arith
 
 module _ {T A : Type 0} where
-  -- the list v at the capacity c, with the items xs, with the cost of this change of capacity and m
-  -- moves
+  -- the list v at the capacity c and with the items xs; its cost includes this change of capacity,
+  -- and m moves
   abbrev pub grown : Thin T A → ℕ → List T → ℕ → Thin T A
   grown v c xs m = record v { items = xs; capacity = c; cost = moving m (cost_at v c) }
 

@@ -15,7 +15,7 @@ use Rattle.thin_runner.specs.commands.Ranges.{walked}
 use Rattle.thin_runner.specs.declared.command.Step.TheVariants.{Front}
 
 module _ {T : Type 0} where
-  -- the answer for an extracted item, which does not stay; no answer if there is no such item
+  -- the answer for an extracted item, which does not stay; no answer if no item was extracted
   abbrev pub goes : Option T → Answers T
   goes None = []
   goes (Some x) = (false, x) ∷ []
@@ -76,8 +76,8 @@ module _ {S T J : Type 0} (R : S → T → Bool → S → T → Type 0) (judge_o
   none-left j zero = refl
   none-left j (suc k) = refl
 
-  -- for a call of `next` that returned `item`, left the items `rest` to be tested and the closure
-  -- in the state t, with k calls to follow
+  -- let a call of `next` return `item`, and leave the items `rest` to be tested and the closure in
+  -- the state t; k calls may follow
   module _ (t : S) (k : ℕ) (item : Option T) (rest : List T) where
     -- if this call kept the items `kept`, then the answers of this call and the k calls after it
     -- are: the kept items stay, the returned item is extracted, and then follow the answers of the
@@ -163,11 +163,11 @@ pub record Stand (T : Type 0) : Type 0 where
   -- the cost so far
   pub paid : Cost
 
--- for an extraction from a range: `asked` are the answers for all items of the range, `start` are
--- the items before the range, and `before` is the cost before the first call of `next`
+-- let `asked` be the answers for all items of the range of an extraction, `start` the items before
+-- the range, and `before` the cost before the first call of `next`
 module _ {T : Type 0} (asked : Answers T) (start : List T) (before : Cost) where
-  -- the state `at` is the one after some calls of `next`, and `done` are the answers for the items
-  -- tested so far
+  -- `at` is a state of the extraction: the one after some calls of `next`. `done` are the answers
+  -- for the items tested so far
   pub record IsExtracting (at : Stand T) : Type 0 where
     pub done : Answers T
     pub split : asked ≡ done ++ at.left
@@ -175,9 +175,9 @@ module _ {T : Type 0} (asked : Answers T) (start : List T) (before : Cost) where
     pub out : at.out ≡ length (left_at false done)
     pub paid : at.paid ≡ moving (moved_up (flags_of done)) before
 
-  -- if the next answers, `now`, say that k items stay, none of which comes after a removed one, and
-  -- these k items count a move each if an item was extracted before, then the cost is that of the
-  -- moves for all answers up to and including `now`
+  -- let the next answers, `now`, keep k items, and remove none before the last kept one. If these k
+  -- items count a move each in case an item was extracted before, then the cost is that of the
+  -- moves for all answers, including `now`
   paid-next : (at : Stand T) (h : IsExtracting at) (now : Answers T) (k : ℕ)
       → moved_up (flags_of now) ≡ 0 → trues (flags_of now) ≡ k
       → (if at.out == 0 then at.paid else moving k at.paid)
@@ -241,8 +241,8 @@ module _ {T : Type 0} (asked : Answers T) (start : List T) (before : Cost) where
           paid = charge ∙ paid-next at h now (length kept) still moved;
         }
 
--- for the list w after an extraction from the list v, of the range from index a up to b, with the
--- answers `asked`
+-- let w be the list after an extraction from the list v, of the range from index a up to b, with
+-- the answers `asked`
 module _ {T A : Type 0} (v w : Thin T A) (a b : ℕ) (asked : Answers T) where
   -- w is v with the items at the front, then those of the range that were not tested (`rest`), and
   -- then those after the range (`tail`). The items of `rest` and `tail` count a move each if an
@@ -305,7 +305,7 @@ module _ {T J : Type 0} (ask : J → T → Bool × T × J) where
   extracting-length j (suc k) (x ∷ xs) =
       ap suc (extracting-length (ask j x).2 (if (ask j x).0 then k else suc k) xs)
 
-  -- the items that stay after an extraction are at most as many as the items of xs
+  -- the number of items that stay after an extraction is at most the number of items of xs
   pub few-extracted : (j : J) (k : ℕ) (xs : List T) (a b : ℕ) → a ≤ b → b ≤ length xs
       → length (left_at true (around xs a b (extracting ask j k (slice_range xs a b)))) ≤ length xs
   few-extracted j k xs a b order within =

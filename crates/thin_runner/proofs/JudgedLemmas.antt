@@ -41,15 +41,14 @@ module _ {S T J : Type 0} (R : S → T → Bool → S → T → Type 0) (judge_o
       let cost = r.1.cost ∙ ap (λ a. moving (moved_up (flags_of a)) v.cost) same in
       λ i. record { items = items i; capacity = capacity i; alloc = alloc i; cost = cost i }
 
--- the results of comparing each item with the last item kept before it
+-- about the results of comparing each item with the last item kept before it
 module _ {T : Type 0} where
   -- ys are the items that stay by the results b, beginning with the first kept item, and the flags
   -- say for each later item whether it stays
   abbrev pub Leaves : List Bool → List T → T × Answers T → Type 0
   Leaves flags ys b = (flags ≡ flags_of b.1) × (ys ≡ b.0 ∷ left_at true b.1)
 
--- for a closure that compares two items, whose state contains a judge, and which returns what this
--- judge decides
+-- let a closure compare two items, with a judge in its state, and return what this judge decides
 module _ {S T J : Type 0} (R : S → T → T → Bool → S → T → T → Type 0) (judge_of : S → J)
     (same : J → T → T → Bool × T × T × J)
     (told : (s : S) (x k : T) (b : Bool) (u : S) (x' k' : T) → R s x k b u x' k'
@@ -95,8 +94,7 @@ module _ {S T J : Type 0} (R : S → T → T → Bool → S → T → T → Type
       let cost = r.1.cost ∙ ap (λ m. moving m v.cost) by.0 in
       λ i. record { items = by.1 i; capacity = capacity i; alloc = alloc i; cost = cost i }
 
--- for a closure on one item, whose state contains a judge, and which returns the key that this
--- judge computes
+-- let a closure on one item have a judge in its state, and return the key that this judge computes
 module _ {F T A J : Type 0} (g : Mut F (MutBor T × Unit {0}) (ℕ × (MutBor T × Unit {0})))
     (judge_of : F → J) (key : J → T → ℕ × T × J)
     (told : (f : F) (x : T) (k : ℕ) (f' : F) (x' : T) → CalledAtMut g f x k f' x'
@@ -117,9 +115,9 @@ module _ {F T A J : Type 0} (g : Mut F (MutBor T × Unit {0}) (ℕ × (MutBor T 
       ∙ ap (λ a. let l = key a.2 k in (a.0 == l.0, a.1, l.1, l.2)) first))
       f v w d capacity alloc
 
--- for a method of the judge that cannot write to the item
+-- let `look` be a method of the judge that cannot write to the item
 module _ {T J : Type 0} (look : J → T → Bool × J) where
-  -- what the method `look` decides, and the item, unchanged
+  -- what `look` decides, together with the unchanged item
   abbrev pub looks : J → T → Bool × T × J
   looks j x = let a = look j x in (a.0, x, a.1)
 
@@ -130,7 +128,7 @@ module _ {T J : Type 0} (look : J → T → Bool × J) where
 
 -- at most as many items stay as there were
 module _ {T : Type 0} where
-  -- the items that stay are at most as many as the answers
+  -- the number of items that stay is at most the number of answers
   pub few-left : (answers : Answers T) → length (left_at true answers) ≤ length answers
   few-left [] = omega arith
   few-left ((true, x) ∷ answers) = omega (arith, few-left answers)
@@ -153,7 +151,8 @@ module _ {T J : Type 0} where
   asked-length ask j [] = refl
   asked-length ask j (x ∷ xs) = ap suc (asked-length ask (ask j x).2 xs)
 
-  -- if each item of xs is tested, the items that stay are at most as many as those of xs
+  -- if each item of xs is tested, the number of items that stay is at most the number of items of
+  -- xs
   pub few-asked : (ask : J → T → Bool × T × J) (j : J) (xs : List T)
       → length (left_at true (asked ask j xs)) ≤ length xs
   few-asked ask j xs = omega (arith, few-left (asked ask j xs), asked-length ask j xs)
@@ -173,8 +172,8 @@ module _ {T J : Type 0} where
   pairs-length same j [] = refl
   pairs-length same j (x ∷ xs) = ap suc (last-length same j x xs)
 
-  -- if the items of xs are compared in this way, the items that stay are at most as many as those
-  -- of xs
+  -- if each item of xs is compared in this way, the number of items that stay is at most the number
+  -- of items of xs
   pub few-pairs : (same : J → T → T → Bool × T × T × J) (j : J) (xs : List T)
       → length (left_at true (asked_pairs same j xs)) ≤ length xs
   few-pairs same j xs = omega (arith, few-left (asked_pairs same j xs), pairs-length same j xs)
@@ -186,8 +185,8 @@ module _ {T J : Type 0} (E : T → T → Bool) (j : J) where
   abbrev pub tells : J → T → T → Bool × T × T × J
   tells j later kept = (E later kept, later, kept, j)
 
-  -- for the items xs after a kept item k, `dedup_from` computes the items that stay by the test E,
-  -- and `unlike_from` computes the flags
+  -- if k is the item kept before xs, `dedup_from` returns the items that stay by the test E, and
+  -- `unlike_from` returns the flags
   dedup-last : (k : T) (xs : List T) → Leaves (unlike_from E k xs) (dedup_from E k xs)
       (asked_last tells j k xs)
   dedup-last k [] = (refl, refl)
@@ -202,16 +201,16 @@ module _ {T J : Type 0} (E : T → T → Bool) (j : J) where
       told by true = let h = by k in (ap (λ l. false ∷ l) h.0, h.1)
       told by false = let h = by x in (ap (λ l. true ∷ l) h.0, ap (λ l. k ∷ l) h.1)
 
-  -- for all items of xs, `dedup` computes the items that stay by the test E, and `unlike` computes
-  -- flags with as many moves
+  -- `dedup` returns the items of xs that stay by the test E, and `unlike` returns flags with as
+  -- many moves
   pub dedup-pairs : (xs : List T)
       → (moved_up (unlike E xs) ≡ moved_up (flags_of (asked_pairs tells j xs)))
       × (dedup E xs ≡ left_at true (asked_pairs tells j xs))
   dedup-pairs [] = (refl, refl)
   dedup-pairs (x ∷ xs) = let h = dedup-last x xs in (ap moved_up h.0, h.1)
 
-  -- if w has the items of `dedup`, its moves, and the capacity and the allocator of v, then w is v
-  -- with only the items that stay by the test E (`sifted`)
+  -- if w has the items and the moves of `dedup`, and the capacity and the allocator of v, then w is
+  -- v with only the items that stay by the test E (`sifted`)
   pub deduped-alike : {A : Type 0} (v w : Thin T A) → w.items ≡ dedup E v.items → w.cost
       ≡ moving (moved_up (unlike E v.items)) v.cost
       → w.capacity ≡ v.capacity → w.alloc ≡ v.alloc → w ≡ sifted v (asked_pairs tells j v.items)

@@ -48,7 +48,7 @@ pub record IsPaid {T A : Type 0} (v w : Thin T A) : Type 0 where
   pub room : length w.items ≤ w.capacity
 
 module _ {T A : Type 0} where
-  -- if v has room for its items, no change at all is paid for
+  -- if v has room for its items, the change from v to v itself is paid for
   pub none-paid : (v : Thin T A) → length v.items ≤ v.capacity → IsPaid v v
   none-paid v room = record { cheap = λ c. c; copied = omega arith; room = room }
 
@@ -161,7 +161,7 @@ module _ {T : Type 0} where
       omega (arith, ap length a.1, length-append xs a.0, count)
 
 module _ {T A G J : Type 0} (here : Setting T A J) (law : KeepsLaw here.rule) where
-  -- each command except `ReserveExact` and `ShrinkToFit` is paid for
+  -- the change by a command other than `ReserveExact` and `ShrinkToFit` is paid for
   pub step-paid : (v w : Thin T A) (command : Command T A G) (reply : Reply T A G)
       → KeepsCheap command → length v.items ≤ v.capacity → Steps here v command reply w
       → IsPaid v w
@@ -242,7 +242,7 @@ module _ {T A G J : Type 0} (here : Setting T A J) (law : KeepsLaw here.rule) wh
   step-paid v w (Splice i j steps xs lower) (Refused cause) keeps room s = same-paid v w room s.1.2
   step-paid v w command reply keeps room s = absurd s.1
 
-  -- each run without `ReserveExact` and `ShrinkToFit` is paid for
+  -- the change by a run without `ReserveExact` and `ShrinkToFit` is paid for
   pub runs-paid : (v w : Thin T A) (commands : List (Command T A G)) (replies : List (Reply T A G))
       → All KeepsCheap commands → length v.items ≤ v.capacity → Runs here v commands replies w
       → IsPaid v w

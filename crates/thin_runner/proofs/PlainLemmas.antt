@@ -27,7 +27,7 @@ use Rattle.thin_runner.proofs.JudgedLemmas.{dedup-pairs}
 use Rattle.thin_runner.proofs.WalkLemmas.{last-of}
 use Rattle.thin_runner.proofs.WeakerClonesLemmas.{zip-weaker}
 
--- the reply of a call that failed has a cause, so it is not granted: `Some x` is not `None`
+-- since `Some x` is not `None`, a reply with a cause is not granted
 refused : {X B : Type 0} (x : X) → Some x ≡ None → B
 refused x e = cc
 
@@ -83,7 +83,7 @@ module _ {T : Type 0} where
   each-equal equal x (y ∷ ys) e = λ i. equal x y e.0 i ∷ each-equal equal x ys e.1 i
 
   -- if each clone equals its source, a resize to the length k leaves the first k items, and as many
-  -- copies of x as are missing
+  -- copies of x as are needed for the length k
   resized : (clones : T → T → Type 0) → ClonesEqual clones → (xs : List T) (k : ℕ) (x : T)
       (ys : List T) → IsResized clones xs k x ys → ys ≡ take k xs ++ replicate (k - length xs) x
   resized clones equal xs k x ys r = elim (cases_lt (length xs) k) [

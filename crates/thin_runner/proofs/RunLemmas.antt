@@ -1,5 +1,5 @@
--- A run that is extended by one more command, two runs that are joined, and properties that a run
--- keeps if each of its steps does.
+-- How a run is extended by a command, how two runs are joined, and what a run keeps because each of
+-- its steps keeps it.
 use Rattle.std.proofs.Common.{◌≡◌, ℕ, ◌+◌, List, [], ◌∷◌, ◌++◌, append_assoc, ap, arith, refl, subst, sym, ◌∙◌}
 use Rattle.std.proofs.lemmas.List.{append-nil}
 use Rattle.std.proofs.lemmas.List.Elements.{All-head, All-tail}
@@ -28,7 +28,8 @@ module _ {T A G J : Type 0} (here : Setting T A J) where
     pub appended : after ≡ before ++ replies
     pub ran : Runs here old done replies new
 
-  -- before the first command, no command has run: all commands are left, and no reply is appended
+  -- if all commands are left, and no reply was appended, then no command has run, and the list has
+  -- not changed
   pub HasRun-none : (old : Thin T A) (commands left : List (Command T A G))
       (before after : List (Reply T A G)) → left ≡ commands → after ≡ before
       → HasRun old commands left before after old
@@ -52,7 +53,7 @@ module _ {T A G J : Type 0} (here : Setting T A J) where
   )
   runs-append old mid new commands more replies further first second = absurd first
 
-  -- for a step that turns the list `mid` into `new`
+  -- let a step turn the list `mid` into `new`
   module _ (mid new : Thin T A) (command : Command T A G) (reply : Reply T A G)
       (stepped : Steps here mid command reply new) where
     -- if the command of this step is the first of those that were left, and its reply is appended,
@@ -73,15 +74,15 @@ module _ {T A G J : Type 0} (here : Setting T A J) where
               (new, (stepped, refl));
         }
 
-  -- for a property `Holds` of a number and a list: each step whose command is in `Only` keeps it,
-  -- if the number grows by `count` of the command and its reply
+  -- let `Holds` be a property of a number and a list. Each step whose command is in `Only` keeps
+  -- it, if the number grows by `count` of the command and its reply
   module _ (Holds : ℕ → Thin T A → Type 0) (Only : Command T A G → Type 0)
       (count : Command T A G → Reply T A G → ℕ)
       (step : (n : ℕ) (v w : Thin T A) (command : Command T A G) (reply : Reply T A G)
       → Only command → Holds n v → Steps here v command reply w
       → Holds (n + count command reply) w) where
-    -- if each step keeps the property, so does a run of such commands, with a number that grows by
-    -- what its steps count
+    -- a run whose commands are in `Only` keeps the property, if the number grows by the sum of
+    -- these counts
     pub runs-keep : (n : ℕ) (v w : Thin T A) (commands : List (Command T A G))
         (replies : List (Reply T A G)) → All Only commands → Holds n v
         → Runs here v commands replies w → Holds (n + counted count commands replies) w

@@ -99,8 +99,8 @@ module _ {T A : Type 0} (old : Thin T A) (a b : ℕ) where
         subst (λ (v : Thin T A). IsSpliced v new (2 * (length old.items - b))) left-is
         (subst (λ (n : ℕ). IsSpliced (left_of block alloc) new (2 * n)) tail-count cost)
 
-    -- if the final capacity is named for the list without the range and for the limit of the
-    -- iterator, then it is named for `cut old a b` and for the limit `most`
+    -- if `IsExtended` holds for the list without the range and for the limit of the iterator, it
+    -- holds for `cut old a b` and for the limit `most`
     pub named : (rule : Rule) (R : RattleType) (new : Thin T A) (most : ℕ) (left : Count)
         → left ≡ at_most most
         → IsExtended rule R (left_of block alloc) new.capacity (length new.items) left
@@ -135,7 +135,7 @@ module _ {T A : Type 0} {rule : Rule} {R : RattleType} {old v w : Thin T A} {a b
   stops-of {xs} {held} {lower} {cause} {in_hand} {rest} same =
       subst (λ (u : Thin T A). StopsBetween rule R old a b xs held lower cause in_hand rest u) same
 
--- for the empty range at the end of a list
+-- about the empty range at the end of the list `old`
 module _ {T A : Type 0} (old : Thin T A) where
   -- removing the empty range at the end does not change the list
   pub cut-end : cut old (length old.items) (length old.items) ≡ old
@@ -148,7 +148,7 @@ module _ {T A : Type 0} (old : Thin T A) where
   room-end most = subst (λ (v : Thin T A). HasRoomFor v most) cut-end
 
   -- if `HasPlacesFor` holds for the empty range at the end, then `most` is 0, or the list has room
-  -- for `most` more items; so what follows in both cases holds
+  -- for `most` more items; so P holds if it follows in both cases
   pub places-end : (P : Type 0) (most : ℕ) → (most ≡ 0 → P) → (HasRoomFor old most → P)
       → HasPlacesFor old (length old.items) (length old.items) most → P
   places-end P most none fits (inl few) = none (omega (arith, few))

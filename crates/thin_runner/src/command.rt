@@ -66,8 +66,8 @@ pub enum Command<T, A: Allocator = Global, G: Growth = Doubling> {
     /// Calls `dedup_by_key` with the method `key` of the judge. The reply is `Done`.
     DedupByKey,
     /// Calls `drain` on the items from the first index up to, but not including, the second, takes
-    /// the steps, and drops the `Drain`. The reply is `Answers`, or `Refused` if there is no memory
-    /// for the answers.
+    /// the steps in order, and drops the `Drain`. The reply is `Answers`, or `Refused` if there is
+    /// no memory for the answers.
     Drain(usize, usize, Vec<Step, A>),
     /// Calls `extract_if` on the items from the first index up to, but not including, the second,
     /// with the method `take` of the judge. Calls `next` as often as the third number says, and
@@ -75,9 +75,9 @@ pub enum Command<T, A: Allocator = Global, G: Growth = Doubling> {
     /// answers.
     ExtractIf(usize, usize, usize),
     /// Calls `splice` on the items from the first index up to, but not including, the second, takes
-    /// the steps, and calls `finish`. The new items are those of the second vector, from an
-    /// iterator that claims the last number as its lower bound. The reply is `Answers`, `Refused`
-    /// if there is no memory for the answers, or `Stopped` if `finish` fails.
+    /// the steps in order, and calls `finish`. The new items are those of the second vector, from
+    /// an iterator that claims the last number as its lower bound. The reply is `Answers`,
+    /// `Refused` if there is no memory for the answers, or `Stopped` if `finish` fails.
     Splice(usize, usize, Vec<Step, A>, Vec<T, A>, usize),
 }
 

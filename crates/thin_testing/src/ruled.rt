@@ -21,7 +21,9 @@ impl Ruled for Doubling {
 }
 
 impl Ruled for PowerBytes {
-    // Fills a power of two of bytes, of which the first 16 hold the capacity and the length.
+    // Returns the capacity that fills a block whose number of bytes is a power of two. The first 16
+    // bytes of the block hold the capacity and the length. Items that take no bytes follow
+    // `Doubling`.
     fn named(size: usize, capacity: usize, want: usize) -> usize {
         if size == 0 {
             return Doubling::named(size, capacity, want);

@@ -1,5 +1,5 @@
--- The count so far plus the number of entries in the rows left is the number of all entries, or
--- both are greater than or equal to `usize::MAX`.
+-- The count so far plus the number of entries in the rows that are left is the number of all
+-- entries, or both numbers are at least `usize::MAX`.
 use Rattle.std.proofs.Common.{◌≡◌, ◌+◌, ◌-◌, ◌^◌, ◌<◌, map, min, sum}
 use Rattle.std.specs.FinMap.{len}
 use Rattle.thin_rows.proofs.table.Rows.len.Given as goal

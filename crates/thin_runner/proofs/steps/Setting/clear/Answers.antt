@@ -1,4 +1,4 @@
--- The clauses of `clear` imply the case of the command in `Steps`.
+-- The contract of `clear` implies what `Steps` states for the command.
 use Rattle.std.proofs.Common.{rules}
 use Rattle.thin_runner.proofs.steps.Setting.clear.Goals as goal
 

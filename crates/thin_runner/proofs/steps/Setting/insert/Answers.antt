@@ -1,4 +1,4 @@
--- Whether `insert` succeeds or fails, its clauses imply the case of the command in `Steps`.
+-- Whether `insert` succeeds or fails, its contract implies what `Steps` states for the command.
 use Rattle.std.proofs.Common.{rules}
 use Rattle.thin_runner.proofs.steps.Setting.insert.Goals as goal
 

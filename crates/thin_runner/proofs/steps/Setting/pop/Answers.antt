@@ -1,4 +1,4 @@
--- The clauses of `pop` imply the case of the command in `Steps`.
+-- The contract of `pop` implies what `Steps` states for the command.
 use Rattle.std.proofs.Common.{rules}
 use Rattle.thin_runner.proofs.steps.Setting.pop.Goals as goal
 

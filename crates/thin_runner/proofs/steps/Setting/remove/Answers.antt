@@ -1,4 +1,4 @@
--- The clauses of `remove` imply the case of the command in `Steps`.
+-- The contract of `remove` implies what `Steps` states for the command.
 use Rattle.std.proofs.Common.{rules}
 use Rattle.thin_runner.proofs.steps.Setting.remove.Goals as goal
 

@@ -1,4 +1,5 @@
--- Whether `reserve_exact` succeeds or fails, its clauses imply the case of the command in `Steps`.
+-- Whether `reserve_exact` succeeds or fails, its contract implies what `Steps` states for the
+-- command.
 use Rattle.std.proofs.Common.{rules}
 use Rattle.thin_runner.proofs.steps.Setting.reserve_exact.Goals as goal
 

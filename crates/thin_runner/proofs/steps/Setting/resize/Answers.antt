@@ -1,4 +1,4 @@
--- Whether `resize` succeeds or fails, its clauses imply the case of the command in `Steps`.
+-- Whether `resize` succeeds or fails, its contract implies what `Steps` states for the command.
 use Rattle.std.proofs.Common.{rules}
 use Rattle.thin_runner.proofs.steps.Setting.resize.Goals as goal
 

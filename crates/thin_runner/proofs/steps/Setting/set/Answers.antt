@@ -1,4 +1,4 @@
--- The clauses of `index_mut` and `replace` imply the case of the command in `Steps`.
+-- The contracts of `index_mut` and `mem::replace` imply what `Steps` states for the command.
 use Rattle.std.proofs.Common.{rules}
 use Rattle.thin_runner.proofs.steps.Setting.set.Goals as goal
 

@@ -1,4 +1,4 @@
--- The clauses of `swap_remove` imply the case of the command in `Steps`.
+-- The contract of `swap_remove` implies what `Steps` states for the command.
 use Rattle.std.proofs.Common.{rules}
 use Rattle.thin_runner.proofs.steps.Setting.swap_remove.Goals as goal
 

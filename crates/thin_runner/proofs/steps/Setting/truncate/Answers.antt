@@ -1,4 +1,4 @@
--- The clauses of `truncate` imply the case of the command in `Steps`.
+-- The contract of `truncate` implies what `Steps` states for the command.
 use Rattle.std.proofs.Common.{rules}
 use Rattle.thin_runner.proofs.steps.Setting.truncate.Goals as goal
 
