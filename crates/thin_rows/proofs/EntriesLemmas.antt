@@ -47,7 +47,8 @@ module _ {V : Type 0} where
   all_above c (e ∷ entries) h (suc k) d inside =
       all_above c entries (both_hold _ _ h).1 k d (omega arith)
 
-  -- if the entries are rising, the column at an index is less than the column at each later index
+  -- if the columns of the entries are strictly increasing, the column at an index is less than the
+  -- column at each later index
   pub columns_rise : (entries : List (ℕ × V)) → IsRising entries → (i k : ℕ) (d : ℕ × V) → i < k
       → k < length entries → column_at entries i d < column_at entries k d
   columns_rise [] h i k d before inside = absurd (omega arith)
@@ -58,8 +59,8 @@ module _ {V : Type 0} where
   columns_rise (e ∷ entries) h (suc i) (suc k) d before inside =
       columns_rise entries (both_hold _ _ h).1 i k d (omega arith) (omega arith)
 
-  -- if the entries are rising, their columns are strictly increasing, as std defines it
-  -- (`IsStrictlyIncreasing`)
+  -- if the columns of the entries are strictly increasing by `IsRising`, they are so by the
+  -- definition of std, `IsStrictlyIncreasing`
   pub columns_increase : (entries : List (ℕ × V)) → IsRising entries
       → IsStrictlyIncreasing (map (λ entry. entry.0) entries)
   columns_increase (e ∷ entries) h k inside =
@@ -86,8 +87,8 @@ module _ {V : Type 0} where
       greater = λ k d from inside. g.greater (suc k) d (omega arith) (omega arith);
     }
 
-    -- if the entries are rising, and column c is at a later index, then the column of the first
-    -- entry is less than c
+    -- if the columns are strictly increasing, and column c is at a later index, then the column of
+    -- the first entry is less than c
     before_place : (e : ℕ × V) (entries : List (ℕ × V)) (at : ℕ) → IsRising (e ∷ entries)
         → IsPlaceOf (e ∷ entries) c (suc at) → e.0 < c
     before_place e entries at h p =
@@ -170,8 +171,8 @@ module _ {V : Type 0} where
         (e ∷ put nat_cmp c v entries)) (is_more c e.0 (g.smaller 0 e (omega arith)))
         ∙ ap (λ rest. e ∷ rest) (put_gap entries at v (gap_after e entries at g))
 
-    -- if the entries are rising, the results of comparing their columns with c do not decrease, as
-    -- a binary search requires
+    -- if the columns of the entries are strictly increasing, the results of comparing them with c
+    -- do not decrease from entry to entry, as a binary search requires
     comparisons_rise : (entries : List (ℕ × V)) → IsRising entries
         → IsNonDecreasingBy (λ e. ordering_index (nat_cmp e.0 c)) entries
     comparisons_rise entries h i k d before inside =
@@ -183,8 +184,8 @@ module _ {V : Type 0} where
         ) in
         grind (arith, nat_tests)
 
-    -- if the entries are rising, a binary search for column c returns the index of its entry, or
-    -- the index at which it would be inserted
+    -- if the columns of the entries are strictly increasing, a binary search for column c returns
+    -- the index of its entry, or the index at which it would be inserted
     pub searched : (entries : List (ℕ × V)) → IsRising entries → (r : Result ℕ ℕ)
         → IsSearchInRange r (length entries)
         → IsBinarySearchResult (λ e. nat_cmp e.0 c) entries r

@@ -25,7 +25,7 @@ module _ {V : Type 0} (es : List (ℕ × V)) (rising : IsRising es) where
   len_is = len-entries row ∙ ap length (entries-from_sorted nat_cmp es rising)
 
   module _ (c : ℕ) where
-    -- let `new` be the list es with the value v put at column c
+    -- let `new` be the entries es with the value v put at column c
     module _ (v : V) (new : List (ℕ × V)) (is_put : put nat_cmp c v es ≡ new) where
       put_rises : IsRising new
       put_rises = subst IsRising is_put (is_sorted-put nat_cmp nat_cmp_total c v es rising)
@@ -35,7 +35,7 @@ module _ {V : Type 0} (es : List (ℕ × V)) (rising : IsRising es) where
           ∙ (sym is_put ∙ (ap (put nat_cmp c v) (sym (entries-from_sorted nat_cmp es rising))
           ∙ sym (entries-insert nat_cmp_total row c v))))
 
-    -- let `new` be the list es without the entry of column c
+    -- let `new` be the entries es without the entry of column c
     module _ (new : List (ℕ × V)) (is_left : where_key nat_cmp (stays c) es ≡ new) where
       left_rises : IsRising new
       left_rises = subst IsRising is_left (is_sorted-where_key nat_cmp (stays c) es rising)
@@ -69,7 +69,7 @@ module _ {V : Type 0} (es : List (ℕ × V)) (rising : IsRising es) where
       pub remove_is : from_sorted (remove es at) ≡ map.remove row c
       remove_is = left_is _ (without_at c es at rising place)
 
-    -- let column c have no entry, and let `at` be the index at which its entry would be inserted
+    -- suppose that column c has no entry, and that its entry would be inserted at the index `at`
     module _ (at : ℕ) (gap : IsGapFor es c at) where
       pub get_gap : map.get row c ≡ None
       get_gap = get-from_sorted nat_cmp es c rising ∙ find_gap c es at gap

@@ -6,13 +6,13 @@ use Rattle.std.specs.Mem.{type_size}
 use Rattle.std.specs.Align.{type_align}
 use Rattle.thin_vec.specs.Growth.{Rule, exact_capacity, ruled_capacity}
 
--- for two types of the same size and alignment, the exact capacities are the same
+-- if two types have the same size and alignment, they have the same exact capacities
 pub exact_of_same : (R S : RattleType) (c w : ℕ) → type_size R ≡ type_size S
     → type_align R ≡ type_align S → exact_capacity R c w ≡ exact_capacity S c w
 unfolding exact_capacity
 exact_of_same R S c w size align = rw (size, align) refl
 
--- for two types of the same size and alignment, the ruled capacities are the same
+-- if two types have the same size and alignment, they have the same ruled capacities
 pub ruled_of_same : (rule : Rule) (R S : RattleType) (c d v w : ℕ) → type_size R ≡ type_size S
     → type_align R ≡ type_align S → c ≡ d → v ≡ w
     → ruled_capacity rule R c v ≡ ruled_capacity rule S d w
@@ -25,6 +25,7 @@ pub error_passes : {X Y E : Type 0} (cause e : E) → IsErrOf {T = X} (Err cause
     → IsErrOf {T = Y} (Err cause) e
 error_passes cause e same = let equal : cause ≡ e = cc in ap Err equal
 
--- an `Ok` is no error, so if some `Ok` is said to be the error e, the same holds for any other `Ok`
+-- no `Ok` is the error e, so from the statement that one `Ok` is e, the same follows for any other
+-- `Ok`
 pub ok_passes : {X Y E : Type 0} (x : X) (y : Y) (e : E) → IsErrOf (Ok x) e → IsErrOf (Ok y) e
 ok_passes x y e same = cc

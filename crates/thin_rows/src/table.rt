@@ -103,8 +103,8 @@ impl<V, A: Allocator> Rows<V, A> {
         self.rows[row].get(column)
     }
 
-    /// Returns a mutable reference to the value at a row and a column, if there is an entry. What
-    /// is written through the reference is the value of the table there afterwards.
+    /// Returns a mutable reference to the value at a row and a column, if there is an entry. A
+    /// value that is written through the reference replaces the old value in the table.
     pub fn get_mut(&mut self, row: usize, column: usize) -> Option<&mut V>
         requires in_bounds { row < length self.old }
         ensures* writes_back { sem 𝓛

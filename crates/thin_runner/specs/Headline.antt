@@ -49,7 +49,7 @@ module _ {T A G J : Type 0} (here : Setting T A J) where
     pub slack : here.rule ≡ doubling → All IsPushOrPop commands
         → new.capacity
         ≤ max old.capacity (max 4 (2 * peak here old new commands replies allowed))
-    -- not counting copies by growth, the number of items moved is at most the sum of the bounds for
-    -- the commands and their replies
+    -- not counting copies by growth, the number of items moved is at most the sum of the bounds
+    -- (`may_move`) for the commands and their replies
     pub moves : new.cost.moves
         ≤ old.cost.moves + run_may_move here old new commands replies allowed

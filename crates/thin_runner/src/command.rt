@@ -109,12 +109,12 @@ pub enum Reply<T, A: Allocator = Global, G: Growth = Doubling> {
         /// The items that were taken from the iterator, but for which the list had no room, except
         /// `in_hand`.
         held: Vec<T, A>,
-        /// The item that was taken from the iterator last, if there was no room for it either.
+        /// The last item that was taken from the iterator, if there was no room for it.
         in_hand: Option<T>,
         /// The iterator, which yields the items that were not taken from it.
         rest: Hinted<T, A>,
     },
-    /// The command that was passed, because its index or range is out of bounds. No call was made.
+    /// The command, for which no call was made, since its index or range is out of bounds.
     OutOfRange(Command<T, A, G>),
 }
 

@@ -1,4 +1,4 @@
-//! An allocator for tests, which refuses one request of the test's choice.
+//! An allocator for tests, which refuses one request that the test chooses.
 //!
 //! Pass it by reference, as `&Refusing<Global>`: a reference to an allocator is itself an
 //! allocator, and it is `Copy`. A request is a call of `allocate`, `grow` or `shrink`, so each
@@ -51,7 +51,7 @@ pub struct Refusing<B: Allocator> {
 
 impl<B: Allocator> Refusing<B> {
     /// Makes an allocator that refuses the request with the number `refused`, counting from 1. If
-    /// `refused` is 0, it refuses no request. It owns `inner`.
+    /// `refused` is 0, no request is refused. The new allocator owns `inner`.
     pub fn new(inner: B, refused: u64) -> Refusing<B> {
         Refusing {
             inner,

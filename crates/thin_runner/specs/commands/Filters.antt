@@ -54,7 +54,7 @@ module _ {T : Type 0} where
   around xs a b answers = stay (take a xs) ++ (answers ++ stay (drop b xs))
 
   -- the list `old` with only the items that stay according to the answers, each as it was left.
-  -- Each of them that changes its place counts one move
+  -- Each item that changes its place counts one move
   abbrev pub sifted : {A : Type 0} → Thin T A → Answers T → Thin T A
   sifted old answers = edited old (left_at true answers) (moved_up (flags_of answers))
 

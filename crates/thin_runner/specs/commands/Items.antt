@@ -1,4 +1,4 @@
--- What a call does that changes some items and may need room for more of them, and what it leaves
+-- The effect of a call that changes some items and may need room for more of them, and the result
 -- if there is no room. (std: `Vec::push`, `Vec::insert`, `Vec::remove`)
 use Rattle.std.specs.Prelude.{◌≡◌, ℕ, ◌↔◌, List, None, Option, Some}
 use Rattle.thin_vec.specs.Cost.{moving}
@@ -23,7 +23,8 @@ module _ {T A : Type 0} where
       ¬ (HasRoomFor old k) × ((named ≡ None) ↔ (cause ≡ CapacityOverflow)) × (new ≡ old)
 
 module _ {T A J : Type 0} (here : Setting T A J) where
-  -- the capacity becomes the ruled one for k more items, and then the items become xs, with m moves
+  -- the capacity becomes the ruled capacity for k more items, and then the items become xs, with m
+  -- moves
   abbrev pub Grows : Thin T A → ℕ → List T → ℕ → Thin T A → Type 0
   Grows old k xs m new = (capacity_for here.rule here.R old k ≡ Some new.capacity)
       × (new ≡ edited (at_capacity old new.capacity) xs m)

@@ -1,4 +1,4 @@
--- What a call leaves that clones many items and fails. (std: `Vec::resize`,
+-- The result of a failed call that clones many items. (std: `Vec::resize`,
 -- `Vec::extend_from_slice`)
 use Rattle.std.specs.Prelude.{◌≡◌, ◌⊎◌, ℕ, ◌<◌, ◌↔◌, List, All, HoldsAt, None, length}
 use Rattle.thin_vec.specs.ThinVec.{HasRoomFor, Thin, capacity_for}

@@ -39,11 +39,11 @@ module _ {T A : Type 0} (rule : Rule) (R : RattleType) (old : Thin T A) (a b : �
     pub cheap : IsCheap old → IsCheap new
     pub alloc : new.alloc ≡ old.alloc
 
-  -- a splice or an `extend` failed after some of the items xs were placed. No item is lost: the
-  -- others are in `held`, in `in_hand` and in `rest`. If items are held and none is in hand, the
-  -- iterator has ended. If items follow the range, all its places are filled. If no item follows
-  -- the range, then no item is held; and if an item is in hand, the list is full, or else nothing
-  -- was placed
+  -- a splice or an `extend` failed, after it had placed some of the items xs, or none. No item is
+  -- lost: the others are in `held`, in `in_hand` and in `rest`. If items are held and none is in
+  -- hand, the iterator has ended. If items follow the range, all its places are filled. If no item
+  -- follows the range, no item is held; then, if an item is in hand, the list is full, and if none
+  -- is in hand, nothing was placed
   pub record StopsBetween (xs held : List T) (lower : ℕ) (cause : ThinVecError)
       (in_hand : Option T) (rest : Hinted T A) (new : Thin T A) : Type 0 where
     pub placed : List T
