@@ -27,7 +27,7 @@ module _ {T A G : Type 0} where
   seen reply = says reply
 
   -- true if the index or the range of the command is in bounds for the items xs. Always true for a
-  -- command without an index and a range
+  -- command with neither an index nor a range
   abbrev pub in_range : List T → Command T A G → Bool
   in_range xs (Insert i v) = nat_le i (length xs)
   in_range xs (Remove i) = nat_lt i (length xs)

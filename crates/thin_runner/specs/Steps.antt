@@ -23,7 +23,7 @@ use Rattle.thin_runner.specs.declared.command.Step.TheVariants.{Front}
 
 module _ {T A G : Type 0} where
   -- the index or the range of the command is in bounds for the items xs. Always true for a command
-  -- without an index and a range
+  -- with neither an index nor a range
   abbrev pub IsInRange : List T → Command T A G → Type 0
   IsInRange xs (Insert i v) = i ≤ length xs
   IsInRange xs (Remove i) = i < length xs

@@ -114,7 +114,7 @@ pub enum Reply<T, A: Allocator = Global, G: Growth = Doubling> {
         /// The iterator, which yields the items that were not taken from it.
         rest: Hinted<T, A>,
     },
-    /// The command, for which no call was made, since its index or range is out of bounds.
+    /// The command itself. Its index or range is out of bounds, so no call was made.
     OutOfRange(Command<T, A, G>),
 }
 

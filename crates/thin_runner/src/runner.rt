@@ -11,8 +11,8 @@ use std::alloc::Allocator;
 use std::marker::PhantomData;
 use thin_vec::{Growth, ThinVec, ThinVecError};
 
-// Returns whether the index or the range of `command` is in bounds. Returns true for a command
-// without an index and a range.
+// Returns whether the index or the range of `command` is in bounds. Returns true for a command with
+// neither an index nor a range.
 fn is_in_range<T, A: Allocator, G: Growth>(
     list: &ThinVec<T, A, G>,
     command: &Command<T, A, G>,
