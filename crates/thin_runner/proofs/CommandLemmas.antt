@@ -30,9 +30,9 @@ module _ {T A : Type 0} where
   }
 
   module _ (rule : Rule) where
-    -- if a call that clones has failed, and the items and the allocator have not changed, then
-    -- either nothing changed, or there was room (perhaps after growth) and the clone of a source
-    -- failed, after one move for each source before it
+    -- if a call that clones fails, and leaves the items and the allocator unchanged, then either
+    -- nothing changed, or the capacity is the ruled one and a source could not be cloned, after one
+    -- move for each source before it
     pub refuses-clone : {R : RattleType} {infallible : T → Type 0} {sources : List T} {k : ℕ}
         {v w : Thin T A} → w.items ≡ v.items → w.alloc ≡ v.alloc
         → (w ≡ v) ⊎ IsCloneRefused rule R infallible sources k v w

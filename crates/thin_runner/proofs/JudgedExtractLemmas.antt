@@ -79,9 +79,8 @@ module _ {S T J : Type 0} (R : S → T → Bool → S → T → Type 0) (judge_o
   -- let a call of `next` return `item`, and leave the items `rest` to be tested and the closure in
   -- the state t; k calls may follow
   module _ (t : S) (k : ℕ) (item : Option T) (rest : List T) where
-    -- if this call kept the items `kept`, then the answers of this call and the k calls after it
-    -- are: the kept items stay, the returned item is extracted, and then follow the answers of the
-    -- k calls
+    -- if a call of `next` keeps the items `kept`, the answers from this call on are: these items
+    -- stay, the returned item is extracted, and then the answers of the k calls after it
     pub extracts-by : (s : S) (xs kept : List T) → ExtractsNext R s xs item t kept rest
         → extracting ask (judge_of s) (suc k) xs
         ≡ stay kept ++ (goes item ++ extracting ask (judge_of t) k rest)
@@ -107,7 +106,7 @@ module _ {S T J : Type 0} (R : S → T → Bool → S → T → Type 0) (judge_o
             ap (λ l. (true, e.2) ∷ l) (by m.0 m.1)
             ∙ sym (ap (λ l. stay l ++ (goes item ++ extracting ask (judge_of t) k rest)) m.2)
 
-    -- if the call returned `None`, no item is left to be tested
+    -- if a call of `next` returns `None`, no item is left to be tested
     rest-none : (s : S) (xs kept : List T) → ExtractsNext R s xs item t kept rest
         → item ≡ None → rest ≡ []
     rest-none s [] kept e none = e.3
@@ -120,8 +119,8 @@ module _ {S T J : Type 0} (R : S → T → Bool → S → T → Type 0) (judge_o
         answered true by m = let wrong = m.0 in absurd (none-some (sym none ∙ wrong))
         answered false by m = by m.0 m.1
 
-    -- what `handed_out` computes for this call and the k calls after it is `item`, followed by what
-    -- it computes for the k calls
+    -- what `handed_out` computes for a call of `next` and the k calls after it is `item`, followed
+    -- by what it computes for the k calls
     pub handed-by : (s : S) (xs kept : List T) → ExtractsNext R s xs item t kept rest
         → handed_out (suc k) (left_at false (extracting ask (judge_of s) (suc k) xs))
         ≡ item ∷ handed_out k (left_at false (extracting ask (judge_of t) k rest))
@@ -203,8 +202,8 @@ module _ {T : Type 0} (asked : Answers T) (start : List T) (before : Cost) where
       }
 
   module _ (at next : Stand T) where
-    -- if `at` is a state of the extraction, and a call of `next` keeps the items `kept`, returns
-    -- `item` and leads to the state `next`, then `next` is a state of the extraction
+    -- if a call of `next` in a state of the extraction keeps the items `kept` and returns `item`,
+    -- the state after the call is a state of the extraction too
     pub extracting-step : (kept : List T) (item : Option T) → IsExtracting at
         → at.left ≡ stay kept ++ (goes item ++ next.left) → next.front ≡ at.front ++ kept
         → next.out ≡ at.out + length (option_to_list item)

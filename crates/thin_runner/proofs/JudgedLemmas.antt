@@ -84,8 +84,9 @@ module _ {S T J : Type 0} (R : S → T → T → Bool → S → T → T → Type
   asked-pairs-by s t (x ∷ xs) flags ys a = let h = asked-last-by s t x xs flags ys a
       in (ap moved_up h.0, h.1)
 
-  -- if the items of v were compared in this way, and w is the list of the items that stay, then w
-  -- is v with only the items that stay by the judge's answers (`sifted`)
+  -- if each item of v except the first was compared with the last item kept before it, and w is the
+  -- list of the items that stay, then w is v with only the items that stay by the judge's answers
+  -- (`sifted`)
   pub deduped-by : {A : Type 0} (s : S) (v w : Thin T A) → IsDedupedBy R s v w
       → w.capacity ≡ v.capacity → w.alloc ≡ v.alloc
       → w ≡ sifted v (asked_pairs same (judge_of s) v.items)
@@ -172,8 +173,8 @@ module _ {T J : Type 0} where
   pairs-length same j [] = refl
   pairs-length same j (x ∷ xs) = ap suc (last-length same j x xs)
 
-  -- if each item of xs is compared in this way, the number of items that stay is at most the number
-  -- of items of xs
+  -- if each item of xs except the first is compared with the last item kept before it, the number
+  -- of items that stay is at most the number of items of xs
   pub few-pairs : (same : J → T → T → Bool × T × T × J) (j : J) (xs : List T)
       → length (left_at true (asked_pairs same j xs)) ≤ length xs
   few-pairs same j xs = omega (arith, few-left (asked_pairs same j xs), pairs-length same j xs)

@@ -123,8 +123,8 @@ module _ {T : Type 0} where
       ∙ ((λ i. before ++ (kept ++ left_at-stay after i)) ∙ sym (append_assoc before kept after)))
 
 module _ {T A G J : Type 0} (here : Setting T A J) (equal : ClonesEqual here.clones) where
-  -- if each clone equals its source, a command that is in range and does not fail gets the reply,
-  -- and leaves the items, that `granted` computes
+  -- if each clone equals its source, `granted` computes the reply to each command that is in range
+  -- and does not fail, and the items after it
   does-granted : (v w : Thin T A) (command : Command T A G) (reply : Reply T A G)
       → IsGranted reply → Does here v command reply w
       → (seen reply, w.items) ≡ granted here v.items command
@@ -184,8 +184,8 @@ module _ {T A G J : Type 0} (here : Setting T A J) (equal : ClonesEqual here.clo
       λ j. (yields (d.0 j), d.1.items j)
   does-granted v w command reply ok d = absurd d
 
-  -- if each clone equals its source, a command that does not fail gets the reply, and leaves the
-  -- items, that `plain_step` computes
+  -- if each clone equals its source, `plain_step` computes the reply to each command that does not
+  -- fail, and the items after it
   step-plain : (v w : Thin T A) (command : Command T A G) (reply : Reply T A G)
       → IsGranted reply → Steps here v command reply w
       → (seen reply, w.items) ≡ plain_step here v.items command

@@ -56,8 +56,8 @@ module _ {T A G J : Type 0} (here : Setting T A J) where
   -- let a step turn the list `mid` into `new`
   module _ (mid new : Thin T A) (command : Command T A G) (reply : Reply T A G)
       (stepped : Steps here mid command reply new) where
-    -- if the command of this step is the first of those that were left, and its reply is appended,
-    -- then one more command has run
+    -- if the command of the step from `mid` to `new` is the first of those that were left, and its
+    -- reply is appended, then one more command has run
     pub HasRun-push : {old : Thin T A} {commands left left' : List (Command T A G)}
         {before after after' : List (Reply T A G)} → HasRun old commands left before after mid
         → left ≡ command ∷ left' → after' ≡ after ++ reply ∷ []
@@ -81,8 +81,8 @@ module _ {T A G J : Type 0} (here : Setting T A J) where
       (step : (n : ℕ) (v w : Thin T A) (command : Command T A G) (reply : Reply T A G)
       → Only command → Holds n v → Steps here v command reply w
       → Holds (n + count command reply) w) where
-    -- a run whose commands are in `Only` keeps the property, if the number grows by the sum of
-    -- these counts
+    -- a run whose commands are in `Only` keeps the property `Holds`, if the number grows by the sum
+    -- of `count` over the run
     pub runs-keep : (n : ℕ) (v w : Thin T A) (commands : List (Command T A G))
         (replies : List (Reply T A G)) → All Only commands → Holds n v
         → Runs here v commands replies w → Holds (n + counted count commands replies) w

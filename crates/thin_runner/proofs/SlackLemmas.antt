@@ -15,10 +15,8 @@ use Rattle.thin_runner.specs.declared.command.Command.TheVariants.{Push, Pop}
 use Rattle.thin_runner.specs.declared.command.Reply.{Reply}
 use Rattle.thin_runner.specs.declared.command.Reply.TheVariants.{Done, Item, Returned, OutOfRange}
 
--- let the bound for a length be the largest of 4, the capacity before, and twice the length. If the
--- first step keeps the capacity within the bound for its length, and the later steps keep it within
--- the bound for their greatest length, then all steps keep it within the bound for the greatest
--- length
+-- if the largest of 4, the capacity before, and twice the greatest length bounds the capacity after
+-- the first step, and likewise after the later steps, then it does so after all steps together
 slack-join : (before mid after len long rest : ℕ) → mid ≤ max before (max 4 (2 * long))
     → after ≤ max mid (max 4 (2 * rest)) → long ≤ rest
     → after ≤ max before (max 4 (2 * max len rest))

@@ -30,7 +30,7 @@ module _ {T : Type 0} where
       ∙ take-append_seam ys (x ∷ []) in
       λ i. last i ∷ walked (others i) steps
 
-  -- the same holds for a step that is equal to `Back`
+  -- what `walked-last` states for `Back` holds for each step that is equal to `Back`
   pub walked-back : (xs ys : List T) (item : Option T) (step : Step) → step ≡ Back
       → MatchOption item ((xs ≡ []) × (ys ≡ [])) (λ x. xs ≡ ys ++ x ∷ [])
       → (steps : List Step) → walked xs (step ∷ steps) ≡ item ∷ walked ys steps

@@ -20,7 +20,7 @@ module _ {T : Type 0} (clones like : T → T → Type 0)
   zip-weaker (x ∷ xs) (y ∷ ys) z = (weaker x y z.0, zip-weaker xs ys z.1)
   zip-weaker xs ys z = absurd z
 
-  -- if ys is xs resized with clones of x, the same holds for the weaker relation `like`
+  -- a list that is resized with clones is also resized with clones by the weaker relation `like`
   resized-weaker : (xs ys : List T) (n : ℕ) (x : T) → IsResized clones xs n x ys
       → IsResized like xs n x ys
   resized-weaker xs ys n x r = record {

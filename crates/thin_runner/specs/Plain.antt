@@ -21,7 +21,7 @@ pub data Seen (T A G : Type 0) : Type 0 where
   yields : List (Option T) → Seen T A G
 
 module _ {T A G : Type 0} where
-  -- the part of this reply that the main theorem determines
+  -- the part of the given reply that the main theorem determines
   abbrev pub seen : Reply T A G → Seen T A G
   seen (Answers answers) = yields answers.items
   seen reply = says reply

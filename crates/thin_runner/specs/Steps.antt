@@ -36,7 +36,7 @@ module _ {T A G : Type 0} where
   IsInRange xs command = Unit {0}
 
 module _ {T A G J : Type 0} (here : Setting T A J) where
-  -- a command that is in range may turn the list `old` into `new`, with this reply
+  -- the command, which is in range, may turn the list `old` into `new`, with this reply
   abbrev pub Does : Thin T A → Command T A G → Reply T A G → Thin T A → Type 0
   Does old (Push v) Done new = Grows here old 1 (old.items ++ v ∷ []) 1 new
   Does old (Push v) (Returned w cause) new =
@@ -120,8 +120,8 @@ module _ {T A G J : Type 0} (here : Setting T A J) where
       MatchOption (answered here old.items command) ⊥ (λ answers. new ≡ sifted old answers)
   Does old command reply new = ⊥
 
-  -- a command, in range or not, may turn the list `old` into `new`, with this reply: if the command
-  -- is out of range, the reply returns it, and the list does not change
+  -- the command may turn the list `old` into `new`, with this reply. A command that is out of range
+  -- is returned in the reply, and does not change the list
   abbrev pub Steps : Thin T A → Command T A G → Reply T A G → Thin T A → Type 0
   Steps old command (OutOfRange back) new =
       (back ≡ command) × ¬ (IsInRange old.items command) × (new ≡ old)

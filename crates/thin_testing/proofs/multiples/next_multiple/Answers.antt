@@ -1,5 +1,5 @@
--- If the product is greater than `usize::MAX`, it does not fit; nor does `usize::MAX`, which the
--- saturating product of the code is in this case.
+-- If the product is greater than `usize::MAX`, the code computes `usize::MAX` instead; neither of
+-- the two fits.
 use Rattle.std.proofs.Common.{◌≡◌, ℕ, ◌-◌, ◌*◌, ◌≤◌, ◌^◌, Some, inl, inr, max, min, mul_comm, refl, sym, ap, ◌∙◌, arith}
 use Rattle.std.proofs.lemmas.Bool.{cases_lt, false≢true}
 use Rattle.std.specs.Mem.{type_size}

@@ -51,7 +51,7 @@ use Rattle.thin_testing.specs.contracts.refusing.RefusingAllocator.allocate.Key 
 use Rattle.thin_testing.proofs.refusing.RefusingAllocator.allocate.Statement as stated
 use Rattle.thin_testing.proofs.refusing.RefusingAllocator.allocate.Code as code
 
--- the statements after the first n
+-- the statements of a body after the first n
 abbrev after : ℕ → Body → Body
 after zero b = b
 after (suc n) (seq _ b) = after n b

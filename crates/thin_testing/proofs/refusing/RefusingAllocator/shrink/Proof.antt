@@ -48,7 +48,7 @@ use Rattle.thin_testing.specs.contracts.refusing.RefusingAllocator.shrink.Key as
 use Rattle.thin_testing.proofs.refusing.RefusingAllocator.shrink.Statement as stated
 use Rattle.thin_testing.proofs.refusing.RefusingAllocator.shrink.Code as code
 
--- the statements after the first n
+-- the statements of a body after the first n
 abbrev after : ℕ → Body → Body
 after zero b = b
 after (suc n) (seq _ b) = after n b
