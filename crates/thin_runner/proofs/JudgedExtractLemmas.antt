@@ -15,7 +15,7 @@ use Rattle.thin_runner.specs.commands.Ranges.{walked}
 use Rattle.thin_runner.specs.declared.command.Step.TheVariants.{Front}
 
 module _ {T : Type 0} where
-  -- the answer for an extracted item, which does not stay; no answer if no item was extracted
+  -- the answer for an extracted item: it is not kept. There is no answer if no item was extracted
   abbrev pub goes : Option T → Answers T
   goes None = []
   goes (Some x) = (false, x) ∷ []
@@ -57,8 +57,7 @@ module _ {T : Type 0} where
   few-goes (Some x) = refl
 
   -- the moves for two successive parts of a list are the moves for the first part, plus those for
-  -- the second; in the second part, all items that stay move if an item of the first part was
-  -- removed
+  -- the second; in the second part, all kept items move if an item of the first part was removed
   pub moves-append : (a b : Answers T) → moved_up (flags_of (a ++ b))
       ≡ moved_up (flags_of a) + (if length (left_at false a) == 0 then moved_up
       (flags_of b) else trues (flags_of b))
@@ -80,7 +79,7 @@ module _ {S T J : Type 0} (R : S → T → Bool → S → T → Type 0) (judge_o
   -- the state t; k calls may follow
   module _ (t : S) (k : ℕ) (item : Option T) (rest : List T) where
     -- if a call of `next` keeps the items `kept`, the answers from this call on are: these items
-    -- stay, the returned item is extracted, and then the answers of the k calls after it
+    -- are kept, the returned item is extracted, and then the answers of the k calls after it
     pub extracts-by : (s : S) (xs kept : List T) → ExtractsNext R s xs item t kept rest
         → extracting ask (judge_of s) (suc k) xs
         ≡ stay kept ++ (goes item ++ extracting ask (judge_of t) k rest)
@@ -254,7 +253,7 @@ module _ {T A : Type 0} (v w : Thin T A) (a b : ℕ) (asked : Answers T) where
     pub alloc : w.alloc ≡ v.alloc
 
   -- if the extraction has ended, and w is the list that it leaves, then w is v with only the items
-  -- that stay by the answers (`sifted`)
+  -- that are kept by the answers (`sifted`)
   pub extracting-ends : (at : Stand T) (rest tail : List T)
       → IsExtracting asked (take a v.items) v.cost at → at.left ≡ stay rest → tail ≡ drop b v.items
       → IsLeft at rest tail → w ≡ sifted v (around v.items a b asked)
@@ -304,7 +303,7 @@ module _ {T J : Type 0} (ask : J → T → Bool × T × J) where
   extracting-length j (suc k) (x ∷ xs) =
       ap suc (extracting-length (ask j x).2 (if (ask j x).0 then k else suc k) xs)
 
-  -- the number of items that stay after an extraction is at most the number of items of xs
+  -- the number of items that are kept by an extraction is at most the number of items of xs
   pub few-extracted : (j : J) (k : ℕ) (xs : List T) (a b : ℕ) → a ≤ b → b ≤ length xs
       → length (left_at true (around xs a b (extracting ask j k (slice_range xs a b)))) ≤ length xs
   few-extracted j k xs a b order within =

@@ -30,8 +30,8 @@ module _ {S T J : Type 0} (R : S → T → Bool → S → T → Type 0) (judge_o
       a.6 ∙ (ap (λ l. (a.0, a.1) ∷ l) (asked-by a.2 t xs a.3 a.5)
       ∙ ap (λ l. (l.0, l.1) ∷ asked ask l.2 xs) (told s x a.0 a.2 a.1 a.4))
 
-  -- if the closure was called for each item of v, and w is the list of the items that stay, then w
-  -- is v with only the items that stay by the judge's answers (`sifted`)
+  -- if the closure was called for each item of v, and w is the list of the kept items, then w is v
+  -- with only the items that are kept by the judge's answers (`sifted`)
   pub retained-by : {A : Type 0} (s : S) (v w : Thin T A) → IsRetained R s v w
       → w.capacity ≡ v.capacity → w.alloc ≡ v.alloc
       → w ≡ sifted v (asked ask (judge_of s) v.items)
@@ -43,8 +43,8 @@ module _ {S T J : Type 0} (R : S → T → Bool → S → T → Type 0) (judge_o
 
 -- about the results of comparing each item with the last item kept before it
 module _ {T : Type 0} where
-  -- ys are the items that stay by the results b, beginning with the first kept item, and the flags
-  -- say for each later item whether it stays
+  -- ys are the items that are kept by the results b, beginning with the first item, and the flags
+  -- say for each later item whether it is kept
   abbrev pub Leaves : List Bool → List T → T × Answers T → Type 0
   Leaves flags ys b = (flags ≡ flags_of b.1) × (ys ≡ b.0 ∷ left_at true b.1)
 
@@ -54,7 +54,7 @@ module _ {S T J : Type 0} (R : S → T → T → Bool → S → T → T → Type
     (told : (s : S) (x k : T) (b : Bool) (u : S) (x' k' : T) → R s x k b u x' k'
     → (b, x', k', judge_of u) ≡ same (judge_of s) x k) where
   -- if each item of xs was compared with the last item kept before it, which was k at first, then
-  -- the flags and the items that stay are those by the judge's answers
+  -- the flags and the kept items are those by the judge's answers
   pub asked-last-by : (s t : S) (k : T) (xs : List T) (flags : List Bool) (ys : List T)
       → AskedLast R s k xs flags ys t → Leaves flags ys (asked_last same (judge_of s) k xs)
   asked-last-by s t k [] flags ys a = (a.0, a.1)
@@ -75,7 +75,7 @@ module _ {S T J : Type 0} (R : S → T → T → Bool → S → T → T → Type
           by a.1 m.0 m.1 in (e ∙ ap (λ l. true ∷ l) h.0, m.2 ∙ ap (λ l. a.2 ∷ l) h.1)
 
   -- if each item of xs except the first was compared with the last item kept before it, then the
-  -- items that stay and their moves are those by the judge's answers
+  -- kept items and their moves are those by the judge's answers
   pub asked-pairs-by : (s t : S) (xs : List T) (flags : List Bool) (ys : List T)
       → AskedPairs R s xs flags ys t
       → (moved_up flags ≡ moved_up (flags_of (asked_pairs same (judge_of s) xs)))
@@ -85,7 +85,7 @@ module _ {S T J : Type 0} (R : S → T → T → Bool → S → T → T → Type
       in (ap moved_up h.0, h.1)
 
   -- if each item of v except the first was compared with the last item kept before it, and w is the
-  -- list of the items that stay, then w is v with only the items that stay by the judge's answers
+  -- list of the kept items, then w is v with only the items that are kept by the judge's answers
   -- (`sifted`)
   pub deduped-by : {A : Type 0} (s : S) (v w : Thin T A) → IsDedupedBy R s v w
       → w.capacity ≡ v.capacity → w.alloc ≡ v.alloc
@@ -101,7 +101,7 @@ module _ {F T A J : Type 0} (g : Mut F (MutBor T × Unit {0}) (ℕ × (MutBor T 
     (told : (f : F) (x : T) (k : ℕ) (f' : F) (x' : T) → CalledAtMut g f x k f' x'
     → (k, x', judge_of f') ≡ key (judge_of f) x) where
   -- if the items of v were compared by their keys, the key of the later item being taken first, and
-  -- w is the list of the items that stay, then w is v with only the items that stay by the judge's
+  -- w is the list of the kept items, then w is v with only the items that are kept by the judge's
   -- answers (`sifted`)
   pub deduped-by-keys : (f : F) (v w : Thin T A)
       → IsDedupedBy (ComparesKeys g (λ a b. a == b)) f v w → w.capacity ≡ v.capacity
@@ -127,16 +127,16 @@ module _ {T J : Type 0} (look : J → T → Bool × J) where
   pub looked : (j u : J) (x y : T) (b : Bool) → (b, u) ≡ look j x → y ≡ x → (b, y, u) ≡ looks j x
   looked j u x y b told same = ap (λ z. (b, z, u)) same ∙ ap (λ a. (a.0, x, a.1)) told
 
--- at most as many items stay as there were
+-- at most as many items are kept as there were
 module _ {T : Type 0} where
-  -- the number of items that stay is at most the number of answers
+  -- the number of kept items is at most the number of answers
   pub few-left : (answers : Answers T) → length (left_at true answers) ≤ length answers
   few-left [] = omega arith
   few-left ((true, x) ∷ answers) = omega (arith, few-left answers)
   few-left ((false, x) ∷ answers) = omega (arith, few-left answers)
 
   -- the results of comparing x with the kept item k, from the results a for the items after x: if b
-  -- is true, x is removed; otherwise x stays and is the last kept item from then on
+  -- is true, x is removed; otherwise x is kept, and becomes the last kept item
   abbrev next : Bool → T → T → T × Answers T → T × Answers T
   next b x k a = if b then (a.0, (false, x) ∷ a.1) else (k, (true, a.0) ∷ a.1)
 
@@ -152,8 +152,7 @@ module _ {T J : Type 0} where
   asked-length ask j [] = refl
   asked-length ask j (x ∷ xs) = ap suc (asked-length ask (ask j x).2 xs)
 
-  -- if each item of xs is tested, the number of items that stay is at most the number of items of
-  -- xs
+  -- if each item of xs is tested, the number of kept items is at most the number of items of xs
   pub few-asked : (ask : J → T → Bool × T × J) (j : J) (xs : List T)
       → length (left_at true (asked ask j xs)) ≤ length xs
   few-asked ask j xs = omega (arith, few-left (asked ask j xs), asked-length ask j xs)
@@ -174,20 +173,20 @@ module _ {T J : Type 0} where
   pairs-length same j (x ∷ xs) = ap suc (last-length same j x xs)
 
   -- if each item of xs except the first is compared with the last item kept before it, the number
-  -- of items that stay is at most the number of items of xs
+  -- of kept items is at most the number of items of xs
   pub few-pairs : (same : J → T → T → Bool × T × T × J) (j : J) (xs : List T)
       → length (left_at true (asked_pairs same j xs)) ≤ length xs
   few-pairs same j xs = omega (arith, few-left (asked_pairs same j xs), pairs-length same j xs)
 
--- if the test E is stateless, the items that `dedup` leaves are those that stay by the test
+-- if the test E is stateless, the items that `dedup` leaves are those that are kept by the test
 module _ {T J : Type 0} (E : T → T → Bool) (j : J) where
   -- the test E as a function of the judge's state: it returns what E says, and changes neither the
   -- items nor the state
   abbrev pub tells : J → T → T → Bool × T × T × J
   tells j later kept = (E later kept, later, kept, j)
 
-  -- if k is the item kept before xs, `dedup_from` returns the items that stay by the test E, and
-  -- `unlike_from` returns the flags
+  -- if k is the item kept before xs, `dedup_from` returns the items that are kept by the test E,
+  -- and `unlike_from` returns the flags
   dedup-last : (k : T) (xs : List T) → Leaves (unlike_from E k xs) (dedup_from E k xs)
       (asked_last tells j k xs)
   dedup-last k [] = (refl, refl)
@@ -202,7 +201,7 @@ module _ {T J : Type 0} (E : T → T → Bool) (j : J) where
       told by true = let h = by k in (ap (λ l. false ∷ l) h.0, h.1)
       told by false = let h = by x in (ap (λ l. true ∷ l) h.0, ap (λ l. k ∷ l) h.1)
 
-  -- `dedup` returns the items of xs that stay by the test E, and `unlike` returns flags with as
+  -- `dedup` returns the items of xs that are kept by the test E, and `unlike` returns flags with as
   -- many moves
   pub dedup-pairs : (xs : List T)
       → (moved_up (unlike E xs) ≡ moved_up (flags_of (asked_pairs tells j xs)))
@@ -211,7 +210,7 @@ module _ {T J : Type 0} (E : T → T → Bool) (j : J) where
   dedup-pairs (x ∷ xs) = let h = dedup-last x xs in (ap moved_up h.0, h.1)
 
   -- if w has the items and the moves of `dedup`, and the capacity and the allocator of v, then w is
-  -- v with only the items that stay by the test E (`sifted`)
+  -- v with only the items that are kept by the test E (`sifted`)
   pub deduped-alike : {A : Type 0} (v w : Thin T A) → w.items ≡ dedup E v.items → w.cost
       ≡ moving (moved_up (unlike E v.items)) v.cost
       → w.capacity ≡ v.capacity → w.alloc ≡ v.alloc → w ≡ sifted v (asked_pairs tells j v.items)

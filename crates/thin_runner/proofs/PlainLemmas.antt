@@ -110,8 +110,8 @@ module _ {T : Type 0} where
       ap (λ (t : List T). (t ++ ys) ++ drop (length xs) xs) (take-length xs)
       ∙ (ap (λ (t : List T). (xs ++ ys) ++ t) (drop-length xs) ∙ append-nil (xs ++ ys))
 
-  -- if the items of a range were tested, and the items around it stay, then the items left are the
-  -- list with the range replaced by those of its items that stay
+  -- if the items of a range are tested, and the items around it are kept, then the items left are
+  -- the list with the range replaced by its kept items
   left-around : (xs : List T) (a b : ℕ) (answers : Answered T)
       → left_at true (around xs a b answers) ≡ replace_range xs a b (left_at true answers)
   left-around xs a b answers =

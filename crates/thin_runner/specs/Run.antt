@@ -41,8 +41,8 @@ module _ {T A G J : Type 0} (here : Setting T A J) where
   Runs old commands replies new = ⊥
 
   -- an upper bound on the number of items that a command with this reply moves in a list of the
-  -- items xs, not counting copies by growth. For a command that filters, it is the number of items
-  -- that stay and change their place. A command that fails half way, or because a clone fails, may
+  -- items xs, not counting copies by growth. For a command that filters, it is the number of kept
+  -- items that change their place. A command that fails half way, or because a clone fails, may
   -- move fewer items
   abbrev pub may_move : List T → Command T A G → Reply T A G → ℕ
   may_move xs command (OutOfRange back) = 0

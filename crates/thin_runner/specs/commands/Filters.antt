@@ -1,5 +1,5 @@
 -- The answers of a judge about the items of a list, one by one, and the list that they leave. An
--- answer says whether the item stays, and holds the item as the judge leaves it. (std:
+-- answer says whether the item is kept, and holds the item as the judge leaves it. (std:
 -- `Vec::retain_mut`, `Vec::dedup_by`, `Vec::extract_if`)
 use Rattle.std.specs.Prelude.{ℕ, zero, suc, ◌==◌, List, [], ◌∷◌, ◌++◌, Bool, None, Option, Some, drop, false, if◌then◌else◌, not, take, true}
 use Rattle.thin_vec.specs.Edits.Retain.{Answers, flags_of, left_at, moved_up, stay}
@@ -24,7 +24,8 @@ module _ {T J : Type 0} (ask : J → T → Bool × T × J) where
   asked j (x ∷ xs) = let a = ask j x in (a.0, a.1) ∷ asked a.2 xs
 
   -- the result of k calls of `next`, starting with the judge's state j: for each item, whether it
-  -- stays, and the item as it is left. Items after the last yielded one are not tested, and stay
+  -- is kept, and the item as it is left. Items after the last yielded one are not tested, and are
+  -- kept
   abbrev pub extracting : J → ℕ → List T → Answers T
   extracting j zero xs = stay xs
   extracting j (suc k) [] = []
@@ -33,34 +34,35 @@ module _ {T J : Type 0} (ask : J → T → Bool × T × J) where
 
 module _ {T J : Type 0} (same : J → T → T → Bool × T × T × J) where
   -- compares each item with the last item kept before it, which is k at first. An item that is the
-  -- same as the kept one does not stay. The result is k as it is left in the end, and for each
-  -- item, whether it stays, and the item as it is left
+  -- same as the kept one is removed. The result is k as it is left in the end, and for each item,
+  -- whether it is kept, and the item as it is left
   abbrev pub asked_last : J → T → List T → T × Answers T
   asked_last j k [] = (k, [])
   asked_last j k (x ∷ xs) =
       let a = same j x k in let b = asked_last a.3 (if a.0 then a.2 else a.1) xs in
       if a.0 then (b.0, (false, a.1) ∷ b.1) else (a.2, (true, b.0) ∷ b.1)
 
-  -- the first item stays, and each later item is compared with the last item kept before it: for
-  -- each item, whether it stays, and the item as it is left
+  -- the first item is kept, and each later item is compared with the last item kept before it: for
+  -- each item, whether it is kept, and the item as it is left
   abbrev pub asked_pairs : J → List T → Answers T
   asked_pairs j [] = []
   asked_pairs j (x ∷ xs) = let b = asked_last j x xs in (true, b.0) ∷ b.1
 
 module _ {T : Type 0} where
   -- the answers for all items of xs: `answers` for the items from index a up to b, and that the
-  -- items before and after them stay
+  -- items before and after them are kept
   abbrev pub around : List T → ℕ → ℕ → Answers T → Answers T
   around xs a b answers = stay (take a xs) ++ (answers ++ stay (drop b xs))
 
-  -- the list `old` with only the items that stay according to the answers, each as it was left.
-  -- Each item that changes its place counts one move
+  -- the list `old` with only the items that are kept by the answers, each as it was left. Each item
+  -- that changes its place counts one move
   abbrev pub sifted : {A : Type 0} → Thin T A → Answers T → Thin T A
   sifted old answers = edited old (left_at true answers) (moved_up (flags_of answers))
 
 module _ {T A G J : Type 0} (here : Setting T A J) where
-  -- for a command that filters: for each item, whether it stays, and the item as it is left. `None`
-  -- for any other command. `Retain` does not write to the items, and `Dedup` does not ask the judge
+  -- for a command that filters: for each item, whether it is kept, and the item as it is left.
+  -- `None` for any other command. `Retain` does not write to the items, and `Dedup` does not ask
+  -- the judge
   abbrev pub answered : List T → Command T A G → Option (Answers T)
   answered xs Retain =
       Some (asked (λ j x. let a = here.judging.look j x in (a.0, x, a.1)) here.judge xs)

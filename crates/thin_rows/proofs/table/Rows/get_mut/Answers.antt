@@ -9,7 +9,8 @@ use borrow.Follows.Closed.{read_of}
 use Rattle.thin_rows.specs.Table.{value_at}
 use Rattle.thin_rows.proofs.table.Rows.get_mut.Goals as goal
 
--- the borrowed row is the one at this index, and writing it back unchanged does not change the rows
+-- the borrowed row is the one at the index `row`, and writing it back unchanged does not change the
+-- rows
 pub returns : goal.returns
 returns g c =
     let rows = c.self.inside.rows.items in

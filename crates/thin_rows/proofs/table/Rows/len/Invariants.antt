@@ -4,7 +4,8 @@ use Rattle.std.proofs.Common.{◌≡◌, ◌+◌, ◌-◌, ◌^◌, ◌<◌, map
 use Rattle.std.specs.FinMap.{len}
 use Rattle.thin_rows.proofs.table.Rows.len.Given as goal
 
--- the two numbers are equal if each is cut off at `usize::MAX`, and the count is a `usize`
+-- the count plus the entries in the rows that are left equals the number of all entries, if each is
+-- cut off at `usize::MAX`; and the count is a `usize`
 abbrev pub invariant-loop-row : goal.invariant-loop-row
 invariant-loop-row g l =
     (min (l.count + sum (map (λ row. len row) l.row-iterator.rest.now)) (2 ^ 64 - 1)
