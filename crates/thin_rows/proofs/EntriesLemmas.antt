@@ -28,7 +28,7 @@ is_more c k more = grind (arith, nat_tests)
 less_from : (c k : ℕ) → T (is_lt (nat_cmp c k)) → c < k
 less_from c k h = grind (arith, nat_tests)
 
--- true if the removal of column c keeps an entry of column k
+-- true if the removal of the entry of column c keeps the entry of column k
 abbrev pub stays : ℕ → ℕ → Bool
 stays c k = not (eq_by_cmp nat_cmp c k)
 

@@ -173,9 +173,9 @@ module _ {T : Type 0} (asked : Answers T) (start : List T) (before : Cost) where
     pub out : at.out ≡ length (left_at false done)
     pub paid : at.paid ≡ moving (moved_up (flags_of done)) before
 
-  -- let the next answers, `now`, keep k items, and remove none before the last kept one. If these k
-  -- items count a move each in case an item was extracted before, then the cost is that of the
-  -- moves for all answers, including `now`
+  -- if the next answers, `now`, keep k items, and no item is removed before the last of these, then
+  -- the cost for all answers, including `now`, is the cost so far, plus k moves if an item was
+  -- extracted before
   paid-next : (at : Stand T) (h : IsExtracting at) (now : Answers T) (k : ℕ)
       → moved_up (flags_of now) ≡ 0 → trues (flags_of now) ≡ k
       → (if at.out == 0 then at.paid else moving k at.paid)
@@ -252,8 +252,8 @@ module _ {T A : Type 0} (v w : Thin T A) (a b : ℕ) (asked : Answers T) where
     pub capacity : w.capacity ≡ v.capacity
     pub alloc : w.alloc ≡ v.alloc
 
-  -- if the extraction has ended, and w is the list that it leaves, then w is v with only the items
-  -- that are kept by the answers (`sifted`)
+  -- if an extraction from v has ended and leaves the list w, then w is v with only the items that
+  -- the answers keep (`sifted`)
   pub extracting-ends : (at : Stand T) (rest tail : List T)
       → IsExtracting asked (take a v.items) v.cost at → at.left ≡ stay rest → tail ≡ drop b v.items
       → IsLeft at rest tail → w ≡ sifted v (around v.items a b asked)

@@ -30,8 +30,8 @@ module _ {S T J : Type 0} (R : S → T → Bool → S → T → Type 0) (judge_o
       a.6 ∙ (ap (λ l. (a.0, a.1) ∷ l) (asked-by a.2 t xs a.3 a.5)
       ∙ ap (λ l. (l.0, l.1) ∷ asked ask l.2 xs) (told s x a.0 a.2 a.1 a.4))
 
-  -- if the closure was called for each item of v, and w is the list of the kept items, then w is v
-  -- with only the items that are kept by the judge's answers (`sifted`)
+  -- if `retain` or `retain_mut`, with a closure that asks the judge, turns v into w, then w is v
+  -- with only the items that the judge keeps (`sifted`)
   pub retained-by : {A : Type 0} (s : S) (v w : Thin T A) → IsRetained R s v w
       → w.capacity ≡ v.capacity → w.alloc ≡ v.alloc
       → w ≡ sifted v (asked ask (judge_of s) v.items)
@@ -54,7 +54,7 @@ module _ {S T J : Type 0} (R : S → T → T → Bool → S → T → T → Type
     (told : (s : S) (x k : T) (b : Bool) (u : S) (x' k' : T) → R s x k b u x' k'
     → (b, x', k', judge_of u) ≡ same (judge_of s) x k) where
   -- if each item of xs was compared with the last item kept before it, which was k at first, then
-  -- the flags and the kept items are those by the judge's answers
+  -- the flags and the kept items are as the judge decides
   pub asked-last-by : (s t : S) (k : T) (xs : List T) (flags : List Bool) (ys : List T)
       → AskedLast R s k xs flags ys t → Leaves flags ys (asked_last same (judge_of s) k xs)
   asked-last-by s t k [] flags ys a = (a.0, a.1)
@@ -75,7 +75,7 @@ module _ {S T J : Type 0} (R : S → T → T → Bool → S → T → T → Type
           by a.1 m.0 m.1 in (e ∙ ap (λ l. true ∷ l) h.0, m.2 ∙ ap (λ l. a.2 ∷ l) h.1)
 
   -- if each item of xs except the first was compared with the last item kept before it, then the
-  -- kept items and their moves are those by the judge's answers
+  -- kept items and the number of moves are as the judge decides
   pub asked-pairs-by : (s t : S) (xs : List T) (flags : List Bool) (ys : List T)
       → AskedPairs R s xs flags ys t
       → (moved_up flags ≡ moved_up (flags_of (asked_pairs same (judge_of s) xs)))
@@ -84,9 +84,8 @@ module _ {S T J : Type 0} (R : S → T → T → Bool → S → T → T → Type
   asked-pairs-by s t (x ∷ xs) flags ys a = let h = asked-last-by s t x xs flags ys a
       in (ap moved_up h.0, h.1)
 
-  -- if each item of v except the first was compared with the last item kept before it, and w is the
-  -- list of the kept items, then w is v with only the items that are kept by the judge's answers
-  -- (`sifted`)
+  -- if `dedup_by`, with a closure that asks the judge, turns v into w, then w is v with only the
+  -- items that the judge keeps (`sifted`)
   pub deduped-by : {A : Type 0} (s : S) (v w : Thin T A) → IsDedupedBy R s v w
       → w.capacity ≡ v.capacity → w.alloc ≡ v.alloc
       → w ≡ sifted v (asked_pairs same (judge_of s) v.items)
@@ -100,9 +99,9 @@ module _ {F T A J : Type 0} (g : Mut F (MutBor T × Unit {0}) (ℕ × (MutBor T 
     (judge_of : F → J) (key : J → T → ℕ × T × J)
     (told : (f : F) (x : T) (k : ℕ) (f' : F) (x' : T) → CalledAtMut g f x k f' x'
     → (k, x', judge_of f') ≡ key (judge_of f) x) where
-  -- if the items of v were compared by their keys, the key of the later item being taken first, and
-  -- w is the list of the kept items, then w is v with only the items that are kept by the judge's
-  -- answers (`sifted`)
+  -- if `dedup_by_key`, with a closure that asks the judge, turns v into w, then w is v with only
+  -- the items that the judge keeps (`sifted`); of two items, the key of the later one is taken
+  -- first
   pub deduped-by-keys : (f : F) (v w : Thin T A)
       → IsDedupedBy (ComparesKeys g (λ a b. a == b)) f v w → w.capacity ≡ v.capacity
       → w.alloc ≡ v.alloc → w ≡ sifted v (asked_pairs (same_key key) (judge_of f) v.items)
@@ -209,8 +208,8 @@ module _ {T J : Type 0} (E : T → T → Bool) (j : J) where
   dedup-pairs [] = (refl, refl)
   dedup-pairs (x ∷ xs) = let h = dedup-last x xs in (ap moved_up h.0, h.1)
 
-  -- if w has the items and the moves of `dedup`, and the capacity and the allocator of v, then w is
-  -- v with only the items that are kept by the test E (`sifted`)
+  -- if `dedup` with the test E turns v into w, then w is v with only the items that the test keeps
+  -- (`sifted`)
   pub deduped-alike : {A : Type 0} (v w : Thin T A) → w.items ≡ dedup E v.items → w.cost
       ≡ moving (moved_up (unlike E v.items)) v.cost
       → w.capacity ≡ v.capacity → w.alloc ≡ v.alloc → w ≡ sifted v (asked_pairs tells j v.items)

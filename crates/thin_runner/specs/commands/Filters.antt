@@ -49,13 +49,13 @@ module _ {T J : Type 0} (same : J → T → T → Bool × T × T × J) where
   asked_pairs j (x ∷ xs) = let b = asked_last j x xs in (true, b.0) ∷ b.1
 
 module _ {T : Type 0} where
-  -- the answers for all items of xs: `answers` for the items from index a up to b, and that the
-  -- items before and after them are kept
+  -- the answers for all items of xs: `answers` are those for the items from index a up to b, and
+  -- the items before and after them are kept
   abbrev pub around : List T → ℕ → ℕ → Answers T → Answers T
   around xs a b answers = stay (take a xs) ++ (answers ++ stay (drop b xs))
 
-  -- the list `old` with only the items that are kept by the answers, each as it was left. Each item
-  -- that changes its place counts one move
+  -- the list `old` with only the items that the answers keep, each as it was left. Each item that
+  -- changes its place counts one move
   abbrev pub sifted : {A : Type 0} → Thin T A → Answers T → Thin T A
   sifted old answers = edited old (left_at true answers) (moved_up (flags_of answers))
 
