@@ -73,8 +73,8 @@ module _ {V : Type 0} where
   columns_increase [] h k inside = absurd (omega arith)
 
   module _ (c : ℕ) where
-    -- in the list without the first entry, the index at which the entry of column c is, or would be
-    -- inserted, is one less
+    -- if the entry of column c is at the index at + 1, or would be inserted there, then in the list
+    -- without the first entry it is at the index `at`, or would be inserted there
     place_after : (e : ℕ × V) (entries : List (ℕ × V)) (at : ℕ)
         → IsPlaceOf (e ∷ entries) c (suc at) → IsPlaceOf entries c at
     place_after e entries at p = record { in_bounds = omega (arith, p.in_bounds); same = p.same }

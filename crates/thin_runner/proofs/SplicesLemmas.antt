@@ -38,8 +38,8 @@ module _ {T A : Type 0} (s rest : Hinted T A) (placed held : List T)
   Broke = Stopped (HintedSteps {T = T} {A = A}) (can_next-default (Hinted T A) T) hinted_count s
       placed held in_hand rest
 
-  -- the items placed by a failed `finish`, those held, the one in hand and those of `rest` are, in
-  -- this order, all items of s
+  -- the items placed by a failed `finish`, those held, the one in hand and those of `rest` are
+  -- together, in this order, all items of s
   pub stopped-items : Broke → hinted_items s ≡ placed
       ++ (held ++ (option_to_list in_hand ++ hinted_items rest))
   stopped-items (inl gave) =
@@ -99,8 +99,8 @@ module _ {T A : Type 0} (old : Thin T A) (a b : ℕ) where
         subst (λ (v : Thin T A). IsSpliced v new (2 * (length old.items - b))) left-is
         (subst (λ (n : ℕ). IsSpliced (left_of block alloc) new (2 * n)) tail-count cost)
 
-    -- if `IsExtended` holds for the list without the range and for the limit of the iterator, it
-    -- holds for `cut old a b` and for the limit `most`
+    -- if the limit of the iterator is `most`, then what `IsExtended` states for the list without
+    -- the range and this limit holds for `cut old a b` and `most`
     pub named : (rule : Rule) (R : RattleType) (new : Thin T A) (most : ℕ) (left : Count)
         → left ≡ at_most most
         → IsExtended rule R (left_of block alloc) new.capacity (length new.items) left
@@ -111,8 +111,8 @@ module _ {T A : Type 0} (old : Thin T A) (a b : ℕ) where
         subst (λ (n : Count). of (cut old a b) n) count
         (subst (λ (v : Thin T A). of v left) left-is is_named)
 
-    -- if `cut old a b` has room for `most` items, the list without the range has room for as many
-    -- items as the iterator may yield
+    -- if the limit of the iterator is `most`, and `cut old a b` has room for `most` items, then the
+    -- list without the range has room for as many items as the iterator may yield
     pub room-left : (most size : ℕ) → size ≡ most → HasRoomFor (cut old a b) most
         → HasRoomFor (left_of block alloc) size
     room-left most size count room =
