@@ -41,7 +41,7 @@ module _ {S T J : Type 0} (R : S → T → Bool → S → T → Type 0) (judge_o
       let cost = r.1.cost ∙ ap (λ a. moving (moved_up (flags_of a)) v.cost) same in
       λ i. record { items = items i; capacity = capacity i; alloc = alloc i; cost = cost i }
 
--- about the results of comparing each item with the last item kept before it
+-- a definition for lists whose items are compared, each with the last item kept before it
 module _ {T : Type 0} where
   -- ys are the items that are kept by the results b, beginning with the first item, and the flags
   -- say for each later item whether it is kept

@@ -135,7 +135,7 @@ module _ {T A : Type 0} {rule : Rule} {R : RattleType} {old v w : Thin T A} {a b
   stops-of {xs} {held} {lower} {cause} {in_hand} {rest} same =
       subst (λ (u : Thin T A). StopsBetween rule R old a b xs held lower cause in_hand rest u) same
 
--- about the empty range at the end of the list `old`
+-- let the range be the empty range at the end of the list `old`
 module _ {T A : Type 0} (old : Thin T A) where
   -- removing the empty range at the end does not change the list
   pub cut-end : cut old (length old.items) (length old.items) ≡ old
