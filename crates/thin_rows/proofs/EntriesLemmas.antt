@@ -1,5 +1,5 @@
--- What a search among the entries of a row finds, and what an edit at the place found does to the
--- row.
+-- What a search among the entries of a row finds, and what an edit at the index that was found does
+-- to the row.
 use Rattle.std.proofs.Common.{◌≡◌, ℕ, zero, suc, ◌+◌, ◌<◌, ◌≤◌, ◌≢◌, Bool, true, false, cond, not, ◌&&◌, T, List, [], ◌∷◌, length, map, get_or, set, Some, None, Result, Ok, Err, IfOk, IfErr, refl, sym, ap, ◌∙◌, nat_cmp, is_lt, is_eq, Less, Equal, Greater, insert, remove, arith}
 use Rattle.std.specs.FinMap.{find, put}
 use Rattle.std.specs.FinMap.Entries.{below_all, by_order, where_key}
@@ -15,7 +15,7 @@ both_hold : (a b : Bool) → T (a && b) → T a × T b
 both_hold true b h = (tt, h)
 both_hold false b h = absurd h
 
--- how two columns compare
+-- comparing two columns by `nat_cmp` agrees with comparing them as numbers
 is_less : (c k : ℕ) → c < k → nat_cmp c k ≡ Less
 is_less c k less = grind (arith, nat_tests)
 
@@ -28,7 +28,7 @@ is_more c k more = grind (arith, nat_tests)
 less_from : (c k : ℕ) → T (is_lt (nat_cmp c k)) → c < k
 less_from c k h = grind (arith, nat_tests)
 
--- whether the entry of column k stays where that of c is removed
+-- true if the removal of the entry of column c keeps the entry of column k
 abbrev pub stays : ℕ → ℕ → Bool
 stays c k = not (eq_by_cmp nat_cmp c k)
 
@@ -36,7 +36,7 @@ other_stays : (c k : ℕ) → k ≢ c → stays c k ≡ true
 other_stays c k other = grind (arith, nat_tests)
 
 module _ {V : Type 0} where
-  -- the column at place k
+  -- the column of the entry at index k
   abbrev column_at : List (ℕ × V) → ℕ → ℕ × V → ℕ
   column_at entries k d = (get_or entries k d).0
 
@@ -47,7 +47,8 @@ module _ {V : Type 0} where
   all_above c (e ∷ entries) h (suc k) d inside =
       all_above c entries (both_hold _ _ h).1 k d (omega arith)
 
-  -- each column is below those after it
+  -- if the columns of the entries are strictly increasing, the column at an index is less than the
+  -- column at each later index
   pub columns_rise : (entries : List (ℕ × V)) → IsRising entries → (i k : ℕ) (d : ℕ × V) → i < k
       → k < length entries → column_at entries i d < column_at entries k d
   columns_rise [] h i k d before inside = absurd (omega arith)
@@ -58,7 +59,8 @@ module _ {V : Type 0} where
   columns_rise (e ∷ entries) h (suc i) (suc k) d before inside =
       columns_rise entries (both_hold _ _ h).1 i k d (omega arith) (omega arith)
 
-  -- the columns are strictly increasing, as std says it
+  -- if the columns of the entries are strictly increasing by `IsRising`, they are so by the
+  -- definition of std, `IsStrictlyIncreasing`
   pub columns_increase : (entries : List (ℕ × V)) → IsRising entries
       → IsStrictlyIncreasing (map (λ entry. entry.0) entries)
   columns_increase (e ∷ entries) h k inside =
@@ -71,7 +73,8 @@ module _ {V : Type 0} where
   columns_increase [] h k inside = absurd (omega arith)
 
   module _ (c : ℕ) where
-    -- what is left of a place, or of a gap, after the first entry
+    -- if the entry of column c is at the index at + 1, or would be inserted there, then in the list
+    -- without the first entry it is at the index `at`, or would be inserted there
     place_after : (e : ℕ × V) (entries : List (ℕ × V)) (at : ℕ)
         → IsPlaceOf (e ∷ entries) c (suc at) → IsPlaceOf entries c at
     place_after e entries at p = record { in_bounds = omega (arith, p.in_bounds); same = p.same }
@@ -84,7 +87,8 @@ module _ {V : Type 0} where
       greater = λ k d from inside. g.greater (suc k) d (omega arith) (omega arith);
     }
 
-    -- the first entry is before the place
+    -- if the columns are strictly increasing, and column c is at a later index, then the column of
+    -- the first entry is less than c
     before_place : (e : ℕ × V) (entries : List (ℕ × V)) (at : ℕ) → IsRising (e ∷ entries)
         → IsPlaceOf (e ∷ entries) c (suc at) → e.0 < c
     before_place e entries at h p =
@@ -167,7 +171,8 @@ module _ {V : Type 0} where
         (e ∷ put nat_cmp c v entries)) (is_more c e.0 (g.smaller 0 e (omega arith)))
         ∙ ap (λ rest. e ∷ rest) (put_gap entries at v (gap_after e entries at g))
 
-    -- what a binary search asks: the comparisons with c rise along the entries
+    -- if the columns of the entries are strictly increasing, the results of comparing them with c
+    -- do not decrease from entry to entry, as a binary search requires
     comparisons_rise : (entries : List (ℕ × V)) → IsRising entries
         → IsNonDecreasingBy (λ e. ordering_index (nat_cmp e.0 c)) entries
     comparisons_rise entries h i k d before inside =
@@ -179,7 +184,8 @@ module _ {V : Type 0} where
         ) in
         grind (arith, nat_tests)
 
-    -- a binary search by column ends at the column's entry, or at the gap for it
+    -- if the columns of the entries are strictly increasing, a binary search for column c returns
+    -- the index of its entry, or the index at which it would be inserted
     pub searched : (entries : List (ℕ × V)) → IsRising entries → (r : Result ℕ ℕ)
         → IsSearchInRange r (length entries)
         → IsBinarySearchResult (λ e. nat_cmp e.0 c) entries r

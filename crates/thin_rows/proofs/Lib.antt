@@ -1,4 +1,4 @@
--- The lemmas: of tables, for callers; of entries, of the row that they are, and of a row's type.
+-- The lemmas: about tables, for callers; about entries and rows; and about the type of a row.
 pub mod TableLemmas
 pub mod EntriesLemmas
 pub mod RowLemmas

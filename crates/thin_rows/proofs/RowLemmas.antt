@@ -1,4 +1,4 @@
--- What an edit of a row's entries makes of the finite map that they are.
+-- What an edit of the entries of a row does to the finite map that they represent.
 use Rattle.std.proofs.Common.{◌≡◌, ℕ, List, [], None, Some, cond, get_or, insert, length, remove, set, sym, ap, subst, ◌∙◌, nat_cmp, Equal, arith}
 use Rattle.std.proofs.lemmas.Bool.Decides.{nat_tests}
 use Rattle.std.specs.Cmp.{nat_cmp_total, ranked}
@@ -9,7 +9,8 @@ use Rattle.std.specs.Ordering.{eq_by_cmp}
 use Rattle.thin_rows.specs.Entries.{IsGapFor, IsPlaceOf, IsRising}
 use Rattle.thin_rows.proofs.EntriesLemmas.{find_at, find_gap, put_at, put_gap, stays, without_at, without_gap}
 
--- what stays is told by the column alone
+-- if two columns compare as equal, the removal of the entry of column c keeps the entries of both,
+-- or removes the entries of both
 alike : (c q k : ℕ) → nat_cmp q k ≡ Equal → stays c k ≡ stays c q
 alike c q k e = ap (stays c) (sym (ranked q k Equal (sym e)))
 
@@ -25,7 +26,7 @@ module _ {V : Type 0} (es : List (ℕ × V)) (rising : IsRising es) where
   len_is = len-entries row ∙ ap length (entries-from_sorted nat_cmp es rising)
 
   module _ (c : ℕ) where
-    -- other entries, which are these with the value v put in at c
+    -- let `new` be the entries es with the value v put at column c
     module _ (v : V) (new : List (ℕ × V)) (is_put : put nat_cmp c v es ≡ new) where
       put_rises : IsRising new
       put_rises = subst IsRising is_put (is_sorted-put nat_cmp nat_cmp_total c v es rising)
@@ -35,7 +36,7 @@ module _ {V : Type 0} (es : List (ℕ × V)) (rising : IsRising es) where
           ∙ (sym is_put ∙ (ap (put nat_cmp c v) (sym (entries-from_sorted nat_cmp es rising))
           ∙ sym (entries-insert nat_cmp_total row c v))))
 
-    -- the entries without the one at c
+    -- let `new` be the entries es without the entry of column c
     module _ (new : List (ℕ × V)) (is_left : where_key nat_cmp (stays c) es ≡ new) where
       left_rises : IsRising new
       left_rises = subst IsRising is_left (is_sorted-where_key nat_cmp (stays c) es rising)
@@ -52,7 +53,7 @@ module _ {V : Type 0} (es : List (ℕ × V)) (rising : IsRising es) where
       left_is = same_map nat_cmp_total nat_cmp-IsAntisymmetric (from_sorted new)
           (map.remove row c) left_finds
 
-    -- at a place of the column c, where there is an entry
+    -- let `at` be the index of the entry of column c
     module _ (at : ℕ) (place : IsPlaceOf es c at) where
       pub get_at : (d : ℕ × V) → map.get row c ≡ Some (get_or es at d).1
       get_at d = get-from_sorted nat_cmp es c rising ∙ find_at c es at d rising place
@@ -69,7 +70,7 @@ module _ {V : Type 0} (es : List (ℕ × V)) (rising : IsRising es) where
       pub remove_is : from_sorted (remove es at) ≡ map.remove row c
       remove_is = left_is _ (without_at c es at rising place)
 
-    -- at a gap for the column c, where there is none
+    -- suppose that column c has no entry, and that its entry would be inserted at the index `at`
     module _ (at : ℕ) (gap : IsGapFor es c at) where
       pub get_gap : map.get row c ≡ None
       get_gap = get-from_sorted nat_cmp es c rising ∙ find_gap c es at gap
@@ -83,6 +84,6 @@ module _ {V : Type 0} (es : List (ℕ × V)) (rising : IsRising es) where
       pub unchanged : row ≡ map.remove row c
       unchanged = left_is es (without_gap c es at gap)
 
--- no entry makes the empty map
+-- the empty list of entries represents the empty map
 pub none_stored : {V : Type 0} → from_sorted {R = nat_cmp} [] ≡ map.empty {X = V}
 none_stored = empty_of_len _ (len_is [] tt)

@@ -1,5 +1,5 @@
--- How a row is stored: its entries in a list, by rising columns, which owns a block only where
--- there is an entry.
+-- How a row stores its entries: in a list, in increasing order of their columns. The list owns a
+-- block only if it has an entry.
 use Rattle.std.specs.Prelude.{◌≡◌, ◌↔◌, ℕ, ◌<◌, ◌≤◌, List, T, length, slice_index_or}
 use Rattle.std.specs.Ordering.{nat_cmp}
 use Rattle.std.specs.FinMap.{from_sorted, is_sorted}
@@ -7,16 +7,17 @@ use Rattle.thin_vec.specs.ThinVec.{Thin}
 use Rattle.thin_rows.specs.Table.{Columns}
 
 module _ {V : Type 0} where
-  -- the columns strictly rise
+  -- the columns are strictly increasing
   abbrev pub IsRising : List (ℕ × V) → Type 0
   IsRising entries = T (is_sorted nat_cmp entries)
 
-  -- the entry at place i is that of the column
+  -- the entry at index i has this column
   pub record IsPlaceOf (entries : List (ℕ × V)) (column i : ℕ) : Type 0 where
     pub in_bounds : i < length entries
     pub same : (d : ℕ × V) → (slice_index_or entries i d).0 ≡ column
 
-  -- no entry is that of the column, and one that came in would be at place i
+  -- no entry has this column, and i is the index at which a new entry for this column is inserted:
+  -- all entries before i have lesser columns, and all others have greater columns
   pub record IsGapFor (entries : List (ℕ × V)) (column i : ℕ) : Type 0 where
     pub in_bounds : i ≤ length entries
     pub smaller : (k : ℕ) (d : ℕ × V) → k < i → (slice_index_or entries k d).0 < column
@@ -24,11 +25,11 @@ module _ {V : Type 0} where
         → column < (slice_index_or entries k d).0
 
 module _ {V A : Type 0} where
-  -- the columns rise, and there is a block exactly where there is an entry
+  -- the columns are strictly increasing, and the list owns a block if and only if it has an entry
   pub record IsRow (list : Thin (ℕ × V) A) : Type 0 where
     pub rising : IsRising list.items
     pub block : (0 < list.capacity) ↔ (0 < length list.items)
 
-  -- the row that such a list stores
+  -- the finite map that the entries of the list represent
   abbrev pub columns_of : Thin (ℕ × V) A → Columns V
   columns_of list = from_sorted list.items

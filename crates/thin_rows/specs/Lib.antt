@@ -1,5 +1,5 @@
--- The words of the contracts: the table, how a row is stored, its type and that of an entry, and
--- what is lent.
+-- The definitions that the contracts use: the table, how a row is stored, the types of a row and of
+-- an entry, and what a row or a table is after a borrow.
 pub mod Table
 pub mod Entries
 pub mod RowType

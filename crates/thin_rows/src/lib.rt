@@ -1,4 +1,4 @@
-//! A sparse table over `thin_vec`: a row without entries owns no block.
+//! A sparse table, whose rows are `ThinVec`s. A row without entries owns no block (no allocation).
 #![tactic(auto)]
 
 mod row;

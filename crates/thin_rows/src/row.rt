@@ -1,4 +1,4 @@
-//! One row of a table: its entries in a list, by rising columns.
+//! A row of a table: a list of its entries, in increasing order of their columns.
 ghost use Rattle.std.specs.Prelude.{◌≡◌, ◌↔◌, ◌+◌, ◌<◌, IfErr, IfOk, IsOk, IsSome, IsTrue, None, OnErr, OnOk, Some, length};
 ghost use Rattle.std.specs.FinMap as map;
 ghost use Rattle.std.specs.Option.{option_copied};
@@ -9,7 +9,7 @@ use std::marker::Model;
 use std::{fmt, mem};
 use thin_vec::{Rejected, ThinVec, ThinVecError};
 
-// A finite map from columns to values. It owns a block only where there is an entry.
+// A finite map from columns to values. It owns a block only if it has an entry.
 #[derive(Drop)]
 pub(crate) struct Row<V, A: Allocator> {
     entries: ThinVec<(usize, V), A>,
@@ -39,7 +39,7 @@ impl<V, A: Allocator> Row<V, A> {
     ghost use Rattle.thin_rows.specs.EntryType.{entry_type};
     ghost use Rattle.thin_rows.specs.Lends.{LendsColumn, LendsIfThere};
 
-    // A row without entries. It takes no memory.
+    // Makes a row without entries. It takes no memory.
     pub(crate) fn new(alloc: A) -> Row<V, A>
         ensures new { result ≡ map.empty }
     {
@@ -48,7 +48,7 @@ impl<V, A: Allocator> Row<V, A> {
         }
     }
 
-    // The entries, by rising columns.
+    // Returns the entries, in increasing order of their columns.
     pub(crate) fn entries(&self) -> &[(usize, V)]
         ensures value { result.now ≡ map.entries self.now }
         ensures rising { IsRising result.now }
@@ -56,21 +56,21 @@ impl<V, A: Allocator> Row<V, A> {
         self.entries.as_slice()
     }
 
-    // The number of entries.
+    // Returns the number of entries.
     pub(crate) fn len(&self) -> usize
         ensures value { result ≡ map.len self.now }
     {
         self.entries.len()
     }
 
-    // Whether there is a block, which is so where there is an entry.
+    // Returns whether the row owns a block. It owns one if and only if it has an entry.
     pub(crate) fn owns_block(&self) -> bool
         ensures value { IsTrue result ↔ (0 < map.len self.now) }
     {
         self.entries.has_capacity()
     }
 
-    // The value at a column, if there is an entry.
+    // Returns the value at `column`, if there is an entry.
     pub(crate) fn get(&self, column: usize) -> Option<&V>
         ensures value { option_copied result ≡ map.get self.now column }
     {
@@ -81,7 +81,7 @@ impl<V, A: Allocator> Row<V, A> {
         }
     }
 
-    // The value at a column, to be written, if there is an entry.
+    // Returns a mutable reference to the value at `column`, if there is an entry.
     pub(crate) fn get_mut(&mut self, column: usize) -> Option<&mut V>
         ensures* writes_back { sem 𝓛
             (LendsIfThere V.row A.row A.Allocator self.entry column result) }
@@ -93,7 +93,7 @@ impl<V, A: Allocator> Row<V, A> {
         }
     }
 
-    // The value at the place of its column, to be written.
+    // Returns a mutable reference to the value at `column`, whose entry has the index `at`.
     fn value_mut(&mut self, column: usize, at: usize) -> &mut V
         requires place { IsPlaceOf (map.entries self.old) column at }
         ensures* writes_back { sem 𝓛
@@ -103,8 +103,8 @@ impl<V, A: Allocator> Row<V, A> {
         &mut self.entries[at].1
     }
 
-    // Writes `value` at a column, and returns the value that was there. Only a new entry may take
-    // memory: where that fails, the value is returned.
+    // Writes `value` at `column`, and returns the value that was there. Only a new entry may need
+    // memory. If this memory cannot be allocated, the call fails, and the error holds `value`.
     pub(crate) fn set(&mut self, column: usize, value: V) -> Result<Option<V>, Rejected<V>>
         ensures succeeds { IsSome (map.get self.old column) → IsOk result }
         ensures value { IfOk result (λ old. old ≡ map.get self.old column) }
@@ -135,7 +135,8 @@ impl<V, A: Allocator> Row<V, A> {
         }
     }
 
-    // Removes the entry at a column, if there is one. With the last one the block is freed.
+    // Removes the entry at `column`, if there is one, and returns its value. Removing the last
+    // entry frees the block.
     pub(crate) fn remove(&mut self, column: usize) -> Option<V>
         ensures value { result ≡ map.get self.old column }
         ensures columns { self.new ≡ map.remove self.old column }
@@ -151,7 +152,7 @@ impl<V, A: Allocator> Row<V, A> {
 }
 
 impl<V: fmt::Debug, A: Allocator> fmt::Debug for Row<V, A> {
-    // As std prints a map.
+    // Prints the row as std prints a map.
     fn fmt<W: fmt::Write>(&self, f: &mut fmt::Formatter<W>) -> fmt::Result {
         let mut map = f.debug_map();
         for (column, value) in self.entries.as_slice() {
@@ -161,7 +162,7 @@ impl<V: fmt::Debug, A: Allocator> fmt::Debug for Row<V, A> {
     }
 }
 
-// Frees the block of a list that is empty by now. No memory is asked for, so this can't fail.
+// Frees the block of `list`, if `list` is empty. This requests no memory, so it cannot fail.
 fn give_block_back<T, A: Allocator>(list: &mut ThinVec<T, A>)
     ensures items { list.new.items ≡ list.old.items }
     ensures block { (0 < list.new.capacity) ↔ (0 < length list.new.items) }
@@ -174,7 +175,8 @@ fn give_block_back<T, A: Allocator>(list: &mut ThinVec<T, A>)
     }
 }
 
-// Where the entry of a column is, or where it would go.
+// Returns the index of the entry at `column`. If there is none, returns the index at which a new
+// entry would be inserted, as an `Err`.
 fn place<V>(entries: &[(usize, V)], column: usize) -> Result<usize, usize>
     requires rising { IsRising entries.now }
     ensures found { IfOk result (IsPlaceOf entries.now column) }

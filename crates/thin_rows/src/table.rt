@@ -1,4 +1,4 @@
-//! The table: its type, what a contract sees of it, and its calls.
+//! The sparse table `Rows`: its type, its model in contracts, and its methods.
 ghost use Rattle.std.specs.Prelude.{◌≡◌, ◌↔◌, ◌+◌, ◌-◌, ◌^◌, ◌<◌, IfErr, IfOk, IsErrOf, IsOk, IsSome, IsTrue, None, OnErr, OnOk, length, map, min, replicate, sum};
 ghost use Rattle.std.specs.FinMap as columns;
 ghost use Rattle.std.specs.List.Sorted.{IsStrictlyIncreasing};
@@ -11,11 +11,12 @@ use std::fmt;
 use std::marker::Model;
 use thin_vec::{Rejected, ThinVec, ThinVecError};
 
-/// A sparse table: a finite map from row and column to value, whose number of rows is fixed.
+/// A sparse table: a finite map from row and column to value. The number of rows is fixed.
 ///
-/// A row keeps its entries by rising columns, in one block, and a row without entries owns none: it
-/// costs a pointer, beside its allocator. A call does not fail where it names a row past the end:
-/// that there is such a row is a condition on the caller.
+/// A row keeps its entries in one block, in increasing order of their columns. A row without
+/// entries owns no block, and takes only the bytes of a pointer and of its allocator. The methods
+/// do not test at run time that a row exists: that the row number is less than the number of rows
+/// is a precondition.
 #[derive(Drop)]
 pub struct Rows<V, A: Allocator = Global> {
     rows: ThinVec<Row<V, A>, A>,
@@ -38,9 +39,13 @@ impl<V, A: Allocator + Copy> Rows<V, A> {
     ghost use Rattle.thin_vec.specs.ThinVec.{IsCause};
     ghost use Rattle.thin_rows.specs.RowType.{row_type};
 
-    /// A table of `rows` rows without entries. It asks for one block, and for none at 0.
+    /// Makes a table of `rows` rows without entries. It allocates one block, or none if `rows` is
+    /// 0. The table and each row keep a copy of `alloc`.
     ///
-    /// It fails where so many rows don't fit into a block, or the allocator fails.
+    /// # Errors
+    ///
+    /// Fails with `CapacityOverflow` if that many rows do not fit into a block, and with
+    /// `OutOfMemory` if the allocator fails.
     pub fn with_rows(alloc: A, rows: usize) -> Result<Rows<V, A>, ThinVecError>
         ensures succeeds { rows ≡ 0 → IsOk result }
         ensures overflow { exact_capacity (row_type V.row A.row A.Allocator) 0 rows ≡ None
@@ -71,15 +76,15 @@ impl<V, A: Allocator> Rows<V, A> {
     ghost use Rattle.thin_rows.specs.EntryType.{entry_type};
     ghost use Rattle.thin_rows.specs.Lends.{LendsValue};
 
-    /// The number of rows.
+    /// Returns the number of rows.
     pub fn rows(&self) -> usize
         ensures value { result ≡ length self.now }
     {
         self.rows.len()
     }
 
-    /// The number of entries in all rows, or `usize::MAX` where there are more, for which no memory
-    /// has room. It visits each row.
+    /// Returns the number of entries in all rows, or `usize::MAX` if there are more. (No memory has
+    /// room for that many.) It visits each row.
     pub fn len(&self) -> usize
         ensures value { result ≡ min (sum (map (λ row. columns.len row) self.now)) (2 ^ 64 - 1) }
     {
@@ -90,7 +95,7 @@ impl<V, A: Allocator> Rows<V, A> {
         count
     }
 
-    /// The value at a row and a column, if there is an entry.
+    /// Returns the value at a row and a column, if there is an entry.
     pub fn get(&self, row: usize, column: usize) -> Option<&V>
         requires in_bounds { row < length self.now }
         ensures value { option_copied result ≡ value_at self.now row column }
@@ -98,8 +103,8 @@ impl<V, A: Allocator> Rows<V, A> {
         self.rows[row].get(column)
     }
 
-    /// The value at a row and a column, to be written, if there is an entry. What is written is
-    /// what the table then holds.
+    /// Returns a mutable reference to the value at a row and a column, if there is an entry. A
+    /// value that is written through the reference replaces the old value in the table.
     pub fn get_mut(&mut self, row: usize, column: usize) -> Option<&mut V>
         requires in_bounds { row < length self.old }
         ensures* writes_back { sem 𝓛
@@ -109,12 +114,15 @@ impl<V, A: Allocator> Rows<V, A> {
         self.rows[row].get_mut(column)
     }
 
-    /// Writes `value` at a row and a column, and returns the value that was there. The table owns
-    /// `value` afterwards, and the caller the one that it returns.
+    /// Writes `value` at a row and a column, and returns the value that was there. Afterwards the
+    /// table owns `value`, and the caller owns the returned value.
     ///
-    /// It fails only where there was no entry, because there is no memory or the row's list
-    /// overflows. Then the caller has `value` back and the table is as it was: a row that owned no
-    /// block owns none.
+    /// # Errors
+    ///
+    /// Fails only if there was no entry at this row and column, and the row could not get room for
+    /// a new one. The cause is `OutOfMemory` if the allocator fails, and `CapacityOverflow` if the
+    /// new capacity of the row would be too large. The error holds `value`, which the caller owns
+    /// again, and the table is unchanged: a row that owned no block still owns none.
     pub fn set(&mut self, row: usize, column: usize, value: V) -> Result<Option<V>, Rejected<V>>
         requires in_bounds { row < length self.old }
         ensures succeeds { IsSome (value_at self.old row column) → IsOk result }
@@ -134,8 +142,8 @@ impl<V, A: Allocator> Rows<V, A> {
         self.rows[row].set(column, value)
     }
 
-    /// Removes the entry at a row and a column, if there is one, and returns its value. It takes no
-    /// memory. With its last entry a row frees its block.
+    /// Removes the entry at a row and a column, if there is one, and returns its value. It requests
+    /// no memory. A row that loses its last entry frees its block.
     pub fn remove(&mut self, row: usize, column: usize) -> Option<V>
         requires in_bounds { row < length self.old }
         ensures value { result ≡ value_at self.old row column }
@@ -144,7 +152,8 @@ impl<V, A: Allocator> Rows<V, A> {
         self.rows[row].remove(column)
     }
 
-    /// The entries of a row, a column and its value each, by rising columns.
+    /// Returns the entries of a row, as pairs of a column and a value, in increasing order of the
+    /// columns.
     #[tactic(auto, using(crate::proofs::EntriesLemmas::columns_increase))]
     pub fn row(&self, row: usize) -> &[(usize, V)]
         requires in_bounds { row < length self.now }
@@ -154,7 +163,7 @@ impl<V, A: Allocator> Rows<V, A> {
         self.rows[row].entries()
     }
 
-    /// Whether a row owns a block: it does where it has an entry, and only there.
+    /// Returns whether a row owns a block. It owns one if and only if it has an entry.
     pub fn owns_block(&self, row: usize) -> bool
         requires in_bounds { row < length self.now }
         ensures value { IsTrue result ↔ (0 < columns.len (row_of self.now row)) }
@@ -164,7 +173,7 @@ impl<V, A: Allocator> Rows<V, A> {
 }
 
 impl<V: fmt::Debug, A: Allocator> fmt::Debug for Rows<V, A> {
-    // The rows in order, each as std prints a map.
+    // Prints the rows in order, each as std prints a map.
     fn fmt<W: fmt::Write>(&self, f: &mut fmt::Formatter<W>) -> fmt::Result {
         self.rows.fmt(f)
     }

@@ -1,4 +1,4 @@
--- What pushes and pops alone have copied.
+-- How many items growth has copied after pushes and pops alone.
 use Rattle.std.proofs.Common.{◌≡◌, ℕ, zero, suc, ◌+◌, ◌*◌, ◌<◌, ◌≤◌, List, [], ◌∷◌, length, arith, ap, ◌∙◌, refl, subst, inl, inr}
 use Rattle.std.proofs.lemmas.Bool.{cases_lt}
 use Rattle.std.proofs.lemmas.List.{length-append, length_push}
@@ -19,8 +19,8 @@ use Rattle.thin_runner.specs.declared.command.Reply.{Reply}
 use Rattle.thin_runner.specs.declared.command.Reply.TheVariants.{Done, Item, Returned, OutOfRange}
 use Rattle.thin_runner.proofs.PaidLemmas.{step-paid}
 
--- after m pushes that succeeded: the list is cheap, holds at most m items, for which there is room,
--- and its growths have copied fewer than 2m, or none
+-- the list v is amortised for m pushes: it is cheap, it has room for its items, which are at most
+-- m, and growth has copied fewer than 2m items, or none
 pub record IsAmortised {T A : Type 0} (m : ℕ) (v : Thin T A) : Type 0 where
   pub cheap : IsCheap v
   pub room : length v.items ≤ v.capacity
@@ -39,7 +39,7 @@ module _ {T A : Type 0} where
         blocks = λ some. absurd (omega (arith, new.capacity, some));
       }
 
-  -- a new list has seen no push
+  -- a new list is amortised for 0 pushes
   pub new-amortised : (v : Thin T A) → IsNew v v.alloc → IsAmortised 0 v
   new-amortised v new = record {
     cheap = new-cheap v new;
@@ -48,7 +48,8 @@ module _ {T A : Type 0} where
     copied = inr (ap (λ c. c.grown) new.cost);
   }
 
-  -- what the headline says of the copied items
+  -- if a list is amortised for m pushes, and m is not 0, then growth has copied fewer than 2m
+  -- items: this is the field `amortised` of the main theorem
   pub copied-run : (w : Thin T A) (m : ℕ) → IsAmortised (0 + m) w → 0 < m → w.cost.grown < 2 * m
   copied-run w m a some = below a.copied
     where
@@ -59,20 +60,22 @@ module _ {T A : Type 0} where
   same-amortised : (m : ℕ) (v w : Thin T A) → IsAmortised m v → w ≡ v → IsAmortised (m + 0) w
   same-amortised m v w a same = let e : m + 0 ≡ m = omega arith in rw (same, e) a
 
--- a growth of a full list of c items, which are at most m
+-- if a cheap list of capacity c, which is at most m, grows and copies c items, then growth has
+-- copied fewer than 2 * (m + 1) items in total
 copied-growing : (c m : ℕ) (k : Cost) → IsCheapAt c k → c ≤ m → k.grown + c < 2 * (m + 1)
 copied-growing zero m k h few = let z = h.none refl in omega (arith, z.1)
 copied-growing (suc c) m k h few =
     let copied : k.grown < suc c = h.grown (omega arith) in omega (arith, copied, few)
 
--- no growth
+-- if nothing more is copied, the bound on the copied items also holds after `more` further pushes
 copied-kept : (m more : ℕ) {g g' : ℕ} → (g < 2 * m) ⊎ (g ≡ 0) → g' ≡ g
     → (g' < 2 * (m + more)) ⊎ (g' ≡ 0)
 copied-kept m more (inl few) same = inl (omega (arith, few, same))
 copied-kept m more (inr none) same = inr (same ∙ none)
 
 module _ {T A G J : Type 0} (here : Setting T A J) (law : KeepsLaw here.rule) where
-  -- a push or a pop keeps an amortised list amortised
+  -- if a list is amortised for m pushes, it is amortised for m + 1 pushes after a push that
+  -- succeeds, and for m pushes after a pop or a push that fails
   step-amortised : (m : ℕ) (v w : Thin T A) (command : Command T A G) (reply : Reply T A G)
       → IsPushOrPop command → IsAmortised m v → Steps here v command reply w
       → IsAmortised (m + accepted (command ∷ []) (reply ∷ [])) w
@@ -114,7 +117,8 @@ module _ {T A G J : Type 0} (here : Setting T A J) (law : KeepsLaw here.rule) wh
   step-amortised m v w Pop reply only a s = absurd s.1
   step-amortised m v w command reply only a s = absurd only
 
-  -- what the steps of a run count, and how many of its pushes succeeded, are one
+  -- the sum over the steps of a run, with 1 for each push that succeeded, is the number of pushes
+  -- that succeeded
   accepted-counted : (commands : List (Command T A G)) (replies : List (Reply T A G))
       → counted (λ c r. accepted (c ∷ []) (r ∷ [])) commands replies ≡ accepted commands replies
   accepted-counted (Push x ∷ commands) (Done ∷ replies) =
@@ -123,7 +127,8 @@ module _ {T A G J : Type 0} (here : Setting T A J) (law : KeepsLaw here.rule) wh
       omega (arith, accepted-counted commands replies)
   accepted-counted commands replies = refl
 
-  -- a run of pushes and pops keeps an amortised list amortised
+  -- if a list is amortised for 0 pushes, then after a run of pushes and pops it is amortised for
+  -- the pushes that succeeded
   pub runs-amortised : (v w : Thin T A) (commands : List (Command T A G))
       (replies : List (Reply T A G)) → All IsPushOrPop commands → IsAmortised 0 v
       → Runs here v commands replies w → IsAmortised (0 + accepted commands replies) w

@@ -1,4 +1,4 @@
--- What the calls' own words give of the definition's.
+-- Lemmas that lead from the clauses of the list's methods to the definitions of `specs/Steps`.
 use Rattle.std.proofs.Common.{◌≡◌, ℕ, ◌<◌, ◌⊎◌, List, [], ◌∷◌, Some, refl, length, inl, inr, arith}
 use Rattle.std.specs.Borrow.{RattleType}
 use Rattle.std.specs.Prelude.{HoldsAt}
@@ -7,17 +7,19 @@ use Rattle.thin_vec.specs.Cost.{moving}
 use Rattle.thin_vec.specs.Growth.{Rule}
 use Rattle.thin_vec.specs.ThinVec.{Thin, capacity_for, cost_at}
 
--- a list that is not empty has an item
+-- if a list is not the empty list, its length is at least 1
 pub some-items : {X : Type 0} (xs : List X) → (xs ≡ [] → ⊥) → 0 < length xs
 some-items [] none = absurd (none refl)
 some-items (x ∷ xs) none = omega arith
 
 module _ {T A : Type 0} where
-  -- v at the capacity c, with the items xs, after m moves
+  -- the list v at the capacity c and with the items xs; its cost includes this change of capacity,
+  -- and m moves
   abbrev pub grown : Thin T A → ℕ → List T → ℕ → Thin T A
   grown v c xs m = record v { items = xs; capacity = c; cost = moving m (cost_at v c) }
 
-  -- a list by its parts
+  -- a list w is `grown v w.capacity xs m` if its items are xs, its allocator is that of v, and its
+  -- cost is that of v at the capacity of w, plus m moves
   pub is-grown : (v w : Thin T A) (xs : List T) (m : ℕ) → w.items ≡ xs → w.cost
       ≡ moving m (cost_at v w.capacity) → w.alloc ≡ v.alloc → w ≡ grown v w.capacity xs m
   is-grown v w xs m items cost alloc = λ i. record {
@@ -28,7 +30,9 @@ module _ {T A : Type 0} where
   }
 
   module _ (rule : Rule) where
-    -- nothing changed, or there was room and a clone failed
+    -- if a call that clones fails, and leaves the items and the allocator unchanged, then either
+    -- nothing changed, or the capacity is the ruled one and a source could not be cloned, after one
+    -- move for each source before it
     pub refuses-clone : {R : RattleType} {infallible : T → Type 0} {sources : List T} {k : ℕ}
         {v w : Thin T A} → w.items ≡ v.items → w.alloc ≡ v.alloc
         → (w ≡ v) ⊎ IsCloneRefused rule R infallible sources k v w

@@ -1,4 +1,4 @@
--- The main theorem follows from a run of all commands.
+-- The proof of the main theorem, from the lemmas of the other files.
 use Rattle.std.proofs.Common.{◌≡◌, List, [], ◌++◌, ap, sym, subst, ◌∙◌}
 use Rattle.std.proofs.lemmas.List.{append-nil}
 use Rattle.thin_vec.specs.Growth.{KeepsLaw}
@@ -17,7 +17,8 @@ use Rattle.thin_runner.proofs.SlackLemmas.{runs-slack}
 
 module _ {T A G J : Type 0} (here : Setting T A J) (law : KeepsLaw here.rule) where
   module _ {old new : Thin T A} where
-    -- if no command is left, a run is one of which the main theorem speaks
+    -- if all commands have run, and the items fitted into the capacity before and after, then the
+    -- main theorem holds for this run
     pub headline : {commands left : List (Command T A G)} {before after : List (Reply T A G)}
         → IsWithin here.R old → IsWithin here.R new → left ≡ []
         → HasRun here old commands left before after new

@@ -1,4 +1,4 @@
--- Calls of `next` of an `ExtractIf` whose closure decides as a judge does.
+-- Calls of `next` on an `ExtractIf` whose closure returns what a judge decides.
 use Rattle.std.proofs.Common.{◌≡◌, ℕ, zero, suc, ◌+◌, ◌-◌, ◌≤◌, ◌==◌, Bool, true, false, List, [], ◌∷◌, ◌++◌, Option, None, Some, length, take, drop, refl, arith, ap, subst, sym, ◌∙◌, append_assoc}
 use Rattle.std.proofs.Math.Dec.{eqb-suc-zero}
 use Rattle.std.proofs.lemmas.List.{append-nil, length-append, length-drop, length-map, length-take}
@@ -15,12 +15,12 @@ use Rattle.thin_runner.specs.commands.Ranges.{walked}
 use Rattle.thin_runner.specs.declared.command.Step.TheVariants.{Front}
 
 module _ {T : Type 0} where
-  -- an item that goes, if there is one
+  -- the answer for an extracted item: it is not kept. There is no answer if no item was extracted
   abbrev pub goes : Option T → Answers T
   goes None = []
   goes (Some x) = (false, x) ∷ []
 
-  -- what so many calls return: the items, and then `None`
+  -- what k calls of `next` return: the items xs in order, and then `None`
   abbrev pub handed_out : ℕ → List T → List (Option T)
   handed_out k xs = walked xs (replicate k Front)
 
@@ -56,7 +56,8 @@ module _ {T : Type 0} where
   few-goes None = refl
   few-goes (Some x) = refl
 
-  -- the moves of a part are counted by whether an item goes before it
+  -- the moves for two successive parts of a list are the moves for the first part, plus those for
+  -- the second; in the second part, all kept items move if an item of the first part was removed
   pub moves-append : (a b : Answers T) → moved_up (flags_of (a ++ b))
       ≡ moved_up (flags_of a) + (if length (left_at false a) == 0 then moved_up
       (flags_of b) else trues (flags_of b))
@@ -74,9 +75,11 @@ module _ {S T J : Type 0} (R : S → T → Bool → S → T → Type 0) (judge_o
   none-left j zero = refl
   none-left j (suc k) = refl
 
-  -- a call of `next` gave the item and left `rest`, and k calls may come after it
+  -- let a call of `next` return `item`, and leave the items `rest` to be tested and the closure in
+  -- the state t; k calls may follow
   module _ (t : S) (k : ℕ) (item : Option T) (rest : List T) where
-    -- what becomes of the items from this call on
+    -- if a call of `next` keeps the items `kept`, the answers from this call on are: these items
+    -- are kept, the returned item is extracted, and then the answers of the k calls after it
     pub extracts-by : (s : S) (xs kept : List T) → ExtractsNext R s xs item t kept rest
         → extracting ask (judge_of s) (suc k) xs
         ≡ stay kept ++ (goes item ++ extracting ask (judge_of t) k rest)
@@ -102,7 +105,7 @@ module _ {S T J : Type 0} (R : S → T → Bool → S → T → Type 0) (judge_o
             ap (λ l. (true, e.2) ∷ l) (by m.0 m.1)
             ∙ sym (ap (λ l. stay l ++ (goes item ++ extracting ask (judge_of t) k rest)) m.2)
 
-    -- where no item was yielded, none is left to be asked about
+    -- if a call of `next` returns `None`, no item is left to be tested
     rest-none : (s : S) (xs kept : List T) → ExtractsNext R s xs item t kept rest
         → item ≡ None → rest ≡ []
     rest-none s [] kept e none = e.3
@@ -115,7 +118,8 @@ module _ {S T J : Type 0} (R : S → T → Bool → S → T → Type 0) (judge_o
         answered true by m = let wrong = m.0 in absurd (none-some (sym none ∙ wrong))
         answered false by m = by m.0 m.1
 
-    -- what this call returned, before what the calls that are left return
+    -- what `handed_out` computes for a call of `next` and the k calls after it is `item`, followed
+    -- by what it computes for the k calls
     pub handed-by : (s : S) (xs kept : List T) → ExtractsNext R s xs item t kept rest
         → handed_out (suc k) (left_at false (extracting ask (judge_of s) (suc k) xs))
         ≡ item ∷ handed_out k (left_at false (extracting ask (judge_of t) k rest))
@@ -135,7 +139,8 @@ module _ {S T J : Type 0} (R : S → T → Bool → S → T → Type 0) (judge_o
             ∙ ap (left_at false) (none-left (judge_of t) k) in
             subst (λ l. handed_out (suc k) l ≡ None ∷ handed_out k l) (sym empty) refl
 
--- what is paid for a part: k moves where an item went before, and none where not
+-- counting m moves, and then k more if an item was extracted before (`gone` is not 0), costs the
+-- same as counting all these moves at once
 charged : (gone m k : ℕ) (c : Cost)
     → (if gone == 0 then moving m c else moving k (moving m c))
     ≡ moving (m + (if gone == 0 then 0 else k)) c
@@ -145,20 +150,22 @@ charged (suc gone) m k c =
     ≡ moving (m + (if t then 0 else k)) c)
     (sym (eqb-suc-zero gone)) (moving-more k m c)
 
--- where calls of `next` stand
+-- the state of an extraction between two calls of `next`
 pub record Stand (T : Type 0) : Type 0 where
-  -- what becomes of the items that are left to be asked about
+  -- the answers for the items that are still to be tested
   pub left : Answers T
-  -- the items in front
+  -- the items at the front of the list: those before the range, and those kept so far
   pub front : List T
-  -- how many were yielded
+  -- the number of items yielded so far
   pub out : ℕ
-  -- what was paid
+  -- the cost so far
   pub paid : Cost
 
--- of the items that calls of `next` are to ask about, `asked` says what becomes of them
+-- let `asked` be the answers for all items of the range of an extraction, `start` the items before
+-- the range, and `before` the cost before the first call of `next`
 module _ {T : Type 0} (asked : Answers T) (start : List T) (before : Cost) where
-  -- the calls so far have asked about some
+  -- `at` is a state of the extraction: the one after some calls of `next`. `done` are the answers
+  -- for the items tested so far
   pub record IsExtracting (at : Stand T) : Type 0 where
     pub done : Answers T
     pub split : asked ≡ done ++ at.left
@@ -166,7 +173,9 @@ module _ {T : Type 0} (asked : Answers T) (start : List T) (before : Cost) where
     pub out : at.out ≡ length (left_at false done)
     pub paid : at.paid ≡ moving (moved_up (flags_of done)) before
 
-  -- the cost of what the next calls leave, of which those asked about are `now`
+  -- if the next answers, `now`, keep k items, and no item is removed before the last of these, then
+  -- the cost for all answers, including `now`, is the cost so far, plus k moves if an item was
+  -- extracted before
   paid-next : (at : Stand T) (h : IsExtracting at) (now : Answers T) (k : ℕ)
       → moved_up (flags_of now) ≡ 0 → trues (flags_of now) ≡ k
       → (if at.out == 0 then at.paid else moving k at.paid)
@@ -179,7 +188,7 @@ module _ {T : Type 0} (asked : Answers T) (start : List T) (before : Cost) where
       before)
       ∙ ap (λ m. moving m before) (sym (moves-append h.done now))))
 
-  -- before the first call nothing is asked
+  -- before the first call of `next`, no item has been tested
   pub extracting-none : (at : Stand T) → at.left ≡ asked → at.front ≡ start → at.out ≡ 0
       → at.paid ≡ before → IsExtracting at
   extracting-none at all same none free =
@@ -192,7 +201,8 @@ module _ {T : Type 0} (asked : Answers T) (start : List T) (before : Cost) where
       }
 
   module _ (at next : Stand T) where
-    -- a call kept some, gave the item, and left what stands next
+    -- if a call of `next` in a state of the extraction keeps the items `kept` and returns `item`,
+    -- the state after the call is a state of the extraction too
     pub extracting-step : (kept : List T) (item : Option T) → IsExtracting at
         → at.left ≡ stay kept ++ (goes item ++ next.left) → next.front ≡ at.front ++ kept
         → next.out ≡ at.out + length (option_to_list item)
@@ -229,9 +239,12 @@ module _ {T : Type 0} (asked : Answers T) (start : List T) (before : Cost) where
           paid = charge ∙ paid-next at h now (length kept) still moved;
         }
 
--- the calls have ended, and the list has what stays
+-- let w be the list after an extraction from the list v, of the range from index a up to b, with
+-- the answers `asked`
 module _ {T A : Type 0} (v w : Thin T A) (a b : ℕ) (asked : Answers T) where
-  -- w is v with what stands in front, what was not asked about, and the tail
+  -- w is v with the items at the front, then those of the range that were not tested (`rest`), and
+  -- then those after the range (`tail`). The items of `rest` and `tail` count a move each if an
+  -- item was yielded
   pub record IsLeft (at : Stand T) (rest tail : List T) : Type 0 where
     pub items : w.items ≡ at.front ++ (rest ++ tail)
     pub cost : w.cost ≡ (if at.out == 0 then at.paid else moving (length rest
@@ -239,7 +252,8 @@ module _ {T A : Type 0} (v w : Thin T A) (a b : ℕ) (asked : Answers T) where
     pub capacity : w.capacity ≡ v.capacity
     pub alloc : w.alloc ≡ v.alloc
 
-  -- the list and its cost that the definition names are those that the calls left
+  -- if an extraction from v has ended and leaves the list w, then w is v with only the items that
+  -- the answers keep (`sifted`)
   pub extracting-ends : (at : Stand T) (rest tail : List T)
       → IsExtracting asked (take a v.items) v.cost at → at.left ≡ stay rest → tail ≡ drop b v.items
       → IsLeft at rest tail → w ≡ sifted v (around v.items a b asked)
@@ -278,7 +292,7 @@ module _ {T A : Type 0} (v w : Thin T A) (a b : ℕ) (asked : Answers T) where
         cost = paid i;
       }
 
--- an extraction leaves no more items than there were
+-- an extraction leaves at most as many items as there were
 module _ {T J : Type 0} (ask : J → T → Bool × T × J) where
   stay-length : (xs : List T) → length (stay xs) ≡ length xs
   stay-length xs = length-map xs (λ (x : T). (true, x))
@@ -289,7 +303,7 @@ module _ {T J : Type 0} (ask : J → T → Bool × T × J) where
   extracting-length j (suc k) (x ∷ xs) =
       ap suc (extracting-length (ask j x).2 (if (ask j x).0 then k else suc k) xs)
 
-  -- no more items stay than there were
+  -- the number of items that are kept by an extraction is at most the number of items of xs
   pub few-extracted : (j : J) (k : ℕ) (xs : List T) (a b : ℕ) → a ≤ b → b ≤ length xs
       → length (left_at true (around xs a b (extracting ask j k (slice_range xs a b)))) ≤ length xs
   few-extracted j k xs a b order within =

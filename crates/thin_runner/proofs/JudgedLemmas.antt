@@ -1,4 +1,5 @@
--- Calls of a closure that returns what a judge decides, asked about the items of a list.
+-- Closures that return what a judge decides, and the list that they leave if a method such as
+-- `retain` calls them for its items.
 use Rattle.std.proofs.Common.{◌≡◌, ℕ, suc, ◌≤◌, ◌==◌, length, refl, arith, List, [], ◌∷◌, Bool, true, false, ap, subst, ◌∙◌}
 use denote.MutBor.{MutBor}
 use denote.Param.Members.{Mut}
@@ -13,14 +14,15 @@ use Rattle.thin_runner.specs.commands.Filters.{asked, asked_last, asked_pairs, s
 
 module _ {S T J : Type 0} (R : S → T → Bool → S → T → Type 0) (judge_of : S → J)
     (ask : J → T → Bool × T × J) where
-  -- the state of the closure has a judge, and each call returns what that judge decides
+  -- the state of the closure contains a judge, and each call returns what this judge decides
   abbrev pub AsksJudge : Type 0
   AsksJudge = (s : S) (x : T) (b : Bool) (u : S) (y : T) → R s x b u y
       → (b, y, judge_of u) ≡ ask (judge_of s) x
 
 module _ {S T J : Type 0} (R : S → T → Bool → S → T → Type 0) (judge_of : S → J)
     (ask : J → T → Bool × T × J) (told : AsksJudge R judge_of ask) where
-  -- what the closure returned of xs is what the judge decides
+  -- if the closure was called for each item of xs, in order, then its answers are those of the
+  -- judge
   pub asked-by : (s t : S) (xs : List T) (answers : Answers T) → Asked R s xs answers t
       → answers ≡ asked ask (judge_of s) xs
   asked-by s t [] answers a = a.0
@@ -28,7 +30,8 @@ module _ {S T J : Type 0} (R : S → T → Bool → S → T → Type 0) (judge_o
       a.6 ∙ (ap (λ l. (a.0, a.1) ∷ l) (asked-by a.2 t xs a.3 a.5)
       ∙ ap (λ l. (l.0, l.1) ∷ asked ask l.2 xs) (told s x a.0 a.2 a.1 a.4))
 
-  -- the list that is left, where it was asked about each item
+  -- if `retain` or `retain_mut`, with a closure that asks the judge, turns v into w, then w is v
+  -- with only the items that the judge keeps (`sifted`)
   pub retained-by : {A : Type 0} (s : S) (v w : Thin T A) → IsRetained R s v w
       → w.capacity ≡ v.capacity → w.alloc ≡ v.alloc
       → w ≡ sifted v (asked ask (judge_of s) v.items)
@@ -38,19 +41,20 @@ module _ {S T J : Type 0} (R : S → T → Bool → S → T → Type 0) (judge_o
       let cost = r.1.cost ∙ ap (λ a. moving (moved_up (flags_of a)) v.cost) same in
       λ i. record { items = items i; capacity = capacity i; alloc = alloc i; cost = cost i }
 
--- what questions about pairs have told: which of the later items stay, and what is left
+-- a definition for lists whose items are compared, each with the last item kept before it
 module _ {T : Type 0} where
-  -- ys are the items that stay by the answers b, and the flags say of each later one whether it
-  -- stays
+  -- ys are the items that are kept by the results b, beginning with the first item, and the flags
+  -- say for each later item whether it is kept
   abbrev pub Leaves : List Bool → List T → T × Answers T → Type 0
   Leaves flags ys b = (flags ≡ flags_of b.1) × (ys ≡ b.0 ∷ left_at true b.1)
 
--- a closure asked about two items, which returns what a judge decides
+-- let a closure compare two items, with a judge in its state, and return what this judge decides
 module _ {S T J : Type 0} (R : S → T → T → Bool → S → T → T → Type 0) (judge_of : S → J)
     (same : J → T → T → Bool × T × T × J)
     (told : (s : S) (x k : T) (b : Bool) (u : S) (x' k' : T) → R s x k b u x' k'
     → (b, x', k', judge_of u) ≡ same (judge_of s) x k) where
-  -- questions about each of xs and the last item that stays, which is k at first
+  -- if each item of xs was compared with the last item kept before it, which was k at first, then
+  -- the flags and the kept items are as the judge decides
   pub asked-last-by : (s t : S) (k : T) (xs : List T) (flags : List Bool) (ys : List T)
       → AskedLast R s k xs flags ys t → Leaves flags ys (asked_last same (judge_of s) k xs)
   asked-last-by s t k [] flags ys a = (a.0, a.1)
@@ -70,7 +74,8 @@ module _ {S T J : Type 0} (R : S → T → T → Bool → S → T → T → Type
       answered by false m e = let h =
           by a.1 m.0 m.1 in (e ∙ ap (λ l. true ∷ l) h.0, m.2 ∙ ap (λ l. a.2 ∷ l) h.1)
 
-  -- questions about all pairs, of which the first item is in none but stays
+  -- if each item of xs except the first was compared with the last item kept before it, then the
+  -- kept items and the number of moves are as the judge decides
   pub asked-pairs-by : (s t : S) (xs : List T) (flags : List Bool) (ys : List T)
       → AskedPairs R s xs flags ys t
       → (moved_up flags ≡ moved_up (flags_of (asked_pairs same (judge_of s) xs)))
@@ -79,7 +84,8 @@ module _ {S T J : Type 0} (R : S → T → T → Bool → S → T → T → Type
   asked-pairs-by s t (x ∷ xs) flags ys a = let h = asked-last-by s t x xs flags ys a
       in (ap moved_up h.0, h.1)
 
-  -- the list that is left, where it was asked about pairs
+  -- if `dedup_by`, with a closure that asks the judge, turns v into w, then w is v with only the
+  -- items that the judge keeps (`sifted`)
   pub deduped-by : {A : Type 0} (s : S) (v w : Thin T A) → IsDedupedBy R s v w
       → w.capacity ≡ v.capacity → w.alloc ≡ v.alloc
       → w ≡ sifted v (asked_pairs same (judge_of s) v.items)
@@ -88,12 +94,14 @@ module _ {S T J : Type 0} (R : S → T → T → Bool → S → T → T → Type
       let cost = r.1.cost ∙ ap (λ m. moving m v.cost) by.0 in
       λ i. record { items = by.1 i; capacity = capacity i; alloc = alloc i; cost = cost i }
 
--- the list that is left, where a closure of such a judge returned the keys
+-- let a closure on one item have a judge in its state, and return the key that this judge computes
 module _ {F T A J : Type 0} (g : Mut F (MutBor T × Unit {0}) (ℕ × (MutBor T × Unit {0})))
     (judge_of : F → J) (key : J → T → ℕ × T × J)
     (told : (f : F) (x : T) (k : ℕ) (f' : F) (x' : T) → CalledAtMut g f x k f' x'
     → (k, x', judge_of f') ≡ key (judge_of f) x) where
-  -- by the keys of two items, which are asked for in turn
+  -- if `dedup_by_key`, with a closure that asks the judge, turns v into w, then w is v with only
+  -- the items that the judge keeps (`sifted`); of two items, the key of the later one is taken
+  -- first
   pub deduped-by-keys : (f : F) (v w : Thin T A)
       → IsDedupedBy (ComparesKeys g (λ a b. a == b)) f v w → w.capacity ≡ v.capacity
       → w.alloc ≡ v.alloc → w ≡ sifted v (asked_pairs (same_key key) (judge_of f) v.items)
@@ -107,46 +115,49 @@ module _ {F T A J : Type 0} (g : Mut F (MutBor T × Unit {0}) (ℕ × (MutBor T 
       ∙ ap (λ a. let l = key a.2 k in (a.0 == l.0, a.1, l.1, l.2)) first))
       f v w d capacity alloc
 
--- a question that only looks leaves the item
+-- let `look` be a method of the judge that cannot write to the item
 module _ {T J : Type 0} (look : J → T → Bool × J) where
-  -- the question, with the item as it was
+  -- what `look` decides, together with the unchanged item
   abbrev pub looks : J → T → Bool × T × J
   looks j x = let a = look j x in (a.0, x, a.1)
 
-  -- a question that left the item is asked with the item as it was
+  -- if a call returned what `look` decides, and did not change the item, then it returned what
+  -- `looks` decides
   pub looked : (j u : J) (x y : T) (b : Bool) → (b, u) ≡ look j x → y ≡ x → (b, y, u) ≡ looks j x
   looked j u x y b told same = ap (λ z. (b, z, u)) same ∙ ap (λ a. (a.0, x, a.1)) told
 
--- no more items stay than there were
+-- at most as many items are kept as there were
 module _ {T : Type 0} where
-  -- those that stay are among those that were asked about
+  -- the number of kept items is at most the number of answers
   pub few-left : (answers : Answers T) → length (left_at true answers) ≤ length answers
   few-left [] = omega arith
   few-left ((true, x) ∷ answers) = omega (arith, few-left answers)
   few-left ((false, x) ∷ answers) = omega (arith, few-left answers)
 
-  -- the later item x goes, or takes the place of k as the last that stays
+  -- the results of comparing x with the kept item k, from the results a for the items after x: if b
+  -- is true, x is removed; otherwise x is kept, and becomes the last kept item
   abbrev next : Bool → T → T → T × Answers T → T × Answers T
   next b x k a = if b then (a.0, (false, x) ∷ a.1) else (k, (true, a.0) ∷ a.1)
 
-  -- one item more is said to stay or to go
+  -- comparing one more item adds one answer
   one-answer : (b : Bool) (x k : T) (a : T × Answers T) → length (next b x k a).1 ≡ suc (length a.1)
   one-answer true x k a = refl
   one-answer false x k a = refl
 
 module _ {T J : Type 0} where
-  -- of each item it is said whether it stays
+  -- if each item of xs is tested, there is one answer for each
   pub asked-length : (ask : J → T → Bool × T × J) (j : J) (xs : List T) → length (asked ask j xs)
       ≡ length xs
   asked-length ask j [] = refl
   asked-length ask j (x ∷ xs) = ap suc (asked-length ask (ask j x).2 xs)
 
-  -- no more items stay than were asked about
+  -- if each item of xs is tested, the number of kept items is at most the number of items of xs
   pub few-asked : (ask : J → T → Bool × T × J) (j : J) (xs : List T)
       → length (left_at true (asked ask j xs)) ≤ length xs
   few-asked ask j xs = omega (arith, few-left (asked ask j xs), asked-length ask j xs)
 
-  -- of each later item it is said whether it stays, and of all where the first one stays
+  -- if each item of xs is compared with the last item kept before it, there is one answer for each
+  -- item; the same holds if the first item is kept without a comparison
   last-length : (same : J → T → T → Bool × T × T × J) (j : J) (k : T) (xs : List T)
       → length (asked_last same j k xs).1 ≡ length xs
   last-length same j k [] = refl
@@ -160,18 +171,21 @@ module _ {T J : Type 0} where
   pairs-length same j [] = refl
   pairs-length same j (x ∷ xs) = ap suc (last-length same j x xs)
 
-  -- no more items stay than were asked about in pairs
+  -- if each item of xs except the first is compared with the last item kept before it, the number
+  -- of kept items is at most the number of items of xs
   pub few-pairs : (same : J → T → T → Bool × T × T × J) (j : J) (xs : List T)
       → length (left_at true (asked_pairs same j xs)) ≤ length xs
   few-pairs same j xs = omega (arith, few-left (asked_pairs same j xs), pairs-length same j xs)
 
--- where a test decides that has no state, what `dedup` leaves is what the test leaves
+-- if the test E is stateless, the items that `dedup` leaves are those that are kept by the test
 module _ {T J : Type 0} (E : T → T → Bool) (j : J) where
-  -- what the test says of two items, which it leaves as they are
+  -- the test E as a function of the judge's state: it returns what E says, and changes neither the
+  -- items nor the state
   abbrev pub tells : J → T → T → Bool × T × T × J
   tells j later kept = (E later kept, later, kept, j)
 
-  -- the items after one that is kept
+  -- if k is the item kept before xs, `dedup_from` returns the items that are kept by the test E,
+  -- and `unlike_from` returns the flags
   dedup-last : (k : T) (xs : List T) → Leaves (unlike_from E k xs) (dedup_from E k xs)
       (asked_last tells j k xs)
   dedup-last k [] = (refl, refl)
@@ -186,14 +200,16 @@ module _ {T J : Type 0} (E : T → T → Bool) (j : J) where
       told by true = let h = by k in (ap (λ l. false ∷ l) h.0, h.1)
       told by false = let h = by x in (ap (λ l. true ∷ l) h.0, ap (λ l. k ∷ l) h.1)
 
-  -- the items from the first on, which stays
+  -- `dedup` returns the items of xs that are kept by the test E, and `unlike` returns flags with as
+  -- many moves
   pub dedup-pairs : (xs : List T)
       → (moved_up (unlike E xs) ≡ moved_up (flags_of (asked_pairs tells j xs)))
       × (dedup E xs ≡ left_at true (asked_pairs tells j xs))
   dedup-pairs [] = (refl, refl)
   dedup-pairs (x ∷ xs) = let h = dedup-last x xs in (ap moved_up h.0, h.1)
 
-  -- the list that is left
+  -- if `dedup` with the test E turns v into w, then w is v with only the items that the test keeps
+  -- (`sifted`)
   pub deduped-alike : {A : Type 0} (v w : Thin T A) → w.items ≡ dedup E v.items → w.cost
       ≡ moving (moved_up (unlike E v.items)) v.cost
       → w.capacity ≡ v.capacity → w.alloc ≡ v.alloc → w ≡ sifted v (asked_pairs tells j v.items)

@@ -1,4 +1,4 @@
--- The lemmas.
+-- The lemmas about commands and runs.
 pub mod HintedLemmas
 mod CommandLemmas
 pub mod RunLemmas

@@ -1,4 +1,4 @@
--- What a run has moved.
+-- Bounds on the number of items that commands and runs move.
 use Rattle.std.proofs.Common.{Bool, true, false, ◌≡◌, ℕ, ◌+◌, ◌-◌, ◌==◌, ◌<◌, ◌≤◌, List, [], ◌∷◌, ◌++◌, Option, Some, None, length, arith, ap, refl, inl, inr}
 use Rattle.std.proofs.lemmas.List.{length-append, length-replicate}
 use Rattle.std.specs.Prelude.{◌*◌, ◌⊎◌, drop, take, HoldsAt, replicate, if◌then◌else◌}
@@ -23,27 +23,28 @@ use Rattle.thin_runner.specs.declared.command.Command.TheVariants.{Push, Pop, In
 use Rattle.thin_runner.specs.declared.command.Reply.{Reply}
 use Rattle.thin_runner.specs.declared.command.Reply.TheVariants.{Answers, Done, Item, List as Made, Other, Returned, Refused, Stopped, OutOfRange}
 
--- how many items a `resize` is to clone, at most
+-- a list of k - 1 copies of x has at most k items
 few-repeats : {T : Type 0} (k : ℕ) (x : T) → length (replicate (k - 1) x) ≤ k
 few-repeats k x = omega (arith, length-replicate (k - 1) x)
 
 module _ {T A : Type 0} (v w : Thin T A) where
-  -- where the moves stay, they are at most k more
+  -- if the count of moves did not change, it is at most k more than before
   same-moves : (u : Thin T A) (k : ℕ) → w ≡ u → u.cost.moves ≡ v.cost.moves
       → w.cost.moves ≤ v.cost.moves + k
   same-moves u k e same = omega (arith, ap (λ z. z.cost.moves) e, same)
 
-  -- an edit by m moves makes m moves
+  -- an edit that counts m moves adds at most m moves
   edited-moves : (xs : List T) (m : ℕ) → w ≡ edited v xs m → w.cost.moves ≤ v.cost.moves + m
   edited-moves xs m e = omega (arith, ap (λ z. z.cost.moves) e)
 
-  -- an edit by m moves after a growth makes m moves
+  -- the growth before an edit counts no moves, so an edit of m moves adds at most m moves
   grown-moves : (xs : List T) (m : ℕ) → w ≡ grown v w.capacity xs m
       → w.cost.moves ≤ v.cost.moves + m
   grown-moves xs m e = omega (arith, ap (λ z. z.cost.moves) e, cost_at-moves v w.capacity)
 
   module _ (rule : Rule) (R : RattleType) (a b : ℕ) where
-    -- one for each item that came in, and at most two for each of those after the range
+    -- a splice that placed at most k items added at most k moves, and 2 for each item after the
+    -- range
     spliced-moves : (placed : List T) (most k : ℕ) → Replaces rule R v a b placed most w
         → length placed ≤ k → w.cost.moves ≤ v.cost.moves + (2 * (length v.items - b) + k)
     spliced-moves placed most k f few =
@@ -57,8 +58,8 @@ module _ {T A : Type 0} (v w : Thin T A) where
           few,
         )
 
-    -- a splice that stopped: at most two for each item after the range, and one for each that might
-    -- come
+    -- a splice that failed added at most one move for each item of its iterator, and 2 for each
+    -- item after the range
     stopped-moves : (xs held : List T) (lower : ℕ) (cause : ThinVecError) (in_hand : Option T)
         (rest : Hinted T A) → StopsBetween rule R v a b xs held lower cause in_hand rest w
         → w.cost.moves ≤ v.cost.moves + (2 * (length v.items - b) + length xs)
@@ -67,7 +68,7 @@ module _ {T A : Type 0} (v w : Thin T A) where
         spliced-moves s.placed (lower + length xs) (length xs) s.filled
         (omega (arith, ap length s.all, length-append s.placed others))
 
--- a `shrink_to_fit` makes no move
+-- a `shrink_to_fit` adds no move
 shrunk-moves : {T A : Type 0} (v : Thin T A) → (cost_shrunk v).moves ≤ v.cost.moves
 shrunk-moves v = go (length v.items == v.capacity) (length v.items == 0)
   where
@@ -78,7 +79,7 @@ shrunk-moves v = go (length v.items == v.capacity) (length v.items == 0)
     go false false = omega arith
 
 module _ {T A J : Type 0} (here : Setting T A J) (v w : Thin T A) where
-  -- where a clone failed, one move for each that did not
+  -- if a call that clones at most k sources fails, it adds at most k moves
   refused-moves : (k : ℕ) (sources : List T) (cause : ThinVecError) → length sources ≤ k
       → RefusesClone here v k sources cause w → w.cost.moves ≤ v.cost.moves + k
   refused-moves k sources cause few r = stopped r.2
@@ -90,7 +91,7 @@ module _ {T A J : Type 0} (here : Setting T A J) (v w : Thin T A) where
       stopped (inr s) = omega (arith, few, s.1, grown-moves v w v.items s.0 s.3.1)
 
 module _ {T A G J : Type 0} (here : Setting T A J) where
-  -- a step makes at most as many moves as its command and its reply say
+  -- a command adds at most as many moves as `may_move` says for the command and its reply
   pub step-moves : (v w : Thin T A) (command : Command T A G) (reply : Reply T A G)
       → Steps here v command reply w
       → w.cost.moves ≤ v.cost.moves + may_move here v.items command reply
@@ -152,7 +153,7 @@ module _ {T A G J : Type 0} (here : Setting T A J) where
   step-moves v w (Splice a b steps xs lower) (Refused cause) s = same-moves v w v 0 s.1.2 refl
   step-moves v w command reply s = absurd s.1
 
-  -- a run makes at most as many moves as its commands and replies say
+  -- a run adds at most as many moves as the bounds for its commands add up to
   pub runs-moves : (v w : Thin T A) (commands : List (Command T A G))
       (replies : List (Reply T A G)) (run : Runs here v commands replies w)
       → w.cost.moves ≤ v.cost.moves + run_may_move here v w commands replies run

@@ -1,5 +1,5 @@
--- A run without `ReserveExact` and `ShrinkToFit` keeps a cheap list cheap, and copies no more items
--- than its capacity grows by.
+-- A run without `ReserveExact` and `ShrinkToFit` keeps a cheap list cheap, and copies at most as
+-- many items as its capacity grows by.
 use Rattle.std.proofs.Common.{◌≡◌, ℕ, suc, ◌+◌, ◌-◌, ◌^◌, ◌<◌, ◌≤◌, List, [], ◌∷◌, ◌++◌, Some, None, length, arith, ap, sym, subst, ◌∙◌, refl, inl, inr}
 use Rattle.std.proofs.lemmas.Bool.{cases_lt}
 use Rattle.std.proofs.lemmas.List.{length-append, length-set, length_push, length-drop, length-take}
@@ -28,7 +28,7 @@ use Rattle.thin_runner.specs.declared.command.Command.TheVariants.{Push, Pop, In
 use Rattle.thin_runner.specs.declared.command.Reply.{Reply}
 use Rattle.thin_runner.specs.declared.command.Reply.TheVariants.{Answers, Done, Item, List as Made, Other, Returned, Refused, Stopped, OutOfRange}
 
--- copied items and blocks decide whether a cost is cheap
+-- if two costs count the same blocks and the same copied items, and one is cheap, so is the other
 cheap-same : (c : ℕ) (k k' : Cost) → k'.blocks ≡ k.blocks → k'.grown ≡ k.grown
     → IsCheapAt c k → IsCheapAt c k'
 cheap-same c k k' blocks grown h = record {
@@ -40,19 +40,19 @@ cheap-same c k k' blocks grown h = record {
       omega (arith, same, b);
 }
 
--- w was v: a cheap list stays cheap, growth has copied at most as many items as the capacity has
--- grown by, and there is room for the items
+-- the change from v to w is paid for: it keeps a cheap list cheap, growth has copied at most as
+-- many items as the capacity has grown by, and w has room for its items
 pub record IsPaid {T A : Type 0} (v w : Thin T A) : Type 0 where
   pub cheap : IsCheap v → IsCheap w
   pub copied : w.cost.grown + v.capacity ≤ v.cost.grown + w.capacity
   pub room : length w.items ≤ w.capacity
 
 module _ {T A : Type 0} where
-  -- nothing was done
+  -- if v has room for its items, the change from v to v itself is paid for
   pub none-paid : (v : Thin T A) → length v.items ≤ v.capacity → IsPaid v v
   none-paid v room = record { cheap = λ c. c; copied = omega arith; room = room }
 
-  -- one thing was done after another
+  -- if the changes from v to u and from u to w are paid for, so is the change from v to w
   pub join-paid : {v u w : Thin T A} → IsPaid v u → IsPaid u w → IsPaid v w
   join-paid p q = record {
     cheap = λ c. q.cheap (p.cheap c);
@@ -61,11 +61,12 @@ module _ {T A : Type 0} where
   }
 
 module _ {T A : Type 0} (v w : Thin T A) (room : length v.items ≤ v.capacity) where
-  -- nothing changed
+  -- if w is v, the change from v to w is paid for
   same-paid : w ≡ v → IsPaid v w
   same-paid e = subst (IsPaid v) (sym e) (none-paid v room)
 
-  -- the capacity, the blocks and the copied items stay, and no item comes in
+  -- if the capacity, the blocks and the copied items are those of v, and no item is added, the
+  -- change is paid for
   kept-paid : (u : Thin T A) → w ≡ u → u.capacity ≡ v.capacity
       → u.cost.blocks ≡ v.cost.blocks → u.cost.grown ≡ v.cost.grown
       → length u.items ≤ length v.items → IsPaid v w
@@ -80,7 +81,8 @@ module _ {T A : Type 0} (v w : Thin T A) (room : length v.items ≤ v.capacity) 
 
 module _ {T A J : Type 0} (here : Setting T A J) (law : KeepsLaw here.rule) (v w : Thin T A)
     (room : length v.items ≤ v.capacity) where
-  -- the capacity is the ruled one for n items more, and at most n come in
+  -- if the capacity of w is the ruled one for n more items, w has the cost of this growth, and at
+  -- most n items are added, then the change is paid for
   ruled-paid : (u : Thin T A) (n : ℕ) → capacity_for here.rule here.R v n ≡ Some w.capacity
       → w ≡ u → u.cost.blocks ≡ (cost_at v w.capacity).blocks
       → u.cost.grown ≡ (cost_at v w.capacity).grown
@@ -103,7 +105,8 @@ module _ {T A J : Type 0} (here : Setting T A J) (law : KeepsLaw here.rule) (v w
         ];
       }
 
-  -- nothing changed, or there is room for n items more
+  -- if a call that clones fails, for lack of room for n more items or because of a clone, then the
+  -- change is paid for
   refused-paid : (n : ℕ) (sources : List T) (cause : ThinVecError)
       → RefusesClone here v n sources cause w → IsPaid v w
   refused-paid n sources cause r = stopped r.2
@@ -114,7 +117,7 @@ module _ {T A J : Type 0} (here : Setting T A J) (law : KeepsLaw here.rule) (v w
       stopped (inl e) = same-paid v w room e
       stopped (inr s) = ruled-paid _ n s.3.0 s.3.1 refl refl (omega arith)
 
--- how many items an edit leaves, at most
+-- bounds on the number of items after an edit
 module _ {T : Type 0} where
   few-swap_remove : (xs : List T) (i : ℕ) (x : T) → length (swap_remove xs i x) ≤ length xs
   few-swap_remove xs i x =
@@ -158,7 +161,8 @@ module _ {T : Type 0} where
       omega (arith, ap length a.1, length-append xs a.0, count)
 
 module _ {T A G J : Type 0} (here : Setting T A J) (law : KeepsLaw here.rule) where
-  -- a step pays for what it copies
+  -- a command other than `ReserveExact` and `ShrinkToFit` changes the list in a way that is paid
+  -- for (`IsPaid`)
   pub step-paid : (v w : Thin T A) (command : Command T A G) (reply : Reply T A G)
       → KeepsCheap command → length v.items ≤ v.capacity → Steps here v command reply w
       → IsPaid v w
@@ -239,7 +243,8 @@ module _ {T A G J : Type 0} (here : Setting T A J) (law : KeepsLaw here.rule) wh
   step-paid v w (Splice i j steps xs lower) (Refused cause) keeps room s = same-paid v w room s.1.2
   step-paid v w command reply keeps room s = absurd s.1
 
-  -- a run pays for what it copies
+  -- a run without `ReserveExact` and `ShrinkToFit` changes the list in a way that is paid for
+  -- (`IsPaid`)
   pub runs-paid : (v w : Thin T A) (commands : List (Command T A G)) (replies : List (Reply T A G))
       → All KeepsCheap commands → length v.items ≤ v.capacity → Runs here v commands replies w
       → IsPaid v w

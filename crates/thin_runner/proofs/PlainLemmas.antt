@@ -1,4 +1,5 @@
--- What a run in which no call fails leaves and replies.
+-- If no call of a run fails, and each clone equals its source, the items and the replies are those
+-- that `items_after` and `reply_to` compute.
 use Rattle.std.proofs.Common.{◌≡◌, ℕ, ◌+◌, ◌-◌, ◌&&◌, ◌<◌, ◌≤◌, ◌↔◌, List, [], ◌∷◌, ◌++◌, All, Decides, IsSome, Option, Some, None, length, map, take, drop, true, arith, ap, nat_le, refl, slice_get, sym, take_all, ◌∙◌, inl, inr, append_assoc, length-append}
 use Rattle.std.proofs.lemmas.Bool.{and_from, and_parts, cases_lt, cond-false, cond-true, false_from_ne_true, false≢true, le-leb, leb-true, lt-ltb, ltb-true}
 use Rattle.std.proofs.lemmas.List.{append-nil, replicate-append-replicate}
@@ -26,11 +27,11 @@ use Rattle.thin_runner.proofs.JudgedLemmas.{dedup-pairs}
 use Rattle.thin_runner.proofs.WalkLemmas.{last-of}
 use Rattle.thin_runner.proofs.WeakerClonesLemmas.{zip-weaker}
 
--- a call that failed was not granted
+-- since `Some x` is not `None`, a reply with a cause is not granted
 refused : {X B : Type 0} (x : X) → Some x ≡ None → B
 refused x e = cc
 
--- the test of a range says whether it is one of n items
+-- the test of a range is true if and only if the range is in bounds for n items
 range-decides : (a b n : ℕ) → Decides (nat_le a b && nat_le b n) ((a ≤ b) × (b ≤ n))
 range-decides a b n = (
   (λ e. let both = and_parts (nat_le a b) (nat_le b n) e in
@@ -39,7 +40,7 @@ range-decides a b n = (
 )
 
 module _ {T A G : Type 0} where
-  -- the test of a command says whether it is in range
+  -- `in_range` is true if and only if the index or the range of the command is in bounds
   in_range-decides : (xs : List T) (command : Command T A G)
       → Decides (in_range xs command) (IsInRange xs command)
   in_range-decides xs (Insert i v) = (leb-true i (length xs), le-leb i (length xs))
@@ -53,7 +54,7 @@ module _ {T A G : Type 0} where
   in_range-decides xs command = ((λ e. tt), (λ e. refl))
 
 module _ {T : Type 0} where
-  -- what a pop returns, and what it leaves
+  -- a pop returns the last item, or `None` if there is none, and leaves the items before it
   popped : (xs ys : List T) (o : Option T) → (IsSome o ↔ (0 < length xs))
       → xs ≡ ys ++ option_to_list o
       → (o ≡ slice_get xs (length xs - 1)) × (ys ≡ take (length xs - 1) xs)
@@ -68,19 +69,21 @@ module _ {T : Type 0} where
   popped [] ys None some e = (refl, sym (e ∙ append-nil ys))
   popped (x ∷ xs) ys None some e = absurd (false≢true (some.1 (omega arith)))
 
-  -- clones that equal their items, one by one, are the items
+  -- if each clone equals its source, and ys are clones of xs, item by item, then ys is xs
   zip-equal : {clones : T → T → Type 0} → ClonesEqual clones → (xs ys : List T)
       → AllZip clones xs ys → ys ≡ xs
   zip-equal {clones} equal xs ys z =
       each_same xs ys (zip-weaker clones (λ x y. y ≡ x) equal xs ys z)
 
-  -- clones of x that equal x are copies of it
+  -- if each clone equals its source, and each item of ys is a clone of x, then each item of ys is
+  -- equal to x
   each-equal : {clones : T → T → Type 0} → ClonesEqual clones → (x : T) (ys : List T)
       → AllByRecursion (clones x) ys → ys ≡ replicate (length ys) x
   each-equal equal x [] e = refl
   each-equal equal x (y ∷ ys) e = λ i. equal x y e.0 i ∷ each-equal equal x ys e.1 i
 
-  -- what a resize leaves
+  -- if each clone equals its source, a resize to the length k leaves the first k items, and as many
+  -- copies of x as are needed for the length k
   resized : (clones : T → T → Type 0) → ClonesEqual clones → (xs : List T) (k : ℕ) (x : T)
       (ys : List T) → IsResized clones xs k x ys → ys ≡ take k xs ++ replicate (k - length xs) x
   resized clones equal xs k x ys r = elim (cases_lt (length xs) k) [
@@ -101,13 +104,14 @@ module _ {T : Type 0} where
         r.shorter less ∙ sym (ap (λ n. take k xs ++ replicate n x) none ∙ append-nil (take k xs))
   ]
 
-  -- what goes in at the end stands after all items
+  -- if ys replaces the empty range at the end of xs, the result is xs followed by ys
   at-end : (xs ys : List T) → (take (length xs) xs ++ ys) ++ drop (length xs) xs ≡ xs ++ ys
   at-end xs ys =
       ap (λ (t : List T). (t ++ ys) ++ drop (length xs) xs) (take-length xs)
       ∙ (ap (λ (t : List T). (xs ++ ys) ++ t) (drop-length xs) ∙ append-nil (xs ++ ys))
 
-  -- where a range was asked about, those of it that stay are between the items around it
+  -- if the items of a range are tested, and the items around it are kept, then the items left are
+  -- the list with the range replaced by its kept items
   left-around : (xs : List T) (a b : ℕ) (answers : Answered T)
       → left_at true (around xs a b answers) ≡ replace_range xs a b (left_at true answers)
   left-around xs a b answers =
@@ -119,7 +123,8 @@ module _ {T : Type 0} where
       ∙ ((λ i. before ++ (kept ++ left_at-stay after i)) ∙ sym (append_assoc before kept after)))
 
 module _ {T A G J : Type 0} (here : Setting T A J) (equal : ClonesEqual here.clones) where
-  -- a command in range whose call does not fail replies and leaves what the function says
+  -- if each clone equals its source, `granted` computes the reply to each command that is in range
+  -- and does not fail, and the items after it
   does-granted : (v w : Thin T A) (command : Command T A G) (reply : Reply T A G)
       → IsGranted reply → Does here v command reply w
       → (seen reply, w.items) ≡ granted here v.items command
@@ -179,7 +184,8 @@ module _ {T A G J : Type 0} (here : Setting T A J) (equal : ClonesEqual here.clo
       λ j. (yields (d.0 j), d.1.items j)
   does-granted v w command reply ok d = absurd d
 
-  -- a step whose call does not fail replies and leaves what the function says
+  -- if each clone equals its source, `plain_step` computes the reply to each command that does not
+  -- fail, and the items after it
   step-plain : (v w : Thin T A) (command : Command T A G) (reply : Reply T A G)
       → IsGranted reply → Steps here v command reply w
       → (seen reply, w.items) ≡ plain_step here v.items command
@@ -195,7 +201,8 @@ module _ {T A G J : Type 0} (here : Setting T A J) (equal : ClonesEqual here.clo
       ∙ sym (cond-true (in_range v.items command) (granted here v.items command)
       (says (OutOfRange command), v.items) inside)
 
-  -- a run in which no call fails: its items are a fold over the commands, its replies a scan
+  -- if each clone equals its source, and no call of a run fails, then its items are the fold of
+  -- `items_after` over the commands, and its replies are the scan with `reply_to`
   pub run-plain : (v w : Thin T A) (commands : List (Command T A G)) (replies : List (Reply T A G))
       → All IsGranted replies → Runs here v commands replies w
       → (w.items ≡ fold (items_after here) v.items commands)

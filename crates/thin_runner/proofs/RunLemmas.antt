@@ -1,4 +1,5 @@
--- A run that does one more command, and what it keeps.
+-- How a run is extended by a command, how two runs are joined, and what a run keeps because each of
+-- its steps keeps it.
 use Rattle.std.proofs.Common.{◌≡◌, ℕ, ◌+◌, List, [], ◌∷◌, ◌++◌, append_assoc, ap, arith, refl, subst, sym, ◌∙◌}
 use Rattle.std.proofs.lemmas.List.{append-nil}
 use Rattle.std.proofs.lemmas.List.Elements.{All-head, All-tail}
@@ -11,13 +12,14 @@ use Rattle.thin_runner.specs.declared.command.Command.{Command}
 use Rattle.thin_runner.specs.declared.command.Reply.{Reply}
 
 module _ {T A G : Type 0} (count : Command T A G → Reply T A G → ℕ) where
-  -- what the steps of a run count, of which each counts `count`
+  -- the sum of `count` over the commands of a run and their replies
   abbrev pub counted : List (Command T A G) → List (Reply T A G) → ℕ
   counted (command ∷ commands) (reply ∷ replies) = count command reply + counted commands replies
   counted commands replies = 0
 
 module _ {T A G J : Type 0} (here : Setting T A J) where
-  -- the commands before those that are left have run, and their replies follow those from before
+  -- all commands except those in `left` have run and turned the list `old` into `new`, and their
+  -- replies were appended to the replies `before`
   pub record HasRun (old : Thin T A) (commands left : List (Command T A G))
       (before after : List (Reply T A G)) (new : Thin T A) : Type 0 where
     pub done : List (Command T A G)
@@ -26,7 +28,8 @@ module _ {T A G J : Type 0} (here : Setting T A J) where
     pub appended : after ≡ before ++ replies
     pub ran : Runs here old done replies new
 
-  -- at the start no command has run
+  -- if all commands are left, and no reply was appended, then no command has run, and the list has
+  -- not changed
   pub HasRun-none : (old : Thin T A) (commands left : List (Command T A G))
       (before after : List (Reply T A G)) → left ≡ commands → after ≡ before
       → HasRun old commands left before after old
@@ -38,7 +41,7 @@ module _ {T A G J : Type 0} (here : Setting T A J) where
     ran = refl;
   }
 
-  -- two runs, of which the second begins with the list that the first leaves, are one run
+  -- if a second run begins with the list that a first run leaves, both together are one run
   pub runs-append : (old mid new : Thin T A) (commands more : List (Command T A G))
       (replies further : List (Reply T A G)) → Runs here old commands replies mid
       → Runs here mid more further new → Runs here old (commands ++ more) (replies ++ further) new
@@ -50,10 +53,11 @@ module _ {T A G J : Type 0} (here : Setting T A J) where
   )
   runs-append old mid new commands more replies further first second = absurd first
 
-  -- a step from mid to new
+  -- let a step turn the list `mid` into `new`
   module _ (mid new : Thin T A) (command : Command T A G) (reply : Reply T A G)
       (stepped : Steps here mid command reply new) where
-    -- the step's command is the first of those that were left
+    -- if the command of the step from `mid` to `new` is the first of those that were left, and its
+    -- reply is appended, then one more command has run
     pub HasRun-push : {old : Thin T A} {commands left left' : List (Command T A G)}
         {before after after' : List (Reply T A G)} → HasRun old commands left before after mid
         → left ≡ command ∷ left' → after' ≡ after ++ reply ∷ []
@@ -70,14 +74,15 @@ module _ {T A G J : Type 0} (here : Setting T A J) where
               (new, (stepped, refl));
         }
 
-  -- what each step of such a command keeps, a run of them keeps: Holds n is true of the list once n
-  -- has been counted, and a step counts `count`
+  -- let `Holds` be a property of a number and a list. Each step whose command is in `Only` keeps
+  -- it, if the number grows by `count` of the command and its reply
   module _ (Holds : ℕ → Thin T A → Type 0) (Only : Command T A G → Type 0)
       (count : Command T A G → Reply T A G → ℕ)
       (step : (n : ℕ) (v w : Thin T A) (command : Command T A G) (reply : Reply T A G)
       → Only command → Holds n v → Steps here v command reply w
       → Holds (n + count command reply) w) where
-    -- a run keeps what its steps keep, with as many counted as its steps count
+    -- a run whose commands are in `Only` keeps the property `Holds`, if the number grows by the sum
+    -- of `count` over the run
     pub runs-keep : (n : ℕ) (v w : Thin T A) (commands : List (Command T A G))
         (replies : List (Reply T A G)) → All Only commands → Holds n v
         → Runs here v commands replies w → Holds (n + counted count commands replies) w

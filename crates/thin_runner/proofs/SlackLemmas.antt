@@ -1,4 +1,4 @@
--- How many places pushes and pops leave empty, by doubling.
+-- How much spare capacity pushes and pops alone leave under `Doubling`.
 use Rattle.std.proofs.Common.{◌≡◌, ℕ, ◌+◌, ◌*◌, ◌≤◌, max, List, [], ◌∷◌, Some, length, arith, ap, subst, inl, inr, All, ◌∙◌}
 use Rattle.std.proofs.lemmas.Bool.{cases_lt}
 use Rattle.std.proofs.lemmas.List.{length_push}
@@ -15,7 +15,8 @@ use Rattle.thin_runner.specs.declared.command.Command.TheVariants.{Push, Pop}
 use Rattle.thin_runner.specs.declared.command.Reply.{Reply}
 use Rattle.thin_runner.specs.declared.command.Reply.TheVariants.{Done, Item, Returned, OutOfRange}
 
--- a bound on a step, and one on the steps after it, give one on all of them
+-- if the largest of 4, the capacity before, and twice the greatest length bounds the capacity after
+-- the first step, and likewise after the later steps, then it does so after all steps together
 slack-join : (before mid after len long rest : ℕ) → mid ≤ max before (max 4 (2 * long))
     → after ≤ max mid (max 4 (2 * rest)) → long ≤ rest
     → after ≤ max before (max 4 (2 * max len rest))
@@ -23,7 +24,8 @@ slack-join before mid after len long rest first later less = omega (arith, first
 
 module _ {T A G J : Type 0} (here : Setting T A J) (law : KeepsLaw here.rule)
     (doubles : here.rule ≡ doubling) where
-  -- a push or a pop leaves a capacity of at most 4, the one before, or twice the length
+  -- under `Doubling`, the capacity after a push or a pop is at most the largest of 4, the capacity
+  -- before, and twice the length
   step-slack : (v w : Thin T A) (command : Command T A G) (reply : Reply T A G)
       → IsPushOrPop command → Steps here v command reply w
       → w.capacity ≤ max v.capacity (max 4 (2 * length w.items))
@@ -49,13 +51,14 @@ module _ {T A G J : Type 0} (here : Setting T A J) (law : KeepsLaw here.rule)
   step-slack v w Pop reply only s = absurd s.1
   step-slack v w command reply only s = absurd only
 
-  -- the length at first is no greater than the greatest
+  -- the length before a run is at most the greatest length during the run
   peak-first : (v w : Thin T A) (commands : List (Command T A G)) (replies : List (Reply T A G))
       (run : Runs here v commands replies w) → length v.items ≤ peak here v w commands replies run
   peak-first v w (c ∷ commands) (r ∷ replies) run = omega arith
   peak-first v w commands replies run = omega arith
 
-  -- pushes and pops alone leave a capacity of at most 4, the one before, or twice the peak
+  -- under `Doubling`, the capacity after a run of pushes and pops is at most the largest of 4, the
+  -- capacity before the run, and twice the greatest length during the run
   pub runs-slack : (v w : Thin T A) (commands : List (Command T A G)) (replies : List (Reply T A G))
       → All IsPushOrPop commands → (run : Runs here v commands replies w)
       → w.capacity ≤ max v.capacity (max 4 (2 * peak here v w commands replies run))

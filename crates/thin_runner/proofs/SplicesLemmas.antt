@@ -1,4 +1,5 @@
--- What `finish` says of a splice that a command makes, in the words of the definition.
+-- Lemmas that lead from the clauses of `finish` and `extend` to the definitions of
+-- `specs/commands/Splices`.
 use Rattle.std.proofs.Common.{◌≡◌, ℕ, ◌-◌, ◌*◌, ◌<◌, List, [], ◌∷◌, ◌++◌, None, Option, Some, ap, append_assoc, arith, drop, inl, inr, length, refl, subst, sym, take, ◌∙◌}
 use Rattle.std.proofs.lemmas.Bool.{false≢true}
 use Rattle.std.proofs.Math.Seq.{drop-length, take-length}
@@ -20,23 +21,25 @@ use Rattle.thin_runner.specs.commands.Splices.{HasPlacesFor, Replaces, StopsBetw
 use Rattle.thin_runner.specs.declared.hinted.Hinted.{Hinted}
 use Rattle.thin_runner.proofs.HintedLemmas.{yields-claim, yields-items}
 
--- an item is no lack of one
+-- `Some x` is not `None`
 some-none : {T : Type 0} {x : T} → Some x ≡ None → ⊥
 some-none e = cc
 
--- a list of no items
+-- a list of length 0 is the empty list
 no-items : {T : Type 0} (xs : List T) → length xs ≡ 0 → xs ≡ []
 no-items [] none = refl
 no-items (x ∷ xs) none = absurd (omega (arith, none))
 
 module _ {T A : Type 0} (s rest : Hinted T A) (placed held : List T)
     (in_hand : Option T) where
-  -- what a `Hinted` yielded that a failed `finish` drew from
+  -- a failed `finish` took items from the `Hinted` s: first those in `placed`, then those in
+  -- `held`, then the one in `in_hand`; `rest` is what is left of s
   abbrev pub Broke : Type 0
   Broke = Stopped (HintedSteps {T = T} {A = A}) (can_next-default (Hinted T A) T) hinted_count s
       placed held in_hand rest
 
-  -- what a failed `finish` placed, what it holds, the item in hand and the rest are what there was
+  -- the items placed by a failed `finish`, those held, the one in hand and those of `rest` are
+  -- together, in this order, all items of s
   pub stopped-items : Broke → hinted_items s ≡ placed
       ++ (held ++ (option_to_list in_hand ++ hinted_items rest))
   stopped-items (inl gave) =
@@ -50,19 +53,20 @@ module _ {T A : Type 0} (s rest : Hinted T A) (placed held : List T)
       ∙ (ap (λ (l : List T). (placed ++ held) ++ l) (ended.2.2.0.0 ∙ sym left)
       ∙ append_assoc placed held (option_to_list in_hand ++ hinted_items rest))
 
-  -- the rest of a failed `finish` claims what there was
+  -- after a failed `finish`, `rest` claims the same lower bound as s
   pub stopped-claim : Broke → hinted_claim rest ≡ hinted_claim s
   stopped-claim (inl gave) = yields-claim s rest ((placed ++ held) ++ option_to_list in_hand) gave.0
   stopped-claim (inr ended) =
       ended.2.2.1 ∙ yields-claim s ended.2.0 (placed ++ held) ended.2.1
 
-  -- with nothing in hand and something held the iterator has ended
+  -- if items are held and none is in hand, the iterator has ended, so no item is left in `rest`
   pub stopped-ended : Broke → in_hand ≡ None → 0 < length held → hinted_items rest ≡ []
   stopped-ended (inl gave) none some = absurd (omega (arith, ap length (gave.1 none), some))
   stopped-ended (inr ended) none some = ended.2.2.0.1
 
 module _ {T A : Type 0} (old : Thin T A) (a b : ℕ) where
-  -- the open block of a splice of the items from a up to b, and the list's allocator
+  -- `block` and `alloc` are the open block and the allocator of a splice that removes the items
+  -- from index a up to b of the list `old`
   pub record IsOpened (block : Open T A) (alloc : A) : Type 0 where
     pub front : block.front ≡ take a old.items
     pub tail : block.tail ≡ drop b old.items
@@ -71,7 +75,7 @@ module _ {T A : Type 0} (old : Thin T A) (a b : ℕ) where
     pub cost : block.cost ≡ old.cost
 
   module _ (block : Open T A) (alloc : A) (is : IsOpened block alloc) where
-    -- what is left of the list
+    -- the list that the open block has without the range is `cut old a b`
     pub left-is : left_of block alloc ≡ cut old a b
     left-is = λ i. record {
       items = is.front i ++ is.tail i;
@@ -95,7 +99,8 @@ module _ {T A : Type 0} (old : Thin T A) (a b : ℕ) where
         subst (λ (v : Thin T A). IsSpliced v new (2 * (length old.items - b))) left-is
         (subst (λ (n : ℕ). IsSpliced (left_of block alloc) new (2 * n)) tail-count cost)
 
-    -- where the capacity comes from, said of what may come
+    -- if the limit of the iterator is `most`, then what `IsExtended` states for the list without
+    -- the range and this limit holds for `cut old a b` and `most`
     pub named : (rule : Rule) (R : RattleType) (new : Thin T A) (most : ℕ) (left : Count)
         → left ≡ at_most most
         → IsExtended rule R (left_of block alloc) new.capacity (length new.items) left
@@ -106,22 +111,23 @@ module _ {T A : Type 0} (old : Thin T A) (a b : ℕ) where
         subst (λ (n : Count). of (cut old a b) n) count
         (subst (λ (v : Thin T A). of v left) left-is is_named)
 
-    -- where there is room for what may come, there is for what the iterator may yield
+    -- if the limit of the iterator is `most`, and `cut old a b` has room for `most` items, then the
+    -- list without the range has room for as many items as the iterator may yield
     pub room-left : (most size : ℕ) → size ≡ most → HasRoomFor (cut old a b) most
         → HasRoomFor (left_of block alloc) size
     room-left most size count room =
         subst (λ (n : ℕ). HasRoomFor (left_of block alloc) n) (sym count)
         (subst (λ (v : Thin T A). HasRoomFor v most) (sym left-is) room)
 
--- what is said of a list is said of it under another name
+-- what holds for a list holds for an equal list
 module _ {T A : Type 0} {rule : Rule} {R : RattleType} {old v w : Thin T A} {a b : ℕ} where
-  -- of one that items went into
+  -- if `Replaces` holds for v, and v equals w, then `Replaces` holds for w
   pub replaces-of : {placed : List T} {most : ℕ} → v ≡ w → Replaces rule R old a b placed most v
       → Replaces rule R old a b placed most w
   replaces-of {placed} {most} same =
       subst (λ (u : Thin T A). Replaces rule R old a b placed most u) same
 
-  -- of one for which there was no room
+  -- if `StopsBetween` holds for v, and v equals w, then `StopsBetween` holds for w
   pub stops-of : {xs held : List T} {lower : ℕ} {cause : ThinVecError} {in_hand : Option T}
       {rest : Hinted T A} → v ≡ w
       → StopsBetween rule R old a b xs held lower cause in_hand rest v
@@ -129,26 +135,29 @@ module _ {T A : Type 0} {rule : Rule} {R : RattleType} {old v w : Thin T A} {a b
   stops-of {xs} {held} {lower} {cause} {in_hand} {rest} same =
       subst (λ (u : Thin T A). StopsBetween rule R old a b xs held lower cause in_hand rest u) same
 
--- no item stands at the end
+-- let the range be the empty range at the end of the list `old`
 module _ {T A : Type 0} (old : Thin T A) where
-  -- an empty range at the end takes nothing out
+  -- removing the empty range at the end does not change the list
   pub cut-end : cut old (length old.items) (length old.items) ≡ old
   cut-end = λ i. record old { items = take-append-drop (length old.items) old.items i }
 
-  -- there is room where there is with an empty range cut out at the end
+  -- if there is room for `most` items without the empty range at the end, there is room for them in
+  -- the list
   room-end : (most : ℕ) → HasRoomFor (cut old (length old.items) (length old.items)) most
       → HasRoomFor old most
   room-end most = subst (λ (v : Thin T A). HasRoomFor v most) cut-end
 
-  -- nothing is wanted at the end where no item comes, or where there is room
+  -- if `HasPlacesFor` holds for the empty range at the end, then `most` is 0, or the list has room
+  -- for `most` more items; so P holds if it follows in both cases
   pub places-end : (P : Type 0) (most : ℕ) → (most ≡ 0 → P) → (HasRoomFor old most → P)
       → HasPlacesFor old (length old.items) (length old.items) most → P
   places-end P most none fits (inl few) = none (omega (arith, few))
   places-end P most none fits (inr room) = fits (room-end most room.1)
 
--- what went in after the items of a list took the place of none
+-- items that are added after those of a list replace the empty range at its end
 module _ {T A : Type 0} (rule : Rule) (R : RattleType) (old new : Thin T A) where
-  -- what `extend` says of the list that it filled, where `most` items might come
+  -- what the contract of `extend` says of the list `new`, to which the items `placed` were added,
+  -- if the iterator might yield up to `most` items
   pub record IsFilled (placed : List T) (most : ℕ) : Type 0 where
     pub items : new.items ≡ old.items ++ placed
     pub capacity : IsLoose rule R old.capacity new.capacity
@@ -159,7 +168,8 @@ module _ {T A : Type 0} (rule : Rule) (R : RattleType) (old new : Thin T A) wher
     pub cheap : IsCheap old → IsCheap new
     pub alloc : new.alloc ≡ old.alloc
 
-  -- as `finish` would say it
+  -- if `extend` added the items `placed`, they replace the empty range at the end, as `finish`
+  -- would state it
   pub replaces-end : {placed : List T} {most : ℕ} → IsFilled placed most
       → Replaces rule R old (length old.items) (length old.items) placed most new
   replaces-end {placed} {most} f =
@@ -187,7 +197,8 @@ module _ {T A : Type 0} (rule : Rule) (R : RattleType) (old new : Thin T A) wher
         alloc = f.alloc;
       }
 
-  -- the cause of a failed `extend`, which holds no item and has no tail
+  -- the cause of a failed `extend` is as `IsStopCause` states it for a splice without items held
+  -- and without items after the range
   pub stop-cause-end : (tail held : List T) (in_hand : Option T) (left : Count)
       (cause : ThinVecError) → length tail ≡ 0 → held ≡ []
       → (cause ≡ CapacityOverflow → Overflows rule R new in_hand left)

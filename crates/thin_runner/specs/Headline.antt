@@ -1,5 +1,5 @@
--- The main theorem, `Headline`: what is known of a list after any list of commands, for every item
--- type, allocator, growth rule and judge.
+-- The main theorem, `Headline`: what is known of a list after any sequence of commands, for every
+-- item type, allocator, growth rule and judge.
 use Rattle.std.specs.Prelude.{◌≡◌, ◌+◌, ◌*◌, ◌<◌, ◌≤◌, List, ◌++◌, All, fold, map, max, scan}
 use Rattle.thin_vec.specs.Cheap.{IsCheap}
 use Rattle.thin_vec.specs.List.Clones.{ClonesEqual}
@@ -13,41 +13,43 @@ use Rattle.thin_runner.specs.declared.command.Command.{Command}
 use Rattle.thin_runner.specs.declared.command.Reply.{Reply}
 
 module _ {T A G J : Type 0} (here : Setting T A J) where
-  -- what a run of these commands makes of the list `old`, and of the replies `before` it: the list
-  -- `new`, and the replies `after`
+  -- the statements about a run of these commands, which turned the list `old` into `new`, and the
+  -- replies `before` into `after`
   pub record Headline (old : Thin T A) (commands : List (Command T A G))
       (before after : List (Reply T A G)) (new : Thin T A) : Type 0 where
-    -- the run appends its replies to those that there were
+    -- the run appended its replies to the replies that were there before
     pub replies : List (Reply T A G)
     pub appended : after ≡ before ++ replies
-    -- if clones equal their items, and no call failed, then the items are a fold over the commands,
-    -- and the replies a scan, by a function on lists that has an equation for each command
+    -- if each clone equals its source, and no call failed, then the items are the fold of
+    -- `items_after` over the commands, and the replies are the scan with `reply_to`: two functions
+    -- on sequences, with one equation for each command
     pub plain : ClonesEqual here.clones → All IsGranted replies
         → (new.items ≡ fold (items_after here) old.items commands)
         × (map seen replies ≡ scan (items_after here) (reply_to here) old.items commands)
-    -- in any case the items, the capacity, the costs and the replies are some that the definition
-    -- of a run allows, in which calls may fail
+    -- whether or not calls failed, the items, the capacity, the cost and the replies are among
+    -- those that the definition of a run, `Runs`, allows
     pub allowed : Runs here old commands replies new
-    -- the items fit into the capacity, and a block of that capacity may be allocated
+    -- the items fit into the capacity, and a block of that capacity is small enough to be allocated
     pub within : IsWithin here.R new
-    -- without `ReserveExact` and `ShrinkToFit`, a list that was cheap, as a new one is, stays
-    -- cheap: a capacity c other than 0 has cost fewer than c copied items, and at most as many
-    -- blocks as c has binary digits
+    -- if no command is `ReserveExact` or `ShrinkToFit`, a cheap list stays cheap, and a new list is
+    -- cheap. A list of a capacity c other than 0 is cheap if growth has copied fewer than c items,
+    -- and has allocated at most as many blocks as c has binary digits
     pub stays_cheap : All KeepsCheap commands → IsCheap old → IsCheap new
-    -- without these two commands, and from any list, growth has copied at most as many items as the
-    -- capacity has grown by
+    -- if no command is `ReserveExact` or `ShrinkToFit`, growth has copied at most as many items as
+    -- the capacity has grown by, whatever the list was before
     pub copied : All KeepsCheap commands
         → new.cost.grown + old.capacity ≤ old.cost.grown + new.capacity
-    -- from a new list, by pushes and pops alone, m pushes that succeeded have cost fewer than 2m
-    -- copied items
+    -- if the list was new, all commands are pushes and pops, and m pushes succeeded (at least one),
+    -- then fewer than 2m items were copied
     pub amortised : All IsPushOrPop commands → IsNew old old.alloc
         → 0 < accepted commands replies → new.cost.grown < 2 * accepted commands replies
-    -- under `Doubling`, pushes and pops alone leave a capacity that is at most the largest of 4,
-    -- the capacity before, and twice the greatest length that the list had on the way
+    -- if the growth rule is `Doubling`, and all commands are pushes and pops, then the capacity is
+    -- at most the largest of 4, the capacity before the run, and twice the greatest length during
+    -- the run
     pub slack : here.rule ≡ doubling → All IsPushOrPop commands
         → new.capacity
         ≤ max old.capacity (max 4 (2 * peak here old new commands replies allowed))
-    -- apart from growth, no more items were moved than the commands, given their replies, account
-    -- for
+    -- not counting copies by growth, the number of items moved is at most the sum of the bounds
+    -- (`may_move`) for the commands and their replies
     pub moves : new.cost.moves
         ≤ old.cost.moves + run_may_move here old new commands replies allowed

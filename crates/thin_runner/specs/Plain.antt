@@ -1,5 +1,5 @@
--- A run in which no call fails, as a function on lists: which items each command leaves, and what
--- it replies.
+-- A run in which no call fails, as functions on sequences: the items after each command, and the
+-- reply to it.
 use Rattle.std.specs.Prelude.{◌-◌, Bool, true, false, ◌&&◌, List, [], ◌∷◌, ◌++◌, Option, None, drop, if◌then◌else◌, insert, length, nat_le, nat_lt, remove, replicate, slice_get, slice_range, slice_set, take}
 use Rattle.std.specs.List.{dedup, remove_range, replace_range, swap_remove}
 use Rattle.std.specs.Option.{option_map_or, unwrap_or}
@@ -14,18 +14,20 @@ use Rattle.thin_runner.specs.declared.command.Reply.{Reply}
 use Rattle.thin_runner.specs.declared.command.Reply.TheVariants.{Answers, Done, Item, List as Made, Other, OutOfRange}
 use Rattle.thin_runner.specs.declared.command.Step.TheVariants.{Front}
 
--- what is seen of a reply: the whole of it, or, of the vector that a walk has filled, the items
+-- the part of a reply that the main theorem determines: for the reply `Answers`, the items of its
+-- vector; for any other reply, the whole reply
 pub data Seen (T A G : Type 0) : Type 0 where
   says : Reply T A G → Seen T A G
   yields : List (Option T) → Seen T A G
 
 module _ {T A G : Type 0} where
-  -- what is seen of this reply
+  -- the part of the given reply that the main theorem determines
   abbrev pub seen : Reply T A G → Seen T A G
   seen (Answers answers) = yields answers.items
   seen reply = says reply
 
-  -- whether the index or the range of a command is one of the list
+  -- true if the index or the range of the command is in bounds for the items xs. Always true for a
+  -- command with neither an index nor a range
   abbrev pub in_range : List T → Command T A G → Bool
   in_range xs (Insert i v) = nat_le i (length xs)
   in_range xs (Remove i) = nat_lt i (length xs)
@@ -38,7 +40,8 @@ module _ {T A G : Type 0} where
   in_range xs command = true
 
 module _ {T A G J : Type 0} (here : Setting T A J) where
-  -- what a command in range replies if it does not fail, and which items it leaves of xs
+  -- the reply to a command that is in range and does not fail, and the items that the command
+  -- leaves of xs
   abbrev pub granted : List T → Command T A G → Seen T A G × List T
   granted xs (Push v) = (says Done, xs ++ v ∷ [])
   granted xs Pop = let last = length xs - 1 in (says (Item (slice_get xs last)), take last xs)
@@ -69,19 +72,19 @@ module _ {T A G J : Type 0} (here : Setting T A J) where
       )
   granted xs (Splice a b steps ys lower) =
       (yields (walked (slice_range xs a b) steps.items), replace_range xs a b ys.items)
-  -- the others filter
+  -- all other commands filter the items
   granted xs command = (says Done, left_at true (unwrap_or (answered here xs command) []))
 
-  -- what a command replies if it does not fail, and which items it leaves of xs. Out of range, it
-  -- is returned, and all items stay
+  -- the reply to a command that does not fail, and the items that the command leaves of xs. If the
+  -- command is out of range, the reply returns it, and the items do not change
   abbrev pub plain_step : List T → Command T A G → Seen T A G × List T
   plain_step xs command =
       if in_range xs command then granted xs command else (says (OutOfRange command), xs)
 
-  -- what is seen of the reply
+  -- the reply to a command that does not fail
   abbrev pub reply_to : List T → Command T A G → Seen T A G
   reply_to xs command = (plain_step xs command).0
 
-  -- the items afterwards
+  -- the items after a command that does not fail
   abbrev pub items_after : List T → Command T A G → List T
   items_after xs command = (plain_step xs command).1

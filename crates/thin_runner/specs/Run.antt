@@ -1,4 +1,5 @@
--- What a list of commands may do to a list, and what they reply: one step after another.
+-- What a sequence of commands may do to a list, which replies the commands get, and how many items
+-- they may move.
 use Rattle.std.specs.Prelude.{◌≡◌, ℕ, ◌+◌, ◌-◌, ◌*◌, ◌==◌, List, [], ◌∷◌, None, if◌then◌else◌, length, max, slice_range}
 use Rattle.std.specs.Option.{unwrap_or}
 use Rattle.thin_vec.specs.ThinVec.{Thin}
@@ -12,35 +13,37 @@ use Rattle.thin_runner.specs.declared.command.Reply.{Reply}
 use Rattle.thin_runner.specs.declared.command.Reply.TheVariants.{Answers, Done, Item, OutOfRange, Other, Refused}
 
 module _ {T A G : Type 0} where
-  -- how many of the commands are pushes that succeeded
+  -- the number of pushes that succeeded
   abbrev pub accepted : List (Command T A G) → List (Reply T A G) → ℕ
   accepted (Push v ∷ commands) (Done ∷ replies) = 1 + accepted commands replies
   accepted (command ∷ commands) (reply ∷ replies) = accepted commands replies
   accepted commands replies = 0
 
-  -- a push or a pop
+  -- the command is a push or a pop
   abbrev pub IsPushOrPop : Command T A G → Type 0
   IsPushOrPop (Push v) = Unit {0}
   IsPushOrPop Pop = Unit {0}
   IsPushOrPop command = ⊥
 
-  -- a command after which a cheap list is cheap
+  -- the command keeps a cheap list cheap: it is neither `ReserveExact` nor `ShrinkToFit`
   abbrev pub KeepsCheap : Command T A G → Type 0
   KeepsCheap (ReserveExact k) = ⊥
   KeepsCheap ShrinkToFit = ⊥
   KeepsCheap command = Unit {0}
 
 module _ {T A G J : Type 0} (here : Setting T A J) where
-  -- as many replies as commands, and between a command and its reply the list passes through `mid`
+  -- the commands, one after another, may turn the list `old` into `new` with these replies, one
+  -- reply for each command. `mid` is the list after the first command
   abbrev pub Runs : Thin T A → List (Command T A G) → List (Reply T A G) → Thin T A → Type 0
   Runs old [] [] new = new ≡ old
   Runs old (command ∷ commands) (reply ∷ replies) new =
       (mid : Thin T A) × (Steps here old command reply mid × Runs mid commands replies new)
   Runs old commands replies new = ⊥
 
-  -- the moves that a command with this reply may make in a list of the items xs, growth aside: of
-  -- one that filters, as many as items stay and change their place. What fails half way, or at a
-  -- clone, may make fewer
+  -- an upper bound on the number of items that a command with this reply moves in a list of the
+  -- items xs, not counting copies by growth. For a command that filters, it is the number of kept
+  -- items that change their place. A command that fails half way, or because a clone fails, may
+  -- move fewer items
   abbrev pub may_move : List T → Command T A G → Reply T A G → ℕ
   may_move xs command (OutOfRange back) = 0
   may_move xs (Push v) Done = 1
@@ -59,14 +62,16 @@ module _ {T A G J : Type 0} (here : Setting T A J) where
   may_move xs (Splice a b steps ys lower) reply = 2 * (length xs - b) + length ys.items
   may_move xs command reply = moved_up (flags_of (unwrap_or (answered here xs command) []))
 
-  -- the moves that the commands of a run may make, each in the list that it finds
+  -- the sum of `may_move` over the commands of a run and their replies, each for the list before
+  -- its command
   abbrev pub run_may_move : (old new : Thin T A) (commands : List (Command T A G))
       (replies : List (Reply T A G)) → Runs old commands replies new → ℕ
   run_may_move old new (command ∷ commands) (reply ∷ replies) run =
       may_move old.items command reply + run_may_move run.0 new commands replies run.1.1
   run_may_move old new commands replies run = 0
 
-  -- the greatest length that the list has in a run, from before the first command on
+  -- the greatest length of the list during a run, including the lengths before the first command
+  -- and after the last one
   abbrev pub peak : (old new : Thin T A) (commands : List (Command T A G))
       (replies : List (Reply T A G)) → Runs old commands replies new → ℕ
   peak old new (command ∷ commands) (reply ∷ replies) run =

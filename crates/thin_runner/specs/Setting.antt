@@ -1,25 +1,27 @@
--- What a run stands in: what is known of its item type, its growth rule and its judge, and the
--- allocator and the judge passed in.
+-- The setting of a run: what is known of the item type, the growth rule and the judge, and the
+-- allocator and the judge that were passed to `run`.
 use Rattle.std.specs.Prelude.{Bool}
 use Rattle.std.specs.Borrow.{RattleType}
 use Rattle.thin_vec.specs.Growth.{Rule}
 use Rattle.thin_runner.specs.Judge.{Judging}
 
--- the setting of a run at items T, an allocator A and a judge J
+-- the setting of a run with the item type T, the allocator type A and the judge type J
 pub record Setting (T A J : Type 0) : Type 1 where
-  -- y is a clone of x; the clone of x never fails; x equals y, as `==` says
+  -- `clones x y`: y may be a clone of x. `infallible x`: cloning x cannot fail. `eq x y`: what
+  -- `x == y` returns
   pub clones : T → T → Type 0
   pub infallible : T → Type 0
   pub eq : T → T → Bool
-  -- how the judge decides, how the capacity grows, and how large an item is
+  -- the functions by which the judge decides, the growth rule, and the type of the items, with its
+  -- size and alignment
   pub judging : Judging T J
   pub rule : Rule
   pub R : RattleType
-  -- on what is made, and the judge with which each command begins
+  -- the allocator for what commands make, and the judge with which each command begins
   pub alloc : A
   pub judge : J
 
--- a setting, by its parts
+-- the setting that consists of these parts
 abbrev pub setting : {T A J : Type 0} → (T → T → Type 0) → (T → Type 0) → (T → T → Bool)
     → Judging T J → Rule → RattleType → A → J → Setting T A J
 setting clones infallible eq judging rule R alloc judge =

@@ -1,4 +1,4 @@
--- What the commands do: a file for each kind of them.
+-- Definitions of what the commands do, in a file for each kind of command.
 pub mod Items
 pub mod Room
 pub mod Many

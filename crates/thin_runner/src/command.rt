@@ -1,116 +1,128 @@
-//! Commands on a list, and what they reply.
+//! The commands, each of which describes a call on a list, and the replies to them.
 ghost use Rattle.std.specs.Prelude.{◌≡◌};
 
 use crate::hinted::Hinted;
 use std::alloc::{Allocator, Global};
 use thin_vec::{Doubling, Growth, ThinVec, ThinVecError};
 
-/// From which end a walk takes the next item.
+/// A step of a `Drain` or a `Splice`: a call that yields an item from one end of the range.
 #[derive(Clone, Copy, PartialEq, Eq)]
 pub enum Step {
-    /// The first item.
+    /// Calls `next`, which yields the first item that is left.
     Front,
-    /// The last item.
+    /// Calls `next_back`, which yields the last item that is left.
     Back,
 }
 
-/// A call on a list.
+/// A command: a call on a list, as a value.
+///
+/// The comment of each command names the call and the replies to it. If the index or the range of a
+/// command is out of bounds, no call is made, and the reply is `OutOfRange`.
 #[derive(Drop)]
 pub enum Command<T, A: Allocator = Global, G: Growth = Doubling> {
-    /// `push`: `Done`, or `Returned`.
+    /// Calls `push`. The reply is `Done`, or `Returned` on failure.
     Push(T),
-    /// `pop`: `Item`.
+    /// Calls `pop`. The reply is `Item`.
     Pop,
-    /// `insert`: `Done`, or `Returned`.
+    /// Calls `insert`. The reply is `Done`, or `Returned` on failure.
     Insert(usize, T),
-    /// `remove`: `Item`.
+    /// Calls `remove`. The reply is `Item`.
     Remove(usize),
-    /// `swap_remove`: `Item`.
+    /// Calls `swap_remove`. The reply is `Item`.
     SwapRemove(usize),
-    /// A write through `IndexMut`: `Item`, the old one.
+    /// Replaces the item at the index, through `IndexMut`. The reply is `Item`, with the old item.
     Set(usize, T),
-    /// `truncate`: `Done`.
+    /// Calls `truncate`. The reply is `Done`.
     Truncate(usize),
-    /// `clear`: `Done`.
+    /// Calls `clear`. The reply is `Done`.
     Clear,
-    /// `reserve`: `Done`, or `Refused`.
+    /// Calls `reserve`. The reply is `Done`, or `Refused` on failure.
     Reserve(usize),
-    /// `reserve_exact`: `Done`, or `Refused`.
+    /// Calls `reserve_exact`. The reply is `Done`, or `Refused` on failure.
     ReserveExact(usize),
-    /// `shrink_to_fit`: `Done`, or `Refused`.
+    /// Calls `shrink_to_fit`. The reply is `Done`, or `Refused` on failure.
     ShrinkToFit,
-    /// `resize`: `Done`, or `Refused`.
+    /// Calls `resize`. The reply is `Done`, or `Refused` on failure.
     Resize(usize, T),
-    /// `extend_from_slice`: `Done`, or `Refused`.
+    /// Calls `extend_from_slice`. The reply is `Done`, or `Refused` on failure.
     ExtendFromSlice(Vec<T, A>),
-    /// `extend` by an iterator that claims so many: `Done`, or `Stopped`.
+    /// Calls `extend` with an iterator over the items of the vector, which claims the number as its
+    /// lower bound. The reply is `Done`, or `Stopped` on failure.
     Extend(Vec<T, A>, usize),
-    /// `append`: `Other`.
+    /// Calls `append`. The reply is `Other`.
     Append(ThinVec<T, A, G>),
-    /// `split_off`: `List`, or `Refused`.
+    /// Calls `split_off`. The reply is `List`, or `Refused` on failure.
     SplitOff(usize),
-    /// `clone`: `List`, or `Refused`.
+    /// Calls `clone`. The reply is `List`, or `Refused` on failure.
     Clone,
-    /// `retain`, by the judge's `look`: `Done`.
+    /// Calls `retain` with the method `look` of the judge. The reply is `Done`.
     Retain,
-    /// `retain_mut`, by its `keep`: `Done`.
+    /// Calls `retain_mut` with the method `keep` of the judge. The reply is `Done`.
     RetainMut,
-    /// `dedup`: `Done`.
+    /// Calls `dedup`. The reply is `Done`.
     Dedup,
-    /// `dedup_by`, by its `same`: `Done`.
+    /// Calls `dedup_by` with the method `same` of the judge. The reply is `Done`.
     DedupBy,
-    /// `dedup_by_key`, by its `key`: `Done`.
+    /// Calls `dedup_by_key` with the method `key` of the judge. The reply is `Done`.
     DedupByKey,
-    /// `drain` of the items from the first number up to the second, walked by these steps and
-    /// dropped: `Answers`, or `Refused`.
+    /// Calls `drain` on the items from the first index up to, but not including, the second, takes
+    /// the steps in order, and drops the `Drain`. The reply is `Answers`, or `Refused` if there is
+    /// no memory for the answers.
     Drain(usize, usize, Vec<Step, A>),
-    /// `extract_if` of the items from the first number up to the second, by the judge's `take`;
-    /// after as many calls of `next` as the third number says it is dropped: `Answers`, or
-    /// `Refused`.
+    /// Calls `extract_if` on the items from the first index up to, but not including, the second,
+    /// with the method `take` of the judge. Calls `next` as often as the third number says, and
+    /// drops the `ExtractIf`. The reply is `Answers`, or `Refused` if there is no memory for the
+    /// answers.
     ExtractIf(usize, usize, usize),
-    /// `splice` of the items from the first number up to the second, walked by these steps, and
-    /// finished by these items, of which so many are claimed: `Answers`, `Refused`, or `Stopped`.
+    /// Calls `splice` on the items from the first index up to, but not including, the second, takes
+    /// the steps in order, and calls `finish`. The new items are those of the second vector, from
+    /// an iterator that claims the last number as its lower bound. The reply is `Answers`,
+    /// `Refused` if there is no memory for the answers, or `Stopped` if `finish` fails.
     Splice(usize, usize, Vec<Step, A>, Vec<T, A>, usize),
 }
 
-/// What a command replies. It owns what the call returned.
+/// The reply to a command. It owns what the call returned.
 #[derive(Drop)]
 pub enum Reply<T, A: Allocator = Global, G: Growth = Doubling> {
-    /// The call succeeded.
+    /// The call succeeded, and it returned no value.
     Done,
-    /// The item that the call removed, if there was one.
+    /// The item that the call removed or replaced, or `None` if there was none.
     Item(Option<T>),
-    /// What each step of a walk returned.
+    /// The results of the calls of `next` and `next_back`, in order.
     Answers(Vec<Option<T>, A>),
     /// The list that the call made.
     List(ThinVec<T, A, G>),
-    /// The list that was appended, now empty, or, where that failed, as it was.
+    /// The list that was passed to `append`, and the cause if the call failed. If it succeeded,
+    /// this list is empty; if it failed, this list is unchanged.
     Other(ThinVec<T, A, G>, Option<ThinVecError>),
-    /// The value that a failed call returns, and why it failed.
+    /// The value that was passed to a call that failed, and the cause of the failure.
     Returned(T, ThinVecError),
-    /// Why the call failed.
+    /// The cause of the failure.
     Refused(ThinVecError),
-    /// What a call returns that failed half way.
+    /// An `extend`, or the `finish` of a splice, failed.
     Stopped {
-        /// What the walk yielded before.
+        /// What the steps returned before `finish` was called. For an `extend`, the vector is
+        /// empty.
         answers: Vec<Option<T>, A>,
-        /// Why it failed.
+        /// The cause of the failure.
         cause: ThinVecError,
-        /// Items that were drawn, and for which there was no room.
+        /// The items that were taken from the iterator, but for which the list had no room, except
+        /// `in_hand`.
         held: Vec<T, A>,
-        /// The item that was drawn last, for which there was no room either.
+        /// The last item that was taken from the iterator, if there was no room for it.
         in_hand: Option<T>,
-        /// The iterator, which yields the items that were not drawn.
+        /// The iterator, which yields the items that were not taken from it.
         rest: Hinted<T, A>,
     },
-    /// The command, whose index or range is past the end.
+    /// The command itself. Its index or range is out of bounds, so no call was made.
     OutOfRange(Command<T, A, G>),
 }
 
 impl<T, A: Allocator, G: Growth> Reply<T, A, G> {
     ghost use Rattle.thin_runner.specs.Replies.{refusal_of};
 
-    /// Why the call failed, if it did. A command that is out of range makes no call.
+    /// Returns the cause if the call failed. Returns `None` if the call succeeded, or if the
+    /// command was out of range, since no call was made then.
     pub fn refusal(&self) -> Option<ThinVecError>
         ensures value { result ≡ refusal_of self.now }
     {

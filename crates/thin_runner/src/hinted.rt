@@ -1,4 +1,4 @@
-//! An iterator that claims more items, or fewer, than it has.
+//! The iterator `Hinted`, which may claim more or fewer items than it has.
 ghost use Rattle.std.specs.Prelude.{◌≡◌, IfSome, None};
 ghost use Rattle.std.specs.Iterator.{UpTo};
 ghost use Rattle.std.specs.Iterator.Runs.{YieldsInOrder};
@@ -7,11 +7,11 @@ ghost use Rattle.std.specs.Iterator.SizeHint.{IsWithinCount};
 use std::alloc::{Allocator, Global};
 use std::vec::IntoIter;
 
-/// Yields its items in order and then `None` for good, and claims the same lower bound at each
-/// call.
+/// Yields its items in order, then `None` forever, and claims the same lower bound at every call.
 ///
-/// The claim may be past the truth. To keep the contract of `size_hint`, its ghost `remaining`
-/// allows for the items left and as many more as it claims.
+/// The claim may exceed the number of items left. To satisfy the contract of `size_hint`, the ghost
+/// `remaining` states a limit that the claim cannot exceed: the number of items left plus the
+/// claim.
 #[derive(Drop)]
 pub struct Hinted<T, A: Allocator = Global> {
     items: IntoIter<T, A>,
@@ -21,7 +21,8 @@ pub struct Hinted<T, A: Allocator = Global> {
 impl<T, A: Allocator> Hinted<T, A> {
     ghost use Rattle.thin_runner.specs.Hinted.{HintedSteps, hinted_claim, hinted_items};
 
-    /// Yields the items of `items`, which it owns, and claims at least `lower` at each call.
+    /// Makes an iterator that yields the items of `items` in order, and claims that at least
+    /// `lower` items are left, at each call. The iterator owns the items.
     pub fn new(items: Vec<T, A>, lower: usize) -> Hinted<T, A>
         ensures items { hinted_items result ≡ items.items }
         ensures claim { hinted_claim result ≡ lower }

@@ -1,29 +1,33 @@
-//! What decides about items, for the commands that ask.
+//! The trait `Judge`, whose methods commands use in place of closures.
 ghost use Rattle.std.specs.Prelude.{◌≡◌};
 
-/// Decides about items. Each command that asks begins with a copy of the judge as it was passed in.
+/// Decides about items, in place of the closures that methods such as `retain` take.
+///
+/// Each command that asks a judge begins with a copy of the judge that was passed to `run` or
+/// `step`. So no state is carried from one command to the next.
 pub trait Judge<T>: Copy {
     ghost use Rattle.thin_runner.specs.Judge.{Judging};
 
     ghost judging: { Judging T Self };
 
-    /// Whether `retain` keeps the item.
+    /// Returns whether `retain` keeps `item`.
     fn look(&mut self, item: &T) -> bool
         ensures value { (result, self.new) ≡ judging.look self.old item.now };
 
-    /// Whether `retain_mut` keeps the item, which it may write.
+    /// Returns whether `retain_mut` keeps `item`. May write to `item`.
     fn keep(&mut self, item: &mut T) -> bool
         ensures value { (result, item.new, self.new) ≡ judging.keep self.old item.old };
 
-    /// Whether `dedup_by` removes `later`, which follows `kept`. It may write both.
+    /// Returns whether `dedup_by` removes `later`. The item `kept` is the last one kept before
+    /// `later`. May write to both items.
     fn same(&mut self, later: &mut T, kept: &mut T) -> bool
         ensures value { (result, later.new, kept.new, self.new) ≡ judging.same self.old later.old kept.old };
 
-    /// The key by which `dedup_by_key` compares. It may write the item.
+    /// Returns the key by which `dedup_by_key` compares `item`. May write to `item`.
     fn key(&mut self, item: &mut T) -> u64
         ensures value { (result, item.new, self.new) ≡ judging.key self.old item.old };
 
-    /// Whether `extract_if` yields the item, which it may write.
+    /// Returns whether `extract_if` removes `item` and yields it. May write to `item`.
     fn take(&mut self, item: &mut T) -> bool
         ensures value { (result, item.new, self.new) ≡ judging.take self.old item.old };
 }

@@ -1,5 +1,5 @@
-//! Commands on a `ThinVec`, as values: `run` does a list of them, and its contract is the main
-//! theorem.
+//! Commands on a `ThinVec`, as values. The function `run` carries out a sequence of commands, and
+//! its contract is the main theorem.
 #![tactic(auto)]
 
 pub mod command;

@@ -1,4 +1,4 @@
-//! `step` and `run`, which do commands on a list.
+//! The functions `step` and `run`, which carry out commands on a list.
 ghost use Rattle.std.specs.Prelude.{◌≡◌, ◌<◌, ◌+◌, ◌≤◌, ◌↔◌, IsTrue, IfErr, IsOk, OnErr, OnOk, vec_capacity, vec_len};
 ghost use Rattle.thin_runner.specs.Headline.{Headline};
 ghost use Rattle.thin_runner.specs.Setting.{setting};
@@ -11,7 +11,8 @@ use std::alloc::Allocator;
 use std::marker::PhantomData;
 use thin_vec::{Growth, ThinVec, ThinVecError};
 
-// Whether the index or the range of a command is one of the list.
+// Returns whether the index or the range of `command` is in bounds. Returns true for a command with
+// neither an index nor a range.
 fn is_in_range<T, A: Allocator, G: Growth>(
     list: &ThinVec<T, A, G>,
     command: &Command<T, A, G>,
@@ -31,10 +32,11 @@ fn is_in_range<T, A: Allocator, G: Growth>(
     }
 }
 
-/// Does one command. The reply owns what the call returned.
+/// Carries out one command, and returns the reply, which owns what the call returned.
 ///
-/// What the command makes is made on `alloc`. A command that asks about items begins with a copy of
-/// `judge`.
+/// If the index or the range of the command is out of bounds, the list does not change, and the
+/// reply returns the command. What the command makes takes its memory from `alloc`. A command that
+/// asks the judge begins with a copy of `judge`.
 pub fn step<T: Clone + Eq, A: Allocator + Copy, G: Growth, J: Judge<T>>(
     alloc: A,
     list: &mut ThinVec<T, A, G>,
@@ -84,10 +86,16 @@ pub fn step<T: Clone + Eq, A: Allocator + Copy, G: Growth, J: Judge<T>>(
     }
 }
 
-/// Does the commands in order, and appends a reply for each.
+/// Carries out the commands in order, and appends one reply for each to `replies`.
 ///
-/// Room for all replies is made first. Only that may fail: then no command is done, and the
-/// commands are dropped.
+/// It first reserves room for all the replies. What the commands make takes its memory from
+/// `alloc`. Each command that asks the judge begins with a copy of `judge`.
+///
+/// # Errors
+///
+/// Fails with `OutOfMemory` if it cannot reserve room for the replies. Then no command is carried
+/// out, and all commands are dropped. A command that fails does not make `run` fail: the cause is
+/// in the reply to that command.
 pub fn run<T: Clone + Eq, A: Allocator + Copy, G: Growth, J: Judge<T>>(
     alloc: A,
     list: &mut ThinVec<T, A, G>,

@@ -1,4 +1,4 @@
-//! What each command does: a function each.
+//! The methods that carry out the commands: one method for each command.
 mod filters;
 mod items;
 mod many;
@@ -8,8 +8,9 @@ mod splices;
 
 use std::marker::PhantomData;
 
-/// What a command may need beside its list, the values of the specs' `Setting`: the allocator for
-/// what it makes, and the judge as it was passed in.
+/// What a command may need in addition to its list: the allocator for what it makes, and the judge
+/// as it was passed to `run` or `step`. These are the fields `alloc` and `judge` of the specs'
+/// `Setting`.
 #[derive(Drop)]
 pub(crate) struct Setting<T, A, G, J> {
     pub(crate) alloc: A,

@@ -1,4 +1,5 @@
--- `refuses` at a call: what it is handed, and what a caller has of it. Assumes `Logic`.
+-- A call of `refuses`: what the caller passes, and what the caller has after the call. Assumes
+-- `Logic`.
 use Rattle.std.proofs.Common.{◌≡◌, ℕ, Bool, List, [], ◌∷◌, refl, ap}
 use seplogic.Ra.Ura.{Ura}
 use mir.Val.{Val, vbool, vptr}
@@ -18,17 +19,18 @@ use denote.Triple.Spec.{triple_of}
 use Rattle.thin_testing.specs.contracts.refusing.Counts as CT
 use Rattle.thin_testing.specs.contracts.refusing.refuses as RF
 
--- the type of the counts
+-- the type `Counts`
 abbrev pub Row : RattleType
 Row = CT.the_row
 
 module _ {M : Type 1} {𝓤 : Ura M} (𝓛 : Logic 𝓤) (at_mem : Memory → SProp 𝓤)
     (run : Routine → Fun 𝓤) where
-  -- the contract of the question
+  -- the contract of `refuses`
   abbrev pub Asks : Contract 𝓤
   Asks = triple_of 𝓛 RF.signature (RF.spec 𝓛 at_mem run)
 
-  -- the call for the counts k, which lie at c
+  -- the parameters of the contract for a call with a reference to the counts k, which are at the
+  -- address c; κ is the lifetime of the reference, and q the share of κ's token that is passed
   abbrev pub at_asks : Lft → Share → ℕ × ℕ → Row.Denot → Asks.Ghost
   at_asks κ q c k = (
     (
@@ -45,7 +47,7 @@ module _ {M : Type 1} {𝓤 : Ura M} (𝓛 : Logic 𝓤) (at_mem : Memory → SP
     (κ : Lft) (q : Share) (c : ℕ × ℕ) (k : Row.Denot) where
   open 𝓛 use {H, A}
 
-  -- it may be asked
+  -- the shared counts and the token of κ imply the precondition of `refuses`
   pub Asks-goes : ent 𝓤 (sep 𝓤 (sem 𝓛 (hidden_shr Row κ k c.0 c.1)) (A.lft κ q))
       ((Asks 𝓛 at_mem run).pre (at_asks 𝓛 at_mem run κ q c k))
   Asks-goes =
@@ -54,7 +56,7 @@ module _ {M : Type 1} {𝓤 : Ura M} (𝓛 : Logic 𝓤) (at_mem : Memory → SP
       nothing ! $ move ! (1 ∷ []) $ fjoin ! $ nothing ! $ move ! (2 ∷ []) $ join ! $ join ! $
       nothing ! $ move ! (1 ∷ []) $ done !
 
-  -- some answer comes back, with the token
+  -- the call of `refuses` returns some Boolean, and gives the token of κ back
   pub Asks-gives : (v : Val) → ent 𝓤 ((Asks 𝓛 at_mem run).post (at_asks 𝓛 at_mem run κ q c k) v)
       (H.⇛ (ex 𝓤 (λ (y : Bool). guard 𝓤 (v ≡ vbool y) (A.lft κ q))))
   Asks-gives v =

@@ -1,5 +1,5 @@
--- `granted` and `returned` at a call: what each is handed, and what a caller has of it. Assumes
--- `Logic`.
+-- Calls of `granted` and `returned`: what the caller passes, and what the caller has after the
+-- call. Assumes `Logic`.
 use Rattle.std.proofs.Common.{◌≡◌, ℕ, List, [], ◌∷◌, refl, ap}
 use seplogic.Ra.Ura.{Ura}
 use mir.Val.{Val, vunit, vptr}
@@ -21,21 +21,23 @@ use Rattle.thin_testing.specs.contracts.refusing.Counts as CT
 use Rattle.thin_testing.specs.contracts.refusing.granted as GR
 use Rattle.thin_testing.specs.contracts.refusing.returned as RE
 
--- the type of the counts
+-- the type `Counts`
 abbrev pub Row : RattleType
 Row = CT.the_row
 
 module _ {M : Type 1} {𝓤 : Ura M} (𝓛 : Logic 𝓤) (at_mem : Memory → SProp 𝓤)
     (run : Routine → Fun 𝓤) where
-  -- the contract of counting a grant
+  -- the contract of `granted`
   abbrev pub Granted : Contract 𝓤
   Granted = triple_of 𝓛 GR.signature (GR.spec 𝓛 at_mem run)
 
-  -- the contract of counting a return
+  -- the contract of `returned`
   abbrev pub Returned : Contract 𝓤
   Returned = triple_of 𝓛 RE.signature (RE.spec 𝓛 at_mem run)
 
-  -- the call for the counts k, which lie at c, and the answer y, whose value is v
+  -- the parameters of the contract for a call of `granted` with a reference to the counts k, which
+  -- are at the address c, and with the answer y, which is the machine value v; κ is the lifetime of
+  -- the reference, and q the share of κ's token that is passed
   abbrev pub at_granted : Lft → Share → ℕ × ℕ → Row.Denot → Answer.Denot → Val → Granted.Ghost
   at_granted κ q c k y v = (
     (
@@ -48,7 +50,9 @@ module _ {M : Type 1} {𝓤 : Ura M} (𝓛 : Logic 𝓤) (at_mem : Memory → SP
     tt,
   )
 
-  -- the call for the counts k, which lie at c
+  -- the parameters of the contract for a call of `returned` with a reference to the counts k, which
+  -- are at the address c; κ is the lifetime of the reference, and q the share of κ's token that is
+  -- passed
   abbrev pub at_returned : Lft → Share → ℕ × ℕ → Row.Denot → Returned.Ghost
   at_returned κ q c k =
       (((κ, tt), (q, tt), tt, (record { ref_ptr = c; now = k }, tt), (vptr c.0 c.1 ∷ [], tt)), tt)
@@ -57,7 +61,8 @@ module _ {M : Type 1} {𝓤 : Ura M} (𝓛 : Logic 𝓤) (at_mem : Memory → SP
     (κ : Lft) (q : Share) (c : ℕ × ℕ) (k : Row.Denot) where
   open 𝓛 use {H, A}
 
-  -- it may be called
+  -- if v is a machine value of the answer y, the shared counts and the token of κ imply the
+  -- precondition of `granted`
   pub Granted-goes : (y : Answer.Denot) (v : Val)
       → ent 𝓤 (emp 𝓤) (sem 𝓛 (Answer.own_val y (v ∷ [])))
       → ent 𝓤 (sep 𝓤 (sem 𝓛 (hidden_shr Row κ k c.0 c.1)) (A.lft κ q))
@@ -69,7 +74,7 @@ module _ {M : Type 1} {𝓤 : Ura M} (𝓛 : Logic 𝓤) (at_mem : Memory → SP
       move ! (1 ∷ []) $ fjoin ! $
       nothing ! $ move ! (2 ∷ []) $ join ! $ join ! $ nothing ! $ move ! (1 ∷ []) $ done !
 
-  -- what it gives
+  -- the call of `granted` returns the unit value, and gives the token of κ back
   pub Granted-gives : (y : Answer.Denot) (w v : Val)
       → ent 𝓤 ((Granted 𝓛 at_mem run).post (at_granted 𝓛 at_mem run κ q c k y w) v)
       (H.⇛ (guard 𝓤 (v ≡ vunit) (A.lft κ q)))
@@ -83,7 +88,7 @@ module _ {M : Type 1} {𝓤 : Ura M} (𝓛 : Logic 𝓤) (at_mem : Memory → SP
       split ! $ split ! $ move ! (1 ∷ []) $
       feq_l ! (λ e. split ! $ at_once ! $ check ! (ap only e) $ keep ! (0 ∷ []) $ done !))
 
-  -- it may be called
+  -- the shared counts and the token of κ imply the precondition of `returned`
   pub Returned-goes : ent 𝓤 (sep 𝓤 (sem 𝓛 (hidden_shr Row κ k c.0 c.1)) (A.lft κ q))
       ((Returned 𝓛 at_mem run).pre (at_returned 𝓛 at_mem run κ q c k))
   Returned-goes =
@@ -92,7 +97,7 @@ module _ {M : Type 1} {𝓤 : Ura M} (𝓛 : Logic 𝓤) (at_mem : Memory → SP
       nothing ! $ move ! (1 ∷ []) $ fjoin ! $ nothing ! $ move ! (2 ∷ []) $ join ! $ join ! $
       nothing ! $ move ! (1 ∷ []) $ done !
 
-  -- what it gives
+  -- the call of `returned` returns the unit value, and gives the token of κ back
   pub Returned-gives : (v : Val)
       → ent 𝓤 ((Returned 𝓛 at_mem run).post (at_returned 𝓛 at_mem run κ q c k) v)
       (H.⇛ (guard 𝓤 (v ≡ vunit) (A.lft κ q)))

@@ -1,3 +1,4 @@
--- What the walks say of the calls that they make: `refuses`, `granted` and `returned`.
+-- Lemmas for the hand-written proofs of `Refusing`, about its calls of `refuses`, `granted` and
+-- `returned`.
 mod Asks
 mod Counting

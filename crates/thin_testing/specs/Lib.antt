@@ -1,2 +1,3 @@
--- The growth rules that the contracts cite, and that they keep the law.
+-- The growth rules of the tests, as functions on numbers, and the proofs that they satisfy the law
+-- of growth rules.
 pub mod Multiples

@@ -1,5 +1,6 @@
-//! What the tests of several crates share: an allocator that refuses the request that a test names,
-//! two more growth rules, and each rule once more as numbers to compare with.
+//! Tools that the tests of several crates share: an allocator that refuses a request that the test
+//! chooses, two more growth rules, and all growth rules once more as plain functions, with which
+//! tests compare capacities.
 #![tactic(auto)]
 
 mod multiples;

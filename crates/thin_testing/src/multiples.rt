@@ -1,5 +1,5 @@
-//! Two more growth rules, for tests: under any rule a list's calls, and a run of commands, do what
-//! they promise.
+//! Two more growth rules. Tests use them to see that the methods of a list, and runs of commands,
+//! keep their contracts under other growth rules too.
 ghost use Rattle.std.specs.Prelude.{◌≡◌};
 ghost use Rattle.std.specs.Mem.{type_size};
 ghost use Rattle.std.specs.Align.{type_align};
@@ -7,7 +7,7 @@ ghost use Rattle.thin_testing.specs.Multiples.{multiple};
 
 use thin_vec::{Growth, fits};
 
-/// Four times the capacity, or the want where that is more.
+/// A growth rule: four times the capacity, or the number of items needed if that is greater.
 pub struct Fourfold {}
 
 impl Growth for Fourfold {
@@ -22,7 +22,7 @@ impl Growth for Fourfold {
     ghost law = { fourfold_law };
 }
 
-/// Three times the capacity, or the want where that is more.
+/// A growth rule: three times the capacity, or the number of items needed if that is greater.
 pub struct Threefold {}
 
 impl Growth for Threefold {
@@ -37,7 +37,8 @@ impl Growth for Threefold {
     ghost law = { threefold_law };
 }
 
-// So many times the capacity, or the want where that is more, if it fits.
+// Returns `times` times the capacity `cap`, or `want` if that is greater. Returns `None` if the
+// result is too large for a block.
 fn next_multiple<T>(times: usize, cap: usize, want: usize) -> Option<usize>
     ensures value { result ≡ multiple times (type_size T.row) (type_align T.row) cap want }
 {

@@ -1,20 +1,22 @@
-//! An allocator for tests, which refuses the request that the test names.
+//! An allocator for tests, which refuses one request that the test chooses.
 //!
-//! Take it by reference, as `&Refusing<Global>`: a `&` to an allocator is one too, and `Copy`. A
-//! request is a call of `allocate`, `grow` or `shrink`, so each growth of a list is one request.
-//! `grow` and `shrink` are those of `inner`, which may leave a block where it lies.
+//! Pass it by reference, as `&Refusing<Global>`: a reference to an allocator is itself an
+//! allocator, and it is `Copy`. A request is a call of `allocate`, `grow` or `shrink`, so each
+//! growth of a list is one request. `grow` and `shrink` call those of `inner`, which may resize a
+//! block in place.
 //!
-//! `blocks` counts the blocks that are out, so that a test sees a leak: no contract says that a
-//! list gives its block back. A block that grows or shrinks still counts once.
+//! `blocks` counts the blocks that are allocated and not yet freed. So a test can detect a leak,
+//! although no contract says that a list frees its block. A block that is grown or shrunk still
+//! counts once.
 //!
-//! A contract can't say what a cell holds, so none says which request is refused, or what
-//! `requests` and `blocks` return: the tests show it. What is proved is that the blocks are those
-//! of `inner`, and go back to it.
+//! Contracts cannot say what a `Cell` holds. So no contract says which request is refused, or what
+//! `requests` and `blocks` return: the tests show these. It is proved that the blocks come from
+//! `inner` and are given back to `inner`.
 use std::alloc::{AllocError, Allocator};
 use std::cell::Cell;
 
-// How many requests were made, the number of the one that is refused, counting from 1 (at 0 none
-// is), and how many blocks are out.
+// The number of requests made; the number of the request that is refused, counting from 1 (if this
+// is 0, none is refused); and the number of blocks that are allocated and not yet freed.
 #[derive(Drop)]
 struct Counts {
     requests: Cell<u64>,
@@ -22,33 +24,34 @@ struct Counts {
     blocks: Cell<u64>,
 }
 
-// Counts a request, and says whether it is refused.
+// Counts a request, and returns whether it is refused.
 fn refuses(counts: &Counts) -> bool {
     let request = counts.requests.get().saturating_add(1);
     counts.requests.set(request);
     request == counts.refused.get()
 }
 
-// Counts the block of an answer that has one.
+// Counts one more block, if `answer` is an `Ok`.
 fn granted(counts: &Counts, answer: Result<*mut u8, AllocError>) {
     if answer.is_ok() {
         counts.blocks.set(counts.blocks.get().saturating_add(1));
     }
 }
 
-// Takes a block that came back off the count.
+// Counts one block less, since a block is being freed.
 fn returned(counts: &Counts) {
     counts.blocks.set(counts.blocks.get().saturating_sub(1));
 }
 
-/// An allocator that passes each request on to `inner`, but for one, which it refuses.
+/// An allocator that passes each request on to `inner`, except one, which it refuses.
 pub struct Refusing<B: Allocator> {
     inner: B,
     counts: Counts,
 }
 
 impl<B: Allocator> Refusing<B> {
-    /// Refuses the request of that number, counting from 1, and none at 0.
+    /// Makes an allocator that refuses the request with the number `refused`, counting from 1. If
+    /// `refused` is 0, no request is refused. The new allocator owns `inner`.
     pub fn new(inner: B, refused: u64) -> Refusing<B> {
         Refusing {
             inner,
@@ -60,19 +63,21 @@ impl<B: Allocator> Refusing<B> {
         }
     }
 
-    /// Counts requests anew from here, and refuses the request of that number.
+    /// Restarts the count of requests at 0, and from then on refuses the request with the number
+    /// `refused`, or no request if `refused` is 0.
     pub fn refuse(&self, refused: u64) {
         self.counts.requests.set(0);
         self.counts.refused.set(refused);
     }
 
-    /// How many requests were made since this was made, or since the last `refuse`. A refused one
-    /// counts too.
+    /// Returns the number of requests since the allocator was made, or since the last call of
+    /// `refuse`. A refused request counts too.
     pub fn requests(&self) -> u64 {
         self.counts.requests.get()
     }
 
-    /// How many blocks are allocated and not freed yet. `refuse` leaves it.
+    /// Returns the number of blocks that are allocated and not yet freed. `refuse` does not change
+    /// it.
     pub fn blocks(&self) -> u64 {
         self.counts.blocks.get()
     }

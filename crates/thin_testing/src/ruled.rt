@@ -1,11 +1,12 @@
-//! The growth rules, said once more for what tests compare with: numbers only, and no limit.
+//! The growth rules once more, as functions on numbers, with which tests compare capacities. They
+//! have no upper limit.
 use crate::multiples::{Fourfold, Threefold};
 use thin_vec::{Doubling, Growth, PowerBytes};
 
-/// A growth rule that a reference can follow.
+/// A growth rule whose capacities tests can compute.
 pub trait Ruled: Growth {
-    /// The capacity after `capacity` that has room for `want` items of `size` bytes, which are
-    /// more.
+    /// Returns the capacity to which a list of capacity `capacity` grows if it needs room for
+    /// `want` items of `size` bytes each. `want` is greater than `capacity`.
     fn named(size: usize, capacity: usize, want: usize) -> usize;
 }
 
@@ -20,7 +21,9 @@ impl Ruled for Doubling {
 }
 
 impl Ruled for PowerBytes {
-    // A block's first 16 bytes are its capacity and length.
+    // Returns the capacity that fills a block whose number of bytes is a power of two. The first 16
+    // bytes of the block hold the capacity and the length. Items that take no bytes follow
+    // `Doubling`.
     fn named(size: usize, capacity: usize, want: usize) -> usize {
         if size == 0 {
             return Doubling::named(size, capacity, want);

@@ -1,5 +1,5 @@
--- The plain edits of a list, of which one may want room for an item. (std: `Vec::push`,
--- `Vec::insert`, `Vec::remove`)
+-- The effect of a call that changes some items and may need room for more of them, and the result
+-- if there is no room. (std: `Vec::push`, `Vec::insert`, `Vec::remove`)
 use Rattle.std.specs.Prelude.{◌≡◌, ℕ, ◌↔◌, List, None, Option, Some}
 use Rattle.thin_vec.specs.Cost.{moving}
 use Rattle.thin_vec.specs.ThinVec.{HasRoomFor, Thin, capacity_for, cost_at}
@@ -8,22 +8,22 @@ use Rattle.thin_vec.specs.declared.ThinVecError.TheVariants.{CapacityOverflow}
 use Rattle.thin_runner.specs.Setting.{Setting}
 
 module _ {T A : Type 0} where
-  -- old with the items xs, after m moves
+  -- the list `old` with the items xs in place of its own, and a cost of m more moves
   abbrev pub edited : Thin T A → List T → ℕ → Thin T A
   edited old xs m = record old { items = xs; cost = moving m old.cost }
 
-  -- old once its capacity is c, with what that has cost
+  -- the list `old` at the capacity c, with the cost of this change of capacity
   abbrev pub at_capacity : Thin T A → ℕ → Thin T A
   at_capacity old c = record old { capacity = c; cost = cost_at old c }
 
-  -- there is no room for k items more: an overflow exactly where no capacity was named, and nothing
-  -- changes
+  -- a call failed for lack of room for k more items: the cause is an overflow if and only if
+  -- `named`, the capacity for these items, is `None`, and the list does not change
   abbrev pub Refuses : Option ℕ → Thin T A → ℕ → ThinVecError → Thin T A → Type 0
   Refuses named old k cause new =
       ¬ (HasRoomFor old k) × ((named ≡ None) ↔ (cause ≡ CapacityOverflow)) × (new ≡ old)
 
 module _ {T A J : Type 0} (here : Setting T A J) where
-  -- the capacity becomes the one that is ruled for k items more, and then xs are the items, by m
+  -- the capacity becomes the ruled capacity for k more items, and then the items become xs, with m
   -- moves
   abbrev pub Grows : Thin T A → ℕ → List T → ℕ → Thin T A → Type 0
   Grows old k xs m new = (capacity_for here.rule here.R old k ≡ Some new.capacity)

@@ -1,4 +1,5 @@
--- Clones of many items at once. (std: `Vec::resize`, `Vec::extend_from_slice`)
+-- The result of a failed call that clones many items. (std: `Vec::resize`,
+-- `Vec::extend_from_slice`)
 use Rattle.std.specs.Prelude.{◌≡◌, ◌⊎◌, ℕ, ◌<◌, ◌↔◌, List, All, HoldsAt, None, length}
 use Rattle.thin_vec.specs.ThinVec.{HasRoomFor, Thin, capacity_for}
 use Rattle.thin_vec.specs.declared.ThinVecError.{ThinVecError}
@@ -7,7 +8,9 @@ use Rattle.thin_runner.specs.Setting.{Setting}
 use Rattle.thin_runner.specs.commands.Items.{Grows}
 
 module _ {T A J : Type 0} (here : Setting T A J) where
-  -- making room for k items more fails, or the clone of one of the sources, and the items stay
+  -- a call that needs room for k more items and clones `sources` failed, and the items do not
+  -- change. Either nothing else changed, or there was room for k more items (perhaps after growth)
+  -- and the clone of the source at index `at` failed, after one move for each source before it
   abbrev pub RefusesClone : Thin T A → ℕ → List T → ThinVecError → Thin T A → Type 0
   RefusesClone old k sources cause new =
       ((capacity_for here.rule here.R old k ≡ None) ↔ (cause ≡ CapacityOverflow))

@@ -1,10 +1,12 @@
--- Ranges of items that go out of a list, step by step. (std: `Vec::drain`, `DoubleEndedIterator`)
+-- What the calls of `next` and `next_back` on a range of items return. (std: `Vec::drain`,
+-- `DoubleEndedIterator`)
 use Rattle.std.specs.Prelude.{◌-◌, List, [], ◌∷◌, Option, drop, length, slice_get, take}
 use Rattle.thin_runner.specs.declared.command.Step.{Step}
 use Rattle.thin_runner.specs.declared.command.Step.TheVariants.{Front, Back}
 
 module _ {T : Type 0} where
-  -- what a walk over xs returns: each step takes the item at its end off, if there is one
+  -- what the steps return, one after another, if xs are the items of the range: each step removes
+  -- and returns the item at its end, or returns `None` if no item is left
   abbrev pub walked : List T → List Step → List (Option T)
   walked xs [] = []
   walked xs (Front ∷ steps) = slice_get xs 0 ∷ walked (drop 1 xs) steps

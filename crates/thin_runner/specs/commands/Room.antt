@@ -1,10 +1,10 @@
--- Lists that have no room to spare. (std: `Vec::split_off`, `Clone`)
+-- New lists without spare capacity. (std: `Vec::split_off`, `Clone`)
 use Rattle.std.specs.Prelude.{List, length}
 use Rattle.thin_vec.specs.Cost.{moving}
 use Rattle.thin_vec.specs.ThinVec.{Thin, cost_new}
 
 module _ {T A : Type 0} where
-  -- a new list of the items xs, with no room to spare
+  -- a new list of the items xs with the allocator a, whose capacity is the number of its items
   abbrev pub made : A → List T → Thin T A
   made a xs = record {
     items = xs;

@@ -1,5 +1,5 @@
--- A range that goes out while the items of an iterator come in for it. (std: `Vec::splice`,
--- `Vec::extend`)
+-- A splice: the items of a range are removed, and the items of an iterator take their places. (std:
+-- `Vec::splice`, `Vec::extend`)
 use Rattle.std.specs.Prelude.{◌≡◌, ◌⊎◌, ℕ, ◌+◌, ◌-◌, ◌*◌, ◌<◌, ◌≤◌, List, [], ◌++◌, IsSome, None, Option, drop, length, take}
 use Rattle.std.specs.Borrow.{RattleType}
 use Rattle.std.specs.Iterator.{at_most}
@@ -15,19 +15,20 @@ use Rattle.thin_vec.specs.declared.ThinVecError.{ThinVecError}
 use Rattle.thin_runner.specs.declared.hinted.Hinted.{Hinted}
 
 module _ {T A : Type 0} (old : Thin T A) (a b : ℕ) where
-  -- old without the items from a up to b, which have not moved
+  -- the list `old` without the items from index a up to b, with no move counted
   abbrev pub cut : Thin T A
   cut = record old { items = remove_range old.items a b }
 
-  -- no memory is wanted for so many: they are at most those of the range, or, with no item after
-  -- it, there is room for them
+  -- `most` items need no new memory: they are at most as many as the range has, or no item follows
+  -- the range, and there is room for them once the range is removed
   abbrev pub HasPlacesFor : ℕ → Type 0
   HasPlacesFor most = (most ≤ b - a) ⊎ ((b ≡ length old.items) × HasRoomFor cut most)
 
 module _ {T A : Type 0} (rule : Rule) (R : RattleType) (old : Thin T A) (a b : ℕ) where
-  -- the items `placed`, of `most` that may come, went in for those from a up to b: each moved once,
-  -- and each after the range at most twice. The capacity stays, or is one that is ruled for what
-  -- went in, or for as many as may come
+  -- the items `placed` took the places of the items from index a up to b; the iterator might have
+  -- yielded up to `most`. Each placed item was moved once, and each item after the range at most
+  -- twice. The capacity did not change, or it is one that the rule names for at most the final
+  -- number of items, or for a hint of at most `most`
   pub record Replaces (placed : List T) (most : ℕ) (new : Thin T A) : Type 0 where
     pub items : new.items ≡ (take a old.items ++ placed) ++ drop b old.items
     pub capacity : IsLoose rule R old.capacity new.capacity
@@ -38,9 +39,11 @@ module _ {T A : Type 0} (rule : Rule) (R : RattleType) (old : Thin T A) (a b : �
     pub cheap : IsCheap old → IsCheap new
     pub alloc : new.alloc ≡ old.alloc
 
-  -- some of the items xs went in, and none is lost. Where some are held and none is in hand, the
-  -- iterator has ended. With no item after the range none is held, and one is in hand only where
-  -- the list is full, or else nothing went in
+  -- a splice or an `extend` failed, after it had placed some of the items xs, or none. No item is
+  -- lost: the others are in `held`, in `in_hand` and in `rest`. If items are held and none is in
+  -- hand, the iterator has ended. If items follow the range, all its places are filled. If no item
+  -- follows the range, no item is held; then, if an item is in hand, the list is full, and if none
+  -- is in hand, nothing was placed
   pub record StopsBetween (xs held : List T) (lower : ℕ) (cause : ThinVecError)
       (in_hand : Option T) (rest : Hinted T A) (new : Thin T A) : Type 0 where
     pub placed : List T

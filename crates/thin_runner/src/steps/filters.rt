@@ -1,5 +1,6 @@
-//! Items that go by what the judge says of them, each command on a copy of the judge that was
-//! passed in.
+//! The commands that test the items and remove some of them: `Retain`, `RetainMut`, `Dedup`,
+//! `DedupBy` and `DedupByKey`. Each works with a copy of the judge that was passed to `run` or
+//! `step`, except `Dedup`, which compares items by `==`.
 ghost use Rattle.std.specs.Prelude.{◌≡◌};
 ghost use Rattle.thin_runner.specs.Setting.{setting};
 ghost use Rattle.thin_runner.specs.Steps.{Steps};

@@ -1,4 +1,4 @@
-//! The commands by which an item goes in or out, and the write of one.
+//! The commands that add, remove or replace single items, and `Truncate` and `Clear`.
 ghost use Rattle.std.specs.Prelude.{◌<◌, ◌≤◌, length};
 ghost use Rattle.thin_runner.specs.Setting.{setting};
 ghost use Rattle.thin_runner.specs.Steps.{Steps};

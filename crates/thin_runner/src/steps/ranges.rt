@@ -1,4 +1,4 @@
-//! Edits of a range, walked by the steps of a command.
+//! The commands that remove items of a range: `Drain` and `ExtractIf`.
 ghost use Rattle.std.specs.Prelude.{◌≡◌, ◌+◌, ◌≤◌, List, ◌∷◌, ◌++◌, length, vec_capacity, vec_len};
 ghost use Rattle.thin_runner.specs.Setting.{setting};
 ghost use Rattle.thin_runner.specs.Steps.{Steps};
@@ -13,7 +13,8 @@ use std::alloc::Allocator;
 use thin_vec::{Drain, Growth, ThinVec, ThinVecError};
 
 impl<T: Clone + Eq, A: Allocator + Copy, G: Growth, J: Judge<T>> Setting<T, A, G, J> {
-    // Room for what the steps return is made first, and none where there is no step.
+    // Drains the range. It first reserves room for what the steps return; without steps, this
+    // allocates nothing.
     pub(crate) fn drain(
         self,
         list: &mut ThinVec<T, A, G>,
@@ -38,7 +39,8 @@ impl<T: Clone + Eq, A: Allocator + Copy, G: Growth, J: Judge<T>> Setting<T, A, G
         Reply::Answers(answers)
     }
 
-    // Room for what calls of `next` return is made first, and none where no call is wanted.
+    // Extracts items of the range. It first reserves room for what the calls of `next` return; if
+    // `count` is 0, this allocates nothing.
     pub(crate) fn extract_if(
         self,
         list: &mut ThinVec<T, A, G>,
@@ -77,7 +79,7 @@ impl<T: Clone + Eq, A: Allocator + Copy, G: Growth, J: Judge<T>> Setting<T, A, G
     }
 }
 
-// Appends what the steps of a walk over a `Drain` return.
+// Takes the steps on `drain`, and appends what they return to `answers`.
 fn walk<T: Drop, A: Allocator, G: Growth>(
     drain: &mut Drain<'_, T, A, G>,
     steps: Vec<Step, A>,
@@ -96,7 +98,7 @@ fn walk<T: Drop, A: Allocator, G: Growth>(
     }
 }
 
-// One step of a walk.
+// Takes one step on `drain`, and returns what it yields.
 fn take<T, A: Allocator, G: Growth>(drain: &mut Drain<'_, T, A, G>, step: Step) -> Option<T>
     ensures value { (steps : List Step) → walked (drain_rest drain.old) (step ∷ steps)
         ≡ result ∷ walked (drain_rest drain.new) steps }

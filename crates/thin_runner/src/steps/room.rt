@@ -1,4 +1,5 @@
-//! Room that is made, or given up, and lists that have no room to spare.
+//! The commands that change the capacity alone: `Reserve`, `ReserveExact` and `ShrinkToFit`; and
+//! those that make a list without spare capacity: `SplitOff` and `Clone`.
 ghost use Rattle.std.specs.Prelude.{◌≤◌, length};
 ghost use Rattle.thin_runner.specs.Setting.{setting};
 ghost use Rattle.thin_runner.specs.Steps.{Steps};

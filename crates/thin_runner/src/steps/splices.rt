@@ -1,4 +1,4 @@
-//! A range that goes out, walked by the steps of a command, while items come in for it.
+//! The command `Splice`, which replaces the items of a range by the items of an iterator.
 ghost use Rattle.std.specs.Prelude.{◌≡◌, ◌+◌, ◌≤◌, List, ◌∷◌, ◌++◌, length, vec_capacity, vec_len};
 ghost use Rattle.thin_runner.specs.Setting.{setting};
 ghost use Rattle.thin_runner.specs.Steps.{Steps};
@@ -14,7 +14,8 @@ use std::alloc::Allocator;
 use thin_vec::{Growth, Splice, SpliceRefused, ThinVec, ThinVecError};
 
 impl<T: Clone + Eq, A: Allocator + Copy, G: Growth, J: Judge<T>> Setting<T, A, G, J> {
-    // Room for what the steps return is made first, and none where there is no step.
+    // Replaces the items of the range by `items`. It first reserves room for what the steps return;
+    // without steps, this allocates nothing.
     pub(crate) fn splice(
         self,
         list: &mut ThinVec<T, A, G>,
@@ -64,7 +65,7 @@ impl<T: Clone + Eq, A: Allocator + Copy, G: Growth, J: Judge<T>> Setting<T, A, G
     }
 }
 
-// Appends what the steps of a walk over a `Splice` return.
+// Takes the steps on `splice`, and appends what they return to `answers`.
 fn walk<T: Drop, A: Allocator, G: Growth>(
     splice: &mut Splice<'_, Hinted<T, A>, T, A, G>,
     steps: Vec<Step, A>,
@@ -83,7 +84,7 @@ fn walk<T: Drop, A: Allocator, G: Growth>(
     }
 }
 
-// One step of a walk.
+// Takes one step on `splice`, and returns what it yields.
 fn take<T, A: Allocator, G: Growth>(
     splice: &mut Splice<'_, Hinted<T, A>, T, A, G>,
     step: Step,

@@ -1,4 +1,4 @@
--- A list with an item has a block.
+-- A list that has an item owns a block.
 use Rattle.std.proofs.Common.{arith}
 use Rattle.std.proofs.lemmas.Grind.{common_steps}
 use Rattle.thin_rows.proofs.row.give_block_back.Goals as goal

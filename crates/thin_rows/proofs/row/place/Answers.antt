@@ -1,10 +1,11 @@
--- The closure returns an entry's column, and columns rise: the search ends at the place or the gap.
+-- The closure returns the column of an entry, and the columns are increasing. So the search finds
+-- the index of the column's entry, or the index at which this entry would be inserted.
 use Rattle.std.proofs.Common.{rules}
 use Rattle.std.proofs.lemmas.List.Sorted.{answers_always}
 use Rattle.thin_rows.proofs.EntriesLemmas.{searched}
 use Rattle.thin_rows.proofs.row.place.Goals as goal
 
--- the closure returns an entry's column
+-- the closure returns the column of an entry
 pub returns : goal.returns
 returns g c =
     let told = c.binary_search_by_key.ensures in

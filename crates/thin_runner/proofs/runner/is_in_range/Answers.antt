@@ -1,4 +1,4 @@
--- Each arm compares as the command's index is stated.
+-- Each arm compares as `IsInRange` does for its command.
 use Rattle.std.proofs.Common.{rules}
 use Rattle.thin_runner.proofs.runner.is_in_range.Goals as goal
 

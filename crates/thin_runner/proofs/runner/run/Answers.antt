@@ -1,4 +1,4 @@
--- One more command has run at each turn, and at the end all have.
+-- Each turn of the loop carries out one more command, and after the loop all commands have run.
 use Rattle.std.proofs.Common.{◌≡◌, ◌∷◌, [], ap, arith, length, rules}
 use Rattle.std.specs.Vec.Iter.{into_iter_items}
 use Rattle.std.proofs.lemmas.List.{nil_from_length}

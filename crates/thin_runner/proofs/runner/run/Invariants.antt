@@ -1,4 +1,5 @@
--- The commands that are left find room for their replies, and those before them have run.
+-- There is room for the replies to the commands that are left, and the commands before them have
+-- run.
 use Rattle.std.proofs.Common.{◌≤◌, ◌+◌, length, vec_len}
 use Rattle.std.specs.Vec.{vec_capacity}
 use Rattle.std.specs.Vec.Iter.{into_iter_items}

@@ -1,4 +1,5 @@
--- The call's own fact, at the command that was matched.
+-- In each arm, the clause `allowed` of the method of `Setting` is the one to prove, once the
+-- command is known to be the matched one.
 use Rattle.thin_runner.proofs.runner.step.Goals as goal
 
 pub returns-in-Push : goal.returns-in-Push

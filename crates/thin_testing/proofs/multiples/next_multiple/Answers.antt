@@ -1,4 +1,5 @@
--- A product past `usize::MAX` no more fits than the number that the code goes by.
+-- If the product is greater than `usize::MAX`, the code computes `usize::MAX` instead; neither of
+-- the two fits.
 use Rattle.std.proofs.Common.{◌≡◌, ℕ, ◌-◌, ◌*◌, ◌≤◌, ◌^◌, Some, inl, inr, max, min, mul_comm, refl, sym, ap, ◌∙◌, arith}
 use Rattle.std.proofs.lemmas.Bool.{cases_lt, false≢true}
 use Rattle.std.specs.Mem.{type_size}

@@ -1,4 +1,5 @@
--- Entries whose columns rise are those of the map that they make.
+-- Since the columns of the entries are strictly increasing, the entries are those of the map that
+-- they represent.
 use Rattle.std.proofs.Common.{nat_cmp, ap, sym, ◌∙◌}
 use Rattle.std.specs.FinMap.{entries, entries-from_sorted}
 use Rattle.thin_rows.proofs.row.Row.entries.Goals as goal

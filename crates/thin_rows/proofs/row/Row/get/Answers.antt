@@ -1,4 +1,5 @@
--- What the map has at a column is the entry at the column's place; at a gap it has none.
+-- If the column has an entry, the value in this entry is the map's value at the column; if not, the
+-- map has no value there.
 use Rattle.std.proofs.Common.{sym}
 use Rattle.thin_rows.proofs.RowLemmas.{get_at, get_gap}
 use Rattle.thin_rows.proofs.row.Row.get.Goals as goal

@@ -1,4 +1,5 @@
--- The place that was found is one among the map's entries; at a gap the map has no value.
+-- The index that was found is the index of the column's entry among the entries of the map; if none
+-- was found, the map has no value at the column.
 use Rattle.std.proofs.Common.{nat_cmp, refl, sym}
 use Rattle.std.specs.FinMap.{entries-from_sorted}
 use Rattle.thin_rows.proofs.RowLemmas.{get_gap}

@@ -1,4 +1,5 @@
--- By the invariant a block is there exactly where an entry is, and the map counts the entries.
+-- By the invariant, there is a block if and only if there is an entry, and the length of the map is
+-- the number of entries.
 use Rattle.std.proofs.Common.{◌≡◌, ◌∙◌, length, sym, ap}
 use Rattle.std.specs.FinMap.{len}
 use Rattle.thin_rows.proofs.RowLemmas.{len_is}

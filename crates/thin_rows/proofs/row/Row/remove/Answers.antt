@@ -1,4 +1,5 @@
--- Once the entry at its place is gone, the map is without the column; at a gap it was so before.
+-- After the entry of the column is removed, the map no longer has the column. If the column had no
+-- entry, the map did not have the column before either.
 use Rattle.std.proofs.Common.{Some, sym, ap, ◌∙◌}
 use Rattle.std.proofs.lemmas.Option.{get_or_from_slice_get}
 use Rattle.thin_rows.proofs.RowLemmas.{get_at, get_gap, remove_is, remove_rises, unchanged}

@@ -1,4 +1,5 @@
--- Written over at its place, or put into the gap, the entry makes the map with the value inserted.
+-- After the entry of the column is overwritten, or a new entry is inserted at its index, the
+-- entries represent the map with the value inserted.
 use Rattle.std.proofs.Common.{inl, inr, ◌≡◌, ◌+◌, sym, ap, ◌∙◌, length, length-set, arith, refl, Some}
 use Rattle.std.proofs.lemmas.Bool.{cases_lt, false≢true}
 use Rattle.std.specs.FinMap.{len}
@@ -9,7 +10,7 @@ use Rattle.thin_rows.proofs.RowLemmas.{get_at, get_gap, insert_is, insert_rises,
 use Rattle.thin_rows.proofs.RowTypeLemmas.{ruled_of_same}
 use Rattle.thin_rows.proofs.row.Row.set.Goals as goal
 
--- the entry was there, and is written over
+-- the column had an entry, which is overwritten
 pub invariant_of-self : goal.invariant_of-self
 invariant_of-self g c =
     let row = c.self.inside.entries in
@@ -39,7 +40,7 @@ returns-in-Ok-clause-columns g c =
     rw (c.replace-column.ensures.after, ← c.self.view_is)
     (set_is row.items c.self.invariant.rising c.args.column c.in-Ok.at place c.args.value)
 
--- there was none, and it goes into the gap
+-- the column had no entry, and a new one is inserted at the index found
 pub invariant_of-self-in-Err : goal.invariant_of-self-in-Err
 invariant_of-self-in-Err g c =
     let row = c.self.inside.entries in
@@ -62,7 +63,7 @@ returns-in-Err-insert-clause-succeeds g c some =
     rw (← c.self.view_is, get_gap row.items c.self.invariant.rising c.args.column c.in-Err.at gap)
     at some
 
--- the list was full, so that its capacity was the number of entries
+-- the list was full, so its capacity was the number of entries
 pub returns-in-Err-insert-clause-cause : goal.returns-in-Err-insert-clause-cause
 returns-in-Err-insert-clause-cause g c = λ over.
     let row = c.self.inside.entries in

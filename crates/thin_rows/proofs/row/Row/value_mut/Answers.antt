@@ -1,4 +1,5 @@
--- The entry that is lent keeps its column, so what is written is the map's value there.
+-- The borrowed entry keeps its column, so the value that is written is the map's value at this
+-- column.
 use Rattle.std.proofs.Common.{◌≡◌, Some, nat_cmp, length-set, refl, sym, ap, ◌∙◌}
 use Rattle.std.proofs.lemmas.Option.{get_or_from_slice_get}
 use Rattle.std.specs.FinMap.{entries-from_sorted}
@@ -13,7 +14,7 @@ index_mut-requires g c =
     ) at
     c.requires.place).in_bounds
 
--- the column is that of the entry that is there
+-- the borrowed entry has the column `column`
 pub invariant_of-self-lent : goal.invariant_of-self-lent
 invariant_of-self-lent g c w =
     let row = c.self.inside.entries in

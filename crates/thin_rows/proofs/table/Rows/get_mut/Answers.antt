@@ -1,4 +1,5 @@
--- The row that was lent is the table's, and put back unwritten it leaves the table as it was.
+-- The borrowed row is the row of the table, and writing it back unchanged does not change the
+-- table.
 use Rattle.std.proofs.Common.{◌≡◌, ap, slice_index_or, slice_set, sym, ◌∙◌}
 use Rattle.std.proofs.lemmas.List.{set-get_or}
 use Rattle.std.proofs.lemmas.Option.{get_or_from_slice_get}
@@ -8,7 +9,8 @@ use borrow.Follows.Closed.{read_of}
 use Rattle.thin_rows.specs.Table.{value_at}
 use Rattle.thin_rows.proofs.table.Rows.get_mut.Goals as goal
 
--- the row that was lent is the one that is there, and writing it back changes nothing
+-- the borrowed row is the one at the index `row`, and writing it back unchanged does not change the
+-- rows
 pub returns : goal.returns
 returns g c =
     let rows = c.self.inside.rows.items in

@@ -1,4 +1,5 @@
--- Each turn counts one row more, or has more than a word holds.
+-- Each turn of the loop adds the number of entries of one more row, or the count has reached
+-- `usize::MAX`.
 use Rattle.std.proofs.Common.{arith}
 use Rattle.std.proofs.lemmas.Grind.{common_steps}
 use Rattle.thin_rows.proofs.table.Rows.len.Goals as goal

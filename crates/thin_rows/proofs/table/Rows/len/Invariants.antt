@@ -1,9 +1,11 @@
--- What was counted, and what is to come, are all entries, or more than a word holds.
+-- The count so far plus the number of entries in the rows that are left is the number of all
+-- entries, or both numbers are at least `usize::MAX`.
 use Rattle.std.proofs.Common.{◌≡◌, ◌+◌, ◌-◌, ◌^◌, ◌<◌, map, min, sum}
 use Rattle.std.specs.FinMap.{len}
 use Rattle.thin_rows.proofs.table.Rows.len.Given as goal
 
--- what was counted, and what is to come
+-- the count plus the entries in the rows that are left equals the number of all entries, if each is
+-- cut off at `usize::MAX`; and the count is a `usize`
 abbrev pub invariant-loop-row : goal.invariant-loop-row
 invariant-loop-row g l =
     (min (l.count + sum (map (λ row. len row) l.row-iterator.rest.now)) (2 ^ 64 - 1)

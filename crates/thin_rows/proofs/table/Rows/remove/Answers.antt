@@ -1,4 +1,4 @@
--- What the row loses the table loses.
+-- Removing the entry from the row removes it from the table.
 use Rattle.std.proofs.Common.{arith}
 use Rattle.std.proofs.lemmas.Grind.{common_steps}
 use Rattle.thin_rows.proofs.table.Rows.remove.Goals as goal

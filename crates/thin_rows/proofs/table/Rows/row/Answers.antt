@@ -1,4 +1,4 @@
--- The row's entries are the table's.
+-- The entries returned are those of the table's row at this index.
 use Rattle.std.proofs.Common.{arith}
 use Rattle.std.proofs.lemmas.Grind.{common_steps}
 use Rattle.thin_rows.proofs.table.Rows.row.Goals as goal

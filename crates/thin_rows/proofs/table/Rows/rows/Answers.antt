@@ -1,4 +1,4 @@
--- A table has as many rows as the list has items.
+-- A table has as many rows as its list has items.
 use Rattle.std.proofs.Common.{rules}
 use Rattle.thin_rows.proofs.table.Rows.rows.Goals as goal
 

@@ -1,4 +1,5 @@
--- On failure the row is as it was, and so is the table; the cause is that of its row.
+-- On failure, the row has not changed, so the table has not changed either; the cause is the one
+-- that `set` of the row returns.
 use Rattle.thin_vec.specs.declared.ThinVecError.TheVariants.{CapacityOverflow}
 use Rattle.std.proofs.Common.{None, ◌≡◌, ◌+◌, subst, ℕ, List, OnErr, Result, Ok, Err, Some, slice_get, slice_set, sym, ap, ◌∙◌}
 use Rattle.std.proofs.lemmas.List.{set-get_or}
@@ -12,7 +13,8 @@ use Rattle.thin_rows.specs.EntryType.{entry_type}
 use Rattle.thin_rows.specs.Table.{row_of}
 use Rattle.thin_rows.proofs.table.Rows.set.Goals as goal
 
--- a call that fails leaves its row as it was, and so the table
+-- if a failed call has not changed the item at index i, writing this item back does not change the
+-- list
 left : {X Y E : Type 0} (result : Result Y E) (xs : List X) (i : ℕ) (old new : X)
     → slice_get xs i ≡ Some old → OnErr result (new ≡ old) → OnErr result (slice_set xs i new ≡ xs)
 left (Ok _) xs i old new there same = tt

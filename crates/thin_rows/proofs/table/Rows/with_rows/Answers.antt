@@ -1,4 +1,6 @@
--- At the end all rows are there; a row as `with_capacity` sees it has the same size and alignment.
+-- After the loop, the table has all its rows. The type of the items in the contract of
+-- `with_capacity` has the size and the alignment of `row_type`, so the exact capacities are the
+-- same.
 use Rattle.std.proofs.Common.{◌≡◌, ◌∙◌, ap, arith, refl, replicate}
 use Rattle.std.specs.FinMap as map
 use Rattle.thin_rows.proofs.RowTypeLemmas.{error_passes, exact_of_same, ok_passes}

@@ -1,4 +1,4 @@
--- A reply with the list that was to be appended says itself whether the call failed.
+-- The reply `Other` holds the cause as an `Option`, which is what `refusal` returns.
 use Rattle.std.proofs.Common.{rules}
 use Rattle.thin_runner.proofs.command.Reply.refusal.Goals as goal
 

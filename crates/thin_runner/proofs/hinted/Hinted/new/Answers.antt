@@ -1,4 +1,4 @@
--- A run yields the items that are left, since each call takes the first of them.
+-- Calls of `next` yield the items in order, since each call yields the first of the items left.
 use Rattle.std.proofs.Common.{length, ap, rules}
 use Rattle.std.proofs.iter.runs.Sources.{from_front, as_is}
 use Rattle.thin_runner.specs.Hinted.{HintedSteps, hinted_items}

@@ -1,4 +1,4 @@
--- The claim is returned as it was made.
+-- The lower bound that is returned is the one that was passed to `new`.
 use Rattle.std.proofs.Common.{rules}
 use Rattle.thin_runner.proofs.hinted.HintedIterator.size_hint.Goals as goal
 

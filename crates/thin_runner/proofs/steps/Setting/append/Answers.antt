@@ -1,4 +1,4 @@
--- What the call ensures, done or failed, is what the command may do.
+-- Whether `append` succeeds or fails, its contract implies what `Steps` states for the command.
 use Rattle.std.proofs.Common.{rules}
 use Rattle.thin_runner.proofs.steps.Setting.append.Goals as goal
 

@@ -1,4 +1,4 @@
--- The copy has as many items as the list, and its room is for those.
+-- The clone has as many items as the list, and its capacity is their number.
 use Rattle.std.proofs.Common.{arith, rules}
 use Rattle.std.proofs.lemmas.List.Elements.{length_all_zip}
 use Rattle.thin_runner.proofs.steps.Setting.clone.Goals as goal

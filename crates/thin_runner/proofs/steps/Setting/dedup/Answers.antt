@@ -1,4 +1,4 @@
--- What `dedup` leaves is what a test of the items leaves.
+-- The items that `dedup` leaves are those that are kept by the stateless test `==`.
 use Rattle.std.proofs.Common.{rules}
 use Rattle.thin_runner.proofs.JudgedLemmas.{deduped-alike}
 use Rattle.thin_runner.proofs.steps.Setting.dedup.Goals as goal

@@ -1,4 +1,4 @@
--- Each call of the closure is a question to the judge that it holds.
+-- Each call of the closure returns what the method `same` of its judge decides.
 use Rattle.std.proofs.Common.{rules}
 use Rattle.thin_runner.proofs.JudgedLemmas.{deduped-by}
 use Rattle.thin_runner.proofs.steps.Setting.dedup_by.Goals as goal

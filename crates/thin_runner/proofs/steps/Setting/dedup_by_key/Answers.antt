@@ -1,4 +1,4 @@
--- Each call of the closure is a question to the judge that it holds.
+-- Each call of the closure returns what the method `key` of its judge computes.
 use Rattle.std.proofs.Common.{rules}
 use Rattle.thin_runner.proofs.JudgedLemmas.{deduped-by-keys}
 use Rattle.thin_runner.proofs.steps.Setting.dedup_by_key.Goals as goal

@@ -1,4 +1,4 @@
--- What the walk returns is what walking the range does, and what is left are the items around it.
+-- The steps return what `walked` computes for the range, and the items around the range are left.
 use Rattle.std.proofs.Common.{rules}
 use Rattle.thin_runner.proofs.steps.Setting.drain.Goals as goal
 

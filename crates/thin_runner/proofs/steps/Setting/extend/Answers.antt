@@ -1,4 +1,5 @@
--- What was placed, what is in hand and what is left are what there was.
+-- Together, the items placed, the item in hand and the items of `rest` are all items of the
+-- iterator.
 use Rattle.std.proofs.Common.{rules, ◌≡◌, ◌++◌, ◌+◌, ap, arith, drop, length, subst, sym, ◌∙◌, append_assoc}
 use Rattle.std.proofs.lemmas.Bool.{false≢true}
 use Rattle.std.proofs.lemmas.List.{length-drop}

@@ -1,4 +1,4 @@
--- A failure is told of the slice, and the slice is the vector's items.
+-- The clauses on failure speak of the slice, whose items are those of the vector.
 use Rattle.std.proofs.Common.{ap, length}
 use Rattle.thin_runner.proofs.CommandLemmas.{refuses-clone, some-items}
 use Rattle.thin_runner.proofs.steps.Setting.extend_from_slice.Goals as goal

@@ -1,4 +1,5 @@
--- The calls so far, and those that are left, are those of the whole extraction.
+-- The results of the calls so far, followed by those of the calls that are left, are the results of
+-- the whole extraction.
 use Rattle.std.proofs.Common.{◌≡◌, ◌++◌, ◌≤◌, ◌+◌, ◌-◌, drop, take, false, slice_range, vec_len}
 use Rattle.std.specs.Vec.{vec_capacity}
 use Rattle.thin_vec.specs.Edits.ExtractIf.{extract_alloc, extract_callee, extract_capacity, extract_cost, extract_front, extract_gone, extract_lender, extract_rest, extract_tail}

@@ -1,4 +1,4 @@
--- What the call ensures is what the command may do.
+-- The contract of `remove` implies what `Steps` states for the command.
 use Rattle.std.proofs.Common.{rules}
 use Rattle.thin_runner.proofs.steps.Setting.remove.Goals as goal
 

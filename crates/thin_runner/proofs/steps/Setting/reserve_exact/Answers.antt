@@ -1,4 +1,5 @@
--- What the call ensures, done or failed, is what the command may do.
+-- Whether `reserve_exact` succeeds or fails, its contract implies what `Steps` states for the
+-- command.
 use Rattle.std.proofs.Common.{rules}
 use Rattle.thin_runner.proofs.steps.Setting.reserve_exact.Goals as goal
 

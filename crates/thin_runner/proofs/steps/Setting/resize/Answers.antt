@@ -1,4 +1,4 @@
--- What the call ensures, done or failed, is what the command may do.
+-- Whether `resize` succeeds or fails, its contract implies what `Steps` states for the command.
 use Rattle.std.proofs.Common.{rules}
 use Rattle.thin_runner.proofs.steps.Setting.resize.Goals as goal
 

@@ -1,4 +1,4 @@
--- Each call of the closure is a look of the judge that it holds.
+-- Each call of the closure returns what the method `look` of its judge decides.
 use Rattle.std.proofs.Common.{rules}
 use Rattle.thin_runner.proofs.JudgedLemmas.{looked, retained-by}
 use Rattle.thin_runner.proofs.steps.Setting.retain.Goals as goal

@@ -1,4 +1,4 @@
--- Each call of the closure is a question to the judge that it holds.
+-- Each call of the closure returns what the method `keep` of its judge decides.
 use Rattle.std.proofs.Common.{rules}
 use Rattle.thin_runner.proofs.JudgedLemmas.{retained-by}
 use Rattle.thin_runner.proofs.steps.Setting.retain_mut.Goals as goal

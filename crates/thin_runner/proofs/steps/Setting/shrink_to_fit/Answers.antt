@@ -1,4 +1,5 @@
--- What the call ensures, done or failed, is what the command may do.
+-- Whether `shrink_to_fit` succeeds or fails, its contract implies what `Steps` states for the
+-- command.
 use Rattle.std.proofs.Common.{rules}
 use Rattle.thin_runner.proofs.steps.Setting.shrink_to_fit.Goals as goal
 

@@ -1,4 +1,5 @@
--- What took the range's place, what is held, in hand and left are what there was.
+-- Together, the items placed, those held, the one in hand and those of `rest` are all items of the
+-- iterator.
 use Rattle.std.proofs.Common.{rules, List, ◌≡◌, ◌≤◌, ◌+◌, ◌-◌, ◌++◌, ◌∙◌, ap, arith, length, length-append, subst, sym}
 use Rattle.std.proofs.lemmas.Bool.{false≢true}
 use Rattle.std.specs.Iterator.{at_most, size}

@@ -1,4 +1,4 @@
--- What the call ensures, done or failed, is what the command may do.
+-- Whether `split_off` succeeds or fails, its contract implies what `Steps` states for the command.
 use Rattle.std.proofs.Common.{rules, arith}
 use Rattle.std.proofs.lemmas.Grind.{common_steps}
 use Rattle.thin_runner.proofs.steps.Setting.split_off.Goals as goal

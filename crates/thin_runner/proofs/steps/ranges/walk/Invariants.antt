@@ -1,5 +1,5 @@
--- What the steps returned so far, and what those that are left return, is what the whole walk
--- returns.
+-- What the steps so far have returned, followed by what the steps left return, is what all steps
+-- return.
 use Rattle.std.proofs.Common.{◌≡◌, ◌++◌, ◌≤◌, ◌+◌, length, vec_len}
 use Rattle.std.specs.Vec.{vec_capacity}
 use Rattle.std.specs.Vec.Iter.{into_iter_items}

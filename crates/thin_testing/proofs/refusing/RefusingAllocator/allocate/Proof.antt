@@ -1,5 +1,6 @@
--- It asks whether this request is refused, and else answers what the inner allocator answers, once
--- that is counted. Assumes `Logic`.
+-- `allocate` calls `refuses`. If this request is refused, it returns an error. Otherwise it calls
+-- `allocate` of the inner allocator, passes the answer to `granted`, which counts the block, and
+-- returns the answer. Assumes `Logic`.
 use Rattle.std.proofs.Common.{◌≡◌, ℕ, zero, suc, ◌+◌, ◌^◌, ◌<◌, true, false, Bool, List, [], ◌∷◌, Ok, Err, refl, w64, Bor}
 use seplogic.Ra.Ura.{Ura}
 use mir.Syntax.{Ty, Args, Fn, Body, seq, skip, a_type, dnil, dcons}
@@ -50,7 +51,7 @@ use Rattle.thin_testing.specs.contracts.refusing.RefusingAllocator.allocate.Key 
 use Rattle.thin_testing.proofs.refusing.RefusingAllocator.allocate.Statement as stated
 use Rattle.thin_testing.proofs.refusing.RefusingAllocator.allocate.Code as code
 
--- the statements after the first n
+-- the statements of a body after the first n
 abbrev after : ℕ → Body → Body
 after zero b = b
 after (suc n) (seq _ b) = after n b
@@ -105,7 +106,8 @@ module _ (Z : Al) {M : Type 1} {𝓤 : Ura M} (𝓛 : Logic 𝓤) (at_mem : Memo
     abbrev Post : Val → SProp 𝓤
     Post = (walk_of 𝓛 (ended Z) (stayed Z) held).post bound
 
-    -- an error, whichever way it came
+    -- the postcondition holds for an error, whether the request was refused or the inner allocator
+    -- failed
     refused : Sq 𝓛 (‵ (flft κ₁ q₁) ∷ (‵ (flft κ₂ q₂) ⊛ ‵ ftrue) ∷ [])
         (prop (Post (answer_val false 0 0)))
     refused =
@@ -136,7 +138,7 @@ module _ (Z : Al) {M : Type 1} {𝓤 : Ura M} (𝓛 : Logic 𝓤) (at_mem : Memo
         fsplit ! $ use1 𝓛 (‵ (hidden_shr Row κ₁ r.now.counts c.0 c.1)) (id⊢ 𝓤 _) $
         shr_dup ! Row the_row_laws.shr_laws r.now.counts c.0 c.1 κ₁ $
         keep ! (0 ∷ 7 ∷ 3 ∷ 8 ∷ 1 ∷ []) $
-        -- [the counts; the tokens, with the inner allocator between them; the counts again]
+        -- context: [the counts; κ₁'s token; the inner allocator; κ₂'s token; the counts again]
         enter ! 𝓣.C 𝓣.Λ (here Z) vs _ $
         alloc_all ! (λ l. pass_all ! refl
         ((tt, tt), ((tt, record { fits = fn }), ((tt, record { fits = fa }), tt))) $

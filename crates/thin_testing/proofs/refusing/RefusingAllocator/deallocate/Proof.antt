@@ -1,4 +1,5 @@
--- It takes the block off the count, and gives it back to the inner allocator. Assumes `Logic`.
+-- `deallocate` calls `returned`, which takes the block off the count, and gives the block back to
+-- the inner allocator. Assumes `Logic`.
 use Rattle.std.proofs.Common.{◌≡◌, ℕ, ◌+◌, ◌^◌, ◌<◌, List, [], ◌∷◌, refl, w64, Bor}
 use seplogic.Ra.Ura.{Ura}
 use mir.Syntax.{Ty, Args, Fn, a_type, dnil, dcons}

@@ -1,4 +1,4 @@
--- What the closure returns is what the judge says.
+-- The closure returns what the method `same` of its judge decides.
 use Rattle.std.proofs.Common.{rules}
 use Rattle.thin_runner.proofs.steps.fn.Setting.dedup_by.dedup_by.Goals as goal
 
