@@ -1,4 +1,4 @@
-//! A list by std's own traits: `IntoIterator`.
+//! Tests that a list is used through traits of `std`, and as a slice, without a request for memory.
 use crate::tests::assertions::{assert_counts, assert_same};
 use crate::tests::items::{push_all, refusing_nth};
 use std::convert::AsSlice;
@@ -15,7 +15,7 @@ fn a_walk_by_value_makes_no_request(rt: HostRuntime) {
     assert_counts(&rt, refusing, 0, 0);
 }
 
-// The length of what is seen as a slice.
+// Returns the length of `items` as a slice.
 fn seen_as_slice<S: AsSlice<i32>>(items: &S) -> usize {
     items.as_slice().len()
 }
