@@ -78,8 +78,8 @@ impl<T: Sample, G: Ruled> Case<T, G> {
         T::nth(rt, self.ledger, number)
     }
 
-    /// Marks that the call comes next. Resets the counts of requests and clones, and refuses the
-    /// request that the case names.
+    /// Begins the call: resets the counts of requests and clones, and from now on refuses the
+    /// request with the number `at.refused`.
     pub fn begin(&self) {
         self.ledger.begin(self.at.refused);
     }
@@ -115,9 +115,9 @@ impl<T: Sample, G: Ruled> Case<T, G> {
         if self.is_left_out { 1 } else { self.requests }
     }
 
-    /// Returns how a call must end that changes the list's capacity to `capacity`, by one request,
-    /// and then makes `clones` clones. Sets the capacity, the requests and the clones that the list
-    /// must have then.
+    /// Returns how a call must end if it changes the list's capacity to `capacity` by one request,
+    /// and then makes `clones` clones. Sets the capacity that the list must have, and how many
+    /// requests and clones the call must make.
     pub fn growth(&mut self, capacity: Option<usize>, clones: usize) -> Verdict {
         let Some(capacity) = capacity else {
             return Verdict::Overflow;
@@ -130,8 +130,8 @@ impl<T: Sample, G: Ruled> Case<T, G> {
         verdict
     }
 
-    /// Returns whether one of several growths of a call succeeds. Counts its request, and sets the
-    /// list's capacity if it succeeds.
+    /// Returns whether a growth to this capacity succeeds, if the call may make several growths.
+    /// Counts its request, and sets the list's capacity if it succeeds.
     pub fn grows(&mut self, capacity: Option<usize>) -> bool {
         let Some(capacity) = capacity else {
             return false;
@@ -143,14 +143,15 @@ impl<T: Sample, G: Ruled> Case<T, G> {
         true
     }
 
-    /// Returns whether one of several requests of a call is granted. Counts the request.
+    /// Returns whether the next request of the call is granted, if the call may make several
+    /// requests. Counts the request.
     pub fn granted(&mut self) -> bool {
         self.requests = self.requests.saturating_add(1);
         self.requests != self.at.refused
     }
 
-    /// Returns how one of several growths of a call must end, which changes the list's capacity to
-    /// `capacity`. If the list has this capacity already, no request is made.
+    /// Returns how a growth to this capacity must end, if the call may make several growths. If the
+    /// list has this capacity already, no request is made.
     pub fn further_growth(&mut self, capacity: Option<usize>) -> Verdict {
         let Some(wanted) = capacity else {
             return Verdict::Overflow;
@@ -162,7 +163,7 @@ impl<T: Sample, G: Ruled> Case<T, G> {
         }
     }
 
-    /// Returns how a call must end that makes another list, or a `Vec`, of this capacity, with
+    /// Returns how a call must end if it makes another list, or a `Vec`, of this capacity, and then
     /// `clones` clones.
     pub fn fresh(&mut self, capacity: Option<usize>, clones: usize) -> Verdict {
         match capacity {
@@ -171,7 +172,7 @@ impl<T: Sample, G: Ruled> Case<T, G> {
         }
     }
 
-    // Returns how a call must end that requests `blocks` blocks, and then makes `clones` clones.
+    // Returns how a call must end if it requests `blocks` blocks and then makes `clones` clones.
     // Sets how many requests and clones the call must make.
     fn verdict(&mut self, blocks: u64, clones: usize) -> Verdict {
         let refused = self.at.refused;

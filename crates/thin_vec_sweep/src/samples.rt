@@ -10,8 +10,8 @@ use std::process::Abort;
 use thin_testing::Refusing;
 use thin_vec::ThinVec;
 
-/// A type whose values are made from numbers. A value tells its number back, as far as the type has
-/// enough different values.
+/// A type of items that are made from numbers. An item tells which number it was made from, as far
+/// as the type has enough different values.
 pub trait Sample: Clone + Drop + PartialEq {
     /// Whether the ledger counts the items and their clones.
     const IS_COUNTED: bool;
@@ -88,7 +88,7 @@ impl Sample for i32 {
 
     const LIMIT: usize = 2_305_843_009_213_693_946;
 
-    // Every second number gives a negative item.
+    // Every second item is negative.
     fn nth<R: Abort>(_rt: &R, _ledger: &'static Ledger, number: u64) -> i32 {
         let magnitude = (number % 2_147_483_647) as i32;
         if number % 2 == 0 {
@@ -181,7 +181,7 @@ impl Sample for [u64; 64] {
     }
 }
 
-/// An item of which the ledger counts drops and clones.
+/// An item whose drops and clones the ledger counts.
 pub struct Counted {
     ledger: &'static Ledger,
     number: u64,

@@ -10,13 +10,14 @@ pub struct Shape {
 /// How many shapes most sweeps use.
 pub const SHAPES: usize = 110;
 
-/// How many of these shapes have at most 40 items. They are the first ones.
+/// How many of the shapes have at most 40 items. They are the first ones.
 pub const SHORT: usize = 107;
 
-/// The number of the first of two more shapes, of 100,000 items.
+/// The number of the first of the two longest shapes, which have 100,000 items. Only some sweeps
+/// use them.
 pub const LONGEST: usize = SHAPES;
 
-/// How many shapes there are in total, including the longest.
+/// How many shapes there are with the two longest.
 pub const ALL: usize = LONGEST + 2;
 
 // How many items are added to a list in the different cases. `FEW` is for lists of up to 4 items,
@@ -115,7 +116,7 @@ impl Shape {
         }
     }
 
-    /// Returns one of these indices, by its number.
+    /// Returns one of the indices that are tried, by its number.
     pub fn index(self, number: usize) -> usize {
         if self.is_small() {
             return number;
@@ -158,7 +159,7 @@ impl Shape {
         self.length.saturating_add(1).saturating_sub(width)
     }
 
-    /// Returns the range and the case that this number stands for.
+    /// Returns a range and the number of a case on its items, by the number of both together.
     pub fn ranged_case(self, cases: &Cases, number: usize) -> Ranged {
         if self.length >= cases.len() {
             return self.some_range(number % RANGES, number / RANGES);
@@ -197,7 +198,7 @@ impl Shape {
         if self.spare == 0 { arguments } else { 0 }
     }
 
-    /// Returns how many different numbers of added items are tried.
+    /// Returns how many numbers of added items are tried.
     pub fn counts(self) -> usize {
         if self.is_small() {
             12
@@ -208,7 +209,7 @@ impl Shape {
         }
     }
 
-    /// Returns one of these numbers of added items.
+    /// Returns one of the numbers of added items that are tried, by its position.
     pub fn count(self, number: usize) -> usize {
         let count = if self.is_small() {
             FEW.get(number)

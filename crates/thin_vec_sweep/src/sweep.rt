@@ -8,10 +8,10 @@ use std::ops::Range;
 use std::process::Abort;
 use thin_testing::Ruled;
 
-/// What a test sweeps over.
+/// What a test sweeps: its lists, and where it counts.
 #[derive(Drop)]
 pub struct Scope {
-    /// What the test counts.
+    /// The counts of the test.
     pub ledger: &'static Ledger,
     /// The numbers of the shapes that the lists have.
     pub shapes: Range<usize>,

@@ -1,6 +1,6 @@
 //! Functions that rely on two facts about every list: its length is at most its capacity, and its
-//! capacity is small. The prover finds both facts by itself: none of the functions has a proof
-//! file, or calls `len` to make the prover see them.
+//! capacity is less than 2 ^ 63. The prover finds both facts by itself. None of the functions has a
+//! proof file, or calls `len` to make the prover see these facts.
 ghost use Rattle.std.specs.Prelude.{◌≡◌, ◌+◌, ◌<◌, ◌≤◌, IsTrue, length, take};
 
 use std::alloc::Allocator;

@@ -36,7 +36,7 @@ fn hint<T: Sample>(number: usize, count: usize, length: usize) -> usize {
     }
 }
 
-/// How the filling of a list must end.
+/// How a call that fills a list from an iterator must end.
 #[derive(Drop)]
 pub struct Ending {
     pub verdict: Verdict,
@@ -53,8 +53,8 @@ pub struct Ending {
 }
 
 impl Ending {
-    /// Returns the ending of a filling that fails after `placed` items. Then `in_hand` more items
-    /// were taken from the iterator.
+    /// Returns the ending of a call that fails after `placed` items. It then has `in_hand` more
+    /// items of the iterator in hand.
     pub fn refused(verdict: Verdict, placed: usize, in_hand: usize) -> Ending {
         Ending {
             verdict,
@@ -66,7 +66,7 @@ impl Ending {
         }
     }
 
-    /// Returns the ending of a filling that moves all items into the list.
+    /// Returns the ending of a call that moves all `placed` items into the list.
     pub fn done(placed: usize) -> Ending {
         Ending {
             verdict: Verdict::Done,
@@ -86,9 +86,9 @@ impl Ending {
     }
 }
 
-/// Returns how the filling of a list must end that appends `count` items, and updates the
-/// reference. The list first grows once for the size hint, to the capacity `hinted`. Then it grows
-/// whenever an item has no room.
+/// Returns how a call must end that appends `count` items, and updates the reference. The call
+/// first grows the list once, for the size hint, to the capacity `hinted`. Then the list grows
+/// whenever there is no room for an item.
 pub fn fill<T: Sample, G: Ruled, R: Abort>(
     rt: &R,
     case: &mut Case<T, G>,
@@ -316,8 +316,9 @@ impl<T: Sample> Call<T, Doubling> for Collect {
     }
 }
 
-// Returns an iterator over as many items as the shape has, and how it must end to make a list of
-// them. Returns `None` if the call would take too much memory. Drops the list of the case before.
+// Returns an iterator over as many items as the shape has, and how a call must end that makes a
+// list of these items. Returns `None` if the call would take too much memory. First drops the list
+// of the case.
 fn collection<T: Sample, R: Abort>(
     rt: &R,
     case: &mut Case<T, Doubling>,

@@ -78,8 +78,8 @@ impl<T: Sample, G: Ruled> Call<T, G> for RetainMut {
     }
 }
 
-// Returns the numbers of the items that stay if each item first moves into the place of the next
-// one, and a new item into the first place. The pattern tells which places stay.
+// Returns the numbers of the items that are left if each item first moves to the place of the next
+// one, and a new item to the first place. The pattern tells which places stay.
 fn moved_up<R: Abort>(rt: &R, global: Global, count: usize, pattern: usize) -> Vec<u64, Global> {
     let mut left = Vec::new(global);
     let mut number = FRESH;
@@ -92,9 +92,9 @@ fn moved_up<R: Abort>(rt: &R, global: Global, count: usize, pattern: usize) -> V
     left
 }
 
-/// Calls `pop_if`. The closure owns a new item, swaps it with the last item of the list, and drops
-/// that last item when it is dropped itself. Then it returns whether the item in the last place is
-/// removed.
+/// Calls `pop_if`. The closure owns a new item, and swaps it with the last item of the list. It
+/// then owns this last item, and drops it with itself. It returns whether the new item is removed
+/// from the list.
 pub struct PopIf {}
 
 impl<T: Sample, G: Ruled> Call<T, G> for PopIf {
@@ -123,8 +123,8 @@ impl<T: Sample, G: Ruled> Call<T, G> for PopIf {
     }
 }
 
-// Replaces the last number by that of the new item, if there is one. If `goes`, removes this number
-// again and returns it.
+// Replaces the last number by that of the new item, if there is a last number. If `goes` is true,
+// removes the new number again and returns it.
 fn popped<R: Abort>(rt: &R, items: &mut Vec<u64, Global>, goes: bool) -> Option<u64> {
     let _last = items.pop()?;
     if goes {
@@ -166,7 +166,8 @@ impl<T: Sample, G: Ruled> Call<T, G> for DedupBy {
 }
 
 // Returns the numbers of the items that are left if each later item is swapped with the item that
-// was kept last. If the later place stays, it now holds that last kept item.
+// was kept last. If the place of the later item stays, the list then ends with the item that was
+// kept last before.
 fn exchanged<R: Abort>(rt: &R, global: Global, count: usize, pattern: usize) -> Vec<u64, Global> {
     let mut left = Vec::new(global);
     let mut last = number_at(0);

@@ -62,8 +62,8 @@ struct Plan {
 }
 
 impl Plan {
-    // Returns the plan of this argument, for the list of a case. The lower bound is chosen for the
-    // moment at which the places of the range are filled.
+    // Returns the plan for this argument, on the list of a case. `finish` reads the size hint after
+    // it has filled the places of the range: one of the hints is exact at that moment.
     fn new<T: Sample, G: Ruled, R: Abort>(rt: &R, case: &Case<T, G>, argument: usize) -> Plan {
         let shape = case.at.shape;
         let range = shape.ranged_case(&cases(shape), argument);
@@ -108,7 +108,8 @@ fn many(width: usize, number: usize) -> usize {
     }
 }
 
-// Returns the lower bound of this number. When it is read, `left` of `all` items are left.
+// Returns the lower bound of this number. When `finish` reads it, `left` of `all` items are not yet
+// yielded.
 fn hint(number: usize, left: usize, all: usize) -> usize {
     match number {
         0 => 0,

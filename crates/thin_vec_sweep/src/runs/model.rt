@@ -110,7 +110,7 @@ fn shown_sifted<T: Drop, A: Allocator + Copy>(
     Ok(Shown::with_answers(Form::Answers, alloc, answers))
 }
 
-// Returns whether an item stays, by the method of the judge that the command uses.
+// Returns whether an item stays. Each kind of command asks the judge by another method.
 fn stays<T, J: Judge<T>>(judge: &mut J, kind: Kind, item: &mut T) -> bool {
     match kind {
         Kind::Retain => judge.look(item),
@@ -119,8 +119,8 @@ fn stays<T, J: Judge<T>>(judge: &mut J, kind: Kind, item: &mut T) -> bool {
     }
 }
 
-// Returns whether a later item is the same as the item that was kept last, by the test that the
-// command uses.
+// Returns whether a later item is the same as the item that was kept last. Each kind of command
+// compares them in another way.
 fn is_same<T: Eq, J: Judge<T>>(judge: &mut J, kind: Kind, later: &mut T, kept: &mut T) -> bool {
     match kind {
         Kind::Dedup => *later == *kept,

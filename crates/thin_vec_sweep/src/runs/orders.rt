@@ -79,8 +79,8 @@ pub struct Order {
     pub lower: usize,
     /// How many steps a walk has.
     pub steps: usize,
-    /// The first item. Its binary digits, the last digit first, are also the steps: the digit 1 is
-    /// a step from the front.
+    /// The number of the first item. Its binary digits, the last digit first, are also the steps of
+    /// the walk: the digit 1 is a step from the front.
     pub number: u64,
 }
 

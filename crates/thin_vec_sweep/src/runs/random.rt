@@ -149,8 +149,8 @@ pub fn assert_alike<'a, T: Sample<Lender<'a>>, G: Ruled, J: Judge<T> + From<u64>
 // and two of these types under two more rules, are 20 pairs, and thus 100,000 runs.
 const RUNS: u64 = 5_000;
 
-// How many commands were run, for how many of them the refusal of a request was planned, and for
-// how many a request was refused. The other planned commands made too few requests.
+// How many commands were run, how many of them were to have a request refused, and how many really
+// had one refused. The others made too few requests for that.
 #[derive(Debug, Drop)]
 struct Tally {
     commands: u64,
@@ -168,7 +168,7 @@ impl Tally {
         }
     }
 
-    // Counts these commands too.
+    // Adds these commands to the counts.
     fn add(&mut self, done: &[Done]) {
         for (_order, nth, _form, cause) in done {
             let named = u64::from(*nth > 0);
@@ -197,9 +197,9 @@ fn assert_all_from<'a, T: Sample<Lender<'a>>, G: Ruled, R: Abort>(
     tally
 }
 
-// Asserts how many commands there were, and for how many of them the refusal of a request was
-// planned. Both numbers were computed by another program. Also asserts that a request was refused
-// for more than one command in fifty.
+// Asserts how many commands there were, and how many of them were to have a request refused. Both
+// numbers were computed by another program. Also asserts that more than one command in fifty really
+// had a request refused.
 fn assert_tally<R: Abort>(rt: &R, tally: &Tally, commands: u64, named: u64) {
     assert_eq!(rt; (tally.commands, tally.named), (commands, named));
     assert!(rt; tally.refused > commands / 50, "{tally:?}");

@@ -26,9 +26,9 @@ pub enum Form {
 /// it.
 #[derive(Clone, Copy, PartialEq, Eq)]
 pub struct Place {
-    /// The index, or where the range starts.
+    /// The index, or the start of the range.
     pub start: usize,
-    /// Where the range ends.
+    /// The end of the range.
     pub end: usize,
     /// The lower bound of the size hint, or how many calls of `next` are made.
     pub claim: usize,
@@ -63,7 +63,7 @@ impl Place {
     }
 }
 
-/// What a reply shows.
+/// A reply, taken apart into the parts that are compared.
 #[derive(Drop)]
 pub struct Shown<T, A: Allocator> {
     pub form: Form,
@@ -170,7 +170,7 @@ fn items_with<T: Drop, A: Allocator + Copy, G: Growth>(
     }
 }
 
-// Returns what a reply shows that has a list.
+// Returns what a reply shows if it has a list.
 fn show_list<T: Drop, A: Allocator + Copy, G: Growth>(
     form: Form,
     cause: Option<ThinVecError>,
@@ -184,7 +184,7 @@ fn show_list<T: Drop, A: Allocator + Copy, G: Growth>(
     }
 }
 
-// Returns what the reply of a call shows that stopped half way.
+// Returns what a reply shows if its call stopped half way.
 fn show_stopped<T: Drop, A: Allocator + Copy>(
     answers: Vec<Option<T>, A>,
     cause: ThinVecError,
@@ -212,7 +212,7 @@ fn show_stopped<T: Drop, A: Allocator + Copy>(
     })
 }
 
-// Returns what a reply shows that has an item, or none.
+// Returns what a reply shows if it has an item, or has none because the list was empty.
 fn show_item<T: Drop, A: Allocator + Copy>(
     alloc: A,
     item: Option<T>,
@@ -220,7 +220,7 @@ fn show_item<T: Drop, A: Allocator + Copy>(
     Ok(Shown::with_answers(Form::Item, alloc, one(alloc, item)?))
 }
 
-// Returns what a reply shows that returns the value of the failed call.
+// Returns what a reply shows if it returns the value of the failed call.
 fn show_returned<T: Drop, A: Allocator + Copy>(
     alloc: A,
     value: T,
@@ -230,8 +230,8 @@ fn show_returned<T: Drop, A: Allocator + Copy>(
     Ok(Shown::with_items(Form::Returned, Some(cause), alloc, items, 0))
 }
 
-// Returns what a reply shows that returns the command, whose index or range is past the end of the
-// list.
+// Returns what a reply shows if it returns the command, because its index or range is past the end
+// of the list.
 fn show_out_of_range<T: Drop, A: Allocator + Copy, G: Growth>(
     alloc: A,
     command: Command<T, A, G>,
