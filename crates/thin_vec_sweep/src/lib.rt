@@ -3,12 +3,12 @@
 //! makes many calls on one list, and compares them with a model, which is the specification written
 //! as a program (`runs.rt`).
 //!
-//! A sweep makes its call on a list of each shape (`shapes.rt`), with each argument: first with
-//! enough memory, and then with each request refused that the call made the first time, one after
-//! another. After each call it compares what the call returned, the items, the capacity, the
-//! numbers of requests and of clones, how many items are not dropped, and how many blocks are
-//! allocated. When the list is dropped, it compares the last two once more. With enough memory, a
-//! call may fail only because of a capacity overflow. The tests of `checks.rt` check that a sweep
+//! A sweep makes its call on a list of each shape (`shapes.rt`), with each argument. It makes the
+//! call first with enough memory, and then once more for each request that the call made, with this
+//! request refused. After each call it compares what the call returned, the items, the capacity,
+//! the numbers of requests and of clones, how many items are not dropped, and how many blocks are
+//! allocated. After the list is dropped, it compares the last two once more. With enough memory, a
+//! call may fail only because of a capacity overflow. The tests in `checks.rt` check that a sweep
 //! really does all this.
 //!
 //! To add a call, add a struct with an impl of `Call` (`sweep.rt`) to a file of `calls/`, and a
@@ -16,15 +16,15 @@
 //! shape. Its method `run` makes the call, in this order: (1) make the values that are passed to
 //! the call; (2) ask the reference how the call must end: `growth` if the list's capacity may
 //! change, `fresh` if the call makes another list, `further_growth` and `granted` once for each
-//! request if it makes several, and nothing if it takes no memory; (3) call `begin`, which starts
-//! to count requests, and to refuse one; (4) test the preconditions of the call, and make the call;
-//! (5) call `answered`, and make the same edit of `case.items`. A call that appends the items of a
-//! slice has an impl of `AppendsSlice` (`calls/slices.rt`) in place of `run`, and a call that makes
-//! a second list has an impl of `MakesSecond` (`calls/seconds.rt`). What a closure returns is in
-//! `closures.rt`, and steps from both ends are in `walks.rt`: on lists and ranges of up to 6 items,
-//! all patterns and all sequences of steps are tried. An iterator that is passed to a call is a
-//! `Claims` (`claims.rt`), which counts its calls. A new call changes one line of the counts in
-//! `checks.rt`.
+//! request if it makes several, and nothing if it takes no memory; (3) call `begin`, which resets
+//! the counts, and from then on refuses the request of the case; (4) test the preconditions of the
+//! call, and make the call; (5) call `answered`, and make the same edit of `case.items`. A call
+//! that appends the items of a slice has an impl of `AppendsSlice` (`calls/slices.rt`) in place of
+//! `run`, and a call that makes a second list has an impl of `MakesSecond` (`calls/seconds.rt`).
+//! What a closure returns is in `closures.rt`, and steps from both ends are in `walks.rt`: on lists
+//! and ranges of up to 6 items, all patterns of results and all sequences of steps are tried. An
+//! iterator that is passed to a call is a `Claims` (`claims.rt`), which counts the calls of its
+//! methods. A new call changes one line of the counts in `checks.rt`.
 //!
 //! To add a growth rule, add an impl of `Ruled` (`thin_testing`) and a test. To add an item type,
 //! add an impl of `Sample` (`samples.rt`) and tests. A `Scope` (`sweep.rt`) names the shapes that a

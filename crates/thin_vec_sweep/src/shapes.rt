@@ -7,7 +7,7 @@ pub struct Shape {
     pub spare: usize,
 }
 
-/// How many shapes most sweeps use.
+/// How many shapes there are without the two longest.
 pub const SHAPES: usize = 110;
 
 /// How many of the shapes have at most 40 items. They are the first ones.

@@ -56,8 +56,8 @@ fn in_copy<A: Allocator + Copy>(rt: &impl Abort, list: ThinVec<i32, A>, alloc: A
     in_vec(rt, copy, alloc)
 }
 
-// Clones the iterator that the list becomes on `alloc`, extends a new list by the clone, and then
-// does the same as `in_vec` with the new list.
+// Converts the list to an iterator, clones the iterator on `alloc`, and extends a new list by this
+// clone. Then does the same as `in_vec` with the new list.
 fn in_second_iter<A: Allocator + Copy>(
     rt: &impl Abort,
     list: ThinVec<i32, A>,

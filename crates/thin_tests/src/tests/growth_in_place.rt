@@ -56,7 +56,8 @@ impl Numbered for u128 {
     }
 }
 
-// Asserts that the list has the items of the numbers from 0 up to `len`, and this capacity.
+// Asserts that the list has `len` items, that the number of each item is its index, and that the
+// list has this capacity.
 fn assert_numbered<T: Numbered, A: Allocator, G: Growth>(
     rt: &impl Abort,
     list: &ThinVec<T, A, G>,
@@ -73,7 +74,7 @@ fn assert_numbered<T: Numbered, A: Allocator, G: Growth>(
     assert_same(rt, found, (len, len, capacity));
 }
 
-// Pushes the items of the next numbers until there is no spare room.
+// Pushes items until there is no spare room. The number of each item is its index.
 fn fill<T: Numbered, A: Allocator, G: Growth>(rt: &impl Abort, list: &mut ThinVec<T, A, G>) {
     for number in list.len()..list.capacity() {
         push(rt, list, T::numbered(number));
@@ -172,10 +173,10 @@ fn assert_capacities<T: Numbered, B: Allocator>(
     assert_same(rt, refusing.blocks(), 1);
 }
 
-// Asserts all of the above for one type of item, of `size` bytes. The shortest block that can stay
-// in place has 32 words (256 bytes) of items, so that the lists have about this many bytes. Their
-// capacities are up to 18 items greater. If an item is smaller than a word, some of these
-// capacities fill a whole number of words, and others do not.
+// Runs `assert_pushes` and `assert_capacities` for one type of item, of `size` bytes. The shortest
+// block that can stay in place has 32 words (256 bytes) of items, so that the lists have about this
+// many bytes. Their capacities are up to 18 items greater. If an item is smaller than a word, some
+// of these capacities fill a whole number of words, and others do not.
 fn assert_type<T: Numbered>(rt: &impl Abort, alloc: Global, size: usize) {
     let refusing = Refusing::new(alloc, 0);
     for first in [0, 5, 261] {

@@ -139,7 +139,7 @@ fn reported(rt: &impl Abort, alloc: Global, rows: &[u32], wanted: &str, end: &st
 
 #[test]
 fn a_report_of_a_row_that_failed_counts_it_and_ends_with_1(rt: HostRuntime) {
-    // There is no row 0, which therefore fails.
+    // No row has the number 0, so that row 0 fails.
     for (rows, text) in [
         ([0, 1].as_slice(), "row 0 failed\nrow 1 ok\n1 rows failed\n"),
         (

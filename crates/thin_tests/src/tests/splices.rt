@@ -120,8 +120,8 @@ fn row_12_splice_refused(rt: HostRuntime) {
 
 #[test]
 fn row_39_splice_refused(rt: HostRuntime) {
-    // The three requests are for the list's first block, for the vector of the items held back, and
-    // for the growth of the list.
+    // The requests are for the list's first block, for the vector of the items held back, and for
+    // the growth of the list. The last one is refused.
     let refusing = refusing_nth(&rt, rt.alloc(), 3);
     let iter = Claims::new(&[7, 8, 9], 0);
     let left = (&[1, 7, 3][..], 3);

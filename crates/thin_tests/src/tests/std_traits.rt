@@ -1,4 +1,4 @@
-//! Tests that a list is used through traits of `std`, and as a slice, without a request for memory.
+//! Tests that using a list through traits of `std`, or as a slice, makes no request for memory.
 use crate::tests::assertions::{assert_counts, assert_same};
 use crate::tests::items::{push_all, refusing_nth};
 use std::convert::AsSlice;

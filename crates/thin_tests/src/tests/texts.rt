@@ -66,8 +66,8 @@ fn prints_a_drain_of_many_items(rt: HostRuntime) {
     assert_text(&rt, rt.alloc(), &drain, "Drain([2, 3, 4, 5, 6, 7])");
 }
 
-// Asserts that the error is printed with its name and its cause by `{:?}`, `{:#?}` and `{:04?}`,
-// and as its cause by `{}`.
+// Asserts that `{:?}`, `{:#?}` and `{:04?}` print the error with its name and its cause, and that
+// `{}` prints only its cause.
 fn assert_told<E: Debug + Display>(
     rt: &impl Abort,
     alloc: Global,
@@ -90,7 +90,7 @@ fn assert_told<E: Debug + Display>(
     assert_same(rt, told.as_str(), wanted.as_str());
 }
 
-// Asserts this for each error type that holds values, with this cause.
+// Asserts the same as `assert_told` for each error type that holds values, with this cause.
 fn assert_all_told(rt: &impl Abort, alloc: Global, cause: ThinVecError) {
     let (value, in_hand, rest) = (1, Some(1), 2);
     let rejected = Rejected { value, cause };

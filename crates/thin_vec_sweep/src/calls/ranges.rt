@@ -95,8 +95,8 @@ fn step_through<'a, T: Sample, A: Allocator, G: Growth, R: Abort>(
     remaining.of(numbers)
 }
 
-// For each k from 0 to 6: how many cases there are of each number of calls from 0 to k + 1, with
-// each pattern of what the closure returns for k items.
+// For each k from 0 to 6: how many cases there are, one for each number of calls from 0 to k + 1
+// and each pattern of what the closure returns for k items.
 const EXTRACTIONS: Cases = [2, 6, 16, 40, 96, 224, 512];
 
 /// Calls `extract_if` on each range, with each pattern of what the closure returns, and drops the

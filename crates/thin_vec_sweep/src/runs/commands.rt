@@ -1,5 +1,5 @@
-//! Tests that the random runs get every reply of every command, and two runs whose results were
-//! computed by hand.
+//! Tests of the commands: that the random runs get every reply of every command, that two runs have
+//! the results that were computed by hand, and that each difference from the model is found.
 use crate::runs::compared::both;
 use crate::runs::judges::{EACH_SECOND, Evens};
 use crate::runs::model::Model;

@@ -1,4 +1,5 @@
-//! Long runs, for which the model would be too slow, and a run that fails.
+//! Long runs, and a run that fails. They are not compared with the model, which is the
+//! specification written as a program, because it would be too slow.
 use crate::runs::judges::EACH_SECOND;
 use crate::runs::samples::{Lender, put};
 use std::alloc::Global;

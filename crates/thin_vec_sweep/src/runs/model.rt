@@ -61,7 +61,7 @@ fn range_of(len: usize, order: Order) -> (usize, usize, usize) {
     }
 }
 
-// Returns the reply of such a command, which removed the items in `out`.
+// Returns the reply of a command that replaces a range. The old items of the range are in `out`.
 fn shown_out<T: Drop, A: Allocator + Copy>(
     alloc: A,
     order: Order,

@@ -1,5 +1,5 @@
-//! Random runs. Each command is run by the runner (`step`) and by the model, and both results are
-//! compared.
+//! Random runs. Each command is run by the runner (`step`) and by the model, which is the
+//! specification written as a program, and both results are compared.
 use crate::runs::compared::both;
 use crate::runs::judges::{Digits, EACH_SECOND};
 use crate::runs::model::Model;

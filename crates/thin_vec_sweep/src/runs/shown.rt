@@ -118,7 +118,8 @@ impl<T: Drop, A: Allocator + Copy> Shown<T, A> {
         }
     }
 
-    /// Returns a reply that returns the command.
+    /// Returns the reply that returns a command, because its index or range is past the end of the
+    /// list.
     pub fn out_of_range(alloc: A, items: Vec<T, A>, place: Place) -> Shown<T, A> {
         Shown {
             items,
@@ -158,7 +159,7 @@ fn place_of<T, A: Allocator, G: Growth>(command: &Command<T, A, G>) -> Place {
     }
 }
 
-// Returns the items of a command that has an index or a range.
+// Returns the items that a command with an index or a range passes to its call.
 fn items_with<T: Drop, A: Allocator + Copy, G: Growth>(
     alloc: A,
     command: Command<T, A, G>,

@@ -1,4 +1,5 @@
-//! The model of `Splice`, and of `Extend`, which is a splice at the end of the list, without steps.
+//! How the model, which is the specification written as a program, runs `Splice`, and `Extend`,
+//! which is a splice at the end of the list, without steps.
 use super::{Model, walked};
 use crate::runs::orders::{Kind, Order};
 use crate::runs::samples::{Sample, samples};

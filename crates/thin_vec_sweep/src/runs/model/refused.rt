@@ -1,4 +1,5 @@
-//! The model of a command for which a request is refused: what it leaves, and what it replies.
+//! How the model, which is the specification written as a program, runs a command for which a
+//! request is refused: what the list has afterwards, and what the reply is.
 use super::Model;
 use crate::runs::orders::{Kind, Order};
 use crate::runs::samples::{Sample, samples};
