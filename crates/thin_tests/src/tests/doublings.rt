@@ -27,7 +27,7 @@ pub fn five_pushes<A: Allocator>(alloc: A) -> Result<(ThinVec<u32, A>, [usize; 5
     Ok((list, [first, second, third, fourth, fifth]))
 }
 
-// Pushes to a full list, which doubles its capacity, or makes it 4 if it was 0.
+// Pushes to a full list, which doubles its capacity. If the capacity is 0, it becomes 4.
 fn push_full<A: Allocator>(list: &mut ThinVec<u32, A>) -> Result<(), ThinVecError>
     requires full { length list.old.items ≡ list.old.capacity }
     requires few { list.old.capacity < 100 }

@@ -97,8 +97,9 @@ fn reports_until_a_line_is_refused(rt: HostRuntime) {
     }
 }
 
-// Makes a report whose request for memory with this number is refused. Asserts that the rows before
-// were written, that the last line says "out of memory", and that all blocks are freed.
+// Makes a report whose request for memory with this number is refused. Asserts that the lines of
+// the rows before this request were written, that the last line says "out of memory", and that all
+// blocks are freed.
 fn assert_reported_until<R: Abort>(rt: &R, alloc: Global, nth: u64) {
     let refusing = Refusing::new(alloc, nth);
     let mut text = String::new(alloc);

@@ -12,8 +12,8 @@ use std::hash::{DefaultHasher, Hash, Hasher};
 use std::process::Abort;
 use thin_testing::Ruled;
 
-/// Compares the list with another one, which has other spare room. It has the same items, or
-/// another last item, or one item less, or one item more.
+/// Compares the list with another list, which has other spare room. The other list has the same
+/// items, or another last item, or one item less, or one item more.
 pub struct Compare {}
 
 impl<T: Sample + Ord + Hash + Debug, G: Ruled> Call<T, G> for Compare {

@@ -42,9 +42,9 @@ pub struct Ending {
     pub verdict: Verdict,
     /// How many items are moved into the list.
     pub placed: usize,
-    /// How many of the next items are held back in a vector.
+    /// How many items are held back in a vector after those.
     pub held: usize,
-    /// How many of the items after these are in hand: 0 or 1.
+    /// How many items are in hand after the items that are held back: 0 or 1.
     pub in_hand: usize,
     /// How often the iterator returns `None`: at most once.
     pub ends: usize,
@@ -53,8 +53,8 @@ pub struct Ending {
 }
 
 impl Ending {
-    /// Returns the ending of a call that fails after `placed` items. It then has `in_hand` more
-    /// items of the iterator in hand.
+    /// Returns the ending of a call that fails after `placed` items, with `in_hand` more items in
+    /// hand.
     pub fn refused(verdict: Verdict, placed: usize, in_hand: usize) -> Ending {
         Ending {
             verdict,

@@ -190,7 +190,8 @@ impl<G: Ruled> AppendsSlice<u8, G> for WriteAll {
     }
 }
 
-// Returns the cause of a failed write. The error has the kind `OutOfMemory` for both causes.
+// Returns `OutOfMemory` as the cause of a failed write, and asserts that the error has this kind.
+// An `io::Error` has this kind for both causes, `OutOfMemory` and `CapacityOverflow`.
 fn cause<R: Abort>(rt: &R, at: &At, error: &Error) -> ThinVecError {
     let kind = error.kind() == ErrorKind::OutOfMemory;
     same(rt, at, "the error's kind is OutOfMemory", kind, true);
