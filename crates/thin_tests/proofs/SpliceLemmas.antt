@@ -8,8 +8,8 @@ use Rattle.std.specs.declared.result.Result.TheVariants.{Ok, Err}
 
 module _ {T : Type 0} (old numbers : List T) (start stop : ℕ) where
   -- If `new` is `old` with `numbers` in place of the items from `start` up to `stop`, and
-  -- `start ≤ stop ≤ length old`, then putting those items back in place of `numbers` gives `old`
-  -- again.
+  -- `start ≤ stop ≤ length old`, then putting the replaced items back in place of `numbers` gives
+  -- `old` again.
   pub put_back : (new : List T) → start ≤ stop → stop ≤ length old
       → new ≡ (take start old ++ numbers) ++ drop stop old
       → (take start new ++ slice_range old start stop) ++ drop (start + length numbers) new ≡ old

@@ -1,5 +1,5 @@
-//! Tests that `?` after a failed call drops each value that the error holds exactly once, whatever
-//! type of error it converts to.
+//! Tests that `?` after a failed call drops each value that the error holds, exactly once, for each
+//! type of error that `?` converts to.
 use crate::tests::assertions::assert_same;
 use crate::tests::counted::{Counted, counted_list};
 use std::alloc::{AllocError, Global};

@@ -1,5 +1,5 @@
-//! Long runs, and a run that fails. They are not compared with the model, which is the
-//! specification written as a program, because it would be too slow.
+//! Long runs, and a run that fails. They are not compared with the model (the specification written
+//! as a program), because the model would be too slow.
 use crate::runs::judges::EACH_SECOND;
 use crate::runs::samples::{Lender, put};
 use std::alloc::Global;
