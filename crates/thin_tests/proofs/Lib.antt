@@ -1,2 +1,2 @@
--- The lemmas: of a range that was replaced and put back.
+-- The lemmas of this crate. They are about a splice that is undone by a second splice.
 mod SpliceLemmas

@@ -1,4 +1,4 @@
--- A range that was replaced, and put back.
+-- Lemmas about a range of a list that is replaced and then put back.
 use Rattle.std.proofs.Common.{◌≡◌, ℕ, ◌+◌, ◌≤◌, List, ◌++◌, ◌∙◌, ap, append_assoc, arith, drop, length, length-append, sym, take}
 use Rattle.std.proofs.lemmas.List.{drop_at, length-take-le, take_at}
 use Rattle.std.proofs.lemmas.List.Edits.{split_between}
@@ -7,7 +7,9 @@ use Rattle.std.specs.declared.result.Result.{Result}
 use Rattle.std.specs.declared.result.Result.TheVariants.{Ok, Err}
 
 module _ {T : Type 0} (old numbers : List T) (start stop : ℕ) where
-  -- the old range in the place of the numbers gives the old items
+  -- If `new` is `old` with `numbers` in place of the items from `start` up to `stop`, and
+  -- `start ≤ stop ≤ length old`, then putting the replaced items back in place of `numbers` gives
+  -- `old` again.
   pub put_back : (new : List T) → start ≤ stop → stop ≤ length old
       → new ≡ (take start old ++ numbers) ++ drop stop old
       → (take start new ++ slice_range old start stop) ++ drop (start + length numbers) new ≡ old
@@ -27,7 +29,7 @@ module _ {T : Type 0} (old numbers : List T) (start stop : ℕ) where
       (λ i. (front i ++ gone) ++ back i)
       ∙ (append_assoc pre gone post ∙ sym (split_between old start stop order))
 
--- a fact of an accepted call gives another
+-- If P implies Q, and P holds of a successful result, then Q holds of a successful result.
 pub on_ok : {X E P Q : Type 0} (r : Result X E) → (P → Q) → OnOk r P → OnOk r Q
 on_ok (Ok _) h p = h p
 on_ok (Err _) h p = p

@@ -1,6 +1,6 @@
-//! The tests of the list, the block, the table, the examples, the rows and the allocator
-//! `Refusing`, in a crate of their own: one that has tests is proved twice, and those are proved
-//! once.
+//! The tests of `ThinVec`, `Block`, the table `Rows`, the examples, the worked examples (rows) and
+//! the allocator `Refusing`. They are in a crate of their own because a crate that has tests is
+//! proved twice. Without tests, the other crates are proved only once.
 #![tactic(auto)]
 
 #[cfg(test)]

@@ -1,5 +1,5 @@
-//! What no clause says of the list and of the report, and what may be concluded from what the
-//! clauses say.
+//! Tests of what no contract states about lists and about the report, and functions whose contracts
+//! show what a caller can conclude from the contracts of the list.
 mod allocators;
 mod arguments;
 mod capacities;

@@ -1,1 +1,1 @@
--- No word of its own.
+-- This crate has no definitions of its own.

@@ -1,23 +1,24 @@
-//! Where a case stands, and what is asserted there.
+//! Which case is running (`At`), and the assertions that print this if they fail.
 use crate::ledger::{Counts, Ledger, count};
 use crate::samples::Sample;
 use crate::shapes::Shape;
 use std::fmt::Debug;
 use std::process::Abort;
 
-/// Where a case stands: what an assertion that fails prints.
+/// The call, the shape, the argument and the refused request of a case. An assertion that fails
+/// prints them.
 #[derive(Debug, Clone, Copy)]
 pub struct At {
     pub call: &'static str,
     pub shape: Shape,
     pub argument: usize,
-    /// The number of the request that is refused, or 0.
+    /// The number of the request that is refused, or 0 if none is.
     pub refused: u64,
-    /// Where each comparison is counted.
+    /// The counts, in which each comparison is counted.
     pub counts: &'static Counts,
 }
 
-/// Asserts that both are the same, and counts the comparison.
+/// Asserts that the two values are equal, and counts the comparison.
 pub fn same<T: PartialEq + Debug + Drop, R: Abort>(
     rt: &R,
     at: &At,
@@ -29,7 +30,7 @@ pub fn same<T: PartialEq + Debug + Drop, R: Abort>(
     assert_eq!(rt; value, wanted, "{what}, {at:?}");
 }
 
-/// Asserts that an item, if there is one, is that of the number, if there is to be one.
+/// Asserts that `item` is the item of this number, or that both are `None`.
 pub fn same_item<T: Sample, R: Abort>(rt: &R, at: &At, item: Option<T>, number: Option<u64>) {
     let told = match item {
         Some(item) => Some(item.told()),
@@ -42,7 +43,7 @@ pub fn same_item<T: Sample, R: Abort>(rt: &R, at: &At, item: Option<T>, number: 
     same(rt, at, "item", told, telling);
 }
 
-/// Whether an item, if there is one, is that of the number, if there is to be one.
+/// Returns whether `item` is the item of this number, or both are `None`.
 pub fn is_item<T: Sample>(item: Option<T>, number: Option<u64>) -> bool {
     match (item, number) {
         (Some(item), Some(number)) => item.told() == T::telling(number),
@@ -51,14 +52,15 @@ pub fn is_item<T: Sample>(item: Option<T>, number: Option<u64>) -> bool {
     }
 }
 
-/// Asserts that those are the items of these numbers.
+/// Asserts that `items` are the items of these numbers.
 pub fn same_items<T: Sample, R: Abort>(rt: &R, at: &At, items: &[T], numbers: &[u64]) {
     same(rt, at, "length", items.len(), numbers.len());
     let difference = first_difference(items, numbers);
     same(rt, at, "first item that differs", difference, None);
 }
 
-/// Asserts that so many items are there, and their blocks and the list's.
+/// Asserts that `items` items are not yet dropped, and that the allocated blocks are theirs, if
+/// each owns one, and the list's, if its capacity is not 0.
 pub fn assert_out<T: Sample, R: Abort>(
     rt: &R,
     at: &At,
@@ -76,7 +78,7 @@ pub fn assert_out<T: Sample, R: Abort>(
     same(rt, at, "blocks that are out", out, blocks);
 }
 
-// The first index at which an item does not tell its number.
+// Returns the first index at which an item is not the item of its number.
 fn first_difference<T: Sample>(items: &[T], numbers: &[u64]) -> Option<usize> {
     let mut index: usize = 0;
     for (item, number) in items.iter().zip(numbers.iter()) {

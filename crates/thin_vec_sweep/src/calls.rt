@@ -1,4 +1,5 @@
-//! The calls, and which of them a list of any items has.
+//! The calls that are swept, in groups. Some groups are for all item types, and some only for types
+//! with certain traits.
 pub mod arrays;
 pub mod clones;
 pub mod compared;
@@ -67,8 +68,8 @@ pub fn every_growth<T: Sample, G: Ruled, R: Abort>(rt: &R, scope: &Scope) {
     sweep::<Spliced, T, G, R>(rt, scope);
 }
 
-/// Sweeps the calls by which items come into spare room or go out of a list, and the list out of
-/// its block.
+/// Sweeps the calls that add items to spare room, that remove items, that shrink a list, or that
+/// take the list by value.
 pub fn every_edit<T: Sample, G: Ruled, R: Abort>(rt: &R, scope: &Scope) {
     sweep::<PushReserved, T, G, R>(rt, scope);
     sweep::<InsertReserved, T, G, R>(rt, scope);
@@ -85,8 +86,7 @@ pub fn every_edit<T: Sample, G: Ruled, R: Abort>(rt: &R, scope: &Scope) {
     sweep::<TryTake, T, G, R>(rt, scope);
 }
 
-/// Sweeps the calls that put items in the place of a range, and those that fill room that was
-/// shown.
+/// Sweeps the calls that replace a range, and those that append several items to spare room.
 pub fn every_replacing<T: Sample, G: Ruled, R: Abort>(rt: &R, scope: &Scope) {
     sweep::<ReplaceRange, T, G, R>(rt, scope);
     sweep::<ReplaceRangeFromList, T, G, R>(rt, scope);
@@ -94,14 +94,15 @@ pub fn every_replacing<T: Sample, G: Ruled, R: Abort>(rt: &R, scope: &Scope) {
     sweep::<AppendSlice<ExtendFromSliceReserved>, T, G, R>(rt, scope);
 }
 
-/// Sweeps those of them that copy the items.
+/// Sweeps the variants of the calls of `every_replacing` that copy the items instead of cloning or
+/// moving them.
 pub fn every_replacing_by_copies<T: Sample + Copy, G: Ruled, R: Abort>(rt: &R, scope: &Scope) {
     sweep::<ReplaceRangeFromCopies, T, G, R>(rt, scope);
     sweep::<AppendSlice<ExtendFromCopiesReserved>, T, G, R>(rt, scope);
 }
 
-/// Sweeps the calls that ask a closure which items stay, and those by which the items of a range go
-/// out.
+/// Sweeps the calls that ask a closure which items stay, and the calls that remove the items of a
+/// range.
 pub fn every_filter<T: Sample, G: Ruled, R: Abort>(rt: &R, scope: &Scope) {
     sweep::<Retain, T, G, R>(rt, scope);
     sweep::<RetainMut, T, G, R>(rt, scope);
@@ -113,7 +114,7 @@ pub fn every_filter<T: Sample, G: Ruled, R: Abort>(rt: &R, scope: &Scope) {
     sweep::<Extracted, T, G, R>(rt, scope);
 }
 
-/// Sweeps the calls that only look at the items, or at what stands in their places.
+/// Sweeps the calls that only read the items, that overwrite single items, or that clone them.
 pub fn every_reading<T: Sample, G: Ruled, R: Abort>(rt: &R, scope: &Scope) {
     sweep::<Read, T, G, R>(rt, scope);
     sweep::<Index, T, G, R>(rt, scope);
@@ -127,8 +128,9 @@ pub fn every_reading<T: Sample, G: Ruled, R: Abort>(rt: &R, scope: &Scope) {
     sweep::<IntoIterClone, T, G, R>(rt, scope);
 }
 
-/// Sweeps the calls that make a list, and the other of std's two that take an iterator: under
-/// `Doubling` alone.
+/// Sweeps the calls that make a list, and two calls of traits of `std` that take an iterator
+/// (`collect`, and `extend` of the trait `Extend`). They are swept only under the growth rule
+/// `Doubling`.
 pub fn every_making<T: Sample, R: Abort>(rt: &R, scope: &Scope) {
     sweep::<New, T, Doubling, R>(rt, scope);
     sweep::<WithCapacity, T, Doubling, R>(rt, scope);
@@ -141,7 +143,7 @@ pub fn every_making<T: Sample, R: Abort>(rt: &R, scope: &Scope) {
     sweep::<FromOthers, T, Doubling, R>(rt, scope);
 }
 
-/// Sweeps each call that copies the items of a list as one run.
+/// Sweeps the calls that copy the items of a list as one run of bytes.
 pub fn every_copying<T: Sample + Copy, R: Abort>(rt: &R, scope: &Scope) {
     sweep::<AppendSlice<ExtendFromCopies>, T, Doubling, R>(rt, scope);
     sweep::<AppendSlice<ExtendFromCopies>, T, PowerBytes, R>(rt, scope);
@@ -149,20 +151,20 @@ pub fn every_copying<T: Sample + Copy, R: Abort>(rt: &R, scope: &Scope) {
     sweep::<MakeSecond<FromCopies>, T, Doubling, R>(rt, scope);
 }
 
-/// Sweeps each call that compares, hashes or prints the items of a list.
+/// Sweeps the calls that compare, hash or print the items of a list.
 pub fn every_comparing<T: Sample + Ord + Hash + Debug, R: Abort>(rt: &R, scope: &Scope) {
     sweep::<Compare, T, PowerBytes, R>(rt, scope);
     sweep::<Print, T, PowerBytes, R>(rt, scope);
 }
 
-/// Sweeps each call that a list of bytes has besides.
+/// Sweeps the calls that only a list of bytes has.
 pub fn every_call_of_bytes<R: Abort>(rt: &R, scope: &Scope) {
     every_writing::<Doubling, R>(rt, scope);
     every_writing::<PowerBytes, R>(rt, scope);
     sweep::<FromStr, u8, Doubling, R>(rt, scope);
 }
 
-/// Sweeps the test for ranges.
+/// Sweeps the function `bounds`, which makes a range from two bounds.
 pub fn every_bound<R: Abort>(rt: &R, scope: &Scope) {
     sweep::<Bounds, u8, Doubling, R>(rt, scope);
 }

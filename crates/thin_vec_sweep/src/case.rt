@@ -1,4 +1,4 @@
-//! One case: a list of some shape, and beside it the reference, which is made of std's `Vec` and a
+//! One case of a sweep: a list of some shape, and its reference, which is made of a `Vec` and a
 //! number.
 use crate::assertions::{At, assert_out, same, same_item, same_items};
 use crate::ledger::Ledger;
@@ -10,23 +10,23 @@ use std::process::Abort;
 use thin_testing::{Refusing, Ruled};
 use thin_vec::{Growth, Rejected, ThinVec, ThinVecError};
 
-/// A list of a test: its block is the ledger's.
+/// A list under test. Its block is allocated by the ledger's allocator.
 pub type List<T, G> = ThinVec<T, &'static Refusing<Global>, G>;
 
-/// What a call has to end as.
+/// How a call must end.
 #[derive(Debug, Clone, Copy, PartialEq, Eq)]
 pub enum Verdict {
     Done,
-    /// The capacity overflows: no request is made.
+    /// The call fails because the capacity would overflow. It makes no request.
     Overflow,
-    /// The allocator fails: nothing changes.
+    /// The call fails because the allocator does. Nothing changes.
     NoRoom,
-    /// The clone of an item fails, and those made before it are dropped.
+    /// The call fails because the clone of an item does. The clones made before are dropped.
     NoClone,
 }
 
 impl Verdict {
-    /// What the call has to return.
+    /// Returns what the call must return.
     pub fn answer(self) -> Result<(), ThinVecError> {
         match self {
             Verdict::Done => Ok(()),
@@ -36,26 +36,27 @@ impl Verdict {
     }
 }
 
-/// A list, what it has to be, and what the call that is swept has to have done.
+/// A list, and what it must be after the call, with the requests and clones that the call must
+/// make.
 #[derive(Drop)]
 pub struct Case<T: Drop, G: Ruled> {
     pub at: At,
     pub ledger: &'static Ledger,
     pub list: List<T, G>,
-    /// The number of each item that the list has to hold.
+    /// The number of each item that the list must have after the call.
     pub items: Vec<u64, Global>,
-    /// The capacity that the list has to have.
+    /// The capacity that the list must have after the call.
     pub capacity: usize,
-    /// How many requests are due.
+    /// How many requests the call must make.
     pub requests: u64,
-    /// How many clones are due.
+    /// How many clones the call must make.
     pub clones: u64,
-    /// Whether the call was left out, since it would take too much memory.
+    /// Whether the call was left out because it would take too much memory.
     pub is_left_out: bool,
 }
 
 impl<T: Sample, G: Ruled> Case<T, G> {
-    /// A list of that shape, whose items are numbered from 1 on.
+    /// Makes a list of the shape that `at` names. Its items are numbered from 1 on.
     pub fn new<R: Abort>(rt: &R, ledger: &'static Ledger, at: At) -> Case<T, G> {
         ledger.begin(0);
         let list = filled(rt, ledger, at.shape, 1);
@@ -72,17 +73,19 @@ impl<T: Sample, G: Ruled> Case<T, G> {
         }
     }
 
-    /// An item to be passed to the call.
+    /// Makes an item of this number, for example to pass it to the call.
     pub fn item<R: Abort>(&self, rt: &R, number: u64) -> T {
         T::nth(rt, self.ledger, number)
     }
 
-    /// The call comes next: what is counted is counted from here.
+    /// Begins the call: resets the counts of requests and clones, and from now on refuses the
+    /// request with the number `at.refused`.
     pub fn begin(&self) {
         self.ledger.begin(self.at.refused);
     }
 
-    /// The capacity that the rule names for `additional` more items, or `None` where it overflows.
+    /// Returns the capacity that the growth rule names for `additional` more items, or `None` if it
+    /// overflows.
     pub fn ruled(&self, additional: usize) -> Option<usize> {
         let want = self.items.len().checked_add(additional)?;
         if want <= self.capacity {
@@ -91,27 +94,30 @@ impl<T: Sample, G: Ruled> Case<T, G> {
         fitting::<T>(G::named(T::SIZE, self.capacity, want))
     }
 
-    /// The capacity that has room for exactly `additional` more items, or `None` where it
+    /// Returns the capacity that has room for exactly `additional` more items, or `None` if it
     /// overflows.
     pub fn exact(&self, additional: usize) -> Option<usize> {
         let want = self.items.len().checked_add(additional)?;
         fitting::<T>(want.max(self.capacity))
     }
 
-    /// Whether the capacity fits, but would take more memory than there is. Such a call is made only
-    /// where its first request is refused, and left out otherwise.
+    /// Returns whether the capacity fits but takes more memory than there is. If so, the call is
+    /// left out, except in the case in which its first request is refused.
     pub fn is_too_much(&mut self, capacity: Option<usize>) -> bool {
         let is_great = capacity.is_some_and(|capacity| capacity > 1_000_000);
         self.is_left_out = is_great && self.at.refused != 1 && T::LIMIT < isize::MAX as usize;
         self.is_left_out
     }
 
-    /// How many requests the call made, or would make with memory in plenty.
+    /// Returns how many requests the call made. A call that was left out counts one, so that the
+    /// case in which its first request is refused is run too.
     pub fn requests_in_turn(&self) -> u64 {
         if self.is_left_out { 1 } else { self.requests }
     }
 
-    /// What a call ends as that gives the list this capacity, and then makes so many clones.
+    /// Returns how a call must end if it changes the list's capacity to `capacity` by one request,
+    /// and then makes `clones` clones. Sets the capacity that the list must have, and how many
+    /// requests and clones the call must make.
     pub fn growth(&mut self, capacity: Option<usize>, clones: usize) -> Verdict {
         let Some(capacity) = capacity else {
             return Verdict::Overflow;
@@ -124,7 +130,8 @@ impl<T: Sample, G: Ruled> Case<T, G> {
         verdict
     }
 
-    /// One growth among several of a call: whether it is granted.
+    /// Returns whether a growth to this capacity succeeds, if the call may make several growths.
+    /// Counts its request, and sets the list's capacity if it succeeds.
     pub fn grows(&mut self, capacity: Option<usize>) -> bool {
         let Some(capacity) = capacity else {
             return false;
@@ -136,14 +143,15 @@ impl<T: Sample, G: Ruled> Case<T, G> {
         true
     }
 
-    /// One request among several of a call: whether it is granted.
+    /// Returns whether the next request of the call is granted, if the call may make several
+    /// requests. Counts the request.
     pub fn granted(&mut self) -> bool {
         self.requests = self.requests.saturating_add(1);
         self.requests != self.at.refused
     }
 
-    /// What a growth among several of a call ends as, that gives the list this capacity. There is
-    /// none where it has it.
+    /// Returns how a growth to this capacity must end, if the call may make several growths. If the
+    /// list has this capacity already, no request is made.
     pub fn further_growth(&mut self, capacity: Option<usize>) -> Verdict {
         let Some(wanted) = capacity else {
             return Verdict::Overflow;
@@ -155,8 +163,8 @@ impl<T: Sample, G: Ruled> Case<T, G> {
         }
     }
 
-    /// What a call ends as that makes another list, or a `Vec`, of this capacity and with so many
-    /// clones.
+    /// Returns how a call must end if it makes another list, or a `Vec`, of this capacity, and then
+    /// `clones` clones.
     pub fn fresh(&mut self, capacity: Option<usize>, clones: usize) -> Verdict {
         match capacity {
             Some(capacity) => self.verdict(u64::from(capacity != 0), clones),
@@ -164,8 +172,8 @@ impl<T: Sample, G: Ruled> Case<T, G> {
         }
     }
 
-    // What a call ends as that asks for so many blocks, and then makes so many clones. What is due
-    // is told the case.
+    // Returns how a call must end if it requests `blocks` blocks and then makes `clones` clones.
+    // Sets how many requests and clones the call must make.
     fn verdict(&mut self, blocks: u64, clones: usize) -> Verdict {
         let refused = self.at.refused;
         let clones = clones as u64;
@@ -184,12 +192,13 @@ impl<T: Sample, G: Ruled> Case<T, G> {
         }
     }
 
-    /// Asserts that the call returned what it had to.
+    /// Asserts that the call returned what it must return.
     pub fn answered<R: Abort>(&self, rt: &R, answer: Result<(), ThinVecError>, verdict: Verdict) {
         same(rt, &self.at, "answer", answer, verdict.answer());
     }
 
-    /// Checks a call that puts an item at `index`: the item is there, or was returned.
+    /// Checks a call that puts an item at `index`: either the item is in the list, or the call
+    /// returned it. Puts the number into the reference if the call succeeded.
     pub fn put<R: Abort>(
         &mut self,
         rt: &R,
@@ -212,18 +221,18 @@ impl<T: Sample, G: Ruled> Case<T, G> {
         }
     }
 
-    /// Asserts that an item that a call returned is the one of that number.
+    /// Asserts that an item that a call returned is the item of this number.
     pub fn handed<R: Abort>(&self, rt: &R, item: &T, number: u64) {
         same(rt, &self.at, "item", item.told(), T::telling(number));
     }
 
-    /// Asserts that a call returned the item of that number, or none if there was to be none.
+    /// Asserts that a call returned the item of this number, or none if `number` is `None`.
     pub fn handed_or_none<R: Abort>(&self, rt: &R, item: Option<T>, number: Option<u64>) {
         same_item(rt, &self.at, item, number);
     }
 
-    /// So many items, numbered from `first` on, have come in after the others, where the call did
-    /// not fail.
+    /// Appends `count` numbers from `first` on to those of the list's items, if the call did not
+    /// fail.
     pub fn add<R: Abort>(&mut self, rt: &R, first: u64, count: usize, verdict: Verdict) {
         if verdict == Verdict::Done {
             let mut new = numbers(rt, self.ledger, first, count);
@@ -231,7 +240,7 @@ impl<T: Sample, G: Ruled> Case<T, G> {
         }
     }
 
-    /// Asserts that those are the items of these numbers.
+    /// Asserts that `items` are the items of these numbers.
     pub fn holds<R: Abort>(&self, rt: &R, items: &[T], numbers: &[u64]) {
         same_items(rt, &self.at, items, numbers);
     }
@@ -254,8 +263,9 @@ impl<T: Sample, G: Ruled> Case<T, G> {
         );
     }
 
-    /// Asserts that a list of that shape, whose items the call took, is empty now, or as it was
-    /// where the call failed, and has its block.
+    /// Checks a list whose items the call moved to another list. Asserts that it is empty now, or
+    /// unchanged if the call failed, and that it still has its block. The list had this shape, and
+    /// its items were numbered from `first` on.
     pub fn gave<R: Abort>(
         &self,
         rt: &R,
@@ -273,8 +283,8 @@ impl<T: Sample, G: Ruled> Case<T, G> {
         self.stands(rt, list, numbers.as_slice(), capacity);
     }
 
-    /// Checks a call that makes a second list: it has the items of these numbers, and this
-    /// capacity.
+    /// Checks a call that makes a second list. Asserts that the second list has the items of these
+    /// numbers, and this capacity.
     pub fn second<H: Growth, R: Abort>(
         &self,
         rt: &R,
@@ -292,8 +302,8 @@ impl<T: Sample, G: Ruled> Case<T, G> {
         }
     }
 
-    /// Takes the list out of the case, and the numbers of its items. The case has an empty one
-    /// afterwards.
+    /// Takes the list and the numbers of its items out of the case. Leaves an empty list without a
+    /// block.
     pub fn take(&mut self) -> (List<T, G>, Vec<u64, Global>) {
         self.capacity = 0;
         let list = mem::replace(&mut self.list, ThinVec::ruled(&self.ledger.alloc));
@@ -301,14 +311,16 @@ impl<T: Sample, G: Ruled> Case<T, G> {
         (list, items)
     }
 
-    /// Puts a list in the place of an empty one. It has to have these items and this capacity.
+    /// Replaces the list of the case, which is empty. The new list must have these items and this
+    /// capacity.
     pub fn set(&mut self, list: List<T, G>, items: Vec<u64, Global>, capacity: usize) {
         self.list = list;
         self.items = items;
         self.capacity = capacity;
     }
 
-    /// Asserts that the list is what it has to be, and that the call has done what was due.
+    /// Asserts that the list has the items and the capacity that it must have, that the call made
+    /// the requests and clones that it must make, and that no other item or block is left.
     pub fn check<R: Abort>(&self, rt: &R) {
         let requests = self.ledger.alloc.requests();
         same(rt, &self.at, "requests", requests, self.requests);
@@ -320,7 +332,8 @@ impl<T: Sample, G: Ruled> Case<T, G> {
         assert_out::<T, R>(rt, &self.at, self.ledger, self.items.len(), self.capacity);
     }
 
-    /// Ends the case, counts it, and asserts that nothing of it is left.
+    /// Ends the case, and counts it. Asserts that all its items are dropped and all its blocks are
+    /// freed.
     pub fn end<R: Abort>(self, rt: &R) {
         let at = self.at;
         let ledger = self.ledger;
@@ -330,7 +343,7 @@ impl<T: Sample, G: Ruled> Case<T, G> {
     }
 }
 
-/// A list of that shape, whose items are numbered from `first` on.
+/// Returns a list of this shape, whose items are numbered from `first` on.
 pub fn filled<T: Sample, G: Ruled, R: Abort>(
     rt: &R,
     ledger: &'static Ledger,
@@ -348,7 +361,7 @@ pub fn filled<T: Sample, G: Ruled, R: Abort>(
     list
 }
 
-/// So many items, numbered from `first` on.
+/// Returns `count` items, numbered from `first` on.
 pub fn source<T: Sample, R: Abort>(
     rt: &R,
     ledger: &'static Ledger,
@@ -364,12 +377,12 @@ pub fn source<T: Sample, R: Abort>(
     items
 }
 
-/// Puts a number after the others.
+/// Appends a number to `numbers`.
 pub fn put<R: Abort>(rt: &R, numbers: &mut Vec<u64, Global>, number: u64) {
     numbers.push(number).ok().expect(rt, "memory");
 }
 
-/// So many numbers from `first` on.
+/// Returns `count` numbers from `first` on.
 pub fn numbers<R: Abort>(
     rt: &R,
     ledger: &'static Ledger,
@@ -384,7 +397,7 @@ pub fn numbers<R: Abort>(
     numbers
 }
 
-// The capacity, where it fits.
+// Returns the capacity if a block of this capacity fits, and `None` otherwise.
 fn fitting<T: Sample>(capacity: usize) -> Option<usize> {
     if capacity <= T::LIMIT {
         Some(capacity)

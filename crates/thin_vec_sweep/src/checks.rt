@@ -1,5 +1,5 @@
-//! That the sweep does its work: a small one makes each of its cases, and each comparison fails at
-//! a difference.
+//! Tests of the sweep itself: that a small sweep runs each of its cases, and that each comparison
+//! fails if there is a difference.
 use crate::assertions::At;
 use crate::calls::arrays::every_array;
 use crate::calls::clones::Resize;
@@ -18,14 +18,14 @@ use std::alloc::Global;
 use std::process::Abort;
 use thin_vec::Doubling;
 
-// `resize` by k items makes k requests where there is no spare room: one for the block, and one for
-// each clone but the last. There is a case without a refusal, and one for each request: k + 1, but
-// at most 50. By no items it is tried twice, and by 1 to 9, 17 and 100 once.
+// Resizing by k items makes k requests if there is no spare room: one for the block, and one for
+// each clone but the last. So there are k + 1 cases, but at most 50: one without a refusal, and one
+// for each request. Resizing by 0 items is tried twice, and by 1 to 9, 17 and 100 items once each.
 //
-// An empty list without a block: 2 + (2 + .. + 10) + 18 + 50 = 124 cases, and in
-// (1 + .. + 9) + 17 + 49 = 111 of them a request is refused. With room for one item more there is
-// no request by one item: 123 cases, 110 refusals. Each case makes ten comparisons: the answer,
-// seven of `check`, two of `end`.
+// An empty list without a block has 2 + (2 + .. + 10) + 18 + 50 = 124 cases. In (1 + .. + 9) + 17 +
+// 49 = 111 of them, a request is refused. If the empty list has room for one item, resizing by one
+// item makes no request: 123 cases, with 110 refusals. Each case makes ten comparisons: one of the
+// answer, seven by `check`, and two by `end`.
 #[test]
 fn a_small_sweep_makes_each_case(rt: HostRuntime) {
     let ledger = Ledger::new(&rt, rt.alloc());
@@ -37,7 +37,7 @@ fn a_small_sweep_makes_each_case(rt: HostRuntime) {
     assert_eq!(rt; ledger.counted(), (247, 221, 2470));
 }
 
-// Lists of one and of two items, with up to four places beside them.
+// Returns a scope of the lists of one and of two items, with up to four slots of spare room.
 fn few<R: Abort>(rt: &R, alloc: Global) -> Scope {
     Scope {
         ledger: Ledger::new(rt, alloc),
@@ -45,8 +45,8 @@ fn few<R: Abort>(rt: &R, alloc: Global) -> Scope {
     }
 }
 
-// How many cases, refusals and comparisons each list of calls makes on those. A call that joins
-// changes the line of its list, and nothing else does.
+// How many cases, refusals and comparisons each list of calls makes on the shapes of `few`. A new
+// call changes the line of the list that it is in, and no other line.
 const COUNTS: [(u64, u64, u64); 12] = [
     // every_growth
     (6334, 2380, 81767),
@@ -118,7 +118,7 @@ fn each_call_makes_its_comparisons(rt: HostRuntime) {
     assert_eq!(rt; counts, COUNTS);
 }
 
-// A case of two counted items and one place beside them.
+// Returns a case of two counted items, with room for one more.
 fn two_items<R: Abort>(rt: &R, alloc: Global) -> Case<Counted, Doubling> {
     let ledger = Ledger::new(rt, alloc);
     let shape = Shape {
@@ -135,7 +135,7 @@ fn two_items<R: Abort>(rt: &R, alloc: Global) -> Case<Counted, Doubling> {
     Case::new(rt, ledger, at)
 }
 
-// A block beside the one that a case has.
+// Returns a list that owns a block, in addition to the list of the case.
 fn block<R: Abort>(rt: &R, case: &Case<Counted, Doubling>) -> List<Counted, Doubling> {
     let shape = Shape {
         length: 0,

@@ -1,12 +1,14 @@
-//! An iterator that claims more items, or fewer, than it has, and counts how often it is asked.
+//! An iterator whose size hint may differ from the number of items that it has, and which counts
+//! the calls of its methods.
 ghost use Rattle.std.specs.Prelude.{◌+◌, length};
 ghost use Rattle.std.specs.Iterator.{at_most};
 
 use crate::ledger::{Ledger, count};
 use crate::samples::Counted;
 
-/// Yields its items from the last on, and then `None` for good. Its lower bound is the same at each
-/// turn, whatever is left. It is counted itself, until it is dropped.
+/// An iterator that yields its items in reverse order, and then `None` forever. Its size hint is
+/// always `(lower, None)`, however many items are left. The iterator is also a counted item, until
+/// it is dropped.
 #[derive(Drop)]
 pub struct Claims<T> {
     items: Vec<T>,
@@ -16,7 +18,8 @@ pub struct Claims<T> {
 }
 
 impl<T> Claims<T> {
-    /// Each question is counted in the ledger.
+    /// Returns an iterator over `items` whose size hint has the lower bound `lower`. The ledger
+    /// counts each call of `next` and of `size_hint`.
     pub fn new(items: Vec<T>, lower: usize, ledger: &'static Ledger) -> Claims<T> {
         Claims {
             items,
@@ -26,7 +29,7 @@ impl<T> Claims<T> {
         }
     }
 
-    /// The items that were not yielded, from the last on.
+    /// Returns the items that were not yielded. The next one to be yielded is the last.
     pub fn into_items(self) -> Vec<T> {
         let Claims {
             items,

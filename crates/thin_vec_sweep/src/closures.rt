@@ -1,4 +1,4 @@
-//! What a closure that is passed to a call returns, and what it was asked.
+//! What the closure that is passed to a call returns, and which items it was called with.
 use crate::assertions::{At, same};
 use crate::ledger::count;
 use crate::samples::Sample;
@@ -6,11 +6,13 @@ use crate::shapes::Cases;
 use std::cell::Cell;
 use std::process::Abort;
 
-/// How many patterns there are of what a closure returns of k items.
+/// For each k from 0 to 6: how many patterns of results there are for a closure that is called with
+/// k items, which is 2 ^ k.
 pub const PATTERNS: Cases = [1, 2, 4, 8, 16, 32, 64];
 
-/// Whether the item at `index` of `count` stays, by the pattern of that number: of few items, its
-/// binary digits say which go.
+/// Returns whether the item at `index` stays, of `count` items, by the pattern of this number. If
+/// there are at most 6 items, the binary digits of `pattern` tell which items are removed (digit
+/// 1).
 pub fn stays(count: usize, pattern: usize, index: usize) -> bool {
     if count < PATTERNS.len() {
         return pattern >> (index % 64) & 1 == 0;
@@ -29,19 +31,20 @@ pub fn stays(count: usize, pattern: usize, index: usize) -> bool {
     }
 }
 
-/// The number of the item at `index`, before the call.
+/// Returns the number that the item at `index` has before the call.
 pub fn number_at(index: usize) -> u64 {
     (index as u64).saturating_add(1)
 }
 
-/// How often a closure was asked, and how often about another item than the one whose turn it was.
+/// How often a closure was called, and how often with another item than the one it had to be called
+/// with.
 pub struct Questions {
     asked: Cell<usize>,
     wrong: Cell<u64>,
 }
 
 impl Questions {
-    /// Of a closure that was not asked yet.
+    /// Returns the counts of a closure that was not called yet.
     pub fn new() -> Questions {
         Questions {
             asked: Cell::new(0),
@@ -49,21 +52,21 @@ impl Questions {
         }
     }
 
-    /// One question more. Returns its number, from 0 on.
+    /// Counts one call of the closure. Returns the number of this call, from 0 on.
     pub fn next(&self) -> usize {
         let number = self.asked.get();
         self.asked.set(number.saturating_add(1));
         number
     }
 
-    /// It has to be about the item of that number.
+    /// Counts a wrong item if `item` is not the item of this number.
     pub fn about<T: Sample>(&self, item: &T, number: u64) {
         if item.told() != T::telling(number) {
             count(&self.wrong);
         }
     }
 
-    /// Asserts that so many questions were asked, each about the right item.
+    /// Asserts that the closure was called `due` times, each time with the right item.
     pub fn end<R: Abort>(self, rt: &R, at: &At, due: usize) {
         let Questions { asked, wrong } = self;
         same(rt, at, "questions", asked.get(), due);

@@ -1,40 +1,41 @@
-//! What a test counts: requests and blocks, and what its items tell of themselves.
+//! The counts of a test: requests, blocks, items and clones, and how much the test has done.
 use std::alloc::Global;
 use std::cell::Cell;
 use std::process::Abort;
 use thin_testing::Refusing;
 
-/// How much a test has done.
+/// How many cases, refusals and comparisons a test has made.
 #[derive(Debug, Drop)]
 pub struct Counts {
     /// How many cases were run to their end.
     pub cases: Cell<u64>,
-    /// In how many of them a request was refused.
+    /// In how many of the cases a request was refused.
     pub refusals: Cell<u64>,
     /// How many comparisons were made.
     pub comparisons: Cell<u64>,
 }
 
-/// The allocator of a test's lists, and the counts that its items keep.
+/// The allocator of a test's lists, and what the test counts.
 pub struct Ledger {
-    /// Where every list of the test has its block from, and every item that owns one.
+    /// The allocator of every list of the test, and of every item that owns a block.
     pub alloc: Refusing<Global>,
-    /// Where the rest of the test has its memory from.
+    /// The allocator for everything else in the test.
     pub global: Global,
-    /// How many counted items there are that were not dropped yet.
+    /// How many counted items were made and not yet dropped.
     pub standing: Cell<u64>,
     /// How many clones of counted items were made since `begin`.
     pub clones: Cell<u64>,
-    /// How often an iterator was asked for an item since `begin`.
+    /// How often `next` of an iterator was called since `begin`.
     pub asked: Cell<u64>,
-    /// How often an iterator was asked for its hint since `begin`.
+    /// How often `size_hint` of an iterator was called since `begin`.
     pub hinted: Cell<u64>,
     /// How much the test has done since it began.
     pub counts: Counts,
 }
 
 impl Ledger {
-    /// A ledger in which nothing is counted yet. It stays until the test ends.
+    /// Returns a ledger in which all counts are 0. It is leaked, so that it lives until the test
+    /// ends.
     pub fn new<R: Abort>(rt: &R, alloc: Global) -> &'static Ledger {
         let ledger = Ledger {
             alloc: Refusing::new(alloc, 0),
@@ -52,8 +53,8 @@ impl Ledger {
         Box::leak(Box::new(alloc, ledger).ok().expect(rt, "memory"))
     }
 
-    /// Counts requests, clones and questions anew, and refuses the request of that number; none at
-    /// 0.
+    /// Resets the counts of requests, of clones and of calls of an iterator. From now on, refuses
+    /// the request with this number, or none if `refused` is 0.
     pub fn begin(&self, refused: u64) {
         self.alloc.refuse(refused);
         self.clones.set(0);
@@ -61,8 +62,8 @@ impl Ledger {
         self.hinted.set(0);
     }
 
-    /// Counts a case that has ended, of which so many requests were made, and whether one of them
-    /// was refused.
+    /// Counts a case that has ended. The case made `requests` requests. Also counts a refusal if
+    /// the refused request is among them.
     pub fn count_case(&self, refused: u64, requests: u64) {
         count(&self.counts.cases);
         if 0 < refused && refused <= requests {
@@ -70,7 +71,7 @@ impl Ledger {
         }
     }
 
-    /// How many cases, refusals and comparisons there were.
+    /// Returns how many cases, refusals and comparisons there were.
     pub fn counted(&self) -> (u64, u64, u64) {
         let Counts {
             cases,
@@ -95,7 +96,7 @@ impl Drop for Ledger {
     }
 }
 
-/// Counts one more.
+/// Adds 1 to the cell.
 pub fn count(cell: &Cell<u64>) {
     cell.set(cell.get().saturating_add(1));
 }

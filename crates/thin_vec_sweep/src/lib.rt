@@ -1,29 +1,34 @@
-//! The calls that `calls.rt` lists, swept over lists of a small scope, against a reference made of
-//! std's `Vec` and a number; and runs of commands, against the definition written as a program
-//! (`runs.rt`).
+//! Sweeps of the calls of a list, and random runs of commands. A sweep makes one call on many small
+//! lists, and compares the results with a reference, which is made of a `Vec` and a number. A run
+//! makes many calls on one list, and compares them with a model, which is the specification written
+//! as a program (`runs.rt`).
 //!
-//! A sweep makes the call on each shape of a list (`shapes.rt`), with each argument, with memory in
-//! plenty and with each of the requests that it made there refused in turn. After each it compares
-//! what the call returned, the items, the capacity, how many requests and clones were made, how
-//! many items stand, and how many blocks are out: then, and once the list is gone. With memory in
-//! plenty no call may fail but by an overflow. That all this is done is tested too (`checks.rt`).
+//! A sweep makes its call on a list of each shape (`shapes.rt`), with each argument. It makes the
+//! call first with enough memory, and then once more for each request that the call made, with this
+//! request refused. After each call it compares what the call returned, the items, the capacity,
+//! the numbers of requests and of clones, how many items are not dropped, and how many blocks are
+//! allocated. After the list is dropped, it compares the last two once more. With enough memory, a
+//! call may fail only because of a capacity overflow. The tests in `checks.rt` check that a sweep
+//! really does all this.
 //!
-//! How a call joins: a struct in a file of `calls/`, with an impl of `Call` (`sweep.rt`), and a
-//! line in `calls.rt`. Its `arguments` says how many arguments are tried on a list of a shape;
-//! `run` makes the call. In `run`, in this order: make what the call is given; ask the reference
-//! how it has to end (`growth` where the list's capacity may change, `fresh` where another list is
-//! made, `further_growth` and `granted` one by one where it makes several requests; no question
-//! where it takes no memory); `begin`, from where on requests are counted and refused; the call,
-//! after a test of what it requires; `answered`, and the same edit of `case.items`. A call that
-//! appends a slice's items has an impl of `AppendsSlice` (`calls/slices.rt`) in the place of `run`,
-//! and one that makes a second list an impl of `MakesSecond` (`calls/seconds.rt`). What a closure
-//! returns is in `closures.rt`, steps from both ends are in `walks.rt`: on lists and ranges of up
-//! to 6 items all there are. An iterator that a call is given is one of `claims.rt`, which counts
-//! how often it is asked. A call that joins changes a line of the counts in `checks.rt`.
+//! To add a call, add a struct with an impl of `Call` (`sweep.rt`) to a file of `calls/`, and a
+//! line to `calls.rt`. Its method `arguments` returns how many arguments are tried on a list of a
+//! shape. Its method `run` makes the call, in this order: (1) make the values that are passed to
+//! the call; (2) ask the reference how the call must end: `growth` if the list's capacity may
+//! change, `fresh` if the call makes another list, `further_growth` and `granted` once for each
+//! request if it makes several, and nothing if it takes no memory; (3) call `begin`, which resets
+//! the counts, and from then on refuses the request of the case; (4) test the preconditions of the
+//! call, and make the call; (5) call `answered`, and make the same edit of `case.items`. A call
+//! that appends the items of a slice has an impl of `AppendsSlice` (`calls/slices.rt`) in place of
+//! `run`, and a call that makes a second list has an impl of `MakesSecond` (`calls/seconds.rt`).
+//! What a closure returns is in `closures.rt`, and steps from both ends are in `walks.rt`: on lists
+//! and ranges of up to 6 items, all patterns of results and all sequences of steps are tried. An
+//! iterator that is passed to a call is a `Claims` (`claims.rt`), which counts the calls of its
+//! methods. A new call changes one line of the counts in `checks.rt`.
 //!
-//! A growth rule joins by an impl of `Ruled` (`thin_testing`) and a test, and an item type by an
-//! impl of `Sample` (`samples.rt`) and tests. A `Scope` (`sweep.rt`) says which shapes a test
-//! sweeps: so few calls a test that each ends within seconds.
+//! To add a growth rule, add an impl of `Ruled` (`thin_testing`) and a test. To add an item type,
+//! add an impl of `Sample` (`samples.rt`) and tests. A `Scope` (`sweep.rt`) names the shapes that a
+//! test sweeps. Each test makes so few calls that it ends within seconds.
 #![tactic(auto)]
 
 #[cfg(test)]

@@ -1,5 +1,5 @@
-//! Random and chosen runs of commands: each command is done by the runner, and by the definition
-//! written as a program.
+//! Random and hand-written runs of commands. Each command is run by the runner (`step`) and by the
+//! model, which is the specification written as a program, and both results are compared.
 mod commands;
 mod compared;
 mod judges;

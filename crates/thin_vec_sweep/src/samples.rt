@@ -1,4 +1,5 @@
-//! The items of the swept lists: of no size, of 1 to 512 bytes, counted, and lists themselves.
+//! The item types of the swept lists: types of 0 to 512 bytes, a type whose values are counted, and
+//! lists.
 ghost use Rattle.std.proofs.Common.{rules};
 ghost use Rattle.std.specs.Cmp.Rules.{comparing};
 ghost use Rattle.std.specs.Prelude.{◌==◌};
@@ -9,29 +10,30 @@ use std::process::Abort;
 use thin_testing::Refusing;
 use thin_vec::ThinVec;
 
-/// A type of items that can be told apart by a number, as far as it has different values.
+/// A type of items that are made from numbers. An item tells which number it was made from, as far
+/// as the type has enough different values.
 pub trait Sample: Clone + Drop + PartialEq {
-    /// Whether the ledger counts them and their clones.
+    /// Whether the ledger counts the items and their clones.
     const IS_COUNTED: bool;
 
-    /// Whether each owns a block of the ledger's allocator. Each clone is a request then.
+    /// Whether each item owns a block of the ledger's allocator. If so, each clone makes a request.
     const OWNS_BLOCK: bool;
 
     /// How many bytes an item takes.
     const SIZE: usize;
 
-    /// The greatest capacity that fits, worked out by hand: a block is 16 bytes and the items,
-    /// rounded up to its alignment, which is 8 or that of an item, and has to be at most
-    /// `isize::MAX`.
+    /// The greatest capacity that fits, worked out by hand. The size of a block is 16 bytes plus
+    /// its items, rounded up to its alignment, and must be at most `isize::MAX`. The alignment of a
+    /// block is that of an item, but at least 8.
     const LIMIT: usize;
 
-    /// The item of that number.
+    /// Makes the item of this number.
     fn nth<R: Abort>(rt: &R, ledger: &'static Ledger, number: u64) -> Self;
 
-    /// What an item tells of the number that it was made of.
+    /// Returns the number that the item was made from, or what the type keeps of it.
     fn told(&self) -> u64;
 
-    /// What the item of that number has to tell.
+    /// Returns what `told` must return for the item of this number.
     fn telling(number: u64) -> u64;
 }
 
@@ -86,7 +88,7 @@ impl Sample for i32 {
 
     const LIMIT: usize = 2_305_843_009_213_693_946;
 
-    // Every other number is below 0.
+    // Every second item is negative.
     fn nth<R: Abort>(_rt: &R, _ledger: &'static Ledger, number: u64) -> i32 {
         let magnitude = (number % 2_147_483_647) as i32;
         if number % 2 == 0 {
@@ -165,7 +167,7 @@ impl Sample for [u64; 64] {
         words
     }
 
-    // The first word and the last have to agree.
+    // The first and the last word must be equal.
     fn told(&self) -> u64 {
         if self[0] == self[63] {
             self[0]
@@ -179,14 +181,14 @@ impl Sample for [u64; 64] {
     }
 }
 
-/// An item that counts its drops and clones.
+/// An item whose drops and clones the ledger counts.
 pub struct Counted {
     ledger: &'static Ledger,
     number: u64,
 }
 
 impl Counted {
-    /// It is counted from here until it is dropped.
+    /// Makes an item, which is counted until it is dropped.
     pub fn new(ledger: &'static Ledger, number: u64) -> Counted {
         count(&ledger.standing);
         Counted { ledger, number }
@@ -239,7 +241,7 @@ impl Sample for Counted {
     }
 }
 
-/// A list as an item: its clones are requests of the same allocator.
+/// A list as an item. Each of its clones makes a request to the ledger's allocator.
 pub type Inner = ThinVec<u64, &'static Refusing<Global>>;
 
 impl Sample for Inner {

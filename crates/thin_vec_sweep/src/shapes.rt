@@ -1,26 +1,27 @@
-//! Which lists are swept: by their length and their spare room.
+//! The shapes of the lists that are swept: their length and their spare room.
 
-/// A list's number of items, and of places beside them.
+/// How many items a list has, and how many empty slots.
 #[derive(Debug, Clone, Copy)]
 pub struct Shape {
     pub length: usize,
     pub spare: usize,
 }
 
-/// How many shapes each call is swept over.
+/// How many shapes there are without the two longest.
 pub const SHAPES: usize = 110;
 
-/// How many of them are of at most 40 items.
+/// How many of the shapes have at most 40 items. They are the first ones.
 pub const SHORT: usize = 107;
 
-/// The number of the first of two shapes more: of 100,000 items.
+/// The number of the first of the two longest shapes, which have 100,000 items. Only some sweeps
+/// use them.
 pub const LONGEST: usize = SHAPES;
 
-/// How many shapes there are with those.
+/// How many shapes there are with the two longest.
 pub const ALL: usize = LONGEST + 2;
 
-// How many further items: for a short list, for one of up to 40 items, for a long one, and for the
-// longest.
+// How many items are added to a list in the different cases. `FEW` is for lists of up to 4 items,
+// `SOME` for up to 40, `MANY` for up to 10,000, and `MOST` for the longest.
 const FEW: [usize; 12] = [0, 1, 2, 3, 4, 5, 6, 7, 8, 9, 17, 100];
 
 const SOME: [usize; 4] = [0, 1, 9, 50];
@@ -29,14 +30,14 @@ const MANY: [usize; 2] = [1, 300];
 
 const MOST: [usize; 2] = [1, 100_000];
 
-/// How many cases of a call on k items there are, by k, where each is tried: that is on at most 6
-/// items.
+/// For each k from 0 to 6: how many cases there are of a call on k items. All of them are tried on
+/// lists and ranges of at most 6 items.
 pub type Cases = [usize; 7];
 
-// How many ranges of a list of more items are tried.
+// How many ranges are tried of a list of more than 6 items.
 const RANGES: usize = 4;
 
-/// A range of a list, and the number of a case of a call on its items.
+/// A range of a list, and the number of a case of a call on the items of this range.
 #[derive(Clone, Copy)]
 pub struct Ranged {
     pub start: usize,
@@ -45,15 +46,16 @@ pub struct Ranged {
 }
 
 impl Ranged {
-    /// How many items there are in the range.
+    /// Returns how many items there are in the range.
     pub fn width(self) -> usize {
         self.end.saturating_sub(self.start)
     }
 }
 
 impl Shape {
-    /// The shape of that number: 0 to 4 items with 0 to 4 places beside them, then 0 to 40 items
-    /// with 0 and 1, then some thousands, and then the longest with 1 and 0.
+    /// Returns the shape of this number. The shapes are, in order: 0 to 4 items with 0 to 4 empty
+    /// slots, 0 to 40 items with 0 and 1 empty slots, some thousand items, and the longest with 1
+    /// and 0 empty slots.
     pub fn nth(number: usize) -> Shape {
         if number < 25 {
             return Shape {
@@ -88,23 +90,24 @@ impl Shape {
         }
     }
 
-    // Whether there are more than 40 items.
+    // Returns whether there are more than 40 items.
     fn is_long(self) -> bool {
         self.length > 40
     }
 
-    // Whether each index and each count is tried.
+    // Returns whether each index and each count of `FEW` is tried.
     fn is_small(self) -> bool {
         self.length < 5
     }
 
-    /// How often a call is made at most with one argument: with memory in plenty, and with one
-    /// request refused after another, the first 49, or on a long list the first alone.
+    /// Returns how many cases there are at most for one argument: one with enough memory, and one
+    /// for each request that is refused. Only the first 49 requests are refused, and on a long list
+    /// only the first one.
     pub fn rounds(self) -> u64 {
         if self.is_long() { 2 } else { 50 }
     }
 
-    /// How many indices of the list are tried, from 0 up to its length.
+    /// Returns how many indices of the list are tried. They are from 0 up to its length.
     pub fn indices(self) -> usize {
         if self.is_small() {
             self.length.saturating_add(1)
@@ -113,7 +116,7 @@ impl Shape {
         }
     }
 
-    /// One of them.
+    /// Returns one of the indices that are tried, by its number.
     pub fn index(self, number: usize) -> usize {
         if self.is_small() {
             return number;
@@ -126,18 +129,20 @@ impl Shape {
         }
     }
 
-    /// How many cases of a call on all items are tried.
+    /// Returns how many cases of a call on all items are tried. `cases` has how many there are for
+    /// up to 6 items.
     pub fn cases(self, cases: &Cases) -> usize {
         cases.get(self.length).copied().unwrap_or(self.some())
     }
 
-    // How many are tried on more than 6 items, where there is no spare room.
+    // Returns how many cases are tried on more than 6 items, if there is no spare room. With spare
+    // room, none is.
     fn some(self) -> usize {
         self.alone(if self.is_long() { 2 } else { 20 })
     }
 
-    /// How many cases of a call on the items of a range are tried: each on each range, where there
-    /// are at most 6 items.
+    /// Returns how many cases of a call on the items of a range are tried. If the list has at most
+    /// 6 items, each case is tried on each range.
     pub fn ranged_cases(self, cases: &Cases) -> usize {
         if self.length >= cases.len() {
             return self.some().saturating_mul(RANGES);
@@ -149,12 +154,12 @@ impl Shape {
         count
     }
 
-    // How many ranges of so many items there are.
+    // Returns how many ranges of `width` items the list has.
     fn ranges(self, width: usize) -> usize {
         self.length.saturating_add(1).saturating_sub(width)
     }
 
-    /// One of them.
+    /// Returns a range and the number of a case on its items, by the number of both together.
     pub fn ranged_case(self, cases: &Cases, number: usize) -> Ranged {
         if self.length >= cases.len() {
             return self.some_range(number % RANGES, number / RANGES);
@@ -175,7 +180,7 @@ impl Shape {
         self.some_range(0, number)
     }
 
-    // A range of many items.
+    // Returns one of the ranges that are tried if there are more than 6 items.
     fn some_range(self, range: usize, number: usize) -> Ranged {
         let length = self.length;
         let (start, end) = match range {
@@ -187,12 +192,13 @@ impl Shape {
         Ranged { start, end, number }
     }
 
-    /// So many arguments, of a call for which the spare room does not matter.
+    /// Returns `arguments`, or 0 if there is spare room. It is for calls for which the spare room
+    /// does not matter.
     pub fn alone(self, arguments: usize) -> usize {
         if self.spare == 0 { arguments } else { 0 }
     }
 
-    /// How many numbers of further items are tried.
+    /// Returns how many numbers of added items are tried.
     pub fn counts(self) -> usize {
         if self.is_small() {
             12
@@ -203,7 +209,7 @@ impl Shape {
         }
     }
 
-    /// One of them.
+    /// Returns one of the numbers of added items that are tried, by its position.
     pub fn count(self, number: usize) -> usize {
         let count = if self.is_small() {
             FEW.get(number)

@@ -8,32 +8,32 @@ use std::ops::Range;
 use std::process::Abort;
 use thin_testing::Ruled;
 
-/// What a test sweeps over.
+/// What a test sweeps: its lists, and where it counts.
 #[derive(Drop)]
 pub struct Scope {
-    /// What the test counts.
+    /// The counts of the test.
     pub ledger: &'static Ledger,
     /// The numbers of the shapes that the lists have.
     pub shapes: Range<usize>,
 }
 
-/// A call that is swept, on lists of `T` under the rule `G`.
+/// A call that is swept, on lists of `T` under the growth rule `G`.
 pub trait Call<T: Sample, G: Ruled> {
-    /// What an assertion calls it.
+    /// The name of the call in the message of a failed assertion.
     const NAME: &'static str;
 
-    /// How many arguments are tried on a list of that shape.
+    /// Returns how many arguments are tried on a list of this shape.
     fn arguments(_shape: Shape) -> usize {
         1
     }
 
-    /// Makes the call on the list of the case and on its reference, and compares what it returns.
-    /// What stands afterwards is compared by whoever calls this.
+    /// Makes the call on the list of the case and the same edit on its reference, and compares what
+    /// the call returns. The caller of `run` compares the lists afterwards.
     fn run<R: Abort>(rt: &R, case: &mut Case<T, G>, argument: usize);
 }
 
-/// Sweeps a call. It stays a function of its own, as does `case`: inlined, all calls of an item
-/// type would be one function, and the compiler takes far longer over that.
+/// Sweeps a call. This function and `case` are never inlined. Otherwise, all calls of an item type
+/// would become one function, and the compiler would take far longer.
 #[inline(never)]
 pub fn sweep<C: Call<T, G>, T: Sample, G: Ruled, R: Abort>(rt: &R, scope: &Scope) {
     for number in scope.shapes.start..scope.shapes.end {
@@ -44,8 +44,8 @@ pub fn sweep<C: Call<T, G>, T: Sample, G: Ruled, R: Abort>(rt: &R, scope: &Scope
     }
 }
 
-// Makes the call with memory in plenty, and then with each request that it made there refused in
-// turn.
+// Makes the call with enough memory. Then makes it again for each request that the call made, with
+// this request refused.
 fn each_refusal<C: Call<T, G>, T: Sample, G: Ruled, R: Abort>(
     rt: &R,
     ledger: &'static Ledger,
@@ -68,7 +68,8 @@ fn each_refusal<C: Call<T, G>, T: Sample, G: Ruled, R: Abort>(
     }
 }
 
-// One case. Returns how many requests the call made, or would make with memory in plenty.
+// Runs one case. Returns how many requests the call made, or 1 if the call was left out because it
+// would take too much memory.
 #[inline(never)]
 fn case<C: Call<T, G>, T: Sample, G: Ruled, R: Abort>(
     rt: &R,

@@ -1,4 +1,4 @@
-//! The sweep at each type of items, in tests that each end within seconds.
+//! The sweeps of all item types, divided into tests that each end within seconds.
 ghost use Rattle.std.specs.Mem.{type_size};
 ghost use Rattle.std.specs.Prelude.{◌*◌, ◌<◌, ◌^◌};
 
@@ -16,7 +16,8 @@ use std::process::Abort;
 use thin_testing::{Fourfold, Ruled, Threefold};
 use thin_vec::{Doubling, PowerBytes};
 
-// Every shape, and of items that each own a block those of at most 40.
+// Returns a scope of all shapes but the longest. If each item owns a block, the scope has only the
+// shapes of at most 40 items.
 fn all<T: Sample, R: Abort>(rt: &R, alloc: Global) -> Scope {
     let shapes = if T::OWNS_BLOCK { SHORT } else { SHAPES };
     Scope {
@@ -25,7 +26,7 @@ fn all<T: Sample, R: Abort>(rt: &R, alloc: Global) -> Scope {
     }
 }
 
-// The shapes of at most 40 items.
+// Returns a scope of the shapes of at most 40 items.
 fn short<R: Abort>(rt: &R, alloc: Global) -> Scope {
     Scope {
         ledger: Ledger::new(rt, alloc),
@@ -33,7 +34,7 @@ fn short<R: Abort>(rt: &R, alloc: Global) -> Scope {
     }
 }
 
-// The longest shapes alone.
+// Returns a scope of only the longest shapes, of 100,000 items.
 fn longest<R: Abort>(rt: &R, alloc: Global) -> Scope {
     Scope {
         ledger: Ledger::new(rt, alloc),
@@ -41,22 +42,22 @@ fn longest<R: Abort>(rt: &R, alloc: Global) -> Scope {
     }
 }
 
-// Asserts that a sweep made at least so many cases, and that in so many of them a request was
-// refused.
+// Asserts that a sweep ran at least `cases` cases, and that a request was refused in at least
+// `refusals` of them.
 fn assert_swept<R: Abort>(rt: &R, scope: &Scope, cases: u64, refusals: u64) {
     let counted = scope.ledger.counted();
     let is_swept = counted.0 >= cases && counted.1 >= refusals;
     assert!(rt; is_swept, "cases, refusals, comparisons: {counted:?}");
 }
 
-// The growths of lists of such items.
+// Sweeps the calls for which a list of `T` may grow, under the growth rule `G`.
 fn growths<T: Sample, G: Ruled, R: Abort>(rt: &R, alloc: Global) {
     let scope = all::<T, R>(rt, alloc);
     every_growth::<T, G, R>(rt, &scope);
     assert_swept(rt, &scope, 30_000, 5_000);
 }
 
-// Their edits.
+// Sweeps the calls that edit a list of `T` without growing it, and the calls that filter it.
 fn edits<T: Sample, G: Ruled, R: Abort>(rt: &R, alloc: Global) {
     let scope = all::<T, R>(rt, alloc);
     every_edit::<T, G, R>(rt, &scope);
@@ -64,7 +65,7 @@ fn edits<T: Sample, G: Ruled, R: Abort>(rt: &R, alloc: Global) {
     assert_swept(rt, &scope, 20_000, 400);
 }
 
-// How they are read, and made.
+// Sweeps the calls that read a list of `T`, that make one, and that convert it to an array.
 fn readings<T: Sample, R: Abort>(rt: &R, alloc: Global)
     requires small { 6 * type_size T.row < 2 ^ 63 }
 {
@@ -75,7 +76,7 @@ fn readings<T: Sample, R: Abort>(rt: &R, alloc: Global)
     assert_swept(rt, &scope, 10_000, 1_000);
 }
 
-// How lists of items that can be copied are read and made.
+// Sweeps the same calls as `readings`, and those that copy the items of a list.
 fn readings_and_copies<T: Sample + Copy, R: Abort>(rt: &R, alloc: Global)
     requires small { 6 * type_size T.row < 2 ^ 63 }
 {
@@ -83,21 +84,21 @@ fn readings_and_copies<T: Sample + Copy, R: Abort>(rt: &R, alloc: Global)
     every_copying::<T, R>(rt, &all::<T, R>(rt, alloc));
 }
 
-// How ranges of them give way to others.
+// Sweeps the calls that replace a range of a list of `T`.
 fn replacings<T: Sample, G: Ruled, R: Abort>(rt: &R, alloc: Global) {
     let scope = short(rt, alloc);
     every_replacing::<T, G, R>(rt, &scope);
     assert_swept(rt, &scope, 10_000, 2_000);
 }
 
-// How ranges of them give way to copies.
+// Sweeps the calls that replace a range of a list by copies.
 fn replacings_by_copies<T: Sample + Copy, R: Abort>(rt: &R, alloc: Global) {
     let scope = short(rt, alloc);
     every_replacing_by_copies::<T, Doubling, R>(rt, &scope);
     assert_swept(rt, &scope, 3_000, 500);
 }
 
-// The first shape of a scope, and the one after its last.
+// Returns the number of the first shape of a scope, and the number after its last shape.
 fn ends(scope: &Scope) -> (usize, usize) {
     (scope.shapes.start, scope.shapes.end)
 }

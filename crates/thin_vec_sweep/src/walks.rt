@@ -1,24 +1,25 @@
-//! Steps from both ends of what yields items, and what has to come at each.
+//! Walks: sequences of steps from both ends of an iterator, and the item that each step must yield.
 use crate::shapes::Cases;
 
-/// How many walks over k items there are of at most k + 1 steps.
+/// For each k from 0 to 6: how many walks of at most k + 1 steps there are over k items.
 pub const WALKS: Cases = [3, 7, 15, 31, 63, 127, 255];
 
-// From which ends many items are asked for: a bit a step, where 1 is the back.
+// From which end each step is taken if there are more than 6 items: one bit for each step. The bit
+// 1 is the back.
 const ENDS: [u64; 4] = [0x5555_5555_5555_5555, u64::MAX, 0, 0xcccc_cccc_cccc_cccc];
 
-/// Steps from both ends.
+/// A sequence of steps. Each step is from the front or from the back.
 #[derive(Clone, Copy)]
 pub struct Walk {
-    /// How many there are.
+    /// How many steps there are.
     pub steps: usize,
-    // Which of them are from the back: a bit a step.
+    // Which steps are from the back: one bit for each step, and 1 is the back.
     ends: u64,
 }
 
 impl Walk {
-    /// The walk of that number over `count` items. Few have each: the binary digits of the number
-    /// say the steps.
+    /// Returns the walk of this number over `count` items. Over at most 6 items, each walk of up to
+    /// `count + 1` steps has a number: its binary digits after the first one are the steps.
     pub fn nth(count: usize, number: usize) -> Walk {
         if count >= WALKS.len() {
             return Walk {
@@ -36,7 +37,7 @@ impl Walk {
         }
     }
 
-    /// So many steps, all from the back or all from the front.
+    /// Returns a walk of `steps` steps that are all from the back, or all from the front.
     pub fn one_way(steps: usize, is_back: bool) -> Walk {
         Walk {
             steps,
@@ -44,13 +45,13 @@ impl Walk {
         }
     }
 
-    /// Whether the step of that number is from the back.
+    /// Returns whether the step of this number is from the back.
     pub fn is_back(self, step: usize) -> bool {
         self.ends >> (step % 64) & 1 == 1
     }
 }
 
-/// How many steps are made over many items, by a number from 0 to 4.
+/// Returns how many steps a walk over more than 6 items has, by a number from 0 to 4.
 pub fn some_steps(count: usize, number: usize) -> usize {
     match number {
         0 => count / 2,
@@ -61,7 +62,7 @@ pub fn some_steps(count: usize, number: usize) -> usize {
     }
 }
 
-/// The places of the items that remain of so many, once some went from either end.
+/// The range of the items that remain after some steps from either end.
 #[derive(Drop)]
 pub struct Remaining {
     start: usize,
@@ -69,7 +70,7 @@ pub struct Remaining {
 }
 
 impl Remaining {
-    /// All of `count` items.
+    /// Returns the range of all `count` items.
     pub fn new(count: usize) -> Remaining {
         Remaining {
             start: 0,
@@ -77,8 +78,8 @@ impl Remaining {
         }
     }
 
-    /// The number of the item that has to come now, from the back or the front, of the items of
-    /// these numbers.
+    /// Returns the number of the item that a step must yield, from the back or from the front, and
+    /// removes it from the range. `numbers` are the numbers of all items.
     pub fn take(&mut self, is_back: bool, numbers: &[u64]) -> Option<u64> {
         if self.start >= self.end {
             return None;
@@ -93,7 +94,7 @@ impl Remaining {
         numbers.get(place).copied()
     }
 
-    /// The numbers of those that remain.
+    /// Returns the numbers of the items that remain.
     pub fn of(self, numbers: &[u64]) -> &[u64] {
         numbers.get(self.start..self.end).unwrap_or(&[])
     }

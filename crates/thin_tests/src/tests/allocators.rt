@@ -1,5 +1,5 @@
-//! What a call makes is on the allocator that it was passed, and not on the list's own; also what
-//! it makes of nothing.
+//! Tests that a call which takes an allocator makes its result on that allocator, and not on the
+//! allocator of the list. This holds even if the list is empty.
 use crate::tests::support::assertions::{assert_counts, assert_len, assert_same};
 use crate::tests::support::claims::Claims;
 use crate::tests::support::items::{list_of, refusing_nth};
@@ -9,28 +9,29 @@ use thin_examples::spliced::splice_by;
 use thin_testing::Refusing;
 use thin_vec::ThinVec;
 
-// Pushes an item to a `Vec`, which has then one more.
+// Pushes an item to a `Vec` of `len` items, and asserts that it then has one item more.
 fn pushed<A: Allocator>(rt: &impl Abort, mut vec: Vec<i32, A>, len: usize) -> Vec<i32, A> {
     vec.push(9).ok().expect(rt, "memory");
     assert_same(rt, vec.len(), len.saturating_add(1));
     vec
 }
 
-// The list in a `Vec` on `alloc`, and one item more.
+// Moves the items of the list into a `Vec` on `alloc`, and pushes one more item.
 fn in_vec<A: Allocator>(rt: &impl Abort, list: ThinVec<i32, A>, alloc: A) -> Vec<i32, A> {
     let len = list.len();
     let vec = list.into_vec(alloc).ok().expect(rt, "memory");
     pushed(rt, vec, len)
 }
 
-// The same, but by a boxed slice.
+// Does the same as `in_vec`, but converts the list to a boxed slice first.
 fn in_boxed_slice<A: Allocator>(rt: &impl Abort, list: ThinVec<i32, A>, alloc: A) -> Vec<i32, A> {
     let len = list.len();
     let boxed = list.into_boxed_slice(alloc).ok().expect(rt, "memory");
     pushed(rt, boxed.into_vec(), len)
 }
 
-// The same, but by a list that is split off.
+// Splits off the whole list as a second list on `alloc`, and then does the same as `in_vec` with
+// the second list.
 fn in_split_list<A: Allocator + Copy>(
     rt: &impl Abort,
     mut list: ThinVec<i32, A>,
@@ -41,21 +42,22 @@ fn in_split_list<A: Allocator + Copy>(
     in_vec(rt, tail, alloc)
 }
 
-// The same, but by a clone.
+// Clones the list on `alloc`, and then does the same as `in_vec` with the clone.
 fn in_clone<A: Allocator + Copy>(rt: &impl Abort, list: ThinVec<i32, A>, alloc: A) -> Vec<i32, A> {
     let clone = list.clone(alloc).expect(rt, "memory");
     drop(list);
     in_vec(rt, clone, alloc)
 }
 
-// The same, but by a copy.
+// Copies the list by `clone_copies` on `alloc`, and then does the same as `in_vec` with the copy.
 fn in_copy<A: Allocator + Copy>(rt: &impl Abort, list: ThinVec<i32, A>, alloc: A) -> Vec<i32, A> {
     let copy = list.clone_copies(alloc).expect(rt, "memory");
     drop(list);
     in_vec(rt, copy, alloc)
 }
 
-// The same, but by a clone of what the list becomes.
+// Converts the list to an iterator, clones the iterator on `alloc`, and extends a new list by this
+// clone. Then does the same as `in_vec` with the new list.
 fn in_second_iter<A: Allocator + Copy>(
     rt: &impl Abort,
     list: ThinVec<i32, A>,
@@ -69,7 +71,8 @@ fn in_second_iter<A: Allocator + Copy>(
     in_vec(rt, list, alloc)
 }
 
-// One of the six ways.
+// Moves the items of `list` into a `Vec` on `other`, by one of the six functions above: the one
+// with the number `way`.
 fn moved(
     rt: &impl Abort,
     way: u32,
@@ -86,8 +89,8 @@ fn moved(
     }
 }
 
-// Each way for a list of these items: nothing of it stays on its own allocator, and one block comes
-// from the other.
+// Moves a list of these items to another allocator by each of the six functions above. Asserts each
+// time that the list's own allocator has no block left, and that the other allocator has one block.
 fn assert_moved(rt: &impl Abort, alloc: Global, items: &[i32]) {
     let own = refusing_nth(rt, alloc, 0);
     let other = refusing_nth(rt, alloc, 0);

@@ -1,4 +1,4 @@
-//! Which capacity a list has after each call, against numbers worked out by hand.
+//! Tests the capacity that a list has after each call, against numbers that were computed by hand.
 use crate::tests::support::assertions::{assert_list, assert_same};
 use crate::tests::support::items::{push_all, refusing_nth};
 use std::alloc::Global;
@@ -7,7 +7,7 @@ use std::process::Abort;
 use thin_testing::Refusing;
 use thin_vec::{ThinVec, ThinVecError};
 
-// Clears the list, and asserts that it has this capacity then.
+// Clears the list, and asserts that it then is empty and has this capacity.
 fn assert_cleared(rt: &impl Abort, list: &mut ThinVec<i32>, capacity: usize) {
     list.clear();
     assert_list(rt, list, &[], capacity);
@@ -26,19 +26,19 @@ fn test_clear(rt: HostRuntime) {
     assert_cleared(&rt, &mut list, 4);
 }
 
-// Pushes these items, and asserts the capacity then.
+// Pushes these items, and asserts that the list then has this capacity.
 fn assert_pushed(rt: &impl Abort, list: &mut ThinVec<i32>, items: Range<i32>, capacity: usize) {
     push_all(rt, list, items);
     assert_same(rt, list.capacity(), capacity);
 }
 
-// Reserves room, and asserts the capacity then.
+// Reserves room for `additional` items, and asserts that the list then has this capacity.
 fn assert_reserved(rt: &impl Abort, list: &mut ThinVec<i32>, additional: usize, capacity: usize) {
     list.reserve(additional).expect(rt, "memory");
     assert_same(rt, list.capacity(), capacity);
 }
 
-// The same by `reserve_exact`.
+// Does the same as `assert_reserved`, but by `reserve_exact`.
 fn assert_reserved_exact(
     rt: &impl Abort,
     list: &mut ThinVec<i32>,
@@ -69,14 +69,15 @@ fn test_reserve_exact(rt: HostRuntime) {
     assert_reserved_exact(&rt, &mut list, 16, 33);
 }
 
-// Asserts that no list of so many places is made.
+// Asserts that `with_capacity` fails with `CapacityOverflow` for this capacity.
 fn assert_overflows<T: Drop>(rt: &impl Abort, alloc: &'static Refusing<Global>, capacity: usize) {
     let refused = ThinVec::<T, &'static Refusing<Global>>::with_capacity(alloc, capacity).err();
     let overflow = Some(ThinVecError::CapacityOverflow);
     assert_same(rt, (capacity, refused), (capacity, overflow));
 }
 
-// No request is made: each overflow is found before.
+// Capacities that are too large are refused with `CapacityOverflow`, and each overflow is detected
+// before any memory is requested.
 #[test]
 fn test_capacity_overflow(rt: HostRuntime) {
     let refusing = refusing_nth(&rt, rt.alloc(), 0);

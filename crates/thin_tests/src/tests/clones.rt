@@ -1,4 +1,4 @@
-//! The calls that clone, also where a clone fails.
+//! Tests of the calls that clone items, also if a clone fails.
 use crate::tests::support::assertions::{assert_len, assert_list, assert_same};
 use crate::tests::support::items::{boxes_of, push_all};
 use crate::tests::support::scarce::Scarce;
@@ -7,7 +7,7 @@ use std::cell::Cell;
 use std::process::Abort;
 use thin_vec::{ThinVec, ThinVecError, thin_vec};
 
-// A list of these items, and its clone.
+// Asserts that a list of these items and its clone both have these items and no spare room.
 fn assert_cloned(rt: &impl Abort, alloc: Global, items: &[i32]) {
     let list = ThinVec::from_slice(alloc, items).expect(rt, "memory");
     assert_list(rt, &list, items, items.len());
@@ -41,7 +41,8 @@ fn test_clone_from(rt: HostRuntime) {
     }
 }
 
-// Appends clones, and asserts what is returned, and how many items there are then in 4 places.
+// Appends clones of `items`, and asserts that the call returns `answer`, and that the list then has
+// `len` items and the capacity 4.
 fn extend_scarcely<'a>(
     rt: &impl Abort,
     list: &mut ThinVec<Scarce<'a>, Global>,
@@ -53,7 +54,8 @@ fn extend_scarcely<'a>(
     assert_same(rt, (list.len(), list.capacity()), (len, 4));
 }
 
-// Appends clones of three items to one, where one clone is granted, and then where three are.
+// Appends clones of three items to a list of one item, twice. The first time, only one clone
+// succeeds, so that the call fails and drops this clone. The second time, all three clones succeed.
 fn extend_twice(rt: &impl Abort, alloc: Global, drops: &Cell<u32>, granted: &Cell<u32>) {
     let item = || Scarce::new(drops, granted);
     let three = [item(), item(), item()];
@@ -73,7 +75,8 @@ fn row_37_clone_refused(rt: HostRuntime) {
     assert_same(&rt, drops.get(), 8);
 }
 
-// Replaces the first of two items by clones of three, of which `granted` succeed: fewer than three.
+// Replaces the first of two items by clones of three items. Only `granted` of the clones succeed,
+// which are fewer than three: asserts that the call fails and drops the clones that it made.
 fn replace_scarcely(rt: &impl Abort, alloc: Global, drops: &Cell<u32>, granted: &Cell<u32>) {
     let item = || Scarce::new(drops, granted);
     let three = [item(), item(), item()];

@@ -1,4 +1,5 @@
-//! What a closure owns is dropped with it, once its call ends.
+//! Tests that a call drops its closure, and what the closure owns, when the call ends. An
+//! `ExtractIf` drops its closure when it is dropped itself.
 use crate::tests::support::assertions::{assert_items, assert_len, assert_same};
 use crate::tests::support::counted::Counted;
 use crate::tests::support::items::list_of;
@@ -7,12 +8,12 @@ use std::process::Abort;
 use std::rc::Rc;
 use thin_vec::ThinVec;
 
-// Whether an item is not 2. The value that is lent is owned by the closure that asks.
+// Returns whether the item is not 2. The closure that calls this owns the counted value.
 fn is_not_two(_owned: &Counted<'_>, item: i32) -> bool {
     item != 2
 }
 
-// Asserts what a list is that lost its 2, and that the closure's value was dropped, once.
+// Asserts that the list is 1, 3, and that the counted value of the closure was dropped once.
 fn assert_without_two(rt: &impl Abort, list: &ThinVec<i32>, drops: &Cell<u32>) {
     assert_items(rt, list.as_slice(), &[1, 3]);
     assert_same(rt, drops.get(), 1);
@@ -54,7 +55,8 @@ fn dedup_by_key_drops_its_closure(rt: HostRuntime) {
     assert_without_two(&rt, &list, &drops);
 }
 
-// The closure owns a counted reference: one that borrows the borrow checker does not cover here.
+// This closure owns an `Rc`, whose count shows the drop. A `Counted` would borrow its cell, and the
+// borrow checker does not cover a closure that borrows here.
 #[test]
 fn extract_if_drops_its_closure(rt: HostRuntime) {
     let kept = Rc::new(rt.alloc(), 2).ok().expect(&rt, "memory");

@@ -1,4 +1,4 @@
-//! How lists are compared.
+//! Tests of `==`, `!=` and `<` between lists.
 use crate::tests::support::assertions::assert_same;
 use crate::tests::support::items::list_of;
 

@@ -1,13 +1,13 @@
-//! How the capacity of a list of numbers grows push by push, and what its blocks have cost: proved,
-//! with the numbers.
+//! The capacity of a list of numbers after each of five pushes, and what its blocks have cost. The
+//! figures are proved: they are in the contracts.
 ghost use Rattle.std.specs.Prelude.{◌≡◌, ◌+◌, ◌*◌, ◌<◌, [], ◌∷◌, IfOk, OnOk, length};
 ghost use Rattle.thin_vec.specs.ThinVec.{HasRoomFor};
 
 use std::alloc::Allocator;
 use thin_vec::{ThinVec, ThinVecError};
 
-/// Five pushes into a new list, and the capacity after each. The one block of 4 places was copied
-/// into one of 8.
+/// Pushes five items to a new list, and returns the list and the capacity after each push. The list
+/// first has a block of 4 slots. The fifth push copies its 4 items to a block of 8 slots.
 pub fn five_pushes<A: Allocator>(alloc: A) -> Result<(ThinVec<u32, A>, [usize; 5]), ThinVecError>
     ensures capacities { IfOk result (λ made. made.1 ≡ 4 ∷ 4 ∷ 4 ∷ 4 ∷ 8 ∷ []) }
     ensures grown { IfOk result (λ made. made.0.cost.grown ≡ 4) }
@@ -27,7 +27,7 @@ pub fn five_pushes<A: Allocator>(alloc: A) -> Result<(ThinVec<u32, A>, [usize; 5
     Ok((list, [first, second, third, fourth, fifth]))
 }
 
-// A push into a full list, which doubles the capacity.
+// Pushes to a full list, which doubles its capacity. If the capacity is 0, it becomes 4.
 fn push_full<A: Allocator>(list: &mut ThinVec<u32, A>) -> Result<(), ThinVecError>
     requires full { length list.old.items ≡ list.old.capacity }
     requires few { list.old.capacity < 100 }
@@ -42,7 +42,7 @@ fn push_full<A: Allocator>(list: &mut ThinVec<u32, A>) -> Result<(), ThinVecErro
     Ok(())
 }
 
-// A push into spare room.
+// Pushes to a list with spare room, which changes neither the capacity nor the cost.
 fn push_spare<A: Allocator>(list: &mut ThinVec<u32, A>)
     requires room { HasRoomFor list.old 1 }
     ensures len { length list.new.items ≡ length list.old.items + 1 }

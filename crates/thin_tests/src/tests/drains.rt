@@ -1,4 +1,5 @@
-//! `drain`: what a program may promise of it, and how it ends.
+//! `drain`: functions whose contracts show what a caller can conclude, and tests of what a `Drain`
+//! yields and leaves.
 ghost use Rattle.std.specs.Prelude.{◌≡◌, ◌+◌, ◌≤◌, ◌++◌, IfOk, IfSome, OnOk, drop, length, max, reverse, slice_range, take};
 ghost use Rattle.std.specs.List.{fold, remove_range};
 ghost use Rattle.thin_vec.specs.Edits.Drain.{drain_lender};
@@ -11,8 +12,8 @@ use std::ops::Bound;
 use std::process::Abort;
 use thin_vec::{Drain, Growth, ThinVec, ThinVecError, bounds};
 
-/// Takes the items from `start` up to `end` out of the list, and returns the greatest of them, or
-/// `least` where that is more.
+/// Removes the items from `start` up to `end` from the list, and returns the greatest of them, or
+/// `least` if that is greater.
 pub fn greatest_out(list: &mut ThinVec<u32, Global>, start: usize, end: usize, least: u32) -> u32
     requires start_le_end { start ≤ end }
     requires in_bounds { end ≤ length list.old.items }
@@ -27,8 +28,8 @@ pub fn greatest_out(list: &mut ThinVec<u32, Global>, start: usize, end: usize, l
     greatest
 }
 
-/// Takes the items from `start` up to `end` out, and gives up after one of them. Those before and
-/// after them stay.
+/// Removes the items from `start` up to `end`, and returns the first of them, if any. The `Drain`
+/// is dropped after this one item; the items before and after the range stay in the list.
 pub fn without<T: Drop, A: Allocator, G: Growth>(
     list: &mut ThinVec<T, A, G>,
     start: usize,
@@ -43,8 +44,9 @@ pub fn without<T: Drop, A: Allocator, G: Growth>(
     drain.next()
 }
 
-/// Appends the items from `start` up to `end` of `list` to `other`, by one call. It uses the
-/// `Drain` up: what `list` has then is seen by a test alone.
+/// Moves the items from `start` up to `end` of `list` to the end of `other`, by one call of
+/// `extend`. This call takes the `Drain` by value, so that no contract states which items `list`
+/// has afterwards: a test checks that.
 pub fn extend_by_range(
     list: &mut ThinVec<u32, Global>,
     start: usize,
@@ -62,7 +64,7 @@ pub fn extend_by_range(
     }
 }
 
-/// The items from `start` up to `end`, in a `Vec`.
+/// Removes the items from `start` up to `end`, and returns them in a `Vec`.
 pub fn collected(
     list: &mut ThinVec<u32, Global>,
     start: usize,
@@ -76,7 +78,7 @@ pub fn collected(
     list.drain(start, end).collect(alloc)
 }
 
-/// The same, last first.
+/// Removes the items from `start` up to `end`, and returns them in a `Vec`, in reverse order.
 pub fn reversed(
     list: &mut ThinVec<u32, Global>,
     start: usize,
@@ -91,7 +93,8 @@ pub fn reversed(
     list.drain(start, end).rev().collect(alloc)
 }
 
-/// `drain` of a range in one of Rust's forms, or `None` where the list has no such range.
+/// Drains a range that is given by two bounds, as Rust's ranges are. Returns `None` if the list has
+/// no such range.
 pub fn drain_between<T: Drop, A: Allocator, G: Growth>(
     list: &mut ThinVec<T, A, G>,
     start: Bound<usize>,
@@ -103,7 +106,8 @@ pub fn drain_between<T: Drop, A: Allocator, G: Growth>(
     Some(list.drain(start, end))
 }
 
-// What a drain gives from the front, or from the back, and the slice of the list that it leaves.
+// Drains the range, from the front or from the back. Asserts that the drain yields the items in
+// `given`, that the list then has the items in `left`, and that its capacity does not change.
 fn assert_drained<T: PartialEq + std::fmt::Debug + Drop, A: Allocator>(
     rt: &impl Abort,
     mut list: ThinVec<T, A>,
@@ -121,7 +125,8 @@ fn assert_drained<T: PartialEq + std::fmt::Debug + Drop, A: Allocator>(
     assert_same(rt, list.capacity(), capacity);
 }
 
-// What it gives until it has ended.
+// Asserts that the drain yields the items in `given`, from the front or from the back, and then
+// `None` from both ends.
 fn assert_given<T: PartialEq + std::fmt::Debug + Drop, A: Allocator>(
     rt: &impl Abort,
     drain: &mut Drain<'_, T, A>,
@@ -203,7 +208,8 @@ fn test_drain_inclusive_range_to_the_first(rt: HostRuntime) {
     assert_drained(&rt, texts, first, false, &["0"], &["1"]);
 }
 
-// Drains six texts by a range with both ends.
+// Drains a range of a list of six texts, where both ends of the range are included. Asserts what
+// the drain yields and what is left.
 fn assert_texts_drained<R: Abort>(
     rt: &R,
     alloc: Global,
@@ -216,7 +222,8 @@ fn assert_texts_drained<R: Abort>(
     assert_drained(rt, texts, range, false, given, left);
 }
 
-// A range with both ends, the texts that it yields, and those that are left.
+// The first and the last index of a range, the texts that its drain yields, and the texts that are
+// left.
 type Drained = (
     (usize, usize),
     &'static [&'static str],

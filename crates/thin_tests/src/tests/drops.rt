@@ -1,5 +1,5 @@
-//! Each item is dropped once, by the list or by whoever it was handed out to, and each block is
-//! given back.
+//! Tests that each item is dropped once, by the list or by the code that it was moved to, and that
+//! a list without items makes no request.
 use crate::tests::support::assertions::assert_same;
 use crate::tests::support::counted::{Counted, counted_list};
 use crate::tests::support::items::{push, refusing_nth};

@@ -1,5 +1,5 @@
-//! `?` after a failed call: whatever error it becomes, each value that was returned is dropped
-//! once.
+//! Tests that `?` after a failed call drops each value that the error holds, exactly once, for each
+//! type of error that `?` converts to.
 use crate::tests::support::assertions::assert_same;
 use crate::tests::support::counted::{Counted, counted_list};
 use std::alloc::{AllocError, Global};
@@ -8,13 +8,14 @@ use std::io;
 use std::process::Abort;
 use thin_vec::{CollectRefused, ExtendRefused, Rejected, SpliceRefused, ThinVecError};
 
-// Returns the error that `?` makes of a refusal.
+// Converts the error `refused` by `?`, and returns the result.
 fn passed_on<R, E: From<R>>(refused: R) -> Result<(), E> {
     Err(refused)?;
     Ok(())
 }
 
-// Asserts that the error keeps nothing of a refusal, which holds so many counted values.
+// Converts `refused`, which holds `held` counted values, by `?`. Asserts that all of these values
+// are then dropped.
 fn assert_let_go<E: From<R> + Drop, R: Drop>(
     rt: &impl Abort,
     drops: &Cell<u32>,
@@ -28,7 +29,8 @@ fn assert_let_go<E: From<R> + Drop, R: Drop>(
 
 const CAUSE: ThinVecError = ThinVecError::OutOfMemory;
 
-// Passes a value on, and what a failed `extend` holds. The iterator counts its drop too.
+// Asserts that the errors of a failed `push` and of a failed `extend` drop the values that they
+// hold. The iterator that the error of `extend` holds counts its drop too.
 fn let_one_go<'a, E>(rt: &impl Abort, drops: &'a Cell<u32>)
 where
     E: From<Rejected<Counted<'a>>> + From<ExtendRefused<Counted<'a>, Counted<'a>>> + Drop,
@@ -47,7 +49,8 @@ where
     assert_let_go::<E, _>(rt, drops, extend, 2);
 }
 
-// The same of what a failed `from_iter` and a failed `finish` hold.
+// Asserts that the errors of a failed `from_iter` and of a failed `finish` drop the values that
+// they hold.
 fn let_many_go<'a, E>(rt: &impl Abort, alloc: Global, drops: &'a Cell<u32>)
 where
     E: From<CollectRefused<Counted<'a>, Counted<'a>>>

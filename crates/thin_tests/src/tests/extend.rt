@@ -1,4 +1,5 @@
-//! `extend` and `from_iter`: the Rust crate's own cases, and what is returned on failure.
+//! Tests of `extend` and `from_iter`: the cases of the Rust crate's tests, and what a failed call
+//! returns.
 use crate::tests::support::assertions::{assert_counts, assert_list, assert_same};
 use crate::tests::support::claims::Claims;
 use crate::tests::support::counted::Counted;
@@ -10,7 +11,7 @@ use std::ops::Range;
 use std::process::Abort;
 use thin_vec::{ExtendRefused, ThinVec, ThinVecError};
 
-// Extends a list by an item that counts its drop.
+// Extends a list by one item that counts its drop, and drops the list.
 fn extend_counted(rt: &impl Abort, alloc: Global, drops: &Cell<u32>) {
     let mut counted = ThinVec::new(alloc);
     counted
@@ -19,19 +20,19 @@ fn extend_counted(rt: &impl Abort, alloc: Global, drops: &Cell<u32>) {
         .expect(rt, "memory");
 }
 
-// Extends a list by items without size.
+// Extends a list by two zero-sized items, and asserts its length and capacity.
 fn extend_units(rt: &impl Abort, alloc: Global) {
     let mut units = ThinVec::new(alloc);
     units.extend((0..2).map(|_| ())).ok().expect(rt, "memory");
     assert_same(rt, (units.len(), units.capacity()), (2, 4));
 }
 
-// Appends the numbers of the range.
+// Extends the list by the numbers of the range.
 fn extend_by(rt: &impl Abort, list: &mut ThinVec<i32>, numbers: Range<i32>) {
     list.extend(numbers).ok().expect(rt, "memory");
 }
 
-// Appends the items of the list's clone.
+// Extends the list by the items of its own clone.
 fn extend_by_clone(rt: &impl Abort, list: &mut ThinVec<i32>, alloc: Global) {
     let clone = list.clone(alloc).expect(rt, "memory");
     list.extend(clone.as_slice().iter().copied())
@@ -91,7 +92,8 @@ fn row_26_extend_refused(rt: HostRuntime) {
     );
 }
 
-// Three items, and then so many more, of which the hint says nothing.
+// Extends a list of three items by `count` numbers, through an iterator whose size hint has the
+// lower bound 0.
 fn extended_blindly(rt: &impl Abort, alloc: Global, count: i32) -> ThinVec<i32> {
     let mut list = list_of(rt, alloc, &[1, 2, 3]);
     let more = (0..count).filter(|_| true);

@@ -1,11 +1,12 @@
-//! `extract_if`: what a program may promise of it, and what it leaves, wherever it is given up.
+//! A function whose contract shows what a caller can conclude about an `extract_if` that is dropped
+//! early.
 ghost use Rattle.std.specs.Prelude.{◌≡◌, ◌≤◌, length};
 
 use std::alloc::Allocator;
 use thin_vec::{Growth, ThinVec};
 
 #[tactic(auto, using(std::proofs::lemmas::List::Edits::split_between))]
-/// Begins an extraction and gives it up before any item is asked about: the list is as before.
+/// Starts an extraction, and drops it before any item is tested. The list is unchanged.
 pub fn untouched<T: Drop, A: Allocator, G: Growth>(
     list: &mut ThinVec<T, A, G>,
     start: usize,

@@ -1,5 +1,5 @@
-//! `retain` and `dedup`, in their forms: what no clause says, and the cases of the Rust crate's own
-//! tests.
+//! Tests of `retain` and `dedup`, and of their variants: what no contract states, and the cases of
+//! the Rust crate's tests.
 use crate::tests::support::assertions::{assert_items, assert_list, assert_same};
 use crate::tests::support::items::{boxes_of, list_of};
 use std::alloc::Global;
@@ -13,7 +13,7 @@ fn test_retain(rt: HostRuntime) {
     assert_list(&rt, &list, &[2, 4], 4);
 }
 
-// What is written stays on the items that stay.
+// `retain_mut` keeps what the closure writes to the items that stay.
 #[test]
 fn test_retain_mut(rt: HostRuntime) {
     let mut list = list_of(&rt, rt.alloc(), &[9, 9, 9, 9]);

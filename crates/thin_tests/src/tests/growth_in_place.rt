@@ -1,5 +1,5 @@
-//! Lists of items that make words, which grow and shrink in place once they are long. Each request is
-//! refused first, and then granted.
+//! Tests of lists that grow and shrink in place once they are long: those whose items have 1, 2, 4,
+//! 8 or 16 bytes. Each change of the capacity is refused first, and then made.
 use crate::tests::support::assertions::assert_same;
 use crate::tests::support::items::push;
 use std::alloc::{Allocator, Global};
@@ -8,12 +8,12 @@ use std::process::Abort;
 use thin_testing::{Refusing, Ruled};
 use thin_vec::{Doubling, Growth, PowerBytes, ThinVec, ThinVecError};
 
-// An item that tells its number.
+// A type of items that are made from numbers.
 trait Numbered: Copy + PartialEq + Debug + Drop {
     fn numbered(number: usize) -> Self;
 }
 
-// Bytes that are whole words apart differ.
+// The modulus is odd, so that bytes in neighbouring words differ.
 impl Numbered for u8 {
     fn numbered(number: usize) -> u8 {
         (number % 251) as u8
@@ -56,7 +56,8 @@ impl Numbered for u128 {
     }
 }
 
-// Asserts the capacity, and that the list holds the items of the first numbers, `len` of them.
+// Asserts that the list has `len` items, that the number of each item is its index, and that the
+// list has this capacity.
 fn assert_numbered<T: Numbered, A: Allocator, G: Growth>(
     rt: &impl Abort,
     list: &ThinVec<T, A, G>,
@@ -73,14 +74,15 @@ fn assert_numbered<T: Numbered, A: Allocator, G: Growth>(
     assert_same(rt, found, (len, len, capacity));
 }
 
-// Pushes the items of the next numbers until there is no spare room.
+// Pushes items until there is no spare room. The number of each item is its index.
 fn fill<T: Numbered, A: Allocator, G: Growth>(rt: &impl Abort, list: &mut ThinVec<T, A, G>) {
     for number in list.len()..list.capacity() {
         push(rt, list, T::numbered(number));
     }
 }
 
-// Pushes to a full list of items of `size` bytes, which fails first and leaves the list as it was.
+// Pushes to a full list of items of `size` bytes, twice. The first push is refused and leaves the
+// list unchanged. The second push makes the list grow as its growth rule says.
 fn assert_grows<T: Numbered, B: Allocator, G: Ruled>(
     rt: &impl Abort,
     refusing: &Refusing<B>,
@@ -97,7 +99,8 @@ fn assert_grows<T: Numbered, B: Allocator, G: Ruled>(
     assert_same(rt, refusing.requests(), 2);
 }
 
-// Makes a list of 600 items or more by pushes, from this capacity on.
+// Makes a list of at least 600 items by pushes, beginning at the capacity `first`. Asserts each
+// growth.
 fn assert_pushes<T: Numbered, B: Allocator, G: Ruled>(
     rt: &impl Abort,
     refusing: &Refusing<B>,
@@ -116,7 +119,7 @@ fn assert_pushes<T: Numbered, B: Allocator, G: Ruled>(
     assert_same(rt, (list.len() >= 600, refusing.blocks()), (true, 1));
 }
 
-// Makes the capacity another, by one request.
+// Changes the capacity of the list to `capacity`, by one request.
 fn make_capacity<T: Drop, A: Allocator, G: Growth>(
     list: &mut ThinVec<T, A, G>,
     capacity: usize,
@@ -128,7 +131,8 @@ fn make_capacity<T: Drop, A: Allocator, G: Growth>(
     }
 }
 
-// The same, but asserts that it fails first and leaves the list as it was.
+// Changes the capacity of the list to `capacity`, twice. Asserts that the first request is refused
+// and leaves the list unchanged, and that the second one succeeds.
 fn assert_capacity_made<T: Numbered, B: Allocator>(
     rt: &impl Abort,
     refusing: &Refusing<B>,
@@ -145,8 +149,9 @@ fn assert_capacity_made<T: Numbered, B: Allocator>(
     assert_same(rt, refusing.requests(), 2);
 }
 
-// Makes the capacity of a list of `len` items greater twice, and less twice, `more` apart. Each
-// slot of the smaller block is filled meanwhile.
+// Makes a full list of `len` items, and grows its capacity by `more` twice. Then shrinks its
+// capacity by `more`, fills all its slots, truncates it to `len` items, and shrinks its capacity by
+// `more` again.
 fn assert_capacities<T: Numbered, B: Allocator>(
     rt: &impl Abort,
     refusing: &Refusing<B>,
@@ -168,9 +173,10 @@ fn assert_capacities<T: Numbered, B: Allocator>(
     assert_same(rt, refusing.blocks(), 1);
 }
 
-// Asserts all this of one type of item, of `size` bytes. The lists are about as long as the shortest
-// that stay in place, which has 32 words. Their capacities are up to two words more: some are a
-// whole number of words, and others are not.
+// Runs `assert_pushes` and `assert_capacities` for one type of item, of `size` bytes. The shortest
+// block that can stay in place has 32 words (256 bytes) of items, so that the lists have about this
+// many bytes. Their capacities are up to 18 items greater. If an item is smaller than a word, some
+// of these capacities fill a whole number of words, and others do not.
 fn assert_type<T: Numbered>(rt: &impl Abort, alloc: Global, size: usize) {
     let refusing = Refusing::new(alloc, 0);
     for first in [0, 5, 261] {
@@ -212,8 +218,8 @@ fn a_list_of_pairs_of_words_grows_and_shrinks_in_place(rt: HostRuntime) {
     assert_type::<u128>(&rt, rt.alloc(), 16);
 }
 
-// Pushes 3,000 items. Before each growth a neighbour takes the memory after the list's block, so that
-// the block cannot be extended where it is.
+// Pushes 3,000 items. Before each growth, another list allocates the memory behind the list's
+// block, so that the block cannot grow in place.
 fn assert_pushes_beside_neighbours<T: Numbered>(rt: &impl Abort, alloc: Global) {
     let mut neighbours = ThinVec::<ThinVec<u8>>::new(alloc);
     let mut list = ThinVec::<T>::new(alloc);

@@ -1,11 +1,12 @@
-//! Which capacities lists have under `PowerBytes`, at items that the sweep does not make too.
+//! Tests the capacities of lists under the growth rule `PowerBytes`, for some item types that the
+//! sweep does not use under this rule.
 use crate::tests::support::assertions::assert_same;
 use crate::tests::support::items::push;
 use std::alloc::Global;
 use std::process::Abort;
 use thin_vec::{PowerBytes, ThinVec};
 
-// Pushes until each of these capacities is full, and asserts the capacity at every length.
+// Pushes until each of these capacities is full, and asserts the capacity after each push.
 fn assert_grows<T: Copy + Drop>(rt: &impl Abort, alloc: Global, item: T, capacities: &[usize]) {
     let mut list = ThinVec::<T, Global, PowerBytes>::ruled(alloc);
     for &capacity in capacities {

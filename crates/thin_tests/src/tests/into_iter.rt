@@ -1,4 +1,5 @@
-//! Walks over a list that is used up: what remains, and how they end.
+//! Tests of the iterator that takes a list by value: what remains after some steps, and how it
+//! ends.
 use crate::tests::support::assertions::{assert_items, assert_list, assert_same};
 use crate::tests::support::items::{list_of, refusing_nth};
 use std::alloc::{Allocator, Global};
@@ -35,7 +36,7 @@ fn test_into_iter_count(rt: HostRuntime) {
     assert_same(&rt, items.count(), 3);
 }
 
-// Clones what remains, and asserts the items of the clone.
+// Clones the iterator on `alloc`, and asserts that the clone has the items in `wanted`.
 fn assert_cloned<A: Allocator>(
     rt: &impl Abort,
     items: &IntoIter<i32, A>,
@@ -46,7 +47,8 @@ fn assert_cloned<A: Allocator>(
     assert_items(rt, clone.as_slice(), wanted);
 }
 
-// Clones what remains of a walk over 1, 2, 3, before a step and after it, and walks to the end.
+// Clones an iterator over 1, 2, 3 before and after its first step, and asserts the items of both
+// clones. Then moves the iterator to its end.
 fn clone_between_steps<A: Allocator + Copy>(
     rt: &impl Abort,
     items: &mut IntoIter<i32, A>,
@@ -69,7 +71,8 @@ fn test_into_iter_clone(rt: HostRuntime) {
     assert_cloned(&rt, &items, refusing, &[]);
 }
 
-// A list to which the items were moved, in order and then last first.
+// Returns a list to which the items were moved twice by iterators: in order, and then in reverse
+// order.
 fn moved_twice<T: Copy + Drop>(rt: &impl Abort, alloc: Global, items: &[T]) -> ThinVec<T> {
     let mut moved = ThinVec::new(alloc);
     let list = list_of(rt, alloc, items);

@@ -1,4 +1,5 @@
-//! The limits of a block, at the types that Rust has, against numbers worked out by hand.
+//! Tests of the largest capacities of a block, for types that Rust has, against numbers that were
+//! computed by hand.
 ghost use Rattle.std.specs.Prelude.{◌≡◌, IsTrue, IsFalse, ◌^◌, ◌-◌, ◌+◌};
 ghost use Rattle.thin_block.specs.Capacity.{items_offset, fits as fits_at};
 
@@ -38,7 +39,8 @@ fn the_next_capacity(rt: HostRuntime) {
     );
 }
 
-// The greatest want that a block of 2 ^ 62 bytes has room for, and the next one.
+// A block of 2 ^ 62 bytes has room for `last` items of one byte, and not for one item more. For
+// that many, `PowerBytes` has no capacity, but `Doubling` has one.
 #[test]
 fn the_last_power_of_two(rt: HostRuntime) {
     let last = (1 << 62) - 16;
@@ -65,7 +67,8 @@ fn the_errors(rt: HostRuntime) {
     assert_same(&rt, cause, ThinVecError::OutOfMemory);
 }
 
-// No type of the language has an alignment above 16, so no run can show these.
+// No type of Rattle has an alignment above 16, so that no test can run into these limits. They are
+// proved.
 #[tactic(auto, unfolding(thin_block::specs::Capacity::fits))]
 fn the_limits_at_greater_alignments()
     ensures byte_items { items_offset 1 ≡ 16 }

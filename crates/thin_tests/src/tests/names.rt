@@ -1,5 +1,4 @@
-//! The names that a program takes from the crate, and the traits that it relies on: of each is one
-//! use.
+//! Uses each public name of the crate, and each trait that programs rely on, once.
 use crate::tests::support::assertions::assert_same;
 use std::alloc::{AllocError, Allocator, Global};
 use std::convert::AsSlice;
@@ -13,7 +12,7 @@ use thin_vec::{
     Doubling, ExtractIf, Growth, IntoIter, Rejected, ThinVec, ThinVecError, fits, thin_vec,
 };
 
-// What a list of items that are cloned, compared, hashed and printed is.
+// Compiles only if a list of bytes has these traits.
 fn is_a_list<L>(_list: &L)
 where
     L: Clone + Eq + Ord + Hash + Debug + Drop,
@@ -21,13 +20,14 @@ where
     L: Index<usize, Output = u8> + IndexMut<usize> + IntoIterator<Item = u8> + Write,
 {}
 
-// What the iterator that it becomes is, and a `Drain`.
+// Compiles only if an iterator over bytes has these traits. The tests pass an `IntoIter` and a
+// `Drain`.
 fn is_an_iterator<I>(_items: &I)
 where
     I: DoubleEndedIterator + ExactSizeIterator + FusedIterator + Iterator<Item = u8> + Debug + Drop,
 {}
 
-// What the cause of a refusal is.
+// Compiles only if an error type has these traits. The test passes `ThinVecError`.
 fn is_a_cause<E>(_cause: &E)
 where
     E: Error + Copy + Eq + From<AllocError> + From<Rejected<u8>>,

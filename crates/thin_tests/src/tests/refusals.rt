@@ -1,11 +1,12 @@
-//! Memory that is refused, request by request, and what stands afterwards.
+//! A test of pushes whose memory is refused: what a failed push returns, and what the list has
+//! then.
 use crate::tests::support::assertions::{assert_counts, assert_list, assert_same};
 use crate::tests::support::items::{push_all, refusing_nth};
 use std::alloc::Allocator;
 use std::process::Abort;
 use thin_vec::{ThinVec, ThinVecError};
 
-// Pushes, which fails, and asserts what is returned.
+// Pushes `item`, and asserts that the push fails with `OutOfMemory` and returns the item.
 fn assert_push_refused<A: Allocator>(rt: &impl Abort, list: &mut ThinVec<i32, A>, item: i32) {
     let refused = list.push(item).err().expect(rt, "accepted");
     let wanted = (item, ThinVecError::OutOfMemory);

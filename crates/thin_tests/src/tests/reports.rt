@@ -1,4 +1,5 @@
-//! What is reported, where all goes well and where a write or a request is refused.
+//! Tests of the report that `thin_examples` writes: if every row is ok, if a write fails, and if a
+//! request for memory is refused.
 use crate::tests::support::assertions::assert_text;
 use std::alloc::{Allocator, Global};
 use std::io;
@@ -10,7 +11,8 @@ use thin_examples::rows::Outcome;
 use thin_testing::Refusing;
 use thin_vec::ThinVecError;
 
-// It holds what was written, and refuses one call.
+// A writer that appends what is written to `text`. The call of `write` with the number `failing`
+// fails.
 #[derive(Drop)]
 struct Failing<'a> {
     text: &'a mut String,
@@ -44,7 +46,8 @@ const REPORT: &str =
     row 36 ok\nrow 40 ok\nrow 41 ok\n\
     35 rows ok\n";
 
-// What the program ends with, as the text of the code, which has no other reader.
+// The exit codes of the program. An `ExitCode` can be read only by printing it, so that these are
+// texts.
 const EVERY_ROW_OK: &str = "ExitCode(unix_exit_status(0))";
 
 const ROW_FAILED: &str = "ExitCode(unix_exit_status(1))";
@@ -53,8 +56,8 @@ const OUT_OF_MEMORY: &str = "ExitCode(unix_exit_status(2))";
 
 const NOT_WRITTEN: &str = "ExitCode(unix_exit_status(3))";
 
-// Reports into `text`, of which the call of that number is refused, or none at 0. Asserts that the
-// report ends so, and returns how many calls it made.
+// Writes the report to `text`. The call of `write` with the number `failing` fails, or none if that
+// is 0. Asserts that the report ends with the exit code `end`, and returns how many calls it made.
 fn report_into<A: Allocator + Copy, R: Abort>(
     rt: &R,
     alloc: A,
@@ -72,7 +75,8 @@ fn report_into<A: Allocator + Copy, R: Abort>(
     out.calls
 }
 
-// Asserts that a report whose call of that number is refused wrote the whole report up to there.
+// Writes a report whose call of `write` with this number fails. Asserts that the report up to this
+// call was written, and that it made no further call.
 fn assert_written_until<R: Abort>(rt: &R, alloc: Global, failing: usize) {
     let mut text = String::new(alloc);
     let calls = report_into(rt, alloc, &mut text, failing, NOT_WRITTEN);
@@ -93,8 +97,9 @@ fn reports_until_a_line_is_refused(rt: HostRuntime) {
     }
 }
 
-// Asserts that a report whose request of that number is refused wrote the whole report up to there,
-// and why it ends, and gave each block back.
+// Makes a report whose request for memory with this number is refused. Asserts that the lines of
+// the rows before this request were written, that the last line says "out of memory", and that all
+// blocks are freed.
 fn assert_reported_until<R: Abort>(rt: &R, alloc: Global, nth: u64) {
     let refusing = Refusing::new(alloc, nth);
     let mut text = String::new(alloc);
@@ -118,7 +123,8 @@ fn reports_memory_refused_at_any_request(rt: HostRuntime) {
     }
 }
 
-// Asserts what is written of these rows, and what the report of them ends with.
+// Reports these rows. Asserts that `wanted` is written, and that the report ends with the exit code
+// `end`.
 fn reported(rt: &impl Abort, alloc: Global, rows: &[u32], wanted: &str, end: &str) {
     let mut text = String::new(alloc);
     {
@@ -134,7 +140,7 @@ fn reported(rt: &impl Abort, alloc: Global, rows: &[u32], wanted: &str, end: &st
 
 #[test]
 fn a_report_of_a_row_that_failed_counts_it_and_ends_with_1(rt: HostRuntime) {
-    // There is no row 0, which therefore fails.
+    // No row has the number 0, so that row 0 fails.
     for (rows, text) in [
         ([0, 1].as_slice(), "row 0 failed\nrow 1 ok\n1 rows failed\n"),
         (
@@ -157,7 +163,8 @@ fn a_report_of_a_row_that_failed_counts_it_and_ends_with_1(rt: HostRuntime) {
     );
 }
 
-// Asserts that the row 7, where it ends so, is written as that line, and gives that status.
+// Writes the line of row 7 with this outcome. Asserts that it is `line`, and that `status` is
+// returned.
 fn assert_row<R: Abort>(rt: &R, alloc: Global, outcome: Outcome, line: &str, status: Status) {
     let mut text = String::new(alloc);
     {
@@ -172,7 +179,7 @@ fn assert_row<R: Abort>(rt: &R, alloc: Global, outcome: Outcome, line: &str, sta
     assert!(rt; text.as_str() == line, "not {line}");
 }
 
-// One value is compared, which is right or not.
+// Returns the checks of a row that compared one value, which was right or wrong.
 fn compared(right: bool) -> Checks {
     let mut checks = Checks::new();
     checks.is(right);

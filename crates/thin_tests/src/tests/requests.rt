@@ -1,27 +1,27 @@
-//! Which requests `Refusing` refuses, and what it counts.
+//! Tests which requests the allocator `Refusing` refuses, and what it counts.
 use crate::tests::support::assertions::{assert_counts, assert_same};
 use crate::tests::support::items::refusing_nth;
 use std::alloc::{Allocator, Global};
 use std::process::Abort;
 use thin_testing::Refusing;
 
-// Pushes, and asserts whether that was granted.
+// Pushes an item, and asserts whether the push succeeds.
 fn assert_push<A: Allocator>(rt: &impl Abort, items: &mut Vec<u8, A>, item: u8, granted: bool) {
     assert_same(rt, items.push(item).is_ok(), granted);
 }
 
-// Reserves room for many more, and asserts whether that was granted.
+// Reserves room for 1000 more items, and asserts whether this succeeds.
 fn assert_reserve<A: Allocator>(rt: &impl Abort, items: &mut Vec<u8, A>, granted: bool) {
     assert_same(rt, items.reserve(1000).is_ok(), granted);
 }
 
-// Asserts how many blocks are out.
+// Asserts how many blocks are allocated and not freed.
 fn assert_blocks(rt: &impl Abort, refusing: &Refusing<Global>, blocks: u64) {
     assert_same(rt, refusing.blocks(), blocks);
 }
 
-// Pushes to a `Vec` of its own, and asserts how many blocks are out by the refusal, and by the push
-// after it.
+// Pushes to a new `Vec`, twice. Asserts that the first push is refused and leaves one block
+// allocated, and that the second one allocates a second block.
 fn assert_blocks_by_pushes(rt: &impl Abort, refusing: &Refusing<Global>) {
     let mut other = Vec::new(refusing);
     assert_push(rt, &mut other, 2, false);

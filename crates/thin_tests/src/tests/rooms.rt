@@ -1,12 +1,13 @@
-//! Callers that count on a list's length being at most its capacity, and on its capacity being
-//! small. None has a proof file, and none asks a list for its length to learn that.
+//! Functions that rely on two facts about every list: its length is at most its capacity, and its
+//! capacity is less than 2 ^ 63. The prover finds both facts by itself. None of the functions has a
+//! proof file, or calls `len` to make the prover see these facts.
 ghost use Rattle.std.specs.Prelude.{◌≡◌, ◌+◌, ◌<◌, ◌≤◌, IsTrue, length, take};
 
 use std::alloc::Allocator;
 use thin_vec::{Growth, ThinVec};
 
-/// Puts another item in the place of the last one, and returns whether there was one. It asks for
-/// no memory.
+/// Replaces the last item by `value`, and returns whether there was a last item. It allocates no
+/// memory.
 pub fn replace_last<T: Drop, A: Allocator, G: Growth>(list: &mut ThinVec<T, A, G>, value: T) -> bool
     ensures succeeds { 0 < length list.old.items → IsTrue result }
     ensures capacity { list.new.capacity ≡ list.old.capacity }
@@ -17,8 +18,8 @@ pub fn replace_last<T: Drop, A: Allocator, G: Growth>(list: &mut ThinVec<T, A, G
     }
 }
 
-/// Keeps one item alone, that was not in the list, and returns whether it could. It asks for no
-/// memory where there was one.
+/// Replaces all items by `value`, and returns whether that succeeded. It allocates no memory if the
+/// list had an item.
 pub fn only<T: Drop, A: Allocator, G: Growth>(list: &mut ThinVec<T, A, G>, value: T) -> bool
     ensures succeeds { 0 < length list.old.items → IsTrue result }
 {
@@ -26,7 +27,8 @@ pub fn only<T: Drop, A: Allocator, G: Growth>(list: &mut ThinVec<T, A, G>, value
     list.push(value).is_ok()
 }
 
-/// Drops `count` items after the first `at`, where there are as many.
+/// Truncates the list to `at` items, and returns `at + count`. The list has at least that many
+/// items, so the sum does not overflow.
 pub fn cut_to<T: Drop, A: Allocator, G: Growth>(
     list: &mut ThinVec<T, A, G>,
     at: usize,

@@ -1,4 +1,5 @@
-//! What each row compares and asks memory for, and that a comparison sees a wrong value.
+//! Tests of the worked examples (rows): how many values each one compares, how many requests it
+//! makes, and that each comparison detects a wrong value.
 use std::alloc::Global;
 use std::process::Abort;
 use thin_examples::checks::Checks;
@@ -6,9 +7,9 @@ use thin_examples::rows::{ROWS, row};
 use thin_testing::Refusing;
 use thin_vec::{ThinVec, thin_vec};
 
-// How many values each row compares, and how many requests it makes, counted by hand: a row that
-// compares less, or does another's work, has another line. The requests of row 35 are those of
-// the kit's `format!`, and not told.
+// How many values each row compares, and how many requests it makes, counted by hand. A row that
+// compares fewer values, or does the work of another row, has a different line. The requests of row
+// 35 are made by the `format!` of Rattle's library, and are shown as 0.
 const COUNTS: &str = "\
     1: 5, 0\n\
     2: 12, 2\n\
@@ -46,8 +47,8 @@ const COUNTS: &str = "\
     40: 15, 2\n\
     41: 6, 5\n";
 
-// Asserts that a row is ok and leaves no block. Returns how many values it compares, and how many
-// requests it makes.
+// Runs a row. Asserts that it is ok and that all its blocks are freed. Returns how many values it
+// compares, and how many requests it makes.
 fn counts<R: Abort>(rt: &R, alloc: Global, number: u32) -> (u32, u64) {
     let refusing = Refusing::new(alloc, 0);
     let checks = row(&refusing, number).ok().expect(rt, "no refusal");
@@ -56,7 +57,7 @@ fn counts<R: Abort>(rt: &R, alloc: Global, number: u32) -> (u32, u64) {
     (checks.compared(), requests)
 }
 
-// Writes the line of a row.
+// Appends the line of a row to `lines`.
 fn put_counts<R: Abort>(rt: &R, alloc: Global, number: u32, lines: &mut String) {
     let (values, requests) = counts(rt, alloc, number);
     let line = format!(in alloc; "{number}: {values}, {requests}\n").expect(rt, "memory");
@@ -72,12 +73,12 @@ fn each_row_compares_its_values_and_makes_its_requests(rt: HostRuntime) {
     assert_eq!(rt; lines.as_str(), COUNTS);
 }
 
-// Asserts that one value more was found wrong.
+// Asserts that `values` values were compared, and that at least one of them was wrong.
 fn assert_wrong(rt: &impl Abort, checks: Checks, values: u32) {
     assert!(rt; checks.compared() == values && !checks.is_ok());
 }
 
-// The list 1, 2 is compared with these items and this capacity.
+// Returns the result of comparing the list 1, 2 with these items and this capacity.
 fn held(rt: &impl Abort, alloc: Global, items: &[u32], capacity: usize) -> Checks {
     let list = thin_vec![alloc => 1, 2].expect(rt, "memory");
     let mut checks = Checks::new();

@@ -1,4 +1,4 @@
-//! `run` of commands: what no clause says of it.
+//! A test of `run`, which runs commands: what no contract states about it.
 use crate::tests::support::assertions::assert_same;
 use crate::tests::support::items::refusing_nth;
 use std::alloc::Global;

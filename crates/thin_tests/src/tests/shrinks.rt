@@ -1,16 +1,16 @@
-//! `shrink_to_fit`: what it leaves.
+//! Tests of `shrink_to_fit`, and of `has_capacity`, which tells whether a list has a block.
 use crate::tests::support::assertions::assert_same;
 use crate::tests::support::items::{push, push_all};
 use std::alloc::Global;
 use std::process::Abort;
 use thin_vec::ThinVec;
 
-// Asserts whether the list owns a block.
+// Asserts whether the list has a block, by `has_capacity`.
 fn assert_owns_block<T>(rt: &impl Abort, list: &ThinVec<T>, owns_block: bool) {
     assert_same(rt, list.has_capacity(), owns_block);
 }
 
-// By `has_capacity`.
+// `has_capacity` is true exactly while the list has a block.
 #[test]
 fn test_alloc(rt: HostRuntime) {
     let alloc = rt.alloc();
@@ -31,7 +31,8 @@ fn test_alloc(rt: HostRuntime) {
     }
 }
 
-// No type of the language has a greater alignment than u128.
+// `u128` has the largest alignment of all types of Rattle. A list of one `u128` keeps its item if
+// the capacity grows and shrinks again.
 #[test]
 fn overaligned_allocations(rt: HostRuntime) {
     let mut list = ThinVec::new(rt.alloc());

@@ -1,4 +1,4 @@
-//! How wide a list is, and items that are not wide at all.
+//! Tests of the size of a list, and of lists of zero-sized items.
 use crate::tests::support::assertions::assert_same;
 use crate::tests::support::items::push;
 use std::alloc::Global;

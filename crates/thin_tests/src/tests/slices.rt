@@ -1,4 +1,5 @@
-//! What is written through a lent slice or a lent item is in the list afterwards.
+//! Tests that a write through a mutable slice, or through a mutable reference to an item, changes
+//! the list.
 use crate::tests::support::assertions::{assert_items, assert_same};
 use crate::tests::support::items::list_of;
 

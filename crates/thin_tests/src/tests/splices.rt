@@ -1,4 +1,5 @@
-//! `splice`: what a program may promise of it, and what `finish` leaves, wherever it fails.
+//! `splice`: functions whose contracts show what a caller can conclude, and tests of what a failed
+//! `finish` leaves and returns.
 ghost use Rattle.std.specs.Prelude.{◌≡◌, ◌≤◌, ◌++◌, OnOk, drop, length, take};
 
 use crate::tests::support::assertions::{assert_items, assert_len, assert_list, assert_same};
@@ -10,8 +11,8 @@ use std::process::Abort;
 use thin_examples::spliced::splice_by;
 use thin_vec::{Growth, SpliceRefused, ThinVec, ThinVecError};
 
-/// Puts the numbers in the place of the items from `start` up to `end`. Refused, those that found
-/// no room are dropped.
+/// Replaces the items from `start` up to `end` by the numbers. On failure, the numbers that are not
+/// in the list are dropped.
 pub fn replace<A: Allocator, G: Growth>(
     list: &mut ThinVec<u32, A, G>,
     start: usize,
@@ -30,8 +31,8 @@ pub fn replace<A: Allocator, G: Growth>(
     }
 }
 
-/// Puts the numbers in the place of the items from `start` up to `end`, and then takes that back:
-/// the list is as before.
+/// Replaces the items from `start` up to `end` by the numbers, and then puts the old items back.
+/// The list has the same items as before.
 pub fn replace_and_undo<A: Allocator + Copy, G: Growth>(
     list: &mut ThinVec<u32, A, G>,
     start: usize,
@@ -65,8 +66,8 @@ fn a_splice_is_undone(rt: HostRuntime) {
     }
 }
 
-// What a failed `finish` returns: the cause, what is held, what is in hand, and what the rest
-// gives.
+// Asserts what a failed `finish` returned: the cause, the items held back, the one item in hand,
+// and the items that the rest of the iterator yields.
 fn assert_refused<A: Allocator>(
     rt: &impl Abort,
     refused: SpliceRefused<i32, Claims<'_>, A>,
@@ -86,8 +87,8 @@ fn assert_refused<A: Allocator>(
     assert_same(rt, rest.next(), None);
 }
 
-// Puts what `iter` gives in the place of a range of the items, and asserts what their list has by
-// the failure, and what that returns.
+// Splices the items of `iter` into a list in place of a range, which has to fail. Asserts which
+// items and which capacity the list then has (`left`), and what the failed call returns (`wanted`).
 fn assert_range_refused<A: Allocator + Copy>(
     rt: &impl Abort,
     alloc: A,
@@ -120,7 +121,8 @@ fn row_12_splice_refused(rt: HostRuntime) {
 
 #[test]
 fn row_39_splice_refused(rt: HostRuntime) {
-    // The list's first memory, the vector's, and then the list's growth.
+    // The requests are for the list's first block, for the vector of the items held back, and for
+    // the growth of the list. The last one is refused.
     let refusing = refusing_nth(&rt, rt.alloc(), 3);
     let iter = Claims::new(&[7, 8, 9], 0);
     let left = (&[1, 7, 3][..], 3);
@@ -128,7 +130,8 @@ fn row_39_splice_refused(rt: HostRuntime) {
     assert_range_refused(&rt, refusing, &[1, 2, 3], (1, 2), iter, left, wanted);
 }
 
-// Puts so many numbers in the place of the second item.
+// Replaces the second item by `count` numbers, through an iterator whose size hint has the lower
+// bound 0.
 fn splice_long(rt: &impl Abort, list: &mut ThinVec<i32>, count: i32, alloc: Global)
     requires in_bounds { 2 ≤ length list.old.items }
 {

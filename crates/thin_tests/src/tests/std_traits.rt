@@ -1,4 +1,4 @@
-//! A list by std's own traits: `IntoIterator`.
+//! Tests that using a list through traits of `std`, or as a slice, makes no request for memory.
 use crate::tests::support::assertions::{assert_counts, assert_same};
 use crate::tests::support::items::{push_all, refusing_nth};
 use std::convert::AsSlice;
@@ -15,7 +15,7 @@ fn a_walk_by_value_makes_no_request(rt: HostRuntime) {
     assert_counts(&rt, refusing, 0, 0);
 }
 
-// The length of what is seen as a slice.
+// Returns the length of `items` as a slice.
 fn seen_as_slice<S: AsSlice<i32>>(items: &S) -> usize {
     items.as_slice().len()
 }

@@ -1,5 +1,5 @@
-//! What no clause says of the table of `thin_rows`: when memory is asked for and given back, and
-//! texts. And many random calls, beside a map of std's that takes the same calls.
+//! Tests of the table of `thin_rows`: what no contract states (when memory is requested and freed,
+//! and how a table is printed), and many random calls that are compared with a `BTreeMap`.
 ghost use Rattle.std.specs.Prelude.{◌<◌, length};
 
 use crate::tests::support::assertions::{assert_counts, assert_same};
@@ -13,14 +13,14 @@ use std::process::Abort;
 use thin_rows::{Rows, ThinVecError};
 use thin_testing::Refusing;
 
-// Asserts that the table has the row, which its calls ask for.
+// Asserts that the table has the row, which its calls require.
 fn assert_row<V, A: Allocator>(rt: &impl Abort, table: &Rows<V, A>, row: usize)
     ensures in_bounds { row < length table.now }
 {
     assert!(rt; row < table.rows());
 }
 
-// Asserts what the row holds.
+// Asserts that the row has these entries, and that it has a block exactly if it is not empty.
 fn assert_entries<A: Allocator>(
     rt: &impl Abort,
     table: &Rows<u32, A>,
@@ -32,7 +32,7 @@ fn assert_entries<A: Allocator>(
     assert_same(rt, table.owns_block(row), !entries.is_empty());
 }
 
-// Sets, and asserts what was there.
+// Sets the value at `place`, and asserts that `old` was the value there.
 fn assert_set<A: Allocator>(
     rt: &impl Abort,
     table: &mut Rows<u32, A>,
@@ -45,7 +45,7 @@ fn assert_set<A: Allocator>(
     assert_same(rt, was.expect(rt, "memory"), old);
 }
 
-// Removes, and asserts what was there.
+// Removes the value at `place`, and asserts that `old` was the value there.
 fn assert_removed<A: Allocator>(
     rt: &impl Abort,
     table: &mut Rows<u32, A>,
@@ -56,7 +56,7 @@ fn assert_removed<A: Allocator>(
     assert_same(rt, table.remove(place.0, place.1), old);
 }
 
-// Asserts what is there.
+// Asserts that `value` is the value at `place`.
 fn assert_value<A: Allocator>(
     rt: &impl Abort,
     table: &Rows<u32, A>,
@@ -79,7 +79,7 @@ fn a_refused_table_is_none(rt: HostRuntime) {
     }
 }
 
-// Sets values that count their drops in the first row: the fourth takes the place of one.
+// Sets four counted values in row 0. The fourth one replaces the second one.
 fn set_counted<'a>(rt: &impl Abort, table: &mut Rows<Counted<'a>>, drops: &'a Cell<u32>) {
     for column in [3, 1, 2, 1] {
         assert_row(rt, table, 0);
@@ -142,7 +142,8 @@ fn prints_a_row_of_many_entries(rt: HostRuntime) {
     );
 }
 
-// Sets an entry in each of so many columns of the row 0, the last column first.
+// Sets entries in `columns` columns of row 0, the last column first, and in as many columns of the
+// last row, the first column first.
 fn fill_columns<A: Allocator>(rt: &impl Abort, table: &mut Rows<u32, A>, columns: usize) {
     for column in 0..columns {
         assert_set(rt, table, (table.rows().saturating_sub(1), column), 7, None);
@@ -150,7 +151,9 @@ fn fill_columns<A: Allocator>(rt: &impl Abort, table: &mut Rows<u32, A>, columns
     }
 }
 
-// Beside the table's own block, one for each capacity from 4 up to 4096.
+// A table with two long rows has three blocks: its own, and one for each of the two rows. Each row
+// grows through all capacities from 4 to 4096, which are 11 requests. With the request for the
+// table's own block, that makes 23.
 #[test]
 fn a_row_takes_thousands_of_columns(rt: HostRuntime) {
     let refusing = refusing_nth(&rt, rt.alloc(), 0);
@@ -185,7 +188,8 @@ fn a_full_row_makes_no_request_for_an_entry_that_is_there(rt: HostRuntime) {
     assert_counts(&rt, refusing, 0, 2);
 }
 
-// Sets each entry of a row of so many once more, and asserts that this asks for no memory.
+// Makes a row of `columns` entries, and sets each of them again. Asserts that this makes no request
+// for memory.
 fn assert_set_again(rt: &impl Abort, refusing: &Refusing<Global>, columns: usize) {
     let mut table = Rows::with_rows(refusing, 1).expect(rt, "memory");
     for column in 0..columns {
@@ -206,14 +210,14 @@ fn a_row_of_any_length_makes_no_request_for_an_entry_that_is_there(rt: HostRunti
     }
 }
 
-// Numbers that are the same in each run.
+// Pseudorandom numbers that are the same in each run.
 #[derive(Drop)]
 struct Numbers {
     state: u64,
 }
 
 impl Numbers {
-    // A number below the bound, or 0 where that is 0.
+    // Returns a number below `bound`, or 0 if `bound` is 0.
     fn below(&mut self, bound: usize) -> usize {
         self.state = self
             .state
@@ -225,8 +229,8 @@ impl Numbers {
 
 type Reference = BTreeMap<(usize, usize), u32>;
 
-// One random call of a table and of the reference, which return the same. A failed call
-// changes neither.
+// Makes one random call on the table and on the reference, and asserts that both return the same. A
+// failed call changes neither.
 fn call_both<A: Allocator>(
     rt: &impl Abort,
     table: &mut Rows<u32, A>,
@@ -280,7 +284,8 @@ fn set_both<A: Allocator>(
     }
 }
 
-// Asserts that both hold the same: as many entries, and each of the table's.
+// Asserts that both hold the same: the same number of entries, and each entry of the table is in
+// the reference.
 fn assert_both<A: Allocator>(rt: &impl Abort, table: &Rows<u32, A>, reference: &Reference) {
     assert_same(rt, table.len(), reference.len());
     for row in 0..table.rows() {
@@ -292,7 +297,8 @@ fn assert_both<A: Allocator>(rt: &impl Abort, table: &Rows<u32, A>, reference: &
     }
 }
 
-// As many random calls of a table of as many rows, and what both hold every now and then.
+// Makes `calls` random calls on a table of `rows` rows and on a reference. Compares all entries of
+// both after every 64 calls, and at the end.
 fn run_both(
     rt: &impl Abort,
     refusing: &Refusing<Global>,

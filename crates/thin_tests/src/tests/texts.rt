@@ -1,4 +1,5 @@
-//! How a list, and what walks over it, are printed: in one line, in many, and with a width.
+//! Tests how lists, their iterators and the errors are printed: in one line, in several lines, and
+//! with a width.
 use crate::tests::support::assertions::{assert_len, assert_same, assert_text};
 use crate::tests::support::items::list_of;
 use std::alloc::Global;
@@ -6,7 +7,7 @@ use std::fmt::{Debug, Display};
 use std::process::Abort;
 use thin_vec::{CollectRefused, ExtendRefused, Rejected, SpliceRefused, ThinVec, ThinVecError};
 
-/// Asserts the three texts of a value: in one line, in many, and with items of four digits.
+/// Asserts the three texts of a value: those of `{:?}`, `{:#?}` and `{:04?}`.
 pub fn assert_texts<D: Debug>(rt: &impl Abort, alloc: Global, value: &D, texts: [&str; 3]) {
     assert_text(rt, alloc, value, texts[0]);
     let lines = format!(in alloc; "{value:#?}").expect(rt, "memory");
@@ -65,8 +66,8 @@ fn prints_a_drain_of_many_items(rt: HostRuntime) {
     assert_text(&rt, rt.alloc(), &drain, "Drain([2, 3, 4, 5, 6, 7])");
 }
 
-// Asserts that a refusal with that cause is printed by its name in one line and in many, and tells
-// its cause.
+// Asserts that `{:?}`, `{:#?}` and `{:04?}` print the error with its name and its cause, and that
+// `{}` prints only its cause.
 fn assert_told<E: Debug + Display>(
     rt: &impl Abort,
     alloc: Global,
@@ -89,7 +90,7 @@ fn assert_told<E: Debug + Display>(
     assert_same(rt, told.as_str(), wanted.as_str());
 }
 
-// The same of each error that holds what was passed.
+// Asserts the same as `assert_told` for each error type that holds values, with this cause.
 fn assert_all_told(rt: &impl Abort, alloc: Global, cause: ThinVecError) {
     let (value, in_hand, rest) = (1, Some(1), 2);
     let rejected = Rejected { value, cause };

@@ -1,4 +1,4 @@
-//! Each use of `thin_examples`, once.
+//! Runs each example use of `thin_examples` once.
 use crate::tests::support::assertions::{assert_items, assert_len, assert_same};
 use crate::tests::support::items::{list_of, push, refusing_nth};
 use std::alloc::Global;
@@ -31,7 +31,7 @@ fn a_leaf_owns_no_block(rt: HostRuntime) {
     }
 }
 
-// A list of the rules in order, with spare room.
+// Returns a list of the rules in order, with spare room.
 fn roomy(rt: &impl Abort, alloc: Global, rules: &[u32]) -> ThinVec<u32> {
     let mut style = ThinVec::with_capacity(alloc, 10).expect(rt, "memory");
     for rule in rules {
@@ -126,7 +126,7 @@ fn a_range_moves_to_another_list(rt: HostRuntime) {
     assert_items(&rt, other.as_slice(), &[9, 2, 3]);
 }
 
-// Splices in the middle of five.
+// Asserts that `spliced_middle` replaces the middle of a list of five items.
 fn assert_spliced(rt: &impl Abort, alloc: Global) {
     let mut five = list_of(rt, alloc, &[1, 2, 3, 4, 5]);
     spliced_middle(&mut five, alloc).expect(rt, "memory");

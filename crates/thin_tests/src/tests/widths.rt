@@ -1,4 +1,5 @@
-//! That a list is one word wide, and std's `Vec` three: for every item type and every growth rule.
+//! A function whose contract states that a list is one word wide, and a `Vec` three words. It holds
+//! for every item type and every growth rule.
 ghost use Rattle.std.specs.Prelude.{◌≡◌};
 
 use std::alloc::{Allocator, Global};
@@ -6,7 +7,8 @@ use std::mem::size_of;
 use thin_block::Block;
 use thin_vec::{Growth, ThinVec};
 
-/// The bytes of a block, of a list on the global allocator, and of a `Vec` there.
+/// Returns the sizes in bytes of a block, of a list on the global allocator, and of a `Vec` on the
+/// global allocator.
 pub fn widths<T, A: Allocator, G: Growth>() -> (usize, usize, usize)
     ensures block { result.0 ≡ 8 }
     ensures list { result.1 ≡ 8 }

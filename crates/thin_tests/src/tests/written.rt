@@ -1,12 +1,12 @@
-//! Lists written out in generic code, whose items nothing is known of, not even their size or that
-//! they may be dropped.
+//! Generic functions that make a list of written-out items and take it apart. The only bound on the
+//! item type is `T: Drop`. `three` needs no condition on the size of an item.
 ghost use Rattle.std.specs.Mem.{type_size};
 ghost use Rattle.std.specs.Prelude.{◌≡◌, ◌*◌, ◌^◌, ◌<◌, [], ◌∷◌, IfOk, IfSome};
 
 use std::alloc::Allocator;
 use thin_vec::{ThinVec, ThinVecError, thin_vec};
 
-/// A list of three items of any type.
+/// Makes a list of three items of any type.
 pub fn three<T: Drop, A: Allocator>(
     alloc: A,
     first: T,
@@ -20,7 +20,7 @@ pub fn three<T: Drop, A: Allocator>(
     thin_vec![alloc => first, second, third]
 }
 
-/// The two items of a list of two.
+/// Returns the two items of a list of two, or `None` if the list has another length.
 pub fn pair<T: Drop, A: Allocator>(list: ThinVec<T, A>) -> Option<(T, T)>
     requires small { 2 * type_size T.row < 2 ^ 63 }
     ensures items { IfSome result (λ both. list.items ≡ both.0 ∷ both.1 ∷ []) }

@@ -1,4 +1,4 @@
-//! Lists that are written out, and arrays that lists are turned into and made from.
+//! Sweeps of lists that are written out, and of conversions between lists and arrays.
 ghost use Rattle.std.specs.Mem.{type_size};
 ghost use Rattle.std.specs.Prelude.{◌*◌, ◌<◌, ◌^◌};
 
@@ -14,8 +14,8 @@ use std::process::Abort;
 use thin_testing::Refusing;
 use thin_vec::{Doubling, ThinVec, ThinVecError, thin_vec};
 
-/// `thin_vec![alloc => x, y]` and `thin_vec![in alloc; x, y]`, with as many items as the shape has:
-/// one to three.
+/// Calls `thin_vec![alloc => x, y]` and `thin_vec![in alloc; x, y]`, with as many items as the
+/// shape has, from one to three.
 pub struct Listed {}
 
 impl<T: Sample> Call<T, Doubling> for Listed {
@@ -46,7 +46,7 @@ impl<T: Sample> Call<T, Doubling> for Listed {
     }
 }
 
-// So many of the items, one to three.
+// Writes out a list of the first `count` of the items, from one to three.
 fn written_out<T: Sample>(
     alloc: &'static Refusing<Global>,
     count: usize,
@@ -61,7 +61,7 @@ fn written_out<T: Sample>(
     }
 }
 
-// The same by the form with `in`.
+// Does the same as `written_out`, but by the form of the macro with `in`.
 fn written_out_in<T: Sample>(
     alloc: &'static Refusing<Global>,
     count: usize,
@@ -76,7 +76,7 @@ fn written_out_in<T: Sample>(
     }
 }
 
-/// Sweeps `into_array` and `from_array`, at arrays of several lengths.
+/// Sweeps `into_array` and `from_array`, with arrays of several lengths.
 pub fn every_array<T: Sample, R: Abort>(rt: &R, scope: &Scope)
     requires small { 6 * type_size T.row < 2 ^ 63 }
 {
@@ -87,7 +87,7 @@ pub fn every_array<T: Sample, R: Abort>(rt: &R, scope: &Scope)
     arrays::<T, 6, R>(rt, scope.ledger);
 }
 
-// At arrays of N items, on each list of up to 6 items.
+// Sweeps `into_array` and `from_array` with arrays of N items, on each list of up to 6 items.
 fn arrays<T: Sample, const N: usize, R: Abort>(rt: &R, ledger: &'static Ledger)
     requires small { N * type_size T.row < 2 ^ 63 }
 {
@@ -108,7 +108,8 @@ fn arrays<T: Sample, const N: usize, R: Abort>(rt: &R, ledger: &'static Ledger)
     }
 }
 
-// A list of N items becomes an array, and that a list; one of another length is returned.
+// Runs one case: a list of N items becomes an array, and the array becomes a list again. If the
+// list has another length, `into_array` must return it.
 fn array<T: Sample, const N: usize, R: Abort>(rt: &R, ledger: &'static Ledger, at: At)
     requires small { N * type_size T.row < 2 ^ 63 }
 {
@@ -118,7 +119,7 @@ fn array<T: Sample, const N: usize, R: Abort>(rt: &R, ledger: &'static Ledger, a
     case.end(rt);
 }
 
-// Makes the calls on the list of the case.
+// Makes both calls on the list of the case, and checks what they return.
 fn become_array<T: Sample, const N: usize, R: Abort>(rt: &R, case: &mut Case<T, Doubling>)
     requires small { N * type_size T.row < 2 ^ 63 }
 {
@@ -142,8 +143,8 @@ fn become_array<T: Sample, const N: usize, R: Abort>(rt: &R, case: &mut Case<T, 
     }
 }
 
-// The list that an array was made from and turned into, whether there was one, and why the way back
-// failed.
+// Converts the list to an array of N items, and the array back to a list. Returns the list, if
+// there still is one, whether it became an array, and whether the conversion back succeeded.
 fn there_and_back<T: Sample, A: Allocator, const N: usize, R: Abort>(
     rt: &R,
     at: &At,

@@ -1,5 +1,4 @@
-//! The calls that clone an item of the list, or one that they are passed: `extend_from_within`,
-//! `resize`; and `resize_with`.
+//! Sweeps of `extend_from_within` and `resize`, which clone an item, and of `resize_with`.
 use crate::case::{Case, List, Verdict, numbers, source};
 use crate::closures::{Questions, number_at};
 use crate::samples::Sample;
@@ -9,10 +8,11 @@ use std::process::Abort;
 use thin_testing::Ruled;
 use thin_vec::ThinVecError;
 
-// The number of the first item that comes in.
+// The number of the first item that is added.
 const FRESH: u64 = 80_000;
 
-/// To each index, and by each count longer.
+/// Calls `resize`: with each index as the new length, and with a new length that is greater by each
+/// count.
 pub struct Resize {}
 
 impl<T: Sample, G: Ruled> Call<T, G> for Resize {
@@ -36,7 +36,8 @@ impl<T: Sample, G: Ruled> Call<T, G> for Resize {
     }
 }
 
-// The new length, and by how much that is more: each index, and each count longer.
+// Returns the new length, and by how much it is greater than the old one. The new lengths are each
+// index, and the old length plus each count.
 fn length(shape: Shape, argument: usize) -> (usize, usize) {
     match argument.checked_sub(shape.indices()) {
         None => (shape.index(argument), 0),
@@ -47,8 +48,8 @@ fn length(shape: Shape, argument: usize) -> (usize, usize) {
     }
 }
 
-/// `resize_with` to the lengths of `Resize`. The closure owns a vector, whose items it returns from
-/// the last on.
+/// Calls `resize_with`, with the new lengths of `Resize`. The closure owns a vector, and returns
+/// the items of this vector in reverse order.
 pub struct ResizeWith {}
 
 impl<T: Sample, G: Ruled> Call<T, G> for ResizeWith {
@@ -76,7 +77,8 @@ impl<T: Sample, G: Ruled> Call<T, G> for ResizeWith {
     }
 }
 
-// Resizes the list by the items that were made, from the last one on. It is asked for each.
+// Calls `resize_with`. The closure returns the items of `made` in reverse order, and counts each of
+// its calls in `asked`.
 fn resize_with<T: Sample, G: Ruled, R: Abort>(
     rt: &R,
     list: &mut List<T, G>,
@@ -90,17 +92,18 @@ fn resize_with<T: Sample, G: Ruled, R: Abort>(
     })
 }
 
-// So many new items have come in after the others, from the last one on.
+// Appends the numbers of `more` new items to the reference, in reverse order.
 fn add_from_last<T: Sample, G: Ruled, R: Abort>(rt: &R, case: &mut Case<T, G>, more: usize) {
     let mut new = numbers(rt, case.ledger, FRESH, more);
     new.reverse();
     case.items.append(&mut new).expect(rt, "memory");
 }
 
-// Each range of few items once.
+// Each range of at most 6 items is tried once.
 const EACH_RANGE: Cases = [1; 7];
 
-/// By each range of few items, and by some ranges of more.
+/// Calls `extend_from_within` with each range of a list of at most 6 items, and with four ranges of
+/// a longer list.
 pub struct ExtendFromWithin {}
 
 impl<T: Sample, G: Ruled> Call<T, G> for ExtendFromWithin {

@@ -1,4 +1,5 @@
-//! Comparisons, hashes and texts: those of the items' slice.
+//! Sweeps of comparing, hashing and printing a list. Each result must be that of the slice of the
+//! items.
 use crate::assertions::{At, same};
 use crate::case::{Case, List, filled};
 use crate::samples::Sample;
@@ -11,8 +12,8 @@ use std::hash::{DefaultHasher, Hash, Hasher};
 use std::process::Abort;
 use thin_testing::Ruled;
 
-/// With a list of the same items, of one less or one more, or of another last item, and of other
-/// spare room.
+/// Compares the list with another list, which has other spare room. The other list has the same
+/// items, or another last item, or one item less, or one item more.
 pub struct Compare {}
 
 impl<T: Sample + Ord + Hash + Debug, G: Ruled> Call<T, G> for Compare {
@@ -31,7 +32,7 @@ impl<T: Sample + Ord + Hash + Debug, G: Ruled> Call<T, G> for Compare {
     }
 }
 
-// The list that the case's is compared with.
+// Returns the list that the list of the case is compared with.
 fn other<T: Sample, G: Ruled, R: Abort>(rt: &R, case: &Case<T, G>, argument: usize) -> List<T, G> {
     let length = case.at.shape.length;
     let length = match argument {
@@ -48,7 +49,7 @@ fn other<T: Sample, G: Ruled, R: Abort>(rt: &R, case: &Case<T, G>, argument: usi
     other
 }
 
-// Asserts that two lists are ordered as their slices are.
+// Asserts that two lists are equal, and ordered, as their slices are.
 fn same_order<T: Sample + Ord, G: Ruled, R: Abort>(
     rt: &R,
     at: &At,
@@ -73,7 +74,7 @@ fn hash<H: Hash>(value: &H) -> u64 {
     hasher.finish()
 }
 
-/// `{:?}` and `{:#?}`, of the list and of the iterator that it becomes.
+/// Prints the list, and the iterator that it becomes, by `{:?}` and `{:#?}`.
 pub struct Print {}
 
 impl<T: Sample + Debug, G: Ruled> Call<T, G> for Print {
@@ -108,12 +109,12 @@ impl<T: Sample + Debug, G: Ruled> Call<T, G> for Print {
     }
 }
 
-// The texts of an iterator over the items of that slice, in one line and in many.
+// Returns the texts of an iterator over the items of this slice, in one line and in several lines.
 fn iter_text<D: Debug, R: Abort>(rt: &R, global: Global, items: &D) -> String {
     text(rt, global, &Told { items })
 }
 
-// A slice, printed as the iterator over its items is.
+// A slice that is printed as the iterator over its items is.
 #[derive(Drop)]
 struct Told<'a, D> {
     items: &'a D,
@@ -125,7 +126,7 @@ impl<D: Debug> Debug for Told<'_, D> {
     }
 }
 
-// Both forms.
+// Returns the texts of `{:?}` and of `{:#?}`, with a space between them.
 fn text<D: Debug, R: Abort>(rt: &R, global: Global, value: &D) -> String {
     format!(in global; "{value:?} {value:#?}").expect(rt, "memory")
 }

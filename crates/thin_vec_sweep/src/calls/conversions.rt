@@ -1,4 +1,5 @@
-//! Lists made from other types, and other types that a list is turned into.
+//! Sweeps of the calls that make a list from other types, and of those that convert a list to other
+//! types.
 use crate::case::{Case, List, Verdict, numbers, put};
 use crate::samples::Sample;
 use crate::shapes::Shape;
@@ -10,13 +11,13 @@ use std::process::Abort;
 use thin_testing::{Refusing, Ruled};
 use thin_vec::{Doubling, Rejected, ThinVec, ThinVecError, thin_vec};
 
-// The number of an item that comes in.
+// The number of a new item.
 const FRESH: u64 = 70_000;
 
 // The allocator of a case.
 type Lender = &'static Refusing<Global>;
 
-/// `into_vec` and `into_boxed_slice`.
+/// Calls `into_vec` and `into_boxed_slice`.
 pub struct IntoOthers {}
 
 impl<T: Sample, G: Ruled> Call<T, G> for IntoOthers {
@@ -44,7 +45,7 @@ impl<T: Sample, G: Ruled> Call<T, G> for IntoOthers {
     }
 }
 
-// The list as a `Vec`: at once, or by way of a boxed slice.
+// Converts the list to a `Vec`: by `into_vec`, or by `into_boxed_slice` and from there to a `Vec`.
 fn into_other<T: Sample, G: Ruled>(
     list: List<T, G>,
     alloc: Lender,
@@ -59,7 +60,7 @@ fn into_other<T: Sample, G: Ruled>(
     }
 }
 
-/// `mem::try_take`, which leaves an empty list without a block, and asks for no memory.
+/// Calls `mem::try_take`, which leaves an empty list without a block, and makes no request.
 pub struct TryTake {}
 
 impl<T: Sample, G: Ruled> Call<T, G> for TryTake {
@@ -77,8 +78,8 @@ impl<T: Sample, G: Ruled> Call<T, G> for TryTake {
     }
 }
 
-// The list's items in a `Vec` of the same allocator, which has so many places more. The case has an
-// empty list then.
+// Takes the items of the list into a `Vec` on the same allocator, with `spare` more places. Leaves
+// an empty list in the case.
 fn vec_of<T: Sample, R: Abort>(
     rt: &R,
     case: &mut Case<T, Doubling>,
@@ -90,7 +91,7 @@ fn vec_of<T: Sample, R: Abort>(
     items
 }
 
-/// `from_vec` of a `Vec` with as much spare room as the shape has, and `from_boxed_slice`.
+/// Calls `from_vec`, with a `Vec` that has as much spare room as the shape, and `from_boxed_slice`.
 pub struct FromOthers {}
 
 impl<T: Sample> Call<T, Doubling> for FromOthers {
@@ -119,7 +120,7 @@ impl<T: Sample> Call<T, Doubling> for FromOthers {
     }
 }
 
-// The list of a `Vec`: at once, or by way of a boxed slice.
+// Converts a `Vec` to a list: by `from_vec`, or by way of a boxed slice.
 fn from_other<T: Sample>(
     items: Vec<T, Lender>,
     alloc: Lender,
@@ -137,7 +138,8 @@ fn from_other<T: Sample>(
     }
 }
 
-/// Of text of as many letters as the shape has items: of one byte each, or of two.
+/// Calls `from_str` on a text of as many letters as the shape has items. Each letter takes one
+/// byte, or each letter takes two.
 pub struct FromStr {}
 
 impl Call<u8, Doubling> for FromStr {
@@ -158,7 +160,7 @@ impl Call<u8, Doubling> for FromStr {
     }
 }
 
-// The letter so many times.
+// Returns a text of `count` times this letter.
 fn letters<R: Abort>(rt: &R, global: Global, letter: &str, count: usize) -> String {
     let mut text = String::new(global);
     for _ in 0..count {
@@ -167,7 +169,7 @@ fn letters<R: Abort>(rt: &R, global: Global, letter: &str, count: usize) -> Stri
     text
 }
 
-// The bytes' numbers.
+// Returns the bytes as numbers.
 fn numbers_of<R: Abort>(rt: &R, global: Global, bytes: &[u8]) -> Vec<u64, Global> {
     let mut numbers = Vec::new(global);
     for byte in bytes {
@@ -176,7 +178,8 @@ fn numbers_of<R: Abort>(rt: &R, global: Global, bytes: &[u8]) -> Vec<u64, Global
     numbers
 }
 
-/// With the length of the shape, and with the numbers about the greatest that fits.
+/// Calls `with_capacity`: with the length of the shape, and with numbers near the greatest capacity
+/// that fits and beyond.
 pub struct WithCapacity {}
 
 impl<T: Sample> Call<T, Doubling> for WithCapacity {
@@ -210,7 +213,8 @@ impl<T: Sample> Call<T, Doubling> for WithCapacity {
     }
 }
 
-/// `thin_vec![alloc => x; k]` and `thin_vec![in alloc; x; k]`: k is the length of the shape.
+/// Calls `thin_vec![alloc => x; k]` and `thin_vec![in alloc; x; k]`, where k is the length of the
+/// shape.
 pub struct Repeated {}
 
 impl<T: Sample> Call<T, Doubling> for Repeated {
@@ -237,13 +241,13 @@ impl<T: Sample> Call<T, Doubling> for Repeated {
             case.items.resize(count, FRESH).expect(rt, "memory");
         }
         if verdict == Verdict::NoClone {
-            // The room goes with the list.
+            // The new list is dropped if a clone fails, and its block with it. No capacity is left.
             case.capacity = 0;
         }
     }
 }
 
-/// `new`, `default_in`, `made_with`, `thin_vec![alloc =>]` and `thin_vec![in alloc]`.
+/// Calls `new`, `default_in`, `made_with`, `thin_vec![alloc =>]` and `thin_vec![in alloc]`.
 pub struct New {}
 
 impl<T: Sample> Call<T, Doubling> for New {
@@ -267,7 +271,8 @@ impl<T: Sample> Call<T, Doubling> for New {
     }
 }
 
-/// The list that a call returned comes into the case.
+/// Checks the result of a call that makes a list. If there is a list, it becomes the list of the
+/// case.
 pub fn made<T: Sample, R: Abort>(
     rt: &R,
     case: &mut Case<T, Doubling>,

@@ -1,5 +1,6 @@
-//! An item, or the rest of a list, comes in or goes out: `push`, `push_mut`, `push_reserved`,
-//! `pop`, `insert`, `insert_mut`, `insert_reserved`, `remove`, `swap_remove`, `truncate`, `clear`.
+//! Sweeps of the calls that add or remove one item, and of those that remove all items from an
+//! index on: `push`, `push_mut`, `push_reserved`, `pop`, `insert`, `insert_mut`, `insert_reserved`,
+//! `remove`, `swap_remove`, `truncate`, `clear`.
 use crate::case::{Case, Verdict, put};
 use crate::samples::Sample;
 use crate::shapes::Shape;
@@ -9,13 +10,13 @@ use std::process::Abort;
 use thin_testing::Ruled;
 use thin_vec::Rejected;
 
-// The number of an item that comes in.
+// The number of the new item.
 const FRESH: u64 = 70_000;
 
-// The number of an item that is overwritten at once.
+// The number of an item that is passed to a call, and then swapped with the new item.
 const PASSED: u64 = 71_000;
 
-/// After the other items.
+/// Calls `push`.
 pub struct Push {}
 
 impl<T: Sample, G: Ruled> Call<T, G> for Push {
@@ -32,7 +33,7 @@ impl<T: Sample, G: Ruled> Call<T, G> for Push {
     }
 }
 
-/// Another item is put into the place that is lent.
+/// Calls `push_mut`, and swaps another item into the place that it lends.
 pub struct PushMut {}
 
 impl<T: Sample, G: Ruled> Call<T, G> for PushMut {
@@ -53,8 +54,8 @@ impl<T: Sample, G: Ruled> Call<T, G> for PushMut {
     }
 }
 
-// Checks a call that lends the place at `index`: the item that it was given is in hand, or was
-// returned.
+// Checks a call that lends the place at `index`. After a success, the item that was passed to the
+// call is in `hand`; after a failure, the call returned that item.
 fn lent<T: Sample, G: Ruled, R: Abort>(
     rt: &R,
     case: &mut Case<T, G>,
@@ -72,7 +73,7 @@ fn lent<T: Sample, G: Ruled, R: Abort>(
     }
 }
 
-/// Where there is spare room.
+/// Calls `push_reserved` if there is spare room.
 pub struct PushReserved {}
 
 impl<T: Sample, G: Ruled> Call<T, G> for PushReserved {
@@ -92,7 +93,7 @@ impl<T: Sample, G: Ruled> Call<T, G> for PushReserved {
     }
 }
 
-/// At each index.
+/// Calls `insert` at each index.
 pub struct Insert {}
 
 impl<T: Sample, G: Ruled> Call<T, G> for Insert {
@@ -116,7 +117,7 @@ impl<T: Sample, G: Ruled> Call<T, G> for Insert {
     }
 }
 
-/// Another item is put into the place that is lent.
+/// Calls `insert_mut` at each index, and swaps another item into the place that it lends.
 pub struct InsertMut {}
 
 impl<T: Sample, G: Ruled> Call<T, G> for InsertMut {
@@ -144,7 +145,7 @@ impl<T: Sample, G: Ruled> Call<T, G> for InsertMut {
     }
 }
 
-/// Where there is spare room.
+/// Calls `insert_reserved` at each index if there is spare room.
 pub struct InsertReserved {}
 
 impl<T: Sample, G: Ruled> Call<T, G> for InsertReserved {
@@ -167,7 +168,7 @@ impl<T: Sample, G: Ruled> Call<T, G> for InsertReserved {
     }
 }
 
-/// The last item, if there is one.
+/// Calls `pop`, which returns the last item, if there is one.
 pub struct Pop {}
 
 impl<T: Sample, G: Ruled> Call<T, G> for Pop {
@@ -181,7 +182,7 @@ impl<T: Sample, G: Ruled> Call<T, G> for Pop {
     }
 }
 
-/// At each index that has an item.
+/// Calls `remove` at each index that has an item.
 pub struct Remove {}
 
 impl<T: Sample, G: Ruled> Call<T, G> for Remove {
@@ -204,7 +205,7 @@ impl<T: Sample, G: Ruled> Call<T, G> for Remove {
     }
 }
 
-/// At each index that has an item.
+/// Calls `swap_remove` at each index that has an item.
 pub struct SwapRemove {}
 
 impl<T: Sample, G: Ruled> Call<T, G> for SwapRemove {
@@ -227,7 +228,7 @@ impl<T: Sample, G: Ruled> Call<T, G> for SwapRemove {
     }
 }
 
-/// To each index, to one past the length, and to `usize::MAX`.
+/// Calls `truncate` with each index, with the length plus one, and with `usize::MAX`.
 pub struct Truncate {}
 
 impl<T: Sample, G: Ruled> Call<T, G> for Truncate {
@@ -250,7 +251,7 @@ impl<T: Sample, G: Ruled> Call<T, G> for Truncate {
     }
 }
 
-/// All items at once.
+/// Calls `clear`, which drops all items.
 pub struct Clear {}
 
 impl<T: Sample, G: Ruled> Call<T, G> for Clear {

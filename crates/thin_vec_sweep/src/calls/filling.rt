@@ -1,4 +1,5 @@
-//! `extend` and `from_iter`, with a hint that is short, true, too great, or past every capacity.
+//! Sweeps of `extend` and `from_iter`. The size hint of the iterator is too small, exact, too
+//! great, or greater than every capacity.
 use crate::assertions::same;
 use crate::case::{Case, Verdict, numbers, put, source};
 use crate::claims::Claims;
@@ -12,13 +13,14 @@ use std::process::Abort;
 use thin_testing::Ruled;
 use thin_vec::{Doubling, ThinVec};
 
-// The number of the last item that comes in: they come from it down.
+// The number of the first new item. The next ones have the numbers below, in descending order.
 const FRESH: u64 = 800_000;
 
-// How many hints are tried.
+// How many size hints are tried.
 const HINTS: usize = 10;
 
-// The hint of that number for `count` items, of a list that has `length`.
+// Returns the size hint of this number, for an iterator over `count` items and a list of `length`
+// items.
 fn hint<T: Sample>(number: usize, count: usize, length: usize) -> usize {
     match number {
         0 => 0,
@@ -34,24 +36,25 @@ fn hint<T: Sample>(number: usize, count: usize, length: usize) -> usize {
     }
 }
 
-/// How the filling of a list has to end.
+/// How a call that fills a list from an iterator must end.
 #[derive(Drop)]
 pub struct Ending {
     pub verdict: Verdict,
-    /// How many items are placed.
+    /// How many items are moved into the list.
     pub placed: usize,
-    /// How many are held after those.
+    /// How many items are held back in a vector after those.
     pub held: usize,
-    /// How many are in hand after those: at most one.
+    /// How many items are in hand after the items that are held back: 0 or 1.
     pub in_hand: usize,
     /// How often the iterator returns `None`: at most once.
     pub ends: usize,
-    /// How often its hint is asked.
+    /// How often `size_hint` is called.
     pub hints: u64,
 }
 
 impl Ending {
-    /// Of a filling that fails. After those that were placed so many items were drawn.
+    /// Returns the ending of a call that fails after `placed` items, with `in_hand` more items in
+    /// hand.
     pub fn refused(verdict: Verdict, placed: usize, in_hand: usize) -> Ending {
         Ending {
             verdict,
@@ -63,7 +66,7 @@ impl Ending {
         }
     }
 
-    /// Of one that places them all.
+    /// Returns the ending of a call that moves all `placed` items into the list.
     pub fn done(placed: usize) -> Ending {
         Ending {
             verdict: Verdict::Done,
@@ -75,7 +78,7 @@ impl Ending {
         }
     }
 
-    // How many items are drawn.
+    // Returns how many items are taken from the iterator.
     fn drawn(&self) -> usize {
         self.placed
             .saturating_add(self.held)
@@ -83,8 +86,9 @@ impl Ending {
     }
 }
 
-/// What a list has to come to that is filled after its items with `count` more: room is made once
-/// for the hint, and then one at a time where there is none left.
+/// Returns how a call must end that appends `count` items, and updates the reference. The call
+/// first grows the list once, for the size hint, to the capacity `hinted`. Then the list grows
+/// whenever there is no room for an item.
 pub fn fill<T: Sample, G: Ruled, R: Abort>(
     rt: &R,
     case: &mut Case<T, G>,
@@ -108,7 +112,8 @@ pub fn fill<T: Sample, G: Ruled, R: Abort>(
     Ending::done(count)
 }
 
-/// The numbers of so many items, in the order in which they come, where some came before.
+/// Returns the numbers of `count` new items, in the order in which the iterator yields them. The
+/// first `before` items are left out.
 pub fn coming<R: Abort>(
     rt: &R,
     ledger: &'static Ledger,
@@ -123,7 +128,7 @@ pub fn coming<R: Abort>(
     numbers
 }
 
-/// Asserts that the iterator was asked as often as it had to be.
+/// Asserts that `next` and `size_hint` of the iterator were called as often as they must be.
 pub fn asked<T: Sample, G: Ruled, R: Abort>(rt: &R, case: &Case<T, G>, ending: &Ending) {
     let asked = (ending.drawn().saturating_add(ending.ends)) as u64;
     let counts = (case.ledger.asked.get(), case.ledger.hinted.get());
@@ -136,8 +141,8 @@ pub fn asked<T: Sample, G: Ruled, R: Abort>(rt: &R, case: &Case<T, G>, ending: &
     );
 }
 
-/// What an error returns: the item in hand, and the items that were not drawn. No item of `count`
-/// is lost.
+/// Asserts that an error returns the item in hand, and the items that were not taken from the
+/// iterator. Together with the other items, they are all `count` items.
 pub fn back<T: Sample, G: Ruled, R: Abort>(
     rt: &R,
     case: &Case<T, G>,
@@ -157,7 +162,8 @@ pub fn back<T: Sample, G: Ruled, R: Abort>(
     case.holds(rt, items.as_slice(), numbers.as_slice());
 }
 
-/// An iterator of `count` items, whose numbers go down from `FRESH`.
+/// Returns an iterator over `count` items, whose numbers descend from `FRESH`, and whose size hint
+/// has this lower bound.
 pub fn claims<T: Sample, G: Ruled, R: Abort>(
     rt: &R,
     case: &Case<T, G>,
@@ -168,7 +174,8 @@ pub fn claims<T: Sample, G: Ruled, R: Abort>(
     Claims::new(source(rt, case.ledger, last, count), lower, case.ledger)
 }
 
-/// By each count of items, under each hint. Where it fails, it returns what it did not place.
+/// Calls `extend` with each count of items and each size hint. A failed call must return the items
+/// that are not in the list.
 pub struct Extend {}
 
 impl<T: Sample, G: Ruled> Call<T, G> for Extend {
@@ -195,7 +202,7 @@ impl<T: Sample, G: Ruled> Call<T, G> for Extend {
     }
 }
 
-/// As std's trait has it, which drops what it doesn't place.
+/// Calls `extend` of the trait `Extend` of `std`, which drops the items that it does not append.
 pub struct ExtendAsTrait {}
 
 impl<T: Sample, G: Ruled> Call<T, G> for ExtendAsTrait {
@@ -216,7 +223,7 @@ impl<T: Sample, G: Ruled> Call<T, G> for ExtendAsTrait {
     }
 }
 
-// Asserts that a call of std's traits succeeded, where it had to.
+// Asserts that a call of a trait of `std` succeeded exactly if it had to.
 fn done<T: Sample, G: Ruled, R: Abort>(rt: &R, case: &Case<T, G>, ending: &Ending, is_done: bool) {
     same(
         rt,
@@ -227,8 +234,8 @@ fn done<T: Sample, G: Ruled, R: Abort>(rt: &R, case: &Case<T, G>, ending: &Endin
     );
 }
 
-// What a list is extended by, how many items that are, and how it has to end: `None` where it would
-// take too much memory.
+// Returns the iterator by which a list is extended, how many items it has, and how the call must
+// end. Returns `None` if the call would take too much memory.
 fn extension<T: Sample, G: Ruled, R: Abort>(
     rt: &R,
     case: &mut Case<T, G>,
@@ -246,7 +253,7 @@ fn extension<T: Sample, G: Ruled, R: Abort>(
     Some((claims, count, ending))
 }
 
-/// Of as many items as the shape has.
+/// Calls `from_iter` on an iterator with as many items as the shape.
 pub struct FromIter {}
 
 impl<T: Sample> Call<T, Doubling> for FromIter {
@@ -278,7 +285,8 @@ impl<T: Sample> Call<T, Doubling> for FromIter {
     }
 }
 
-/// `from_iter` by std's `collect`, which drops what it placed.
+/// Calls `collect` of `std`, which calls `from_iter`. On failure, it drops the items that it
+/// collected.
 pub struct Collect {}
 
 impl<T: Sample> Call<T, Doubling> for Collect {
@@ -308,8 +316,9 @@ impl<T: Sample> Call<T, Doubling> for Collect {
     }
 }
 
-// The items of the shape, as an iterator, and how a list that is made of them has to end: `None`
-// where it would take too much memory. The case has no list until then.
+// Returns an iterator over as many items as the shape has, and how a call must end that makes a
+// list of these items. Returns `None` if the call would take too much memory. First drops the list
+// of the case.
 fn collection<T: Sample, R: Abort>(
     rt: &R,
     case: &mut Case<T, Doubling>,

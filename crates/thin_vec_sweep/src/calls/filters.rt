@@ -1,5 +1,5 @@
-//! Calls that keep some items, by what a closure returns of them: each is asked about in turn, and
-//! may be written.
+//! Sweeps of the calls that keep the items for which a closure says so. The closure is called once
+//! for each item, in order, and may overwrite it.
 use crate::case::{Case, put};
 use crate::closures::{PATTERNS, Questions, number_at, stays};
 use crate::samples::{Counted, Sample};
@@ -11,10 +11,10 @@ use std::mem;
 use std::process::Abort;
 use thin_testing::Ruled;
 
-// The number of an item that comes in.
+// The number of a new item.
 const FRESH: u64 = 70_000;
 
-/// The closure only looks at the items.
+/// Calls `retain`. The closure only reads the items.
 pub struct Retain {}
 
 impl<T: Sample, G: Ruled> Call<T, G> for Retain {
@@ -38,7 +38,7 @@ impl<T: Sample, G: Ruled> Call<T, G> for Retain {
     }
 }
 
-// What is left where each item stays in its place, or goes.
+// Returns the numbers of the items that stay by the pattern.
 fn kept<R: Abort>(rt: &R, global: Global, count: usize, pattern: usize) -> Vec<u64, Global> {
     let mut left = Vec::new(global);
     for index in 0..count {
@@ -49,7 +49,8 @@ fn kept<R: Abort>(rt: &R, global: Global, count: usize, pattern: usize) -> Vec<u
     left
 }
 
-/// The closure puts each item into the place of the next one that it is asked about.
+/// Calls `retain_mut`. The closure swaps each item into the place of the next one, and a new item
+/// into the place of the first one.
 pub struct RetainMut {}
 
 impl<T: Sample, G: Ruled> Call<T, G> for RetainMut {
@@ -77,8 +78,8 @@ impl<T: Sample, G: Ruled> Call<T, G> for RetainMut {
     }
 }
 
-// What is left where each item comes into the place of the next one, the new one into the first,
-// and the place stays, or goes.
+// Returns the numbers of the items that are left if each item first moves to the place of the next
+// one, and a new item to the first place. The pattern tells which places stay.
 fn moved_up<R: Abort>(rt: &R, global: Global, count: usize, pattern: usize) -> Vec<u64, Global> {
     let mut left = Vec::new(global);
     let mut number = FRESH;
@@ -91,8 +92,9 @@ fn moved_up<R: Abort>(rt: &R, global: Global, count: usize, pattern: usize) -> V
     left
 }
 
-/// The closure puts an item that it owns into the place of the last one, which it drops with it,
-/// and says that it stays, or goes.
+/// Calls `pop_if`. The closure owns a new item, and swaps it with the last item of the list. The
+/// closure then owns the old last item, and drops it with itself. The closure returns whether the
+/// new item is removed from the list.
 pub struct PopIf {}
 
 impl<T: Sample, G: Ruled> Call<T, G> for PopIf {
@@ -121,8 +123,8 @@ impl<T: Sample, G: Ruled> Call<T, G> for PopIf {
     }
 }
 
-// Puts the new item in the place of the last one, if there is one, and returns its number if it
-// goes.
+// Replaces the last number by that of the new item, if there is a last number. If `goes` is true,
+// removes the new number again and returns it.
 fn popped<R: Abort>(rt: &R, items: &mut Vec<u64, Global>, goes: bool) -> Option<u64> {
     let _last = items.pop()?;
     if goes {
@@ -132,7 +134,7 @@ fn popped<R: Abort>(rt: &R, items: &mut Vec<u64, Global>, goes: bool) -> Option<
     None
 }
 
-/// The closure exchanges its two items.
+/// Calls `dedup_by`. The closure swaps its two items.
 pub struct DedupBy {}
 
 impl<T: Sample, G: Ruled> Call<T, G> for DedupBy {
@@ -163,8 +165,9 @@ impl<T: Sample, G: Ruled> Call<T, G> for DedupBy {
     }
 }
 
-// What is left where each later item changes places with the last one kept: that one comes last, if
-// the later item stays.
+// Returns the numbers of the items that are left if each later item is swapped with the item that
+// was kept last. If the place of the later item stays, the list then ends with the item that was
+// kept last before.
 fn exchanged<R: Abort>(rt: &R, global: Global, count: usize, pattern: usize) -> Vec<u64, Global> {
     let mut left = Vec::new(global);
     let mut last = number_at(0);
@@ -181,8 +184,9 @@ fn exchanged<R: Abort>(rt: &R, global: Global, count: usize, pattern: usize) -> 
     left
 }
 
-/// The key of a later item is 1, and that of the last one kept, which is asked next, is 1 where the
-/// later one goes. Keys are counted.
+/// Calls `dedup_by_key`. The key of each later item is 1. Next, the closure is called with the item
+/// that was kept last: its key is 1 if the later item is to be removed, and 0 if not. The keys are
+/// counted items.
 pub struct DedupByKey {}
 
 impl<T: Sample, G: Ruled> Call<T, G> for DedupByKey {
@@ -218,7 +222,7 @@ impl<T: Sample, G: Ruled> Call<T, G> for DedupByKey {
     }
 }
 
-// What is left where the first item stays in any case.
+// Returns the numbers of the items that stay by the pattern. The first item always stays.
 fn first_kept<R: Abort>(rt: &R, global: Global, count: usize, pattern: usize) -> Vec<u64, Global> {
     let mut left = Vec::new(global);
     for index in 0..count {
@@ -229,7 +233,8 @@ fn first_kept<R: Abort>(rt: &R, global: Global, count: usize, pattern: usize) ->
     left
 }
 
-/// Of a list in which an item that is to go is made like the one before it.
+/// Calls `dedup` on a list in which each item that is to be removed was made equal to the item
+/// before it.
 pub struct Dedup {}
 
 impl<T: Sample + PartialEq, G: Ruled> Call<T, G> for Dedup {
@@ -257,7 +262,7 @@ impl<T: Sample + PartialEq, G: Ruled> Call<T, G> for Dedup {
     }
 }
 
-// Writes an item of that number over the one at `index`.
+// Replaces the item at `index` by the item of this number.
 fn write<T: Sample, G: Ruled, R: Abort>(rt: &R, case: &mut Case<T, G>, index: usize, number: u64) {
     if index < case.list.len() {
         case.list[index] = case.item(rt, number);

@@ -1,4 +1,4 @@
-//! The iterator that a list becomes, from both ends.
+//! Sweeps of the iterator that a list becomes, with steps from both ends.
 use crate::assertions::{At, same, same_item, same_items};
 use crate::case::Case;
 use crate::samples::Sample;
@@ -11,10 +11,11 @@ use std::process::Abort;
 use thin_testing::Ruled;
 use thin_vec::Growth;
 
-// The number of an item that comes in.
+// The number of a new item.
 const FRESH: u64 = 70_000;
 
-// How many steps are made: each number up to two past the length of a short list.
+// Returns how many different numbers of steps are tried. For a list of at most 4 items, they are
+// the numbers from 0 to the length plus 2.
 fn steps(shape: Shape) -> usize {
     shape.indices().saturating_add(2)
 }
@@ -26,7 +27,8 @@ fn step(shape: Shape, number: usize) -> usize {
     }
 }
 
-/// Some steps, and then what remains is dropped.
+/// Calls `into_iter`, takes some steps, checks what remains, writes to the first remaining item,
+/// and drops the rest.
 pub struct IntoIter {}
 
 impl<T: Sample, G: Ruled> Call<T, G> for IntoIter {
@@ -56,7 +58,7 @@ impl<T: Sample, G: Ruled> Call<T, G> for IntoIter {
     }
 }
 
-// Asserts that the items of these numbers remain, and that as many are promised.
+// Asserts that the items of these numbers remain, and that `len` and `size_hint` say so.
 fn remains<T: Sample, A: Allocator, G: Growth, R: Abort>(
     rt: &R,
     at: &At,
@@ -69,7 +71,7 @@ fn remains<T: Sample, A: Allocator, G: Growth, R: Abort>(
     same_items(rt, at, rest.as_slice(), numbers);
 }
 
-// Makes the steps, and returns the numbers of the items that remain.
+// Takes the steps, and returns the numbers of the items that remain.
 fn step_through<'a, T: Sample, A: Allocator, G: Growth, R: Abort>(
     rt: &R,
     at: &At,
@@ -90,7 +92,7 @@ fn step_through<'a, T: Sample, A: Allocator, G: Growth, R: Abort>(
     remaining.of(numbers)
 }
 
-/// `clone`, after some steps from the front, or from the back.
+/// Calls `into_iter`, takes some steps from the front, or from the back, and clones the iterator.
 pub struct IntoIterClone {}
 
 impl<T: Sample, G: Ruled> Call<T, G> for IntoIterClone {

@@ -1,4 +1,4 @@
-//! Two lists: `append`, `append_reserved`, `split_off`.
+//! Sweeps of the calls on two lists: `append`, `append_reserved`, `split_off`.
 use crate::case::{Case, Verdict, filled};
 use crate::samples::Sample;
 use crate::shapes::Shape;
@@ -6,10 +6,10 @@ use crate::sweep::Call;
 use std::process::Abort;
 use thin_testing::Ruled;
 
-// The number of the other list's first item.
+// The number of the first item of the second list.
 const FRESH: u64 = 80_000;
 
-/// A list of each count, with no spare room and with two places.
+/// Calls `append` with a list of each count of items, without spare room and with one empty slot.
 pub struct Append {}
 
 impl<T: Sample, G: Ruled> Call<T, G> for Append {
@@ -34,7 +34,7 @@ impl<T: Sample, G: Ruled> Call<T, G> for Append {
     }
 }
 
-/// Into room that was shown to be there: by one item and more, up to all that it takes.
+/// Calls `append_reserved` with a list of one item, of two items, and so on, up to the spare room.
 pub struct AppendReserved {}
 
 impl<T: Sample, G: Ruled> Call<T, G> for AppendReserved {
@@ -58,7 +58,7 @@ impl<T: Sample, G: Ruled> Call<T, G> for AppendReserved {
     }
 }
 
-/// At each index.
+/// Calls `split_off` at each index.
 pub struct SplitOff {}
 
 impl<T: Sample, G: Ruled> Call<T, G> for SplitOff {

@@ -1,4 +1,5 @@
-//! Calls by which the items of a range go out, given up after any steps, and the test for ranges.
+//! Sweeps of the calls that remove the items of a range, each dropped after some steps, and of the
+//! function `bounds`.
 use crate::assertions::{At, same, same_item, same_items};
 use crate::case::{Case, put};
 use crate::closures::{number_at, stays};
@@ -12,7 +13,7 @@ use std::process::Abort;
 use thin_testing::Ruled;
 use thin_vec::{Drain, Growth, ThinVec, bounds};
 
-/// `drain` of each range, by each walk of steps from both ends.
+/// Calls `drain` on each range, with each walk over it, and drops the `Drain`.
 pub struct Drained {}
 
 impl<T: Sample, G: Ruled> Call<T, G> for Drained {
@@ -31,7 +32,7 @@ impl<T: Sample, G: Ruled> Call<T, G> for Drained {
     }
 }
 
-// The numbers of the items outside the range, of a list of so many.
+// Returns the numbers of the items outside the range, in a list of `length` items.
 fn outside<R: Abort>(rt: &R, global: Global, range: Ranged, length: usize) -> Vec<u64, Global> {
     let mut left = Vec::new(global);
     for index in 0..length {
@@ -42,7 +43,7 @@ fn outside<R: Abort>(rt: &R, global: Global, range: Ranged, length: usize) -> Ve
     left
 }
 
-// Drains the range by some steps, and gives up.
+// Drains the range, takes some steps, checks what remains, and drops the `Drain`.
 fn drain<T: Sample, A: Allocator, G: Growth, R: Abort>(
     rt: &R,
     at: &At,
@@ -60,7 +61,7 @@ fn drain<T: Sample, A: Allocator, G: Growth, R: Abort>(
     remains(rt, at, &drain, numbers);
 }
 
-// Asserts that the items of these numbers remain, and that as many are promised.
+// Asserts that the items of these numbers remain, and that `len` and `size_hint` say so.
 fn remains<T: Sample, A: Allocator, G: Growth, R: Abort>(
     rt: &R,
     at: &At,
@@ -73,7 +74,7 @@ fn remains<T: Sample, A: Allocator, G: Growth, R: Abort>(
     same_items(rt, at, drain.as_slice(), numbers);
 }
 
-// Makes the steps, and returns the numbers of the items that remain.
+// Takes the steps, and returns the numbers of the items that remain.
 fn step_through<'a, T: Sample, A: Allocator, G: Growth, R: Abort>(
     rt: &R,
     at: &At,
@@ -94,10 +95,12 @@ fn step_through<'a, T: Sample, A: Allocator, G: Growth, R: Abort>(
     remaining.of(numbers)
 }
 
-// Each number of calls up to k + 1, with each pattern of what the closure returns of k items.
+// For each k from 0 to 6: how many cases there are, one for each number of calls from 0 to k + 1
+// and each pattern of what the closure returns for k items.
 const EXTRACTIONS: Cases = [2, 6, 16, 40, 96, 224, 512];
 
-/// `extract_if` of each range, dropped after each number of calls, by each pattern of answers.
+/// Calls `extract_if` on each range, with each pattern of what the closure returns, and drops the
+/// `ExtractIf` after each number of calls of `next`.
 pub struct Extracted {}
 
 impl<T: Sample, G: Ruled> Call<T, G> for Extracted {
@@ -117,23 +120,23 @@ impl<T: Sample, G: Ruled> Call<T, G> for Extracted {
     }
 }
 
-// What an extraction has to do.
+// What an extraction must do.
 #[derive(Drop)]
 struct Extraction {
     // How often `next` is called.
     calls: usize,
-    // The pattern of what the closure returns.
+    // The number of the pattern of what the closure returns.
     pattern: usize,
-    // How many questions are asked.
+    // How often the closure is called.
     asked: usize,
     // The number of each item that is yielded.
     given: Vec<u64, Global>,
-    // The number of each item of the list afterwards.
+    // The number of each item that the list has afterwards.
     left: Vec<u64, Global>,
 }
 
 impl Extraction {
-    // Of a list of `length` items.
+    // Returns what an extraction must do on a list of `length` items.
     fn new<R: Abort>(rt: &R, global: Global, length: usize, range: Ranged) -> Extraction {
         let width = range.width();
         let (calls, pattern) = calls_and_pattern(width, range.number);
@@ -163,7 +166,8 @@ impl Extraction {
     }
 }
 
-// How many calls of `next` are made on so many items, and what the closure returns.
+// Returns how many calls of `next` are made on `width` items, and the number of the closure's
+// pattern.
 fn calls_and_pattern(width: usize, number: usize) -> (usize, usize) {
     if width >= EXTRACTIONS.len() {
         return (some_steps(width, number % 5), number / 5);
@@ -175,8 +179,8 @@ fn calls_and_pattern(width: usize, number: usize) -> (usize, usize) {
     (number % calls, number / calls)
 }
 
-// Extracts by some calls of `next`, and gives up. An item whose turn it is not stays, whatever the
-// pattern says.
+// Makes some calls of `next`, and drops the `ExtractIf`. If the closure is called with an item out
+// of turn, that item stays, whatever the pattern says.
 fn extract<T: Sample, A: Allocator, G: Growth, R: Abort>(
     rt: &R,
     at: &At,
@@ -205,10 +209,11 @@ fn extract<T: Sample, A: Allocator, G: Growth, R: Abort>(
     same(rt, at, "hint", extract.size_hint(), (0, Some(left)));
 }
 
-// How many bounds are tried: none, and each place as one that is included and one that is excluded.
+// How many bounds are tried: `Unbounded`, and 9 places, each as `Included` and as `Excluded`.
 const BOUNDS: usize = 19;
 
-/// With bounds at each place of a short list, past its end, and at the greatest numbers.
+/// Calls `bounds` with bounds at each place of a short list, past its end, and at the greatest
+/// numbers.
 pub struct Bounds {}
 
 impl<T: Sample, G: Ruled> Call<T, G> for Bounds {
@@ -231,7 +236,7 @@ impl<T: Sample, G: Ruled> Call<T, G> for Bounds {
     }
 }
 
-// The bound of that number, on a list of so many items.
+// Returns the bound of this number, for a list of `length` items.
 fn bound(number: usize, length: usize) -> Bound<usize> {
     let place = match number / 2 {
         5 => length,
@@ -247,7 +252,8 @@ fn bound(number: usize, length: usize) -> Bound<usize> {
     }
 }
 
-// The range that has to come. No list has `usize::MAX` items, so that a sum may stop there.
+// Returns the range that `bounds` must return. No list has `usize::MAX` items, so that a sum may
+// saturate there.
 fn between(start: Bound<usize>, end: Bound<usize>, length: usize) -> Option<(usize, usize)> {
     let first = match start {
         Bound::Included(place) => place,

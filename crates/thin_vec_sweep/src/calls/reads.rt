@@ -1,4 +1,5 @@
-//! What is read, and what is written through a `&mut`: no call of these takes memory.
+//! Sweeps of the calls that read a list, or that write through a `&mut` to an item. None of them
+//! makes a request.
 use crate::assertions::same;
 use crate::case::{Case, List};
 use crate::samples::Sample;
@@ -8,10 +9,10 @@ use std::mem;
 use std::process::Abort;
 use thin_testing::Ruled;
 
-// The number of an item that comes in.
+// The number of a new item.
 const FRESH: u64 = 70_000;
 
-/// `len`, `is_empty`, `capacity`, `has_capacity`, `allocator`.
+/// Calls `len`, `is_empty`, `has_capacity` and `allocator`.
 pub struct Read {}
 
 impl<T: Sample, G: Ruled> Call<T, G> for Read {
@@ -29,7 +30,7 @@ impl<T: Sample, G: Ruled> Call<T, G> for Read {
     }
 }
 
-/// Each item by its index.
+/// Reads each item by its index.
 pub struct Index {}
 
 impl<T: Sample, G: Ruled> Call<T, G> for Index {
@@ -49,7 +50,7 @@ impl<T: Sample, G: Ruled> Call<T, G> for Index {
     }
 }
 
-/// An iteration over `&list`.
+/// Iterates over `&list`.
 pub struct Iterate {}
 
 impl<T: Sample, G: Ruled> Call<T, G> for Iterate {
@@ -62,7 +63,8 @@ impl<T: Sample, G: Ruled> Call<T, G> for Iterate {
     }
 }
 
-// The first place at which an iteration yields another item than the one of that number.
+// Returns the first index at which an iteration does not yield the item of its number, also if the
+// iteration ends too early or too late.
 fn difference<T: Sample, G: Ruled>(list: &List<T, G>, numbers: &[u64]) -> Option<usize> {
     let mut index: usize = 0;
     for item in list {
@@ -80,7 +82,7 @@ fn difference<T: Sample, G: Ruled>(list: &List<T, G>, numbers: &[u64]) -> Option
     }
 }
 
-/// `as_mut_slice`, by which one item is exchanged.
+/// Calls `as_mut_slice`, and swaps one item through the slice.
 pub struct AsMutSlice {}
 
 impl<T: Sample, G: Ruled> Call<T, G> for AsMutSlice {
@@ -104,7 +106,7 @@ impl<T: Sample, G: Ruled> Call<T, G> for AsMutSlice {
     }
 }
 
-/// `list[index] = item`, which drops the item that was there.
+/// Writes `list[index] = item`, which drops the old item.
 pub struct IndexMut {}
 
 impl<T: Sample, G: Ruled> Call<T, G> for IndexMut {
@@ -127,8 +129,8 @@ impl<T: Sample, G: Ruled> Call<T, G> for IndexMut {
     }
 }
 
-/// `get_mut` of each index, of the length, and of the greatest number: where there is an item, it
-/// is exchanged.
+/// Calls `get_mut` with each index, with the length, and with `usize::MAX`. If there is an item,
+/// swaps it.
 pub struct GetMut {}
 
 impl<T: Sample, G: Ruled> Call<T, G> for GetMut {
@@ -161,7 +163,7 @@ impl<T: Sample, G: Ruled> Call<T, G> for GetMut {
     }
 }
 
-/// An iteration over `&mut list`, in which each item comes into the place of the one after it.
+/// Iterates over `&mut list`, and swaps each item into the place of the next one.
 pub struct IterateMut {}
 
 impl<T: Sample, G: Ruled> Call<T, G> for IterateMut {

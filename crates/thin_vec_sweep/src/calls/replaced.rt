@@ -1,4 +1,4 @@
-//! Ranges that give way to other items: `replace_range` and its kin.
+//! Sweeps of `replace_range` and its two variants, which replace a range by other items.
 use crate::case::{Case, Verdict, filled, numbers, put, source};
 use crate::closures::number_at;
 use crate::samples::Sample;
@@ -7,17 +7,18 @@ use crate::sweep::Call;
 use std::process::Abort;
 use thin_testing::Ruled;
 
-// The number of the first item that comes in.
+// The number of the first new item.
 const FRESH: u64 = 80_000;
 
-// How many counts of items are tried for each range.
+// How many counts of new items are tried for each range.
 const COUNTS: usize = 7;
 
-// Each count for each range.
+// On lists of at most 6 items, each count is tried for each range.
 const EACH_COUNT: Cases = [COUNTS; 7];
 
-// How many items come in: more than the range has, or about as many, or few. Of a long list the
-// first two numbers alone are tried, and each of them makes it longer.
+// Returns how many new items replace the range: more than the range has, none, one, or about as
+// many as the range has. For a list of more than 40 items, only the first two counts are tried, and
+// both make the list longer.
 fn count_for(range: Ranged) -> usize {
     let width = range.width();
     match range.number % COUNTS {
@@ -31,7 +32,7 @@ fn count_for(range: Ranged) -> usize {
     }
 }
 
-// So many items, numbered from `FRESH` on, have come in for the range, where the call did not fail.
+// Replaces the range in the reference by `count` numbers from `FRESH` on, if the call did not fail.
 fn replaced<T: Sample, G: Ruled, R: Abort>(
     rt: &R,
     case: &mut Case<T, G>,
@@ -54,7 +55,7 @@ fn replaced<T: Sample, G: Ruled, R: Abort>(
     case.items = left;
 }
 
-/// By clones.
+/// Calls `replace_range`, which clones the new items.
 pub struct ReplaceRange {}
 
 impl<T: Sample, G: Ruled> Call<T, G> for ReplaceRange {
@@ -82,7 +83,7 @@ impl<T: Sample, G: Ruled> Call<T, G> for ReplaceRange {
     }
 }
 
-/// By copies.
+/// Calls `replace_range_from_copies`, which copies the new items.
 pub struct ReplaceRangeFromCopies {}
 
 impl<T: Sample + Copy, G: Ruled> Call<T, G> for ReplaceRangeFromCopies {
@@ -110,7 +111,7 @@ impl<T: Sample + Copy, G: Ruled> Call<T, G> for ReplaceRangeFromCopies {
     }
 }
 
-/// By the items of another list, with no spare room.
+/// Calls `replace_range_from_list`, which moves the items of another list without spare room.
 pub struct ReplaceRangeFromList {}
 
 impl<T: Sample, G: Ruled> Call<T, G> for ReplaceRangeFromList {

@@ -1,4 +1,4 @@
-//! The capacity changes, and nothing else: `reserve`, `reserve_exact`, `shrink_to`,
+//! Sweeps of the calls that change only the capacity: `reserve`, `reserve_exact`, `shrink_to`,
 //! `shrink_to_fit`.
 use crate::case::Case;
 use crate::samples::Sample;
@@ -7,7 +7,8 @@ use crate::sweep::Call;
 use std::process::Abort;
 use thin_testing::Ruled;
 
-/// By each count, by the numbers about the greatest that fits, and by `usize::MAX`.
+/// Calls `reserve` with each count, with numbers near the greatest capacity that fits, and with
+/// `usize::MAX`.
 pub struct Reserve {}
 
 impl<T: Sample, G: Ruled> Call<T, G> for Reserve {
@@ -30,7 +31,7 @@ impl<T: Sample, G: Ruled> Call<T, G> for Reserve {
     }
 }
 
-/// By the same numbers.
+/// Calls `reserve_exact` with the same numbers as `Reserve`.
 pub struct ReserveExact {}
 
 impl<T: Sample, G: Ruled> Call<T, G> for ReserveExact {
@@ -53,7 +54,8 @@ impl<T: Sample, G: Ruled> Call<T, G> for ReserveExact {
     }
 }
 
-/// To each index, to one past the length, to the capacity, and to `usize::MAX`.
+/// Calls `shrink_to` with each index, with the length plus one, with the capacity, and with
+/// `usize::MAX`.
 pub struct ShrinkTo {}
 
 impl<T: Sample, G: Ruled> Call<T, G> for ShrinkTo {
@@ -79,7 +81,7 @@ impl<T: Sample, G: Ruled> Call<T, G> for ShrinkTo {
     }
 }
 
-/// To the length.
+/// Calls `shrink_to_fit`.
 pub struct ShrinkToFit {}
 
 impl<T: Sample, G: Ruled> Call<T, G> for ShrinkToFit {
@@ -97,8 +99,9 @@ impl<T: Sample, G: Ruled> Call<T, G> for ShrinkToFit {
 // How many great numbers are tried.
 const GREAT: usize = 6;
 
-// How many more items. The great numbers come last: those by which the capacity becomes the
-// greatest that fits, one beyond, and more.
+// Returns for how many more items room is reserved. The last arguments are great numbers: the first
+// makes the capacity the greatest that fits, the second exceeds it by one, and the others are
+// greater.
 fn additional<T: Sample>(shape: Shape, argument: usize) -> usize {
     let most = T::LIMIT.saturating_sub(shape.length);
     match argument.checked_sub(shape.counts()) {

@@ -1,5 +1,5 @@
-//! The calls that make a second list of the items: `clone`, `clone_copies`, `from_slice`,
-//! `from_copies`.
+//! Sweeps of the calls that make a second list of the same items: `clone`, `clone_copies`,
+//! `from_slice`, `from_copies`.
 use crate::case::{Case, List};
 use crate::samples::Sample;
 use crate::sweep::Call;
@@ -9,22 +9,22 @@ use std::process::Abort;
 use thin_testing::{Refusing, Ruled};
 use thin_vec::{Doubling, ThinVec, ThinVecError};
 
-/// A call that makes a second list of the items of a list of `T` under the rule `G`.
+/// A call that makes a second list of the items of a list of `T` under the growth rule `G`.
 pub trait MakesSecond<T: Sample, G: Ruled> {
-    /// What an assertion calls it.
+    /// The name of the call in the message of a failed assertion.
     const NAME: &'static str;
 
-    /// Whether it clones each item.
+    /// Whether the call clones each item.
     const CLONES: bool = false;
 
-    /// Makes the call, on that allocator.
+    /// Makes the call, with this allocator.
     fn second(
         list: &List<T, G>,
         alloc: &'static Refusing<Global>,
     ) -> Result<List<T, G>, ThinVecError>;
 }
 
-/// With exactly the capacity that the items take.
+/// Makes the call `C`. The second list must have no spare room.
 pub struct MakeSecond<C> {
     call: PhantomData<C>,
 }
@@ -41,7 +41,7 @@ impl<T: Sample, G: Ruled, C: MakesSecond<T, G>> Call<T, G> for MakeSecond<C> {
     }
 }
 
-/// As a method of the list, on an allocator that is passed.
+/// Calls the method `clone` of the list, with an allocator.
 pub struct CloneOn {}
 
 impl<T: Sample, G: Ruled> MakesSecond<T, G> for CloneOn {
@@ -57,7 +57,7 @@ impl<T: Sample, G: Ruled> MakesSecond<T, G> for CloneOn {
     }
 }
 
-/// As std's trait has it.
+/// Calls `clone` of the trait `Clone` of `std`.
 pub struct CloneAsTrait {}
 
 impl<T: Sample, G: Ruled> MakesSecond<T, G> for CloneAsTrait {
@@ -76,7 +76,7 @@ impl<T: Sample, G: Ruled> MakesSecond<T, G> for CloneAsTrait {
     }
 }
 
-/// As a run of bytes, on an allocator that is passed.
+/// Calls `clone_copies`, which copies the items as one run of bytes, with an allocator.
 pub struct CloneCopies {}
 
 impl<T: Sample + Copy, G: Ruled> MakesSecond<T, G> for CloneCopies {
@@ -90,7 +90,7 @@ impl<T: Sample + Copy, G: Ruled> MakesSecond<T, G> for CloneCopies {
     }
 }
 
-/// Of clones of the items.
+/// Calls `from_slice`, which clones the items.
 pub struct FromSlice {}
 
 impl<T: Sample> MakesSecond<T, Doubling> for FromSlice {
@@ -106,7 +106,7 @@ impl<T: Sample> MakesSecond<T, Doubling> for FromSlice {
     }
 }
 
-/// Of copies of the items.
+/// Calls `from_copies`, which copies the items.
 pub struct FromCopies {}
 
 impl<T: Sample + Copy> MakesSecond<T, Doubling> for FromCopies {

@@ -1,5 +1,5 @@
-//! The calls that append the items of a slice: by clones, by copies, as bytes that are written, and
-//! into room that was shown to be there.
+//! Sweeps of the calls that append the items of a slice: as clones, as copies, as bytes that are
+//! written, and to spare room.
 use crate::assertions::{At, same};
 use crate::case::{Case, List, source};
 use crate::samples::Sample;
@@ -11,18 +11,18 @@ use std::process::Abort;
 use thin_testing::Ruled;
 use thin_vec::ThinVecError;
 
-// The number of the first item that comes in.
+// The number of the first new item.
 const FRESH: u64 = 80_000;
 
-/// A call that appends the items of a slice to a list of `T` under the rule `G`.
+/// A call that appends the items of a slice to a list of `T` under the growth rule `G`.
 pub trait AppendsSlice<T: Sample, G: Ruled> {
-    /// What an assertion calls it.
+    /// The name of the call in the message of a failed assertion.
     const NAME: &'static str;
 
-    /// Whether it clones each item.
+    /// Whether the call clones each item.
     const CLONES: bool = false;
 
-    /// Whether it is for spare room alone.
+    /// Whether the call requires spare room for all items.
     const IS_RESERVED: bool = false;
 
     /// Makes the call.
@@ -34,7 +34,8 @@ pub trait AppendsSlice<T: Sample, G: Ruled> {
     ) -> Result<(), ThinVecError>;
 }
 
-/// By each count of items; into spare room by one item and more, up to all that it takes.
+/// Makes the call `C` with each count of items. If it requires spare room, makes it with one item,
+/// with two items, and so on, up to the spare room.
 pub struct AppendSlice<C> {
     call: PhantomData<C>,
 }
@@ -66,7 +67,7 @@ impl<T: Sample, G: Ruled, C: AppendsSlice<T, G>> Call<T, G> for AppendSlice<C> {
     }
 }
 
-/// By clones.
+/// Calls `extend_from_slice`, which appends clones.
 pub struct ExtendFromSlice {}
 
 impl<T: Sample, G: Ruled> AppendsSlice<T, G> for ExtendFromSlice {
@@ -84,7 +85,7 @@ impl<T: Sample, G: Ruled> AppendsSlice<T, G> for ExtendFromSlice {
     }
 }
 
-/// By copies.
+/// Calls `extend_from_copies`, which appends copies.
 pub struct ExtendFromCopies {}
 
 impl<T: Sample + Copy, G: Ruled> AppendsSlice<T, G> for ExtendFromCopies {
@@ -100,7 +101,7 @@ impl<T: Sample + Copy, G: Ruled> AppendsSlice<T, G> for ExtendFromCopies {
     }
 }
 
-/// By clones, into spare room.
+/// Calls `extend_from_slice_reserved`, which appends clones to spare room.
 pub struct ExtendFromSliceReserved {}
 
 impl<T: Sample, G: Ruled> AppendsSlice<T, G> for ExtendFromSliceReserved {
@@ -124,7 +125,7 @@ impl<T: Sample, G: Ruled> AppendsSlice<T, G> for ExtendFromSliceReserved {
     }
 }
 
-/// By copies, into spare room.
+/// Calls `extend_from_copies_reserved`, which appends copies to spare room.
 pub struct ExtendFromCopiesReserved {}
 
 impl<T: Sample + Copy, G: Ruled> AppendsSlice<T, G> for ExtendFromCopiesReserved {
@@ -146,7 +147,7 @@ impl<T: Sample + Copy, G: Ruled> AppendsSlice<T, G> for ExtendFromCopiesReserved
     }
 }
 
-/// `write`, which takes all bytes that it is passed.
+/// Calls `write`, which appends all bytes that it is passed.
 pub struct WriteSome {}
 
 impl<G: Ruled> AppendsSlice<u8, G> for WriteSome {
@@ -168,7 +169,7 @@ impl<G: Ruled> AppendsSlice<u8, G> for WriteSome {
     }
 }
 
-/// `write_all`, and `flush`.
+/// Calls `write_all` and `flush`.
 pub struct WriteAll {}
 
 impl<G: Ruled> AppendsSlice<u8, G> for WriteAll {
@@ -189,7 +190,8 @@ impl<G: Ruled> AppendsSlice<u8, G> for WriteAll {
     }
 }
 
-// The cause of a write that failed: there is one kind for both.
+// Returns `OutOfMemory` as the cause of a failed write, and asserts that the error has this kind.
+// An `io::Error` has this kind for both causes, `OutOfMemory` and `CapacityOverflow`.
 fn cause<R: Abort>(rt: &R, at: &At, error: &Error) -> ThinVecError {
     let kind = error.kind() == ErrorKind::OutOfMemory;
     same(rt, at, "the error's kind is OutOfMemory", kind, true);

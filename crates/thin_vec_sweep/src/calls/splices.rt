@@ -1,5 +1,5 @@
-//! `splice`, finished after any steps, with a hint that is short, true, too great, or past every
-//! capacity.
+//! Sweeps of `splice`, finished after some steps. The size hint of the iterator is too small,
+//! exact, too great, or greater than every capacity.
 ghost use Rattle.std.specs.Iterator.{IsFinite};
 ghost use Rattle.std.specs.Prelude.{◌≤◌, length};
 ghost use Rattle.thin_vec.specs.Edits.Splice.{SpliceKeeps};
@@ -18,23 +18,27 @@ use std::process::Abort;
 use thin_testing::Ruled;
 use thin_vec::{Growth, Splice, SpliceRefused, ThinVec};
 
-// How many hints are tried.
+// How many size hints are tried.
 const HINTS: usize = 5;
 
-// How many fills there are of a list of at most 6 items: 0 to 5 items are given, with each hint.
+// How many fillings are tried for a list of at most 6 items: 0 to 5 new items, each with each size
+// hint.
 const FILLS: usize = 30;
 
-// How many walks over a range are tried with each fill: no step, and one from either end.
+// How many walks over the range are tried with each filling: no step, one from the front, and one
+// from the back.
 const SHORT_WALKS: usize = 3;
 
-// Each fill after each short walk, and then each further walk with one fill. On a range of no items
-// a step is tried with few.
+// For each k from 0 to 6: how many cases there are of a range of k items. Each filling is tried
+// after each short walk, and each further walk with one filling. If the range is empty, only a few
+// cases take a step.
 const AFTER_STEPS: Cases = [33, 94, 102, 118, 150, 214, 342];
 
-// Each fill, with no step before.
+// Each filling is tried, without a step before.
 const AT_ONCE: Cases = [FILLS; 7];
 
-// Which cases of each range are tried: whether there is spare room matters to the fills alone.
+// Returns how many cases of each range are tried. Spare room matters only to the filling, so that
+// lists with spare room are tried without steps.
 fn cases(shape: Shape) -> Cases {
     if shape.spare == 0 {
         AFTER_STEPS
@@ -43,7 +47,7 @@ fn cases(shape: Shape) -> Cases {
     }
 }
 
-// What a splice is to do.
+// What a splice is made to do.
 #[derive(Drop)]
 struct Plan {
     range: Ranged,
@@ -51,15 +55,15 @@ struct Plan {
     numbers: Vec<u64, Global>,
     // The steps before `finish`.
     walk: Walk,
-    // How many items are given.
+    // How many new items the iterator has.
     count: usize,
-    // The lower bound that is claimed of them.
+    // The lower bound of the iterator's size hint.
     hint: usize,
 }
 
 impl Plan {
-    // That of the argument, on the list of a case. The hint is due once the places of the range are
-    // filled.
+    // Returns the plan for this argument, on the list of a case. `finish` reads the size hint after
+    // it has filled the places of the range: one of the hints is exact at that moment.
     fn new<T: Sample, G: Ruled, R: Abort>(rt: &R, case: &Case<T, G>, argument: usize) -> Plan {
         let shape = case.at.shape;
         let range = shape.ranged_case(&cases(shape), argument);
@@ -84,7 +88,7 @@ impl Plan {
     }
 }
 
-// The number of the walk.
+// Returns the number of the walk that precedes a filling.
 fn few_steps(number: usize) -> usize {
     let crossed = SHORT_WALKS.saturating_mul(FILLS);
     match number.checked_sub(crossed) {
@@ -93,8 +97,8 @@ fn few_steps(number: usize) -> usize {
     }
 }
 
-// How many items are given in the place of many: far more than the range has, as many, one less, or
-// none.
+// Returns how many new items there are on a longer list: far more than the range has, as many as
+// the range has, one less, or none.
 fn many(width: usize, number: usize) -> usize {
     match number {
         0 => width.saturating_mul(2).saturating_add(9),
@@ -104,7 +108,8 @@ fn many(width: usize, number: usize) -> usize {
     }
 }
 
-// The lower bound of that number, where so many items are left of all, once it is asked for.
+// Returns the lower bound of this number. When `finish` reads it, `left` of `all` items are not yet
+// yielded.
 fn hint(number: usize, left: usize, all: usize) -> usize {
     match number {
         0 => 0,
@@ -115,8 +120,8 @@ fn hint(number: usize, left: usize, all: usize) -> usize {
     }
 }
 
-// How `finish` has to end, and what it leaves in the list: with nothing after the range it is an
-// `extend`.
+// Returns how `finish` must end, and updates the reference. If no items are after the range,
+// `finish` does the same as `extend`.
 fn finish<T: Sample, G: Ruled, R: Abort>(rt: &R, case: &mut Case<T, G>, plan: &Plan) -> Ending {
     let range = plan.range;
     let length = case.items.len();
@@ -135,7 +140,8 @@ fn finish<T: Sample, G: Ruled, R: Abort>(rt: &R, case: &mut Case<T, G>, plan: &P
     ending
 }
 
-// How it has to end with items after the range. The case has all items of before.
+// Returns how `finish` must end if there are items after the range. The reference still has all its
+// old items.
 fn fill_between<T: Sample, G: Ruled>(case: &mut Case<T, G>, width: usize, plan: &Plan) -> Ending {
     let mut ending = Ending::done(plan.count);
     if plan.count < width {
@@ -167,8 +173,8 @@ fn fill_between<T: Sample, G: Ruled>(case: &mut Case<T, G>, width: usize, plan: 
     ending
 }
 
-// How many of `count` items a `Vec` holds that begins empty. It asks for 4 places, or 8 where an
-// item has one byte at most, and then for twice as many as it has.
+// Returns how many of `count` items a `Vec` can hold that is empty at first. It first requests 4
+// places, or 8 if an item has at most one byte, and then twice as many as it has.
 fn hold<T: Sample, G: Ruled>(case: &mut Case<T, G>, count: usize) -> usize {
     let first = if T::SIZE <= 1 { 8 } else { 4 };
     let mut room: usize = 0;
@@ -183,7 +189,7 @@ fn hold<T: Sample, G: Ruled>(case: &mut Case<T, G>, count: usize) -> usize {
     count
 }
 
-/// `splice` of each range by each count of items under each hint, after some steps.
+/// Calls `splice` on each range, with each count of new items and each size hint, after some steps.
 pub struct Spliced {}
 
 impl<T: Sample, G: Ruled> Call<T, G> for Spliced {
@@ -213,17 +219,17 @@ impl<T: Sample, G: Ruled> Call<T, G> for Spliced {
     }
 }
 
-// How the steps went.
+// What the steps yielded, and what remained after them.
 #[derive(Drop, Debug, PartialEq)]
 struct Walked {
-    // The first step that gave another item than it had to.
+    // The first step that did not yield the item that it must yield.
     wrong: Option<usize>,
-    // How many items of the range remain, as `len` and `size_hint` say.
+    // How many items of the range remain, by `len` and by `size_hint`.
     remaining: (usize, (usize, Option<usize>)),
 }
 
 impl Walked {
-    // How they have to go.
+    // Returns what the steps must yield, and what must remain.
     fn due(plan: &Plan) -> Walked {
         let width = plan.numbers.len();
         let count = width.saturating_sub(plan.walk.steps);
@@ -234,7 +240,7 @@ impl Walked {
     }
 }
 
-// Splices the range by some steps, and finishes.
+// Splices the range, takes some steps, and finishes.
 fn splice<T: Sample, A: Allocator, G: Growth, I: Iterator<Item = T>>(
     list: &mut ThinVec<T, A, G>,
     plan: &Plan,
@@ -251,7 +257,7 @@ fn splice<T: Sample, A: Allocator, G: Growth, I: Iterator<Item = T>>(
     (walked, splice.finish(alloc))
 }
 
-// Makes the steps.
+// Takes the steps, and returns what they yielded.
 fn walk<T: Sample, A: Allocator, G: Growth, I>(
     splice: &mut Splice<'_, I, T, A, G>,
     plan: &Plan,
@@ -278,7 +284,8 @@ fn walk<T: Sample, A: Allocator, G: Growth, I>(
     }
 }
 
-// What an error returns: what is held, what is in hand, and the rest of `count` items.
+// Asserts what a failed `finish` returned: the items held back, the item in hand, and the rest of
+// `count` items.
 fn given_back<T: Sample, A: Allocator, G: Ruled, R: Abort>(
     rt: &R,
     case: &Case<T, G>,

@@ -1,4 +1,5 @@
-//! Each command with each of its replies, and runs that are worked out by hand.
+//! Tests of the commands: that the random runs get every reply of every command, that two runs have
+//! the results that were computed by hand, and that each difference from the model is found.
 use crate::runs::compared::both;
 use crate::runs::judges::{EACH_SECOND, Evens};
 use crate::runs::model::Model;
@@ -12,7 +13,7 @@ use thin_runner::judge::Judge;
 use thin_testing::{Refusing, Ruled};
 use thin_vec::{Doubling, Growth, PowerBytes, ThinVec, ThinVecError};
 
-// Every reply of every command.
+// Every reply of every command, with the cause of the failure, if any.
 const REPLIES: &str = "\
     Push Done None\n\
     Push Returned Some(OutOfMemory)\n\
@@ -68,7 +69,7 @@ const REPLIES: &str = "\
     Splice Stopped Some(OutOfMemory)\n\
     Splice OutOfRange None\n";
 
-// A command and its reply.
+// The kind of a command, the form of its reply, and the cause of the failure, if any.
 type Replied = (Kind, Form, Option<ThinVecError>);
 
 fn has(replies: &[Replied], one: Replied) -> bool {
@@ -80,7 +81,7 @@ fn has(replies: &[Replied], one: Replied) -> bool {
     false
 }
 
-// Puts the replies to these commands after the others, but for those that are there.
+// Appends the replies in `done` to `replies`, except those that are already in it.
 fn put_new(replies: &mut Vec<Replied, Global>, done: &[Done]) -> Result<(), AllocError> {
     for (order, _, form, cause) in done {
         let one = (order.kind, *form, *cause);
@@ -91,7 +92,7 @@ fn put_new(replies: &mut Vec<Replied, Global>, done: &[Done]) -> Result<(), Allo
     Ok(())
 }
 
-// Asserts that a command has that reply.
+// Asserts that `REPLIES` lists this reply of this command.
 fn assert_listed<R: Abort>(rt: &R, alloc: Global, replied: &Replied) {
     let (kind, form, cause) = replied;
     let line = format!(in alloc; "{kind:?} {form:?} {cause:?}\n").expect(rt, "memory");
@@ -115,7 +116,7 @@ fn each_command_has_each_of_its_replies(rt: HostRuntime) {
     assert_eq!(rt; replies.len(), REPLIES.lines().count());
 }
 
-// An order that has no walk.
+// Returns an order that has no steps.
 const fn plain(kind: Kind, at: usize, to: usize, count: usize, lower: usize, number: u64) -> Order {
     Order {
         kind,
@@ -128,7 +129,7 @@ const fn plain(kind: Kind, at: usize, to: usize, count: usize, lower: usize, num
     }
 }
 
-// With `Evens` as the judge.
+// Returns the orders of a run that was computed by hand. Its judge is `Evens`.
 fn worked_orders() -> [Order; 6] {
     let walked = Order {
         steps: 1,
@@ -144,7 +145,7 @@ fn worked_orders() -> [Order; 6] {
     ]
 }
 
-// The items and the capacity of the list after each.
+// The items and the capacity of the list after each of the orders in `worked_orders`.
 const WORKED: [(&[u64], usize); 6] = [
     (&[1, 2, 3, 4, 5, 6], 6),
     (&[1, 9, 4, 5, 6], 6),
@@ -154,8 +155,8 @@ const WORKED: [(&[u64], usize); 6] = [
     (&[1, 9], 6),
 ];
 
-// Under `PowerBytes`: a block of 32, 64 or 128 bytes has room for 4, 12 or 28 items of 4 bytes
-// after its header.
+// Returns the orders of a run under the growth rule `PowerBytes`. A block of 32, 64 or 128 bytes
+// has room for 4, 12 or 28 items of 4 bytes after its header.
 fn worked_powers() -> [Order; 9] {
     [
         plain(Kind::Push, 0, 0, 0, 0, 1),
@@ -182,7 +183,7 @@ const WORKED_POWERS: [(&[u32], usize); 9] = [
     (&[1, 7, 8, 9, 6], 20),
 ];
 
-// Whether the list has the items and the capacity that were worked out.
+// Returns whether the list has the items and the capacity that were computed.
 fn is_worked<T: Eq, A: Allocator, G: Growth>(
     list: &ThinVec<T, A, G>,
     worked: &(&[T], usize),
@@ -191,8 +192,8 @@ fn is_worked<T: Eq, A: Allocator, G: Growth>(
     list.as_slice() == *items && list.capacity() == *capacity
 }
 
-// Asserts that the commands do what the definition says, and that the items and the capacity are
-// after each what is worked out.
+// Runs the commands by the runner and by the model. Asserts that both agree, and that the list has
+// the computed items and capacity after each command.
 fn assert_worked<'a, T: Sample<Lender<'a>>, G: Ruled, J: Judge<T>, R: Abort>(
     rt: &R,
     alloc: Lender<'a>,
@@ -232,8 +233,8 @@ fn a_worked_run_under_power_bytes(rt: HostRuntime) {
     );
 }
 
-// What a command replies on an empty list, or `Never` where the definition, on that model, does
-// something else.
+// Runs a command of this kind on an empty list and on `model`. Returns the reply, or `Never` if the
+// two differ.
 fn form_beside<'a, R: Abort>(
     rt: &R,
     alloc: Lender<'a>,
@@ -248,7 +249,7 @@ fn form_beside<'a, R: Abort>(
     form
 }
 
-// A model of a list of one item.
+// Returns a model of a list of one item.
 fn one_item<'a, R: Abort>(rt: &R, alloc: Lender<'a>) -> Model<u64, Lender<'a>, Doubling> {
     let mut model = Model::new(alloc);
     put(&mut model.items, 1).ok().expect(rt, "memory");

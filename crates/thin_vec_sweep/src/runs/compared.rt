@@ -1,4 +1,5 @@
-//! A command by the runner, and by the definition written as a program.
+//! Runs a command both by the runner and by the model, which is the specification written as a
+//! program, and compares the two.
 use crate::runs::model::Model;
 use crate::runs::orders::{Order, command_of};
 use crate::runs::samples::{Lender, Sample};
@@ -9,7 +10,8 @@ use thin_runner::runner::step;
 use thin_testing::Ruled;
 use thin_vec::{ThinVec, ThinVecError};
 
-// Whether as many blocks are out as the list, what it is compared with, and their items have.
+// Returns whether the number of allocated blocks is that of the list, of the model and of their
+// items.
 fn has_its_blocks<'a, T: Sample<Lender<'a>>, G: Ruled>(
     alloc: Lender<'a>,
     list: &ThinVec<T, Lender<'a>, G>,
@@ -26,8 +28,8 @@ fn has_its_blocks<'a, T: Sample<Lender<'a>>, G: Ruled>(
     blocks == alloc.blocks()
 }
 
-// What the runner's reply shows to a command of which the request of that number is refused, and
-// whether that request was reached.
+// Runs a command by the runner, with the request `nth` refused. Returns what the reply shows, and
+// whether the command made this request.
 fn shown_by_runner<'a, T: Sample<Lender<'a>>, G: Ruled, J: Judge<T>>(
     alloc: Lender<'a>,
     list: &mut ThinVec<T, Lender<'a>, G>,
@@ -43,8 +45,9 @@ fn shown_by_runner<'a, T: Sample<Lender<'a>>, G: Ruled, J: Judge<T>>(
     Ok((show(alloc, reply)?, refused))
 }
 
-/// A command by both, of which the request of that number is refused, or none at 0. Returns the
-/// reply, `Never` where they differ, and whether the request was reached.
+/// Runs a command both by the runner and by the model, with the request `nth` refused, or none if
+/// `nth` is 0. Returns the form of the reply and the cause of a failure. If the two differ, the
+/// form is `Never`.
 pub fn both<'a, T: Sample<Lender<'a>>, G: Ruled, J: Judge<T>>(
     alloc: Lender<'a>,
     list: &mut ThinVec<T, Lender<'a>, G>,

@@ -1,24 +1,25 @@
-//! The judges who are asked about the items.
+//! The judges that decide about the items in the runs.
 ghost use Rattle.std.specs.Prelude.{◌≡◌, ◌==◌, ◌/◌, ◌%◌};
 
 use std::mem;
 use thin_runner::judge::Judge;
 
-/// Decides by the binary digits of a number, the last one first. It exchanges two
-/// items that it is asked about together.
+/// A judge that decides by the binary digits of a number, the last digit first. If it compares two
+/// items, it swaps them.
 #[derive(Clone, Copy)]
 pub struct Digits {
-    /// The digits still to come.
+    /// The digits that are not yet used.
     pub digits: u64,
 }
 
-/// Picks each second item that it is asked about, from the first on.
+/// A judge that picks the first of the items that it is asked about, the third, the fifth, and so
+/// on.
 pub const EACH_SECOND: Digits = Digits {
     digits: 0x5555_5555_5555_5555,
 };
 
 impl Digits {
-    // The next digit.
+    // Removes the last digit, and returns it.
     fn next_digit(&mut self) -> u64
         ensures value { result ≡ self.old.digits % 2 }
         ensures digits { self.new.digits ≡ self.old.digits / 2 }
@@ -66,8 +67,9 @@ impl<T> Judge<T> for Digits {
     }
 }
 
-/// Picks the even numbers, and writes: it halves what it is asked to keep or to give the key of,
-/// and of two that it compares the one that was kept becomes 0.
+/// A judge that picks the even numbers. It also writes to the items: it halves an item if it is
+/// asked whether to keep it, or for its key. If it compares two items, it sets the one that was
+/// kept to 0.
 #[derive(Clone, Copy)]
 pub struct Evens;
 

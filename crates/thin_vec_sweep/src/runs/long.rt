@@ -1,4 +1,5 @@
-//! Runs that the definition written as a program would be too slow for, and one that fails.
+//! Long runs, and a run that fails. They are not compared with the model (the specification written
+//! as a program), because the model would be too slow.
 use crate::runs::judges::EACH_SECOND;
 use crate::runs::samples::{Lender, put};
 use std::alloc::Global;
@@ -8,7 +9,7 @@ use thin_runner::runner::{run, step};
 use thin_testing::Refusing;
 use thin_vec::{ThinVec, ThinVecError, thin_vec};
 
-// Pushes of the numbers below 5,000.
+// Returns pushes of the numbers below 5,000.
 fn pushes<R: Abort>(rt: &R, alloc: Global) -> Vec<Command<u32, Global>, Global> {
     let mut commands = Vec::new(alloc);
     for item in 0..5000 {
@@ -18,7 +19,7 @@ fn pushes<R: Abort>(rt: &R, alloc: Global) -> Vec<Command<u32, Global>, Global> 
     commands
 }
 
-// How many of the replies are `Done`.
+// Returns how many of the replies are `Done`.
 fn count_done(replies: &[Reply<u32, Global>]) -> usize {
     let done = replies.iter().filter(|reply| matches!(reply, Reply::Done));
     done.count()
@@ -37,7 +38,7 @@ fn runs_thousands_of_commands(rt: HostRuntime) {
     assert_eq!(rt; count_done(replies.as_slice()), 5000);
 }
 
-// So many numbers.
+// Returns the numbers below `count`.
 fn numbers<R: Abort>(rt: &R, alloc: Global, count: u32) -> Vec<u32, Global> {
     let mut numbers = Vec::new(alloc);
     for number in 0..count {
@@ -46,14 +47,14 @@ fn numbers<R: Abort>(rt: &R, alloc: Global, count: u32) -> Vec<u32, Global> {
     numbers
 }
 
-// A list of them.
+// Returns a list of the numbers below `count`.
 fn listed<R: Abort>(rt: &R, alloc: Global, count: u32) -> ThinVec<u32> {
     let mut list = ThinVec::new(alloc);
     list.extend(0..count).ok().expect(rt, "memory");
     list
 }
 
-// So many steps from the front.
+// Returns `count` steps from the front.
 fn steps<R: Abort>(rt: &R, alloc: Global, count: u32) -> Vec<Step, Global> {
     let mut steps = Vec::new(alloc);
     for _ in 0..count {
@@ -62,8 +63,8 @@ fn steps<R: Abort>(rt: &R, alloc: Global, count: u32) -> Vec<Step, Global> {
     steps
 }
 
-// Each command that asks for memory, by thousands and by one, and before each the one that leaves
-// no spare room.
+// Returns the commands that request memory, for one item and for thousands. Before each of them is
+// a `ShrinkToFit`, which leaves no spare room.
 fn long_commands<R: Abort>(rt: &R, alloc: Global) -> Vec<Command<u32, Global>, Global> {
     let many = || numbers(rt, alloc, 6000);
     let mut commands = Vec::new(alloc);
@@ -109,10 +110,10 @@ fn commands_by_thousands_are_not_refused(rt: HostRuntime) {
     assert!(rt; ran.is_ok());
 }
 
-// Replies to commands on a list of lists.
+// The replies to commands on a list of lists.
 type Replies<'a> = Vec<Reply<ThinVec<u32, Lender<'a>>, Lender<'a>>, Lender<'a>>;
 
-// Three pushes of lists of one item.
+// Returns three pushes. Each one pushes a list of one item.
 fn pushes_of_lists<'a, R: Abort>(
     rt: &R,
     alloc: Lender<'a>,
@@ -127,7 +128,7 @@ fn pushes_of_lists<'a, R: Abort>(
     commands
 }
 
-// The reply of an earlier command.
+// Returns a vector of replies that has the reply to an earlier command.
 fn earlier_reply<'a, R: Abort>(rt: &R, alloc: Lender<'a>) -> Replies<'a> {
     let mut replies = Vec::with_capacity(alloc, 1).expect(rt, "memory");
     let earlier = Reply::Refused(ThinVecError::CapacityOverflow);
@@ -135,7 +136,7 @@ fn earlier_reply<'a, R: Abort>(rt: &R, alloc: Lender<'a>) -> Replies<'a> {
     replies
 }
 
-// Whether that is the only reply.
+// Returns whether `replies` has only the reply to the earlier command.
 fn has_earlier_alone(replies: &Replies<'_>) -> bool {
     match replies.as_slice() {
         [left] => left.refusal() == Some(ThinVecError::CapacityOverflow),
@@ -143,8 +144,8 @@ fn has_earlier_alone(replies: &Replies<'_>) -> bool {
     }
 }
 
-// Asserts that a run whose first request is refused fails, drops its commands, and leaves the
-// reply that was there.
+// Asserts that a run whose first request is refused fails, drops its commands, and keeps the
+// earlier reply.
 fn assert_refused<'a, R: Abort>(rt: &R, alloc: Lender<'a>) {
     let mut list = ThinVec::new(alloc);
     let mut replies = earlier_reply(rt, alloc);

@@ -1,4 +1,5 @@
-//! The definition written as a program, short and slow, over a `Vec` and a number.
+//! The model: the specification of the commands, written as a short and slow program. A list is a
+//! `Vec` and a number, which is its capacity.
 mod filling;
 mod refused;
 
@@ -13,11 +14,11 @@ use thin_runner::judge::Judge;
 use thin_testing::Ruled;
 use thin_vec::{ThinVec, ThinVecError};
 
-// Past so many items a capacity overflows: no test asks for a number between this one and what a
-// block may hold.
+// The greatest capacity that does not overflow in the model. No test requests a capacity between
+// this number and the true limit of a block.
 const LIMIT: usize = 1_000_000_000_000;
 
-/// A list as the definition has it.
+/// A list, as the model has it.
 #[derive(Drop)]
 pub struct Model<T, A: Allocator, G> {
     pub items: Vec<T, A>,
@@ -25,7 +26,7 @@ pub struct Model<T, A: Allocator, G> {
     rule: PhantomData<G>,
 }
 
-// What the steps of an order's walk over the items return.
+// Returns what the steps of an order yield from these items.
 fn walked<T: Drop, A: Allocator + Copy>(
     alloc: A,
     items: Vec<T, A>,
@@ -43,8 +44,8 @@ fn walked<T: Drop, A: Allocator + Copy>(
     Ok(answers)
 }
 
-// Where a command that exchanges a range works on a list of that length: from where to where items
-// go out, and how many come in for them.
+// Returns the range that a command replaces in a list of `len` items, as its start and its end, and
+// how many new items replace the range.
 fn range_of(len: usize, order: Order) -> (usize, usize, usize) {
     let at = order.at;
     match order.kind {
@@ -60,7 +61,7 @@ fn range_of(len: usize, order: Order) -> (usize, usize, usize) {
     }
 }
 
-// What such a command replies where these items went out.
+// Returns the reply of a command that replaces a range. The old items of the range are in `out`.
 fn shown_out<T: Drop, A: Allocator + Copy>(
     alloc: A,
     order: Order,
@@ -82,7 +83,8 @@ fn shown_out<T: Drop, A: Allocator + Copy>(
     }
 }
 
-// What a command replies for which room was made, or overflowed.
+// Returns the reply of a command that reserves room. It succeeded if `made`, and otherwise the
+// capacity overflowed.
 fn shown_room<T: Drop, A: Allocator + Copy>(alloc: A, made: bool) -> Shown<T, A> {
     if made {
         Shown::plain(alloc, Form::Done, None)
@@ -91,7 +93,8 @@ fn shown_room<T: Drop, A: Allocator + Copy>(alloc: A, made: bool) -> Shown<T, A>
     }
 }
 
-// What a command replies by whose questions these items went out.
+// Returns the reply of a command that tests items and removes some of them. The removed items are
+// in `answers`.
 fn shown_sifted<T: Drop, A: Allocator + Copy>(
     alloc: A,
     order: Order,
@@ -107,7 +110,7 @@ fn shown_sifted<T: Drop, A: Allocator + Copy>(
     Ok(Shown::with_answers(Form::Answers, alloc, answers))
 }
 
-// Whether an item stays, by the question that the command asks.
+// Returns whether an item stays. Each kind of command asks the judge by another method.
 fn stays<T, J: Judge<T>>(judge: &mut J, kind: Kind, item: &mut T) -> bool {
     match kind {
         Kind::Retain => judge.look(item),
@@ -116,7 +119,8 @@ fn stays<T, J: Judge<T>>(judge: &mut J, kind: Kind, item: &mut T) -> bool {
     }
 }
 
-// Whether a later item is the same as the last one kept, by the question that the command asks.
+// Returns whether a later item is the same as the item that was kept last. Each kind of command
+// compares them in another way.
 fn is_same<T: Eq, J: Judge<T>>(judge: &mut J, kind: Kind, later: &mut T, kept: &mut T) -> bool {
     match kind {
         Kind::Dedup => *later == *kept,
@@ -129,7 +133,7 @@ fn is_same<T: Eq, J: Judge<T>>(judge: &mut J, kind: Kind, later: &mut T, kept: &
 }
 
 impl<T: Sample<A>, A: Allocator + Copy, G: Ruled> Model<T, A, G> {
-    /// A new list.
+    /// Returns a new list.
     pub fn new(alloc: A) -> Model<T, A, G> {
         Model {
             items: Vec::new(alloc),
@@ -142,12 +146,13 @@ impl<T: Sample<A>, A: Allocator + Copy, G: Ruled> Model<T, A, G> {
         self.items.len()
     }
 
-    // Every item, of which none is left.
+    // Removes all items, and returns them.
     fn take_items(&mut self, alloc: A) -> Vec<T, A> {
         mem::replace(&mut self.items, Vec::new(alloc))
     }
 
-    // The items from `start` up to `end`, which are there, go out, and `new` comes in for them.
+    // Replaces the items from `start` up to `end` by `new`, and returns the old items. The range is
+    // within the list.
     fn replace(
         &mut self,
         start: usize,
@@ -165,7 +170,7 @@ impl<T: Sample<A>, A: Allocator + Copy, G: Ruled> Model<T, A, G> {
         Ok(out)
     }
 
-    // Whether there is, or could be made, room for so many items.
+    // Makes room for `want` items in total. Returns whether that succeeded.
     fn make_room(&mut self, want: usize) -> bool {
         if want > self.capacity {
             let capacity = G::named(T::SIZE, self.capacity, want);
@@ -177,7 +182,7 @@ impl<T: Sample<A>, A: Allocator + Copy, G: Ruled> Model<T, A, G> {
         true
     }
 
-    // A command that changes the capacity alone.
+    // Runs a command that changes only the capacity. Returns whether that succeeded.
     fn change_room(&mut self, order: Order) -> bool {
         let want = self.len().saturating_add(order.lower);
         match order.kind {
@@ -196,7 +201,7 @@ impl<T: Sample<A>, A: Allocator + Copy, G: Ruled> Model<T, A, G> {
         }
     }
 
-    // A command that exchanges a range.
+    // Runs a command that replaces a range.
     fn exchange(&mut self, alloc: A, order: Order) -> Result<Shown<T, A>, AllocError> {
         let len = self.len();
         let (start, end, count) = range_of(len, order);
@@ -233,8 +238,7 @@ impl<T: Sample<A>, A: Allocator + Copy, G: Ruled> Model<T, A, G> {
         Ok(Shown::with_items(Form::List, None, alloc, copy, capacity))
     }
 
-    // An item goes out into `answers` if it is asked about and doesn't stay, and otherwise comes in
-    // at the end.
+    // Appends the item to `answers` if it is tested and does not stay, and otherwise to the list.
     fn sift_one<J: Judge<T>>(
         &mut self,
         asked: Option<Kind>,
@@ -252,8 +256,8 @@ impl<T: Sample<A>, A: Allocator + Copy, G: Ruled> Model<T, A, G> {
         }
     }
 
-    // The items go out that the judge doesn't keep, or takes: of `ExtractIf` those of its range,
-    // until they are as many as it asks for.
+    // Removes the items that the judge does not keep, or takes. `ExtractIf` tests only the items of
+    // its range, until as many are removed as it asks for.
     fn sift<J: Judge<T>>(
         &mut self,
         alloc: A,
@@ -273,7 +277,7 @@ impl<T: Sample<A>, A: Allocator + Copy, G: Ruled> Model<T, A, G> {
         shown_sifted(alloc, order, answers)
     }
 
-    // An item comes in at the end, unless it is found the same as the last one.
+    // Appends the item to the list, unless it is found to be the same as the last item.
     fn put_other<J: Judge<T>>(
         &mut self,
         kind: Kind,
@@ -315,7 +319,7 @@ impl<T: Sample<A>, A: Allocator + Copy, G: Ruled> Model<T, A, G> {
         }
     }
 
-    // What a command does, and replies, where no request is refused.
+    // Runs a command for which no request is refused, and returns its reply.
     fn step<J: Judge<T>>(
         &mut self,
         alloc: A,
@@ -342,8 +346,9 @@ impl<T: Sample<A>, A: Allocator + Copy, G: Ruled> Model<T, A, G> {
         }
     }
 
-    /// Does a command, of which what its reply shows tells whether a request was refused to it, and
-    /// which one that was if items are cloned. Returns what the reply is, or `Never`.
+    /// Runs a command. The real reply, which is `given`, tells whether a request was refused. If
+    /// the command clones items, `nth` tells which request it was. Returns the form of the reply,
+    /// which is `Never` if the model's reply is not `given`, and the cause of a failure.
     pub fn follow<J: Judge<T>>(
         &mut self,
         alloc: A,
@@ -365,7 +370,7 @@ impl<T: Sample<A>, A: Allocator + Copy, G: Ruled> Model<T, A, G> {
         Ok((form, given.cause))
     }
 
-    /// Whether the list is this one.
+    /// Returns whether the list has the items and the capacity of the model.
     pub fn is(&self, list: &ThinVec<T, A, G>) -> bool {
         list.as_slice() == self.items.as_slice() && list.capacity() == self.capacity
     }

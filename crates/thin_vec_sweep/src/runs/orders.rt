@@ -1,10 +1,10 @@
-//! Commands as data.
+//! Commands as plain numbers (`Order`), and the commands of the runner that are made from them.
 use crate::runs::samples::{Sample, put, samples};
 use std::alloc::{AllocError, Allocator};
 use thin_runner::command::{Command, Step};
 use thin_vec::{Growth, ThinVec};
 
-/// Which command.
+/// Which command an order describes.
 #[derive(Clone, Copy, Debug, PartialEq, Eq)]
 pub enum Kind {
     Push,
@@ -34,7 +34,7 @@ pub enum Kind {
     Splice,
 }
 
-/// Every command.
+/// Every kind of command.
 pub const KINDS: [Kind; 25] = [
     Kind::Push,
     Kind::Pop,
@@ -63,25 +63,28 @@ pub const KINDS: [Kind; 25] = [
     Kind::Splice,
 ];
 
-/// A command by numbers: both what is tested and what it is compared with are made from them.
+/// A command as numbers. The command of the runner and that of the model are both made from an
+/// order.
 #[derive(Clone, Copy, Debug)]
 pub struct Order {
     pub kind: Kind,
-    /// The index, or where the range starts.
+    /// The index, or the start of the range.
     pub at: usize,
-    /// Where the range ends.
+    /// The end of the range.
     pub to: usize,
-    /// How many items come in, or how many calls of `next` are made.
+    /// How many new items there are, or how many calls of `next` are made.
     pub count: usize,
-    /// How many items are claimed or reserved, or how many there are to be.
+    /// The lower bound of a size hint, or how many items are reserved, or the new length of a
+    /// resize.
     pub lower: usize,
     /// How many steps a walk has.
     pub steps: usize,
-    /// The first item. Where its last binary digits are 1, a step takes the first item, in turn.
+    /// The number of the first item. Its binary digits, the last digit first, are also the steps of
+    /// the walk: the digit 1 is a step from the front.
     pub number: u64,
 }
 
-/// The steps of a walk.
+/// Returns the steps of the walk of an order.
 pub fn steps_of<A: Allocator>(alloc: A, order: Order) -> Result<Vec<Step, A>, AllocError> {
     let mut steps = Vec::new(alloc);
     let mut digits = order.number;
@@ -97,7 +100,7 @@ pub fn steps_of<A: Allocator>(alloc: A, order: Order) -> Result<Vec<Step, A>, Al
     Ok(steps)
 }
 
-// A list of the items of an order that has no room to spare.
+// Returns a list of the items of an order, without spare room.
 fn listed<T: Sample<A>, A: Allocator + Copy, G: Growth>(
     alloc: A,
     order: Order,
@@ -112,7 +115,7 @@ fn listed<T: Sample<A>, A: Allocator + Copy, G: Growth>(
     }
 }
 
-// The command of an order whose command has an item.
+// Returns the command of an order whose command has one item.
 fn with_item<T: Drop, A: Allocator, G: Growth>(order: Order, item: T) -> Command<T, A, G> {
     match order.kind {
         Kind::Insert => Command::Insert(order.at, item),
@@ -122,7 +125,7 @@ fn with_item<T: Drop, A: Allocator, G: Growth>(order: Order, item: T) -> Command
     }
 }
 
-// The command of an order whose command has items.
+// Returns the command of an order whose command has a vector of items.
 fn with_items<T: Drop, A: Allocator, G: Growth>(
     order: Order,
     steps: Vec<Step, A>,
@@ -135,7 +138,7 @@ fn with_items<T: Drop, A: Allocator, G: Growth>(
     }
 }
 
-// The command of an order whose command has neither items nor a walk.
+// Returns the command of an order whose command has neither items nor steps.
 fn with_none<T, A: Allocator, G: Growth>(order: Order) -> Command<T, A, G> {
     match order.kind {
         Kind::Remove => Command::Remove(order.at),
@@ -157,7 +160,7 @@ fn with_none<T, A: Allocator, G: Growth>(order: Order) -> Command<T, A, G> {
     }
 }
 
-/// The command of an order.
+/// Returns the command of an order.
 pub fn command_of<T: Sample<A>, A: Allocator + Copy, G: Growth>(
     alloc: A,
     order: Order,

@@ -1,4 +1,5 @@
-//! Random runs: each command is done by `step`, and by the definition written as a program.
+//! Random runs. Each command is run by the runner (`step`) and by the model, which is the
+//! specification written as a program, and both results are compared.
 use crate::runs::compared::both;
 use crate::runs::judges::{Digits, EACH_SECOND};
 use crate::runs::model::Model;
@@ -11,14 +12,14 @@ use thin_runner::judge::Judge;
 use thin_testing::{Fourfold, Refusing, Ruled, Threefold};
 use thin_vec::{Doubling, PowerBytes, ThinVec, ThinVecError};
 
-// Numbers that look random.
+// A generator of pseudorandom numbers.
 #[derive(Drop)]
 struct Dice {
     state: u64,
 }
 
 impl Dice {
-    // A number below `limit`.
+    // Returns a number below `limit`, or 0 if `limit` is 0.
     fn below(&mut self, limit: u64) -> u64 {
         self.state = self
             .state
@@ -34,7 +35,8 @@ impl Dice {
         usize::try_from(self.below(limit)).unwrap_or(0)
     }
 
-    // How much is claimed or reserved: rarely what no block holds.
+    // Returns a lower bound, or how many items are reserved. Rarely, it is more than any block
+    // holds.
     fn claim(&mut self) -> usize {
         if self.below(9) == 0 {
             usize::MAX
@@ -43,7 +45,8 @@ impl Dice {
         }
     }
 
-    // Which request is refused, or none at 0: mostly one of the first, which is made.
+    // Returns the number of the request that is refused, or 0 for none. It is mostly one of the
+    // first requests, which a command really makes.
     fn refused(&mut self) -> u64 {
         let few = self.below(4);
         if self.below(2) == 0 {
@@ -53,7 +56,7 @@ impl Dice {
         }
     }
 
-    // What a judge decides by.
+    // Returns the digits by which a judge decides.
     fn digits(&mut self) -> u64 {
         if self.below(4) == 0 {
             EACH_SECOND.digits
@@ -62,7 +65,7 @@ impl Dice {
         }
     }
 
-    // A command on a list of that length.
+    // Returns a command for a list of `len` items.
     fn order(&mut self, len: usize) -> Order {
         let near = u64::try_from(len).unwrap_or(0).min(12).saturating_add(2);
         let kind = self.index(25);
@@ -78,10 +81,11 @@ impl Dice {
     }
 }
 
-/// A command, its request that was refused, and its reply.
+/// A command, the number of its request that was to be refused, and its reply.
 pub type Done = (Order, u64, Form, Option<ThinVecError>);
 
-// A command. Returns whether both did the same. What was done is put into `done`.
+// Runs one random command, and appends it to `done`. Returns whether the runner and the model
+// agree.
 fn is_alike<'a, T: Sample<Lender<'a>>, G: Ruled, J: Judge<T> + From<u64>>(
     alloc: Lender<'a>,
     dice: &mut Dice,
@@ -97,7 +101,8 @@ fn is_alike<'a, T: Sample<Lender<'a>>, G: Ruled, J: Judge<T> + From<u64>>(
     Ok(form != Form::Never)
 }
 
-// So many commands. Returns whether both did the same. What was done is put into `done`.
+// Runs `commands` random commands on a new list, and appends them to `done`. Returns whether the
+// runner and the model agree on all of them.
 fn are_alike<'a, T: Sample<Lender<'a>>, G: Ruled, J: Judge<T> + From<u64>>(
     alloc: Lender<'a>,
     dice: &mut Dice,
@@ -114,8 +119,8 @@ fn are_alike<'a, T: Sample<Lender<'a>>, G: Ruled, J: Judge<T> + From<u64>>(
     Ok(true)
 }
 
-// A run of up to 30 commands. Returns whether both did the same, and no block is out. What was done
-// is put into `done`.
+// Runs up to 30 random commands, and puts them into `done`. Returns whether the runner and the
+// model agree, and all blocks are freed at the end.
 fn runs_alike<'a, T: Sample<Lender<'a>>, G: Ruled, J: Judge<T> + From<u64>>(
     alloc: Lender<'a>,
     seed: u64,
@@ -128,7 +133,8 @@ fn runs_alike<'a, T: Sample<Lender<'a>>, G: Ruled, J: Judge<T> + From<u64>>(
     Ok(alike && alloc.blocks() == 0)
 }
 
-/// Asserts that the run of a seed is done alike. What was done is put into `done`.
+/// Asserts that the runner and the model agree on the run of this seed. Puts its commands into
+/// `done`.
 pub fn assert_alike<'a, T: Sample<Lender<'a>>, G: Ruled, J: Judge<T> + From<u64>, R: Abort>(
     rt: &R,
     alloc: Lender<'a>,
@@ -139,12 +145,12 @@ pub fn assert_alike<'a, T: Sample<Lender<'a>>, G: Ruled, J: Judge<T> + From<u64>
     assert!(rt; alike, "seed {seed}, done {done:?}");
 }
 
-// How many runs there are at each type of items under a growth rule: with eight types under two
-// rules, and two of them under two more, 100,000.
+// The number of runs for each pair of an item type and a growth rule. Eight types under two rules,
+// and two of these types under two more rules, are 20 pairs, and thus 100,000 runs.
 const RUNS: u64 = 5_000;
 
-// How many commands were done, for how many of them a request was named, and to how many one was
-// refused: the others made fewer requests.
+// How many commands were run, how many of them were to have a request refused, and how many really
+// had one refused. The others made too few requests for that.
 #[derive(Debug, Drop)]
 struct Tally {
     commands: u64,
@@ -153,7 +159,7 @@ struct Tally {
 }
 
 impl Tally {
-    // Of no command.
+    // Returns the counts of no command.
     fn new() -> Tally {
         Tally {
             commands: 0,
@@ -162,7 +168,7 @@ impl Tally {
         }
     }
 
-    // Counts these commands too.
+    // Adds these commands to the counts.
     fn add(&mut self, done: &[Done]) {
         for (_order, nth, _form, cause) in done {
             let named = u64::from(*nth > 0);
@@ -174,7 +180,8 @@ impl Tally {
     }
 }
 
-// Asserts that all runs from a seed on are alike, and returns what they did.
+// Asserts that the runner and the model agree on all runs from the seed `first` on. Returns the
+// counts of their commands.
 fn assert_all_from<'a, T: Sample<Lender<'a>>, G: Ruled, R: Abort>(
     rt: &R,
     alloc: Lender<'a>,
@@ -190,14 +197,15 @@ fn assert_all_from<'a, T: Sample<Lender<'a>>, G: Ruled, R: Abort>(
     tally
 }
 
-// Asserts that there were so many commands, and that for so many a request was named: both numbers
-// were worked out by another program. To one command of fifty at least a request was refused.
+// Asserts how many commands there were, and how many of them were to have a request refused. Both
+// numbers were computed by another program. Also asserts that more than one command in fifty really
+// had a request refused.
 fn assert_tally<R: Abort>(rt: &R, tally: &Tally, commands: u64, named: u64) {
     assert_eq!(rt; (tally.commands, tally.named), (commands, named));
     assert!(rt; tally.refused > commands / 50, "{tally:?}");
 }
 
-// Asserts that all runs are alike, under the rules that `thin_vec` has.
+// Asserts that the runner and the model agree on all runs under the growth rules of `thin_vec`.
 fn assert_all_alike<'a, T: Sample<Lender<'a>>, R: Abort>(
     rt: &R,
     alloc: Lender<'a>,
@@ -209,7 +217,8 @@ fn assert_all_alike<'a, T: Sample<Lender<'a>>, R: Abort>(
     assert_tally(rt, &tally, 74_928, 64_471);
 }
 
-// The same under two rules of the tests' own.
+// Asserts that the runner and the model agree on all runs under two growth rules that are only for
+// tests.
 fn assert_alike_by_other_rules<'a, T: Sample<Lender<'a>>, R: Abort>(
     rt: &R,
     alloc: Lender<'a>,
@@ -221,7 +230,7 @@ fn assert_alike_by_other_rules<'a, T: Sample<Lender<'a>>, R: Abort>(
     assert_tally(rt, &tally, 75_223, 64_590);
 }
 
-// A seed whose run has no command.
+// A seed whose run has no commands.
 const NO_COMMANDS: u64 = 52;
 
 // How many commands the runs of the first seeds have.
@@ -241,7 +250,7 @@ fn each_seed_has_its_own_run(rt: HostRuntime) {
     assert_eq!(rt; counted, (217, 187, 12));
 }
 
-// A block that none of the runs has made.
+// Returns a block that no command of the runs allocated.
 fn block<'a, R: Abort>(rt: &R, alloc: Lender<'a>) -> Box<u64, Lender<'a>> {
     Box::new(alloc, 1).ok().expect(rt, "memory")
 }

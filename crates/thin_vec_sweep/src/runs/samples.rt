@@ -1,19 +1,19 @@
-//! The items of the lists that commands are done on.
+//! The item types of the lists on which the commands are run.
 use std::alloc::{AllocError, Allocator, Global};
 use thin_testing::Refusing;
 
-/// The allocator of a test, which can refuse a request.
+/// The allocator of a test. It can refuse a request.
 pub type Lender<'a> = &'a Refusing<Global>;
 
-/// An item that is made from a number.
+/// A type whose values are made from numbers.
 pub trait Sample<A: Allocator>: Clone + Eq {
     /// How many bytes an item takes.
     const SIZE: usize;
 
-    /// Whether each owns a block, so that its clone is a request.
+    /// Whether each item owns a block. If so, cloning an item makes a request.
     const OWNS_BLOCK: bool;
 
-    /// The item of that number, which others may share.
+    /// Makes the item of this number. Several numbers may have the same item.
     fn sample(alloc: A, number: u64) -> Result<Self, AllocError>;
 }
 
@@ -100,7 +100,7 @@ impl<'a> Sample<Lender<'a>> for Vec<u64, Lender<'a>> {
     }
 }
 
-/// Puts an item after the others.
+/// Appends an item.
 pub fn put<T: Drop, A: Allocator>(items: &mut Vec<T, A>, item: T) -> Result<(), AllocError> {
     match items.push(item) {
         Ok(()) => Ok(()),
@@ -108,14 +108,14 @@ pub fn put<T: Drop, A: Allocator>(items: &mut Vec<T, A>, item: T) -> Result<(), 
     }
 }
 
-/// That item alone.
+/// Returns a vector of only this item.
 pub fn one<T: Drop, A: Allocator>(alloc: A, item: T) -> Result<Vec<T, A>, AllocError> {
     let mut items = Vec::new(alloc);
     put(&mut items, item)?;
     Ok(items)
 }
 
-/// So many items, from that number on.
+/// Returns the items of `count` numbers, from `number` on.
 pub fn samples<T: Sample<A>, A: Allocator + Copy>(
     alloc: A,
     count: usize,

@@ -1,11 +1,12 @@
-//! What a reply shows.
+//! What a reply shows (`Shown`): the parts of a reply that are compared with the reply of the
+//! model.
 use crate::runs::samples::{one, put};
 use std::alloc::{AllocError, Allocator};
 use thin_runner::command::{Command, Reply, Step};
 use thin_runner::hinted::Hinted;
 use thin_vec::{Growth, ThinVec, ThinVecError};
 
-/// Which reply.
+/// Which variant of `Reply` a reply is.
 #[derive(Clone, Copy, Debug, PartialEq, Eq)]
 pub enum Form {
     Done,
@@ -17,25 +18,26 @@ pub enum Form {
     Refused,
     Stopped,
     OutOfRange,
-    /// None that the definition allows.
+    /// A reply that the model does not allow.
     Never,
 }
 
-/// Where a command was to work, and how: zeros where it does not say.
+/// The index or range of a command, and how it is walked. A field is 0 if the command does not have
+/// it.
 #[derive(Clone, Copy, PartialEq, Eq)]
 pub struct Place {
-    /// The index, or where the range starts.
+    /// The index, or the start of the range.
     pub start: usize,
-    /// Where the range ends.
+    /// The end of the range.
     pub end: usize,
-    /// How many items are claimed, or how many calls of `next` are made.
+    /// The lower bound of the size hint, or how many calls of `next` are made.
     pub claim: usize,
-    /// The steps of a walk as binary digits, 1 for the front, after a first 1.
+    /// The steps of a walk as binary digits after a first 1. The digit 1 is a step from the front.
     pub walk: u64,
 }
 
 impl Place {
-    /// An index alone.
+    /// Returns a place that is only an index.
     pub const fn index(start: usize) -> Place {
         Place {
             start,
@@ -45,7 +47,7 @@ impl Place {
         }
     }
 
-    /// A range, and how it is walked.
+    /// Returns a place that is a range, and how it is walked.
     pub fn range(start: usize, end: usize, claim: usize, steps: &[Step]) -> Place {
         let mut walk: u64 = 1;
         for step in steps {
@@ -61,26 +63,26 @@ impl Place {
     }
 }
 
-/// What a reply shows.
+/// A reply, taken apart into the parts that are compared.
 #[derive(Drop)]
 pub struct Shown<T, A: Allocator> {
     pub form: Form,
-    /// Why the command failed.
+    /// Why the command failed, if it did.
     pub cause: Option<ThinVecError>,
-    /// What was handed out.
+    /// What the steps yielded, or the item that was removed.
     pub answers: Vec<Option<T>, A>,
-    /// The items of a list, or those that were returned.
+    /// The items of a list, or the items that were returned.
     pub items: Vec<T, A>,
-    /// The capacity of a list, or how many items were held.
+    /// The capacity of a list, or how many items were held back.
     pub number: usize,
-    /// Whether an item was in hand, the first after those that were held.
+    /// Whether an item was in hand. It is the first one after those that were held back.
     pub in_hand: bool,
-    /// Where the command was to work that is returned.
+    /// The place of a command that was returned because it is out of range.
     pub place: Place,
 }
 
 impl<T: Drop, A: Allocator + Copy> Shown<T, A> {
-    /// A reply that has no items.
+    /// Returns a reply that has no items.
     pub fn plain(alloc: A, form: Form, cause: Option<ThinVecError>) -> Shown<T, A> {
         Shown {
             form,
@@ -93,7 +95,7 @@ impl<T: Drop, A: Allocator + Copy> Shown<T, A> {
         }
     }
 
-    /// A reply that has items and a number.
+    /// Returns a reply that has items and a number.
     pub fn with_items(
         form: Form,
         cause: Option<ThinVecError>,
@@ -108,7 +110,7 @@ impl<T: Drop, A: Allocator + Copy> Shown<T, A> {
         }
     }
 
-    /// A reply that has answers.
+    /// Returns a reply that has answers.
     pub fn with_answers(form: Form, alloc: A, answers: Vec<Option<T>, A>) -> Shown<T, A> {
         Shown {
             answers,
@@ -116,7 +118,8 @@ impl<T: Drop, A: Allocator + Copy> Shown<T, A> {
         }
     }
 
-    /// A command that is returned.
+    /// Returns the reply that returns a command, because its index or range is past the end of the
+    /// list.
     pub fn out_of_range(alloc: A, items: Vec<T, A>, place: Place) -> Shown<T, A> {
         Shown {
             items,
@@ -127,7 +130,7 @@ impl<T: Drop, A: Allocator + Copy> Shown<T, A> {
 }
 
 impl<T: Eq, A: Allocator> Shown<T, A> {
-    /// Whether the two show the same.
+    /// Returns whether the two replies show the same.
     pub fn is(&self, other: &Shown<T, A>) -> bool {
         self.form == other.form
             && self.cause == other.cause
@@ -139,7 +142,7 @@ impl<T: Eq, A: Allocator> Shown<T, A> {
     }
 }
 
-// Where a command was to work.
+// Returns the index or range of a command.
 fn place_of<T, A: Allocator, G: Growth>(command: &Command<T, A, G>) -> Place {
     match command {
         Command::Insert(at, _)
@@ -156,7 +159,7 @@ fn place_of<T, A: Allocator, G: Growth>(command: &Command<T, A, G>) -> Place {
     }
 }
 
-// The items of a command that has an index.
+// Returns the items that a command with an index or a range passes to its call.
 fn items_with<T: Drop, A: Allocator + Copy, G: Growth>(
     alloc: A,
     command: Command<T, A, G>,
@@ -168,7 +171,7 @@ fn items_with<T: Drop, A: Allocator + Copy, G: Growth>(
     }
 }
 
-// What a reply shows that is a list.
+// Returns what a reply shows if it has a list.
 fn show_list<T: Drop, A: Allocator + Copy, G: Growth>(
     form: Form,
     cause: Option<ThinVecError>,
@@ -182,7 +185,7 @@ fn show_list<T: Drop, A: Allocator + Copy, G: Growth>(
     }
 }
 
-// What the reply of a call shows that failed half way.
+// Returns what a reply shows if its call stopped half way.
 fn show_stopped<T: Drop, A: Allocator + Copy>(
     answers: Vec<Option<T>, A>,
     cause: ThinVecError,
@@ -210,7 +213,7 @@ fn show_stopped<T: Drop, A: Allocator + Copy>(
     })
 }
 
-// What the reply shows that is an item, or none.
+// Returns what a reply shows if it has an item, or has none because the list was empty.
 fn show_item<T: Drop, A: Allocator + Copy>(
     alloc: A,
     item: Option<T>,
@@ -218,7 +221,7 @@ fn show_item<T: Drop, A: Allocator + Copy>(
     Ok(Shown::with_answers(Form::Item, alloc, one(alloc, item)?))
 }
 
-// What the reply of a call shows that returned its value.
+// Returns what a reply shows if it returns the value of the failed call.
 fn show_returned<T: Drop, A: Allocator + Copy>(
     alloc: A,
     value: T,
@@ -228,7 +231,8 @@ fn show_returned<T: Drop, A: Allocator + Copy>(
     Ok(Shown::with_items(Form::Returned, Some(cause), alloc, items, 0))
 }
 
-// What the reply shows that is the command, where it names no index or range of the list.
+// Returns what a reply shows if it returns the command, because its index or range is past the end
+// of the list.
 fn show_out_of_range<T: Drop, A: Allocator + Copy, G: Growth>(
     alloc: A,
     command: Command<T, A, G>,
@@ -238,7 +242,7 @@ fn show_out_of_range<T: Drop, A: Allocator + Copy, G: Growth>(
     Ok(Shown::out_of_range(alloc, items, place))
 }
 
-/// What a reply shows, which is taken apart.
+/// Takes a reply apart, and returns what it shows.
 pub fn show<T: Drop, A: Allocator + Copy, G: Growth>(
     alloc: A,
     reply: Reply<T, A, G>,

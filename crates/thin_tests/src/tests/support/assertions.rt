@@ -1,5 +1,5 @@
-//! What many tests assert. An assertion that is written out takes a second or two to prove in each
-//! test, and a call of one of these hardly any time.
+//! Assertions that many tests share. An assertion that is written out costs each test a second or
+//! two of proving. A call of one of these functions costs almost nothing.
 ghost use Rattle.std.specs.Prelude.{◌≡◌, length};
 
 use std::alloc::{Allocator, Global};
@@ -8,30 +8,32 @@ use std::process::Abort;
 use thin_testing::Refusing;
 use thin_vec::{Growth, ThinVec};
 
-/// Asserts that both are the same. Nothing is known of them afterwards.
+/// Asserts that the two values are equal. The contract does not state this: after the call, the
+/// prover knows nothing about the values.
 pub fn assert_same<T: PartialEq + Debug + Drop>(rt: &impl Abort, value: T, wanted: T) {
     assert_eq!(rt; value, wanted);
 }
 
-/// Asserts that both slices hold the same.
+/// Asserts that the two slices have equal items.
 pub fn assert_items<T: PartialEq + Debug>(rt: &impl Abort, items: &[T], wanted: &[T]) {
     assert_eq!(rt; items, wanted);
 }
 
-/// Asserts how the value is printed in one line.
+/// Asserts that the value is printed as `line` by `{:?}`.
 pub fn assert_text<D: Debug>(rt: &impl Abort, alloc: Global, value: &D, line: &str) {
     let text = format!(in alloc; "{value:?}").expect(rt, "memory");
     assert_same(rt, text.as_str(), line);
 }
 
-/// Asserts how many items the list has, which a call on a range of them asks for.
+/// Asserts that the list has `len` items. A test needs this fact before a call on a range of the
+/// list.
 pub fn assert_len<T, A: Allocator, G: Growth>(rt: &impl Abort, list: &ThinVec<T, A, G>, len: usize)
     ensures len { length list.now.items ≡ len }
 {
     assert_eq!(rt; list.len(), len);
 }
 
-/// Asserts what the list holds, and its capacity.
+/// Asserts that the list has these items and this capacity.
 pub fn assert_list<A: Allocator, G: Growth>(
     rt: &impl Abort,
     list: &ThinVec<i32, A, G>,
@@ -44,7 +46,7 @@ pub fn assert_list<A: Allocator, G: Growth>(
     assert_same(rt, (list.as_slice(), list.capacity()), (items, capacity));
 }
 
-/// Asserts how many requests were made, and how many blocks are out.
+/// Asserts how many requests were made, and how many blocks are allocated and not freed.
 pub fn assert_counts(rt: &impl Abort, refusing: &Refusing<Global>, requests: u64, blocks: u64) {
     let counts = (refusing.requests(), refusing.blocks());
     assert_same(rt, counts, (requests, blocks));

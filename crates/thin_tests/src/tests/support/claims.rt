@@ -1,9 +1,9 @@
-//! An iterator that claims another number of items than it has.
+//! An iterator whose size hint may differ from the number of items that it has.
 ghost use Rattle.std.specs.Prelude.{◌+◌, length};
 ghost use Rattle.std.specs.Iterator.{at_most};
 
-/// Yields the items in order, and then `None` for good. Its lower bound is the same at each turn,
-/// whatever is left.
+/// An iterator over a slice. It yields the items in order, and then `None` forever. Its size hint
+/// is always `(lower, None)`, however many items are left.
 #[derive(Drop)]
 pub struct Claims<'a> {
     items: &'a [i32],
@@ -11,7 +11,7 @@ pub struct Claims<'a> {
 }
 
 impl<'a> Claims<'a> {
-    /// Of these items, and with that lower bound.
+    /// Returns an iterator over `items` whose size hint has the lower bound `lower`.
     pub fn new(items: &'a [i32], lower: usize) -> Claims<'a> {
         Claims { items, lower }
     }

@@ -1,17 +1,17 @@
-//! An item that counts its drops.
+//! An item that counts its drops, and a list of such items.
 use crate::tests::support::items::push;
 use std::alloc::Global;
 use std::cell::Cell;
 use std::process::Abort;
 use thin_vec::ThinVec;
 
-/// It adds 1 to the cell as it is dropped.
+/// An item that adds 1 to its cell when it is dropped.
 pub struct Counted<'a> {
     drops: &'a Cell<u32>,
 }
 
 impl<'a> Counted<'a> {
-    /// One that adds its drop to that cell.
+    /// Returns an item that will add 1 to `drops` when it is dropped.
     pub fn new(drops: &'a Cell<u32>) -> Counted<'a> {
         Counted { drops }
     }
@@ -24,7 +24,7 @@ impl Drop for Counted<'_> {
     }
 }
 
-/// A list of so many items that count their drops in one cell.
+/// Returns a list of `len` items that all count their drops in one cell.
 pub fn counted_list<'a>(
     rt: &impl Abort,
     alloc: Global,

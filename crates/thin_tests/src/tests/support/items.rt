@@ -1,4 +1,4 @@
-//! Items and allocators for a list that is tested.
+//! Lists, items and allocators that many tests use.
 ghost use Rattle.std.specs.Prelude.{◌≡◌, length};
 
 use std::alloc::{AllocError, Allocator, Global};
@@ -7,14 +7,14 @@ use std::process::Abort;
 use thin_testing::Refusing;
 use thin_vec::{Growth, ThinVec};
 
-/// An allocator that refuses the request of that number, and none at 0. It stays until the tests
-/// end, so that none has to keep it.
+/// Returns an allocator that refuses the request with this number, or none if `number` is 0. It is
+/// leaked, so that no test has to own it.
 pub fn refusing_nth(rt: &impl Abort, alloc: Global, number: u64) -> &'static Refusing<Global> {
     let refusing = Refusing::new(alloc, number);
     Box::leak(Box::new(alloc, refusing).ok().expect(rt, "memory"))
 }
 
-/// A list of these items, without spare room.
+/// Returns a list of these items, without spare room.
 pub fn list_of<T: Copy + Drop, A: Allocator>(
     rt: &impl Abort,
     alloc: A,
@@ -25,7 +25,7 @@ pub fn list_of<T: Copy + Drop, A: Allocator>(
     ThinVec::from_copies(alloc, items).expect(rt, "memory")
 }
 
-/// Pushes the item, and asserts that there is memory for it.
+/// Pushes the item, and asserts that the push succeeds.
 pub fn push<T: Drop, A: Allocator, G: Growth>(
     rt: &impl Abort,
     list: &mut ThinVec<T, A, G>,
@@ -34,7 +34,7 @@ pub fn push<T: Drop, A: Allocator, G: Growth>(
     list.push(item).ok().expect(rt, "memory");
 }
 
-/// Pushes each number of the range, and asserts that there is memory for it.
+/// Pushes each number of the range, and asserts that each push succeeds.
 pub fn push_all<A: Allocator, G: Growth>(
     rt: &impl Abort,
     list: &mut ThinVec<i32, A, G>,
@@ -45,7 +45,7 @@ pub fn push_all<A: Allocator, G: Growth>(
     }
 }
 
-/// A list of boxes, of one item each.
+/// Returns a list of boxes. Each box holds one of the items.
 pub fn boxes_of(
     alloc: Global,
     items: &[i32],

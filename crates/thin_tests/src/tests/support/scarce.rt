@@ -1,10 +1,10 @@
-//! An item whose clones run out.
+//! An item that can be cloned only a given number of times.
 use crate::tests::support::counted::Counted;
 use std::alloc::AllocError;
 use std::cell::Cell;
 
-/// It counts its drops in the one cell. Each of its clones takes 1 from the other, and fails
-/// at 0.
+/// An item that adds 1 to the cell `drops` when it is dropped. Each clone takes 1 from the cell
+/// `granted`, and fails if that is 0.
 #[derive(Drop)]
 pub struct Scarce<'a> {
     drops: &'a Cell<u32>,
@@ -13,7 +13,7 @@ pub struct Scarce<'a> {
 }
 
 impl<'a> Scarce<'a> {
-    /// One that counts its drops in `drops`, and takes its clones from `granted`.
+    /// Returns an item that counts its drop in `drops`, and whose clones are limited by `granted`.
     pub fn new(drops: &'a Cell<u32>, granted: &'a Cell<u32>) -> Scarce<'a> {
         Scarce {
             drops,

@@ -1,4 +1,5 @@
-//! `Splice`, and `Extend`, which is one at the end that is not walked.
+//! How the model, which is the specification written as a program, runs `Splice`, and `Extend`,
+//! which is a splice at the end of the list, without steps.
 use super::{Model, walked};
 use crate::runs::orders::{Kind, Order};
 use crate::runs::samples::{Sample, samples};
@@ -8,7 +9,7 @@ use thin_testing::Ruled;
 use thin_vec::ThinVecError;
 
 impl<T: Sample<A>, A: Allocator + Copy, G: Ruled> Model<T, A, G> {
-    // The order with its range, which of an `Extend` is the end.
+    // Returns the order with its range. The range of `Extend` is the end of the list.
     pub(crate) fn placed(&self, order: Order) -> Order {
         let len = self.items.len();
         if order.kind == Kind::Extend {
@@ -23,9 +24,9 @@ impl<T: Sample<A>, A: Allocator + Copy, G: Ruled> Model<T, A, G> {
         }
     }
 
-    // Whether there is, or could be made, room for the items of an order in the place of its range:
-    // with items after it, once for what is claimed and once for the rest, and else for each item
-    // that comes.
+    // Makes room for the items of an order in place of its range, and returns whether that
+    // succeeded. If there are items after the range, room is made once for the size hint, and once
+    // for all items. Otherwise, room is made for the size hint, and then for each item.
     fn make_rooms(&mut self, order: Order) -> bool {
         let len = self.items.len();
         let gap = order.to.saturating_sub(order.at);
@@ -41,7 +42,8 @@ impl<T: Sample<A>, A: Allocator + Copy, G: Ruled> Model<T, A, G> {
         made
     }
 
-    // So many items of the order come in for its range, and the others are returned.
+    // Replaces the range by the first `placed` items of the order, and returns the reply, in which
+    // the other items are returned.
     fn fill(
         &mut self,
         alloc: A,
@@ -80,11 +82,12 @@ impl<T: Sample<A>, A: Allocator + Copy, G: Ruled> Model<T, A, G> {
         self.fill(alloc, order, placed, Some(ThinVecError::CapacityOverflow))
     }
 
-    // Whether a command that was refused memory once so many items were placed may have drawn what
-    // it shows.
+    // Returns whether the reply `given` is possible for a command for which a request was refused
+    // after some items were placed.
     //
-    // With nothing after the range none is held, and an item is in hand just where the list is
-    // full. Else an item is in hand, or none was drawn, or all were.
+    // If no items are after the range, no item is held back, and an item is in hand exactly if the
+    // list is full. Otherwise, either an item is in hand, or no item was drawn, or all items were
+    // drawn.
     fn may_stop(&self, order: Order, given: &Shown<T, A>) -> bool {
         let placed = order.count.saturating_sub(given.items.len());
         if order.to == self.items.len() {
@@ -96,7 +99,8 @@ impl<T: Sample<A>, A: Allocator + Copy, G: Ruled> Model<T, A, G> {
             && (given.in_hand || given.number == 0 || has_ended)
     }
 
-    // Room for what is claimed was made if one of the items that come back was drawn.
+    // Makes the room for the size hint that the command made before it drew items. It did so if an
+    // item that it returned was drawn.
     fn make_first_rooms(&mut self, order: Order, placed: usize, given: &Shown<T, A>) {
         if given.number > 0 || given.in_hand {
             let first = Order {
@@ -107,8 +111,8 @@ impl<T: Sample<A>, A: Allocator + Copy, G: Ruled> Model<T, A, G> {
         }
     }
 
-    // A command that was refused memory: what was placed before follows from how many items come
-    // back.
+    // Runs a command for which a request was refused. The number of the returned items tells how
+    // many items were placed before.
     pub(crate) fn stop(
         &mut self,
         alloc: A,

@@ -1,4 +1,5 @@
-//! What a command leaves, and replies, to which a request was refused.
+//! How the model, which is the specification written as a program, runs a command for which a
+//! request is refused: what the list has afterwards, and what the reply is.
 use super::Model;
 use crate::runs::orders::{Kind, Order};
 use crate::runs::samples::{Sample, samples};
@@ -7,7 +8,8 @@ use std::alloc::{AllocError, Allocator};
 use thin_testing::Ruled;
 use thin_vec::ThinVecError;
 
-// `Refused`, where a command that has that reply has something to ask memory for.
+// Returns `Refused` if the command can have this reply and has something to allocate, and `Never`
+// otherwise.
 fn form_of(order: Order) -> Form {
     let may_be = match order.kind {
         Kind::Drain | Kind::Splice => order.steps > 0,
@@ -20,7 +22,8 @@ fn form_of(order: Order) -> Form {
 }
 
 impl<T: Sample<A>, A: Allocator + Copy, G: Ruled> Model<T, A, G> {
-    // The room that a command makes before it clones items into it, or 0.
+    // Returns for how many items in total a command makes room before it clones items, or 0 if it
+    // does not.
     fn room_of_clones(&self, order: Order) -> usize {
         match order.kind {
             Kind::Resize => order.lower,
@@ -29,7 +32,7 @@ impl<T: Sample<A>, A: Allocator + Copy, G: Ruled> Model<T, A, G> {
         }
     }
 
-    // What a command leaves, and replies, whose request of that number was refused.
+    // Runs a command whose request `nth` was refused, and returns its reply.
     pub(crate) fn refuse(
         &mut self,
         alloc: A,

@@ -1,4 +1,4 @@
--- How many places the list has then follows from the rule, and what it has cost from those.
+-- The growth rule gives the new capacity, and the new capacity gives the cost of the growth.
 use Rattle.std.proofs.Common.{arith}
 use Rattle.thin_block.proofs.CapacityLemmas.{doubling_first, doubling_next}
 use Rattle.thin_vec.proofs.ThinVecLemmas.{costs}

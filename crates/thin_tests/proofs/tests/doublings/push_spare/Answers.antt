@@ -1,4 +1,4 @@
--- The places are as many as before, so that nothing is paid.
+-- The capacity does not change, so the push costs nothing.
 use Rattle.std.proofs.Common.{arith}
 use Rattle.thin_vec.proofs.ThinVecLemmas.{costs}
 use Rattle.thin_tests.proofs.tests.doublings.push_spare.Goals as goal

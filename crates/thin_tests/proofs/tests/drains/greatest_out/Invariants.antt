@@ -1,4 +1,4 @@
--- The greatest of those that were handed out so far, and of `least`.
+-- `greatest` is the maximum of `least` and all items that were yielded so far.
 use Rattle.std.proofs.Common.{◌≡◌, max}
 use Rattle.std.specs.List.{fold}
 use Rattle.thin_tests.proofs.tests.drains.greatest_out.Given as goal

@@ -1,4 +1,4 @@
--- The range that went out, in the place of the numbers, gives the old items.
+-- If the removed range replaces the numbers, the list has its old items again.
 use Rattle.std.proofs.Common.{◌+◌, ◌++◌, ◌∙◌, ap, drop, length, take}
 use Rattle.std.specs.Prelude.{slice_range}
 use Rattle.thin_tests.proofs.SpliceLemmas.{on_ok, put_back}

@@ -1,4 +1,4 @@
--- Whatever the steps, the splice has the iterator that it was made with.
+-- Whatever steps are taken, the splice keeps the iterator that it was made with.
 use Rattle.thin_vec.specs.Edits.Splice.{SpliceKeeps}
 use Rattle.thin_vec_sweep.proofs.calls.splices.walk.Given as goal
 
