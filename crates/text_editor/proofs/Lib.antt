@@ -1,2 +1,2 @@
--- The lemmas: of changes.
+-- The lemmas about changes of a text.
 mod ChangesLemmas
