@@ -55,8 +55,7 @@ module _ (changes rest : List Change) (change : Change) (text after : List ℕ)
   turned : reverse changes ≡ change ∷ reverse rest
   turned = ap (λ (cs : List Change). reverse cs) is ∙ reverse-append rest (change ∷ [])
 
-  -- the texts after the changes, from the last change to the first, begin with the text after the
-  -- last change
+  -- the texts that `texts_of` lists begin with the text after the last change
   pub texts_of-last : texts_of changes text ≡ after ∷ texts_of rest after
   texts_of-last =
       ap (λ (cs : List Change). texts_along cs text) turned

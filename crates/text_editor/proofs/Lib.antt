@@ -1,2 +1,2 @@
--- The lemmas about changes of a text.
+-- The module of lemmas about changes of a text.
 mod ChangesLemmas

@@ -14,7 +14,7 @@ pub enum Command {
     Replace(usize, usize, ThinVec<char>),
     /// Undoes the last edit that is not undone. It is written `undo`.
     Undo,
-    /// Makes the edit that was undone last again. It is written `redo`.
+    /// Redoes the edit that was undone last. It is written `redo`.
     Redo,
     /// Forgets the oldest edits, so that at most this number of edits can be undone. It is written
     /// `forget COUNT`.
@@ -61,7 +61,7 @@ impl Command {
     ///
     /// # Errors
     ///
-    /// Fails if the method of `Editor` that it calls fails. Then the editor does not change.
+    /// Fails if the edit, the undo or the redo fails. Then the editor does not change.
     pub fn run(self, editor: &mut Editor) -> Result<(), EditError>
         ensures ok { OnOk result (Does self editor.old editor.new) }
         ensures err { OnErr result (editor.new ≡ editor.old) }

@@ -19,7 +19,7 @@ pub enum EditError {
     /// were made again.
     #[error("nothing to redo")]
     NothingToRedo,
-    /// There is no room for the command. The field is the cause.
+    /// There is no room for the edit. The field is the cause of the failure.
     #[error("{0}")]
     NoRoom(ThinVecError),
 }

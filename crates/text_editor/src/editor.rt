@@ -110,7 +110,7 @@ impl Editor {
         Ok(())
     }
 
-    /// Makes the edit that was undone last again.
+    /// Redoes the edit that was undone last.
     ///
     /// # Errors
     ///

@@ -123,7 +123,8 @@ pub fn extend_by_number<A: Allocator, G: Growth>(
     }
 }
 
-/// Makes the text `len` bytes long: appends spaces to a shorter text, and cuts a longer one.
+/// Makes the text `len` bytes long: appends spaces to a shorter text, and removes the last bytes of
+/// a longer one.
 ///
 /// # Errors
 ///

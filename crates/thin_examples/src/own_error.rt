@@ -9,7 +9,7 @@ use thiserror::Error;
 /// Says why an order was not taken.
 #[derive(Debug, Drop, Error)]
 pub enum OrderError {
-    /// The order is for no piece.
+    /// The order is for zero pieces.
     #[error("an order for no piece")]
     NoPiece,
     /// The list of orders has no room for the order, and cannot get more.

@@ -5,8 +5,8 @@ ghost use Rattle.thin_vec.specs.ThinVec.{HasRoomFor};
 use std::alloc::Allocator;
 use thin_vec::{Growth, ThinVec};
 
-/// Appends `value` and returns `None`. If the push fails, returns `value`, so that it is not lost;
-/// then the list does not change.
+/// Appends `value` and returns `None`. If the push fails, returns `value`, and the list does not
+/// change. So no value is lost.
 pub fn push_or_return<T: Drop, A: Allocator, G: Growth>(
     list: &mut ThinVec<T, A, G>,
     value: T,

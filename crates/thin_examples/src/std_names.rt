@@ -32,7 +32,8 @@ pub fn pop_even<A: Allocator, G: Growth>(list: &mut ThinVec<u32, A, G>) -> Optio
     list.pop_if(|number: &mut u32| *number % 2 == 0)
 }
 
-/// Makes the list `len` numbers long: appends zeros to a shorter list, and cuts a longer one.
+/// Makes the list `len` numbers long: appends zeros to a shorter list, and removes the last numbers
+/// of a longer one.
 ///
 /// # Errors
 ///

@@ -14,7 +14,7 @@ pub fn mixed(sum: u64, number: u64) -> u64 {
     sum.wrapping_mul(31).wrapping_add(number)
 }
 
-/// An item of a list.
+/// An item of a list, from which sums are computed.
 pub trait Item: Drop {
     /// Returns a number of the item, which is mixed into sums.
     fn number(&self) -> u64;

@@ -16,8 +16,8 @@ use crate::workloads::names::Workload;
 pub use crate::workloads::names::named;
 use std::alloc::Global;
 
-/// Runs `workload` on lists of the kind `F`. `size` is the size of a list, and `times` is how often
-/// the work is repeated. Returns the sum that the run computes.
+/// Runs `workload` on lists of the kind `F`. `size` is the number of items of a list, or the depth
+/// of a tree. `times` is how often the work is repeated. Returns the sum that the run computes.
 ///
 /// # Errors
 ///

@@ -1,4 +1,4 @@
-//! Implements the traits of `lists` for the `Vec` of Rattle's library, which is in the kit.
+//! Implements the traits of `lists` for the `Vec` of Rattle's library, which the input calls `kit`.
 use crate::lists::{Family, List, Numbers};
 use crate::numbers::{Count, Outcome, Pick, Triple, Unhinted, Wide, mixed};
 use std::alloc::{AllocError, Global};

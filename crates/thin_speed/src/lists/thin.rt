@@ -1,4 +1,4 @@
-//! Implements the traits of `lists` for `ThinVec`.
+//! Implements the traits of `lists` for `ThinVec`, which the input calls `thin`.
 use crate::lists::{Family, List, Numbers};
 use crate::numbers::{Count, Outcome, Pick, Triple, Unhinted, Wide, mixed};
 use std::alloc::{AllocError, Global};

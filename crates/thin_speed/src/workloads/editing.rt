@@ -5,7 +5,7 @@ use crate::workloads::shapes::{Work, filled, refill, refilled, repeated};
 use std::alloc::Global;
 use std::marker::PhantomData;
 
-/// The workloads of this file.
+/// The workloads that this file defines.
 #[derive(Clone, Copy)]
 pub enum Editing {
     InsertFront,

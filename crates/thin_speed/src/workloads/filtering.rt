@@ -8,7 +8,7 @@ use crate::workloads::shapes::{Work, refilled};
 use std::alloc::Global;
 use std::marker::PhantomData;
 
-/// The workloads of this file.
+/// The workloads that this file defines.
 #[derive(Clone, Copy)]
 pub enum Filtering {
     RetainHalf,

@@ -7,7 +7,7 @@ use crate::workloads::shapes::{Idle, Make, filled, made_anew, refilled};
 use std::alloc::{AllocError, Global};
 use std::io::Write;
 
-/// The workloads of this file.
+/// The workloads that this file defines.
 #[derive(Clone, Copy)]
 pub enum Growing {
     Push,
