@@ -14,8 +14,8 @@ kind_of node = (out-Node node).kind
 abbrev pub children_of : Node → Thin Node Global
 children_of node = (out-Node node).children
 
--- the node count of a node, computed from a copy of the node that holds the node count of each
--- child instead of the child
+-- the node count of a node, from the node counts of its children, which `node` holds in the places
+-- of the children
 abbrev pub count_step : Node-F ℕ → ℕ
 count_step node = 1 + sum node.children.items
 

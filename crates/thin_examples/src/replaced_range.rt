@@ -28,8 +28,8 @@ pub fn replace_word<A: Allocator, G: Growth>(
     text.replace_range_from_copies(start, end, word)
 }
 
-/// Replaces the bytes from `start` up to, but not including, `end` with `word`. It cannot fail,
-/// because `word` must not be longer than this range.
+/// Replaces the bytes from `start` up to, but not including, `end` with `word`. The call cannot
+/// fail, because the precondition `shorter` says that `word` is no longer than this range.
 pub fn shorten_to<A: Allocator, G: Growth>(
     text: &mut ThinVec<u8, A, G>,
     start: usize,

@@ -22,7 +22,7 @@ fn is_even(item: i32) -> bool {
     item.wrapping_rem(2) == 0
 }
 
-/// Checks an `ExtractIf` of a range that is dropped after its first item.
+/// Checks an `ExtractIf` of a range: the `ExtractIf` is dropped after it has yielded one item.
 pub fn row_8<A: Allocator + Copy>(alloc: A) -> Outcome {
     let mut checks = Checks::new();
     let mut list = listed(alloc, [1, 2, 3, 4, 5, 6])?;

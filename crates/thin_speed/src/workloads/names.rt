@@ -4,7 +4,7 @@ use crate::workloads::filtering::Filtering;
 use crate::workloads::growing::Growing;
 use crate::workloads::many::Many;
 
-/// One of the workloads, by the file that defines it.
+/// A workload. Each variant is for the workloads that one file defines.
 #[derive(Clone, Copy)]
 pub enum Workload {
     Growing(Growing),
