@@ -1,5 +1,5 @@
 //! The worked rows. Each is a function that makes calls, and compares their results with values
-//! that were worked out by hand.
+//! that were worked out by hand. It returns an error only if a call fails unexpectedly.
 ghost use Rattle.std.specs.Prelude.{◌≡◌, IfOk};
 
 mod bulk;
