@@ -1,18 +1,20 @@
--- How a change is taken back, and the texts that a list of changes makes, by its last one.
+-- Lemmas about changes of a text: how a change is undone, and which texts a list of changes
+-- produces.
 use Rattle.std.proofs.Common.{◌≡◌, ℕ, zero, suc, ◌+◌, ◌-◌, ◌≤◌, List, [], ◌∷◌, ◌++◌, length, take, drop, reverse, slice_range, refl, sym, ap, subst, ◌∙◌, arith, length-append, append_assoc}
 use Rattle.std.proofs.lemmas.List.{drop-drop, drop_at, length-drop, length-reverse, length-take-le, reverse-append, take-append-drop, take_at}
 use Rattle.std.specs.List.{replace_range}
 use Rattle.text_editor.specs.Changes.{AllFit, FitAlong, Fits, changed, texts_along, texts_of}
 use Rattle.text_editor.specs.declared.change.Change.{Change}
 
--- a change by n characters, the text before and the one after it
+-- context: a change that inserts n characters, the text before the change, and the text after it
+-- (`new`)
 module _ (change : Change) (n : ℕ) (text new : List ℕ) (fits : Fits change text)
     (count : n ≡ length change.characters.items) (made : new ≡ changed change text) where
-  -- what stands before what came in
+  -- the part of the text before the range of the change is `change.start` long
   short : length (take change.start text) ≡ change.start
   short = length-take-le change.start text (omega (arith, fits.start_le_end, fits.in_bounds))
 
-  -- what came in lies in the new text
+  -- the range of the inserted characters is within the new text
   pub comes_in : change.start + n ≤ length new
   comes_in =
       let front : List ℕ = take change.start text in
@@ -24,7 +26,8 @@ module _ (change : Change) (n : ℕ) (text new : List ℕ) (fits : Fits change t
         length-append front change.characters.items,
       )
 
-  -- the characters that were replaced, in the place of those that replaced them
+  -- if `old` are the characters that the change replaced, then replacing the inserted characters
+  -- with `old` restores the text before the change
   pub takes_back : (old : List ℕ) → old ≡ slice_range text change.start change.end
       → text ≡ replace_range new change.start (change.start + n) old
   takes_back old is =
@@ -44,43 +47,46 @@ module _ (change : Change) (n : ℕ) (text new : List ℕ) (fits : Fits change t
       ∙ (ap (λ (l : List ℕ). take s text ++ l) (take-append-drop (e - s) (drop s text))
       ∙ take-append-drop s text)))
 
--- changes with a last one, the text, and the text that the last change makes
+-- context: a list of changes whose last one is `change`, a text, and the text after `change`
+-- (`after`)
 module _ (changes rest : List Change) (change : Change) (text after : List ℕ)
     (is : changes ≡ rest ++ change ∷ []) (made : after ≡ changed change text) where
-  -- the last change comes first
+  -- the reversed list begins with the last change
   turned : reverse changes ≡ change ∷ reverse rest
   turned = ap (λ (cs : List Change). reverse cs) is ∙ reverse-append rest (change ∷ [])
 
-  -- its text comes first
+  -- the texts that `texts_of` lists begin with the text after the last change
   pub texts_of-last : texts_of changes text ≡ after ∷ texts_of rest after
   texts_of-last =
       ap (λ (cs : List Change). texts_along cs text) turned
       ∙ ap (λ (t : List ℕ). t ∷ texts_along (reverse rest) t) (sym made)
 
-  -- the changes fit where it fits, and after it the others
+  -- if the last change fits the text, and all the others fit the text after the last change, then
+  -- all the changes fit the text
   pub AllFit-last : Fits change text → AllFit rest after → AllFit changes text
   AllFit-last fits all =
       subst (λ (cs : List Change). FitAlong cs text) (sym turned)
       (fits, subst (λ (t : List ℕ). AllFit rest t) made all)
 
+-- if the number of changes is 0, the list of changes is empty
 nothing : (changes : List Change) → length changes ≡ 0 → changes ≡ []
 nothing [] e = refl
 nothing (change ∷ changes) e = absurd (omega arith)
 
--- as many texts as changes
+-- `texts_along` has one text for each change
 length-texts_along : (changes : List Change) (text : List ℕ)
     → length (texts_along changes text) ≡ length changes
 length-texts_along [] text = refl
 length-texts_along (change ∷ changes) text =
     ap (λ (n : ℕ). suc n) (length-texts_along changes (changed change text))
 
--- there is a text for each change
+-- `texts_of` has one text for each change
 pub length-texts_of : (changes : List Change) (text : List ℕ)
     → length (texts_of changes text) ≡ length changes
 length-texts_of changes text =
     length-texts_along (reverse changes) text ∙ length-reverse changes
 
--- the first changes make the first texts, and fit
+-- the first k changes produce the first k of the texts
 texts_along-take : (k : ℕ) (changes : List Change) (text : List ℕ)
     → texts_along (take k changes) text ≡ take k (texts_along changes text)
 texts_along-take zero changes text = refl
@@ -89,6 +95,7 @@ texts_along-take (suc k) (change ∷ changes) text =
     ap (λ (ts : List (List ℕ)). changed change text ∷ ts)
     (texts_along-take k changes (changed change text))
 
+-- if the changes fit one after another, then so do the first k of them
 FitAlong-take : (k : ℕ) (changes : List Change) (text : List ℕ) → FitAlong changes text
     → FitAlong (take k changes) text
 FitAlong-take zero changes text all = tt
@@ -96,7 +103,7 @@ FitAlong-take (suc k) [] text all = tt
 FitAlong-take (suc k) (change ∷ changes) text all =
     (all.0, FitAlong-take k changes (changed change text) all.1)
 
--- without the first m changes, the first of the others reversed
+-- the reverse of a list without its first m changes is the reversed list without its last m changes
 reverse-drop : (m : ℕ) (changes : List Change)
     → reverse (drop m changes) ≡ take (length changes - m) (reverse changes)
 reverse-drop m changes =
@@ -108,22 +115,22 @@ reverse-drop m changes =
     length-reverse (drop m changes) ∙ length-drop m changes in
     rw whole (sym (take_at left (reverse (take m changes)) (length changes - m) count))
 
--- changes whose first m are forgotten
+-- context: a list of changes, from which the first m are removed, and a text
 module _ (m : ℕ) (changes : List Change) (text : List ℕ) where
-  -- the texts of the changes that are left are the last ones
+  -- the remaining changes produce the same texts as all the changes, without the last m texts
   pub texts_of-drop : texts_of (drop m changes) text
       ≡ take (length changes - m) (texts_of changes text)
   texts_of-drop =
       ap (λ (cs : List Change). texts_along cs text) (reverse-drop m changes)
       ∙ texts_along-take (length changes - m) (reverse changes) text
 
-  -- the changes that are left still fit
+  -- if all the changes fit the text, then all the remaining changes fit it
   pub AllFit-drop : AllFit changes text → AllFit (drop m changes) text
   AllFit-drop all =
       subst (λ (cs : List Change). FitAlong cs text) (sym (reverse-drop m changes))
       (FitAlong-take (length changes - m) (reverse changes) text all)
 
--- where there is no text, there is no change
+-- if the changes produce no text, then there is no change
 pub no_text : (changes : List Change) (text : List ℕ) → texts_of changes text ≡ []
     → changes ≡ []
 no_text changes text none =

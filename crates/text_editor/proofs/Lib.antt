@@ -1,2 +1,2 @@
--- The lemmas: of changes.
+-- The module of lemmas about changes of a text.
 mod ChangesLemmas

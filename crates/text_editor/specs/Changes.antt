@@ -1,32 +1,33 @@
--- What changes make of a text.
+-- The texts that changes produce, and the conditions under which changes fit a text.
 use Rattle.std.specs.Prelude.{ℕ, ◌≤◌, List, [], ◌∷◌, length, reverse}
 use Rattle.std.specs.List.{replace_range}
 use Rattle.text_editor.specs.declared.change.Change.{Change}
 
--- the text after the change
+-- the text after the change is carried out on `text`
 abbrev pub changed : Change → List ℕ → List ℕ
 changed change text = replace_range text change.start change.end change.characters.items
 
--- the change's range is one of the text's
+-- holds if the range of the change is within the bounds of the text
 pub record Fits (change : Change) (text : List ℕ) : Type 0 where
   pub start_le_end : change.start ≤ change.end
   pub in_bounds : change.end ≤ length text
 
--- the texts that the changes make, one after another
+-- the text after each change, if the changes are carried out in the order of the list
 abbrev pub texts_along : List Change → List ℕ → List (List ℕ)
 texts_along [] text = []
 texts_along (change ∷ changes) text =
     changed change text ∷ texts_along changes (changed change text)
 
--- each change fits the text that those before it make
+-- holds if each change fits the text that the changes before it in the list produce
 abbrev pub FitAlong : List Change → List ℕ → Type 0
 FitAlong [] text = Unit {0}
 FitAlong (change ∷ changes) text = Fits change text × FitAlong changes (changed change text)
 
--- the texts that the changes make, from the last change to the first
+-- the text after each change, if the changes are carried out from the last to the first
 abbrev pub texts_of : List Change → List ℕ → List (List ℕ)
 texts_of changes text = texts_along (reverse changes) text
 
--- the changes can be made, from the last to the first
+-- holds if the changes can be carried out from the last to the first, each one within the bounds of
+-- its text
 abbrev pub AllFit : List Change → List ℕ → Type 0
 AllFit changes text = FitAlong (reverse changes) text

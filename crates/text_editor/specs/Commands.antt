@@ -1,11 +1,11 @@
--- What the commands do.
+-- What each command does to the editor.
 use Rattle.std.specs.Prelude.{◌≡◌, [], ◌∷◌, take}
 use Rattle.std.specs.List.{replace_range}
 use Rattle.text_editor.specs.History.{History}
 use Rattle.text_editor.specs.declared.command.Command.{Command}
 use Rattle.text_editor.specs.declared.command.Command.TheVariants.{Forget, Print, Redo, Replace, Undo}
 
--- the editor before a command that did not fail, and after it
+-- relates the editor before a command that succeeds (`old`) to the editor after the command (`new`)
 abbrev pub Does : Command → History → History → Type 0
 Does (Replace start end characters) old new =
     (new.text ≡ replace_range old.text start end characters.items)

@@ -1,13 +1,14 @@
--- What a contract sees of an editor.
+-- The value that contracts see for an editor: a `History`.
 use Rattle.std.specs.Prelude.{◌≡◌, ℕ, List, []}
 
--- a text, and those to which undo and redo lead, one after another
+-- the current text, the texts that repeated calls of `undo` restore (`past`), and the texts that
+-- repeated calls of `redo` restore (`future`), each in the order of the calls
 pub record History : Type 0 where
   pub past : List (List ℕ)
   pub text : List ℕ
   pub future : List (List ℕ)
 
--- an empty text without a past or a future
+-- holds if the text is empty, and there is nothing to undo and nothing to redo
 pub record IsNew (history : History) : Type 0 where
   pub past : history.past ≡ []
   pub text : history.text ≡ []

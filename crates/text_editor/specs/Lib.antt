@@ -1,4 +1,4 @@
--- The words of the contracts: changes, what an editor is seen as, and commands.
+-- The definitions that the contracts use: changes, commands, and the value of an editor.
 pub mod Changes
 pub mod Commands
 pub mod History

@@ -1,9 +1,10 @@
-//! One change of a text: other characters take the place of a range.
+//! A change of a text: it replaces a range of the characters.
 ghost use Rattle.std.specs.Prelude.{◌≡◌, ◌∷◌, OnErr, OnOk};
 
 use thin_vec::{ThinVec, ThinVecError};
 
-/// Characters that are to take the place of a range of a text.
+/// A change that replaces the characters from `start` up to, but not including, `end` with
+/// `characters`.
 #[derive(Drop)]
 pub struct Change {
     pub start: usize,
@@ -14,7 +15,13 @@ pub struct Change {
 impl Change {
     ghost use Rattle.text_editor.specs.Changes.{AllFit, Fits, changed, texts_of};
 
-    /// Makes the change, and puts the one that takes it back after those of `back`.
+    /// Carries out the change on `text`, and appends the change that undoes it to `back`. The
+    /// appended change owns the replaced characters.
+    ///
+    /// # Errors
+    ///
+    /// Fails if there is no room for the replaced characters, for the new text or for one more item
+    /// of `back`. Then neither `text` nor the items of `back` change.
     pub fn make(
         &self,
         text: &mut ThinVec<char>,

@@ -1,4 +1,4 @@
-//! The commands, a line each.
+//! The commands of the editor. Each is written as one line of the input.
 ghost use Rattle.std.specs.Prelude.{◌≡◌, OnErr, OnOk};
 
 use crate::edit_error::EditError;
@@ -6,25 +6,32 @@ use crate::editor::Editor;
 use std::alloc::Global;
 use thin_vec::ThinVec;
 
-/// A line of the input.
+/// A command, which is read from one line of the input.
 #[derive(Drop)]
 pub enum Command {
-    /// `insert AT TEXT`, `delete FROM TO` and `replace FROM TO TEXT`
+    /// Replaces the characters from the first index up to, but not including, the second with a
+    /// text. It is written `insert AT TEXT`, `delete FROM TO` or `replace FROM TO TEXT`.
     Replace(usize, usize, ThinVec<char>),
-    /// `undo`
+    /// Undoes the last edit that is not undone. It is written `undo`.
     Undo,
-    /// `redo`
+    /// Redoes the edit that was undone last. It is written `redo`.
     Redo,
-    /// `forget COUNT`
+    /// Forgets the oldest edits, so that at most this number of edits can be undone. It is written
+    /// `forget COUNT`.
     Forget(usize),
-    /// `print`
+    /// Prints the text. It is written `print`.
     Print,
 }
 
 impl Command {
     ghost use Rattle.text_editor.specs.Commands.{Does};
 
-    /// The command that the line says.
+    /// Parses a line of the input.
+    ///
+    /// # Errors
+    ///
+    /// Returns `NotACommand` if the line is not a command, and `NoRoom` if there is no room for its
+    /// characters.
     pub fn parse(alloc: Global, line: &str) -> Result<Command, EditError> {
         let (name, rest) = first_word(line);
         match name {
@@ -50,7 +57,11 @@ impl Command {
         }
     }
 
-    /// Does the command. It fails as the editor's call does.
+    /// Runs the command on `editor`. `Print` does nothing here, because `main` prints the text.
+    ///
+    /// # Errors
+    ///
+    /// Fails if the edit, the undo or the redo fails. Then the editor does not change.
     pub fn run(self, editor: &mut Editor) -> Result<(), EditError>
         ensures ok { OnOk result (Does self editor.old editor.new) }
         ensures err { OnErr result (editor.new ≡ editor.old) }
@@ -76,12 +87,14 @@ fn replacement(alloc: Global, start: usize, end: usize, text: &str) -> Result<Co
     Ok(Command::Replace(start, end, characters))
 }
 
-// The first word, and what comes after it and a space.
+// Returns the text before the first space, and the text after that space. If there is no space,
+// returns the whole text and an empty one.
 fn first_word(text: &str) -> (&str, &str) {
     text.split_once(' ').unwrap_or((text, ""))
 }
 
-// The number at the start, and what comes after it and a space.
+// Parses the first word as a number. Returns the number, and the text after the space that follows
+// the word. Fails with `NotACommand` if the word is not a number.
 fn number(text: &str) -> Result<(usize, &str), EditError> {
     let (word, rest) = first_word(text);
     match word.parse::<usize>() {

@@ -1,24 +1,25 @@
-//! What a command returns that is not done.
+//! The error of a command that was not carried out.
 
 use thin_vec::ThinVecError;
 use thiserror::Error;
 
-/// Why a command was not done. The text and its history are as before.
+/// Says why a command was not carried out. The text and its history are then as before.
 #[derive(Debug, Drop, Error)]
 pub enum EditError {
-    /// The line is no command.
+    /// The line is not a command.
     #[error("not a command")]
     NotACommand,
-    /// Its range is not within the text.
+    /// The range of the command is not within the text.
     #[error("not a range of the text")]
     OutOfBounds,
-    /// No edit was made, or all are undone.
+    /// There is no edit to undo: no edit was made, or each edit is undone or forgotten.
     #[error("nothing to undo")]
     NothingToUndo,
-    /// No edit was undone since the last one was made.
+    /// There is no edit to redo: after the last new edit no edit was undone, or all undone edits
+    /// were made again.
     #[error("nothing to redo")]
     NothingToRedo,
-    /// There is no memory for it.
+    /// There is no room for the edit. The field is the cause of the failure.
     #[error("{0}")]
     NoRoom(ThinVecError),
 }

@@ -1,4 +1,4 @@
-//! The editor: a text, the changes that undo its edits, and those that redo them.
+//! The editor: a text, the changes that undo its edits, and the changes that redo undone edits.
 ghost use Rattle.std.specs.Prelude.{◌≡◌, ◌↔◌, ◌⊎◌, ◌<◌, [], ◌∷◌, IsErrOf, OnErr, OnOk, length, take};
 ghost use Rattle.std.specs.List.{replace_range};
 ghost use Rattle.text_editor.specs.Changes.{AllFit, texts_of};
@@ -10,8 +10,8 @@ use std::alloc::Global;
 use std::marker::Model;
 use thin_vec::{ThinVec, ThinVecError};
 
-/// A text with the history of its edits. Contracts see the text, those to which `undo` leads, one
-/// after another, and those to which `redo` does.
+/// A text with the history of its edits. Contracts see it as a `History`: the text, the texts that
+/// repeated calls of `undo` restore, and the texts that repeated calls of `redo` restore.
 #[derive(Drop)]
 pub struct Editor {
     text: ThinVec<char>,
@@ -37,7 +37,8 @@ impl Model for Editor {
 }
 
 impl Editor {
-    /// An empty text.
+    /// Makes an editor with an empty text, and with nothing to undo or to redo. It requests no
+    /// memory.
     pub fn new(alloc: Global) -> Editor
         ensures new { IsNew result }
     {
@@ -48,15 +49,21 @@ impl Editor {
         }
     }
 
-    /// The text's characters.
+    /// Returns the characters of the text.
     pub fn text(&self) -> &[char]
         ensures value { result.now ≡ self.now.text }
     {
         self.text.as_slice()
     }
 
-    /// Puts `characters` in the place of those from `start` up to `end`. What was undone can't be
-    /// redone any more.
+    /// Replaces the characters from `start` up to, but not including, `end` with `characters`.
+    /// Edits that are undone can then no longer be redone.
+    ///
+    /// # Errors
+    ///
+    /// Returns `OutOfBounds` if `end` is less than `start` or greater than the length of the text,
+    /// and `NoRoom` if there is no room for the edit. Then the editor does not change, and
+    /// `characters` is dropped.
     pub fn replace(
         &mut self,
         start: usize,
@@ -84,7 +91,12 @@ impl Editor {
         Ok(())
     }
 
-    /// Takes the last edit back that was not undone.
+    /// Undoes the last edit that is not undone.
+    ///
+    /// # Errors
+    ///
+    /// Returns `NothingToUndo` if there is no such edit, and `NoRoom` if there is no room for the
+    /// changes. Then the editor does not change.
     pub fn undo(&mut self) -> Result<(), EditError>
         ensures nothing { IsErrOf result EditError.NothingToUndo ↔ (self.old.past ≡ []) }
         ensures text { OnOk result (self.old.past ≡ self.new.text ∷ self.new.past) }
@@ -98,7 +110,12 @@ impl Editor {
         Ok(())
     }
 
-    /// Makes the edit again that was undone last.
+    /// Redoes the edit that was undone last.
+    ///
+    /// # Errors
+    ///
+    /// Returns `NothingToRedo` if there is no such edit, and `NoRoom` if there is no room for the
+    /// changes. Then the editor does not change.
     pub fn redo(&mut self) -> Result<(), EditError>
         ensures nothing { IsErrOf result EditError.NothingToRedo ↔ (self.old.future ≡ []) }
         ensures text { OnOk result (self.old.future ≡ self.new.text ∷ self.new.future) }
@@ -112,7 +129,8 @@ impl Editor {
         Ok(())
     }
 
-    /// Forgets the oldest edits, so that at most `count` can be undone.
+    /// Forgets the oldest edits, so that at most `count` edits can be undone. The text does not
+    /// change.
     pub fn forget(&mut self, count: usize)
         ensures past { self.new.past ≡ take count self.old.past }
         ensures text { self.new.text ≡ self.old.text }
@@ -124,7 +142,8 @@ impl Editor {
     }
 }
 
-// Makes the last change of `from`, and puts the one that takes it back after those of `to`.
+// Removes the last change of `from`, carries it out on `text`, and appends the change that undoes
+// it to `to`. If it fails, the text and the items of both lists do not change.
 fn step(
     text: &mut ThinVec<char>,
     from: &mut ThinVec<Change>,

@@ -1,4 +1,5 @@
-//! A text editor's core: reads a command from each line, and edits a text that can be undone.
+//! The core of a text editor: reads one command from each line of the input, and runs it on a text
+//! whose edits can be undone.
 #![tactic(auto)]
 
 mod change;
@@ -19,7 +20,8 @@ fn main(rt: HostRuntime) -> io::Result<()> {
     Ok(())
 }
 
-// Does what the line says, and prints the text where it asks for it, or why nothing was done.
+// Runs the command that the line holds. Prints the text if the command is `print`. Prints the error
+// if the line is not a command, or if the command fails.
 fn answer(rt: &impl Print, alloc: Global, editor: &mut Editor, line: &str) -> io::Result<()> {
     match Command::parse(alloc, line) {
         Ok(Command::Print) => print_text(rt, editor.text()),

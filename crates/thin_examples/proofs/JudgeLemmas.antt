@@ -1,4 +1,4 @@
--- A closure that calls a judge returns what the judge does.
+-- Lemmas about `retain_mut` with a closure that returns what a judge returns.
 use Rattle.std.proofs.Common.{◌≡◌, Bool, true, List, [], ◌∷◌, sym, ap, ◌∙◌}
 use Rattle.thin_vec.specs.Edits.Retain.{Asked, IsRetained, left_at}
 use Rattle.thin_vec.specs.ThinVec.{Thin}
@@ -8,6 +8,8 @@ module _ {F J T : Type 0} (R : F → T → Bool → F → T → Type 0) (state :
     (judges : J → T → Bool × (T × J))
     (one : (f : F) (x : T) (b : Bool) (g : F) (y : T) → R f x b g y
     → judges (state f) x ≡ (b, (y, state g))) where
+  -- if each call of the closure does what the judge does, its answers about the items xs are the
+  -- answers of the judge
   answers-are : (f : F) (xs : List T) (qs : List (Bool × T)) (t : F) → Asked R f xs qs t
       → qs ≡ asked_by judges (state f) xs
   answers-are f [] qs t a = a.0
@@ -18,7 +20,8 @@ module _ {F J T : Type 0} (R : F → T → Bool → F → T → Type 0) (state :
       ∙ ap (λ (l : List (Bool × T)). here ∷ l) (answers-are a.2 xs a.3 t a.5
       ∙ ap (λ (p : Bool × (T × J)). asked_by judges p.1.1 xs) (sym e)))
 
-  -- what is left is what the judge keeps
+  -- if each call of the closure does what the judge does, the items left are those that the judge
+  -- keeps
   pub retained-by : {A : Type 0} (f : F) (v w : Thin T A) → IsRetained R f v w
       → w.items ≡ left_at true (asked_by judges (state f) v.items)
   retained-by f v w r = r.1.items

@@ -1,4 +1,5 @@
--- The lemmas: of a closure that keeps all, of one that picks, of splices, trees and judges.
+-- The lemmas about closures that keep all items, closures that pick items, splices, trees and
+-- judges.
 mod MovesLemmas
 mod PickLemmas
 mod SpliceLemmas

@@ -1,4 +1,4 @@
--- A closure that only looks at the items, and always returns true.
+-- Lemmas about `retain` with a closure that always returns true.
 use Rattle.std.proofs.Common.{◌≡◌, Bool, true, List, [], ◌∷◌, ap, sym, ◌∙◌}
 use Rattle.std.proofs.lemmas.List.{append-nil}
 use Rattle.thin_vec.proofs.RetainLemmas.{left_at-stay, moved_up-stay, moving-none}
@@ -8,20 +8,21 @@ use Rattle.thin_vec.specs.ThinVec.{Thin}
 
 module _ {S T : Type 0} (R : S → T → Bool → S → Type 0)
     (yes : (s : S) (x : T) (b : Bool) (t : S) → R s x b t → b ≡ true) where
+  -- if the closure always returns true, its answers are that each item stays
   all-stay : (s t : S) (xs : List T) (a : Answers T) → Asked (Looks R) s xs a t → a ≡ stay xs
   all-stay s t [] a h = h.0
   all-stay s t (x ∷ xs) a h =
       h.6
       ∙ (λ i. (yes s x h.0 h.2 h.4.0 i, h.4.1 i) ∷ all-stay h.2 t xs h.3 h.5 i)
 
-  -- each item stays
+  -- if the closure always returns true, `retain` does not change the items
   pub keeps-items : {A : Type 0} (s : S) (v w : Thin T A) → IsRetained (Looks R) s v w
       → w.items ≡ v.items
   keeps-items s v w r =
       r.1.items
       ∙ (ap (left_at true) (all-stay s r.0 v.items r.1.answers r.1.asked) ∙ left_at-stay v.items)
 
-  -- and none moves
+  -- if the closure always returns true, `retain` does not change the cost: no item is moved
   pub keeps-cost : {A : Type 0} (s : S) (v w : Thin T A) → IsRetained (Looks R) s v w
       → w.cost ≡ v.cost
   keeps-cost s v w r =

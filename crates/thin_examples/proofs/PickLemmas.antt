@@ -1,26 +1,32 @@
--- Calls of `next` of an `ExtractIf` whose closure returns what a test does, and changes no item.
+-- Lemmas about `next` of an `ExtractIf` whose closure returns the result of a test, and changes no
+-- item.
 use Rattle.std.proofs.Common.{◌≡◌, Bool, true, false, List, [], ◌∷◌, ◌++◌, Option, None, Some, ap, sym, ◌∙◌}
 use Rattle.std.specs.List.Retain.{ExtractsNext}
 use Rattle.std.specs.Option.{option_to_list}
 use Rattle.std.specs.Prelude.{MatchBool, cond, filter, not}
 
 module _ {T : Type 0} (test : T → Bool) where
-  -- the items of which the test is not true
+  -- the items for which the test is false
   abbrev pub others : List T → List T
   others xs = filter (λ x. not (test x)) xs
 
-  -- one call went over xs: the item goes, those kept stay, and the rest is yet to be asked about
+  -- how one call of `next` divides the items xs that were not tested before: it extracts `item`,
+  -- which is `None` at the end, keeps the items `kept` in the list, and does not test the items
+  -- `rest`
   pub record Parts (xs : List T) (item : Option T) (kept rest : List T) : Type 0 where
     pub gone : filter test xs ≡ option_to_list item ++ filter test rest
     pub stay : others xs ≡ kept ++ others rest
     pub ended : item ≡ None → rest ≡ []
 
+  -- `None` is not equal to `Some x`
   none-some : {x : T} → None ≡ Some x → ⊥
   none-some e = cc
 
   module _ {S : Type 0} (R : S → T → Bool → S → T → Type 0)
       (says : (s : S) (x : T) (b : Bool) (t : S) (y : T) → R s x b t y
       → (b ≡ test x) × (y ≡ x)) where
+    -- if one call of `next` tests the item x first, and what it does with the items xs after x is
+    -- as `Parts` says, then what it does with x and xs is as `Parts` says
     part : (x : T) (xs : List T) (item : Option T) (t u : S) (y : T) (kept rest : List T)
         (b : Bool) → b ≡ test x → y ≡ x
         → ((ks : List T) → ExtractsNext R u xs item t ks rest → Parts xs item ks rest)
@@ -46,7 +52,8 @@ module _ {T : Type 0} (test : T → Bool) where
           ended = then.ended;
         }
 
-    -- what one call leaves of the items that were to come
+    -- if the closure returns the result of the test and changes no item, one call of `next` divides
+    -- the items that were not tested before as `Parts` says
     pub parts : (s : S) (xs : List T) (item : Option T) (t : S) (kept rest : List T)
         → ExtractsNext R s xs item t kept rest → Parts xs item kept rest
     parts s [] item t kept rest e = record {

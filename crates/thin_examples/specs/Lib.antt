@@ -1,4 +1,4 @@
--- The words of the contracts: what they read of a tree, last digits, and what a judge says.
+-- The definitions that the contracts use: of trees, last digits and the answers of judges.
 pub mod SyntaxTree
 pub mod LastDigits
 pub mod Judges

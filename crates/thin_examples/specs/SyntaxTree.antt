@@ -1,4 +1,4 @@
--- What a contract reads of a node of a syntax tree.
+-- The values that a contract reads from a node of a syntax tree.
 use Rattle.std.specs.Prelude.{ℕ, ◌+◌, sum}
 use Rattle.std.specs.declared.alloc.Global.{Global}
 use Rattle.thin_vec.specs.ThinVec.{Thin}
@@ -6,18 +6,19 @@ use Rattle.thin_examples.specs.declared.syntax_tree.Node.{Node, out-Node}
 use Rattle.thin_examples.specs.declared.syntax_tree.Node.TheFolds.{fold-Node}
 use Rattle.thin_examples.specs.declared.syntax_tree.Node.TheOpen.{Node-F}
 
--- a node's kind
+-- the kind of the node
 abbrev pub kind_of : Node → ℕ
 kind_of node = (out-Node node).kind
 
--- a node's list of children
+-- the list of the children of the node
 abbrev pub children_of : Node → Thin Node Global
 children_of node = (out-Node node).children
 
--- one node, with the count of each child in the child's place
+-- the node count of a node, from the node counts of its children, which `node` holds in the places
+-- of the children
 abbrev pub count_step : Node-F ℕ → ℕ
 count_step node = 1 + sum node.children.items
 
--- how many nodes there are: this one and all below it
+-- the number of nodes in the tree below the node, including the node itself
 abbrev pub node_count : Node → ℕ
 node_count = fold-Node ℕ count_step

@@ -1,8 +1,9 @@
-//! What a row compares.
+//! The counter with which a worked row compares values with the expected ones.
 use std::alloc::Allocator;
 use thin_vec::{Growth, ThinVec};
 
-/// How many values a row compared with those that were worked out, and how many of them differ.
+/// Counts how many values a worked row has compared with values that were worked out by hand, and
+/// how many of them differ.
 #[derive(Clone, Copy)]
 pub struct Checks {
     compared: u32,
@@ -10,7 +11,7 @@ pub struct Checks {
 }
 
 impl Checks {
-    /// Nothing is compared yet.
+    /// Makes a counter that has compared no value yet.
     pub fn new() -> Checks {
         Checks {
             compared: 0,
@@ -18,17 +19,17 @@ impl Checks {
         }
     }
 
-    /// How many values were compared.
+    /// Returns the number of values that were compared.
     pub fn compared(&self) -> u32 {
         self.compared
     }
 
-    /// Whether some were compared, and all were right.
+    /// Returns whether at least one value was compared, and all compared values were as expected.
     pub fn is_ok(&self) -> bool {
         self.compared > 0 && self.wrong == 0
     }
 
-    /// Counts a value, and whether it is right.
+    /// Counts one comparison, whose result is `right`.
     pub fn is(&mut self, right: bool) {
         self.compared = self.compared.saturating_add(1);
         if !right {
@@ -36,12 +37,12 @@ impl Checks {
         }
     }
 
-    /// Compares a value.
+    /// Compares the value `found` with the expected value `wanted`.
     pub fn same<T: PartialEq + Drop>(&mut self, found: T, wanted: T) {
         self.is(found == wanted);
     }
 
-    /// Compares items, and how many they are.
+    /// Compares the items `found` with the expected items `wanted`, and the number of items too.
     pub fn items<T: PartialEq>(&mut self, found: &[T], wanted: &[T]) {
         for (found, wanted) in found.iter().zip(wanted) {
             self.is(*found == *wanted);
@@ -49,7 +50,7 @@ impl Checks {
         self.is(found.len() == wanted.len());
     }
 
-    /// Compares the items of a list, how many they are, and its capacity.
+    /// Compares the items, the length and the capacity of `list` with the expected ones.
     pub fn holds<T: PartialEq, A: Allocator, G: Growth>(
         &mut self,
         list: &ThinVec<T, A, G>,

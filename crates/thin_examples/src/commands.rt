@@ -1,4 +1,5 @@
-//! Commands on a list whose result a contract computes, by the main theorem.
+//! Callers that carry out commands on a list. The main theorem of `thin_runner` tells them which
+//! items the list has afterwards.
 ghost use Rattle.std.specs.Prelude.{◌≡◌, [], ◌∷◌, ◌++◌, All, OnOk, fold};
 ghost use Rattle.thin_vec.specs.List.Clones.{ClonesEqual};
 ghost use Rattle.thin_runner.specs.Plain.{items_after};
@@ -11,7 +12,12 @@ use thin_runner::judge::Judge;
 use thin_runner::runner::run;
 use thin_vec::{Growth, ThinVec, ThinVecError};
 
-/// Pushes 1, 2 and 3 and pops an item, as commands. If no call fails, an empty list is then 1, 2.
+/// Pushes 1, 2 and 3 and pops one item, by a run of commands. If the list was empty before, its
+/// items are then 1 and 2.
+///
+/// # Errors
+///
+/// Fails if there is no room for the commands or the replies, or if a call on the list fails.
 pub fn one_and_two<A: Allocator + Copy, J: Judge<u64>>(
     alloc: A,
     list: &mut ThinVec<u64, A>,
@@ -27,8 +33,13 @@ pub fn one_and_two<A: Allocator + Copy, J: Judge<u64>>(
     carry_out(alloc, list, commands, judge)
 }
 
-/// Carries out the commands in order. Fails if any of their calls failed; the commands after that
-/// call are carried out all the same.
+/// Carries out the commands on `list`, in order.
+///
+/// # Errors
+///
+/// If calls on the list fail, it fails with the cause of the first failure. The commands after that
+/// call are carried out nevertheless. It also fails if there is no room for the replies, and then
+/// no command is carried out.
 pub fn carry_out<T: Clone + Eq, A: Allocator + Copy, G: Growth, J: Judge<T>>(
     alloc: A,
     list: &mut ThinVec<T, A, G>,
@@ -47,7 +58,7 @@ pub fn carry_out<T: Clone + Eq, A: Allocator + Copy, G: Growth, J: Judge<T>>(
     }
 }
 
-// Fails with the cause of the first call that failed, if any did.
+// Fails with the cause of the first call that failed, if a reply reports one.
 fn all_granted<T, A: Allocator, G: Growth>(replies: &[Reply<T, A, G>]) -> Result<(), ThinVecError>
     ensures granted { OnOk result (All IsGranted replies.now) }
 {
@@ -59,7 +70,7 @@ fn all_granted<T, A: Allocator, G: Growth>(replies: &[Reply<T, A, G>]) -> Result
     Ok(())
 }
 
-// Appends an item to the vector.
+// Appends `item` to `items`. Fails if there is no room for it.
 fn add<T: Drop, A: Allocator>(items: &mut Vec<T, A>, item: T) -> Result<(), ThinVecError>
     ensures items { OnOk result (items.new.items ≡ items.old.items ++ item ∷ []) }
 {

@@ -1,4 +1,4 @@
-//! Callers of `retain` and `dedup` that promise what is left as a function of the items.
+//! Callers of `retain`, `retain_mut` and `dedup` that promise which items are left.
 ghost use Rattle.std.specs.List.Sorted.{IsSorted, IsStrictlyIncreasing};
 ghost use Rattle.std.specs.Ordering.{nat_cmp};
 ghost use Rattle.std.specs.Prelude.{◌≡◌, ◌%◌, ◌==◌, Bool, filter, true};
@@ -8,7 +8,7 @@ ghost use Rattle.thin_examples.specs.Judges.{asked_by};
 use std::alloc::Allocator;
 use thin_vec::{Growth, ThinVec};
 
-/// Keeps the even numbers.
+/// Keeps the even numbers, and removes the others.
 pub fn keep_even<A: Allocator, G: Growth>(list: &mut ThinVec<u32, A, G>)
     ensures items { list.new.items ≡ filter (λ number. number % 2 == 0) list.old.items }
     ensures capacity { list.new.capacity ≡ list.old.capacity }
@@ -16,8 +16,7 @@ pub fn keep_even<A: Allocator, G: Growth>(list: &mut ThinVec<u32, A, G>)
     list.retain(|number| number % 2 == 0);
 }
 
-/// Keeps each number of a sorted list once: then each is below the next, and no two neighbours are
-/// equal.
+/// Removes the repeated numbers from a sorted list. Then each number is less than the next one.
 pub fn keep_distinct<A: Allocator, G: Growth>(list: &mut ThinVec<u32, A, G>)
     requires sorted { IsSorted nat_cmp list.old.items }
     ensures distinct { IsStrictlyIncreasing list.new.items }
@@ -26,17 +25,19 @@ pub fn keep_distinct<A: Allocator, G: Growth>(list: &mut ThinVec<u32, A, G>)
     list.dedup();
 }
 
-/// Says of items whether they stay, from a state of its own.
+/// Decides for each item whether it stays in a list. A judge has a state, which each decision may
+/// change.
 pub trait Judge<T>: Copy {
-    /// What it says, how it leaves the item, and its next state.
+    /// Maps a judge and an item to the decision, the item as the judge leaves it, and the judge
+    /// with its next state.
     ghost judges: { Self → T → Bool × (T × Self) };
 
-    /// Whether the item stays. It may be written.
+    /// Returns whether `item` stays. The judge may write to `item`.
     fn keep(&mut self, item: &mut T) -> bool
         ensures { judges self.old item.old ≡ (result, (item.new, self.new)) };
 }
 
-/// Keeps the items at which a copy of the judge returns true, as it left them.
+/// Keeps the items for which a copy of `judge` returns true, as the copy has left them.
 pub fn keep_judged<T: Copy, A: Allocator, G: Growth, J: Judge<T>>(
     list: &mut ThinVec<T, A, G>,
     judge: &J,

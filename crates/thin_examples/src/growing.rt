@@ -1,11 +1,13 @@
-//! Callers that promise what an iterator gave, or what was copied, with no proof file.
+//! Callers that make a list or add items to one, from an iterator or by copies. Their contracts
+//! need no proof files.
 ghost use Rattle.std.specs.Prelude.{◌≡◌, ◌+◌, ◌/◌, ◌≤◌, ◌++◌, [], IfErr, IfOk, IfSome, IsErrOf, IsOk, IsSome, IsTrue, None, filter, length, map, nat_lt, OnErr, OnOk, ◌-◌, ◌<◌, replicate, slice_index, slice_set, take};
 ghost use Rattle.thin_vec.specs.ThinVec.{HasRoomFor, IsCause, capacity_for};
 
 use std::alloc::{AllocError, Allocator};
 use thin_vec::{Growth, ThinVec, ThinVecError};
 
-/// A list of half of each number, in order, or `None` where memory fails.
+/// Returns a list of half of each number, rounded down, in order. Returns `None` if there is no
+/// room for the list.
 pub fn halves<A: Allocator>(alloc: A, numbers: &[u32]) -> Option<ThinVec<u32, A>>
     ensures succeeds_empty { length numbers.now ≡ 0 → IsSome result }
     ensures items { IfSome result (λ list. list.items ≡ map (λ number. number / 2) numbers.now) }
@@ -16,8 +18,8 @@ pub fn halves<A: Allocator>(alloc: A, numbers: &[u32]) -> Option<ThinVec<u32, A>
     }
 }
 
-/// Appends the numbers that are below `limit`, in order, and returns whether all went in. The old
-/// items stay in any case.
+/// Appends the numbers that are less than `limit`, in order, and returns whether all of them were
+/// appended. The list keeps its old items in any case.
 pub fn extend_below<A: Allocator, G: Growth>(
     list: &mut ThinVec<u32, A, G>,
     numbers: &[u32],
@@ -36,8 +38,12 @@ pub fn extend_below<A: Allocator, G: Growth>(
     }
 }
 
-/// Room for eight numbers. So little is no overflow, as a lemma says: the only cause is that the
-/// allocator failed.
+/// Makes a list with room for eight numbers.
+///
+/// # Errors
+///
+/// Fails only if the allocator does. By the lemma `few_items`, so few numbers cannot overflow the
+/// capacity.
 #[tactic(auto, using(thin_vec::proofs::FewLemmas::few_items))]
 pub fn room_for_eight<A: Allocator>(alloc: A) -> Result<ThinVec<u64, A>, ThinVecError>
     ensures capacity { IfOk result (λ list. list.capacity ≡ 8) }
@@ -46,7 +52,12 @@ pub fn room_for_eight<A: Allocator>(alloc: A) -> Result<ThinVec<u64, A>, ThinVec
     ThinVec::with_capacity(alloc, 8)
 }
 
-/// Makes room for eight more after fewer than a thousand. So few are no overflow either.
+/// Reserves room for eight more numbers in a list of fewer than a thousand.
+///
+/// # Errors
+///
+/// Fails only if the allocator does, and then nothing changes. By the lemma `few_more`, so few
+/// numbers cannot overflow the capacity.
 #[tactic(auto, using(thin_vec::proofs::FewLemmas::few_more))]
 pub fn reserve_eight<A: Allocator>(list: &mut ThinVec<u64, A>) -> Result<(), ThinVecError>
     requires few { length list.old.items < 1000 }
@@ -57,7 +68,11 @@ pub fn reserve_eight<A: Allocator>(list: &mut ThinVec<u64, A>) -> Result<(), Thi
     list.reserve(8)
 }
 
-/// A list of the numbers of both slices, in order.
+/// Makes a list of the numbers of `first`, followed by the numbers of `second`.
+///
+/// # Errors
+///
+/// Fails if there is no room for the numbers.
 pub fn joined<A: Allocator>(
     alloc: A,
     first: &[u32],
@@ -71,7 +86,11 @@ pub fn joined<A: Allocator>(
     Ok(list)
 }
 
-/// A copy of the list on `alloc`, and after it the numbers `more`.
+/// Makes a copy of `list` with the allocator `alloc`, and appends the numbers `more` to the copy.
+///
+/// # Errors
+///
+/// Fails if there is no room for the copy.
 pub fn continued<A: Allocator, G: Growth>(
     list: &ThinVec<u32, A, G>,
     alloc: A,
@@ -85,8 +104,8 @@ pub fn continued<A: Allocator, G: Growth>(
     Ok(copy)
 }
 
-/// Appends the numbers, and returns how many went in after the old items: all, or those before the
-/// one that failed.
+/// Appends the numbers, and returns how many were appended: all of them, or those before the first
+/// one for which there was no room. The list keeps its old items.
 pub fn extend_by_number<A: Allocator, G: Growth>(
     list: &mut ThinVec<u32, A, G>,
     numbers: &[u32],
@@ -104,8 +123,12 @@ pub fn extend_by_number<A: Allocator, G: Growth>(
     }
 }
 
-/// Makes the text `len` bytes long, by spaces after it. Where it fails, it is as it was, and so is
-/// its capacity.
+/// Makes the text `len` bytes long: appends spaces to a shorter text, and removes the last bytes of
+/// a longer one.
+///
+/// # Errors
+///
+/// Fails if there is no room for the spaces. Then neither the text nor its capacity changes.
 pub fn pad<A: Allocator, G: Growth>(
     text: &mut ThinVec<u8, A, G>,
     len: usize,
@@ -119,7 +142,11 @@ pub fn pad<A: Allocator, G: Growth>(
     Ok(())
 }
 
-/// Appends a line. Where it fails, the text is as it was.
+/// Appends the bytes of `line`.
+///
+/// # Errors
+///
+/// Fails if there is no room for the line. Then neither the text nor its capacity changes.
 pub fn append_line<A: Allocator, G: Growth>(
     text: &mut ThinVec<u8, A, G>,
     line: &[u8],
@@ -133,8 +160,12 @@ pub fn append_line<A: Allocator, G: Growth>(
     Ok(())
 }
 
-/// Takes all items of `other`. Where it has none, no memory is asked for. Where it fails, both are
-/// as they were.
+/// Moves all items of `other` to the end of `list`. If `other` is empty, no memory is requested.
+///
+/// # Errors
+///
+/// Fails with `CapacityOverflow` if the growth rule chooses no capacity for the items, and with
+/// `OutOfMemory` if the allocator fails. Then neither list changes.
 pub fn take_all<T, A: Allocator, G: Growth>(
     list: &mut ThinVec<T, A, G>,
     other: &mut ThinVec<T, A, G>,
@@ -153,7 +184,7 @@ pub fn take_all<T, A: Allocator, G: Growth>(
     list.append(other)
 }
 
-/// The first number, and what is left of it once `less` is taken off, written back.
+/// Subtracts `less` from the first number, and returns the number as it was before.
 pub fn lower_first<A: Allocator, G: Growth>(list: &mut ThinVec<u32, A, G>, less: u32) -> u32
     requires some { 0 < length list.old.items }
     requires enough { less ≤ slice_index list.old.items 0 }

@@ -1,11 +1,16 @@
-//! Items that go into another list one by one, in loops.
+//! Callers that append items to a list one by one, in a loop, after reserving room for them.
 ghost use Rattle.std.specs.Prelude.{◌≡◌, ◌-◌, ◌*◌, ◌%◌, ◌==◌, ◌≤◌, ◌++◌, IsOk, OnErr, OnOk, drop, filter, length, map, not, slice_range, take};
 ghost use Rattle.thin_vec.specs.ThinVec.{HasRoomFor};
 
 use std::alloc::Allocator;
 use thin_vec::{Growth, ThinVec, ThinVecError};
 
-/// Moves the items from `start` up to `end` after those of `other`, or moves none.
+/// Moves the items from `start` up to, but not including, `end` to the end of `other`, or moves
+/// none.
+///
+/// # Errors
+///
+/// Fails if `other` cannot reserve room for the items. Then neither list changes.
 pub fn hand_over<T: Drop, A: Allocator, G: Growth>(
     list: &mut ThinVec<T, A, G>,
     start: usize,
@@ -29,7 +34,11 @@ pub fn hand_over<T: Drop, A: Allocator, G: Growth>(
     Ok(())
 }
 
-/// The same with a step at a time.
+/// Does the same as `hand_over`, with explicit calls of `next`.
+///
+/// # Errors
+///
+/// Fails if `other` cannot reserve room for the items. Then neither list changes.
 pub fn hand_over_stepwise<T: Drop, A: Allocator, G: Growth>(
     list: &mut ThinVec<T, A, G>,
     start: usize,
@@ -54,7 +63,12 @@ pub fn hand_over_stepwise<T: Drop, A: Allocator, G: Growth>(
     Ok(())
 }
 
-/// Moves the odd numbers after those of `other`, or moves none.
+/// Moves the odd numbers of `list` to the end of `other`, or moves none.
+///
+/// # Errors
+///
+/// Fails if `other` cannot reserve room for as many numbers as `list` has. Then neither list
+/// changes.
 pub fn hand_over_odd<A: Allocator, G: Growth>(
     list: &mut ThinVec<u32, A, G>,
     other: &mut ThinVec<u32, A, G>,
@@ -76,7 +90,11 @@ pub fn hand_over_odd<A: Allocator, G: Growth>(
     Ok(())
 }
 
-/// Appends twice each number, or nothing: memory is asked for once.
+/// Appends twice each number, or appends nothing. It requests memory at most once.
+///
+/// # Errors
+///
+/// Fails if the list cannot reserve room for the numbers. Then the list does not change.
 pub fn append_doubled<A: Allocator, G: Growth>(
     list: &mut ThinVec<u64, A, G>,
     numbers: &[u32],

@@ -1,4 +1,4 @@
-//! Sums of indices, writes at indices, and an item that comes and goes.
+//! Callers that add to indices, access items by index, and insert and remove an item.
 ghost use Rattle.std.specs.List.{swap};
 ghost use Rattle.std.specs.Prelude.{◌≡◌, ◌+◌, ◌<◌, ◌≤◌, IfOk, length, replicate, slice_index};
 ghost use Rattle.thin_vec.specs.ThinVec.{IsWithin};
@@ -6,8 +6,9 @@ ghost use Rattle.thin_vec.specs.ThinVec.{IsWithin};
 use std::alloc::Allocator;
 use thin_vec::{Growth, Rejected, ThinVec};
 
-/// The index after `count` items from `start` on. The sum can't overflow: no length is past
-/// `isize::MAX`, which `within` says, a clause that each call of the list gives its caller.
+/// Returns the index after the `count` items that begin at `start`. The sum cannot overflow,
+/// because no length exceeds `isize::MAX`. The precondition `within` says so; every method of the
+/// list has a clause `within` that ensures it.
 pub fn run_end<T, A: Allocator, G: Growth>(
     list: &ThinVec<T, A, G>,
     start: usize,
@@ -20,8 +21,8 @@ pub fn run_end<T, A: Allocator, G: Growth>(
     start + count
 }
 
-/// An item and the one after it. The index of the second can't overflow, since `list[index]` says
-/// `within` too.
+/// Returns the item at `index` and the item after it. The index of the second item cannot overflow,
+/// because reading `list[index]` also ensures the clause `within`.
 pub fn neighbours<A: Allocator, G: Growth>(list: &ThinVec<u32, A, G>, index: usize) -> (u32, u32)
     requires in_bounds { index + 1 < length list.now.items }
     ensures first { result.0 ≡ slice_index list.now.items index }
@@ -30,7 +31,7 @@ pub fn neighbours<A: Allocator, G: Growth>(list: &ThinVec<u32, A, G>, index: usi
     (list[index], list[index + 1])
 }
 
-/// Exchanges two items.
+/// Exchanges the items at the indices `first` and `second`.
 pub fn exchange<T, A: Allocator, G: Growth>(
     list: &mut ThinVec<T, A, G>,
     first: usize,
@@ -45,7 +46,7 @@ pub fn exchange<T, A: Allocator, G: Growth>(
     list.as_mut_slice().swap(first, second);
 }
 
-/// Writes 0 in the place of each number.
+/// Overwrites each number with 0.
 pub fn set_to_zero<A: Allocator, G: Growth>(list: &mut ThinVec<u32, A, G>)
     ensures items { list.new.items ≡ replicate (length list.old.items) 0 }
     ensures capacity { list.new.capacity ≡ list.old.capacity }
@@ -54,7 +55,12 @@ pub fn set_to_zero<A: Allocator, G: Growth>(list: &mut ThinVec<u32, A, G>)
     list.as_mut_slice().fill(0);
 }
 
-/// Puts `value` at `index`, and takes it out again: the items are as before. A lemma says so.
+/// Inserts `value` at `index`, removes it again, and returns it. By the lemma `undone`, the items
+/// are then as before.
+///
+/// # Errors
+///
+/// Fails if there is no room for `value`. The error holds `value`, and the items are as before.
 #[tactic(auto, using(thin_vec::proofs::UndoLemmas::undone))]
 pub fn insert_and_remove<T: Drop, A: Allocator, G: Growth>(
     list: &mut ThinVec<T, A, G>,

@@ -1,4 +1,4 @@
-//! Numbers that are the same where they end in the same decimal digit.
+//! Numbers that are equal if their last decimal digits are equal.
 ghost use Rattle.std.proofs.Common.{rules};
 ghost use Rattle.std.specs.Cmp.{partial_order_from_own_ties};
 ghost use Rattle.std.specs.Cmp.Rules.{comparing, hashing};
@@ -9,7 +9,7 @@ ghost use Rattle.std.specs.Prelude.{◌%◌, ◌≡◌, ◌==◌};
 use std::cmp::Ordering;
 use std::hash::{Hash, Hasher};
 
-/// A number of which only the last decimal digit is compared.
+/// A number that is compared and hashed by its last decimal digit alone.
 #[derive(Clone, Copy, Debug)]
 pub struct LastDigit {
     pub number: u32,
@@ -18,7 +18,7 @@ pub struct LastDigit {
 impl LastDigit {
     ghost use Rattle.thin_examples.specs.LastDigits.{last_digit};
 
-    /// The last decimal digit.
+    /// Returns the last decimal digit of the number.
     pub fn digit(&self) -> u32
         ensures value { result ≡ last_digit self.now }
     {

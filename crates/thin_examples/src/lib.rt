@@ -1,5 +1,6 @@
-//! Callers to copy from, a file each, and the worked rows: functions that compare what the calls
-//! give with figures worked out by hand. The program that runs the rows is `thin_bench`.
+//! Examples of callers, for you to copy, with one file for each subject; and the worked rows:
+//! functions that compare the results of calls with values that were worked out by hand. The
+//! program `thin_bench` runs the rows.
 #![tactic(auto)]
 
 pub mod checks;

@@ -1,14 +1,19 @@
-//! A range that moves from one list into another, and both lists afterwards.
+//! A caller that moves a range of one list to another, and promises the items of both lists.
 ghost use Rattle.std.specs.Prelude.{◌≡◌, ◌-◌, ◌≤◌, ◌++◌, IsOk, OnErr, OnOk, drop, length, slice_range, take};
 ghost use Rattle.thin_vec.specs.ThinVec.{HasRoomFor};
 
 use std::alloc::{AllocError, Allocator};
 use thin_vec::{Growth, ThinVec};
 
-/// Moves the numbers from `start` up to `end` after those of `other`, or moves none.
+/// Moves the numbers from `start` up to, but not including, `end` to the end of `other`, or moves
+/// none.
 ///
-/// The `Drain` stays here, and only its numbers go into the call: of one that another call uses up
-/// no contract says what it leaves.
+/// The function keeps the `Drain`, and passes only the slice of its numbers to `other`. If it
+/// passed the `Drain` itself, no contract would say which items `list` has afterwards.
+///
+/// # Errors
+///
+/// Fails if `other` cannot reserve room for the numbers. Then neither list changes.
 pub fn move_range<A: Allocator, G: Growth>(
     list: &mut ThinVec<u32, A, G>,
     start: usize,

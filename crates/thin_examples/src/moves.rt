@@ -5,7 +5,12 @@ use std::alloc::{AllocError, Allocator};
 use std::iter::once;
 use thin_vec::{Growth, ThinVec, thin_vec};
 
-/// Inserts after the first of three items: the new one moves, and the two after it.
+/// Inserts `value` after the first of three items. This makes three moves: `value` and the two
+/// items after it.
+///
+/// # Errors
+///
+/// Fails if there is no room for `value`, which is then dropped.
 pub fn inserted_second<T: Drop, A: Allocator, G: Growth>(
     list: &mut ThinVec<T, A, G>,
     value: T,
@@ -18,7 +23,7 @@ pub fn inserted_second<T: Drop, A: Allocator, G: Growth>(
     Ok(())
 }
 
-/// Removes the first of five items: the four after it move.
+/// Removes and returns the first of five items. This moves the four items after it.
 pub fn removed_first<T, A: Allocator, G: Growth>(list: &mut ThinVec<T, A, G>) -> T
     requires five { length list.old.items ≡ 5 }
     ensures items { list.new.items ≡ remove list.old.items 0 }
@@ -27,7 +32,8 @@ pub fn removed_first<T, A: Allocator, G: Growth>(list: &mut ThinVec<T, A, G>) ->
     list.remove(0)
 }
 
-/// Takes four of six items out, two of them step by step: the last one moves, and no other.
+/// Drains four of six items, two of them by calls of `next` and `next_back`. This moves the last
+/// item, and no other.
 pub fn drained_middle<T: Drop, A: Allocator, G: Growth>(list: &mut ThinVec<T, A, G>)
     requires six { length list.old.items ≡ 6 }
     ensures one_move { list.new.cost.moves ≡ list.old.cost.moves + 1 }
@@ -39,7 +45,7 @@ pub fn drained_middle<T: Drop, A: Allocator, G: Growth>(list: &mut ThinVec<T, A,
     drop(drain);
 }
 
-/// Takes no item out after the last of six: nothing moves.
+/// Drains the empty range at the end of six items. This moves no item.
 pub fn drained_at_end<T: Drop, A: Allocator, G: Growth>(list: &mut ThinVec<T, A, G>)
     requires six { length list.old.items ≡ 6 }
     ensures items { list.new.items ≡ list.old.items }
@@ -48,7 +54,7 @@ pub fn drained_at_end<T: Drop, A: Allocator, G: Growth>(list: &mut ThinVec<T, A,
     drop(list.drain(6, 6));
 }
 
-/// Keeps all items: nothing moves.
+/// Keeps all items, by `retain` with a closure that always returns true. This moves no item.
 pub fn kept_all<T: Drop, A: Allocator, G: Growth>(list: &mut ThinVec<T, A, G>)
     ensures items { list.new.items ≡ list.old.items }
     ensures no_move { list.new.cost ≡ list.old.cost }
@@ -56,8 +62,8 @@ pub fn kept_all<T: Drop, A: Allocator, G: Growth>(list: &mut ThinVec<T, A, G>)
     list.retain(|_item: &T| true);
 }
 
-/// Takes the first even one of the items from 2 to 5 out, and asks about no other: the four after
-/// it move.
+/// Extracts the first even number among the items at the indices 1 to 4, and tests no item after
+/// it. This moves the four items after the extracted one.
 pub fn extracted_first<A: Allocator, G: Growth>(list: &mut ThinVec<u32, A, G>) -> Option<u32>
     requires to_six { list.old.items ≡ 1 ∷ 2 ∷ 3 ∷ 4 ∷ 5 ∷ 6 ∷ [] }
     ensures value { result ≡ Some 2 }
@@ -69,8 +75,12 @@ pub fn extracted_first<A: Allocator, G: Growth>(list: &mut ThinVec<u32, A, G>) -
         .next()
 }
 
-/// Puts three items in the place of two, with one after them: at most five moves, one for each
-/// that comes in, and two for the one after.
+/// Replaces two items, with one item after them, with three. This makes at most five moves: one for
+/// each new item, and two for the item after them.
+///
+/// # Errors
+///
+/// Fails if there is no room for the new items.
 pub fn spliced_middle<A: Allocator + Copy, G: Growth>(
     list: &mut ThinVec<u32, A, G>,
     alloc: A,
@@ -85,8 +95,12 @@ pub fn spliced_middle<A: Allocator + Copy, G: Growth>(
     Ok(())
 }
 
-/// A new list, filled and edited: six items come in after, one between others, and five go out
-/// again. Two stay, after at most 14 moves.
+/// Makes a list and edits it: appends six items, replaces two of them with one, extracts two, and
+/// pops one. Two items are left, after at most 14 moves.
+///
+/// # Errors
+///
+/// Fails if there is no room for the items.
 pub fn edited<A: Allocator + Copy>(alloc: A) -> Result<ThinVec<u32, A>, AllocError>
     ensures len { IfOk result (λ list. length list.items ≡ 2) }
     ensures moves { IfOk result (λ list. list.cost.moves ≤ 14) }
@@ -100,7 +114,8 @@ pub fn edited<A: Allocator + Copy>(alloc: A) -> Result<ThinVec<u32, A>, AllocErr
     Ok(list)
 }
 
-// Puts 9 in the place of 2 and 3: one move for it, and at most two for each of the three after.
+// Replaces 2 and 3 with 9. This makes at most seven moves: one for 9, and two for each of the three
+// items after it.
 fn nine_for_two<A: Allocator>(list: &mut ThinVec<u32, A>, alloc: A) -> Result<(), AllocError>
     requires to_six { list.old.items ≡ 1 ∷ 2 ∷ 3 ∷ 4 ∷ 5 ∷ 6 ∷ [] }
     ensures items { OnOk result (list.new.items ≡ 1 ∷ 9 ∷ 4 ∷ 5 ∷ 6 ∷ []) }
@@ -110,7 +125,7 @@ fn nine_for_two<A: Allocator>(list: &mut ThinVec<u32, A>, alloc: A) -> Result<()
     Ok(())
 }
 
-// Takes 4 and 6 out: 5 moves, and no other.
+// Extracts 4 and 6. This moves the number 5, and no other.
 fn even_out<A: Allocator>(list: &mut ThinVec<u32, A>)
     requires five { list.old.items ≡ 1 ∷ 9 ∷ 4 ∷ 5 ∷ 6 ∷ [] }
     ensures items { list.new.items ≡ 1 ∷ 9 ∷ 5 ∷ [] }

@@ -1,4 +1,4 @@
-//! `?` in functions that return an error type of their own.
+//! Callers that use `?` and return an error type of their own.
 ghost use Rattle.std.specs.Prelude.{◌≡◌, ◌↔◌, [], ◌∷◌, ◌++◌, ◌<◌, IsErrOf, IsOk, OnErr, OnOk, length};
 ghost use Rattle.thin_vec.specs.ThinVec.{HasRoomFor};
 
@@ -6,13 +6,13 @@ use std::alloc::Allocator;
 use thin_vec::{Growth, Rejected, ThinVec, ThinVecError};
 use thiserror::Error;
 
-/// Why an order was not taken.
+/// Says why an order was not taken.
 #[derive(Debug, Drop, Error)]
 pub enum OrderError {
-    /// It is for no piece.
+    /// The order is for zero pieces.
     #[error("an order for no piece")]
     NoPiece,
-    /// The list of orders has no room for it, and gets none.
+    /// The list of orders has no room for the order, and cannot get more.
     #[error("no room for the order: {0}")]
     NoRoom(#[from] ThinVecError),
 }
@@ -28,7 +28,12 @@ impl<S: Drop> From<Rejected<S>> for OrderError {
     }
 }
 
-/// Appends an order for so many pieces.
+/// Appends an order for `pieces` pieces.
+///
+/// # Errors
+///
+/// Returns `NoPiece` if `pieces` is 0, and `NoRoom` if there is no room for the order. Then the
+/// orders do not change.
 pub fn take_order<A: Allocator, G: Growth>(
     orders: &mut ThinVec<u32, A, G>,
     pieces: u32,
@@ -45,7 +50,11 @@ pub fn take_order<A: Allocator, G: Growth>(
     Ok(())
 }
 
-/// Appends the orders of another list, or none of them.
+/// Moves all orders of `other` to the end of `orders`, or moves none.
+///
+/// # Errors
+///
+/// Returns `NoRoom` if there is no room for them. Then neither list changes.
 pub fn take_orders<A: Allocator, G: Growth>(
     orders: &mut ThinVec<u32, A, G>,
     other: &mut ThinVec<u32, A, G>,

@@ -1,11 +1,12 @@
-//! A push that fails returns its value.
+//! A caller of `push` that returns the value if the push fails.
 ghost use Rattle.std.specs.Prelude.{◌≡◌, [], ◌∷◌, ◌++◌, IfNone, IfSome, IsNone, OnSome};
 ghost use Rattle.thin_vec.specs.ThinVec.{HasRoomFor};
 
 use std::alloc::Allocator;
 use thin_vec::{Growth, ThinVec};
 
-/// Appends `value`, or returns it where the push fails: no value is lost.
+/// Appends `value` and returns `None`. If the push fails, returns `value`, and the list does not
+/// change. So no value is lost.
 pub fn push_or_return<T: Drop, A: Allocator, G: Growth>(
     list: &mut ThinVec<T, A, G>,
     value: T,

@@ -1,4 +1,5 @@
-//! Ranges that give way to other items, all or nothing.
+//! Callers that replace a range of a list with other items. On failure, the list keeps its old
+//! items.
 ghost use Rattle.std.specs.List.{replace_range};
 ghost use Rattle.std.specs.Prelude.{◌≡◌, ◌-◌, ◌≤◌, [], IsOk, OnErr, OnOk, length};
 ghost use Rattle.thin_vec.specs.Edits.ReplaceRange.{ReplacesByClones};
@@ -7,7 +8,11 @@ ghost use Rattle.thin_vec.specs.ThinVec.{HasRoomFor};
 use std::alloc::Allocator;
 use thin_vec::{Growth, ThinVec, ThinVecError};
 
-/// Writes `word` in the place of the bytes from `start` up to `end`, or changes nothing.
+/// Replaces the bytes from `start` up to, but not including, `end` with `word`.
+///
+/// # Errors
+///
+/// Fails if there is no room for `word`. Then nothing changes.
 pub fn replace_word<A: Allocator, G: Growth>(
     text: &mut ThinVec<u8, A, G>,
     start: usize,
@@ -23,8 +28,8 @@ pub fn replace_word<A: Allocator, G: Growth>(
     text.replace_range_from_copies(start, end, word)
 }
 
-/// Writes `word`, which is no longer than the range from `start` up to `end`, in its place. It
-/// can't fail.
+/// Replaces the bytes from `start` up to, but not including, `end` with `word`. The call cannot
+/// fail, because the precondition `shorter` says that `word` is no longer than this range.
 pub fn shorten_to<A: Allocator, G: Growth>(
     text: &mut ThinVec<u8, A, G>,
     start: usize,
@@ -40,7 +45,12 @@ pub fn shorten_to<A: Allocator, G: Growth>(
     text.replace_range_from_copies(start, end, word).unwrap()
 }
 
-/// Moves the lines of `newer` to the place of those from `start` up to `end`, or moves none.
+/// Replaces the lines from `start` up to, but not including, `end` with the lines of `newer`, which
+/// is empty afterwards. The replaced lines are dropped.
+///
+/// # Errors
+///
+/// Fails if there is no room for the lines of `newer`. Then neither list changes.
 pub fn replace_lines<T: Drop, A: Allocator, G: Growth>(
     lines: &mut ThinVec<T, A, G>,
     start: usize,
@@ -58,7 +68,12 @@ pub fn replace_lines<T: Drop, A: Allocator, G: Growth>(
     lines.replace_range_from_list(start, end, newer)
 }
 
-/// Puts clones of `names` before the name at `at`. When it fails, the old names stay.
+/// Inserts clones of `names` before the name at index `at`, or at the end if `at` is the length.
+///
+/// # Errors
+///
+/// Fails if there is no room for the clones, or if a clone fails. Then the list keeps its old
+/// names, but its capacity may have grown.
 pub fn insert_names<T: Clone, A: Allocator, G: Growth>(
     list: &mut ThinVec<T, A, G>,
     at: usize,

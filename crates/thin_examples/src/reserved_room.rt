@@ -1,11 +1,17 @@
-//! Two pushes into reserved room, which can't fail.
+//! A caller that reserves room for two items. The two pushes after that cannot fail.
 ghost use Rattle.std.specs.Prelude.{◌≡◌, ◌++◌, [], ◌∷◌, IfErr, IsErrOf, IsOk, None, OnErr, OnOk};
 ghost use Rattle.thin_vec.specs.ThinVec.{HasRoomFor, IsCause, capacity_for};
 
 use std::alloc::Allocator;
 use thin_vec::{Growth, ThinVec, ThinVecError};
 
-/// Appends both items, or neither. Memory is asked for once: no push into reserved room fails.
+/// Appends `first` and `second`, or neither. It requests memory at most once, because a push into
+/// reserved room requests none.
+///
+/// # Errors
+///
+/// Fails with `CapacityOverflow` if the growth rule chooses no capacity for both items, and with
+/// `OutOfMemory` if the allocator fails. Then the list does not change, and both items are dropped.
 pub fn push_both<T: Drop, A: Allocator, G: Growth>(
     list: &mut ThinVec<T, A, G>,
     first: T,

@@ -1,4 +1,5 @@
-//! The worked rows: a function each, which does what the row says and compares.
+//! The worked rows. Each is a function that makes calls, and compares their results with values
+//! that were worked out by hand. It returns an error only if a call fails unexpectedly.
 ghost use Rattle.std.specs.Prelude.{◌≡◌, IfOk};
 
 mod bulk;
@@ -23,16 +24,20 @@ use crate::rows::splices::{row_10, row_11, row_22, row_32};
 use std::alloc::Allocator;
 use thin_vec::{ThinVec, ThinVecError};
 
-/// The rows that the program runs, by number.
+/// The numbers of the rows that the program runs.
 pub const ROWS: [u32; 35] = [
     1, 2, 3, 4, 5, 6, 7, 8, 9, 10, 11, 13, 14, 15, 17, 18, 19, 20, 21, 22, 23, 24, 25, 27, 28, 29,
     30, 31, 32, 33, 34, 35, 36, 40, 41,
 ];
 
-/// What a row compared, or why a call of it failed that is not to.
+/// The comparisons that a row has made, or the cause of an unexpected failure of one of its calls.
 pub type Outcome = Result<Checks, ThinVecError>;
 
-/// Does the row of that number. Where there is none, nothing is compared.
+/// Runs the row with the number `number`. If there is no such row, nothing is compared.
+///
+/// # Errors
+///
+/// Fails if a call of the row fails unexpectedly.
 pub fn row<A: Allocator + Copy>(alloc: A, number: u32) -> Outcome {
     match number {
         1 => row_1(alloc),
@@ -74,7 +79,7 @@ pub fn row<A: Allocator + Copy>(alloc: A, number: u32) -> Outcome {
     }
 }
 
-// A list of these items, without room to spare.
+// Makes a list of `items`, without spare capacity.
 fn listed<T: Drop, A: Allocator, const N: usize>(
     alloc: A,
     items: [T; N],

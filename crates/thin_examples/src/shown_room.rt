@@ -1,11 +1,15 @@
-//! Several items go into room that was shown to be there, in calls that can't fail.
+//! Callers that reserve room for several items, and then append them by calls that cannot fail.
 ghost use Rattle.std.specs.Prelude.{◌≡◌, ◌+◌, ◌<◌, ◌++◌, [], ◌∷◌, IsOk, OnErr, OnOk, length};
 ghost use Rattle.thin_vec.specs.ThinVec.{HasRoomFor};
 
 use std::alloc::Allocator;
 use thin_vec::{Growth, ThinVec, ThinVecError};
 
-/// Appends a line of text and its end, or nothing: memory is asked for once.
+/// Appends `line` and a newline, or appends nothing. It requests memory at most once.
+///
+/// # Errors
+///
+/// Fails if there is no room for the bytes. Then the text does not change.
 pub fn append_line<A: Allocator, G: Growth>(
     text: &mut ThinVec<u8, A, G>,
     line: &[u8],
@@ -21,7 +25,11 @@ pub fn append_line<A: Allocator, G: Growth>(
     Ok(())
 }
 
-/// Moves the items of both lists after those of `list`, or of neither.
+/// Moves all items of `first`, and then all items of `second`, to the end of `list`, or moves none.
+///
+/// # Errors
+///
+/// Fails if there is no room for the items of both lists. Then none of the three lists changes.
 pub fn append_both<T, A: Allocator, G: Growth>(
     list: &mut ThinVec<T, A, G>,
     first: &mut ThinVec<T, A, G>,

@@ -1,5 +1,5 @@
-//! Counts in a sparse table: a count that is 0 has no entry, and a row without counts owns no
-//! block.
+//! Counts in a sparse table. A place without an entry has the count 0, and a row without entries
+//! owns no block.
 ghost use Rattle.std.specs.FinMap as columns;
 ghost use Rattle.std.specs.Option.{unwrap_or};
 ghost use Rattle.std.specs.Prelude.{◌≡◌, ◌↔◌, ◌+◌, ◌-◌, ◌^◌, ◌<◌, ◌/◌, IfErr, IfOk, IfSome, IsNone, IsOk, IsSome, IsTrue, OnErr, OnOk, Some, length, min, replicate};
@@ -9,8 +9,12 @@ use std::alloc::{AllocError, Allocator, Global};
 use thin_rows::Rows;
 use thin_vec::ThinVecError;
 
-/// A table for each day of the week. So few rows are no overflow, as a lemma says: the only cause
-/// is that the allocator failed.
+/// Makes a table with a row for each day of the week, and without counts.
+///
+/// # Errors
+///
+/// Fails only if the allocator does. By the lemma `few_items`, so few rows cannot overflow the
+/// capacity.
 #[tactic(auto, using(thin_vec::proofs::FewLemmas::few_items))]
 pub fn for_a_week(alloc: Global) -> Result<Rows<u32>, ThinVecError>
     ensures table { IfOk result (λ counts. counts ≡ replicate 7 columns.empty) }
@@ -19,7 +23,12 @@ pub fn for_a_week(alloc: Global) -> Result<Rows<u32>, ThinVecError>
     Rows::with_rows(alloc, 7)
 }
 
-/// Adds to the count at a row and a column. A count that would be past `u32::MAX` is `u32::MAX`.
+/// Adds `more` to the count at `row` and `column`. If the sum exceeds `u32::MAX`, the count becomes
+/// `u32::MAX`.
+///
+/// # Errors
+///
+/// Fails if there is no room for a new entry. Then the table does not change.
 pub fn add<A: Allocator>(
     counts: &mut Rows<u32, A>,
     row: usize,
@@ -38,8 +47,12 @@ pub fn add<A: Allocator>(
     Ok(())
 }
 
-/// Sets the count at a row and a column, and returns the count that is read there afterwards. A lemma
-/// for callers says that they are the same.
+/// Sets the count at `row` and `column`, and returns the count that is then read there. By the
+/// lemma `written`, both counts are equal.
+///
+/// # Errors
+///
+/// Fails if there is no room for a new entry. Then the table does not change.
 #[tactic(auto, using(thin_rows::proofs::TableLemmas::written))]
 pub fn set_and_read<A: Allocator>(
     counts: &mut Rows<u32, A>,
@@ -55,7 +68,7 @@ pub fn set_and_read<A: Allocator>(
     Ok(counts.get(row, column).copied())
 }
 
-/// Takes the count at a row and a column out of the table.
+/// Removes the count at `row` and `column`, and returns it. Returns 0 if there is no count.
 pub fn take<A: Allocator>(counts: &mut Rows<u32, A>, row: usize, column: usize) -> u32
     requires in_bounds { row < length counts.old }
     ensures value { result ≡ unwrap_or (value_at counts.old row column) 0 }
@@ -64,7 +77,7 @@ pub fn take<A: Allocator>(counts: &mut Rows<u32, A>, row: usize, column: usize) 
     counts.remove(row, column).unwrap_or(0)
 }
 
-/// Halves the count at a row and a column, if there is one. It takes no memory.
+/// Halves the count at `row` and `column`, rounded down, if there is one. It requests no memory.
 pub fn halve<A: Allocator>(counts: &mut Rows<u32, A>, row: usize, column: usize)
     requires in_bounds { row < length counts.old }
     ensures none { IsNone (value_at counts.old row column) → counts.new ≡ counts.old }
@@ -76,7 +89,7 @@ pub fn halve<A: Allocator>(counts: &mut Rows<u32, A>, row: usize, column: usize)
     }
 }
 
-/// Whether nothing was counted in a row.
+/// Returns whether `row` has no entries.
 pub fn is_row_empty<A: Allocator>(counts: &Rows<u32, A>, row: usize) -> bool
     requires in_bounds { row < length counts.now }
     ensures value { IsTrue result ↔ (columns.len (row_of counts.now row) ≡ 0) }

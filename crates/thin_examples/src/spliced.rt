@@ -1,4 +1,4 @@
-//! A range that gives way to what an iterator yields.
+//! Callers that replace a range of a list with the items of an iterator.
 ghost use Rattle.std.specs.Iterator.Runs.{WholeRun};
 ghost use Rattle.std.specs.Iterator.{IsFinite};
 ghost use Rattle.std.specs.Prelude.{◌≡◌, ◌≤◌, ◌++◌, OnOk, drop, length, take};
@@ -6,11 +6,16 @@ ghost use Rattle.std.specs.Prelude.{◌≡◌, ◌≤◌, ◌++◌, OnOk, drop, 
 use std::alloc::{AllocError, Allocator};
 use thin_vec::{Growth, SpliceRefused, ThinVec};
 
-/// Puts what `iter` yields in the place of the items from `range.0` up to `range.1`. When it fails,
-/// what found no room is in the error.
+/// Replaces the items from index `range.0` up to, but not including, `range.1` with the items that
+/// `iter` yields.
 ///
-/// A splice by an iterator that borrows, as that over a slice, is proved in a function like this
-/// one, which is generic in it.
+/// If an iterator borrows, as an iterator over a slice does, its splice is proved in a function
+/// like this one, which is generic in the iterator.
+///
+/// # Errors
+///
+/// Fails if there is no room for the items. The error holds the items that were not inserted, and
+/// the rest of the iterator.
 pub fn splice_by<T: Drop, A: Allocator, G: Growth, I: Iterator<Item = T>>(
     list: &mut ThinVec<T, A, G>,
     range: (usize, usize),
@@ -28,8 +33,12 @@ pub fn splice_by<T: Drop, A: Allocator, G: Growth, I: Iterator<Item = T>>(
     list.splice(range.0, range.1, iter).finish(alloc)
 }
 
-/// Puts the numbers in the place of the items from `start` up to `end`. When it fails, those that
-/// found no room are dropped.
+/// Replaces the items from `start` up to, but not including, `end` with `numbers`.
+///
+/// # Errors
+///
+/// Fails if there is no room for the numbers. Then the list has those numbers for which there was
+/// room, in the place of the range, and the others are dropped.
 pub fn splice_numbers<A: Allocator, G: Growth>(
     list: &mut ThinVec<u32, A, G>,
     start: usize,

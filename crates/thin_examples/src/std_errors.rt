@@ -1,5 +1,5 @@
-//! The list where std's traits and errors are asked for: `collect`, and `?` in functions that
-//! return them.
+//! Callers that use std's traits and errors: `collect`, and `?` in functions that return
+//! `AllocError` or `io::Error`.
 ghost use Rattle.std.specs.Prelude.{◌≡◌, ◌+◌, ◌*◌, ◌++◌, [], ◌∷◌, IfErr, IfOk, IsOk, OnOk, length, map, take};
 ghost use Rattle.std.specs.IoError.{error_kind};
 ghost use Rattle.thin_vec.specs.ThinVec.{HasRoomFor};
@@ -9,7 +9,11 @@ use std::io;
 use std::io::ErrorKind;
 use thin_vec::{Growth, ThinVec};
 
-/// Twice each number, collected into a list on `alloc`.
+/// Collects twice each number into a list with the allocator `alloc`.
+///
+/// # Errors
+///
+/// Fails if there is no room for the numbers. Then there is no list.
 pub fn doubled<A: Allocator>(alloc: A, numbers: &[u32]) -> Result<ThinVec<u64, A>, AllocError>
     ensures items { IfOk result (λ list. list.items ≡ map (λ number. 2 * number) numbers.now) }
 {
@@ -19,8 +23,12 @@ pub fn doubled<A: Allocator>(alloc: A, numbers: &[u32]) -> Result<ThinVec<u64, A
         .collect(alloc)
 }
 
-/// Appends a line of text and its end. Where it fails, the old bytes stay, and the line may stand
-/// after them without its end.
+/// Appends `line` and a newline.
+///
+/// # Errors
+///
+/// Fails if there is no room for the bytes. Then the old bytes are kept, and `line` may have been
+/// appended without the newline.
 pub fn write_line<A: Allocator, G: Growth>(
     bytes: &mut ThinVec<u8, A, G>,
     line: &[u8],
@@ -35,7 +43,11 @@ pub fn write_line<A: Allocator, G: Growth>(
     Ok(())
 }
 
-/// The numbers of `list`, and then `more`. On failure what was placed is dropped with the rest.
+/// Appends the numbers `more` to `list`, and returns the list.
+///
+/// # Errors
+///
+/// Fails if there is no room for the numbers. Then the whole list is dropped.
 pub fn with_numbers<A: Allocator, G: Growth>(
     mut list: ThinVec<u32, A, G>,
     more: &[u32],

@@ -1,11 +1,16 @@
-//! Calls of std's `Vec` that this list has too, though the Rust crate lacks them.
+//! Callers of methods that std's `Vec` and `ThinVec` have, and the Rust crate does not.
 ghost use Rattle.std.specs.Prelude.{◌≡◌, ◌-◌, ◌≤◌, [], ◌∷◌, ◌++◌, IfNone, IfSome, IsOk, OnErr, OnOk, insert, length, max, slice_range};
 ghost use Rattle.thin_vec.specs.ThinVec.{HasRoomFor};
 
 use std::alloc::Allocator;
 use thin_vec::{Growth, ThinVec, ThinVecError};
 
-/// Gives the room back that is beyond `most` items, where no item takes it.
+/// Shrinks the capacity to `most`, or to the length if that is greater. If the capacity is not
+/// greater than that, nothing changes.
+///
+/// # Errors
+///
+/// Fails if the allocator does. Then nothing changes.
 pub fn trim<T, A: Allocator, G: Growth>(
     list: &mut ThinVec<T, A, G>,
     most: usize,
@@ -18,7 +23,7 @@ pub fn trim<T, A: Allocator, G: Growth>(
     list.shrink_to(most)
 }
 
-/// Takes the last number out, if it is even.
+/// Removes and returns the last number, if it is even.
 pub fn pop_even<A: Allocator, G: Growth>(list: &mut ThinVec<u32, A, G>) -> Option<u32>
     ensures popped { IfSome result (λ number. list.old.items ≡ list.new.items ++ number ∷ []) }
     ensures kept { IfNone result (list.new.items ≡ list.old.items) }
@@ -27,7 +32,12 @@ pub fn pop_even<A: Allocator, G: Growth>(list: &mut ThinVec<u32, A, G>) -> Optio
     list.pop_if(|number: &mut u32| *number % 2 == 0)
 }
 
-/// Makes the list `len` numbers long: each new one is 0.
+/// Makes the list `len` numbers long: appends zeros to a shorter list, and removes the last numbers
+/// of a longer one.
+///
+/// # Errors
+///
+/// Fails if there is no room for the zeros. Then nothing changes.
 pub fn set_length<A: Allocator, G: Growth>(
     list: &mut ThinVec<u32, A, G>,
     len: usize,
@@ -39,7 +49,11 @@ pub fn set_length<A: Allocator, G: Growth>(
     list.resize_with(len, || 0)
 }
 
-/// Appends a range of the numbers once more.
+/// Appends copies of the numbers from `start` up to, but not including, `end`.
+///
+/// # Errors
+///
+/// Fails if there is no room for the copies. Then nothing changes.
 pub fn repeat_range<A: Allocator, G: Growth>(
     list: &mut ThinVec<u32, A, G>,
     start: usize,
@@ -55,7 +69,11 @@ pub fn repeat_range<A: Allocator, G: Growth>(
     list.extend_from_within(start, end)
 }
 
-/// Appends a number that is set once it has its place.
+/// Appends 0, and overwrites it with `number` through the returned reference.
+///
+/// # Errors
+///
+/// Fails if there is no room for one more number. Then nothing changes.
 pub fn push_set<A: Allocator, G: Growth>(
     list: &mut ThinVec<u32, A, G>,
     number: u32,
@@ -69,7 +87,11 @@ pub fn push_set<A: Allocator, G: Growth>(
     Ok(())
 }
 
-/// The same before the first number.
+/// Inserts 0 at the front, and overwrites it with `number` through the returned reference.
+///
+/// # Errors
+///
+/// Fails if there is no room for one more number. Then nothing changes.
 pub fn insert_set<A: Allocator, G: Growth>(
     list: &mut ThinVec<u32, A, G>,
     number: u32,

@@ -1,4 +1,4 @@
-//! Lists that are compared and hashed by their items alone.
+//! Callers that compare and hash lists, by the items alone.
 ghost use Rattle.std.specs.Prelude.{◌≡◌, ◌↔◌, IsTrue, fold};
 ghost use Rattle.std.specs.Hash as fed;
 ghost use Rattle.std.specs.Hash.DefaultHasher as sip;
@@ -7,8 +7,8 @@ use std::alloc::Allocator;
 use std::hash::{DefaultHasher, Hash, Hasher};
 use thin_vec::{Growth, ThinVec};
 
-/// Whether both styles are the same rules, each named by its number, in the same order. No capacity
-/// is compared.
+/// Returns whether both styles have the same rules in the same order. A style is a list of rules,
+/// and each rule is a number. The capacities of the lists are not compared.
 pub fn same_style<A: Allocator, G: Growth>(
     one: &ThinVec<u32, A, G>,
     other: &ThinVec<u32, A, G>,
@@ -18,8 +18,8 @@ pub fn same_style<A: Allocator, G: Growth>(
     one == other
 }
 
-/// The hash of a style by std's hasher. It is told by the rules: styles that are the same hash
-/// alike.
+/// Returns the hash of a style, computed by std's `DefaultHasher`. It depends on the rules alone,
+/// so equal styles have equal hashes.
 pub fn style_hash<A: Allocator, G: Growth>(style: &ThinVec<u32, A, G>) -> u64
     ensures value { result ≡ sip.finish
         (fold sip.write sip.initial (fed.slice fed.u32 style.now.items)) }

@@ -1,4 +1,4 @@
-//! A syntax tree, whose leaves own no block.
+//! A syntax tree. Its leaves own no block.
 ghost use Rattle.std.specs.Prelude.{◌≡◌, ◌+◌, ◌-◌, ◌^◌, [], ◌∷◌, ◌++◌, IfErr, IsOk, OnErr, OnOk, min};
 ghost use Rattle.thin_vec.specs.ThinVec.{HasRoomFor, IsNew};
 ghost use Rattle.thin_examples.specs.SyntaxTree.{children_of, kind_of, node_count};
@@ -6,7 +6,7 @@ ghost use Rattle.thin_examples.specs.SyntaxTree.{children_of, kind_of, node_coun
 use std::alloc::Global;
 use thin_vec::{Rejected, ThinVec};
 
-/// A node of some kind, with its children in order.
+/// A node of the kind `kind`, with its children in order.
 #[derive(Drop)]
 pub struct Node {
     pub kind: u32,
@@ -15,7 +15,8 @@ pub struct Node {
 
 #[tactic(auto, using(crate::proofs::TreeLemmas::node_count_is))]
 impl Node {
-    /// A node without children. Its list owns no block, so no memory is asked for.
+    /// Makes a node without children. The list of the children owns no block, so no memory is
+    /// requested.
     pub fn leaf(alloc: Global, kind: u32) -> Node
         ensures kind { kind_of result ≡ kind }
         ensures children { IsNew (children_of result) alloc }
@@ -27,8 +28,12 @@ impl Node {
         }
     }
 
-    /// Appends `child`, which this node owns afterwards. On failure it is returned with all that is
-    /// below it.
+    /// Appends `child` to the children of this node, which then owns `child`.
+    ///
+    /// # Errors
+    ///
+    /// Fails if there is no room for one more child. The error holds `child` with all nodes below
+    /// it, and this node does not change.
     pub fn add_child(&mut self, child: Node) -> Result<(), Rejected<Node>>
         ensures succeeds { HasRoomFor (children_of self.old) 1 → IsOk result }
         ensures kind { kind_of self.new ≡ kind_of self.old }
@@ -41,7 +46,7 @@ impl Node {
         self.children.push(child)
     }
 
-    /// How many nodes there are, this one and all below it, or `u64::MAX` where there are more.
+    /// Returns the number of nodes, this node and all below it, or `u64::MAX` if there are more.
     pub fn count(&self) -> u64
         ensures value { result ≡ min (node_count self.now) (2 ^ 64 - 1) }
     {

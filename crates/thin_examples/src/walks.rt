@@ -1,11 +1,11 @@
-//! Callers that walk over a list which is used up, with a loop or without.
+//! Callers that consume a list to read or move its items, with a loop or without.
 ghost use Rattle.std.specs.Prelude.{◌≡◌, [], IfOk, IsOk, length, min, reverse};
 ghost use Rattle.std.specs.List.{fold};
 
 use std::alloc::{AllocError, Allocator, Global};
 use thin_vec::{Growth, ThinVec};
 
-/// How many items there are, counted one by one.
+/// Counts the items one by one, and drops them.
 pub fn count<T: Drop, A: Allocator, G: Growth>(list: ThinVec<T, A, G>) -> usize
     ensures value { result ≡ length list.items }
 {
@@ -16,7 +16,7 @@ pub fn count<T: Drop, A: Allocator, G: Growth>(list: ThinVec<T, A, G>) -> usize
     count
 }
 
-/// The least item, or `start` where that is less.
+/// Returns the least item, or `start` if `start` is less.
 pub fn least(list: ThinVec<u32, Global>, start: u32) -> u32
     ensures value { result ≡ fold min start list.items }
 {
@@ -27,21 +27,34 @@ pub fn least(list: ThinVec<u32, Global>, start: u32) -> u32
     least
 }
 
-/// The items, in a `Vec`.
+/// Moves the items of `list` into a `Vec`, by `collect`.
+///
+/// # Errors
+///
+/// Fails if the allocator does. Then the items are dropped.
 pub fn collected(list: ThinVec<u32, Global>, alloc: Global) -> Result<Vec<u32>, AllocError>
     ensures items { IfOk result (λ vec. vec.items ≡ list.items) }
 {
     list.into_iter().collect(alloc)
 }
 
-/// The items, last first.
+/// Moves the items of `list` into a `Vec`, last item first, by `collect`.
+///
+/// # Errors
+///
+/// Fails if the allocator does. Then the items are dropped.
 pub fn reversed(list: ThinVec<u32, Global>, alloc: Global) -> Result<Vec<u32>, AllocError>
     ensures items { IfOk result (λ vec. vec.items ≡ reverse list.items) }
 {
     list.into_iter().rev().collect(alloc)
 }
 
-/// The same under any allocator and rule, one by one.
+/// Moves the items of `list` into a `Vec` one by one, last item first. The list may have any
+/// allocator and any growth rule.
+///
+/// # Errors
+///
+/// Fails if the allocator does. Then the items are dropped.
 pub fn reversed_singly<A: Allocator, G: Growth>(
     list: ThinVec<u32, A, G>,
     alloc: Global,
@@ -56,7 +69,11 @@ pub fn reversed_singly<A: Allocator, G: Growth>(
     Ok(vec)
 }
 
-/// The items, in a `Vec`, one by one.
+/// Moves the items of `list` into a `Vec` one by one, by calls of `next`.
+///
+/// # Errors
+///
+/// Fails if the allocator does. Then the items are dropped.
 pub fn carried_over(list: ThinVec<u32, Global>, alloc: Global) -> Result<Vec<u32>, AllocError>
     ensures succeeds_empty { list.items ≡ [] → IsOk result }
     ensures items { IfOk result (λ vec. vec.items ≡ list.items) }

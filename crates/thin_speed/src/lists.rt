@@ -1,6 +1,7 @@
-//! What the workloads ask of a list.
+//! The traits through which the workloads use a list.
 //!
-//! A method is the list's own call of that name, unless its line says otherwise.
+//! A method calls the list's method of the same name, unless its comment says otherwise. A method
+//! that returns a `Result` fails if there is no room for the items.
 mod kit;
 mod thin;
 
@@ -10,7 +11,8 @@ use std::alloc::{AllocError, Global};
 use std::io::Write;
 pub use thin::Thin;
 
-/// The lists of one kind, by what they hold.
+/// A kind of list: `ThinVec`, or the `Vec` of Rattle's library. It has one list type for each type
+/// of item.
 pub trait Family {
     type Numbers: Numbers;
 
@@ -30,11 +32,16 @@ pub trait Family {
 
     type Steps: List<Self::Bytes>;
 
-    /// Builds a tree so deep, with ten children a node. Returns the sum of the depths of its nodes.
+    /// Builds a tree of the depth `depth`, in which each node above the leaves has ten children.
+    /// Returns the sum of the depths of its nodes, where the depth of a leaf is 0.
+    ///
+    /// # Errors
+    ///
+    /// Fails if there is no memory.
     fn tree(alloc: Global, depth: usize) -> Outcome;
 }
 
-/// A list of any items.
+/// A list of items of the type `T`.
 pub trait List<T: Drop>: Drop {
     fn new(alloc: Global) -> Self;
 
@@ -44,7 +51,7 @@ pub trait List<T: Drop>: Drop {
 
     fn pop(&mut self) -> Option<T>;
 
-    /// Inserts at the front.
+    /// Inserts `value` at the front.
     fn insert_first(&mut self, value: T) -> Result<(), AllocError>;
 
     fn clear(&mut self);
@@ -57,41 +64,43 @@ pub trait List<T: Drop>: Drop {
 
 /// A list of numbers.
 pub trait Numbers: List<u64> {
-    /// Removes the item at `index`, if there is one.
+    /// Removes and returns the item at `index`, if there is one.
     fn remove_at(&mut self, index: usize) -> Option<u64>;
 
-    /// Removes the item in the middle by `swap_remove`, if there is one.
+    /// Removes and returns the item in the middle, by `swap_remove`, if there is one.
     fn remove_middle(&mut self) -> Option<u64>;
 
-    /// A list of the numbers below `end`, by `from_iter`.
+    /// Makes a list of the numbers below `end`, from an iterator.
     fn collected(alloc: Global, end: usize) -> Result<Self, AllocError>;
 
-    /// Extends by the numbers below `end`. The iterator knows how many they are.
+    /// Appends the numbers below `end`, by `extend` with an iterator whose size hint is exact.
     fn extend_hinted(&mut self, end: usize) -> Result<(), AllocError>;
 
-    /// Extends by the numbers below `end`. The iterator knows nothing of how many they are.
+    /// Appends the numbers below `end`, by `extend` with an iterator whose size hint has the lower
+    /// bound 0.
     fn extend_unhinted(&mut self, end: usize) -> Result<(), AllocError>;
 
-    /// Extends by those of the items that are even, by a filter.
+    /// Appends the even numbers among `items`, by `extend` with a filter.
     fn extend_filtered(&mut self, items: &[u64]) -> Result<(), AllocError>;
 
-    /// Extends by copies of the items.
+    /// Appends copies of `items`.
     fn extend_from_copies(&mut self, items: &[u64]) -> Result<(), AllocError>;
 
     fn resize(&mut self, len: usize, value: u64) -> Result<(), AllocError>;
 
-    /// A list of copies of the items.
+    /// Makes a list of copies of the items.
     fn copy(&self, alloc: Global) -> Result<Self, AllocError>;
 
-    /// Splits the second half off, and appends it again.
+    /// Splits the second half off by `split_off`, and appends it again.
     fn split_and_append(&mut self, alloc: Global) -> Result<(), AllocError>;
 
-    /// Drains the items from `start` up to `end`, if there are so many, and mixes each into the
-    /// sum.
+    /// Drains the items from `start` up to, but not including, `end`, if this is a range of the
+    /// list. Returns `sum` after mixing each drained item into it.
     fn drain_range(&mut self, start: usize, end: usize, sum: u64) -> u64;
 
-    /// Splices so many numbers from `first` on into the place of the items from `start` up to
-    /// `end`, if there are so many. The iterator knows how many it has.
+    /// Replaces the items from `start` up to, but not including, `end` with `C::count()` numbers,
+    /// the first of which is `first`, by `splice`. Does nothing if this is not a range of the list.
+    /// The size hint of the iterator is exact.
     fn splice_few<C: Count>(
         &mut self,
         alloc: Global,
@@ -100,22 +109,24 @@ pub trait Numbers: List<u64> {
         first: usize,
     ) -> Result<(), AllocError>;
 
-    /// Splices the numbers below `end` into the place of the middle half. The iterator knows how
-    /// many they are.
+    /// Replaces the middle half of the list with the numbers below `end`, by `splice` with an
+    /// iterator whose size hint is exact.
     fn splice_hinted(&mut self, alloc: Global, end: usize) -> Result<(), AllocError>;
 
-    /// Splices the numbers below `end` into the place of the middle half. The iterator knows
-    /// nothing of how many they are.
+    /// Replaces the middle half of the list with the numbers below `end`, by `splice` with an
+    /// iterator whose size hint has the lower bound 0.
     fn splice_unhinted(&mut self, alloc: Global, end: usize) -> Result<(), AllocError>;
 
     fn dedup(&mut self);
 
-    /// Keeps the first of equal halves, by `dedup_by_key`.
+    /// Calls `dedup_by_key` with half of each number, rounded down, as its key.
     fn dedup_halves(&mut self);
 
-    /// Extracts the items that are picked, and mixes each into the sum.
+    /// Extracts the items that `P` picks, by `extract_if`. Returns `sum` after mixing each
+    /// extracted item into it.
     fn extract<P: Pick>(&mut self, sum: u64) -> u64;
 
-    /// Takes each item out, from the front, and mixes it into the sum.
+    /// Consumes the list by `into_iter`, from the front. Returns `sum` after mixing each item into
+    /// it.
     fn walk(self, sum: u64) -> u64;
 }

@@ -1,4 +1,5 @@
-//! Runs workloads on lists, one for each line that it reads, and prints a sum for each.
+//! Reads lines that each name a workload, runs the workloads on lists, and prints the sum that each
+//! run computes.
 #![tactic(auto)]
 
 mod lists;
@@ -21,7 +22,9 @@ fn main(rt: HostRuntime) -> io::Result<()> {
     Ok(())
 }
 
-// Does what a line asks for: which list, which workload, of what size and how often.
+// Runs the workload that a line names. The line has four words: the list (`thin` or `kit`), the
+// name of the workload, the size (the number of items, or the depth of a tree), and how often the
+// work is repeated. Returns `None` if the line is not of this form.
 fn asked(alloc: Global, line: &str) -> Option<Outcome> {
     let mut words = line.split_whitespace();
     let list = words.next()?;

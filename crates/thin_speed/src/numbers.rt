@@ -1,24 +1,26 @@
-//! What the workloads put into lists, and what they see of a list.
+//! The items that the workloads put into lists, and the sums that they compute from the items.
 ghost use Rattle.std.specs.Prelude.{◌-◌};
 ghost use Rattle.std.specs.Iterator.{at_most};
 
 use std::alloc::{AllocError, Global};
 
-/// The sum of a run, or that a call failed.
+/// The sum that a run of a workload computes, or the error of the call that failed. Equal sums show
+/// that two kinds of lists did the same work.
 pub type Outcome = Result<u64, AllocError>;
 
-/// A sum with one number more.
+/// Returns the sum `sum` with `number` mixed into it. The result depends on the order in which
+/// numbers are mixed in.
 pub fn mixed(sum: u64, number: u64) -> u64 {
     sum.wrapping_mul(31).wrapping_add(number)
 }
 
-/// An item of a list.
+/// An item of a list, from which sums are computed.
 pub trait Item: Drop {
-    /// What tells it from others.
+    /// Returns a number of the item, which is mixed into sums.
     fn number(&self) -> u64;
 }
 
-/// The number of the item in the middle, or 0, and the length.
+/// Returns the number of the item in the middle, or 0 if there is no item, plus the length.
 pub fn seen<T: Item>(items: &[T]) -> u64 {
     let middle = match items.get(items.len() / 2) {
         Some(item) => item.number(),
@@ -27,7 +29,7 @@ pub fn seen<T: Item>(items: &[T]) -> u64 {
     middle.wrapping_add(items.len() as u64)
 }
 
-/// Sixteen items.
+/// The sixteen items that the workload `extend_sixteen` appends at a time.
 pub const SIXTEEN: [u64; 16] = [7; 16];
 
 /// An item of 24 bytes.
@@ -69,13 +71,17 @@ impl Item for String {
     }
 }
 
-/// What the items of a list are made by.
+/// A way of making the items of a list.
 pub trait Source<T: Drop> {
-    /// The item of that number.
+    /// Makes the item that has the index `number` in a list.
+    ///
+    /// # Errors
+    ///
+    /// Fails if there is no memory.
     fn item(alloc: Global, number: usize) -> Result<T, AllocError>;
 }
 
-/// The numbers themselves.
+/// Makes the items 0, 1, 2 and so on.
 pub struct InTurn;
 
 impl Source<u64> for InTurn {
@@ -85,7 +91,7 @@ impl Source<u64> for InTurn {
     }
 }
 
-/// The numbers with two bits turned.
+/// Makes each item from its index, with the bits of value 1 and 4 inverted.
 pub struct Turned;
 
 impl Source<u64> for Turned {
@@ -95,7 +101,7 @@ impl Source<u64> for Turned {
     }
 }
 
-/// Each number twice.
+/// Makes each number twice in turn: 0, 0, 1, 1, 2 and so on.
 pub struct Pairs;
 
 impl Source<u64> for Pairs {
@@ -105,7 +111,7 @@ impl Source<u64> for Pairs {
     }
 }
 
-/// Items of 24 bytes.
+/// Makes items of 24 bytes.
 pub struct Triples;
 
 impl Source<Triple> for Triples {
@@ -116,7 +122,7 @@ impl Source<Triple> for Triples {
     }
 }
 
-/// Items of 320 bytes.
+/// Makes items of 320 bytes.
 pub struct Wides;
 
 impl Source<Wide> for Wides {
@@ -130,7 +136,7 @@ impl Source<Wide> for Wides {
     }
 }
 
-/// The same string again and again.
+/// Makes a new string for each item, always with the same text.
 pub struct Words;
 
 impl Source<String> for Words {
@@ -140,7 +146,8 @@ impl Source<String> for Words {
     }
 }
 
-/// The numbers from `next` up to `end`, of which nothing is known beforehand.
+/// An iterator over the numbers from `next` up to, but not including, `end`. It does not define
+/// `size_hint`, so the lower bound of its size hint is 0.
 #[derive(Drop)]
 pub struct Unhinted {
     next: u64,
@@ -148,7 +155,7 @@ pub struct Unhinted {
 }
 
 impl Unhinted {
-    /// The numbers below `end`.
+    /// Makes an iterator over the numbers below `end`.
     pub fn below(end: usize) -> Unhinted {
         Unhinted {
             next: 0,
@@ -172,13 +179,13 @@ impl Iterator for Unhinted {
     }
 }
 
-/// How many numbers are put in.
+/// The number of items that the method `splice_few` inserts.
 pub trait Count {
-    /// So many.
+    /// Returns the number of items.
     fn count() -> usize;
 }
 
-/// One.
+/// The count 1.
 pub struct One;
 
 impl Count for One {
@@ -188,7 +195,7 @@ impl Count for One {
     }
 }
 
-/// Two.
+/// The count 2.
 pub struct Two;
 
 impl Count for Two {
@@ -198,13 +205,13 @@ impl Count for Two {
     }
 }
 
-/// Which numbers are picked.
+/// A test that picks numbers.
 pub trait Pick {
-    /// Whether this one is.
+    /// Returns whether `number` is picked.
     fn picks(number: u64) -> bool;
 }
 
-/// The even numbers: of numbers in turn, each second one.
+/// Picks the even numbers. Of the numbers 0, 1, 2 and so on, it picks every second one.
 pub struct Even;
 
 impl Pick for Even {
@@ -214,7 +221,8 @@ impl Pick for Even {
     }
 }
 
-/// Those of which a bit of the hash is 0: of numbers in turn, half in no order.
+/// Picks the numbers for which one bit of a hash is 0. Of the numbers 0, 1, 2 and so on, it picks
+/// about half, in an irregular pattern.
 pub struct Random;
 
 impl Pick for Random {
@@ -224,7 +232,7 @@ impl Pick for Random {
     }
 }
 
-/// All but 1: of numbers in turn, all but the second.
+/// Picks all numbers except 1. Of the numbers 0, 1, 2 and so on, it picks all except the second.
 pub struct NotOne;
 
 impl Pick for NotOne {
@@ -234,7 +242,8 @@ impl Pick for NotOne {
     }
 }
 
-/// Those of which the last two bits are not both 0: of numbers in turn, three of four.
+/// Picks the numbers whose last two bits are not both 0. Of the numbers 0, 1, 2 and so on, it picks
+/// three out of four.
 pub struct ThreeOfFour;
 
 impl Pick for ThreeOfFour {
@@ -244,7 +253,7 @@ impl Pick for ThreeOfFour {
     }
 }
 
-/// All, as far as workloads go.
+/// Picks the numbers below a million. The lists of the workloads have no other numbers.
 pub struct All;
 
 impl Pick for All {
@@ -254,7 +263,7 @@ impl Pick for All {
     }
 }
 
-/// None, as far as workloads go.
+/// Picks the numbers above a million. The lists of the workloads have no such numbers.
 pub struct Nothing;
 
 impl Pick for Nothing {
@@ -264,7 +273,8 @@ impl Pick for Nothing {
     }
 }
 
-/// Those of which the last four bits are not all 1: of numbers in turn, runs of fifteen.
+/// Picks the numbers whose last four bits are not all 1. Of the numbers 0, 1, 2 and so on, it picks
+/// fifteen in a row, and then leaves one out.
 pub struct InARun;
 
 impl Pick for InARun {

@@ -1,4 +1,4 @@
-//! The workloads, on the lists of any kind.
+//! The workloads. Each runs on any kind of list.
 mod editing;
 mod filtering;
 mod growing;
@@ -16,7 +16,12 @@ use crate::workloads::names::Workload;
 pub use crate::workloads::names::named;
 use std::alloc::Global;
 
-/// Runs a workload.
+/// Runs `workload` on lists of the kind `F`. `size` is the number of items of a list, or the depth
+/// of a tree. `times` is how often the work is repeated. Returns the sum that the run computes.
+///
+/// # Errors
+///
+/// Fails if there is no memory.
 pub fn run<F: Family>(alloc: Global, workload: Workload, size: usize, times: usize) -> Outcome {
     match workload {
         Workload::Growing(growing) => run_growing::<F>(alloc, growing, size, times),

@@ -1,11 +1,16 @@
-//! Rows of the calls on many items at once.
+//! The worked rows of calls that add, move or remove many items at once.
 use crate::checks::Checks;
 use crate::rows::{Outcome, listed};
 use std::alloc::Allocator;
 use thin_runner::hinted::Hinted;
 use thin_vec::{ExtendRefused, ThinVec, ThinVecError};
 
-/// The items, by an iterator that claims `lower` of them at each turn.
+/// Makes an iterator that yields `items`, and claims the lower bound `lower` at every call of
+/// `size_hint`.
+///
+/// # Errors
+///
+/// Fails with `OutOfMemory` if there is no room for the items.
 pub fn claiming<A: Allocator, const N: usize>(
     alloc: A,
     items: [i32; N],
@@ -17,7 +22,8 @@ pub fn claiming<A: Allocator, const N: usize>(
     }
 }
 
-/// A list is split in two and joined again, and split off at its end.
+/// Checks that `split_off` splits a list in two, that `append` joins the parts again, and that
+/// `split_off` at the end returns an empty list.
 pub fn row_15<A: Allocator + Copy>(alloc: A) -> Outcome {
     let mut checks = Checks::new();
     let mut list = listed(alloc, [1, 2, 3, 4, 5, 6])?;
@@ -31,7 +37,7 @@ pub fn row_15<A: Allocator + Copy>(alloc: A) -> Outcome {
     Ok(checks)
 }
 
-/// `extend` by five items, of which the hint claims none, some, all, or more.
+/// Checks `extend` by five items, if the lower bound of the size hint is 0, 3, 5 or 9.
 pub fn row_24<A: Allocator + Copy>(alloc: A) -> Outcome {
     let mut checks = Checks::new();
     for (lower, capacity) in [(0, 8), (3, 8), (5, 5), (9, 9)] {
@@ -42,7 +48,8 @@ pub fn row_24<A: Allocator + Copy>(alloc: A) -> Outcome {
     Ok(checks)
 }
 
-// A call that fails returns the items, of which none was asked for.
+// Checks the error of a failed `extend`: the cause is an overflow, no item is in hand, and the
+// iterator still yields all its items.
 fn check_refused<A: Allocator>(checks: &mut Checks, refused: ExtendRefused<i32, Hinted<i32, A>>) {
     let ExtendRefused {
         cause,
@@ -56,7 +63,7 @@ fn check_refused<A: Allocator>(checks: &mut Checks, refused: ExtendRefused<i32, 
     );
 }
 
-/// `extend` by a hint that overflows takes no item.
+/// Checks that `extend` takes no item from an iterator whose size hint overflows the capacity.
 pub fn row_25<A: Allocator + Copy>(alloc: A) -> Outcome {
     let mut checks = Checks::new();
     let mut list = listed(alloc, [1])?;
@@ -68,7 +75,7 @@ pub fn row_25<A: Allocator + Copy>(alloc: A) -> Outcome {
     Ok(checks)
 }
 
-/// `from_iter` makes room for as many items as there are.
+/// Checks that `from_iter` reserves exactly as many places as the iterator has items.
 pub fn row_27<A: Allocator + Copy>(alloc: A) -> Outcome {
     let mut checks = Checks::new();
     for count in 0..20 {
@@ -78,7 +85,7 @@ pub fn row_27<A: Allocator + Copy>(alloc: A) -> Outcome {
     Ok(checks)
 }
 
-/// `resize` to more items and to fewer.
+/// Checks `resize` to a greater length and to a smaller one.
 pub fn row_28<A: Allocator + Copy>(alloc: A) -> Outcome {
     let mut checks = Checks::new();
     let mut words = listed(alloc, ["hello"])?;

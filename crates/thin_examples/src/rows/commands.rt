@@ -1,4 +1,4 @@
-//! Rows that are commands: they go through `run`.
+//! The worked row of commands, which `run` of `thin_runner` carries out.
 use crate::checks::Checks;
 use crate::rows::Outcome;
 use crate::rows::judges::Evens;
@@ -7,7 +7,7 @@ use thin_runner::command::{Command, Reply, Step};
 use thin_runner::runner::run;
 use thin_vec::{ThinVec, ThinVecError};
 
-// Puts an item after the others.
+// Appends `item` to `items`.
 fn put<T: Drop, A: Allocator>(items: &mut Vec<T, A>, item: T) -> Result<(), ThinVecError> {
     match items.push(item) {
         Ok(()) => Ok(()),
@@ -15,7 +15,8 @@ fn put<T: Drop, A: Allocator>(items: &mut Vec<T, A>, item: T) -> Result<(), Thin
     }
 }
 
-// An insert past the end, a push, and a walk past the end of the one item.
+// Makes three commands: an insert past the end of the list, a push, and a drain of one item, which
+// is then asked for two items.
 fn past_the_end<A: Allocator + Copy>(alloc: A) -> Result<Vec<Command<i32, A>, A>, ThinVecError> {
     let mut steps = Vec::new(alloc);
     put(&mut steps, Step::Back)?;
@@ -27,7 +28,7 @@ fn past_the_end<A: Allocator + Copy>(alloc: A) -> Result<Vec<Command<i32, A>, A>
     Ok(commands)
 }
 
-// Compares the replies to these commands.
+// Compares the replies to the commands of `past_the_end` with the expected replies.
 fn check_replies<A: Allocator>(checks: &mut Checks, replies: &[Reply<i32, A>]) {
     match replies {
         [
@@ -42,7 +43,8 @@ fn check_replies<A: Allocator>(checks: &mut Checks, replies: &[Reply<i32, A>]) {
     }
 }
 
-/// Commands: an insert past the end, a push, and a drain asked once too often.
+/// Checks a run of three commands: an insert past the end, a push, and a drain that is asked for
+/// one item more than it has.
 pub fn row_41<A: Allocator + Copy>(alloc: A) -> Outcome {
     let mut checks = Checks::new();
     let mut list: ThinVec<i32, A> = ThinVec::new(alloc);

@@ -1,4 +1,4 @@
-//! Rows of edits: calls that stay beside the list while they work, and the test for their ranges.
+//! The worked rows of `drain` and `extract_if`, of `bounds`, and of `{:?}`.
 use crate::checks::Checks;
 use crate::rows::{Outcome, listed};
 use std::alloc::Allocator;
@@ -6,7 +6,8 @@ use std::fmt::Debug;
 use std::ops::Bound;
 use thin_vec::{ThinVecError, bounds};
 
-/// A `drain` from both ends, dropped before it has ended.
+/// Checks a `Drain` that yields items from both ends, and is dropped before it has yielded all
+/// items.
 pub fn row_7<A: Allocator + Copy>(alloc: A) -> Outcome {
     let mut checks = Checks::new();
     let mut list = listed(alloc, [1, 2, 3, 4, 5, 6])?;
@@ -21,7 +22,7 @@ fn is_even(item: i32) -> bool {
     item.wrapping_rem(2) == 0
 }
 
-/// An `extract_if` of a range, dropped after its first item.
+/// Checks an `ExtractIf` of a range: the `ExtractIf` is dropped after it has yielded one item.
 pub fn row_8<A: Allocator + Copy>(alloc: A) -> Outcome {
     let mut checks = Checks::new();
     let mut list = listed(alloc, [1, 2, 3, 4, 5, 6])?;
@@ -34,7 +35,7 @@ pub fn row_8<A: Allocator + Copy>(alloc: A) -> Outcome {
     Ok(checks)
 }
 
-/// An `extract_if` that writes the items it asks about.
+/// Checks an `ExtractIf` whose closure writes to the items that it tests.
 pub fn row_9<A: Allocator + Copy>(alloc: A) -> Outcome {
     let mut checks = Checks::new();
     let mut list = listed(alloc, [1, 2, 3, 4])?;
@@ -50,7 +51,8 @@ pub fn row_9<A: Allocator + Copy>(alloc: A) -> Outcome {
     Ok(checks)
 }
 
-/// Which ranges in Rust's forms a list of five items has.
+/// Checks which pairs of `Bound`s are ranges of a list of five items, and the two numbers that
+/// `bounds` returns for them.
 pub fn row_18<A: Allocator + Copy>(_alloc: A) -> Outcome {
     let mut checks = Checks::new();
     for (start, end, wanted) in [
@@ -67,7 +69,7 @@ pub fn row_18<A: Allocator + Copy>(_alloc: A) -> Outcome {
     Ok(checks)
 }
 
-/// An `extract_if` to its end.
+/// Checks an `ExtractIf` that is called until it returns `None`.
 pub fn row_33<A: Allocator + Copy>(alloc: A) -> Outcome {
     let mut checks = Checks::new();
     let mut list = listed(alloc, [1, 2, 3, 4, 5, 6, 8, 9, 11, 13, 14, 15])?;
@@ -80,7 +82,7 @@ pub fn row_33<A: Allocator + Copy>(alloc: A) -> Outcome {
     Ok(checks)
 }
 
-// Compares what `{:?}` writes.
+// Compares the text that `{:?}` writes for `value` with `text`.
 fn check_text<T: Debug, A: Allocator>(
     checks: &mut Checks,
     alloc: A,
@@ -91,7 +93,7 @@ fn check_text<T: Debug, A: Allocator>(
     Ok(())
 }
 
-/// What `{:?}` writes of a list, a `Drain` and an `IntoIter`.
+/// Checks the text that `{:?}` writes for a list, a `Drain` and an `IntoIter`.
 pub fn row_35<A: Allocator + Copy>(alloc: A) -> Outcome {
     let mut checks = Checks::new();
     let mut list = listed(alloc, [1, 2, 3])?;

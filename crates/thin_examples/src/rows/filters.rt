@@ -1,9 +1,9 @@
-//! Rows of the calls that keep some items.
+//! The worked rows of `retain_mut`, `dedup_by`, `dedup_by_key` and `dedup`.
 use crate::checks::Checks;
 use crate::rows::{Outcome, listed};
 use std::alloc::Allocator;
 
-/// `dedup_by` compares an item with the last one that stayed.
+/// Checks that `dedup_by` compares each item with the last one that it kept.
 pub fn row_13<A: Allocator + Copy>(alloc: A) -> Outcome {
     let mut checks = Checks::new();
     let mut list = listed(alloc, [1i32, 2, 3, 5])?;
@@ -12,7 +12,8 @@ pub fn row_13<A: Allocator + Copy>(alloc: A) -> Outcome {
     Ok(checks)
 }
 
-// Adds the count of a later word to that of the one before, where they are the same.
+// Returns whether `later` and `kept` have the same word. If so, adds the count of `later` to that
+// of `kept`.
 fn add_count(later: &mut (&'static str, i32), kept: &mut (&'static str, i32)) -> bool {
     let same = later.0 == kept.0;
     if same {
@@ -21,7 +22,7 @@ fn add_count(later: &mut (&'static str, i32), kept: &mut (&'static str, i32)) ->
     same
 }
 
-/// `dedup_by` and `retain_mut` with closures that write.
+/// Checks `dedup_by` and `retain_mut` with closures that write to the items.
 pub fn row_14<A: Allocator + Copy>(alloc: A) -> Outcome {
     let mut checks = Checks::new();
     let mut counts = listed(
@@ -47,7 +48,7 @@ pub fn row_14<A: Allocator + Copy>(alloc: A) -> Outcome {
     Ok(checks)
 }
 
-/// `dedup_by_key` and `dedup`.
+/// Checks `dedup_by_key` and `dedup`, and one `pop` after each.
 pub fn row_34<A: Allocator + Copy>(alloc: A) -> Outcome {
     let mut checks = Checks::new();
     let mut tens = listed(alloc, [10, 20, 21, 30, 20])?;

@@ -1,4 +1,5 @@
-//! Rows of lists in other forms: repeated, walked, compared, written to and converted.
+//! The worked rows of lists that are made by `thin_vec!`, iterated over, compared, hashed, written
+//! to, or converted.
 use crate::checks::Checks;
 use crate::rows::{Outcome, listed};
 use std::alloc::Allocator;
@@ -8,7 +9,7 @@ use std::io;
 use std::io::Write;
 use thin_vec::{ThinVec, ThinVecError, thin_vec};
 
-/// `thin_vec!` of a repeated item, of items written out, and of none.
+/// Checks `thin_vec!` with a repeated item, with items written out, and with no item.
 pub fn row_3<A: Allocator + Copy>(alloc: A) -> Outcome {
     let mut checks = Checks::new();
     let repeated = thin_vec![alloc => 7; 2]?;
@@ -21,8 +22,8 @@ pub fn row_3<A: Allocator + Copy>(alloc: A) -> Outcome {
     Ok(checks)
 }
 
-/// `into_array` of another length gives the list back; the clone of an empty list is without a
-/// block.
+/// Checks that `into_array` returns the list if the array has another length, and that the clone of
+/// an empty list has no block.
 pub fn row_20<A: Allocator + Copy>(alloc: A) -> Outcome {
     let mut checks = Checks::new();
     let digits = [0, 1, 2, 3, 4, 5, 6, 7, 8, 9];
@@ -40,7 +41,7 @@ pub fn row_20<A: Allocator + Copy>(alloc: A) -> Outcome {
     Ok(checks)
 }
 
-/// `into_iter` from both ends, with a clone in between.
+/// Checks `into_iter` from both ends, with a clone of the iterator in between.
 pub fn row_29<A: Allocator + Copy>(alloc: A) -> Outcome {
     let mut checks = Checks::new();
     let mut items = listed(alloc, [1, 2, 3])?.into_iter();
@@ -58,7 +59,7 @@ fn hash_of<A: Allocator>(list: &ThinVec<i32, A>) -> u64 {
     hasher.finish()
 }
 
-// Compares lists of these items.
+// Checks that comparing a list of the items `left` with one of the items `right` returns `order`.
 fn check_order<A: Allocator + Copy>(
     checks: &mut Checks,
     alloc: A,
@@ -72,7 +73,7 @@ fn check_order<A: Allocator + Copy>(
     Ok(())
 }
 
-/// Lists are compared and hashed by their items alone.
+/// Checks that lists are compared and hashed by their items alone, and not by their capacities.
 pub fn row_30<A: Allocator + Copy>(alloc: A) -> Outcome {
     let mut checks = Checks::new();
     let list = listed(alloc, [1, 2])?;
@@ -86,7 +87,7 @@ pub fn row_30<A: Allocator + Copy>(alloc: A) -> Outcome {
     Ok(checks)
 }
 
-// What writes to a list reply.
+// Writes bytes to the end of a list, and checks the returned numbers and the list.
 fn check_writes<A: Allocator>(checks: &mut Checks, bytes: &mut ThinVec<u8, A>) -> io::Result<()> {
     bytes.write_all(&[3, 4, 5])?;
     checks.holds(bytes, &[1, 2, 3, 4, 5], 5);
@@ -96,7 +97,7 @@ fn check_writes<A: Allocator>(checks: &mut Checks, bytes: &mut ThinVec<u8, A>) -
     Ok(())
 }
 
-/// Bytes that are written after others.
+/// Checks that `write_all` and `write` append bytes.
 pub fn row_31<A: Allocator + Copy>(alloc: A) -> Outcome {
     let mut checks = Checks::new();
     let mut bytes = listed(alloc, [1, 2])?;
@@ -106,7 +107,7 @@ pub fn row_31<A: Allocator + Copy>(alloc: A) -> Outcome {
     }
 }
 
-/// A list that becomes a `Vec`, and one made of a text.
+/// Checks `into_vec`, and `from_str`, which makes a list of the bytes of a text.
 pub fn row_36<A: Allocator + Copy>(alloc: A) -> Outcome {
     let mut checks = Checks::new();
     let list = ThinVec::from_array(alloc, [1, 2, 3])?;

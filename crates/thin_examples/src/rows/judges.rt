@@ -1,10 +1,10 @@
-//! What decides for the rows' commands.
+//! The judge that the worked row of commands passes to `run`.
 ghost use Rattle.std.specs.Ordering.{int_eq};
 ghost use Rattle.std.specs.Prelude.{int_rem, pos};
 
 use thin_runner::judge::Judge;
 
-/// Picks the even numbers, and finds equal ones the same. It writes none.
+/// Picks the even numbers, and treats equal numbers as the same. It does not write to the numbers.
 #[derive(Clone, Copy)]
 pub struct Evens;
 

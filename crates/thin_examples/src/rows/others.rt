@@ -1,11 +1,11 @@
-//! A row of the growth rule that fills powers of two, and one of the sparse table.
+//! The worked row of the growth rule `PowerBytes`, and the worked row of the sparse table.
 use crate::checks::Checks;
 use crate::rows::Outcome;
 use std::alloc::Allocator;
 use thin_rows::Rows;
 use thin_vec::{PowerBytes, ThinVec, ThinVecError};
 
-/// The capacities that `PowerBytes` gives.
+/// Checks the first three capacities that `PowerBytes` chooses for a list of `u32`.
 pub fn row_21<A: Allocator + Copy>(alloc: A) -> Outcome {
     let mut checks = Checks::new();
     let mut list: ThinVec<u32, A, PowerBytes> = ThinVec::ruled(alloc);
@@ -19,7 +19,7 @@ pub fn row_21<A: Allocator + Copy>(alloc: A) -> Outcome {
     Ok(checks)
 }
 
-// Puts a value in the row 1, and compares what was there.
+// Sets the value at `column` of row 1, and compares the old value with `before`.
 fn set<A: Allocator>(
     checks: &mut Checks,
     table: &mut Rows<char, A>,
@@ -33,7 +33,7 @@ fn set<A: Allocator>(
     Ok(())
 }
 
-// Takes a value out of the row 1, and compares it.
+// Removes the value at `column` of row 1, and compares it with `value`.
 fn remove<A: Allocator>(
     checks: &mut Checks,
     table: &mut Rows<char, A>,
@@ -45,7 +45,7 @@ fn remove<A: Allocator>(
     }
 }
 
-// Compares the entries of the row 1, and whether it owns a block.
+// Compares the entries of row 1 with `entries`, and whether the row owns a block with `owns_block`.
 fn check_entries<A: Allocator>(
     checks: &mut Checks,
     table: &Rows<char, A>,
@@ -60,7 +60,7 @@ fn check_entries<A: Allocator>(
     }
 }
 
-/// Values of the sparse table, set and removed.
+/// Checks `set` and `remove` of a sparse table with three rows.
 pub fn row_40<A: Allocator + Copy>(alloc: A) -> Outcome {
     let mut checks = Checks::new();
     let mut table = Rows::with_rows(alloc, 3)?;

@@ -1,10 +1,10 @@
-//! Rows of the plain calls.
+//! The worked rows of calls on single items, of capacities, and of items of size zero.
 use crate::checks::Checks;
 use crate::rows::{Outcome, listed};
 use std::alloc::Allocator;
 use thin_vec::{ThinVec, ThinVecError};
 
-/// A new list has no capacity, and gets none from a `pop`.
+/// Checks that a new list has the capacity 0, and still has it after a `pop`.
 pub fn row_1<A: Allocator + Copy>(alloc: A) -> Outcome {
     let mut checks = Checks::new();
     let mut list: ThinVec<i32, A> = ThinVec::new(alloc);
@@ -15,7 +15,7 @@ pub fn row_1<A: Allocator + Copy>(alloc: A) -> Outcome {
     Ok(checks)
 }
 
-/// Five pushes, and the capacity after each.
+/// Checks the capacity after each of five pushes.
 pub fn row_2<A: Allocator + Copy>(alloc: A) -> Outcome {
     let mut checks = Checks::new();
     let mut list = ThinVec::new(alloc);
@@ -27,7 +27,8 @@ pub fn row_2<A: Allocator + Copy>(alloc: A) -> Outcome {
     Ok(checks)
 }
 
-/// The capacity after three ways of reserving room beside three items.
+/// Checks the capacity of a list of three items after `reserve` of 1 and of 10, and after
+/// `reserve_exact` of 1.
 pub fn row_4<A: Allocator + Copy>(alloc: A) -> Outcome {
     let mut checks = Checks::new();
     for (additional, is_exact, capacity) in [(1, false, 6), (10, false, 13), (1, true, 4)] {
@@ -42,7 +43,7 @@ pub fn row_4<A: Allocator + Copy>(alloc: A) -> Outcome {
     Ok(checks)
 }
 
-// Inserts a value, where the index is one of the list.
+// Inserts `value` at `index`, if `index` is at most the length.
 fn insert<T: Drop, A: Allocator>(
     list: &mut ThinVec<T, A>,
     index: usize,
@@ -54,7 +55,7 @@ fn insert<T: Drop, A: Allocator>(
     Ok(())
 }
 
-/// Inserts in the middle and at the end, the first of which grows the list.
+/// Checks an `insert` in the middle, which grows the list, and an `insert` at the end.
 pub fn row_5<A: Allocator + Copy>(alloc: A) -> Outcome {
     let mut checks = Checks::new();
     let mut list = listed(alloc, [1, 2, 3])?;
@@ -64,7 +65,8 @@ pub fn row_5<A: Allocator + Copy>(alloc: A) -> Outcome {
     Ok(checks)
 }
 
-// Compares the word that `swap_remove` returns, and those that it leaves.
+// Compares the word that `swap_remove` returns with `word`, and the words that are left with
+// `left`.
 fn check_swapped<A: Allocator>(
     checks: &mut Checks,
     list: &mut ThinVec<&'static str, A>,
@@ -78,7 +80,7 @@ fn check_swapped<A: Allocator>(
     checks.holds(list, left, 4);
 }
 
-/// `swap_remove` in the middle, and at the front.
+/// Checks `swap_remove` in the middle and at the front.
 pub fn row_6<A: Allocator + Copy>(alloc: A) -> Outcome {
     let mut checks = Checks::new();
     let mut list = listed(alloc, ["foo", "bar", "baz", "qux"])?;
@@ -87,7 +89,8 @@ pub fn row_6<A: Allocator + Copy>(alloc: A) -> Outcome {
     Ok(checks)
 }
 
-/// What is too much to reserve, or to begin with, is a `CapacityOverflow`.
+/// Checks that `reserve` and `with_capacity` return `CapacityOverflow` if the capacity is too large
+/// for any allocation.
 pub fn row_17<A: Allocator + Copy>(alloc: A) -> Outcome {
     let mut checks = Checks::new();
     let overflow = Some(ThinVecError::CapacityOverflow);
@@ -101,7 +104,7 @@ pub fn row_17<A: Allocator + Copy>(alloc: A) -> Outcome {
     Ok(checks)
 }
 
-/// Items of no size.
+/// Checks a list of items of size zero.
 pub fn row_19<A: Allocator + Copy>(alloc: A) -> Outcome {
     let mut checks = Checks::new();
     let mut list = ThinVec::new(alloc);
@@ -115,7 +118,7 @@ pub fn row_19<A: Allocator + Copy>(alloc: A) -> Outcome {
     Ok(checks)
 }
 
-/// A capacity that was asked for stays until `shrink_to_fit`.
+/// Checks that a list keeps the capacity that it was made with until `shrink_to_fit`.
 pub fn row_23<A: Allocator + Copy>(alloc: A) -> Outcome {
     let mut checks = Checks::new();
     let mut list = ThinVec::with_capacity(alloc, 10)?;

@@ -1,4 +1,4 @@
-//! Rows of `splice`.
+//! The worked rows of `splice`, and the row of calls on an empty list.
 use crate::checks::Checks;
 use crate::rows::bulk::claiming;
 use crate::rows::{Outcome, listed};
@@ -7,7 +7,8 @@ use std::iter::{empty, once};
 use thin_runner::hinted::Hinted;
 use thin_vec::{SpliceRefused, ThinVec, ThinVecError};
 
-// Splices three items for two of five, by a hint that claims so many.
+// Replaces two of five items with three, by an iterator that claims `claim` items, and checks the
+// list and its capacity.
 fn check_claimed<A: Allocator + Copy>(
     checks: &mut Checks,
     alloc: A,
@@ -21,7 +22,8 @@ fn check_claimed<A: Allocator + Copy>(
     Ok(())
 }
 
-/// A splice by a hint that claims too many items, and by a true one.
+/// Checks a `splice` by an iterator that claims too many items, and one by an iterator that claims
+/// the true number.
 pub fn row_10<A: Allocator + Copy>(alloc: A) -> Outcome {
     let mut checks = Checks::new();
     check_claimed(&mut checks, alloc, 1000, 1005)?;
@@ -29,7 +31,8 @@ pub fn row_10<A: Allocator + Copy>(alloc: A) -> Outcome {
     Ok(checks)
 }
 
-// A call that fails returns the item for which there was no room, and holds none.
+// Checks the error of a failed `finish`: the cause is an overflow, no item is held or in hand, and
+// the iterator still yields the item that was not inserted.
 fn check_refused<A: Allocator>(
     checks: &mut Checks,
     refused: SpliceRefused<i32, Hinted<i32, A>, A>,
@@ -46,7 +49,8 @@ fn check_refused<A: Allocator>(
     checks.items(&[rest.next(), rest.next()], &[Some(12), None]);
 }
 
-/// A splice by a hint that overflows fills the range's places alone.
+/// Checks that a `finish` whose size hint overflows the capacity fills the places of the range,
+/// inserts no further item, and fails.
 pub fn row_11<A: Allocator + Copy>(alloc: A) -> Outcome {
     let mut checks = Checks::new();
     let mut list = listed(alloc, [1, 2, 3, 4, 5])?;
@@ -59,7 +63,8 @@ pub fn row_11<A: Allocator + Copy>(alloc: A) -> Outcome {
     Ok(checks)
 }
 
-// Compares what a `Drain` and a `Splice` of nothing give on an empty list.
+// Checks that a `drain` of an empty list yields no item, and that a `splice` by an empty iterator
+// leaves it empty.
 fn check_edits_of_nothing<A: Allocator + Copy>(
     checks: &mut Checks,
     alloc: A,
@@ -73,7 +78,7 @@ fn check_edits_of_nothing<A: Allocator + Copy>(
     Ok(())
 }
 
-// Counts the questions of the calls that ask about items.
+// Counts the calls that `retain` and `dedup_by` make to their closures.
 fn count_questions<A: Allocator>(list: &mut ThinVec<i32, A>) -> u32 {
     let mut calls = 0u32;
     list.retain(|_item| {
@@ -87,7 +92,7 @@ fn count_questions<A: Allocator>(list: &mut ThinVec<i32, A>) -> u32 {
     calls
 }
 
-/// Calls on an empty list, which ask for no memory and call no closure.
+/// Checks that calls on an empty list request no memory and call no closure.
 pub fn row_22<A: Allocator + Copy>(alloc: A) -> Outcome {
     let mut checks = Checks::new();
     let mut list = ThinVec::new(alloc);
@@ -101,7 +106,8 @@ pub fn row_22<A: Allocator + Copy>(alloc: A) -> Outcome {
     Ok(checks)
 }
 
-// A range that is yielded whole, and nothing that takes its place, leave an empty list.
+// Checks a `splice` of a whole list by an empty iterator: it yields all items, and leaves an empty
+// list.
 fn check_emptied<A: Allocator + Copy>(checks: &mut Checks, alloc: A) -> Result<(), ThinVecError> {
     let mut list = listed(alloc, [1, 2, 3, 4, 5])?;
     let mut splice = list.splice(0, 5, empty());
@@ -113,7 +119,8 @@ fn check_emptied<A: Allocator + Copy>(checks: &mut Checks, alloc: A) -> Result<(
     Ok(())
 }
 
-// A splice of the numbers from 1 to 5 yields two items, and puts three in.
+// Checks a `splice` of a list of the numbers from 1 to 5 that yields two items and inserts three.
+// Returns the list.
 fn check_spliced<A: Allocator + Copy>(
     checks: &mut Checks,
     alloc: A,
@@ -126,7 +133,7 @@ fn check_spliced<A: Allocator + Copy>(
     Ok(list)
 }
 
-// A second splice yields what the first put in.
+// Checks a second `splice` of the list, which yields an item that the first one inserted.
 fn check_spliced_again<A: Allocator + Copy>(
     checks: &mut Checks,
     alloc: A,
@@ -141,7 +148,8 @@ fn check_spliced_again<A: Allocator + Copy>(
     Ok(())
 }
 
-/// Splices of an empty list, of one list twice, and of a whole list by nothing.
+/// Checks a `splice` of an empty list, two splices of the same list, and a `splice` that empties a
+/// list.
 pub fn row_32<A: Allocator + Copy>(alloc: A) -> Outcome {
     let mut checks = Checks::new();
     let mut list = ThinVec::new(alloc);

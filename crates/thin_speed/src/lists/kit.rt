@@ -1,9 +1,9 @@
-//! The kit's `Vec`.
+//! Implements the traits of `lists` for the `Vec` of Rattle's library, which the input calls `kit`.
 use crate::lists::{Family, List, Numbers};
 use crate::numbers::{Count, Outcome, Pick, Triple, Unhinted, Wide, mixed};
 use std::alloc::{AllocError, Global};
 
-/// The kit's `Vec`s.
+/// The kind of list that is the `Vec` of Rattle's library.
 pub struct Kit;
 
 impl Family for Kit {
@@ -226,7 +226,7 @@ fn build(alloc: Global, depth: usize) -> Result<Node, AllocError> {
     })
 }
 
-// The sum of the depths of all nodes.
+// Returns the sum of the depths of `node` and of all nodes below it.
 fn depths(node: &Node) -> u64 {
     let mut sum = node.depth;
     for child in &node.children {

@@ -1,10 +1,10 @@
-//! `ThinVec`.
+//! Implements the traits of `lists` for `ThinVec`, which the input calls `thin`.
 use crate::lists::{Family, List, Numbers};
 use crate::numbers::{Count, Outcome, Pick, Triple, Unhinted, Wide, mixed};
 use std::alloc::{AllocError, Global};
 use thin_vec::ThinVec;
 
-/// `ThinVec`s.
+/// The kind of list that is `ThinVec`.
 pub struct Thin;
 
 impl Family for Thin {
@@ -228,7 +228,7 @@ fn build(alloc: Global, depth: usize) -> Result<Node, AllocError> {
     })
 }
 
-// The sum of the depths of all nodes.
+// Returns the sum of the depths of `node` and of all nodes below it.
 fn depths(node: &Node) -> u64 {
     let mut sum = node.depth;
     for child in &node.children {

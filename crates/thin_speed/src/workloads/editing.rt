@@ -1,11 +1,11 @@
-//! Workloads in which items move within a list, or leave it by their place.
+//! Workloads that insert, remove or replace items at indices of a list.
 use crate::lists::{Family, Numbers};
 use crate::numbers::{Count, InTurn, One, Outcome, Two, mixed, seen};
 use crate::workloads::shapes::{Work, filled, refill, refilled, repeated};
 use std::alloc::Global;
 use std::marker::PhantomData;
 
-/// The workloads of this file.
+/// The workloads that this file defines.
 #[derive(Clone, Copy)]
 pub enum Editing {
     InsertFront,
@@ -23,7 +23,11 @@ pub enum Editing {
     SpliceUnhinted,
 }
 
-/// Runs one of them.
+/// Runs `workload` on lists of the kind `F`.
+///
+/// # Errors
+///
+/// Fails if there is no memory.
 pub fn run_editing<F: Family>(
     alloc: Global,
     workload: Editing,
@@ -51,7 +55,7 @@ pub fn run_editing<F: Family>(
     }
 }
 
-/// Inserts at the front.
+/// Inserts a number at the front, and pops the last one.
 pub struct InsertFirst;
 
 impl<L: Numbers> Work<L, u64> for InsertFirst {
@@ -65,7 +69,8 @@ impl<L: Numbers> Work<L, u64> for InsertFirst {
     }
 }
 
-/// Removes the first item or the one in the middle, and pushes it again with one more.
+/// Removes the first item, or the item in the middle if `IN_MIDDLE`, and pushes it again, increased
+/// by 1.
 pub struct Remove<const IN_MIDDLE: bool>;
 
 impl<L: Numbers, const IN_MIDDLE: bool> Work<L, u64> for Remove<IN_MIDDLE> {
@@ -83,7 +88,11 @@ impl<L: Numbers, const IN_MIDDLE: bool> Work<L, u64> for Remove<IN_MIDDLE> {
     }
 }
 
-/// Removes the item in the middle until there is none.
+/// Fills a list, and removes the item in the middle until the list is empty, `times` times.
+///
+/// # Errors
+///
+/// Fails if there is no memory.
 #[inline(never)]
 pub fn swap_remove<L: Numbers>(alloc: Global, size: usize, times: usize) -> Outcome {
     let mut list: L = filled(alloc, size)?;
@@ -99,7 +108,11 @@ pub fn swap_remove<L: Numbers>(alloc: Global, size: usize, times: usize) -> Outc
     Ok(sum)
 }
 
-/// Splits a list in the middle, and appends the second half again.
+/// Splits a list in the middle, and appends the second half again, `times` times.
+///
+/// # Errors
+///
+/// Fails if there is no memory.
 #[inline(never)]
 pub fn split_append<L: Numbers>(alloc: Global, size: usize, times: usize) -> Outcome {
     let mut list: L = filled(alloc, size)?;
@@ -111,7 +124,7 @@ pub fn split_append<L: Numbers>(alloc: Global, size: usize, times: usize) -> Out
     Ok(sum)
 }
 
-/// Drains the middle half.
+/// Drains the middle half of a list.
 pub struct Drain;
 
 impl<L: Numbers> Work<L, u64> for Drain {
@@ -122,7 +135,8 @@ impl<L: Numbers> Work<L, u64> for Drain {
     }
 }
 
-/// Drains the items from `START` up to `END`, and pushes as many.
+/// Drains the items from `START` up to, but not including, `END`, and pushes the same number of
+/// items.
 pub struct DrainFew<const START: usize, const END: usize>;
 
 impl<L: Numbers, const START: usize, const END: usize> Work<L, u64> for DrainFew<START, END> {
@@ -136,8 +150,8 @@ impl<L: Numbers, const START: usize, const END: usize> Work<L, u64> for DrainFew
     }
 }
 
-/// Puts one item or two in the place of the two from `START` up to `END`, and pushes what is
-/// missing.
+/// Replaces the two items from `START` up to, but not including, `END` with one item or two, and
+/// pushes an item if it was one.
 pub struct SpliceFew<C, const START: usize, const END: usize> {
     count: PhantomData<C>,
 }
@@ -154,7 +168,8 @@ impl<L: Numbers, C: Count, const START: usize, const END: usize> Work<L, u64>
     }
 }
 
-/// Puts all numbers in the place of the middle half, and knows how many there are.
+/// Replaces the middle half of a list with as many numbers as the list has items, from an iterator
+/// whose size hint is exact.
 pub struct SpliceHinted;
 
 impl<L: Numbers> Work<L, u64> for SpliceHinted {
@@ -165,7 +180,8 @@ impl<L: Numbers> Work<L, u64> for SpliceHinted {
     }
 }
 
-/// Puts all numbers in the place of the middle half, and doesn't know how many there are.
+/// Replaces the middle half of a list with as many numbers as the list has items, from an iterator
+/// whose size hint has the lower bound 0.
 pub struct SpliceUnhinted;
 
 impl<L: Numbers> Work<L, u64> for SpliceUnhinted {

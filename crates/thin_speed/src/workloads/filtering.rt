@@ -1,4 +1,4 @@
-//! Workloads in which a closure says which items leave the list.
+//! Workloads that remove items by `retain`, `dedup`, `dedup_by_key` or `extract_if`.
 use crate::lists::{Family, List, Numbers};
 use crate::numbers::{
     All, Even, InARun, InTurn, Item, NotOne, Nothing, Outcome, Pairs, Pick, Random, ThreeOfFour,
@@ -8,7 +8,7 @@ use crate::workloads::shapes::{Work, refilled};
 use std::alloc::Global;
 use std::marker::PhantomData;
 
-/// The workloads of this file.
+/// The workloads that this file defines.
 #[derive(Clone, Copy)]
 pub enum Filtering {
     RetainHalf,
@@ -28,7 +28,11 @@ pub enum Filtering {
     ExtractRandom,
 }
 
-/// Runs one of them.
+/// Runs `workload` on lists of the kind `F`.
+///
+/// # Errors
+///
+/// Fails if there is no memory.
 pub fn run_filtering<F: Family>(
     alloc: Global,
     workload: Filtering,
@@ -70,7 +74,7 @@ pub fn run_filtering<F: Family>(
     }
 }
 
-/// Keeps the items that are picked.
+/// Keeps the items that `P` picks, by `retain`.
 pub struct Retain<P> {
     picks: PhantomData<P>,
 }
@@ -83,7 +87,7 @@ impl<L: List<T>, T: Item, P: Pick> Work<L, T> for Retain<P> {
     }
 }
 
-/// Keeps the first of each two equal items.
+/// Removes the second of each two equal neighbours, by `dedup`.
 pub struct Dedup;
 
 impl<L: Numbers> Work<L, u64> for Dedup {
@@ -94,7 +98,7 @@ impl<L: Numbers> Work<L, u64> for Dedup {
     }
 }
 
-/// Keeps the first of each two items.
+/// Removes every second item, by `dedup_by_key`: half of an item, rounded down, is its key.
 pub struct DedupByKey;
 
 impl<L: Numbers> Work<L, u64> for DedupByKey {
@@ -105,7 +109,7 @@ impl<L: Numbers> Work<L, u64> for DedupByKey {
     }
 }
 
-/// Takes the items out that are picked.
+/// Extracts the items that `P` picks, by `extract_if`.
 pub struct Extract<P> {
     picks: PhantomData<P>,
 }

@@ -1,4 +1,4 @@
-//! Workloads in which a list grows, or is read to its end.
+//! Workloads in which a list grows, is filled again, or is read to its end.
 use crate::lists::{Family, List, Numbers};
 use crate::numbers::{
     InTurn, Item, Outcome, Pairs, SIXTEEN, Source, Triples, Turned, Wides, Words, mixed, seen,
@@ -7,7 +7,7 @@ use crate::workloads::shapes::{Idle, Make, filled, made_anew, refilled};
 use std::alloc::{AllocError, Global};
 use std::io::Write;
 
-/// The workloads of this file.
+/// The workloads that this file defines.
 #[derive(Clone, Copy)]
 pub enum Growing {
     Push,
@@ -32,7 +32,11 @@ pub enum Growing {
     RefillWide,
 }
 
-/// Runs one of them.
+/// Runs `workload` on lists of the kind `F`.
+///
+/// # Errors
+///
+/// Fails if there is no memory.
 pub fn run_growing<F: Family>(
     alloc: Global,
     workload: Growing,
@@ -63,7 +67,11 @@ pub fn run_growing<F: Family>(
     }
 }
 
-/// Pushes onto a new list.
+/// Pushes `size` items onto a new list, `times` times.
+///
+/// # Errors
+///
+/// Fails if there is no memory.
 #[inline(never)]
 pub fn push<L: List<T>, T: Item, S: Source<T>>(
     alloc: Global,
@@ -81,7 +89,11 @@ pub fn push<L: List<T>, T: Item, S: Source<T>>(
     Ok(sum)
 }
 
-/// Pushes onto a new list, then pops all.
+/// Pushes `size` numbers onto a new list, and then pops all of them, `times` times.
+///
+/// # Errors
+///
+/// Fails if there is no memory.
 #[inline(never)]
 pub fn push_pop<L: Numbers>(alloc: Global, size: usize, times: usize) -> Outcome {
     let mut sum = 0;
@@ -99,7 +111,7 @@ pub fn push_pop<L: Numbers>(alloc: Global, size: usize, times: usize) -> Outcome
     Ok(sum)
 }
 
-/// Pushes into room.
+/// Makes a list with enough capacity, and pushes numbers onto it.
 pub struct Reserved;
 
 impl<L: Numbers> Make<L> for Reserved {
@@ -109,7 +121,7 @@ impl<L: Numbers> Make<L> for Reserved {
     }
 }
 
-/// Extends a new list by an iterator that knows how many items it has.
+/// Extends a new list by an iterator whose size hint is exact.
 pub struct ExtendHinted;
 
 impl<L: Numbers> Make<L> for ExtendHinted {
@@ -121,7 +133,7 @@ impl<L: Numbers> Make<L> for ExtendHinted {
     }
 }
 
-/// Extends a new list by an iterator that doesn't.
+/// Extends a new list by an iterator whose size hint has the lower bound 0.
 pub struct ExtendUnhinted;
 
 impl<L: Numbers> Make<L> for ExtendUnhinted {
@@ -133,7 +145,7 @@ impl<L: Numbers> Make<L> for ExtendUnhinted {
     }
 }
 
-/// Extends a new list by the even ones of a slice.
+/// Extends a new list by the even numbers of a slice, which a filter yields.
 pub struct ExtendFilter;
 
 impl<L: Numbers> Make<L> for ExtendFilter {
@@ -145,7 +157,7 @@ impl<L: Numbers> Make<L> for ExtendFilter {
     }
 }
 
-/// Collects a list.
+/// Collects the items of an iterator into a new list.
 pub struct Collect;
 
 impl<L: Numbers> Make<L> for Collect {
@@ -155,7 +167,7 @@ impl<L: Numbers> Make<L> for Collect {
     }
 }
 
-/// Extends a new list by one slice.
+/// Extends a new list by copies of the items of a slice, in one call.
 pub struct ExtendSlice;
 
 impl<L: Numbers> Make<L> for ExtendSlice {
@@ -167,7 +179,7 @@ impl<L: Numbers> Make<L> for ExtendSlice {
     }
 }
 
-/// Extends a new list by slices of sixteen.
+/// Extends a new list by copies of sixteen items at a time.
 pub struct ExtendSixteen;
 
 impl<L: Numbers> Make<L> for ExtendSixteen {
@@ -181,7 +193,7 @@ impl<L: Numbers> Make<L> for ExtendSixteen {
     }
 }
 
-/// Makes a new list so long.
+/// Resizes a new list to the length `size`.
 pub struct Resize;
 
 impl<L: Numbers> Make<L> for Resize {
@@ -193,7 +205,7 @@ impl<L: Numbers> Make<L> for Resize {
     }
 }
 
-/// Copies a list.
+/// Makes a copy of a list.
 pub struct Copied;
 
 impl<L: Numbers> Make<L> for Copied {
@@ -203,7 +215,11 @@ impl<L: Numbers> Make<L> for Copied {
     }
 }
 
-/// Writes five bytes at a time.
+/// Writes five bytes to a new list, `size` times, and repeats this `times` times.
+///
+/// # Errors
+///
+/// Fails if there is no memory.
 #[inline(never)]
 pub fn write_five<L: List<u8> + Write>(alloc: Global, size: usize, times: usize) -> Outcome {
     let mut sum = 0;
@@ -219,7 +235,11 @@ pub fn write_five<L: List<u8> + Write>(alloc: Global, size: usize, times: usize)
     Ok(sum)
 }
 
-/// Fills a list, and takes each item out of it from the front.
+/// Fills a list, and consumes it from the front by `into_iter`, `times` times.
+///
+/// # Errors
+///
+/// Fails if there is no memory.
 #[inline(never)]
 pub fn into_iter<L: Numbers>(alloc: Global, size: usize, times: usize) -> Outcome {
     let mut sum = 0;

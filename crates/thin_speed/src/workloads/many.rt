@@ -1,9 +1,9 @@
-//! Workloads over many lists.
+//! Workloads that use many lists.
 use crate::lists::{Family, List};
 use crate::numbers::{Outcome, mixed};
 use std::alloc::{AllocError, Global};
 
-/// The workloads of this file.
+/// The workloads that this file defines.
 #[derive(Clone, Copy)]
 pub enum Many {
     EmptyLists,
@@ -13,7 +13,11 @@ pub enum Many {
     Tree,
 }
 
-/// Runs one of them.
+/// Runs `workload` on lists of the kind `F`.
+///
+/// # Errors
+///
+/// Fails if there is no memory.
 pub fn run_many<F: Family>(alloc: Global, workload: Many, size: usize, times: usize) -> Outcome {
     match workload {
         Many::EmptyLists => empty_lists::<F::Lists, F::Numbers>(alloc, size, times),
@@ -24,7 +28,11 @@ pub fn run_many<F: Family>(alloc: Global, workload: Many, size: usize, times: us
     }
 }
 
-/// Makes a list of so many empty lists, and walks over all.
+/// Makes a list of `size` empty lists, and reads all of them, `times` times.
+///
+/// # Errors
+///
+/// Fails if there is no memory.
 #[inline(never)]
 pub fn empty_lists<L: List<N>, N: List<u64>>(alloc: Global, size: usize, times: usize) -> Outcome {
     let mut sum = 0;
@@ -38,7 +46,12 @@ pub fn empty_lists<L: List<N>, N: List<u64>>(alloc: Global, size: usize, times: 
     Ok(sum)
 }
 
-/// Makes a list of so many lists, of which every sixteenth has three items, and walks over all.
+/// Makes a list of `size` lists, and reads all of them, `times` times. Every sixteenth of these
+/// lists has three items, and the others are empty.
+///
+/// # Errors
+///
+/// Fails if there is no memory.
 #[inline(never)]
 pub fn sparse_lists<L: List<N>, N: List<u64>>(alloc: Global, size: usize, times: usize) -> Outcome {
     let mut sum = 0;
@@ -58,7 +71,7 @@ pub fn sparse_lists<L: List<N>, N: List<u64>>(alloc: Global, size: usize, times:
     Ok(sum)
 }
 
-// The number of lists, and the sum of all items.
+// Returns the number of `lists`, plus the sum of their items.
 fn items_of<L: List<u64>>(lists: &[L]) -> u64 {
     let mut sum = lists.len() as u64;
     for list in lists {
@@ -69,7 +82,12 @@ fn items_of<L: List<u64>>(lists: &[L]) -> u64 {
     sum
 }
 
-/// Makes a list of styles, each a few rules, and counts those that are as the one before.
+/// Makes a list of `size` styles, each a list of at most four rules, and counts those that equal
+/// the style before them. Repeats this `times` times.
+///
+/// # Errors
+///
+/// Fails if there is no memory.
 #[inline(never)]
 pub fn styles<L: List<S>, S: List<u32>>(alloc: Global, size: usize, times: usize) -> Outcome {
     let mut sum = 0;
@@ -83,7 +101,8 @@ pub fn styles<L: List<S>, S: List<u32>>(alloc: Global, size: usize, times: usize
     Ok(sum)
 }
 
-// Up to three rules, and one before them where there are three, in every second such style.
+// Makes a style with up to three rules. Every second style with three rules gets one more rule at
+// the front.
 fn style<S: List<u32>>(alloc: Global, number: usize) -> Result<S, AllocError> {
     let mut style = S::new(alloc);
     for rule in 0..number & 3 {
@@ -95,7 +114,7 @@ fn style<S: List<u32>>(alloc: Global, number: usize) -> Result<S, AllocError> {
     Ok(style)
 }
 
-// How many styles are equal to the one before.
+// Returns how many styles equal the style before them.
 fn repeated<S: List<u32>>(styles: &[S]) -> u64 {
     let mut same = 0u64;
     for at in 1..styles.len() {
@@ -106,7 +125,12 @@ fn repeated<S: List<u32>>(styles: &[S]) -> u64 {
     same
 }
 
-/// Does steps, each two bytes, and undoes every fifth.
+/// Pushes `size` steps, each a list of two bytes, and pops the last step after every fifth push.
+/// Repeats this `times` times.
+///
+/// # Errors
+///
+/// Fails if there is no memory.
 #[inline(never)]
 pub fn undo<L: List<B>, B: List<u8>>(alloc: Global, size: usize, times: usize) -> Outcome {
     let mut steps = L::new(alloc);
@@ -128,7 +152,11 @@ pub fn undo<L: List<B>, B: List<u8>>(alloc: Global, size: usize, times: usize) -
     Ok(sum)
 }
 
-/// Builds trees so deep, and walks over them.
+/// Builds a tree of the depth `size`, and visits all its nodes, `times` times.
+///
+/// # Errors
+///
+/// Fails if there is no memory.
 #[inline(never)]
 pub fn tree<F: Family>(alloc: Global, size: usize, times: usize) -> Outcome {
     let mut sum = 0;

@@ -1,10 +1,10 @@
-//! The workloads by name.
+//! The names of the workloads, as the input spells them.
 use crate::workloads::editing::Editing;
 use crate::workloads::filtering::Filtering;
 use crate::workloads::growing::Growing;
 use crate::workloads::many::Many;
 
-/// A workload, which `run` does.
+/// A workload. Each variant is for the workloads that one file defines.
 #[derive(Clone, Copy)]
 pub enum Workload {
     Growing(Growing),
@@ -84,7 +84,7 @@ const WORKLOADS: [(&str, Workload); 53] = [
     ("tree", Workload::Many(Many::Tree)),
 ];
 
-/// The workload of that name, if there is one.
+/// Returns the workload with the name `name`, if there is one.
 pub fn named(name: &str) -> Option<Workload> {
     for (known, workload) in &WORKLOADS {
         if *known == name {

@@ -1,18 +1,22 @@
-//! What many workloads have in common: a loop, in which each does work of its own.
+//! The loops that many workloads share, and the traits for the work inside these loops.
 use crate::lists::{List, Numbers};
 use crate::numbers::{Item, Outcome, Source, mixed, seen};
 use std::alloc::{AllocError, Global};
 
-/// What a workload does to a list again and again.
+/// The work that a workload does on a list again and again.
 pub trait Work<L, T> {
-    /// Does it to the list, and mixes the items that it takes out into the sum.
+    /// Does the work once. Returns `sum` after mixing the items that it removes into it.
     ///
-    /// The number is the length of a list that is filled anew each time, or else how often it was
-    /// done before.
+    /// In `refilled`, `number` is the length of the list. In `repeated`, `number` is how often the
+    /// work was done before.
+    ///
+    /// # Errors
+    ///
+    /// Fails if there is no memory.
     fn work(list: &mut L, alloc: Global, number: usize, sum: u64) -> Outcome;
 }
 
-/// Nothing: the list is only filled.
+/// Does no work: the workload only fills a list.
 pub struct Idle;
 
 impl<L, T> Work<L, T> for Idle {
@@ -22,7 +26,12 @@ impl<L, T> Work<L, T> for Idle {
     }
 }
 
-/// Fills a list anew, in the block that it has.
+/// Clears a list, and pushes `size` items onto it. The list keeps its block if its capacity is
+/// large enough.
+///
+/// # Errors
+///
+/// Fails if there is no memory.
 #[inline(never)]
 pub fn refill<L: List<T>, T: Drop, S: Source<T>>(
     alloc: Global,
@@ -36,7 +45,11 @@ pub fn refill<L: List<T>, T: Drop, S: Source<T>>(
     Ok(())
 }
 
-/// Fills the same list anew each time, and works on it.
+/// Makes a list, and then `times` times fills it again and does the work `W` on it.
+///
+/// # Errors
+///
+/// Fails if there is no memory.
 #[inline(never)]
 pub fn refilled<L: List<T>, T: Item, S: Source<T>, W: Work<L, T>>(
     alloc: Global,
@@ -53,7 +66,11 @@ pub fn refilled<L: List<T>, T: Item, S: Source<T>, W: Work<L, T>>(
     Ok(sum)
 }
 
-/// The numbers below `size`, in a block of just that size.
+/// Makes a list of the numbers below `size`, with the capacity `size`.
+///
+/// # Errors
+///
+/// Fails if there is no memory.
 #[inline(never)]
 pub fn filled<L: List<u64>>(alloc: Global, size: usize) -> Result<L, AllocError> {
     let mut list = L::with_capacity(alloc, size)?;
@@ -63,7 +80,11 @@ pub fn filled<L: List<u64>>(alloc: Global, size: usize) -> Result<L, AllocError>
     Ok(list)
 }
 
-/// Fills a list once, and works on it again and again.
+/// Fills a list once, and does the work `W` on it `times` times.
+///
+/// # Errors
+///
+/// Fails if there is no memory.
 #[inline(never)]
 pub fn repeated<L: Numbers, W: Work<L, u64>>(alloc: Global, size: usize, times: usize) -> Outcome {
     let mut list: L = filled(alloc, size)?;
@@ -74,13 +95,22 @@ pub fn repeated<L: Numbers, W: Work<L, u64>>(alloc: Global, size: usize, times: 
     Ok(mixed(sum, seen(list.as_slice())))
 }
 
-/// How a workload makes a new list.
+/// The way in which a workload makes a new list.
 pub trait Make<L> {
-    /// Makes one so long, or of the items of a list that is.
+    /// Makes a new list of the length `size`, or a new list from the items of `source`, which has
+    /// the length `size`.
+    ///
+    /// # Errors
+    ///
+    /// Fails if there is no memory.
     fn make(alloc: Global, size: usize, source: &L) -> Result<L, AllocError>;
 }
 
-/// Makes a new list each time.
+/// Makes a new list by `M`, `times` times.
+///
+/// # Errors
+///
+/// Fails if there is no memory.
 #[inline(never)]
 pub fn made_anew<L: Numbers, M: Make<L>>(alloc: Global, size: usize, times: usize) -> Outcome {
     let source: L = filled(alloc, size)?;

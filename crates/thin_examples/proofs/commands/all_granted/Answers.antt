@@ -1,4 +1,5 @@
--- A reply that has no cause of a failure is granted, and so are all if the loop ends.
+-- `all_granted`: a reply without a cause of failure is granted, so if the loop runs to its end, all
+-- replies are granted.
 use Rattle.std.proofs.Common.{◌≡◌, None, sym, ◌∙◌, ap, rules}
 use Rattle.std.proofs.lemmas.List.{get_or_default}
 use Rattle.std.proofs.lemmas.List.Elements.{All-from_all_within, AllWithin-more, AllWithin-upto}

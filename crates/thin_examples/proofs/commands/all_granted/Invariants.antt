@@ -1,4 +1,4 @@
--- All replies that the loop has read are granted.
+-- `all_granted`: all replies that the loop has read are granted.
 use Rattle.std.specs.List.{AllWithin}
 use Rattle.thin_runner.specs.Replies.{IsGranted}
 use Rattle.thin_examples.proofs.commands.all_granted.Given as goal

@@ -1,4 +1,5 @@
--- The closure returns what the test does, so the items left are those that pass it.
+-- `keep_even`: the closure returns true for the even numbers alone, so the items left are the even
+-- numbers.
 use Rattle.std.proofs.Common.{rules}
 use Rattle.thin_vec.proofs.RetainLemmas.{retained_filter}
 use Rattle.thin_examples.proofs.filtering.keep_even.Goals as goal

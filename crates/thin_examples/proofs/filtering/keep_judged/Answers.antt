@@ -1,4 +1,5 @@
--- The closure returns what the judge that it holds does.
+-- `keep_judged`: the closure returns what its judge returns, so the items left are those that the
+-- judge keeps.
 use Rattle.std.proofs.Common.{rules}
 use Rattle.thin_examples.proofs.JudgeLemmas.{retained-by}
 use Rattle.thin_examples.proofs.filtering.keep_judged.Goals as goal

@@ -1,4 +1,5 @@
--- What came in, and room for what is to come.
+-- `append_doubled`: the list has its old items, followed by twice each number that the loop has
+-- read, and it has room for the numbers that the loop has not read yet.
 use Rattle.std.proofs.Common.{◌≡◌, ◌+◌, ◌*◌, ◌++◌, ◌≤◌, length, map, take}
 use Rattle.thin_examples.proofs.handed_over.append_doubled.Given as goal
 

@@ -1,4 +1,5 @@
--- What came over, and room for what is to come.
+-- `hand_over`: `other` has its old items, followed by the items yielded so far, and it has room for
+-- the items not yielded yet.
 use Rattle.std.proofs.Common.{◌≡◌, ◌+◌, ◌++◌, ◌≤◌, length}
 use Rattle.thin_vec.specs.Edits.Drain.{drain_rest}
 use Rattle.thin_examples.proofs.handed_over.hand_over.Given as goal

@@ -1,4 +1,5 @@
--- Each call of `next` hands an odd number over, and keeps the even ones before it.
+-- `hand_over_odd`: each call of `next` extracts an odd number, which is then pushed to `other`, and
+-- keeps the even numbers before it.
 use Rattle.std.proofs.Common.{◌≡◌, ℕ, ◌-◌, ◌%◌, ◌==◌, ◌++◌, Bool, List, [], ◌∷◌, ap, append_assoc, arith, length, rules, sym, take, ◌∙◌}
 use Rattle.std.proofs.Math.Seq.{take-length}
 use Rattle.std.proofs.lemmas.List.{append-nil, length-append}
@@ -8,11 +9,11 @@ use Rattle.thin_vec.specs.Edits.ExtractIf.{extract_front, extract_rest}
 use Rattle.thin_examples.proofs.PickLemmas.{others, parts}
 use Rattle.thin_examples.proofs.handed_over.hand_over_odd.Goals as goal
 
--- the test
+-- the test of the closure: whether a number is odd
 abbrev odd : ℕ → Bool
 odd number = number % 2 == 1
 
--- a range of all items
+-- if n is the length of xs, the range of xs from 0 up to n is xs
 whole : (xs : List ℕ) (n : ℕ) → n ≡ length xs → slice_range xs 0 n ≡ xs
 whole xs n e = let same : n - 0 ≡ length xs = omega (arith, e) in
     ap (λ m. take m xs) same ∙ take-length xs

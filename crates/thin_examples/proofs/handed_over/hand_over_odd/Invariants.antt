@@ -1,4 +1,7 @@
--- What went over, and what stays: of those that were asked about, and of those that are to be.
+-- `hand_over_odd`, in this order: `other`, followed by the odd numbers not tested yet, is the old
+-- `other` followed by all odd numbers. The numbers kept so far, followed by the even numbers not
+-- tested yet, are all even numbers. There are no items after the range. The edit borrows the same
+-- list as at the start. `other` has room for all numbers not tested yet.
 use Rattle.std.proofs.Common.{◌≡◌, ◌+◌, ◌%◌, ◌==◌, ◌++◌, ◌≤◌, [], length}
 use Rattle.std.specs.Prelude.{filter, not}
 use Rattle.thin_vec.specs.Edits.ExtractIf.{extract_front, extract_lender, extract_rest, extract_tail}

@@ -1,5 +1,6 @@
--- What came over and what is to come are the range, with room for the latter; and the list is to
--- have what it was to have.
+-- `hand_over_stepwise`, in this order: `other`, followed by the items not yielded yet, is the old
+-- `other` followed by the items of the range. `other` has room for the items not yielded yet. The
+-- items that the list will have after the `Drain` is dropped have not changed.
 use Rattle.std.proofs.Common.{◌≡◌, ◌+◌, ◌++◌, ◌≤◌, length}
 use Rattle.thin_vec.specs.Edits.Drain.{DrainKeeps, drain_rest}
 use Rattle.thin_examples.proofs.handed_over.hand_over_stepwise.Given as goal

@@ -1,4 +1,4 @@
--- The closure always returns true.
+-- `kept_all`: the closure always returns true, so `retain` keeps all items and moves none.
 use Rattle.std.proofs.Common.{rules}
 use Rattle.thin_examples.proofs.MovesLemmas.{keeps-cost, keeps-items}
 use Rattle.thin_examples.proofs.moves.kept_all.Goals as goal

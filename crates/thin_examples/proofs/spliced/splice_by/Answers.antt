@@ -1,4 +1,5 @@
--- What `finish` left where the reference leads is what the list is.
+-- `splice_by`: the splice borrows the list, so the list after the call is the list as `finish` left
+-- it.
 use Rattle.std.proofs.Common.{◌≡◌, ◌++◌, drop, rules, subst, take}
 use Rattle.std.specs.Iterator.Runs.{WholeRun}
 use Rattle.std.specs.Prelude.{OnOk}

@@ -1,4 +1,5 @@
--- What came over, and what is to come, are all the items.
+-- `carried_over`: the items of the `Vec`, followed by the items not yielded yet, are the items of
+-- the list.
 use Rattle.std.proofs.Common.{◌≡◌, ◌++◌, length}
 use Rattle.thin_examples.proofs.walks.carried_over.Given as goal
 

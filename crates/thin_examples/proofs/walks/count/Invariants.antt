@@ -1,4 +1,4 @@
--- As many as were handed out.
+-- `count`: the count is the number of items yielded so far.
 use Rattle.std.proofs.Common.{◌≡◌, length}
 use Rattle.thin_examples.proofs.walks.count.Given as goal
 

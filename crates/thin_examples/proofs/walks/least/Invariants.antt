@@ -1,4 +1,4 @@
--- The least of those that were handed out so far.
+-- `least`: the variable `least` is the minimum of `start` and the items yielded so far.
 use Rattle.std.proofs.Common.{◌≡◌, min}
 use Rattle.std.specs.List.{fold}
 use Rattle.thin_examples.proofs.walks.least.Given as goal

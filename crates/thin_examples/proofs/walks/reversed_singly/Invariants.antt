@@ -1,4 +1,4 @@
--- What came over is what was handed out.
+-- `reversed_singly`: the items of the `Vec` are the items yielded so far, in the same order.
 use Rattle.std.proofs.Common.{◌≡◌}
 use Rattle.thin_examples.proofs.walks.reversed_singly.Given as goal
 

@@ -1,4 +1,5 @@
--- What is put onto `back` takes the change back, and fits.
+-- `make`: the change that it appends to `back` undoes the change that it carries out, and fits the
+-- new text.
 use Rattle.std.proofs.Common.{◌≡◌, arith}
 use Rattle.text_editor.proofs.ChangesLemmas.{AllFit-last, comes_in, takes_back, texts_of-last}
 use Rattle.text_editor.specs.Changes.{changed}

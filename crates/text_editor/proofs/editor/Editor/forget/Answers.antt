@@ -1,4 +1,5 @@
--- What is left of the past is its first texts, as many as changes.
+-- `forget`: after the oldest changes are removed, the past has the first texts of the old past, one
+-- for each remaining change.
 use Rattle.std.proofs.Common.{◌≡◌, ℕ, ◌-◌, ap, arith, drop, length, rules, sym, take, ◌∙◌}
 use Rattle.std.proofs.lemmas.List.{take_all}
 use Rattle.text_editor.proofs.ChangesLemmas.{AllFit-drop, length-texts_of, texts_of-drop}

@@ -1,4 +1,4 @@
--- Where the allocator fails, there was a change to make.
+-- `redo`: if the allocator fails, there was a change to redo, so the error is not `NothingToRedo`.
 use Rattle.std.proofs.Common.{ap, rules, ◌∙◌}
 use Rattle.text_editor.proofs.ChangesLemmas.{no_text}
 use Rattle.text_editor.specs.History.{History}

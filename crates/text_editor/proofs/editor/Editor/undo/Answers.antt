@@ -1,4 +1,4 @@
--- Where the allocator fails, there was a change to make.
+-- `undo`: if the allocator fails, there was a change to undo, so the error is not `NothingToUndo`.
 use Rattle.std.proofs.Common.{ap, rules, ◌∙◌}
 use Rattle.text_editor.proofs.ChangesLemmas.{no_text}
 use Rattle.text_editor.specs.History.{History}

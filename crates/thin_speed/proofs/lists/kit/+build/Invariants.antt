@@ -1,4 +1,4 @@
--- A tree is built by depth: a node that is to have children has some depth left.
+-- `build` calls itself with a smaller depth; inside its loop, the depth is greater than 0.
 use Rattle.std.proofs.Common.{◌<◌}
 use Rattle.thin_speed.proofs.lists.kit.+build.Given as goal
 
