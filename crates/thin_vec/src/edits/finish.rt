@@ -7,37 +7,35 @@ ghost use Rattle.thin_block.specs.Cost.{moving};
 ghost use Rattle.thin_vec.specs.List.Extend.{IsNamed};
 ghost use Rattle.thin_vec.specs.Open.{IsOf, reach};
 ghost use Rattle.thin_vec.specs.Edits.Splice.{IsStopCause, Stopped};
-ghost use Rattle.thin_vec.specs.Edits.Finish.{HasTaken, IsFilled, IsFinished};
+ghost use Rattle.thin_vec.specs.Edits.Finish.{HasTaken, IsClosedWith, IsFinished};
+ghost use Rattle.thin_vec.specs.Put.{IsFilledBy};
 ghost use Rattle.thin_vec.specs.ThinVec.{HasRoomFor};
 
 use crate::errors::{ExtendRefused, SpliceRefused};
 use crate::list::ThinVec;
 use crate::open_block::OpenBlock;
+use crate::put::Filled;
 use std::alloc::{AllocFailed, Allocator};
 use std::iter::Iterator;
 use thin_block::{Growth, ThinVecError};
 
 impl<T, A: Allocator, G: Growth> ThinVec<T, A, G> {
-    // Fills the gap and closes it. Returns where the placed items end, the iterator, and whether it
-    // ended before the gap was full.
-    fn close_filled<I: Iterator<Item = T>>(
-        &mut self,
-        mut block: OpenBlock<T, A>,
-        iter: I,
-    ) -> (usize, I, bool)
+    // Fills the gap of `block` with the items that `iter` yields, and makes `block` the block of
+    // the list again.
+    fn fill_gap<I: Iterator<Item = T>>(&mut self, mut block: OpenBlock<T, A>, iter: I) -> Filled<I>
         requires empty { self.old.items ≡ [] }
         requires none { block.rest ≡ [] }
         requires after { block.after ≡ 0 }
         requires from { IsOf block.alloc self.old.alloc }
         requires can_next { I.can_next iter }
         requires finite { IsFinite (I.remaining iter) }
-        ensures { IsFilled I.next_gives I.can_next I.remaining block self.old.alloc iter self.new
-            result.0 result.1 result.2 }
+        ensures filled { (by : IsFilledBy I.next_gives I.can_next I.remaining block.before iter result)
+            × IsClosedWith block by.items self.old.alloc self.new
+            × (result.end ≡ length block.front + length by.items) }
     {
-        let (rest, ended) = block.fill(iter);
-        let end = block.front_len();
+        let filled = block.fill(iter);
         self.close(block);
-        (end, rest, ended)
+        filled
     }
 }
 
@@ -129,7 +127,7 @@ impl<T: Drop, A: Allocator, G: Growth> ThinVec<T, A, G> {
         ensures { IsFinished I.next_gives I.can_next I.remaining G.rule T.row block self.old.alloc
             iter self.new result }
     {
-        let (end, rest, ended) = self.close_filled(block, iter);
+        let Filled { rest, end, ended } = self.fill_gap(block, iter);
         if ended {
             return Ok(());
         }
@@ -143,11 +141,11 @@ impl<T: Drop, A: Allocator, G: Growth> ThinVec<T, A, G> {
             });
         }
         let wide = self.open_wide(end, hint);
-        let (last, beyond, over) = self.close_filled(wide, rest);
-        if over {
+        let Filled { rest, end, ended } = self.fill_gap(wide, rest);
+        if ended {
             return Ok(());
         }
-        self.insert_held(last, beyond, alloc)
+        self.insert_held(end, rest, alloc)
     }
 
     // Appends what `iter` yields to the items in front, as `extend` does: there are none after the
