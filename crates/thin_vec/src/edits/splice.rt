@@ -185,6 +185,7 @@ impl<
         let Splice { list, holder, iter } = self;
         let mut block = holder.into_inner();
         block.drop_rest();
+        // The list is empty. This call proves it, and `close` requires it.
         list.clear();
         let answer = if block.has_tail() {
             list.fill_between(block, iter, alloc)
