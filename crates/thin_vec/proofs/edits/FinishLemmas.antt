@@ -147,37 +147,24 @@ module _ {S T A : Type 0} {steps : S → Option T → S → Type 0} {can : S →
               ((ap (λ n. n + (length xs + e.0)) (length-append v.front v.tail) ∙ want) i)) ∙ e.2,
         )
 
-    -- the list opened at `end` has the tail for its tail
-    pub reached-wide : {b : Open T A} (count : ℕ) → IsWide b u end count
-        → length b.tail ≡ length v.tail
-    reached-wide count wide =
-        omega (arith, ap length wide.tail, length-drop end u.items, reached-long)
-
-    -- the list u was opened at `end`, and what came next filled that gap
-    pub reached-more : {b : Open T A} {a : A} {w : Thin T A} {f : Filled S} (count : ℕ)
-        → IsWide b u end count → (q : FillsGap steps can remaining b a t w f) → f.ended ≡ false
-        → IsReached steps can remaining v s w (xs ++ q.0.items) f.end f.rest
-    reached-more {b} count wide q more =
-        let now = filled-reached q more in
-        let ys = q.0.items in
+    -- then more items were inserted at `end`, and the iterator has not ended
+    pub reached-more : {w : Thin T A} {room : ℕ} {f : Filled S}
+        (by : IsFilledBy steps can remaining room t f)
+        → w.items ≡ (take end u.items ++ by.items) ++ drop end u.items
+        → f.end ≡ end + length by.items → f.ended ≡ false
+        → IsReached steps can remaining v s w (xs ++ by.items) f.end f.rest
+    reached-more {f = f} by items ends more =
+        let ys = by.items in
         let long = length-append xs ys in
         record {
-          items = now.items
-              ∙ ((λ i. (wide.front i ++ ys) ++ wide.tail i)
-              ∙ between-more v u.items xs ys end p.items p.ends);
-          ends = omega (
-            arith,
-            now.ends,
-            ap length wide.front,
-            length-take-le end u.items wide.in_bounds,
-            p.ends,
-            long,
-          );
-          gave = yields-join steps s t _ xs ys p.gave now.gave;
+          items = items ∙ between-more v u.items xs ys end p.items p.ends;
+          ends = omega (arith, ends, p.ends, long);
+          gave = yields-join steps s t f.rest xs ys p.gave
+              (subst (λ b. Gives steps t ys b f.rest) more by.gave);
           full = omega (arith, p.full, long);
-          can_next = now.can_next;
-          finite = now.finite;
-          nearer = omega (arith, p.nearer, now.nearer, long);
+          can_next = (by.asked more).0;
+          finite = (by.asked more).1;
+          nearer = omega (arith, p.nearer, by.nearer more, long);
         }
 
   module _ {rule : Rule} {R : RattleType} (v : Open T A) (a : A) (s : S) (w : Thin T A) where
