@@ -1,9 +1,38 @@
--- What a block holds while the items of a `Vec` come in, from the last to the first.
+-- What filling slots from an iterator says of the number of its items, and what a block holds while
+-- the items of a `Vec` come in, from the last to the first.
 use Rattle.std.proofs.Common.{◌≡◌, ℕ, ◌+◌, ◌<◌, ◌≤◌, List, [], ◌∷◌, ◌++◌, length, take, drop, Option, Some, None, sym, ap, ◌∙◌, append_assoc, arith, get_or, length-append}
 use Rattle.std.proofs.lemmas.List.{append-nil, length-take-le, length_push, set_at, take_more}
 use lib.ListN.{set}
 use Rattle.thin_block.specs.Slots.{full, laid}
 use Rattle.thin_block.proofs.SlotsLemmas.{laid-none}
+use Rattle.std.proofs.Common.{Bool, true, false, refl}
+use Rattle.std.specs.Iterator.{Count}
+use Rattle.thin_vec.specs.Put.{IsFilledBy}
+use Rattle.thin_vec.specs.declared.put.Filled.{Filled}
+
+module _ {S X : Type 0} {steps : S → Option X → S → Type 0} {can : S → Type 0}
+    {remaining : S → Count} {s : S} {f : Filled S} where
+  -- the items that were placed are at most as many as there were slots
+  pub filled-fits : {room : ℕ} (by : IsFilledBy steps can remaining room s f)
+      → length by.items ≤ room
+  filled-fits {room} by = go f.ended by.full by.short
+    where
+      go : (ended : Bool) → (ended ≡ false → length by.items ≡ room)
+          → (ended ≡ true → length by.items < room) → length by.items ≤ room
+      go true full short = omega (arith, short refl)
+      go false full short = omega (arith, full refl)
+
+  -- if two numbers of slots are equal, filling one is filling the other
+  abbrev pub filled-room : {m n : ℕ} → m ≡ n → IsFilledBy steps can remaining m s f
+      → IsFilledBy steps can remaining n s f
+  filled-room same by = record {
+    items = by.items;
+    gave = by.gave;
+    full = λ more. omega (arith, same, by.full more);
+    short = λ ends. omega (arith, same, by.short ends);
+    asked = by.asked;
+    nearer = by.nearer;
+  }
 
 module _ {T : Type 0} where
   -- one slot more is laid, before the others

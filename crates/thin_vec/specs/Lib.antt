@@ -5,6 +5,7 @@ pub mod List
 pub mod Edits
 pub mod OpenBlock
 pub mod Open
+pub mod Put
 pub mod Lends
 pub mod Ranges
 pub mod Convert

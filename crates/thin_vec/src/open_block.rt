@@ -116,14 +116,6 @@ impl<T, A: Allocator, G: Growth> ThinVec<T, A, G> {
 }
 
 impl<T, A: Allocator> OpenBlock<T, A> {
-    // How many items the front has.
-    pub(crate) fn front_len(&self) -> usize
-        ensures value { result ≡ length self.now.front }
-        ensures in_bounds { result ≤ self.now.capacity }
-    {
-        self.front_end
-    }
-
     // How many items the middle run has.
     pub(crate) fn rest_len(&self) -> usize
         ensures value { result ≡ length self.now.rest }

@@ -1,16 +1,26 @@
 //! Loops over a block: items are put into its empty slots, or taken out to be dropped.
-ghost use Rattle.std.specs.Iterator.{IsFinite, size};
+ghost use Rattle.std.specs.Iterator.{IsFinite};
 ghost use Rattle.std.specs.List.{FoldsTo};
-ghost use Rattle.std.specs.Prelude.{true, false, ◌≡◌, ℕ, ◌+◌, ◌-◌, ◌<◌, ◌≤◌, List, HoldsAt, length, replicate};
+ghost use Rattle.std.specs.Prelude.{◌≡◌, ℕ, ◌+◌, ◌-◌, ◌<◌, ◌≤◌, List, HoldsAt, length, replicate};
 ghost use Rattle.thin_block.specs.Block.{seen};
 ghost use Rattle.thin_block.specs.Cost.{moving};
 ghost use Rattle.thin_block.specs.Slots.{AreEmpty, IsPacked, empty, full, laid, slot};
 ghost use Rattle.thin_vec.specs.List.Clones.{LaysClones};
-ghost use Rattle.thin_vec.specs.List.Extend.{Gives};
+ghost use Rattle.thin_vec.specs.Put.{IsFilledBy};
 
 use std::alloc::Allocator;
 use std::iter::Iterator;
 use thin_block::Block;
+
+/// What is left of an iterator whose items were placed in empty slots, in order.
+pub(crate) struct Filled<I> {
+    /// The iterator, which yields the items that were not placed.
+    pub(crate) rest: I,
+    /// The index of the slot after the last item that was placed.
+    pub(crate) end: usize,
+    /// Whether the iterator returned `None` before the slots were full.
+    pub(crate) ended: bool,
+}
 
 // Drops the first `len` items of a block, which are all that it has.
 pub(crate) fn drop_items<T: Drop, A: Allocator>(block: &mut Block<T, A>, len: usize)
@@ -128,40 +138,43 @@ pub(crate) fn put_results<T, A: Allocator, F: FnMut() -> T>(
     }
 }
 
-// Puts what `iter` yields into the empty slots from `start` up to `end`. Returns the iterator,
-// where it stopped, and whether the iterator ended before the slots were full.
+// Puts the items that `iter` yields into the empty slots from `start` up to `end`. Stops if the
+// iterator returns `None` or the slots are full.
 pub(crate) fn put_iter<T, A: Allocator, I: Iterator<Item = T>>(
     block: &mut Block<T, A>,
     start: usize,
     end: usize,
     iter: I,
-) -> (I, usize, bool)
+) -> Filled<I>
     requires start_le_end { start ≤ end }
     requires in_bounds { end ≤ length block.old.slots }
     requires empty { (k : ℕ) → start ≤ k → k < end → slot block.old.slots k ≡ None }
     requires can_next { I.can_next iter }
     requires finite { IsFinite (I.remaining iter) }
-    ensures slots { (xs : List T) × (block.new.slots ≡ laid start (full xs) block.old.slots)
-        × (result.1 ≡ start + length xs) × Gives I.next_gives iter xs result.2 result.0 }
-    ensures within { result.1 ≤ end }
+    ensures filled { (by : IsFilledBy I.next_gives I.can_next I.remaining (end - start) iter result)
+        × (block.new.slots ≡ laid start (full by.items) block.old.slots)
+        × (result.end ≡ start + length by.items) }
     ensures changes { seen block.new ≡ record (seen block.old) {
       slots = block.new.slots;
-      cost = moving (result.1 - start) block.old.cost;
+      cost = moving (result.end - start) block.old.cost;
     } }
-    ensures rest { result.2 ≡ false → I.can_next result.0 × IsFinite (I.remaining result.0) }
-    ensures nearer { result.2 ≡ false → result.1 + size (I.remaining result.0) ≤ start + size
-        (I.remaining iter) }
-    ensures full { result.2 ≡ false → result.1 ≡ end }
-    ensures short { result.2 ≡ true → result.1 < end }
 {
     let mut rest = iter;
     let mut i = start;
     while i < end {
         let Some(item) = rest.next() else {
-            return (rest, i, true);
+            return Filled {
+                rest,
+                end: i,
+                ended: true,
+            };
         };
         block.put(i, item);
         i += 1;
     }
-    (rest, i, false)
+    Filled {
+        rest,
+        end: i,
+        ended: false,
+    }
 }

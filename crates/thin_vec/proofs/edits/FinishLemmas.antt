@@ -1,5 +1,5 @@
 -- The steps by which a splice's gap is filled, and what they come to.
-use Rattle.std.proofs.Common.{if◌then◌else◌, inl, inr, Option, drop, take, subst, ◌≡◌, ℕ, ◌+◌, ◌-◌, ◌*◌, ◌<◌, ◌≤◌, Bool, true, false, eqb, List, [], ◌++◌, ap, arith, length, length-append, refl, sym, ◌∙◌}
+use Rattle.std.proofs.Common.{if◌then◌else◌, inl, inr, Option, drop, take, subst, ◌≡◌, ℕ, ◌+◌, ◌-◌, ◌*◌, ◌<◌, ◌≤◌, true, false, eqb, List, [], ◌++◌, ap, arith, length, length-append, refl, sym, ◌∙◌}
 use Rattle.std.proofs.lemmas.List.{length-drop, length-take-le}
 use Rattle.std.specs.Borrow.{RattleType}
 use Rattle.std.specs.Prelude.{IfErr, IsOk, OnErr, OnOk}
@@ -8,9 +8,11 @@ use Rattle.std.specs.declared.result.Result.TheVariants.{Ok, Err}
 use Rattle.std.specs.Iterator.{Count, Drains, IsFinite, Yields, size}
 use Rattle.thin_block.specs.Cost.{moving}
 use Rattle.thin_block.specs.Growth.{KeepsLaw, Rule, ruled_capacity}
-use Rattle.thin_vec.specs.List.Extend.{Gives, IsExtended, IsNamed}
+use Rattle.thin_vec.specs.List.Extend.{IsExtended, IsNamed}
+use Rattle.thin_vec.specs.Put.{Gives, IsFilledBy}
+use Rattle.thin_vec.specs.declared.put.Filled.{Filled}
 use Rattle.thin_vec.specs.Edits.Splice.{IsStopCause, Stopped, left_of, with_between}
-use Rattle.thin_vec.specs.Edits.Finish.{HasTaken, IsFilled, IsFinished}
+use Rattle.thin_vec.specs.Edits.Finish.{HasTaken, IsClosedWith, IsFinished}
 use Rattle.thin_vec.specs.Open.{Open}
 use Rattle.thin_vec.specs.ThinVec.{Thin}
 use Rattle.thin_vec.specs.declared.errors.SpliceRefused.{SpliceRefused}
@@ -28,6 +30,13 @@ module _ {T A : Type 0} where
 
 module _ {S T A : Type 0} (steps : S → Option T → S → Type 0) (can : S → Type 0)
     (remaining : S → Count) where
+  -- the gap of the block v was filled from s, and v became the block of the list w, whose allocator
+  -- is a; f is what is left of s
+  abbrev pub FillsGap : Open T A → A → S → Thin T A → Filled S → Type 0
+  FillsGap v a s w f =
+      (by : IsFilledBy steps can remaining v.before s f) × IsClosedWith v by.items a w
+      × (f.end ≡ length v.front + length by.items)
+
   -- the list u has the items of v, and xs in its gap up to the slot `end`, which s gave: the gap is
   -- full, and t is asked next
   pub record IsReached (v : Open T A) (s : S) (u : Thin T A) (xs : List T) (end : ℕ)
@@ -42,44 +51,44 @@ module _ {S T A : Type 0} (steps : S → Option T → S → Type 0) (can : S →
 
 module _ {S T A : Type 0} {steps : S → Option T → S → Type 0} {can : S → Type 0}
     {remaining : S → Count} where
-  module _ {v : Open T A} {a : A} {s : S} {w : Thin T A} {end : ℕ} {rest : S} {ended : Bool}
-      (p : IsFilled steps can remaining v a s w end rest ended) where
+  module _ {v : Open T A} {a : A} {s : S} {w : Thin T A} {f : Filled S}
+      (p : FillsGap steps can remaining v a s w f) where
     -- how many items there are once the gap is filled
-    pub filled-long : length w.items ≡ length v.front + length v.tail + (end - length v.front)
-    filled-long = omega (arith, ap length p.items.1, between-length v p.items.0, p.items.2)
+    pub filled-long : length w.items ≡ length v.front + length v.tail + length p.0.items
+    filled-long = omega (arith, ap length p.1.items, between-length v p.0.items)
 
-    -- the iterator went on: the gap is full
-    pub filled-reached : ended ≡ false
-        → IsReached steps can remaining v s w p.items.0 end rest
+    -- if the iterator has not ended, the gap is full
+    pub filled-reached : f.ended ≡ false
+        → IsReached steps can remaining v s w p.0.items f.end f.rest
     filled-reached more = record {
-      items = p.items.1;
-      ends = p.items.2;
-      gave = subst (λ b. Gives steps s p.items.0 b rest) more p.items.3;
-      full = omega (arith, p.items.2, p.full more);
-      can_next = (p.asked more).0;
-      finite = (p.asked more).1;
-      nearer = omega (arith, p.items.2, p.full more, p.nearer more);
+      items = p.1.items;
+      ends = p.2;
+      gave = subst (λ b. Gives steps s p.0.items b f.rest) more p.0.gave;
+      full = omega (arith, p.0.full more);
+      can_next = (p.0.asked more).0;
+      finite = (p.0.asked more).1;
+      nearer = p.0.nearer more;
     }
 
-    -- the iterator ended
-    pub filled-drains : ended ≡ true → Drains steps s p.items.0
-    filled-drains done = (rest, subst (λ b. Gives steps s p.items.0 b rest) done p.items.3)
+    -- if the iterator has ended, the placed items are all that it yields
+    pub filled-drains : f.ended ≡ true → Drains steps s p.0.items
+    filled-drains done = (f.rest, subst (λ b. Gives steps s p.0.items b f.rest) done p.0.gave)
 
     module _ (rule : Rule) (R : RattleType) (n : ℕ) (left : Count) where
       -- what filling the gap cost
-      pub filled-taken : p.cost.0 ≤ n → HasTaken rule R (left_of v a) w n left
+      pub filled-taken : p.1.cost.0 ≤ n → HasTaken rule R (left_of v a) w n left
       filled-taken few =
-          taken-spare rule R (left_of v a) w (end - length v.front) p.cost.0 n left p.cost.1
-          p.capacity (omega (arith, filled-long, length-append v.front v.tail)) few p.alloc
+          taken-spare rule R (left_of v a) w (length p.0.items) p.1.cost.0 n left p.1.cost.1
+          p.1.capacity (omega (arith, filled-long, length-append v.front v.tail)) few p.1.alloc
 
       -- what filling the gap of a list that was opened for it cost
       pub wide-taken : (u : Thin T A) (at count : ℕ) → IsWide v u at count → a ≡ u.alloc
-          → p.cost.0 + (length u.items - at) ≤ n → HasTaken rule R u w n left
+          → p.1.cost.0 + (length u.items - at) ≤ n → HasTaken rule R u w n left
       wide-taken u at count wide from few =
-          let all = run-moves count (length u.items - at) (end - length v.front) p.cost.0 u.cost
+          let all = run-moves count (length u.items - at) (length p.0.items) p.1.cost.0 u.cost
           v.cost wide.cost in
-          taken-spare rule R u w (end - length v.front) all.0 n left (p.cost.1 ∙ all.1)
-          (p.capacity ∙ wide.capacity)
+          taken-spare rule R u w (length p.0.items) all.0 n left (p.1.cost.1 ∙ all.1)
+          (p.1.capacity ∙ wide.capacity)
           (omega (
             arith,
             filled-long,
@@ -89,7 +98,7 @@ module _ {S T A : Type 0} {steps : S → Option T → S → Type 0} {can : S →
             length-drop at u.items,
             wide.in_bounds,
           ))
-          (omega (arith, all.2, few)) (p.alloc ∙ from)
+          (omega (arith, all.2, few)) (p.1.alloc ∙ from)
 
   module _ {v : Open T A} {s t : S} {u : Thin T A} {xs : List T} {end : ℕ}
       (p : IsReached steps can remaining v s u xs end t) where
@@ -138,37 +147,24 @@ module _ {S T A : Type 0} {steps : S → Option T → S → Type 0} {can : S →
               ((ap (λ n. n + (length xs + e.0)) (length-append v.front v.tail) ∙ want) i)) ∙ e.2,
         )
 
-    -- the list opened at `end` has the tail for its tail
-    pub reached-wide : {b : Open T A} (count : ℕ) → IsWide b u end count
-        → length b.tail ≡ length v.tail
-    reached-wide count wide =
-        omega (arith, ap length wide.tail, length-drop end u.items, reached-long)
-
-    -- the list u was opened at `end`, and what came next filled that gap
-    pub reached-more : {b : Open T A} {a : A} {w : Thin T A} {last : ℕ} {rest : S} {ended : Bool}
-        (count : ℕ) → IsWide b u end count
-        → (q : IsFilled steps can remaining b a t w last rest ended) → ended ≡ false
-        → IsReached steps can remaining v s w (xs ++ q.items.0) last rest
-    reached-more {b} count wide q more =
-        let now = filled-reached q more in
-        let long = length-append xs q.items.0 in
+    -- then more items were inserted at `end`, and the iterator has not ended
+    pub reached-more : {w : Thin T A} {room : ℕ} {f : Filled S}
+        (by : IsFilledBy steps can remaining room t f)
+        → w.items ≡ (take end u.items ++ by.items) ++ drop end u.items
+        → f.end ≡ end + length by.items → f.ended ≡ false
+        → IsReached steps can remaining v s w (xs ++ by.items) f.end f.rest
+    reached-more {f = f} by items ends more =
+        let ys = by.items in
+        let long = length-append xs ys in
         record {
-          items = now.items
-              ∙ ((λ i. (wide.front i ++ q.items.0) ++ wide.tail i)
-              ∙ between-more v u.items xs q.items.0 end p.items p.ends);
-          ends = omega (
-            arith,
-            now.ends,
-            ap length wide.front,
-            length-take-le end u.items wide.in_bounds,
-            p.ends,
-            long,
-          );
-          gave = yields-join steps s t _ xs q.items.0 p.gave now.gave;
+          items = items ∙ between-more v u.items xs ys end p.items p.ends;
+          ends = omega (arith, ends, p.ends, long);
+          gave = yields-join steps s t f.rest xs ys p.gave
+              (subst (λ b. Gives steps t ys b f.rest) more by.gave);
           full = omega (arith, p.full, long);
-          can_next = now.can_next;
-          finite = now.finite;
-          nearer = omega (arith, p.nearer, now.nearer, long);
+          can_next = (by.asked more).0;
+          finite = (by.asked more).1;
+          nearer = omega (arith, p.nearer, by.nearer more, long);
         }
 
   module _ {rule : Rule} {R : RattleType} (v : Open T A) (a : A) (s : S) (w : Thin T A) where

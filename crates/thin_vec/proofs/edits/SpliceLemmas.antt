@@ -3,7 +3,7 @@ use Rattle.std.proofs.Common.{if◌then◌else◌, inl, inr, Option, Some, None,
 use Rattle.std.proofs.lemmas.List.{append-nil, drop_at, length-drop, length-take-le, take_at}
 use Rattle.std.specs.Borrow.{RattleType}
 use Rattle.std.specs.Option.{option_to_list}
-use Rattle.std.specs.Prelude.{◌↔◌, IfErr, IsSome}
+use Rattle.std.specs.Prelude.{◌↔◌, IfErr, IsSome, MatchOption}
 use Rattle.std.specs.declared.result.Result.{Result}
 use Rattle.std.specs.declared.result.Result.TheVariants.{Ok, Err}
 use Rattle.std.specs.Iterator.{Count, Drains, IsFinite, Yields, YieldsThen, size}
@@ -97,6 +97,19 @@ module _ {S X : Type 0} (steps : S → Option X → S → Type 0) where
       → YieldsThen steps s xs o u → Yields steps s (xs ++ x ∷ []) u
   yields-drawn s u xs o x is all =
       yields-more steps s all.0 u xs x all.1 (subst (λ r. steps all.0 r u) is all.2)
+
+  -- the first item, and then those that were drawn into a vector
+  pub drawn-after : (s t u : S) (x : X) (xs held : List X) (o : Option X) → steps s (Some x) t
+      → held ++ option_to_list o ≡ x ∷ xs
+      → MatchOption o (YieldsThen steps t xs None u) (λ _. Yields steps t xs u)
+      → MatchOption o (YieldsThen steps s held None u) (λ y. Yields steps s (held ++ y ∷ []) u)
+  drawn-after s t u x xs held None one parts now = (
+    now.0,
+    subst (λ l. Yields steps s l now.0) (sym (sym (append-nil held) ∙ parts)) (t, one, now.1),
+    now.2,
+  )
+  drawn-after s t u x xs held (Some y) one parts now =
+      subst (λ l. Yields steps s l u) (sym parts) (t, one, now)
 
 module _ {T A : Type 0} where
   -- what a growth alone has cost

@@ -1,7 +1,6 @@
 -- What calls of `next` gave, and what a block and a list are once it was placed.
-use Rattle.std.proofs.Common.{true, ◌≡◌, ℕ, ◌+◌, ◌<◌, ◌≤◌, List, [], ◌∷◌, ◌++◌, inl, inr, length, Option, Some, refl, sym, ap, subst, ◌∙◌, arith, false, Bool, ltb}
-use Rattle.std.proofs.lemmas.Bool.{cases_lt, lt-ltb}
-use borrow.Author.Tests.{le-ltb}
+use Rattle.std.proofs.Common.{true, ◌≡◌, ℕ, ◌+◌, ◌-◌, ◌<◌, ◌≤◌, List, [], ◌∷◌, ◌++◌, inl, inr, length, length-append, Option, Some, refl, sym, ap, subst, ◌∙◌, arith, false}
+use Rattle.std.proofs.lemmas.Bool.{cases_lt}
 use Rattle.std.proofs.lemmas.List.{map-append}
 use Rattle.std.specs.Borrow.{RattleType}
 use Rattle.std.proofs.iter.runs.Made.{run, to_end}
@@ -110,10 +109,16 @@ module _ {T A : Type 0} where
         ∙ (moving-more 1 n u.cost ∙ ap (λ (m : ℕ). moving m u.cost) (sym one)))) i;
   }
 
--- an iterator ended where it left room
-pub short-ends : (b : Bool) (m n : ℕ) → (b ≡ true → m < n) → (b ≡ false → m ≡ n) → b ≡ ltb m n
-short-ends true m n short full = sym (lt-ltb m n (short refl))
-short-ends false m n short full = sym (le-ltb m n (omega (arith, full refl)))
+-- items that were placed after those of a list: as many moves as it has more items
+pub spare-kept : {T A : Type 0} (v w : Thin T A) (xs : List T)
+    → w ≡ record v { items = v.items ++ xs; cost = moving (length xs) v.cost }
+    → w ≡ record v
+    { items = w.items; cost = moving (length w.items - length v.items) v.cost }
+spare-kept v w xs is =
+    let items = ap (λ z. z.items) is in
+    let many : length xs ≡ length w.items - length v.items =
+    omega (arith, ap length items, length-append v.items xs) in
+    is ∙ (λ i. record v { items = sym items i; cost = moving (many i) v.cost })
 
 -- ---- how a capacity grows over several calls
 

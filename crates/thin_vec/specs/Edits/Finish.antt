@@ -1,13 +1,13 @@
 -- What the steps of a splice's `finish` say to one another: no public clause cites this.
-use Rattle.std.specs.Prelude.{◌≡◌, ℕ, ◌+◌, ◌-◌, ◌*◌, ◌<◌, ◌≤◌, Bool, true, false, List, [], IfErr, IsOk, IsSome, OnErr, OnOk, Option, length}
-use Rattle.std.specs.Iterator.{Count, Drains, IsFinite, size}
+use Rattle.std.specs.Prelude.{◌≡◌, ℕ, ◌+◌, ◌*◌, ◌<◌, ◌≤◌, List, [], IfErr, IsOk, IsSome, OnErr, OnOk, Option, length}
+use Rattle.std.specs.Iterator.{Count, Drains, size}
 use Rattle.std.specs.declared.option.Option.TheVariants.{None}
 use Rattle.std.specs.declared.result.Result.{Result}
 use Rattle.std.specs.Borrow.{RattleType}
 use Rattle.thin_block.specs.Cost.{moving}
 use Rattle.thin_block.specs.Growth.{Rule}
 use Rattle.thin_vec.specs.Cheap.{IsCheap}
-use Rattle.thin_vec.specs.List.Extend.{Gives, IsExtended, IsLoose}
+use Rattle.thin_vec.specs.List.Extend.{IsExtended, IsLoose}
 use Rattle.thin_vec.specs.Edits.Splice.{IsSpliced, IsStopCause, Stopped, left_of, with_between}
 use Rattle.thin_vec.specs.Open.{Open}
 use Rattle.thin_vec.specs.ThinVec.{HasRoomFor, Thin}
@@ -24,24 +24,18 @@ module _ {T A : Type 0} where
     pub alloc : w.alloc ≡ v.alloc
     pub cheap : IsCheap v → IsCheap w
 
-module _ {S T A : Type 0} (steps : S → Option T → S → Type 0) (can : S → Type 0)
-    (remaining : S → Count) where
-  -- the block v was closed and is the list w at the allocator a: what s gave lies in its gap up to
-  -- the slot `end`, and `ended` says whether it ended before the gap was full
-  pub record IsFilled (v : Open T A) (a : A) (s : S) (w : Thin T A) (end : ℕ) (rest : S)
-      (ended : Bool) : Type 0 where
-    pub items : (xs : List T) × (w.items ≡ with_between v xs) × (end ≡ length v.front + length xs)
-        × Gives steps s xs ended rest
+  -- the block v, with the items xs after its front, became the block of the list w, whose allocator
+  -- is a
+  pub record IsClosedWith (v : Open T A) (xs : List T) (a : A) (w : Thin T A) : Type 0 where
+    pub items : w.items ≡ with_between v xs
     pub capacity : w.capacity ≡ v.capacity
     pub alloc : w.alloc ≡ a
-    -- one move for each, and for those of the tail where the gap is not full
-    pub cost : (m : ℕ) × (w.cost ≡ moving (end - length v.front + m) v.cost)
-        × (m ≤ length v.tail) × (ended ≡ false → m ≡ 0)
-    pub full : ended ≡ false → end ≡ length v.front + v.before
-    pub short : ended ≡ true → end < length v.front + v.before
-    pub asked : ended ≡ false → can rest × IsFinite (remaining rest)
-    pub nearer : ended ≡ false → v.before + size (remaining rest) ≤ size (remaining s)
+    -- one move for each of xs, and one for each item of the tail if the gap is not full
+    pub cost : (m : ℕ) × (w.cost ≡ moving (length xs + m) v.cost) × (m ≤ length v.tail)
+        × (length xs ≡ v.before → m ≡ 0)
 
+module _ {S T A : Type 0} (steps : S → Option T → S → Type 0) (can : S → Type 0)
+    (remaining : S → Count) where
   -- the block v became the list w at the allocator a: what s gave went into its gap and beyond
   -- that, as the clauses of `finish` say
   pub record IsFinished (rule : Rule) (R : RattleType) (v : Open T A) (a : A) (s : S)

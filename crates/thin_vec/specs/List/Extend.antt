@@ -1,7 +1,7 @@
 -- What a list is, and what it has cost, after the items of an iterator went in after its own. (std:
 -- `Vec::extend`)
-use Rattle.std.specs.Prelude.{◌≡◌, ◌⊎◌, ℕ, ◌+◌, ◌<◌, ◌≤◌, Bool, true, false, List, ◌++◌, Option, length}
-use Rattle.std.specs.Iterator.{Count, Yields, YieldsThen}
+use Rattle.std.specs.Prelude.{◌≡◌, ◌⊎◌, ℕ, ◌+◌, ◌<◌, ◌≤◌, List, ◌++◌, Option, length}
+use Rattle.std.specs.Iterator.{Count, Yields}
 use Rattle.std.specs.Iterator.SizeHint.{IsWithinCount}
 use Rattle.std.specs.Option.{option_to_list}
 use Rattle.std.specs.declared.option.Option.TheVariants.{None, Some}
@@ -97,9 +97,3 @@ module _ {T A : Type 0} where
 abbrev pub GaveUp : {S X : Type 0} → (S → Option X → S → Type 0) → S → List X
     → Option X → S → Type 0
 GaveUp steps s placed in_hand rest = Yields steps s (placed ++ option_to_list in_hand) rest
-
--- calls of `next` from s gave xs and led to t, where the last of them has given `None` if `ended`
--- says so
-abbrev pub Gives : {S X : Type 0} → (S → Option X → S → Type 0) → S → List X → Bool → S → Type 0
-Gives steps s xs true t = YieldsThen steps s xs None t
-Gives steps s xs false t = Yields steps s xs t

@@ -44,6 +44,7 @@ impl<'a, T: Drop, A: Allocator, G: Growth, H: Holds<Inner = OpenBlock<T, A>>> Dr
         let Drain { list, holder } = self;
         let mut block = holder.into_inner();
         block.drop_rest();
+        // The list is empty. This call proves it, and `close` requires it.
         list.clear();
         list.close(block);
     }

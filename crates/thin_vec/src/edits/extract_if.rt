@@ -73,6 +73,7 @@ impl<'a, T: Drop, F: Drop, A: Allocator, G: Growth, H: Holds<Inner = Extracting<
         let ExtractIf { list, holder } = self;
         let Extracting { block, picks } = holder.into_inner();
         let Picks { pick } = picks;
+        // The list is empty. This call proves it, and `close` requires it.
         list.clear();
         list.close(block);
         drop(pick);

@@ -1,49 +1,93 @@
-//! What `finish` of a `Splice` does: the items of an iterator go between those of a list. A gap is
-//! filled, room is made for what is beyond it, and what no hint told is drawn into a vector.
-ghost use Rattle.std.specs.Prelude.{◌≡◌, ◌+◌, ◌-◌, ◌<◌, ◌≤◌, [], ◌++◌, ◌∷◌, IfErr, IsOk, IsSome, List, MatchOption, None, OnErr, OnOk, OnSome, drop, length, take, ℕ};
+//! What `finish` of a `Splice` does: it inserts the items of an iterator into a list, where a range
+//! was removed. First it fills the gap that the range left (`fill_gap`). Then it makes room for as
+//! many items as the iterator's size hint says, and fills this room (`insert_hinted`). The remaining
+//! items are collected in a vector, and inserted from there (`insert_held`).
+ghost use Rattle.std.specs.Prelude.{◌≡◌, ◌+◌, ◌-◌, ◌*◌, ◌<◌, ◌≤◌, [], ◌++◌, ◌∷◌, IfErr, IfOk, IsOk, IsSome, List, MatchOption, None, OnErr, OnOk, OnSome, Some, drop, false, length, take, ℕ};
 ghost use Rattle.std.specs.Iterator.{Drains, IsFinite, Yields, YieldsThen, size};
-ghost use Rattle.std.specs.Option.{option_len};
+ghost use Rattle.std.specs.Iterator.SizeHint.{IsWithinCount};
+ghost use Rattle.std.specs.Option.{option_len, option_to_list};
 ghost use Rattle.thin_block.specs.Cost.{moving};
-ghost use Rattle.thin_vec.specs.List.Extend.{IsNamed};
+ghost use Rattle.thin_vec.specs.List.Extend.{IsNamed, MustOverflow, Overflows};
 ghost use Rattle.thin_vec.specs.Open.{IsOf, reach};
 ghost use Rattle.thin_vec.specs.Edits.Splice.{IsStopCause, Stopped};
-ghost use Rattle.thin_vec.specs.Edits.Finish.{HasTaken, IsFilled, IsFinished};
-ghost use Rattle.thin_vec.specs.ThinVec.{HasRoomFor};
+ghost use Rattle.thin_vec.specs.Edits.Finish.{HasTaken, IsClosedWith, IsFinished};
+ghost use Rattle.thin_vec.specs.Put.{IsFilledBy};
+ghost use Rattle.thin_vec.specs.ThinVec.{HasRoomFor, capacity_for};
 
-use crate::errors::{ExtendRefused, SpliceRefused};
+use crate::errors::{ExtendRefused, Rejected, SpliceRefused};
 use crate::list::ThinVec;
 use crate::open_block::OpenBlock;
+use crate::put::Filled;
 use std::alloc::{AllocFailed, Allocator};
 use std::iter::Iterator;
 use thin_block::{Growth, ThinVecError};
 
 impl<T, A: Allocator, G: Growth> ThinVec<T, A, G> {
-    // Fills the gap and closes it. Returns where the placed items end, the iterator, and whether it
-    // ended before the gap was full.
-    fn close_filled<I: Iterator<Item = T>>(
-        &mut self,
-        mut block: OpenBlock<T, A>,
-        iter: I,
-    ) -> (usize, I, bool)
+    // Fills the gap of `block` with the items that `iter` yields, and makes `block` the block of
+    // the list again.
+    fn fill_gap<I: Iterator<Item = T>>(&mut self, mut block: OpenBlock<T, A>, iter: I) -> Filled<I>
         requires empty { self.old.items ≡ [] }
         requires none { block.rest ≡ [] }
         requires after { block.after ≡ 0 }
         requires from { IsOf block.alloc self.old.alloc }
         requires can_next { I.can_next iter }
         requires finite { IsFinite (I.remaining iter) }
-        ensures { IsFilled I.next_gives I.can_next I.remaining block self.old.alloc iter self.new
-            result.0 result.1 result.2 }
+        ensures filled { (by : IsFilledBy I.next_gives I.can_next I.remaining block.before iter result)
+            × IsClosedWith block by.items self.old.alloc self.new
+            × (result.end ≡ length block.front + length by.items) }
     {
-        let (rest, ended) = block.fill(iter);
-        let end = block.front_len();
+        let filled = block.fill(iter);
         self.close(block);
-        (end, rest, ended)
+        filled
+    }
+
+    // Makes room before the item at `at` for as many items as the size hint of `iter` says, and
+    // fills this room. Fails if there is no room, and then changes nothing.
+    fn insert_hinted<I: Iterator<Item = T>>(
+        &mut self,
+        at: usize,
+        iter: I,
+    ) -> Result<Filled<I>, Rejected<I>>
+        requires in_bounds { at ≤ length self.old.items }
+        requires can_next { I.can_next iter }
+        requires finite { IsFinite (I.remaining iter) }
+        ensures succeeds { size (I.remaining iter) ≡ 0 → IsOk result }
+        ensures filled { IfOk result (λ filled. (hint : ℕ)
+            × (by : IsFilledBy I.next_gives I.can_next I.remaining hint iter filled)
+            × (self.new.items ≡ (take at self.old.items ++ by.items) ++ drop at self.old.items)
+            × (filled.end ≡ at + length by.items)) }
+        ensures capacity { OnOk result ((hint : ℕ) × IsWithinCount hint (I.remaining iter)
+            × (capacity_for G.rule T.row self.old hint ≡ Some self.new.capacity)) }
+
+        // Each item after `at` moves at most twice, and once if the room is full.
+        ensures taken { HasTaken G.rule T.row self.old self.new
+            (2 * (length self.old.items - at)) (I.remaining iter) }
+        ensures taken_full { IfOk result (λ filled. filled.ended ≡ false
+            → HasTaken G.rule T.row self.old self.new (length self.old.items - at)
+            (I.remaining iter)) }
+
+        // On failure, nothing changed.
+        ensures overflow { IfErr result
+            (λ rejected. MustOverflow G.rule T.row self.new None (I.remaining iter)
+            → rejected.cause ≡ ThinVecError.CapacityOverflow) }
+        ensures cause { IfErr result
+            (λ rejected. rejected.cause ≡ ThinVecError.CapacityOverflow
+            → Overflows G.rule T.row self.new None (I.remaining iter)) }
+        ensures err { IfErr result (λ rejected. (self.new ≡ self.old)
+            × (rejected.value ≡ iter)) }
+    {
+        let hint = iter.size_hint().0;
+        if let Err(cause) = self.reserve(hint) {
+            return Err(Rejected { value: iter, cause });
+        }
+        let block = self.open_wide(at, hint);
+        Ok(self.fill_gap(block, iter))
     }
 }
 
 impl<T: Drop, A: Allocator, G: Growth> ThinVec<T, A, G> {
-    // What `iter` yields is held in a vector on `alloc`, and then goes before the item at `at`: the
-    // items from there on move up as one run. It is not asked for a hint.
+    // Collects the items that `iter` yields in a vector on `alloc`, and moves them before the item
+    // at `at`. If there are none, nothing is allocated.
     fn insert_held<I: Iterator<Item = T>>(
         &mut self,
         at: usize,
@@ -68,7 +112,15 @@ impl<T: Drop, A: Allocator, G: Growth> ThinVec<T, A, G> {
             (length self.new.items) }
         ensures err { OnErr result (self.new ≡ self.old) }
     {
-        let (held, in_hand, rest) = draw(iter, alloc);
+        let mut rest = iter;
+        let Some(first) = rest.next() else {
+            return Ok(());
+        };
+        let Drawn {
+            held,
+            in_hand,
+            rest,
+        } = draw(first, rest, alloc);
         if let Some(item) = in_hand {
             return Err(SpliceRefused {
                 cause: ThinVecError::OutOfMemory,
@@ -89,8 +141,7 @@ impl<T: Drop, A: Allocator, G: Growth> ThinVec<T, A, G> {
         Ok(())
     }
 
-    // The items of `held` go before the item at `at`, into spare room. Where the hint was exact
-    // there are none, and the block is not opened.
+    // Moves the items of `held` before the item at `at`, into spare capacity.
     fn insert_vec(&mut self, at: usize, held: Vec<T, A>)
         requires in_bounds { at ≤ length self.old.items }
         requires room { HasRoomFor self.old (length held.items) }
@@ -101,19 +152,14 @@ impl<T: Drop, A: Allocator, G: Growth> ThinVec<T, A, G> {
         ensures cost { (m : ℕ) × (self.new.cost ≡ moving (length held.items + m) self.old.cost)
             × (m ≤ length self.old.items - at) }
     {
-        if held.is_empty() {
-            held.destroy_empty();
-            return;
-        }
         let mut block = self.open_wide(at, held.len());
         block.fill_from_vec(held);
         self.close(block);
     }
 
-    // Fills the gap with what `iter` yields, and makes room before the tail for what it yields
-    // beyond that: room for what its hint says, into which the tail moves up as one run, and once
-    // more for the rest.
-    pub(crate) fn fill_between<I: Iterator<Item = T>>(
+    // Fills the gap of `block`. Then inserts the remaining items of `iter` before the tail: first
+    // as many as its size hint says, and then the others.
+    pub(crate) fn finish_before_tail<I: Iterator<Item = T>>(
         &mut self,
         block: OpenBlock<T, A>,
         iter: I,
@@ -129,30 +175,32 @@ impl<T: Drop, A: Allocator, G: Growth> ThinVec<T, A, G> {
         ensures { IsFinished I.next_gives I.can_next I.remaining G.rule T.row block self.old.alloc
             iter self.new result }
     {
-        let (end, rest, ended) = self.close_filled(block, iter);
+        let Filled { rest, end, ended } = self.fill_gap(block, iter);
         if ended {
             return Ok(());
         }
-        let hint = rest.size_hint().0;
-        if let Err(cause) = self.reserve(hint) {
-            return Err(SpliceRefused {
-                cause,
-                held: Vec::new(alloc),
-                in_hand: None,
-                rest,
-            });
+        match self.insert_hinted(end, rest) {
+            Ok(filled) => {
+                let Filled { rest, end, ended } = filled;
+                if ended {
+                    return Ok(());
+                }
+                self.insert_held(end, rest, alloc)
+            }
+            Err(rejected) => {
+                let Rejected { value, cause } = rejected;
+                Err(SpliceRefused {
+                    cause,
+                    held: Vec::new(alloc),
+                    in_hand: None,
+                    rest: value,
+                })
+            }
         }
-        let wide = self.open_wide(end, hint);
-        let (last, beyond, over) = self.close_filled(wide, rest);
-        if over {
-            return Ok(());
-        }
-        self.insert_held(last, beyond, alloc)
     }
 
-    // Appends what `iter` yields to the items in front, as `extend` does: there are none after the
-    // gap.
-    pub(crate) fn fill_at_end<I: Iterator<Item = T>>(
+    // Appends the items that `iter` yields to the front, as `extend` does. There is no tail.
+    pub(crate) fn finish_at_end<I: Iterator<Item = T>>(
         &mut self,
         block: OpenBlock<T, A>,
         iter: I,
@@ -190,63 +238,93 @@ impl<T: Drop, A: Allocator, G: Growth> ThinVec<T, A, G> {
     }
 }
 
-// Draws the items of `iter` into a vector on `alloc`, until the iterator ends, or there is no
-// memory for an item that was drawn. Returns the vector, that item, and the iterator.
-pub(crate) fn draw<T, A: Allocator, I: Iterator<Item = T>>(
-    iter: I,
-    alloc: A,
-) -> (Vec<T, A>, Option<T>, I)
+/// The items that were drawn from an iterator into a vector, and what is left of the iterator.
+struct Drawn<T, I, A: Allocator> {
+    /// The items, in order.
+    held: Vec<T, A>,
+    /// The item that was drawn after those, for which the vector has no room.
+    in_hand: Option<T>,
+    /// The iterator, which yields the items that were not drawn.
+    rest: I,
+}
+
+// Makes a vector on `alloc` of `first` and the items that `iter` yields. Stops if the iterator
+// returns `None`, or if there is no memory for an item.
+fn draw<T, A: Allocator, I: Iterator<Item = T>>(first: T, iter: I, alloc: A) -> Drawn<T, I, A>
     requires can_next { I.can_next iter }
     requires finite { IsFinite (I.remaining iter) }
-    ensures gave { MatchOption result.1 (YieldsThen I.next_gives iter result.0.items None result.2)
-        (λ x. Yields I.next_gives iter (result.0.items ++ x ∷ []) result.2) }
-    ensures fewer { length result.0.items + option_len result.1 ≤ size (I.remaining iter) }
-    ensures asked { IsSome result.1 → I.can_next result.2 × IsFinite (I.remaining result.2) }
+    ensures gave { (xs : List T)
+        × (result.held.items ++ option_to_list result.in_hand ≡ first ∷ xs)
+        × MatchOption result.in_hand (YieldsThen I.next_gives iter xs None result.rest)
+        (λ _. Yields I.next_gives iter xs result.rest) }
+    ensures fewer { length result.held.items + option_len result.in_hand ≤ 1 + size
+        (I.remaining iter) }
+    ensures asked { IsSome result.in_hand → I.can_next result.rest
+        × IsFinite (I.remaining result.rest) }
 {
     let mut held = Vec::new(alloc);
     let mut rest = iter;
+    let mut next = first;
     loop {
-        let (filled, over, left) = draw_spare(held, rest);
-        held = filled;
-        rest = left;
-        let Some(item) = over else {
-            return (held, None, rest);
-        };
-        match held.push(item) {
+        match held.push(next) {
             Ok(()) => (),
             Err(refused) => {
                 let AllocFailed { value } = refused;
-                return (held, Some(value), rest);
+                return Drawn {
+                    held,
+                    in_hand: Some(value),
+                    rest,
+                };
             }
         }
+        let Drawn {
+            held: filled,
+            in_hand,
+            rest: left,
+        } = draw_spare(held, rest);
+        held = filled;
+        rest = left;
+        let Some(item) = in_hand else {
+            return Drawn {
+                held,
+                in_hand: None,
+                rest,
+            };
+        };
+        next = item;
     }
 }
 
-// Draws items into the spare room of `held`, and one item more. Returns the vector, the item that
-// found no room, and the iterator. It has the vector by value, so that its length can stay in a
-// register.
-fn draw_spare<T, A: Allocator, I: Iterator<Item = T>>(
-    held: Vec<T, A>,
-    iter: I,
-) -> (Vec<T, A>, Option<T>, I)
+// Draws items into the spare capacity of `held`, and then one item more. `held` is passed by value,
+// so that its length can stay in a register.
+fn draw_spare<T, A: Allocator, I: Iterator<Item = T>>(held: Vec<T, A>, iter: I) -> Drawn<T, I, A>
     requires can_next { I.can_next iter }
     requires finite { IsFinite (I.remaining iter) }
-    ensures items { (xs : List T) × (result.0.items ≡ held.items ++ xs)
-        × YieldsThen I.next_gives iter xs result.1 result.2 }
-    ensures rest { OnSome result.1 (I.can_next result.2 × IsFinite (I.remaining result.2)) }
-    ensures fewer { length result.0.items ≤ length held.items + size (I.remaining iter) }
-    ensures nearer { OnSome result.1
-        (length result.0.items + size (I.remaining result.2) < length held.items + size
+    ensures items { (xs : List T) × (result.held.items ≡ held.items ++ xs)
+        × YieldsThen I.next_gives iter xs result.in_hand result.rest }
+    ensures asked { OnSome result.in_hand
+        (I.can_next result.rest × IsFinite (I.remaining result.rest)) }
+    ensures fewer { length result.held.items ≤ length held.items + size (I.remaining iter) }
+    ensures nearer { OnSome result.in_hand
+        (length result.held.items + size (I.remaining result.rest) < length held.items + size
         (I.remaining iter)) }
 {
     let mut filled = held;
     let mut rest = iter;
     while filled.len() < filled.capacity() {
         let Some(item) = rest.next() else {
-            return (filled, None, rest);
+            return Drawn {
+                held: filled,
+                in_hand: None,
+                rest,
+            };
         };
         filled.push_reserved(item);
     }
-    let over = rest.next();
-    (filled, over, rest)
+    let in_hand = rest.next();
+    Drawn {
+        held: filled,
+        in_hand,
+        rest,
+    }
 }

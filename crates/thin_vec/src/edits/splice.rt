@@ -185,11 +185,12 @@ impl<
         let Splice { list, holder, iter } = self;
         let mut block = holder.into_inner();
         block.drop_rest();
+        // The list is empty. This call proves it, and `close` requires it.
         list.clear();
         let answer = if block.has_tail() {
-            list.fill_between(block, iter, alloc)
+            list.finish_before_tail(block, iter, alloc)
         } else {
-            list.fill_at_end(block, iter, alloc)
+            list.finish_at_end(block, iter, alloc)
         };
         // A list knows of itself that its items are within its capacity, and that this fits.
         let _len = list.len();

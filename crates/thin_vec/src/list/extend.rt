@@ -7,13 +7,14 @@ ghost use Rattle.thin_block.specs.Cost.{moving};
 ghost use Rattle.thin_block.specs.Growth.{doubling};
 ghost use Rattle.thin_block.specs.Slots.{full, laid, slot};
 ghost use Rattle.thin_vec.specs.Cheap.{IsCheap};
-ghost use Rattle.thin_vec.specs.List.Extend.{Extends, GaveUp, IsCollected, IsExtended, IsExtendCost, IsLoose, IsMadeOf, IsNamed, MustOverflow, MustOverflowNew, Overflows, OverflowsNew, Gives};
+ghost use Rattle.thin_vec.specs.List.Extend.{Extends, GaveUp, IsCollected, IsExtended, IsExtendCost, IsLoose, IsMadeOf, IsNamed, MustOverflow, MustOverflowNew, Overflows, OverflowsNew};
+ghost use Rattle.thin_vec.specs.Put.{IsFilledBy};
 ghost use Rattle.thin_vec.specs.ThinVec.{HasRoomFor, IsCause, IsNew, IsWithin, capacity_for};
 ghost use Rattle.std.specs.Iterator.SizeHint.{IsWithinCount};
 
 use crate::errors::{CollectRefused, ExtendRefused, Rejected};
 use crate::list::ThinVec;
-use crate::put::put_iter;
+use crate::put::{Filled, put_iter};
 use std::alloc::{AllocError, Allocator};
 use std::iter::{Extend, FromIterator, IntoIterator, Iterator};
 use thin_block::{Growth, ThinVecError};
@@ -152,7 +153,11 @@ impl<T, A: Allocator, G: Growth> ThinVec<T, A, G> {
         ensures full { OnSome result.1 (length self.new.items ≡ self.new.capacity) }
         ensures within { IsWithin T.row self.old × IsWithin T.row self.new }
     {
-        let (mut rest, ended) = self.fill_spare(iter);
+        let Filled {
+            mut rest,
+            end: _,
+            ended,
+        } = self.fill_spare(iter);
         if ended {
             return (rest, None);
         }
@@ -160,30 +165,25 @@ impl<T, A: Allocator, G: Growth> ThinVec<T, A, G> {
         (rest, over)
     }
 
-    // Fills the spare room, and stores the length once. Returns the iterator, and whether it ended:
-    // it did where room is left.
-    pub(crate) fn fill_spare<I: Iterator<Item = T>>(&mut self, iter: I) -> (I, bool)
+    // Fills the spare capacity with the items that `iter` yields, and stores the length once. The
+    // `end` of the result is the length.
+    fn fill_spare<I: Iterator<Item = T>>(&mut self, iter: I) -> Filled<I>
         requires can_next { I.can_next iter }
         requires finite { IsFinite (I.remaining iter) }
-        ensures items { (xs : List T) × (self.new.items ≡ self.old.items ++ xs)
-            × Gives I.next_gives iter xs result.1 result.0 }
-        ensures changes { self.new ≡ record self.old {
-          items = self.new.items;
-          cost = moving (length self.new.items - length self.old.items) self.old.cost;
-        } }
-        ensures room { length self.new.items ≤ self.new.capacity }
+        ensures filled { (by : IsFilledBy I.next_gives I.can_next I.remaining
+            (self.old.capacity - length self.old.items) iter result)
+            × (self.new ≡ record self.old {
+              items = self.old.items ++ by.items;
+              cost = moving (length by.items) self.old.cost;
+            }) × (result.end ≡ length self.new.items) }
         ensures cheap { IsCheap self.old → IsCheap self.new }
-        ensures rest { result.1 ≡ false → I.can_next result.0 × IsFinite (I.remaining result.0) }
-        ensures nearer { result.1 ≡ false → length self.new.items + size (I.remaining result.0)
-            ≤ length self.old.items + size (I.remaining iter) }
-        ensures full { result.1 ≡ false → length self.new.items ≡ self.new.capacity }
         ensures within { IsWithin T.row self.old × IsWithin T.row self.new }
     {
         let len = self.block.len();
         let cap = self.block.cap();
-        let (rest, end, _ended) = put_iter(&mut self.block, len, cap, iter);
-        self.block.set_len(end);
-        (rest, end < cap)
+        let filled = put_iter(&mut self.block, len, cap, iter);
+        self.block.set_len(filled.end);
+        filled
     }
 }
 

@@ -1,40 +1,33 @@
 //! Steps on a block that is open: what comes in goes after the front, into the gap.
-ghost use Rattle.std.specs.Prelude.{◌≡◌, ◌+◌, ◌-◌, ◌<◌, ◌≤◌, [], ◌++◌, HoldsAt, List, drop, false, length, take, true};
-ghost use Rattle.std.specs.Iterator.{IsFinite, size};
+ghost use Rattle.std.specs.Prelude.{◌≡◌, ◌-◌, ◌<◌, ◌≤◌, [], ◌++◌, HoldsAt, List, drop, length, take};
+ghost use Rattle.std.specs.Iterator.{IsFinite};
 ghost use Rattle.std.specs.List.{AllZip};
 ghost use Rattle.thin_block.specs.Cost.{moving};
-ghost use Rattle.thin_vec.specs.List.Extend.{Gives};
+ghost use Rattle.thin_vec.specs.Put.{IsFilledBy};
 
 use crate::list::ThinVec;
 use crate::open_block::OpenBlock;
-use crate::put::{put_clones, put_iter, put_vec};
+use crate::put::{Filled, put_clones, put_iter, put_vec};
 use std::alloc::Allocator;
 use std::iter::Iterator;
 use thin_block::Growth;
 
 impl<T, A: Allocator> OpenBlock<T, A> {
-    // Puts what `iter` yields after the front. Returns the iterator, and whether it ended before
-    // the gap was full.
-    pub(crate) fn fill<I: Iterator<Item = T>>(&mut self, iter: I) -> (I, bool)
+    // Puts the items that `iter` yields after the front. Stops if the iterator returns `None` or
+    // the gap is full. The `end` of the result is the length of the front.
+    pub(crate) fn fill<I: Iterator<Item = T>>(&mut self, iter: I) -> Filled<I>
         requires can_next { I.can_next iter }
         requires finite { IsFinite (I.remaining iter) }
-        ensures front { (xs : List T) × (self.new.front ≡ self.old.front ++ xs)
-            × (self.new.before + length xs ≡ self.old.before)
-            × Gives I.next_gives iter xs result.1 result.0 }
-        ensures changes { self.new ≡ record self.old {
-          front = self.new.front;
-          before = self.new.before;
-          cost = moving (self.old.before - self.new.before) self.old.cost;
-        } }
-        ensures full { result.1 ≡ false → self.new.before ≡ 0 }
-        ensures short { result.1 ≡ true → 0 < self.new.before }
-        ensures asked { result.1 ≡ false → I.can_next result.0 × IsFinite (I.remaining result.0) }
-        ensures nearer { result.1 ≡ false → self.old.before + size (I.remaining result.0) ≤ size
-            (I.remaining iter) }
+        ensures filled { (by : IsFilledBy I.next_gives I.can_next I.remaining self.old.before iter result)
+            × (self.new ≡ record self.old {
+              front = self.old.front ++ by.items;
+              before = self.old.before - length by.items;
+              cost = moving (length by.items) self.old.cost;
+            }) × (result.end ≡ length self.new.front) }
     {
-        let (rest, end, ended) = put_iter(&mut self.block, self.front_end, self.rest_start, iter);
-        self.front_end = end;
-        (rest, ended)
+        let filled = put_iter(&mut self.block, self.front_end, self.rest_start, iter);
+        self.front_end = filled.end;
+        filled
     }
 
     // Puts the items of `items` after the front.

@@ -1,6 +1,7 @@
 -- One item more is laid.
 use Rattle.thin_block.specs.Block.{seen}
-use Rattle.std.proofs.Common.{◌∷◌, ◌++◌, [], ◌∙◌, arith, ap, ◌+◌, ◌-◌}
+use Rattle.std.proofs.Common.{◌∷◌, ◌++◌, [], ◌∙◌, arith, ap, sym, ◌+◌, ◌-◌}
+use Rattle.std.proofs.lemmas.Bool.{false≢true}
 use Rattle.std.proofs.lemmas.List.{length_push}
 use Rattle.thin_vec.proofs.list.ExtendLemmas.{laid-more, put-more, yields-more}
 use Rattle.std.proofs.lemmas.Grind.{common_steps}
@@ -37,5 +38,32 @@ loop-i-init g c = grind (arith, common_steps)
 pub put-requires-clause-in_bounds : goal.put-requires-clause-in_bounds
 put-requires-clause-in_bounds g c = grind (arith, common_steps)
 
-pub returns-in_default-clause-slots : goal.returns-in_default-clause-slots
-returns-in_default-clause-slots g c = search (arith, ◌∙◌)
+pub returns-in_default-clause-filled : goal.returns-in_default-clause-filled
+returns-in_default-clause-filled g c =
+    let held = c.loop-i.invariant in (
+      record {
+        items = held.placed.0;
+        gave = search (arith, ◌∙◌);
+        full = λ goes. absurd (false≢true (sym goes));
+        short = λ _. omega (arith, c.loop-i-test.true, held.placed.2);
+        asked = λ goes. absurd (false≢true (sym goes));
+        nearer = λ goes. absurd (false≢true (sym goes));
+      },
+      held.placed.1,
+      held.placed.2,
+    )
+
+pub returns-clause-filled : goal.returns-clause-filled
+returns-clause-filled g c =
+    let held = c.loop-i.invariant in (
+      record {
+        items = held.placed.0;
+        gave = held.placed.3;
+        full = λ _. omega (arith, held.within, c.loop-i-test.false, held.placed.2);
+        short = λ ends. absurd (false≢true ends);
+        asked = λ _. (held.can, held.finite);
+        nearer = λ _. omega (arith, held.nearer, held.placed.2);
+      },
+      held.placed.1,
+      held.placed.2,
+    )

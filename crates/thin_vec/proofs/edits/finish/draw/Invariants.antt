@@ -1,16 +1,17 @@
--- The vector holds what the iterator has given.
-use Rattle.std.proofs.Common.{◌+◌, ◌≤◌, length}
+-- The vector and the next item are the first item and those that the iterator has yielded.
+use Rattle.std.proofs.Common.{[], ◌≡◌, ◌+◌, ◌≤◌, List, ◌++◌, ◌∷◌, length}
 use Rattle.std.specs.Iterator.{IsFinite, Yields, size}
 use Rattle.thin_vec.proofs.edits.finish.draw.Given as goal
 
-abbrev pub invariant-loop-item : goal.invariant-loop-item
-invariant-loop-item g l = record {
+abbrev pub invariant-loop-refused : goal.invariant-loop-refused
+invariant-loop-refused g l = record {
   can : g.I.Iterator.can_next l.rest;
   finite : IsFinite (g.I.Iterator.remaining l.rest);
-  gave : Yields g.I.Iterator.next_gives l.fn.iter l.held.items l.rest;
+  gave : (xs : List g.row.T.Denot) × (l.held.items ++ l.next ∷ [] ≡ l.fn.first ∷ xs)
+      × Yields g.I.Iterator.next_gives l.fn.iter xs l.rest;
   fewer : length l.held.items + size (g.I.Iterator.remaining l.rest)
       ≤ size (g.I.Iterator.remaining l.fn.iter);
 }
 
-abbrev pub decreases-loop-item : goal.decreases-loop-item
-decreases-loop-item g l = size (g.I.Iterator.remaining l.rest)
+abbrev pub decreases-loop-refused : goal.decreases-loop-refused
+decreases-loop-refused g l = size (g.I.Iterator.remaining l.rest)

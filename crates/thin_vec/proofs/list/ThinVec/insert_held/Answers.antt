@@ -1,60 +1,60 @@
 -- What was drawn is held, and then goes in, or is returned with the cause.
-use Rattle.std.proofs.Common.{Err, None, Some, inl, inr, ◌≡◌, ◌+◌, ◌-◌, ◌<◌, ◌∙◌, ap, arith, length, refl, subst, sym}
+use Rattle.std.proofs.Common.{Err, None, Some, ◌++◌, drop, take, inl, inr, ◌≡◌, ◌+◌, ◌-◌, ◌<◌, ◌∙◌, ap, arith, length, refl, subst, sym}
 use Rattle.std.proofs.lemmas.Bool.{cases_lt, false≢true}
 use Rattle.std.specs.Option.{option_len}
 use Rattle.std.specs.Prelude.{IsSome}
 use denote.Param.{param}
 use Rattle.thin_vec.specs.List.Extend.{IsNamed}
 use Rattle.thin_vec.specs.ThinVec.{capacity_for}
-use Rattle.thin_vec.proofs.edits.SpliceLemmas.{inserted-long, named-ruled, stop-at-held, taken-join, taken-none, taken-reserved, taken-spare}
+use Rattle.thin_vec.proofs.edits.SpliceLemmas.{drawn-after, inserted-long, named-ruled, stop-at-held, taken-join, taken-none, taken-reserved, taken-spare}
 use Rattle.thin_block.proofs.Outcomes.{err-same}
-use Rattle.thin_vec.proofs.list.ThinVec.insert_held.Goals.{After-drop-rest, In-Err}
+use Rattle.thin_vec.proofs.list.ThinVec.insert_held.Goals.{In-Err}
 use Rattle.thin_vec.proofs.list.ThinVec.insert_held.Goals as goal
 
 -- how many were asked for
-count : (g : _) (c : In-Err g) → c.len.result ≡ length c.draw-held.result.0.items
-count g c = c.len.ensures ∙ c.draw-held.result.0.ok.0
+count : (g : _) (c : In-Err g) → c.len.result ≡ length c.draw-held.result.held.items
+count g c = c.len.ensures ∙ c.draw-held.result.held.ok.0
 
 -- making room fails for some items alone: for none it succeeds
-more : (g : _) (c : In-Err g) → 0 < length c.draw-held.result.0.items
-more g c = elim (cases_lt 0 (length c.draw-held.result.0.items)) [
+more : (g : _) (c : In-Err g) → 0 < length c.draw-held.result.held.items
+more g c = elim (cases_lt 0 (length c.draw-held.result.held.items)) [
   | inl some ↦ some
   | inr none ↦
       absurd (false≢true (c.in-Err.ensures.succeeds
       (omega (arith, count g c, none, c.reserve.ensures.keeps.within.0.room))))
 ]
 
--- how many there are then
-long : (g : _) (c : After-drop-rest g) → length c.insert_vec.new.self.items
-    ≡ length c.reserve.new.self.items + length c.draw-held.result.0.items
-long g c =
-    ap (λ v. length v.items) c.insert_vec.ensures.changes
-    ∙ inserted-long c.reserve.new.self.items c.draw-held.result.0.items c.args.at
-    (omega (arith, ap length c.reserve.ensures.items, c.requires.in_bounds))
+pub returns-in-Some-in_hand-clause-placed : goal.returns-in-Some-in_hand-clause-placed
+returns-in-Some-in_hand-clause-placed g c =
+    let gave = drawn-after g.I.Iterator.next_gives c.args.iter c.next.new.self
+    c.draw-held.result.rest c.in-Some.first c.draw-held.ensures.gave.0
+    c.draw-held.result.held.items c.draw-held.result.in_hand c.in-Some.ensures.steps
+    c.draw-held.ensures.gave.1 c.draw-held.ensures.gave.2 in
+    let asked = c.draw-held.ensures.asked (subst IsSome (sym c.in-Some-in_hand.is) refl) in
+    inl (rw c.in-Some-in_hand.is at gave, λ none. cc, asked.0, asked.1)
 
-pub returns-in-Some-clause-placed : goal.returns-in-Some-clause-placed
-returns-in-Some-clause-placed g c =
-    let asked = c.draw-held.ensures.asked (subst IsSome (sym c.in-Some.is) refl) in
-    inl (rw c.in-Some.is at c.draw-held.ensures.gave, λ none. cc, asked.0, asked.1)
+pub returns-in-Some-in_hand-clause-succeeds : goal.returns-in-Some-in_hand-clause-succeeds
+returns-in-Some-in_hand-clause-succeeds g c = λ none.
+    absurd (omega (arith, none, c.draw-held.ensures.fewer, (c.in-Some.ensures.goes.on c.requires.finite).2, ap option_len c.in-Some-in_hand.is))
 
-pub returns-in-Some-clause-succeeds : goal.returns-in-Some-clause-succeeds
-returns-in-Some-clause-succeeds g c = λ none.
-    absurd (omega (arith, none, c.draw-held.ensures.fewer, ap option_len c.in-Some.is))
-
-pub returns-in-Some-clause-cause : goal.returns-in-Some-clause-cause
-returns-in-Some-clause-cause g c = λ tail some.
+pub returns-in-Some-in_hand-clause-cause : goal.returns-in-Some-in_hand-clause-cause
+returns-in-Some-in_hand-clause-cause g c = λ tail some.
     stop-at-held g.G.Growth.rule (param 0 g.row.T) c.args.self.now tail
-    c.draw-held.result.0.items (Some c.in-Some.item)
-    (g.I.Iterator.remaining c.draw-held.result.2) _ some (λ none. cc) (λ none. cc) (λ _. refl)
+    c.draw-held.result.held.items (Some c.in-Some-in_hand.item)
+    (g.I.Iterator.remaining c.draw-held.result.rest) _ some (λ none. cc) (λ none. cc) (λ _. refl)
 
-pub returns-in-Some-clause-taken : goal.returns-in-Some-clause-taken
-returns-in-Some-clause-taken g c =
+pub returns-in-Some-in_hand-clause-taken : goal.returns-in-Some-in_hand-clause-taken
+returns-in-Some-in_hand-clause-taken g c =
     taken-none g.G.Growth.rule (param 0 g.row.T) c.args.self.now c.args.self.now _ _ refl
 
 pub returns-in-Err-clause-placed : goal.returns-in-Err-clause-placed
 returns-in-Err-clause-placed g c =
     let here = (goal.at.returns-in-Err-clause-placed g c).In-Err in
-    inr (refl, more g here, rw c.in_default.is at c.draw-held.ensures.gave)
+    let gave = drawn-after g.I.Iterator.next_gives c.args.iter c.next.new.self
+    c.draw-held.result.rest c.in-Some.first c.draw-held.ensures.gave.0
+    c.draw-held.result.held.items c.draw-held.result.in_hand c.in-Some.ensures.steps
+    c.draw-held.ensures.gave.1 c.draw-held.ensures.gave.2 in
+    inr (refl, more g here, rw c.in_default-in_hand.is at gave)
 
 pub returns-in-Err-clause-succeeds : goal.returns-in-Err-clause-succeeds
 returns-in-Err-clause-succeeds g c = λ none.
@@ -65,19 +65,20 @@ returns-in-Err-clause-succeeds g c = λ none.
       count g here,
       none,
       c.draw-held.ensures.fewer,
+      (c.in-Some.ensures.goes.on c.requires.finite).2,
       c.reserve.ensures.keeps.within.0.room,
     ))
 
 pub returns-in-Err-clause-cause : goal.returns-in-Err-clause-cause
 returns-in-Err-clause-cause g c = λ tail some.
     let here = (goal.at.returns-in-Err-clause-cause g c).In-Err in
-    let held = c.draw-held.result.0.items in
+    let held = c.draw-held.result.held.items in
     let rule = g.G.Growth.rule in let T = param 0 g.row.T in
     let same : capacity_for rule T c.args.self.now c.len.result
     ≡ capacity_for rule T c.reserve.new.self (length held) =
     λ i. capacity_for rule T (sym c.in-Err.ensures.err i) (count g here i) in
     stop-at-held rule T c.reserve.new.self tail held None
-    (g.I.Iterator.remaining c.draw-held.result.2) c.in-Err.cause some (λ _. more g here)
+    (g.I.Iterator.remaining c.draw-held.result.rest) c.in-Err.cause some (λ _. more g here)
     (λ _. (
       λ over. sym same ∙ c.in-Err.ensures.reserves.overflow.0 (ap Err over),
       λ none. err-same (c.in-Err.ensures.reserves.overflow.1 (same ∙ none)),
@@ -97,13 +98,16 @@ returns-clause-named g c =
     let rule = g.G.Growth.rule in let T = param 0 g.row.T in
     let v = c.args.self.now in let u = c.reserve.new.self in let w = c.insert_vec.new.self in
     let kept = c.insert_vec.ensures.changes in
+    let long = ap (λ z. length z.items) c.insert_vec.ensures.changes
+    ∙ inserted-long c.reserve.new.self.items c.draw-held.result.held.items c.args.at
+    (omega (arith, ap length c.reserve.ensures.items, c.requires.in_bounds)) in
     subst (λ d. IsNamed rule T v.capacity d (length w.items)) (ap (λ z. z.capacity) (sym kept))
     (named-ruled rule T g.met.G.Growth.law v c.len.result u.capacity (length w.items)
     c.in_default-reserve.ensures.reserves.ok
     (omega (
       arith,
-      c.len.ensures ∙ c.draw-held.result.0.ok.0,
-      long g c,
+      c.len.ensures ∙ c.draw-held.result.held.ok.0,
+      long,
       ap length c.reserve.ensures.items,
     )))
 
@@ -114,17 +118,36 @@ returns-clause-taken g c =
     let v = c.args.self.now in let u = c.reserve.new.self in
     let n = length v.items - c.args.at in
     let old = ap length c.reserve.ensures.items in
-    let count = c.len.ensures ∙ c.draw-held.result.0.ok.0 in
+    let count = c.len.ensures ∙ c.draw-held.result.held.ok.0 in
+    let long = ap (λ z. length z.items) c.insert_vec.ensures.changes
+    ∙ inserted-long c.reserve.new.self.items c.draw-held.result.held.items c.args.at
+    (omega (arith, ap length c.reserve.ensures.items, c.requires.in_bounds)) in
     let kept = c.insert_vec.ensures.changes in let paid = c.insert_vec.ensures.cost in
     taken-join rule T law v u c.insert_vec.new.self 0 n n left left (omega arith)
     (omega (arith, old)) (λ fit same. omega (arith, fit, same, old))
     (taken-reserved rule T law v u c.len.result left c.in_default-reserve.ensures.reserves.ok
     c.reserve.ensures.items c.reserve.ensures.keeps.alloc c.in_default-reserve.ensures.cost
-    c.reserve.ensures.keeps.cheap (omega (arith, count, c.draw-held.ensures.fewer))
+    c.reserve.ensures.keeps.cheap
+    (omega (
+      arith,
+      count,
+      c.draw-held.ensures.fewer,
+      (c.in-Some.ensures.goes.on c.requires.finite).2,
+    ))
     c.reserve.ensures.keeps.within.0.room)
-    (taken-spare rule T u c.insert_vec.new.self (length c.draw-held.result.0.items) paid.0 n left
-    paid.1 (ap (λ z. z.capacity) kept) (long g c) (omega (arith, paid.2, old))
+    (taken-spare rule T u c.insert_vec.new.self (length c.draw-held.result.held.items) paid.0 n left
+    paid.1 (ap (λ z. z.capacity) kept) long (omega (arith, paid.2, old))
     (ap (λ z. z.alloc) kept))
 
 pub returns-clause-items : goal.returns-clause-items
-returns-clause-items g c = search (arith, ◌∙◌)
+returns-clause-items g c =
+    let gave = drawn-after g.I.Iterator.next_gives c.args.iter c.next.new.self
+    c.draw-held.result.rest c.in-Some.first c.draw-held.ensures.gave.0
+    c.draw-held.result.held.items c.draw-held.result.in_hand c.in-Some.ensures.steps
+    c.draw-held.ensures.gave.1 c.draw-held.ensures.gave.2 in (
+      c.draw-held.result.held.items,
+      (c.draw-held.result.rest, rw c.in_default-in_hand.is at gave),
+      ap (λ z. z.items) c.insert_vec.ensures.changes
+          ∙ ap (λ l. (take c.args.at l ++ c.draw-held.result.held.items) ++ drop c.args.at l)
+          c.reserve.ensures.items,
+    )

@@ -1,51 +1,42 @@
--- What the iterator yielded lies after the front, and so much less of the gap is left.
-use Rattle.std.proofs.Common.{◌≡◌, ◌-◌, ◌++◌, ◌∙◌, ap, arith, sym}
+-- The items that the iterator yielded lie after the front, and the gap has lost as many slots.
+use Rattle.std.proofs.Common.{◌≡◌, ◌-◌, ◌++◌, ◌≤◌, ◌∙◌, ap, arith, length, sym}
 use Rattle.thin_block.specs.Cost.{moving}
 use Rattle.thin_vec.proofs.OpenBlockLemmas.{fill-step}
+use Rattle.thin_vec.proofs.PutLemmas.{filled-fits, filled-room}
 use Rattle.thin_vec.proofs.open_block.OpenBlock.fill.Goals as goal
 
 pub invariant_of-self : goal.invariant_of-self
 invariant_of-self g c =
-    let gave = c.put_iter-rest.ensures.slots in
-    (fill-step c.self.inside c.self.invariant c.put_iter-rest.new.block gave.0 _ gave.2
-    c.put_iter-rest.ensures.within gave.1).lies
+    let put = c.put_iter-filled.ensures.filled in
+    (fill-step c.self.inside c.self.invariant c.put_iter-filled.new.block put.0.items _ put.2
+    (omega (arith, put.2, filled-fits put.0, c.self.invariant.before)) put.1).lies
 
-pub returns-clause-front : goal.returns-clause-front
-returns-clause-front g c =
-    let gave = c.put_iter-rest.ensures.slots in
-    let seen = fill-step c.self.inside c.self.invariant c.put_iter-rest.new.block gave.0 _ gave.2
-    c.put_iter-rest.ensures.within gave.1 in (
-      gave.0,
-      ap (λ v. v.front) seen.view ∙ ap (λ v. v.front ++ gave.0) c.self.view_is,
-      omega (
-        arith,
-        gave.2,
-        c.put_iter-rest.ensures.within,
-        ap (λ v. v.before) c.self.view_is,
-        c.self.invariant.before,
-      ),
-      gave.3,
-    )
-
-pub returns-clause-changes : goal.returns-clause-changes
-returns-clause-changes g c =
-    let gave = c.put_iter-rest.ensures.slots in
-    let seen = (fill-step c.self.inside c.self.invariant c.put_iter-rest.new.block gave.0 _ gave.2
-    c.put_iter-rest.ensures.within gave.1).view in
-    let alloc : c.put_iter-rest.new.block.alloc ≡ c.args.self.now.alloc = search (arith, ◌∙◌) in
-    let many : c.put_iter-rest.result.1 - c.self.inside.front_end
-    ≡ c.args.self.now.before - (c.self.inside.rest_start - c.put_iter-rest.result.1) =
-    omega (
-      arith,
-      gave.2,
-      c.put_iter-rest.ensures.within,
-      ap (λ v. v.before) c.self.view_is,
-      c.self.invariant.before,
-    ) in
-    seen ∙ (λ i. record (c.self.view_is i) {
-      front = (sym seen i).front;
-      before = (sym seen i).before;
-      alloc = alloc i;
-      cost = (ap (λ v. v.cost) c.put_iter-rest.ensures.changes
-          ∙ (λ j. moving (many j) (c.self.view_is j).cost)) i;
-    })
+pub returns : goal.returns
+returns g c =
+    let h = c.self.inside in
+    let block = c.put_iter-filled.new.block in
+    let put = c.put_iter-filled.ensures.filled in
+    let xs = put.0.items in
+    let end = c.put_iter-filled.result.end in
+    let fits : end ≤ h.rest_start =
+    omega (arith, put.2, filled-fits put.0, c.self.invariant.before) in
+    let step = fill-step h c.self.invariant block xs _ put.2 fits put.1 in
+    let room = ap (λ v. v.before) c.self.view_is in
+    let left : h.rest_start - end ≡ c.args.self.now.before - length xs =
+    omega (arith, put.2, fits, room, c.self.invariant.before) in
+    let alloc : block.alloc ≡ c.args.self.now.alloc = search (arith, ◌∙◌) in
+    let many : end - h.front_end ≡ length xs = omega (arith, put.2) in
+    record {
+      filled = (
+        filled-room room put.0,
+        step.view
+            ∙ (λ i. record (c.self.view_is i) {
+              front = (c.self.view_is i).front ++ xs;
+              before = left i;
+              alloc = alloc i;
+              cost = (ap (λ v. v.cost) c.put_iter-filled.ensures.changes
+                  ∙ (λ j. moving (many j) (c.self.view_is j).cost)) i;
+            }),
+        sym step.lies.front,
+      );
+    }

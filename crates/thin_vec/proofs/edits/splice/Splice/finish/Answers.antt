@@ -18,8 +18,8 @@ returns g c =
     let said : IsFinished steps g.I.Iterator.can_next g.I.Iterator.remaining rule T
     c.drop_rest.new.self c.clear.new.self.alloc s w r =
     elim c.if-has_tail.branch [
-      | then-has_tail x ↦ rw x.list-is (rw x.answer-is x.fill_between-answer.ensures)
-      | else-has_tail x ↦ rw x.list-is (rw x.answer-is x.fill_at_end-answer.ensures)
+      | then-has_tail x ↦ rw x.list-is (rw x.answer-is x.finish_before_tail-answer.ensures)
+      | else-has_tail x ↦ rw x.list-is (rw x.answer-is x.finish_at_end-answer.ensures)
     ] in
     let dropped = c.drop_rest.ensures
     ∙ (λ i. let h = c.into_inner-block.ensures.value i in

@@ -8,8 +8,8 @@ use Rattle.thin_vec.specs.Edits.Finish.{HasTaken}
 use Rattle.thin_vec.specs.ThinVec.{HasRoomFor}
 use Rattle.thin_vec.proofs.edits.SpliceLemmas.{after-items, closed-left, spliced-extended, stop-at-end, stopped-now}
 use Rattle.thin_vec.proofs.edits.FinishLemmas.{finished-ok}
-use Rattle.thin_vec.proofs.list.ThinVec.fill_at_end.Goals.{After-extend}
-use Rattle.thin_vec.proofs.list.ThinVec.fill_at_end.Goals as goal
+use Rattle.thin_vec.proofs.list.ThinVec.finish_at_end.Goals.{After-extend}
+use Rattle.thin_vec.proofs.list.ThinVec.finish_at_end.Goals as goal
 
 -- what is left of the block
 left : (g : _) (c : After-extend g)

@@ -1,0 +1,43 @@
+-- The placed items lie after the front, and the tail moves if the gap is not full.
+use Rattle.std.proofs.Common.{◌≡◌, ◌-◌, ◌++◌, ◌∙◌, ap, arith, length, length-append}
+use Rattle.thin_block.specs.Cost.{moving}
+use Rattle.thin_vec.proofs.PutLemmas.{filled-fits}
+use Rattle.thin_vec.proofs.edits.SpliceLemmas.{closed-moves}
+use Rattle.thin_vec.proofs.list.ThinVec.fill_gap.Goals as goal
+
+pub returns : goal.returns
+returns g c =
+    let v = c.args.block in
+    let block = c.fill-filled.new.self in
+    let filled = c.fill-filled.ensures.filled in
+    let xs = filled.0.items in
+    let same = filled.1 in
+    let closed = c.close.ensures.changes in
+    let none = ap (λ z. z.rest) same ∙ c.requires.none in
+    let tail = ap (λ z. z.tail) same in
+    let gap = ap (λ z. z.before) same in
+    let many : length xs ≡ v.before - block.before = omega (arith, gap, filled-fits filled.0) in
+    let put = closed-moves v block (length xs)
+    (ap (λ z. z.cost) same ∙ ap (λ n. moving n v.cost) many) none tail many in
+    record {
+      filled = (
+        filled.0,
+        record {
+          items = ap (λ z. z.items) closed ∙ (λ i. (same i).front ++ (none i ++ tail i));
+          capacity = ap (λ z. z.capacity) closed ∙ ap (λ z. z.capacity) same;
+          alloc = ap (λ z. z.alloc) closed;
+          cost = (
+            put.0,
+            ap (λ z. z.cost) closed ∙ put.1,
+            put.2,
+            λ full. put.3 (omega (arith, gap, full)),
+          );
+        },
+        omega (
+          arith,
+          filled.2,
+          ap (λ z. length z.front) same,
+          length-append v.front xs,
+        ),
+      );
+    }

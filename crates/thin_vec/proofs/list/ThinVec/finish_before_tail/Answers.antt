@@ -1,0 +1,100 @@
+-- The gap is filled, then the room that the hint asked for, and then the held items go in.
+use Rattle.std.proofs.Common.{[], Err, None, Ok, Some, inl, inr, ◌≡◌, ◌+◌, ◌-◌, ◌*◌, ◌++◌, ◌∙◌, ap, arith, length, refl, subst, sym}
+use denote.Param.{param}
+use Rattle.thin_vec.specs.Edits.Finish.{HasTaken}
+use Rattle.thin_vec.specs.Edits.Splice.{IsStopCause, Stopped, left_of}
+use Rattle.thin_vec.specs.Put.{Gives}
+use Rattle.thin_vec.proofs.list.ExtendLemmas.{named-after}
+use Rattle.thin_vec.proofs.edits.SpliceLemmas.{if-err, stop-at-hint, stopped-now}
+use Rattle.thin_vec.proofs.edits.FinishLemmas.{filled-drains, filled-reached, filled-taken, finished-from, finished-ok, reached-extended, reached-grown, reached-long, reached-more, reached-taken}
+use Rattle.thin_vec.proofs.list.ThinVec.finish_before_tail.Goals as goal
+
+pub returns-then-ended : goal.returns-then-ended
+returns-then-ended g c =
+    let v = c.args.block in
+    let p = c.fill_gap-rest.ensures.filled in
+    finished-ok v c.args.self.now.alloc c.args.iter c.fill_gap-rest.new.self tt
+    (p.0.items, filled-drains p c.if-ended.true, p.1.items)
+    (filled-taken p g.G.Growth.rule (param 0 g.row.T) (2 * length v.tail)
+    (g.I.Iterator.remaining c.args.iter) (omega (arith, p.1.cost.2)))
+    (inl (inl p.1.capacity))
+
+pub returns-in-Err : goal.returns-in-Err
+returns-in-Err g c =
+    let rule = g.G.Growth.rule in let T = param 0 g.row.T in
+    let steps = g.I.Iterator.next_gives in
+    let can = g.I.Iterator.can_next in let left = g.I.Iterator.remaining in
+    let v = c.args.block in let a = c.args.self.now.alloc in
+    let w = c.insert_hinted.new.self in let t = c.fill_gap-rest.result.rest in
+    let p = c.fill_gap-rest.ensures.filled in
+    let rejected = c.in-Err.rejected in
+    let same = c.in-Err.ensures.err.0 in let rest = c.in-Err.ensures.err.1 in
+    let here = reached-grown (filled-reached p c.if-ended.false) w (ap (λ z. z.items) same) in
+    finished-from v a c.args.iter w (Err _) here c.requires.some c.in-Err.ensures.succeeds tt
+    (subst (λ r. Stopped steps can left t [] c.new.result.items None r) (sym rest)
+    (stopped-now steps can left t t [] c.new.result.items None c.new.ensures.items refl
+    here.can_next here.finite))
+    (subst (λ r. IsStopCause rule T w v.tail c.new.result.items None (left r) rejected.cause)
+    (sym rest)
+    (stop-at-hint rule T w v.tail c.new.result.items None (left t) rejected.cause
+    c.requires.some c.new.ensures.items refl c.in-Err.ensures.overflow c.in-Err.ensures.cause))
+    refl
+    (subst (λ z. HasTaken rule T (left_of v a) z (2 * length v.tail) (left c.args.iter)) (sym same)
+    (filled-taken p rule T (2 * length v.tail) (left c.args.iter)
+    (omega (arith, p.1.cost.3 (p.0.full c.if-ended.false)))))
+    (inl (inl (ap (λ z. z.capacity) same ∙ p.1.capacity)))
+
+pub returns-then-ended-2 : goal.returns-then-ended-2
+returns-then-ended-2 g c =
+    let rule = g.G.Growth.rule in let T = param 0 g.row.T in let law = g.met.G.Growth.law in
+    let steps = g.I.Iterator.next_gives in
+    let v = c.args.block in let a = c.args.self.now.alloc in
+    let w = c.insert_hinted.new.self in let t = c.fill_gap-rest.result.rest in
+    let p = c.fill_gap-rest.ensures.filled in
+    let first = filled-reached p c.if-ended.false in
+    let q = c.in-Ok.ensures.filled in
+    let f = c.in-Ok.filled in
+    let n = 2 * length v.tail in
+    finished-from v a c.args.iter w (Ok tt) first c.requires.some (λ _. refl) (
+      q.1.items,
+      (f.rest, subst (λ b. Gives steps t q.1.items b f.rest) c.if-ended-2.true q.1.gave),
+      q.2,
+    )
+    tt tt tt
+    (reached-taken first rule T law a w 0 (2 * (length c.fill_gap-rest.new.self.items
+    - c.fill_gap-rest.result.end)) n (omega (arith, reached-long first))
+    (filled-taken p rule T 0 (g.I.Iterator.remaining c.args.iter)
+    (omega (arith, p.1.cost.3 (p.0.full c.if-ended.false))))
+    c.insert_hinted.ensures.taken)
+    (reached-extended first rule T a w.capacity (length w.items) p.1.capacity
+    (inr c.in-Ok.ensures.capacity))
+
+pub returns-else-ended-2 : goal.returns-else-ended-2
+returns-else-ended-2 g c =
+    let rule = g.G.Growth.rule in let T = param 0 g.row.T in let law = g.met.G.Growth.law in
+    let v = c.args.block in let a = c.args.self.now.alloc in
+    let u = c.fill_gap-rest.new.self in let y = c.insert_hinted.new.self in
+    let w = c.insert_held.new.self in
+    let p = c.fill_gap-rest.ensures.filled in
+    let first = filled-reached p c.if-ended.false in
+    let q = c.in-Ok.ensures.filled in
+    let last = reached-more first q.1 q.2 q.3 c.if-ended-2.false in
+    let n = length v.tail in
+    let hint = c.in-Ok.ensures.capacity in
+    finished-from v a c.args.iter w c.insert_held.result last c.requires.some
+    c.insert_held.ensures.succeeds c.insert_held.ensures.items c.insert_held.ensures.placed
+    (if-err c.insert_held.result (λ refused is now. now v.tail c.requires.some)
+    c.insert_held.ensures.cause)
+    c.insert_held.ensures.err
+    (reached-taken last rule T law a w n (length y.items - c.in-Ok.filled.end) (2 * n)
+    (omega (arith, reached-long last))
+    (reached-taken first rule T law a y 0 (length u.items - c.fill_gap-rest.result.end) n
+    (omega (arith, reached-long first))
+    (filled-taken p rule T 0 (g.I.Iterator.remaining c.args.iter)
+    (omega (arith, p.1.cost.3 (p.0.full c.if-ended.false))))
+    (c.in-Ok.ensures.taken_full c.if-ended-2.false))
+    c.insert_held.ensures.taken)
+    (reached-extended first rule T a w.capacity (length w.items) p.1.capacity
+    (named-after rule T law u.capacity y.capacity w.capacity (length w.items) _
+    c.insert_held.ensures.named
+    (λ same. (hint.0, hint.1, hint.2 ∙ ap Some (sym same)))))

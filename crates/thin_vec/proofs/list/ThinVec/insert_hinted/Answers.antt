@@ -1,0 +1,138 @@
+-- The list is opened for as many items as the hint says, and the gap is filled.
+use Rattle.std.proofs.Common.{Err, Some, ◌≡◌, ◌+◌, ◌-◌, ◌*◌, ◌<◌, ◌≤◌, ◌++◌, ◌∙◌, ap, arith, drop, length, refl, subst, sym, take}
+use Rattle.std.proofs.lemmas.Bool.{false≢true}
+use Rattle.std.proofs.lemmas.List.{length-drop, length-take-le}
+use denote.Param.{param}
+use Rattle.thin_block.proofs.Outcomes.{err-same}
+use Rattle.thin_vec.specs.Edits.Finish.{HasTaken}
+use Rattle.thin_vec.specs.ThinVec.{HasRoomFor, capacity_for}
+use Rattle.thin_vec.proofs.edits.SpliceLemmas.{taken-join, taken-none, taken-reserved}
+use Rattle.thin_vec.proofs.edits.FinishLemmas.{IsWide, wide-taken}
+use Rattle.thin_vec.proofs.list.ThinVec.insert_hinted.Goals.{After-fill_gap}
+use Rattle.thin_vec.proofs.list.ThinVec.insert_hinted.Goals as goal
+
+-- how the list was opened
+wide : (g : _) (c : After-fill_gap g)
+    → IsWide c.open_wide-block.result c.reserve.new.self c.args.at c.size_hint-hint.result.0
+wide g c = record {
+  in_bounds = omega (arith, c.requires.in_bounds, ap length c.reserve.ensures.items);
+  front = c.open_wide-block.ensures.front;
+  tail = c.open_wide-block.ensures.tail;
+  capacity = c.open_wide-block.ensures.other_capacity;
+  cost = c.open_wide-block.ensures.other_cost;
+}
+
+-- what was taken with at most n moves of the items after `at`
+taken : (g : _) (c : After-fill_gap g) (n : _)
+    → c.fill_gap.ensures.filled.1.cost.0 + (length c.reserve.new.self.items - c.args.at) ≤ n
+    → HasTaken g.G.Growth.rule (param 0 g.row.T) c.args.self.now c.fill_gap.new.self n
+    (g.I.Iterator.remaining c.args.iter)
+taken g c n few =
+    let rule = g.G.Growth.rule in let T = param 0 g.row.T in let law = g.met.G.Growth.law in
+    let left = g.I.Iterator.remaining c.args.iter in
+    let v = c.args.self.now in let u = c.reserve.new.self in let w = c.fill_gap.new.self in
+    let hint = c.size_hint-hint.result.0 in
+    let old = ap length c.reserve.ensures.items in
+    taken-join rule T law v u w 0 n n left left (omega arith)
+    (omega (arith, old)) (λ fit same. omega (arith, fit, same, old))
+    (taken-reserved rule T law v u hint left c.in_default.ensures.reserves.ok
+    c.reserve.ensures.items c.reserve.ensures.keeps.alloc c.in_default.ensures.cost
+    c.reserve.ensures.keeps.cheap (c.size_hint-hint.ensures.lower c.requires.finite)
+    c.reserve.ensures.keeps.within.0.room)
+    (wide-taken c.fill_gap.ensures.filled rule T n left u c.args.at hint (wide g c)
+    (ap (λ z. z.alloc) c.open_wide-block.ensures.changes) few)
+
+-- the tail has the items after `at`
+tail : (g : _) (c : After-fill_gap g) → length c.open_wide-block.result.tail
+    ≡ length c.args.self.now.items - c.args.at
+tail g c = omega (
+  arith,
+  ap length c.open_wide-block.ensures.tail,
+  length-drop c.args.at c.reserve.new.self.items,
+  ap length c.reserve.ensures.items,
+)
+
+pub returns-clause-filled : goal.returns-clause-filled
+returns-clause-filled g c =
+    let filled = c.fill_gap.ensures.filled in
+    let xs = filled.0.items in
+    let there = wide g ((goal.at.returns-clause-filled g c).After-fill_gap) in (
+      c.open_wide-block.result.before,
+      filled.0,
+      filled.1.items
+          ∙ ((λ i. (there.front i ++ xs) ++ there.tail i)
+          ∙ ap (λ l. (take c.args.at l ++ xs) ++ drop c.args.at l) c.reserve.ensures.items),
+      omega (
+        arith,
+        filled.2,
+        ap length there.front,
+        length-take-le c.args.at c.reserve.new.self.items there.in_bounds,
+      ),
+    )
+
+pub returns-clause-capacity : goal.returns-clause-capacity
+returns-clause-capacity g c =
+    let filled = c.fill_gap.ensures.filled in (
+      c.size_hint-hint.result.0,
+      c.size_hint-hint.ensures.lower,
+      c.in_default.ensures.reserves.ok
+          ∙ ap Some (sym (filled.1.capacity ∙ c.open_wide-block.ensures.other_capacity)),
+    )
+
+pub returns-clause-taken : goal.returns-clause-taken
+returns-clause-taken g c =
+    let here = (goal.at.returns-clause-taken g c).After-fill_gap in
+    taken g here (2 * (length c.args.self.now.items - c.args.at))
+    (omega (
+      arith,
+      c.fill_gap.ensures.filled.1.cost.2,
+      tail g here,
+      ap length c.reserve.ensures.items,
+    ))
+
+pub returns-clause-taken_full : goal.returns-clause-taken_full
+returns-clause-taken_full g c = λ full.
+    let here = (goal.at.returns-clause-taken_full g c).After-fill_gap in
+    let filled = c.fill_gap.ensures.filled in
+    taken g here (length c.args.self.now.items - c.args.at)
+    (omega (
+      arith,
+      filled.1.cost.3 (filled.0.full full),
+      ap length c.reserve.ensures.items,
+    ))
+
+pub returns-in-Err-clause-succeeds : goal.returns-in-Err-clause-succeeds
+returns-in-Err-clause-succeeds g c = λ none.
+    c.in-Err.ensures.succeeds
+    (omega (
+      arith,
+      none,
+      c.size_hint-hint.ensures.lower c.requires.finite,
+      c.reserve.ensures.keeps.within.0.room,
+    ))
+
+pub returns-in-Err-clause-overflow : goal.returns-in-Err-clause-overflow
+returns-in-Err-clause-overflow g c = λ must.
+    let hint = c.size_hint-hint.result.0 in
+    let same = c.in-Err.ensures.err in
+    err-same (c.in-Err.ensures.reserves.overflow.1
+    (sym (ap (λ z. capacity_for g.G.Growth.rule (param 0 g.row.T) z hint) same)
+    ∙ must hint c.size_hint-hint.ensures.lower
+    (λ room. false≢true (c.in-Err.ensures.succeeds (subst (λ z. HasRoomFor z hint) same room)))))
+
+pub returns-in-Err-clause-cause : goal.returns-in-Err-clause-cause
+returns-in-Err-clause-cause g c = λ over.
+    let hint = c.size_hint-hint.result.0 in (
+      hint,
+      c.size_hint-hint.ensures.lower,
+      ap (λ z. capacity_for g.G.Growth.rule (param 0 g.row.T) z hint) c.in-Err.ensures.err
+          ∙ c.in-Err.ensures.reserves.overflow.0 (ap Err over),
+    )
+
+pub returns-in-Err-clause-err : goal.returns-in-Err-clause-err
+returns-in-Err-clause-err g c = (c.in-Err.ensures.err, refl)
+
+pub returns-in-Err-clause-taken : goal.returns-in-Err-clause-taken
+returns-in-Err-clause-taken g c =
+    taken-none g.G.Growth.rule (param 0 g.row.T) c.args.self.now c.reserve.new.self _ _
+    c.in-Err.ensures.err
