@@ -38,7 +38,8 @@ use base.Fraction.{full_share}
 use borrow.Author.Tests.{clash}
 use Rattle.core.proofs.mem.Param.{El, R}
 use Rattle.core.proofs.alloc.Calls.{Al}
-use Rattle.thin_block.specs.Ownership.{any, there, fits_block, places, parts, whole, frame, block_owns}
+use Rattle.std.specs.Option.{is_some}
+use Rattle.thin_block.specs.Ownership.{any, fits_block, places, parts, whole, frame, block_owns}
 use Rattle.thin_block.specs.contracts.block.Block as block
 use Rattle.std.specs.Mem.{type_size}
 use Rattle.std.specs.Align.{type_align}
@@ -157,7 +158,7 @@ header t R n c None b o = fsep (lent_at usize (block_ptr b o) 0 [])
 header t R n c (Some a) b o = frame (t a) R n c b o
 
 -- if a block has slots, it has an allocator
-pub alloc_there : {D X : Type 0} (a : Option D) (xs : List X) → there a ≡ any xs → 0 < length xs
+pub alloc_there : {D X : Type 0} (a : Option D) (xs : List X) → is_some a ≡ any xs → 0 < length xs
     → (h : D) × (a ≡ Some h)
 alloc_there (Some h) xs is some = (h, refl)
 alloc_there None [] is some = absurd (omega arith)
@@ -170,7 +171,7 @@ any_some (x ∷ xs) some = refl
 
 module _ {D : Type 0} (t : D → Ty → Ptr → Fml) (R : RattleType) {M : Type 1}
     {𝓤 : Ura M} (𝓛 : Logic 𝓤) where
-  header_out : (n : ℕ) (xs : List (Option R.Denot)) (a : Option D) (b o : ℕ) → there a ≡ any xs
+  header_out : (n : ℕ) (xs : List (Option R.Denot)) (a : Option D) (b o : ℕ) → is_some a ≡ any xs
       → ent 𝓤 (sem 𝓛 (block_owns t R (block_ptr b o) n xs a))
       (sep 𝓤 (sem 𝓛 (header t R n (length xs) a b o)) (sem 𝓛 (places R xs b (o + 16))))
   header_out n xs (Some a) b o is = id⊢ 𝓤 _
@@ -190,7 +191,7 @@ module _ {D : Type 0} (t : D → Ty → Ptr → Fml) (R : RattleType) {M : Type 
     {𝓛 : Logic 𝓤} {K : Type 0} {Γ : List (Item 𝓤)} {G : Goal 𝓤 𝓛.H} where
   -- the header of a block implies that the block fits
   pub header_fits : K → (n : ℕ) (xs : List (Option R.Denot)) (a : Option D)
-      (b o : ℕ) → there a ≡ any xs
+      (b o : ℕ) → is_some a ≡ any xs
       → (fits_block R (length xs) ≡ true → Seq K 𝓛 (‵ (header t R n (length xs) a b o) ∷ Γ) G)
       → Seq K 𝓛 (‵ (header t R n (length xs) a b o) ∷ Γ) G
   header_fits k n xs (Some a) b o is next =

@@ -26,7 +26,8 @@ use Rattle.std.specs.Prelude.{Option}
 use Rattle.core.proofs.alloc.Calls.{Al}
 use Rattle.core.proofs.mem.Param.{El, R, el_x}
 use Rattle.core.specs.contracts.marker.PhantomData as marker
-use Rattle.thin_block.specs.Ownership.{there, any, fits_block, block_lent, place_lent, places_lent}
+use Rattle.std.specs.Option.{is_some}
+use Rattle.thin_block.specs.Ownership.{any, fits_block, block_lent, place_lent, places_lent}
 use Rattle.thin_block.specs.Slots.{full, run}
 use Rattle.thin_block.specs.contracts.block.Block as block
 use Rattle.thin_block.proofs.SizesLemmas.{fits_none}
@@ -35,7 +36,7 @@ use Rattle.thin_block.proofs.SlotMemory.{Slot, sz}
 
 module _ (R : RattleType) {D : Type 0} {M : Type 1} {𝓤 : Ura M} (𝓛 : Logic 𝓤) (κ : Lft) where
   words_lent : (n : ℕ) (xs : List (Option R.Denot)) (a : Option D) (b o : ℕ)
-      → there a ≡ any xs → n ≤ length xs
+      → is_some a ≡ any xs → n ≤ length xs
       → ent 𝓤 (sem 𝓛 (block_lent {D = D} R (block_ptr b o) n xs a κ))
       (sep 𝓤 (sem 𝓛 (hidden_shr usize κ (length xs) b o))
       (sep 𝓤 (sem 𝓛 (hidden_shr usize κ n b (8 + o)))

@@ -19,7 +19,7 @@ use prog.Align.{Dv, align_w, align-bytes, align_size}
 use denote.Param.{layout}
 use denote.RattleType.{RattleType}
 use Rattle.thin_block.specs.Capacity.{in_words, block_align, block_bytes}
-use Rattle.thin_block.specs.Ownership.{there}
+use Rattle.std.specs.Option.{is_some}
 
 -- the alignment of a word of items with the alignment a
 abbrev pub word_align : ℕ → ℕ
@@ -183,7 +183,7 @@ by_test false false false true v s q ex ey ez eu ev e =
 by_test false false false false true s q ex ey ez eu ev e =
     at_size s 16 (1, 1) q (eqb-true s 16 ev) e
     (λ w d. in_words_by 16 (bytes w) 1 1 counts_1 (omega arith) refl (laid_16 w d))
-by_test false false false false false s q ex ey ez eu ev e = absurd (clash (ap there e))
+by_test false false false false false s q ex ey ez eu ev e = absurd (clash (ap is_some e))
 
 -- if items of R make words, then `InWords` holds for R
 pub words_told : (R : RattleType) (m k : ℕ) → in_words (type_size R) ≡ Some (m, k)

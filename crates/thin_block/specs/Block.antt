@@ -12,11 +12,11 @@ pub record Seen (T A : Type 0) : Type 0 where
   pub alloc : Option A
   pub cost : Cost
 
+-- memory whose origin is `alloc` came from the allocator a, or there is no memory
+abbrev pub IsFrom : {A : Type 0} → Option A → A → Type 0
+IsFrom {A} alloc a = (x : A) → alloc ≡ Some x → x ≡ a
+
 module _ {T A : Type 0} where
   -- what a contract sees of the block b
   abbrev pub seen : Block T A → Seen T A
   seen b = record { slots = b.slots; len = b.len; alloc = b.alloc; cost = b.cost }
-
-  -- the memory of b came from the allocator a, or b has no memory
-  abbrev pub IsFrom : Block T A → A → Type 0
-  IsFrom b a = (x : A) → b.alloc ≡ Some x → x ≡ a

@@ -44,11 +44,6 @@ any_same [] (y ∷ ys) e = absurd (omega arith)
 any_same (x ∷ xs) [] e = absurd (omega arith)
 any_same (x ∷ xs) (y ∷ ys) e = refl
 
--- whether an option is `Some`
-abbrev pub there : {X : Type 0} → Option X → Bool
-there (Some x) = true
-there None = false
-
 -- whether a block of c slots is small enough to be allocated
 abbrev pub fits_block : RattleType → ℕ → Bool
 fits_block R c = is_small (type_size R) (type_align R) c

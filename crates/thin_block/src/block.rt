@@ -4,7 +4,8 @@ ghost use Rattle.std.specs.declared.option.Option.TheVariants.{None};
 ghost use Rattle.std.specs.Coded.{coded_list, coded_option};
 ghost use Rattle.thin_block.specs.Capacity.{Fits};
 ghost use Rattle.thin_block.specs.Cost.{Cost, cost_code, no_cost};
-ghost use Rattle.thin_block.specs.Ownership.{block_owns, block_lent, any, there};
+ghost use Rattle.std.specs.Option.{is_some};
+ghost use Rattle.thin_block.specs.Ownership.{block_owns, block_lent, any};
 
 use std::alloc::Allocator;
 use std::marker::{Model, PhantomData};
@@ -42,7 +43,7 @@ pub struct Block<T, A: Allocator> {
     pub ghost len: { ℕ },
     pub ghost alloc: { Option A } by { coded_option A.code },
     pub ghost cost: { Cost } by { cost_code },
-    ghost sound: { (len ≤ length slots) × (there alloc ≡ any slots) },
+    ghost sound: { (len ≤ length slots) × (is_some alloc ≡ any slots) },
 }
 
 impl<T, A: Allocator> Model for Block<T, A> {

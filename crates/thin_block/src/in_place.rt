@@ -58,7 +58,7 @@ impl<T, A: Allocator> Block<T, A> {
         len: usize,
         cap: usize,
     ) -> Result<(), ThinVecError>
-        requires from { IsFrom self.old alloc.now }
+        requires from { IsFrom self.old.alloc alloc.now }
         requires in_words { in_words (type_size T.row) ≡ Some (M, K) }
         requires some { (0 < M) × (K ≤ 2) }
         requires fits { Fits T.row cap }

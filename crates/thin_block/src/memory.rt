@@ -47,7 +47,7 @@ impl<T, A: Allocator> Block<T, A> {
     /// `OutOfMemory` if the allocator fails. Then nothing changes.
     #[inline(always)]
     pub fn grow(&mut self, alloc: &A, cap: usize) -> Result<(), ThinVecError>
-        requires from { IsFrom self.old alloc.now }
+        requires from { IsFrom self.old.alloc alloc.now }
         requires larger { length self.old.slots < cap }
         requires fits { Fits T.row cap }
         requires packed { IsPacked self.old.slots self.old.len }
@@ -101,7 +101,7 @@ impl<T, A: Allocator> Block<T, A> {
     ///
     /// `OutOfMemory` if the allocator fails. Then nothing changes.
     pub fn shrink(&mut self, alloc: &A, cap: usize) -> Result<(), ThinVecError>
-        requires from { IsFrom self.old alloc.now }
+        requires from { IsFrom self.old.alloc alloc.now }
         requires some { 0 < cap }
         requires smaller { cap < length self.old.slots }
         requires packed { IsPacked self.old.slots self.old.len }
@@ -124,7 +124,7 @@ impl<T, A: Allocator> Block<T, A> {
     // allocator does, and then nothing changes.
     #[inline(always)]
     fn resize(&mut self, alloc: &A, cap: usize) -> Result<(), ThinVecError>
-        requires from { IsFrom self.old alloc.now }
+        requires from { IsFrom self.old.alloc alloc.now }
         requires some { 0 < cap }
         requires fits { Fits T.row cap }
         requires packed { IsPacked self.old.slots self.old.len }
@@ -151,7 +151,7 @@ impl<T, A: Allocator> Block<T, A> {
     // Moves the items to a new block of `cap` slots, and frees the old block. The call fails only
     // if the allocator does, and then nothing changes.
     fn remake(&mut self, alloc: &A, cap: usize) -> Result<(), ThinVecError>
-        requires from { IsFrom self.old alloc.now }
+        requires from { IsFrom self.old.alloc alloc.now }
         requires some { 0 < cap }
         requires fits { Fits T.row cap }
         requires packed { IsPacked self.old.slots self.old.len }
@@ -179,7 +179,7 @@ impl<T, A: Allocator> Block<T, A> {
 
     /// Frees the allocation, if there is one. Every slot must be empty.
     pub fn release(self, alloc: &A)
-        requires from { IsFrom self alloc.now }
+        requires from { IsFrom self.alloc alloc.now }
         requires empty { self.slots ≡ empty (length self.slots) }
     {
         let cap = self.cap();

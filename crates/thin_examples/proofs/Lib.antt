@@ -1,7 +1,7 @@
 -- The lemmas about closures that keep all items, closures that pick items, splices, trees and
--- judges.
+-- keepers.
 mod MovesLemmas
 mod PickLemmas
 mod SpliceLemmas
 mod TreeLemmas
-mod JudgeLemmas
+mod KeeperLemmas

@@ -1,15 +1,15 @@
 -- Lemmas about `retain` with a closure that always returns true.
 use Rattle.std.proofs.Common.{◌≡◌, Bool, true, List, [], ◌∷◌, ap, sym, ◌∙◌}
 use Rattle.std.proofs.lemmas.List.{append-nil}
-use Rattle.thin_vec.proofs.RetainLemmas.{left_at-stay, moved_up-stay, moving-none}
+use Rattle.thin_vec.proofs.RetainLemmas.{left_at-stay, moved_down-stay, moving-none}
 use Rattle.thin_vec.specs.Cost.{moving}
-use Rattle.thin_vec.specs.Edits.Retain.{Answers, Asked, IsRetained, Looks, flags_of, left_at, moved_up, stay}
+use Rattle.thin_vec.specs.Edits.Retain.{Verdicts, Asked, IsRetained, Looks, flags_of, left_at, moved_down, stay}
 use Rattle.thin_vec.specs.ThinVec.{Thin}
 
 module _ {S T : Type 0} (R : S → T → Bool → S → Type 0)
     (yes : (s : S) (x : T) (b : Bool) (t : S) → R s x b t → b ≡ true) where
   -- if the closure always returns true, its answers are that each item stays
-  all-stay : (s t : S) (xs : List T) (a : Answers T) → Asked (Looks R) s xs a t → a ≡ stay xs
+  all-stay : (s t : S) (xs : List T) (a : Verdicts T) → Asked (Looks R) s xs a t → a ≡ stay xs
   all-stay s t [] a h = h.0
   all-stay s t (x ∷ xs) a h =
       h.6
@@ -20,13 +20,13 @@ module _ {S T : Type 0} (R : S → T → Bool → S → Type 0)
       → w.items ≡ v.items
   keeps-items s v w r =
       r.1.items
-      ∙ (ap (left_at true) (all-stay s r.0 v.items r.1.answers r.1.asked) ∙ left_at-stay v.items)
+      ∙ (ap (left_at true) (all-stay s r.0 v.items r.1.verdicts r.1.asked) ∙ left_at-stay v.items)
 
   -- if the closure always returns true, `retain` does not change the cost: no item is moved
   pub keeps-cost : {A : Type 0} (s : S) (v w : Thin T A) → IsRetained (Looks R) s v w
       → w.cost ≡ v.cost
   keeps-cost s v w r =
       r.1.cost
-      ∙ (ap (λ a. moving (moved_up (flags_of a)) v.cost)
-      (all-stay s r.0 v.items r.1.answers r.1.asked ∙ sym (append-nil (stay v.items)))
-      ∙ (ap (λ m. moving m v.cost) (moved_up-stay v.items []) ∙ moving-none v.cost))
+      ∙ (ap (λ a. moving (moved_down (flags_of a)) v.cost)
+      (all-stay s r.0 v.items r.1.verdicts r.1.asked ∙ sym (append-nil (stay v.items)))
+      ∙ (ap (λ m. moving m v.cost) (moved_down-stay v.items []) ∙ moving-none v.cost))

@@ -3,7 +3,7 @@ ghost use Rattle.std.specs.List.Sorted.{IsSorted, IsStrictlyIncreasing};
 ghost use Rattle.std.specs.Ordering.{nat_cmp};
 ghost use Rattle.std.specs.Prelude.{◌≡◌, ◌%◌, ◌==◌, Bool, filter, true};
 ghost use Rattle.thin_vec.specs.Edits.Retain.{left_at};
-ghost use Rattle.thin_examples.specs.Judges.{asked_by};
+ghost use Rattle.thin_examples.specs.Keepers.{asked_by};
 
 use std::alloc::Allocator;
 use thin_vec::{Growth, ThinVec};
@@ -25,26 +25,26 @@ pub fn keep_distinct<A: Allocator, G: Growth>(list: &mut ThinVec<u32, A, G>)
     list.dedup();
 }
 
-/// Decides for each item whether it stays in a list. A judge has a state, which each decision may
+/// Decides for each item whether it stays in a list. A keeper has a state, which each decision may
 /// change.
-pub trait Judge<T>: Copy {
-    /// Maps a judge and an item to the decision, the item as the judge leaves it, and the judge
+pub trait Keeper<T>: Copy {
+    /// Maps a keeper and an item to the decision, the item as the keeper leaves it, and the keeper
     /// with its next state.
-    ghost judges: { Self → T → Bool × (T × Self) };
+    ghost keeps: { Self → T → Bool × (T × Self) };
 
-    /// Returns whether `item` stays. The judge may write to `item`.
+    /// Returns whether `item` stays. The keeper may write to `item`.
     fn keep(&mut self, item: &mut T) -> bool
-        ensures { judges self.old item.old ≡ (result, (item.new, self.new)) };
+        ensures { keeps self.old item.old ≡ (result, (item.new, self.new)) };
 }
 
-/// Keeps the items for which a copy of `judge` returns true, as the copy has left them.
-pub fn keep_judged<T: Copy, A: Allocator, G: Growth, J: Judge<T>>(
+/// Keeps the items for which a copy of `keeper` returns true, as the copy has left them.
+pub fn keep_by<T: Copy, A: Allocator, G: Growth, J: Keeper<T>>(
     list: &mut ThinVec<T, A, G>,
-    judge: &J,
+    keeper: &J,
 )
-    ensures items { list.new.items ≡ left_at true (asked_by J.judges judge.now list.old.items) }
+    ensures items { list.new.items ≡ left_at true (asked_by J.keeps keeper.now list.old.items) }
     ensures capacity { list.new.capacity ≡ list.old.capacity }
 {
-    let mut state = *judge;
+    let mut state = *keeper;
     list.retain_mut(move |item: &mut T| state.keep(item));
 }

@@ -5,9 +5,9 @@ use Rattle.std.proofs.lemmas.List.{append-nil, length-append, length-drop, lengt
 use Rattle.std.specs.List.Retain.{ExtractsNext}
 use Rattle.std.specs.Option.{option_to_list}
 use Rattle.std.specs.Prelude.{MatchBool, if◌then◌else◌, not, replicate, slice_range}
-use Rattle.thin_vec.proofs.RetainLemmas.{left_at-append, left_at-stay, moved_up-stay, moving-more, moving-none, trues-append, trues-stay}
+use Rattle.thin_vec.proofs.RetainLemmas.{left_at-append, left_at-stay, moved_down-stay, moving-more, moving-none, trues-append, trues-stay}
 use Rattle.thin_vec.specs.Cost.{Cost, moving}
-use Rattle.thin_vec.specs.Edits.Retain.{Answers, flags_of, left_at, moved_up, stay, trues}
+use Rattle.thin_vec.specs.Edits.Retain.{Verdicts, flags_of, left_at, moved_down, stay, trues}
 use Rattle.thin_vec.specs.ThinVec.{Thin}
 use Rattle.thin_runner.proofs.JudgedLemmas.{AsksJudge, few-left}
 use Rattle.thin_runner.specs.commands.Filters.{around, extracting, sifted}
@@ -16,7 +16,7 @@ use Rattle.thin_runner.specs.declared.command.Step.TheVariants.{Front}
 
 module _ {T : Type 0} where
   -- the answer for an extracted item: it is not kept. There is no answer if no item was extracted
-  abbrev pub goes : Option T → Answers T
+  abbrev pub goes : Option T → Verdicts T
   goes None = []
   goes (Some x) = (false, x) ∷ []
 
@@ -24,7 +24,7 @@ module _ {T : Type 0} where
   abbrev pub handed_out : ℕ → List T → List (Option T)
   handed_out k xs = walked xs (replicate k Front)
 
-  gone-append : (a b : Answers T) → left_at false (a ++ b) ≡ left_at false a ++ left_at false b
+  gone-append : (a b : Verdicts T) → left_at false (a ++ b) ≡ left_at false a ++ left_at false b
   gone-append [] b = refl
   gone-append ((true, x) ∷ a) b = gone-append a b
   gone-append ((false, x) ∷ a) b = ap (λ (l : List T). x ∷ l) (gone-append a b)
@@ -33,7 +33,7 @@ module _ {T : Type 0} where
   gone-stay [] = refl
   gone-stay (x ∷ xs) = gone-stay xs
 
-  gone-after : (xs : List T) (a : Answers T) → left_at false (stay xs ++ a) ≡ left_at false a
+  gone-after : (xs : List T) (a : Verdicts T) → left_at false (stay xs ++ a) ≡ left_at false a
   gone-after [] a = refl
   gone-after (x ∷ xs) a = gone-after xs a
 
@@ -48,7 +48,7 @@ module _ {T : Type 0} where
   left-goes None = refl
   left-goes (Some x) = refl
 
-  still-goes : (item : Option T) → moved_up (flags_of (goes item)) ≡ 0
+  still-goes : (item : Option T) → moved_down (flags_of (goes item)) ≡ 0
   still-goes None = refl
   still-goes (Some x) = refl
 
@@ -58,15 +58,15 @@ module _ {T : Type 0} where
 
   -- the moves for two successive parts of a list are the moves for the first part, plus those for
   -- the second; in the second part, all kept items move if an item of the first part was removed
-  pub moves-append : (a b : Answers T) → moved_up (flags_of (a ++ b))
-      ≡ moved_up (flags_of a) + (if length (left_at false a) == 0 then moved_up
+  pub moves-append : (a b : Verdicts T) → moved_down (flags_of (a ++ b))
+      ≡ moved_down (flags_of a) + (if length (left_at false a) == 0 then moved_down
       (flags_of b) else trues (flags_of b))
   moves-append [] b = omega arith
   moves-append ((true, x) ∷ a) b = moves-append a b
   moves-append ((false, x) ∷ a) b =
       trues-append a b
       ∙ sym (ap (λ t. trues (flags_of a)
-      + (if t then moved_up (flags_of b) else trues (flags_of b)))
+      + (if t then moved_down (flags_of b) else trues (flags_of b)))
       (eqb-suc-zero (length (left_at false a))))
 
 module _ {S T J : Type 0} (R : S → T → Bool → S → T → Type 0) (judge_of : S → J)
@@ -153,7 +153,7 @@ charged (suc gone) m k c =
 -- the state of an extraction between two calls of `next`
 pub record Stand (T : Type 0) : Type 0 where
   -- the answers for the items that are still to be tested
-  pub left : Answers T
+  pub left : Verdicts T
   -- the items at the front of the list: those before the range, and those kept so far
   pub front : List T
   -- the number of items yielded so far
@@ -163,28 +163,28 @@ pub record Stand (T : Type 0) : Type 0 where
 
 -- let `asked` be the answers for all items of the range of an extraction, `start` the items before
 -- the range, and `before` the cost before the first call of `next`
-module _ {T : Type 0} (asked : Answers T) (start : List T) (before : Cost) where
+module _ {T : Type 0} (asked : Verdicts T) (start : List T) (before : Cost) where
   -- `at` is a state of the extraction: the one after some calls of `next`. `done` are the answers
   -- for the items tested so far
   pub record IsExtracting (at : Stand T) : Type 0 where
-    pub done : Answers T
+    pub done : Verdicts T
     pub split : asked ≡ done ++ at.left
     pub front : at.front ≡ start ++ left_at true done
     pub out : at.out ≡ length (left_at false done)
-    pub paid : at.paid ≡ moving (moved_up (flags_of done)) before
+    pub paid : at.paid ≡ moving (moved_down (flags_of done)) before
 
   -- if the next answers, `now`, keep k items, and no item is removed before the last of these, then
   -- the cost for all answers, including `now`, is the cost so far, plus k moves if an item was
   -- extracted before
-  paid-next : (at : Stand T) (h : IsExtracting at) (now : Answers T) (k : ℕ)
-      → moved_up (flags_of now) ≡ 0 → trues (flags_of now) ≡ k
+  paid-next : (at : Stand T) (h : IsExtracting at) (now : Verdicts T) (k : ℕ)
+      → moved_down (flags_of now) ≡ 0 → trues (flags_of now) ≡ k
       → (if at.out == 0 then at.paid else moving k at.paid)
-      ≡ moving (moved_up (flags_of (h.done ++ now))) before
+      ≡ moving (moved_down (flags_of (h.done ++ now))) before
   paid-next at h now k still moved =
       let some = length (left_at false h.done) == 0 in
       (λ i. if h.out i == 0 then h.paid i else moving k (h.paid i))
-      ∙ (charged (length (left_at false h.done)) (moved_up (flags_of h.done)) k before
-      ∙ ((λ i. moving (moved_up (flags_of h.done) + (if some then sym still i else sym moved i))
+      ∙ (charged (length (left_at false h.done)) (moved_down (flags_of h.done)) k before
+      ∙ ((λ i. moving (moved_down (flags_of h.done) + (if some then sym still i else sym moved i))
       before)
       ∙ ap (λ m. moving m before) (sym (moves-append h.done now))))
 
@@ -215,7 +215,7 @@ module _ {T : Type 0} (asked : Answers T) (start : List T) (before : Cost) where
         ∙ ((λ i. left_at-stay kept i ++ left-goes item i) ∙ append-nil kept) in
         let go : left_at false now ≡ option_to_list item =
         gone-append (stay kept) (goes item) ∙ (λ i. gone-stay kept i ++ gone-goes item i) in
-        let still : moved_up (flags_of now) ≡ 0 = moved_up-stay kept (goes item)
+        let still : moved_down (flags_of now) ≡ 0 = moved_down-stay kept (goes item)
         ∙ still-goes item in
         let moved : trues (flags_of now) ≡ length kept =
         omega (arith, trues-append (stay kept) (goes item), trues-stay kept, few-goes item) in
@@ -241,7 +241,7 @@ module _ {T : Type 0} (asked : Answers T) (start : List T) (before : Cost) where
 
 -- let w be the list after an extraction from the list v, of the range from index a up to b, with
 -- the answers `asked`
-module _ {T A : Type 0} (v w : Thin T A) (a b : ℕ) (asked : Answers T) where
+module _ {T A : Type 0} (v w : Thin T A) (a b : ℕ) (asked : Verdicts T) where
   -- w is v with the items at the front, then those of the range that were not tested (`rest`), and
   -- then those after the range (`tail`). The items of `rest` and `tail` count a move each if an
   -- item was yielded
@@ -270,18 +270,19 @@ module _ {T A : Type 0} (v w : Thin T A) (a b : ℕ) (asked : Answers T) where
       left_at-append (stay front) (h.done ++ after)
       ∙ (λ i. left_at-stay front i
       ++ (left_at-append h.done after ∙ ap (λ l. left_at true h.done ++ l) ends) i) in
-      let still : moved_up (flags_of after) ≡ 0 =
-      moved_up-stay rest (stay tail)
-      ∙ (ap (λ l. moved_up (flags_of l)) (sym (append-nil (stay tail))) ∙ moved_up-stay tail []) in
+      let still : moved_down (flags_of after) ≡ 0 =
+      moved_down-stay rest (stay tail)
+      ∙ (ap (λ l. moved_down (flags_of l)) (sym (append-nil (stay tail)))
+      ∙ moved_down-stay tail []) in
       let moved : trues (flags_of after) ≡ length rest + length tail =
       omega (arith, trues-append (stay rest) (stay tail), trues-stay rest, trues-stay tail) in
       let now = left_is.items
       ∙ (ap (λ l. l ++ (rest ++ tail)) h.front
       ∙ (append_assoc front (left_at true h.done) (rest ++ tail)
       ∙ sym (ap (left_at true) all ∙ left))) in
-      let count : moved_up (flags_of (h.done ++ after))
-      ≡ moved_up (flags_of (around v.items a b asked)) =
-      sym (ap (λ l. moved_up (flags_of l)) all ∙ moved_up-stay front (h.done ++ after)) in
+      let count : moved_down (flags_of (h.done ++ after))
+      ≡ moved_down (flags_of (around v.items a b asked)) =
+      sym (ap (λ l. moved_down (flags_of l)) all ∙ moved_down-stay front (h.done ++ after)) in
       let paid = left_is.cost
       ∙ (paid-next asked front v.cost at h after (length rest + length tail) still moved
       ∙ ap (λ m. moving m v.cost) count) in

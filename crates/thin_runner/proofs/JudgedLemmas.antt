@@ -7,7 +7,7 @@ use Rattle.std.specs.Fn.{CalledAtMut, ComparesKeys}
 use Rattle.std.specs.List.{dedup, dedup_from}
 use Rattle.std.specs.Prelude.{MatchBool, if◌then◌else◌, not}
 use Rattle.thin_vec.specs.Cost.{moving}
-use Rattle.thin_vec.specs.Edits.Retain.{Answers, Asked, IsRetained, flags_of, left_at, moved_up}
+use Rattle.thin_vec.specs.Edits.Retain.{Verdicts, Asked, IsRetained, flags_of, left_at, moved_down}
 use Rattle.thin_vec.specs.Edits.Dedup.{AskedLast, AskedPairs, IsDedupedBy, unlike, unlike_from}
 use Rattle.thin_vec.specs.ThinVec.{Thin}
 use Rattle.thin_runner.specs.commands.Filters.{asked, asked_last, asked_pairs, same_key, sifted}
@@ -23,10 +23,10 @@ module _ {S T J : Type 0} (R : S → T → Bool → S → T → Type 0) (judge_o
     (ask : J → T → Bool × T × J) (told : AsksJudge R judge_of ask) where
   -- if the closure was called for each item of xs, in order, then its answers are those of the
   -- judge
-  pub asked-by : (s t : S) (xs : List T) (answers : Answers T) → Asked R s xs answers t
-      → answers ≡ asked ask (judge_of s) xs
-  asked-by s t [] answers a = a.0
-  asked-by s t (x ∷ xs) answers a =
+  pub asked-by : (s t : S) (xs : List T) (verdicts : Verdicts T) → Asked R s xs verdicts t
+      → verdicts ≡ asked ask (judge_of s) xs
+  asked-by s t [] verdicts a = a.0
+  asked-by s t (x ∷ xs) verdicts a =
       a.6 ∙ (ap (λ l. (a.0, a.1) ∷ l) (asked-by a.2 t xs a.3 a.5)
       ∙ ap (λ l. (l.0, l.1) ∷ asked ask l.2 xs) (told s x a.0 a.2 a.1 a.4))
 
@@ -36,16 +36,16 @@ module _ {S T J : Type 0} (R : S → T → Bool → S → T → Type 0) (judge_o
       → w.capacity ≡ v.capacity → w.alloc ≡ v.alloc
       → w ≡ sifted v (asked ask (judge_of s) v.items)
   retained-by s v w r capacity alloc =
-      let same = asked-by s r.0 v.items r.1.answers r.1.asked in
+      let same = asked-by s r.0 v.items r.1.verdicts r.1.asked in
       let items = r.1.items ∙ ap (λ a. left_at true a) same in
-      let cost = r.1.cost ∙ ap (λ a. moving (moved_up (flags_of a)) v.cost) same in
+      let cost = r.1.cost ∙ ap (λ a. moving (moved_down (flags_of a)) v.cost) same in
       λ i. record { items = items i; capacity = capacity i; alloc = alloc i; cost = cost i }
 
 -- a definition for lists whose items are compared, each with the last item kept before it
 module _ {T : Type 0} where
   -- ys are the items that are kept by the results b, beginning with the first item, and the flags
   -- say for each later item whether it is kept
-  abbrev pub Leaves : List Bool → List T → T × Answers T → Type 0
+  abbrev pub Leaves : List Bool → List T → T × Verdicts T → Type 0
   Leaves flags ys b = (flags ≡ flags_of b.1) × (ys ≡ b.0 ∷ left_at true b.1)
 
 -- let a closure compare two items, with a judge in its state, and return what this judge decides
@@ -78,11 +78,11 @@ module _ {S T J : Type 0} (R : S → T → T → Bool → S → T → T → Type
   -- kept items and the number of moves are as the judge decides
   pub asked-pairs-by : (s t : S) (xs : List T) (flags : List Bool) (ys : List T)
       → AskedPairs R s xs flags ys t
-      → (moved_up flags ≡ moved_up (flags_of (asked_pairs same (judge_of s) xs)))
+      → (moved_down flags ≡ moved_down (flags_of (asked_pairs same (judge_of s) xs)))
       × (ys ≡ left_at true (asked_pairs same (judge_of s) xs))
-  asked-pairs-by s t [] flags ys a = (ap moved_up a.0, a.1)
+  asked-pairs-by s t [] flags ys a = (ap moved_down a.0, a.1)
   asked-pairs-by s t (x ∷ xs) flags ys a = let h = asked-last-by s t x xs flags ys a
-      in (ap moved_up h.0, h.1)
+      in (ap moved_down h.0, h.1)
 
   -- if `dedup_by`, with a closure that asks the judge, turns v into w, then w is v with only the
   -- items that the judge keeps (`sifted`)
@@ -129,18 +129,19 @@ module _ {T J : Type 0} (look : J → T → Bool × J) where
 -- at most as many items are kept as there were
 module _ {T : Type 0} where
   -- the number of kept items is at most the number of answers
-  pub few-left : (answers : Answers T) → length (left_at true answers) ≤ length answers
+  pub few-left : (verdicts : Verdicts T) → length (left_at true verdicts) ≤ length verdicts
   few-left [] = omega arith
-  few-left ((true, x) ∷ answers) = omega (arith, few-left answers)
-  few-left ((false, x) ∷ answers) = omega (arith, few-left answers)
+  few-left ((true, x) ∷ verdicts) = omega (arith, few-left verdicts)
+  few-left ((false, x) ∷ verdicts) = omega (arith, few-left verdicts)
 
   -- the results of comparing x with the kept item k, from the results a for the items after x: if b
   -- is true, x is removed; otherwise x is kept, and becomes the last kept item
-  abbrev next : Bool → T → T → T × Answers T → T × Answers T
+  abbrev next : Bool → T → T → T × Verdicts T → T × Verdicts T
   next b x k a = if b then (a.0, (false, x) ∷ a.1) else (k, (true, a.0) ∷ a.1)
 
   -- comparing one more item adds one answer
-  one-answer : (b : Bool) (x k : T) (a : T × Answers T) → length (next b x k a).1 ≡ suc (length a.1)
+  one-answer : (b : Bool) (x k : T) (a : T × Verdicts T)
+      → length (next b x k a).1 ≡ suc (length a.1)
   one-answer true x k a = refl
   one-answer false x k a = refl
 
@@ -203,15 +204,15 @@ module _ {T J : Type 0} (E : T → T → Bool) (j : J) where
   -- `dedup` returns the items of xs that are kept by the test E, and `unlike` returns flags with as
   -- many moves
   pub dedup-pairs : (xs : List T)
-      → (moved_up (unlike E xs) ≡ moved_up (flags_of (asked_pairs tells j xs)))
+      → (moved_down (unlike E xs) ≡ moved_down (flags_of (asked_pairs tells j xs)))
       × (dedup E xs ≡ left_at true (asked_pairs tells j xs))
   dedup-pairs [] = (refl, refl)
-  dedup-pairs (x ∷ xs) = let h = dedup-last x xs in (ap moved_up h.0, h.1)
+  dedup-pairs (x ∷ xs) = let h = dedup-last x xs in (ap moved_down h.0, h.1)
 
   -- if `dedup` with the test E turns v into w, then w is v with only the items that the test keeps
   -- (`sifted`)
   pub deduped-alike : {A : Type 0} (v w : Thin T A) → w.items ≡ dedup E v.items → w.cost
-      ≡ moving (moved_up (unlike E v.items)) v.cost
+      ≡ moving (moved_down (unlike E v.items)) v.cost
       → w.capacity ≡ v.capacity → w.alloc ≡ v.alloc → w ≡ sifted v (asked_pairs tells j v.items)
   deduped-alike v w items cost capacity alloc =
       let by = dedup-pairs v.items in

@@ -9,7 +9,7 @@ use Rattle.std.specs.List.{AllByRecursion, AllZip, dedup, each_same, fold, repla
 use Rattle.std.specs.Option.{option_map_or, option_to_list}
 use Rattle.std.specs.Prelude.{replicate, slice_range}
 use Rattle.thin_vec.specs.List.Clones.{ClonesEqual, IsResized}
-use Rattle.thin_vec.specs.Edits.Retain.{Answers as Answered, left_at, stay}
+use Rattle.thin_vec.specs.Edits.Retain.{Verdicts, left_at, stay}
 use Rattle.thin_vec.specs.ThinVec.{Thin}
 use Rattle.thin_vec.proofs.RetainLemmas.{left_at-append, left_at-stay}
 use Rattle.thin_runner.specs.Setting.{Setting}
@@ -112,14 +112,14 @@ module _ {T : Type 0} where
 
   -- if the items of a range are tested, and the items around it are kept, then the items left are
   -- the list with the range replaced by its kept items
-  left-around : (xs : List T) (a b : ℕ) (answers : Answered T)
-      → left_at true (around xs a b answers) ≡ replace_range xs a b (left_at true answers)
-  left-around xs a b answers =
+  left-around : (xs : List T) (a b : ℕ) (verdicts : Verdicts T)
+      → left_at true (around xs a b verdicts) ≡ replace_range xs a b (left_at true verdicts)
+  left-around xs a b verdicts =
       let before : List T = take a xs in
-      let kept : List T = left_at true answers in
+      let kept : List T = left_at true verdicts in
       let after : List T = drop b xs in
-      left_at-append (stay before) (answers ++ stay after)
-      ∙ ((λ i. left_at-stay before i ++ left_at-append answers (stay after) i)
+      left_at-append (stay before) (verdicts ++ stay after)
+      ∙ ((λ i. left_at-stay before i ++ left_at-append verdicts (stay after) i)
       ∙ ((λ i. before ++ (kept ++ left_at-stay after i)) ∙ sym (append_assoc before kept after)))
 
 module _ {T A G J : Type 0} (here : Setting T A J) (equal : ClonesEqual here.clones) where

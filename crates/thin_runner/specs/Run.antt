@@ -4,7 +4,7 @@ use Rattle.std.specs.Prelude.{◌≡◌, ℕ, ◌+◌, ◌-◌, ◌*◌, ◌==�
 use Rattle.std.specs.Option.{unwrap_or}
 use Rattle.thin_vec.specs.ThinVec.{Thin}
 use Rattle.thin_runner.specs.Setting.{Setting}
-use Rattle.thin_vec.specs.Edits.Retain.{flags_of, moved_up}
+use Rattle.thin_vec.specs.Edits.Retain.{flags_of, moved_down}
 use Rattle.thin_runner.specs.Steps.{Steps}
 use Rattle.thin_runner.specs.commands.Filters.{answered, around, extracting}
 use Rattle.thin_runner.specs.declared.command.Command.{Command}
@@ -57,10 +57,10 @@ module _ {T A G J : Type 0} (here : Setting T A J) where
   may_move xs (Drain a b steps) (Answers answers) = if a == b then 0 else length xs - b
   may_move xs (ExtractIf a b k) (Answers answers) =
       let asked = extracting here.judging.take here.judge k (slice_range xs a b) in
-      moved_up (flags_of (around xs a b asked))
+      moved_down (flags_of (around xs a b asked))
   may_move xs (Splice a b steps ys lower) (Refused cause) = 0
   may_move xs (Splice a b steps ys lower) reply = 2 * (length xs - b) + length ys.items
-  may_move xs command reply = moved_up (flags_of (unwrap_or (answered here xs command) []))
+  may_move xs command reply = moved_down (flags_of (unwrap_or (answered here xs command) []))
 
   -- the sum of `may_move` over the commands of a run and their replies, each for the list before
   -- its command

@@ -117,7 +117,7 @@ module _ {T A G J : Type 0} (here : Setting T A J) where
       (0 < length steps.items) × (cause ≡ OutOfMemory) × (new ≡ old)
   -- the commands that filter: `Retain`, `RetainMut`, `Dedup`, `DedupBy` and `DedupByKey`
   Does old command Done new =
-      MatchOption (answered here old.items command) ⊥ (λ answers. new ≡ sifted old answers)
+      MatchOption (answered here old.items command) ⊥ (λ verdicts. new ≡ sifted old verdicts)
   Does old command reply new = ⊥
 
   -- the command may turn the list `old` into `new`, with this reply. A command that is out of range

@@ -129,7 +129,7 @@ module _ {T A : Type 0} where
 
   -- a block with a list in front
   pub settled : (b : Block T A) (a : A) (xs : List T) (c : ℕ) → b.slots ≡ front xs c
-      → b.len ≡ length xs → length xs ≤ c → IsFrom b a → Settled b a xs c
+      → b.len ≡ length xs → length xs ≤ c → IsFrom b.alloc a → Settled b a xs c
   settled b a xs c e n h f =
       let i : items_in b.slots ≡ xs = ap items_in e ∙ items-front xs c in
       let l : length b.slots ≡ c = ap length e ∙ length-front xs c h in
@@ -177,7 +177,8 @@ module _ {T A : Type 0} where
   thin-packed b a n t long = record { row = t.packed.row; len = sym long }
 
   -- a block from the same allocator
-  pub from-same : (b b' : Block T A) (a : A) → IsFrom b a → b'.alloc ≡ b.alloc → IsFrom b' a
+  pub from-same : (b b' : Block T A) (a : A) → IsFrom b.alloc a → b'.alloc ≡ b.alloc
+      → IsFrom b'.alloc a
   from-same b b' a f e = λ x h. f x (sym e ∙ h)
 
   -- b' is b once its slots are s, its stored length is n and it has cost k

@@ -59,13 +59,13 @@ module _ {T A : Type 0} where
 
   -- the row up to each run
   abbrev pub to_rest : Open T A → List (Option T)
-  to_rest v = full v.front ++ empty v.before
+  to_rest v = full v.front ++ empty v.gap
 
   abbrev to_after : Open T A → List (Option T)
   to_after v = to_rest v ++ full v.rest
 
   abbrev to_tail : Open T A → List (Option T)
-  to_tail v = to_after v ++ empty v.after
+  to_tail v = to_after v ++ empty v.gap_after
 
   -- the row from the end of the tail on
   abbrev pub past_tail : Open T A → List (Option T)
@@ -77,28 +77,28 @@ module _ {T A : Type 0} where
 
   -- the row from the end of the middle run on
   abbrev pub past_rest : Open T A → List (Option T)
-  past_rest v = empty v.after ++ past_after v
+  past_rest v = empty v.gap_after ++ past_after v
 
   module _ (h : Inside T A) (v : Open T A) (s : Shows h v) where
     pub by_rest : h.block.slots ≡ to_rest v ++ (full v.rest ++ past_rest v)
     by_rest = s.row ∙ sym
-        (append_assoc (full v.front) (empty v.before) (full v.rest ++ past_rest v))
+        (append_assoc (full v.front) (empty v.gap) (full v.rest ++ past_rest v))
 
     by_after : h.block.slots ≡ to_after v ++ past_rest v
     by_after = by_rest ∙ sym (append_assoc (to_rest v) (full v.rest) (past_rest v))
 
     by_tail : h.block.slots ≡ to_tail v ++ past_after v
-    by_tail = by_after ∙ sym (append_assoc (to_after v) (empty v.after) (past_after v))
+    by_tail = by_after ∙ sym (append_assoc (to_after v) (empty v.gap_after) (past_after v))
 
     -- how long the row up to each run is
     pub at_rest : length (to_rest v) ≡ h.rest_start
     at_rest = omega (
       arith,
-      length-append (full v.front) (empty v.before),
+      length-append (full v.front) (empty v.gap),
       length-full v.front,
-      length-empty T v.before,
+      length-empty T v.gap,
       s.front,
-      s.before,
+      s.gap,
     )
 
     at_after : length (to_after v) ≡ h.rest_end
@@ -113,14 +113,14 @@ module _ {T A : Type 0} where
     at_tail : length (to_tail v) ≡ h.tail_start
     at_tail = omega (
       arith,
-      length-append (to_after v) (empty v.after),
+      length-append (to_after v) (empty v.gap_after),
       at_after,
-      length-empty T v.after,
-      s.after,
+      length-empty T v.gap_after,
+      s.gap_after,
     )
 
     pub reached : reach v ≡ h.len
-    reached = omega (arith, s.front, s.before, s.rest, s.after, s.tail)
+    reached = omega (arith, s.front, s.gap, s.rest, s.gap_after, s.tail)
 
     -- how many slots there are
     shown-cap : length h.block.slots ≡ v.capacity
@@ -141,7 +141,7 @@ module _ {T A : Type 0} where
     shown-front : items_in (take h.front_end h.block.slots) ≡ v.front
     shown-front =
         ap items_in (ap (take h.front_end) s.row
-        ∙ take_at (full v.front) (empty v.before ++ (full v.rest ++ past_rest v)) h.front_end
+        ∙ take_at (full v.front) (empty v.gap ++ (full v.rest ++ past_rest v)) h.front_end
         (length-full v.front ∙ s.front))
         ∙ items-full-alone v.front
 
@@ -168,14 +168,14 @@ module _ {T A : Type 0} where
     -- a block that shows v is seen as v
     pub found : h.block.alloc ≡ v.alloc → h.block.cost ≡ v.cost → Found h v
     found alloc cost =
-        let before : h.rest_start - h.front_end ≡ v.before = omega (arith, s.before) in
-        let after : h.tail_start - h.rest_end ≡ v.after = omega (arith, s.after) in
+        let gap : h.rest_start - h.front_end ≡ v.gap = omega (arith, s.gap) in
+        let gap_after : h.tail_start - h.rest_end ≡ v.gap_after = omega (arith, s.gap_after) in
         let view : open_of h ≡ v =
         λ i. record {
           front = shown-front i;
-          before = before i;
+          gap = gap i;
           rest = shown-rest i;
-          after = after i;
+          gap_after = gap_after i;
           tail = shown-tail i;
           capacity = shown-cap i;
           alloc =
@@ -200,9 +200,9 @@ module _ {T A : Type 0} where
     pub before-empty : (j : ℕ) → h.front_end ≤ j → j < h.rest_start → slot h.block.slots j ≡ None
     before-empty j low high =
         ap (λ (r : List (Option T)). slot r j) s.row
-        ∙ slot-in-empty (full v.front) v.before (full v.rest ++ past_rest v) j
+        ∙ slot-in-empty (full v.front) v.gap (full v.rest ++ past_rest v) j
         (omega (arith, length-full v.front, s.front))
-        (omega (arith, length-full v.front, s.front, s.before))
+        (omega (arith, length-full v.front, s.front, s.gap))
 
   -- the slots of the middle run, as a run
   pub rest-run : (h : Inside T A) (xs : List T) → full xs
@@ -231,9 +231,9 @@ module _ {T A : Type 0} where
     abbrev pub first-seen : List T → Open T A
     first-seen ys = record {
       front = v.front;
-      before = v.before + 1;
+      gap = v.gap + 1;
       rest = ys;
-      after = v.after;
+      gap_after = v.gap_after;
       tail = v.tail;
       capacity = v.capacity;
       alloc = v.alloc;
@@ -258,19 +258,19 @@ module _ {T A : Type 0} where
         ap (λ (z : Seen T A). z.slots) now
         ∙ (ap (λ (r : List (Option T)). set r h.rest_start None) row
         ∙ (set_at (to_rest v) (Some y) (full ys ++ past_rest v) None h.rest_start (at_rest h v o)
-        ∙ (append_assoc (full v.front) (empty v.before) (None ∷ (full ys ++ past_rest v))
+        ∙ (append_assoc (full v.front) (empty v.gap) (None ∷ (full ys ++ past_rest v))
         ∙ (ap (λ (r : List (Option T)). full v.front ++ r)
-        (empty-more v.before (full ys ++ past_rest v))
+        (empty-more v.gap (full ys ++ past_rest v))
         ∙ ap (λ (k : ℕ). full v.front
-        ++ (empty (v.before + 1) ++ (full ys ++ (empty v.after ++ (full v.tail ++ empty k)))))
+        ++ (empty (v.gap + 1) ++ (full ys ++ (empty v.gap_after ++ (full v.tail ++ empty k)))))
         reached')))) in
         let shows : Shows first-left (first-seen ys) =
         record {
           row = after;
           front = o.front;
-          before = omega (arith, o.before);
+          gap = omega (arith, o.gap);
           rest = omega (arith, o.rest, ap length parts.2);
-          after = o.after;
+          gap_after = o.gap_after;
           tail =
               o.tail;
           room = o.room;
@@ -295,9 +295,9 @@ module _ {T A : Type 0} where
     abbrev pub last-seen : List T → Open T A
     last-seen ys = record {
       front = v.front;
-      before = v.before;
+      gap = v.gap;
       rest = ys;
-      after = v.after + 1;
+      gap_after = v.gap_after + 1;
       tail = v.tail;
       capacity = v.capacity;
       alloc = v.alloc;
@@ -333,25 +333,25 @@ module _ {T A : Type 0} where
         ∙ (ap (λ (r : List (Option T)). slot r (h.rest_end - 1)) (sym row) ∙ is)) in
         let reached' : v.capacity - reach v ≡ v.capacity - reach (last-seen ys) =
         omega (arith, longer) in
-        let more : suc v.after ≡ v.after + 1 = omega arith in
+        let more : suc v.gap_after ≡ v.gap_after + 1 = omega arith in
         let after : b.slots ≡ row_of (last-seen ys) =
         ap (λ (z : Seen T A). z.slots) now
         ∙ (ap (λ (r : List (Option T)). set r (h.rest_end - 1) None) row
         ∙ (set_at pre (Some y) (past_rest v) None (h.rest_end - 1) before
         ∙ (append_assoc (to_rest v) (full ys) (None ∷ past_rest v)
-        ∙ (append_assoc (full v.front) (empty v.before) (full ys ++ (None ∷ past_rest v))
+        ∙ (append_assoc (full v.front) (empty v.gap) (full ys ++ (None ∷ past_rest v))
         ∙ (ap (λ (k : ℕ). full v.front
-        ++ (empty v.before ++ (full ys ++ (empty k ++ past_after v)))) more
+        ++ (empty v.gap ++ (full ys ++ (empty k ++ past_after v)))) more
         ∙ ap (λ (k : ℕ). full v.front
-        ++ (empty v.before ++ (full ys ++ (empty (v.after + 1) ++ (full v.tail ++ empty k)))))
+        ++ (empty v.gap ++ (full ys ++ (empty (v.gap_after + 1) ++ (full v.tail ++ empty k)))))
         reached'))))) in
         let shows : Shows last-left (last-seen ys) =
         record {
           row = after;
           front = o.front;
-          before = o.before;
+          gap = o.gap;
           rest = omega (arith, o.rest, longer);
-          after = omega (arith, o.after, o.rest, longer);
+          gap_after = omega (arith, o.gap_after, o.rest, longer);
           tail = o.tail;
           room = o.room;
         } in (
@@ -377,9 +377,9 @@ module _ {T A : Type 0} where
     joined-seen = let w : Open T A = open_of h in
         record {
           front = w.front;
-          before = w.before + w.after;
+          gap = w.gap + w.gap_after;
           rest = [];
-          after = 0;
+          gap_after = 0;
           tail = w.tail;
           capacity = w.capacity;
           alloc = w.alloc;
@@ -392,21 +392,21 @@ module _ {T A : Type 0} where
         let past : w.capacity - reach w ≡ w.capacity - reach joined-seen =
         omega (arith, ap length none) in
         let after : h.block.slots ≡ row_of joined-seen =
-        o.row ∙ (ap (λ (r : List T). full w.front ++ (empty w.before ++ (full r ++ past_rest w)))
+        o.row ∙ (ap (λ (r : List T). full w.front ++ (empty w.gap ++ (full r ++ past_rest w)))
         none
         ∙ (ap (λ (r : List (Option T)). full w.front ++ r)
-        (sym (append_assoc (empty w.before) (empty w.after) (past_after w))
+        (sym (append_assoc (empty w.gap) (empty w.gap_after) (past_after w))
         ∙ ap (λ (r : List (Option T)). r ++ past_after w)
-        (replicate-append-replicate w.before w.after None))
-        ∙ ap (λ (k : ℕ). full w.front ++ (empty (w.before + w.after) ++ (full w.tail ++ empty k)))
+        (replicate-append-replicate w.gap w.gap_after None))
+        ∙ ap (λ (k : ℕ). full w.front ++ (empty (w.gap + w.gap_after) ++ (full w.tail ++ empty k)))
         past)) in
         let shows : Shows joined joined-seen =
         record {
           row = after;
           front = o.front;
-          before = omega (arith, o.before, o.rest, o.after, ap length none);
+          gap = omega (arith, o.gap, o.rest, o.gap_after, ap length none);
           rest = omega arith;
-          after = omega arith;
+          gap_after = omega arith;
           tail = o.tail;
           room = o.room;
         } in
@@ -416,29 +416,29 @@ module _ {T A : Type 0} where
     abbrev all-after : List T
     all-after = (open_of h).rest ++ (open_of h).tail
 
-    side-by-side : (open_of h).after ≡ 0 → h.block.slots ≡ full (open_of h).front
-        ++ (empty (open_of h).before ++ (full all-after ++ past_tail (open_of h)))
+    side-by-side : (open_of h).gap_after ≡ 0 → h.block.slots ≡ full (open_of h).front
+        ++ (empty (open_of h).gap ++ (full all-after ++ past_tail (open_of h)))
     side-by-side none =
         let w : Open T A = open_of h in
         o.row ∙ (ap (λ (k : ℕ). full w.front
-        ++ (empty w.before ++ (full w.rest ++ (empty k ++ past_after w)))) none
-        ∙ ap (λ (r : List (Option T)). full w.front ++ (empty w.before ++ r))
+        ++ (empty w.gap ++ (full w.rest ++ (empty k ++ past_after w)))) none
+        ∙ ap (λ (r : List (Option T)). full w.front ++ (empty w.gap ++ r))
         (sym (append_assoc (full w.rest) (full w.tail) (past_tail w))
         ∙ ap (λ (r : List (Option T)). r ++ past_tail w) (sym (full-append w.rest w.tail))))
 
-    count-after : (open_of h).after ≡ 0 → length all-after ≡ h.len - h.rest_start
+    count-after : (open_of h).gap_after ≡ 0 → length all-after ≡ h.len - h.rest_start
     count-after none =
-        omega (arith, length-append (open_of h).rest (open_of h).tail, o.rest, o.after, o.tail)
+        omega (arith, length-append (open_of h).rest (open_of h).tail, o.rest, o.gap_after, o.tail)
 
-    pub after-filled : (open_of h).after ≡ 0 → (j : ℕ) → h.rest_start ≤ j → j < h.len
+    pub after-filled : (open_of h).gap_after ≡ 0 → (j : ℕ) → h.rest_start ≤ j → j < h.len
         → IsSome (slot h.block.slots j)
     after-filled none j low high =
         let w : Open T A = open_of h in
-        let pre : List (Option T) = full w.front ++ empty w.before in
+        let pre : List (Option T) = full w.front ++ empty w.gap in
         let start : length pre ≡ h.rest_start = at_rest h w o in
         rw (ap (λ (r : List (Option T)). slot r j)
         (side-by-side none
-        ∙ sym (append_assoc (full w.front) (empty w.before) (full all-after ++ past_tail w))))
+        ∙ sym (append_assoc (full w.front) (empty w.gap) (full all-after ++ past_tail w))))
         (slot-in-full pre all-after (past_tail w) j (omega (arith, start))
         (omega (arith, start, count-after none)))
 
@@ -446,50 +446,50 @@ module _ {T A : Type 0} where
     count-all = omega (arith, length-append (open_of h).front all-after, o.front)
 
     -- the middle run and the tail go to the front as one run
-    pub close-row : (open_of h).after ≡ 0
+    pub close-row : (open_of h).gap_after ≡ 0
         → moved h.rest_start h.front_end (h.len - h.rest_start) h.block.slots ≡ front
         (items_of (open_of h)) (length h.block.slots)
     close-row none =
         let w : Open T A = open_of h in
-        let left : w.before + (w.capacity - reach w) ≡ w.capacity - length (items_of w) =
+        let left : w.gap + (w.capacity - reach w) ≡ w.capacity - length (items_of w) =
         omega (
           arith,
           count-all,
           reached h w o,
           count-after none,
-          o.before,
+          o.gap,
           o.rest,
-          o.after,
+          o.gap_after,
           o.tail,
           o.room,
         ) in
         ap (moved h.rest_start h.front_end (h.len - h.rest_start)) (side-by-side none)
-        ∙ (moved_left h.rest_start h.front_end (h.len - h.rest_start) w.before (full w.front)
+        ∙ (moved_left h.rest_start h.front_end (h.len - h.rest_start) w.gap (full w.front)
         (full all-after)
-        (past_tail w) (sym (length-full w.front ∙ o.front)) (sym o.before)
+        (past_tail w) (sym (length-full w.front ∙ o.front)) (sym o.gap)
         (omega (arith, length-full all-after, count-after none))
-        ∙ (sym (append_assoc (full w.front) (full all-after) (empty w.before ++ past_tail w))
-        ∙ (ap (λ (r : List (Option T)). r ++ (empty w.before ++ past_tail w))
+        ∙ (sym (append_assoc (full w.front) (full all-after) (empty w.gap ++ past_tail w))
+        ∙ (ap (λ (r : List (Option T)). r ++ (empty w.gap ++ past_tail w))
         (sym (full-append w.front all-after))
         ∙ ap (λ (r : List (Option T)). full (items_of w) ++ r)
-        (replicate-append-replicate w.before (w.capacity - reach w) None
+        (replicate-append-replicate w.gap (w.capacity - reach w) None
         ∙ ap (λ (k : ℕ). empty k) left))))
 
     -- the middle run and the tail are in front already where no empty slot lies before them
-    pub closed-row : (open_of h).after ≡ 0 → h.front_end ≡ h.rest_start
+    pub closed-row : (open_of h).gap_after ≡ 0 → h.front_end ≡ h.rest_start
         → h.block.slots ≡ front (items_of (open_of h)) (length h.block.slots)
     closed-row none here =
         let w : Open T A = open_of h in
-        let no : w.before ≡ 0 = omega (arith, o.before) in
+        let no : w.gap ≡ 0 = omega (arith, o.gap) in
         let left : w.capacity - reach w ≡ w.capacity - length (items_of w) =
         omega (
           arith,
           count-all,
           reached h w o,
           count-after none,
-          o.before,
+          o.gap,
           o.rest,
-          o.after,
+          o.gap_after,
           o.tail,
           o.room,
         ) in
@@ -517,9 +517,9 @@ module _ {T A : Type 0} where
     opened-seen = let xs : List T = items_in b.slots in
         record {
           front = take start xs;
-          before = 0;
+          gap = 0;
           rest = slice_range xs start end;
-          after = 0;
+          gap_after = 0;
           tail = drop end xs;
           capacity = length b.slots;
           alloc = b.alloc;
@@ -551,9 +551,9 @@ module _ {T A : Type 0} where
         (record {
           row = after;
           front = lf;
-          before = omega arith;
+          gap = omega arith;
           rest = omega (arith, lr);
-          after = omega arith;
+          gap_after = omega arith;
           tail = omega (arith, lz, all);
           room =
               omega (arith, all, thin-room b a t);
@@ -578,9 +578,9 @@ module _ {T A : Type 0} where
         let v : Open T A = open_of h in
         record {
           front = v.front ++ xs;
-          before = h.rest_start - end;
+          gap = h.rest_start - end;
           rest = v.rest;
-          after = v.after;
+          gap_after = v.gap_after;
           tail = v.tail;
           capacity = v.capacity;
           alloc = b.alloc;
@@ -590,8 +590,8 @@ module _ {T A : Type 0} where
     pub fill-step : b.slots ≡ laid h.front_end (full xs) h.block.slots → Found filled filled-seen
     fill-step now =
         let v : Open T A = open_of h in
-        let parts : length xs + (h.rest_start - end) ≡ v.before =
-        omega (arith, ends, fits, o.before) in
+        let parts : length xs + (h.rest_start - end) ≡ v.gap =
+        omega (arith, ends, fits, o.gap) in
         let more : length (v.front ++ xs) ≡ end =
         omega (arith, length-append v.front xs, o.front, ends) in
         let past : v.capacity - reach v ≡ v.capacity - reach filled-seen =
@@ -599,7 +599,7 @@ module _ {T A : Type 0} where
         let long : length (full xs) ≡ length (empty {T = T} (length xs)) =
         omega (arith, length-full xs, length-empty T (length xs)) in
         let left : List (Option T) = full v.rest ++ past_rest v in
-        let split : empty v.before ++ left ≡ empty (length xs)
+        let split : empty v.gap ++ left ≡ empty (length xs)
         ++ (empty (h.rest_start - end) ++ left) =
         ap (λ (k : ℕ). empty k ++ left) (sym parts)
         ∙ (ap (λ (r : List (Option T)). r ++ left)
@@ -616,14 +616,14 @@ module _ {T A : Type 0} where
         (sym (full-append v.front xs))
         ∙ ap (λ (k : ℕ). full (v.front ++ xs)
         ++ (empty (h.rest_start - end)
-        ++ (full v.rest ++ (empty v.after ++ (full v.tail ++ empty k))))) past)))) in
+        ++ (full v.rest ++ (empty v.gap_after ++ (full v.tail ++ empty k))))) past)))) in
         let shows : Shows filled filled-seen =
         record {
           row = after;
           front = more;
-          before = omega (arith, fits);
+          gap = omega (arith, fits);
           rest = o.rest;
-          after = o.after;
+          gap_after = o.gap_after;
           tail = o.tail;
           room = o.room;
         } in
@@ -647,9 +647,9 @@ module _ {T A : Type 0} where
         let v : Open T A = open_of h in
         record {
           front = v.front;
-          before = v.before;
+          gap = v.gap;
           rest = v.rest;
-          after = v.after + count;
+          gap_after = v.gap_after + count;
           tail = v.tail;
           capacity = v.capacity;
           alloc = b.alloc;
@@ -679,31 +679,31 @@ module _ {T A : Type 0} where
         let past : v.capacity - reach v - count ≡ v.capacity - reach widened-seen =
         omega (arith, room, reached h v o) in
         let turned : to_tail v ++ (empty count ++ (full v.tail ++ end)) ≡ full v.front
-        ++ (empty v.before
-        ++ (full v.rest ++ (empty (v.after + count) ++ (full v.tail ++ end)))) =
+        ++ (empty v.gap
+        ++ (full v.rest ++ (empty (v.gap_after + count) ++ (full v.tail ++ end)))) =
         let tail : List (Option T) = empty count ++ (full v.tail ++ end) in
-        append_assoc (to_after v) (empty v.after) tail
-        ∙ (append_assoc (to_rest v) (full v.rest) (empty v.after ++ tail)
-        ∙ (append_assoc (full v.front) (empty v.before) (full v.rest ++ (empty v.after ++ tail))
-        ∙ ap (λ (r : List (Option T)). full v.front ++ (empty v.before ++ (full v.rest ++ r)))
-        (sym (append_assoc (empty v.after) (empty count) (full v.tail ++ end))
+        append_assoc (to_after v) (empty v.gap_after) tail
+        ∙ (append_assoc (to_rest v) (full v.rest) (empty v.gap_after ++ tail)
+        ∙ (append_assoc (full v.front) (empty v.gap) (full v.rest ++ (empty v.gap_after ++ tail))
+        ∙ ap (λ (r : List (Option T)). full v.front ++ (empty v.gap ++ (full v.rest ++ r)))
+        (sym (append_assoc (empty v.gap_after) (empty count) (full v.tail ++ end))
         ∙ ap (λ (r : List (Option T)). r ++ (full v.tail ++ end))
-        (replicate-append-replicate v.after count None)))) in
+        (replicate-append-replicate v.gap_after count None)))) in
         let after : b.slots ≡ row_of widened-seen =
         now ∙ (ap (moved h.tail_start (h.tail_start + count) (h.len - h.tail_start)) spare
         ∙ (moved_right h.tail_start (h.tail_start + count) (h.len - h.tail_start) count
         (to_tail v) (full v.tail) end
         (sym (at_tail h v o)) refl (sym k)
         ∙ (turned ∙ ap (λ (n : ℕ). full v.front
-        ++ (empty v.before
-        ++ (full v.rest ++ (empty (v.after + count) ++ (full v.tail ++ empty n))))) past))) in
+        ++ (empty v.gap
+        ++ (full v.rest ++ (empty (v.gap_after + count) ++ (full v.tail ++ empty n))))) past))) in
         let shows : Shows widened widened-seen =
         record {
           row = after;
           front = o.front;
-          before = o.before;
+          gap = o.gap;
           rest = o.rest;
-          after = omega (arith, o.after);
+          gap_after = omega (arith, o.gap_after);
           tail = omega (arith, o.tail);
           room = room;
         } in

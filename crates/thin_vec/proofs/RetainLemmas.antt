@@ -7,10 +7,10 @@ use Rattle.std.specs.List.{filter, items_where_true}
 use Rattle.std.specs.List.Retain.{IsFiltered, ReturnsInTurn}
 use Rattle.std.proofs.lemmas.Fn.{filter_same}
 use Rattle.thin_block.specs.Cost.{Cost, moving}
-use Rattle.thin_vec.specs.Edits.Retain.{Answers, Asked, IsRetained, IsRetainedTo, Looks, flags_of, left_at, moved_up, stay, trues}
+use Rattle.thin_vec.specs.Edits.Retain.{Verdicts, Asked, IsRetained, IsRetainedTo, Looks, flags_of, left_at, moved_down, stay, trues}
 use Rattle.thin_vec.specs.Open.{Open}
 use Rattle.thin_vec.specs.ThinVec.{Thin}
-use Rattle.thin_vec.specs.OpenBlock.Sift.{Advances, IsAskedAt, IsSifted, Runs, Sifts, Stops}
+use Rattle.thin_vec.specs.OpenBlock.Sift.{Advances, IsAskedAt, IsSifted, AskedUpTo, Sifts, Stops}
 
 -- moves add up
 pub moving-more : (a b : ℕ) (c : Cost) → moving a (moving b c) ≡ moving (b + a) c
@@ -60,13 +60,13 @@ none-left (x ∷ xs) none = absurd (none (omega arith))
 
 module _ {T : Type 0} where
   -- the items that stay of two stretches
-  pub left_at-append : (a b : Answers T) → left_at true (a ++ b) ≡ left_at true a ++ left_at true b
+  pub left_at-append : (a b : Verdicts T) → left_at true (a ++ b) ≡ left_at true a ++ left_at true b
   left_at-append [] b = refl
   left_at-append ((true, x) ∷ a) b = ap (λ (l : List T). x ∷ l) (left_at-append a b)
   left_at-append ((false, x) ∷ a) b = left_at-append a b
 
   -- how many items stay of two stretches
-  pub trues-append : (a b : Answers T) → trues (flags_of (a ++ b)) ≡ trues
+  pub trues-append : (a b : Verdicts T) → trues (flags_of (a ++ b)) ≡ trues
       (flags_of a) + trues (flags_of b)
   trues-append [] b = omega arith
   trues-append ((true, x) ∷ a) b = let e = trues-append a b in omega arith
@@ -83,18 +83,18 @@ module _ {T : Type 0} where
   trues-stay (x ∷ xs) = ap suc (trues-stay xs)
 
   -- items that all stay don't move, nor do later ones because of them
-  pub moved_up-stay : (xs : List T) (a : Answers T) → moved_up (flags_of (stay xs ++ a))
-      ≡ moved_up (flags_of a)
-  moved_up-stay [] a = refl
-  moved_up-stay (x ∷ xs) a = moved_up-stay xs a
+  pub moved_down-stay : (xs : List T) (a : Verdicts T) → moved_down (flags_of (stay xs ++ a))
+      ≡ moved_down (flags_of a)
+  moved_down-stay [] a = refl
+  moved_down-stay (x ∷ xs) a = moved_down-stay xs a
 
 module _ {S T : Type 0} (R : S → T → Bool → S → T → Type 0) where
   -- a stretch that begins in the state t
-  module _ (t u : S) (ys : List T) (b : Answers T) (k : Asked R t ys b u) where
+  module _ (t u : S) (ys : List T) (b : Verdicts T) (k : Asked R t ys b u) where
     -- a stretch that begins in t goes on after one that ended in t
-    asked-append : (xs : List T) (s : S) (a : Answers T) → Asked R s xs a t
+    asked-append : (xs : List T) (s : S) (a : Verdicts T) → Asked R s xs a t
         → Asked R s (xs ++ ys) (a ++ b) u
-    asked-append [] s a h = subst (λ (c : Answers T). Asked R s ys (c ++ b) u) (sym h.0)
+    asked-append [] s a h = subst (λ (c : Verdicts T). Asked R s ys (c ++ b) u) (sym h.0)
         (subst (λ (q : S). Asked R q ys b u) h.1 k)
     asked-append (x ∷ xs) s a h = (
       h.0,
@@ -103,7 +103,7 @@ module _ {S T : Type 0} (R : S → T → Bool → S → T → Type 0) where
       h.3 ++ b,
       h.4,
       asked-append xs h.2 h.3 h.5,
-      ap (λ (c : Answers T). c ++ b) h.6,
+      ap (λ (c : Verdicts T). c ++ b) h.6,
     )
 
   -- one question
@@ -180,14 +180,15 @@ module _ {S T : Type 0} (R : S → T → Bool → S → T → Type 0) where
           was = h.was ∙ ap (λ (l : List T). h.before ++ l)
               (ap (λ (l : List T). h.run ++ l) (next-parts true u zs a).1
               ∙ sym (append_assoc h.run (a.item ∷ []) a.after));
-          asked = subst (λ (c : Answers T). Asked R s (h.run ++ a.item ∷ []) c u) joined
+          asked = subst (λ (c : Verdicts T). Asked R s (h.run ++ a.item ∷ []) c u) joined
               (asked-append t u (a.item ∷ []) ((true, a.left) ∷ [])
               (asked-one t u a.item a.left true a.asked) h.run s (stay h.left) h.asked);
           now = next-now true u zs a ∙ ap (λ (l : List T). h.before ++ l)
               (sym (append_assoc h.left (a.left ∷ []) a.after));
         }
 
-    pub stays-goes : (u : S) (zs : List T) → IsAskedAt R m t ys false u zs → Runs R k m s xs u zs
+    pub stays-goes : (u : S) (zs : List T) → IsAskedAt R m t ys false u zs
+        → AskedUpTo R k m s xs u zs
     stays-goes u zs a =
         record {
           before = h.before;
@@ -204,7 +205,7 @@ module _ {S T : Type 0} (R : S → T → Bool → S → T → Type 0) where
           now = next-now false u zs a;
         }
 
-    pub stays-end : length ys ≤ m → Runs R k m s xs t ys
+    pub stays-end : length ys ≤ m → AskedUpTo R k m s xs t ys
     stays-end short =
         let none : h.more ≡ [] =
         nil_from_length h.more (omega
@@ -243,14 +244,14 @@ module _ {S T : Type 0} (R : S → T → Bool → S → T → Type 0) where
   stay-count (x ∷ xs) s t [] h = absurd (cons-not-nil (sym h.6))
   stay-count (x ∷ xs) s t (y ∷ ys) h =
       ap suc (stay-count xs h.2 t ys
-      (subst (λ (a : Answers T). Asked R h.2 xs a t) (sym (cons-tail h.6)) h.5))
+      (subst (λ (a : Verdicts T). Asked R h.2 xs a t) (sym (cons-tail h.6)) h.5))
 
   stop-count : (u : S) (b : List T) (t : S) (e : List T) → Stops R u b t e → length e ≡ length b
   stop-count u [] t e h = ap length h.0
   stop-count u (x ∷ b) t e h = ap length h.2
 
   -- a run that was asked about has as many items as before
-  pub runs-count : (k m : ℕ) (s : S) (xs : List T) (t : S) (ys : List T) → Runs R k m s xs t ys
+  pub runs-count : (k m : ℕ) (s : S) (xs : List T) (t : S) (ys : List T) → AskedUpTo R k m s xs t ys
       → length ys ≡ length xs
   runs-count k m s xs t ys r =
       omega (
@@ -278,7 +279,7 @@ module _ {S T : Type 0} (R : S → T → Bool → S → T → Type 0) where
   module _ (m n : ℕ) where
     -- two runs, one after the other
     pub runs-join : (s : S) (xs : List T) (t : S) (ys : List T) (u : S) (zs : List T)
-        → Stays 0 m s xs t ys → Runs R m n t ys u zs → Runs R 0 n s xs u zs
+        → Stays 0 m s xs t ys → AskedUpTo R m n t ys u zs → AskedUpTo R 0 n s xs u zs
     runs-join s xs t ys u zs h r =
         let none = nil_from_length h.before h.place in
         let same : h.left ++ h.more ≡ r.before ++ (r.run ++ r.after) =
@@ -303,7 +304,7 @@ module _ {S T : Type 0} (R : S → T → Bool → S → T → Type 0) where
           reached = omega (arith, length-append h.left r.left, long, r.reached);
           was = h.was ∙ (ap (λ (l : List T). l ++ (h.run ++ h.more)) none
               ∙ (ap (λ (l : List T). h.run ++ l) second ∙ sym (append_assoc h.run r.run r.after)));
-          asked = subst (λ (c : Answers T). Asked R s (h.run ++ r.run) c r.between) joined
+          asked = subst (λ (c : Verdicts T). Asked R s (h.run ++ r.run) c r.between) joined
               (asked-append t r.between r.run (stay r.left) r.asked h.run s (stay h.left) h.asked);
           stops = r.stops;
           now = r.now ∙ (ap (λ (l : List T). l ++ (r.left ++ r.end)) first
@@ -316,13 +317,13 @@ module _ {S T : Type 0} (R : S → T → Bool → S → T → Type 0) where
   -- ask about
   pub record Part (m : ℕ) (s : S) (xs : List T) (t : S) (kept rest : List T) : Type 0 where
     pub done : List T
-    pub answers : Answers T
+    pub verdicts : Verdicts T
     pub was : xs ≡ done ++ rest
-    pub asked : Asked R s done answers t
-    pub left : left_at true answers ≡ kept
-    pub count : trues (flags_of answers) ≡ m
+    pub asked : Asked R s done verdicts t
+    pub left : left_at true verdicts ≡ kept
+    pub count : trues (flags_of verdicts) ≡ m
 
-  module _ (m : ℕ) (s : S) (xs : List T) (t : S) (ys : List T) (r : Runs R 0 m s xs t ys) where
+  module _ (m : ℕ) (s : S) (xs : List T) (t : S) (ys : List T) (r : AskedUpTo R 0 m s xs t ys) where
     run-none : r.before ≡ []
     run-none = nil_from_length r.before r.place
 
@@ -357,14 +358,14 @@ module _ {S T : Type 0} (R : S → T → Bool → S → T → Type 0) where
         let g = stop-goes r.between r.after r.end v rest r.stops (sym run-end ∙ k) in
         record {
           done = r.run ++ g.0 ∷ [];
-          answers = stay r.left ++ (false, v) ∷ [];
+          verdicts = stay r.left ++ (false, v) ∷ [];
           was = run-was ∙ (ap (λ (l : List T). r.run ++ l) g.1
               ∙ sym (append_assoc r.run (g.0 ∷ []) rest));
           asked = asked-append r.between t (g.0 ∷ []) ((false, v) ∷ [])
               (asked-one r.between t g.0 v false g.2) r.run s (stay r.left) r.asked;
           left = left_at-append (stay r.left) ((false, v) ∷ [])
               ∙ (append-nil (left_at true (stay r.left)) ∙ (left_at-stay r.left ∙ sym run-kept));
-          count = let none : trues (flags_of (let one : Answers T = (false, v) ∷ [] in one)) ≡ 0 =
+          count = let none : trues (flags_of (let one : Verdicts T = (false, v) ∷ [] in one)) ≡ 0 =
               refl in omega (
                 arith,
                 trues-append (stay r.left) ((false, v) ∷ []),
@@ -384,7 +385,7 @@ module _ {S T : Type 0} (R : S → T → Bool → S → T → Type 0) where
         let g = stop-ends r.between r.after r.end r.stops (sym run-end ∙ k) in
         record {
           done = r.run;
-          answers = stay r.left;
+          verdicts = stay r.left;
           was = run-was ∙ ap (λ (l : List T). r.run ++ l) g.0;
           asked = subst (λ (q : S). Asked R s r.run (stay r.left) q) (sym g.1) r.asked;
           left = left_at-stay r.left ∙ sym run-kept;
@@ -395,46 +396,46 @@ module _ {S T : Type 0} (R : S → T → Bool → S → T → Type 0) where
 
   module _ {A : Type 0} (v w : Open T A) where
     pub sifts-of : (m : ℕ) (s t : S) (kept : List T) → Part m s v.rest t kept w.rest
-        → 0 < w.before → w ≡ record v {
+        → 0 < w.gap → w ≡ record v {
           front = v.front ++ kept;
-          before = w.before;
+          gap = w.gap;
           rest = w.rest;
           cost = moving m v.cost;
         } → Sifts R s v t w
     sifts-of m s t kept p gap now =
         record {
           done = p.done;
-          answers = p.answers;
+          verdicts = p.verdicts;
           rest = p.was;
           asked = p.asked;
           gap = gap;
           now = now ∙ (λ i. record v {
             front = v.front ++ sym p.left i;
-            before = w.before;
+            gap = w.gap;
             rest = w.rest;
             cost = moving (sym p.count i) v.cost;
           });
         }
 
   -- the middle run up to the first item that goes, after a gap
-  module _ {A : Type 0} (s t : S) (v w : Open T A) (gap : 0 < v.before)
+  module _ {A : Type 0} (s t : S) (v w : Open T A) (gap : 0 < v.gap)
       (h : Advances R s v t w) where
     abbrev kept : List T
     kept = take h.count h.left
 
     moved : w.cost ≡ moving h.count v.cost
-    moved = ap (λ u. u.cost) h.now ∙ moving-after v.before h.count v.cost gap
+    moved = ap (λ u. u.cost) h.now ∙ moving-after v.gap h.count v.cost gap
 
     -- the first item that goes left w, and nothing else did: z is what is open then
     pub advanced-goes : (value : T) (z : Open T A) → w.rest ≡ value ∷ z.rest
-        → z ≡ record w { rest = z.rest; before = w.before + 1 } → Sifts R s v t z
+        → z ≡ record w { rest = z.rest; gap = w.gap + 1 } → Sifts R s v t z
     advanced-goes value z rest same =
         sifts-of v z h.count s t kept
         (part-goes h.count s v.rest t h.left h.run value z.rest
         (sym (ap (λ u. u.rest) h.now) ∙ rest))
-        (omega (arith, ap (λ u. u.before) same))
+        (omega (arith, ap (λ u. u.gap) same))
         (same ∙ (λ i. record (h.now i)
-        { before = sym (ap (λ u. u.before) same) i; rest = z.rest; cost = moved i }))
+        { gap = sym (ap (λ u. u.gap) same) i; rest = z.rest; cost = moved i }))
 
     -- none of the items goes
     pub advanced-ends : w.rest ≡ [] → Sifts R s v t w
@@ -442,8 +443,8 @@ module _ {S T : Type 0} (R : S → T → Bool → S → T → Type 0) where
         sifts-of v w h.count s t kept
         (subst (λ (l : List T). Part h.count s v.rest t kept l) (sym none)
         (part-ends h.count s v.rest t h.left h.run (sym (ap (λ u. u.rest) h.now) ∙ none)))
-        (omega (arith, ap (λ u. u.before) h.now, gap))
-        (λ i. record (h.now i) { before = w.before; rest = w.rest; cost = moved i })
+        (omega (arith, ap (λ u. u.gap) h.now, gap))
+        (λ i. record (h.now i) { gap = w.gap; rest = w.rest; cost = moved i })
 
     -- no more items are left to ask about
     pub advanced-count : length w.rest ≤ length v.rest
@@ -455,11 +456,11 @@ module _ {S T : Type 0} (R : S → T → Bool → S → T → Type 0) where
     )
 
   -- nothing was asked yet; and one stretch after another
-  pub sifts-start : {A : Type 0} (s : S) (v : Open T A) → 0 < v.before → Sifts R s v s v
+  pub sifts-start : {A : Type 0} (s : S) (v : Open T A) → 0 < v.gap → Sifts R s v s v
   sifts-start s v gap =
       record {
         done = [];
-        answers = [];
+        verdicts = [];
         rest = refl;
         asked = (refl, refl);
         gap = gap;
@@ -473,34 +474,35 @@ module _ {S T : Type 0} (R : S → T → Bool → S → T → Type 0) where
   sifts-then {s = s} {t} {u} {v} {w} {z} h k =
       record {
         done = h.done ++ k.done;
-        answers = h.answers ++ k.answers;
+        verdicts = h.verdicts ++ k.verdicts;
         rest = h.rest ∙ (ap (λ (l : List T). h.done ++ l) k.rest
             ∙ sym (append_assoc h.done k.done z.rest));
-        asked = asked-append t u k.done k.answers k.asked h.done s h.answers h.asked;
+        asked = asked-append t u k.done k.verdicts k.asked h.done s h.verdicts h.asked;
         gap = k.gap;
         now = k.now ∙ ((λ i. let u = h.now i in record u {
-          front = u.front ++ left_at true k.answers;
-          before = z.before;
+          front = u.front ++ left_at true k.verdicts;
+          gap = z.gap;
           rest = z.rest;
-          cost = moving (trues (flags_of k.answers)) u.cost;
+          cost = moving (trues (flags_of k.verdicts)) u.cost;
         })
             ∙ (λ i. record v {
-              front = (append_assoc v.front (left_at true h.answers) (left_at true k.answers)
-                  ∙ ap (λ (l : List T). v.front ++ l) (sym (left_at-append h.answers k.answers))) i;
-              before = z.before;
+              front = (append_assoc v.front (left_at true h.verdicts) (left_at true k.verdicts)
+                  ∙ ap (λ (l : List T). v.front ++ l)
+                  (sym (left_at-append h.verdicts k.verdicts))) i;
+              gap = z.gap;
               rest = z.rest;
-              cost = (moving-more (trues (flags_of k.answers)) (trues (flags_of h.answers)) v.cost
-                  ∙ ap (λ (n : ℕ). moving n v.cost) (sym (trues-append h.answers k.answers))) i;
+              cost = (moving-more (trues (flags_of k.verdicts)) (trues (flags_of h.verdicts)) v.cost
+                  ∙ ap (λ (n : ℕ). moving n v.cost) (sym (trues-append h.verdicts k.verdicts))) i;
             }));
       }
 
   module _ {A : Type 0} (v w : Open T A) (m : ℕ) (s t : S) (ys : List T)
-      (run : Runs R 0 m s v.rest t ys) where
+      (run : AskedUpTo R 0 m s v.rest t ys) where
     -- of v, w has the tail, the slots and where they came from, and the run in front of it, for
     -- nothing
     abbrev Passed : Type 0
     Passed = w ≡ record v
-        { front = v.front ++ take m ys; before = w.before; rest = w.rest }
+        { front = v.front ++ take m ys; gap = w.gap; rest = w.rest }
 
     -- the item after the run goes, and then all others were asked about
     pub sifted-goes : (value : T) (u : S) (z : Open T A) → Passed → drop m ys ≡ value ∷ w.rest
@@ -509,33 +511,33 @@ module _ {S T : Type 0} (R : S → T → Bool → S → T → Type 0) where
     sifted-goes value u z p k h none =
         let part = part-goes m s v.rest t ys run value w.rest k in
         let stays : List T = run.left in
-        let answers : Answers T = part.answers ++ h.answers in
-        let up : moved_up (flags_of answers) ≡ trues (flags_of h.answers) =
-        ap (λ (a : Answers T). moved_up (flags_of a))
-        (append_assoc (stay stays) ((false, value) ∷ []) h.answers)
-        ∙ moved_up-stay stays ((false, value) ∷ h.answers) in
+        let verdicts : Verdicts T = part.verdicts ++ h.verdicts in
+        let up : moved_down (flags_of verdicts) ≡ trues (flags_of h.verdicts) =
+        ap (λ (a : Verdicts T). moved_down (flags_of a))
+        (append_assoc (stay stays) ((false, value) ∷ []) h.verdicts)
+        ∙ moved_down-stay stays ((false, value) ∷ h.verdicts) in
         let all : h.done ≡ w.rest =
         sym (h.rest ∙ (ap (λ (l : List T). h.done ++ l) none ∙ append-nil h.done)) in
         record {
-          answers = answers;
-          asked = subst (λ (l : List T). Asked R s l answers u)
+          verdicts = verdicts;
+          asked = subst (λ (l : List T). Asked R s l verdicts u)
               (ap (λ (l : List T). part.done ++ l) all ∙ sym part.was)
-              (asked-append t u h.done h.answers h.asked part.done s part.answers part.asked);
+              (asked-append t u h.done h.verdicts h.asked part.done s part.verdicts part.asked);
           now = h.now ∙ ((λ i. let u = p i in record u {
-            front = u.front ++ left_at true h.answers;
-            before = z.before;
+            front = u.front ++ left_at true h.verdicts;
+            gap = z.gap;
             rest = none i;
             cost = moving (sym up i) u.cost;
           })
               ∙ (λ i. record v {
-                front = (ap (λ (l : List T). (v.front ++ l) ++ left_at true h.answers)
+                front = (ap (λ (l : List T). (v.front ++ l) ++ left_at true h.verdicts)
                     (sym part.left)
-                    ∙ (append_assoc v.front (left_at true part.answers) (left_at true h.answers)
+                    ∙ (append_assoc v.front (left_at true part.verdicts) (left_at true h.verdicts)
                     ∙ ap (λ (l : List T). v.front ++ l)
-                    (sym (left_at-append part.answers h.answers)))) i;
-                before = z.before;
+                    (sym (left_at-append part.verdicts h.verdicts)))) i;
+                gap = z.gap;
                 rest = [];
-                cost = moving (moved_up (flags_of answers)) v.cost;
+                cost = moving (moved_down (flags_of verdicts)) v.cost;
               }));
         }
 
@@ -544,41 +546,41 @@ module _ {S T : Type 0} (R : S → T → Bool → S → T → Type 0) where
     unfolding part-ends
     sifted-ends p k none =
         let part = part-ends m s v.rest t ys run k in
-        let up : moved_up (flags_of part.answers) ≡ 0 =
-        ap (λ (a : Answers T). moved_up (flags_of a)) (sym (append-nil part.answers))
-        ∙ moved_up-stay run.left [] in
+        let up : moved_down (flags_of part.verdicts) ≡ 0 =
+        ap (λ (a : Verdicts T). moved_down (flags_of a)) (sym (append-nil part.verdicts))
+        ∙ moved_down-stay run.left [] in
         record {
-          answers = part.answers;
-          asked = subst (λ (l : List T). Asked R s l part.answers t)
+          verdicts = part.verdicts;
+          asked = subst (λ (l : List T). Asked R s l part.verdicts t)
               (sym (append-nil part.done) ∙ sym part.was) part.asked;
           now = p ∙ (λ i. record v {
             front = v.front ++ sym part.left i;
-            before = w.before;
+            gap = w.gap;
             rest = none i;
             cost = (sym (moving-none v.cost) ∙ ap (λ (n : ℕ). moving n v.cost) (sym up)) i;
           });
         }
 
--- a judge that holds a closure decides as the closure does
+-- a test that holds a closure decides as the closure does
 module _ {J S T : Type 0} (R : S → T → Bool → S → T → Type 0) (inside : J → S) where
   abbrev through : J → T → Bool → J → T → Type 0
   through s x b t y = R (inside s) x b (inside t) y
 
-  -- items that such a judge was asked about were asked of the closure
-  pub asked-through : (xs : List T) (s t : J) (a : Answers T) → Asked through s xs a t
+  -- items that such a test was asked about were asked of the closure
+  pub asked-through : (xs : List T) (s t : J) (a : Verdicts T) → Asked through s xs a t
       → Asked R (inside s) xs a (inside t)
   asked-through [] s t a h = (h.0, ap inside h.1)
   asked-through (x ∷ xs) s t a h =
       (h.0, h.1, inside h.2, h.3, h.4, asked-through xs h.2 t h.3 h.5, h.6)
 
-  -- what such a judge leaves of a list is what the closure leaves
+  -- what such a test leaves of a list is what the closure leaves
   pub retained-through : {A : Type 0} (s : J) (v w : Thin T A) (t : J)
       → IsRetainedTo through s v w t → IsRetained R (inside s) v w
   retained-through s v w t h = (
     inside t,
     record {
-      answers = h.answers;
-      asked = asked-through v.items s t h.answers h.asked;
+      verdicts = h.verdicts;
+      asked = asked-through v.items s t h.verdicts h.asked;
       items = h.items;
       cost = h.cost;
     },
@@ -588,7 +590,7 @@ module _ {J S T : Type 0} (R : S → T → Bool → S → T → Type 0) (inside 
 
 -- what a closure that only looks returns, alone
 module _ {S T : Type 0} (R : S → T → Bool → S → Type 0) where
-  told : (xs : List T) (s t : S) (a : Answers T) → Asked (Looks R) s xs a t
+  told : (xs : List T) (s t : S) (a : Verdicts T) → Asked (Looks R) s xs a t
       → (length (flags_of a) ≡ length xs) × ReturnsInTurn R s (flags_of a) xs t
       × (left_at true a ≡ items_where_true (flags_of a) xs)
   told [] s t [] h = (refl, sym h.1, refl)
@@ -597,13 +599,13 @@ module _ {S T : Type 0} (R : S → T → Bool → S → Type 0) where
   told (x ∷ xs) s t ((b, y) ∷ a) h =
       let same : (b, y) ≡ (h.0, h.1) = cons-head h.6 in
       let rest = told xs h.2 t a
-      (subst (λ (c : Answers T). Asked (Looks R) h.2 xs c t) (sym (cons-tail h.6)) h.5) in
+      (subst (λ (c : Verdicts T). Asked (Looks R) h.2 xs c t) (sym (cons-tail h.6)) h.5) in
       let answer : R s x b h.2 = subst (λ (c : Bool). R s x c h.2)
       (sym (ap (λ (p : Bool × T). p.0) same)) h.4.0 in
       let left : y ≡ x = ap (λ (p : Bool × T). p.1) same ∙ h.4.1 in
       (ap suc rest.0, (h.2, answer, rest.1), first b y x a xs left rest.2)
     where
-      first : (b : Bool) (y x : T) (a : Answers T) (xs : List T) → y ≡ x
+      first : (b : Bool) (y x : T) (a : Verdicts T) (xs : List T) → y ≡ x
           → left_at true a ≡ items_where_true (flags_of a) xs
           → left_at true ((b, y) ∷ a) ≡ items_where_true (b ∷ flags_of a) (x ∷ xs)
       first true y x a xs e f = λ i. e i ∷ f i
@@ -614,8 +616,8 @@ module _ {S T : Type 0} (R : S → T → Bool → S → Type 0) where
       → IsFiltered R s v.items w.items
   retained_filtered s v w h =
       let r = h.1 in
-      let t = told v.items s h.0 r.answers r.asked in
-      (flags_of r.answers, h.0, t.0, t.1, r.items ∙ t.2)
+      let t = told v.items s h.0 r.verdicts r.asked in
+      (flags_of r.verdicts, h.0, t.0, t.1, r.items ∙ t.2)
 
   -- where the closure returns what a test does, and stays as it was, the items are those that pass
   -- the test
@@ -627,15 +629,16 @@ module _ {S T : Type 0} (R : S → T → Bool → S → Type 0) where
 
 module _ {S T : Type 0} (R : S → T → Bool → S → T → Type 0) where
   -- no more items stay than there were
-  pub few-left : (xs : List T) (s t : S) (a : Answers T) → Asked R s xs a t
+  pub few-left : (xs : List T) (s t : S) (a : Verdicts T) → Asked R s xs a t
       → length (left_at true a) ≤ length xs
-  few-left [] s t a h = subst (λ (b : Answers T). length (left_at true b) ≤ 0) (sym h.0) (omega arith)
+  few-left [] s t a h =
+      subst (λ (b : Verdicts T). length (left_at true b) ≤ 0) (sym h.0) (omega arith)
   few-left (x ∷ xs) s t a h =
       let rest = few-left xs h.2 t h.3 h.5 in
-      subst (λ (b : Answers T). length (left_at true b) ≤ suc (length xs)) (sym h.6)
+      subst (λ (b : Verdicts T). length (left_at true b) ≤ suc (length xs)) (sym h.6)
       (one h.0 h.1 h.3 xs rest)
     where
-      one : (b : Bool) (y : T) (a : Answers T) (xs : List T)
+      one : (b : Bool) (y : T) (a : Verdicts T) (xs : List T)
           → length (left_at true a) ≤ length xs
           → length (left_at true ((b, y) ∷ a)) ≤ suc (length xs)
       one true y a xs few = omega (arith, few)
@@ -645,5 +648,5 @@ module _ {S T : Type 0} (R : S → T → Bool → S → T → Type 0) where
   pub few-retained : {A : Type 0} (s : S) (v w : Thin T A) → IsRetained R s v w
       → length w.items ≤ length v.items
   few-retained s v w h =
-      let few = few-left v.items s h.0 h.1.answers h.1.asked in
+      let few = few-left v.items s h.0 h.1.verdicts h.1.asked in
       omega (arith, few, ap length h.1.items)

@@ -1,8 +1,7 @@
 -- What a contract sees of a block that is open: its items lie in three runs, with empty slots
 -- between them, while an edit works on it.
-use Rattle.std.specs.Prelude.{◌≡◌, ℕ, ◌+◌, ◌-◌, ◌==◌, List, ◌++◌, Option, if◌then◌else◌, length, refl}
+use Rattle.std.specs.Prelude.{ℕ, ◌+◌, ◌-◌, ◌==◌, List, ◌++◌, Option, if◌then◌else◌, length, refl}
 use Rattle.std.specs.Coded.{Coded, code_by, coded×, coded_ℕ, coded_list, coded_option}
-use Rattle.std.specs.declared.option.Option.TheVariants.{Some}
 use Rattle.thin_block.specs.Cost.{Cost, cost_code, moving}
 use Rattle.thin_block.specs.Slots.{empty, full}
 
@@ -11,9 +10,9 @@ use Rattle.thin_block.specs.Slots.{empty, full}
 -- allocator that the memory came from; the cost
 pub record Open (T A : Type 0) : Type 0 where
   pub front : List T
-  pub before : ℕ
+  pub gap : ℕ
   pub rest : List T
-  pub after : ℕ
+  pub gap_after : ℕ
   pub tail : List T
   pub capacity : ℕ
   pub alloc : Option A
@@ -27,12 +26,12 @@ open_code {T} {A} t a =
     (coded× coded_ℕ (coded× (coded_list t)
     (coded× coded_ℕ (coded× (coded_list t)
     (coded× coded_ℕ (coded× (coded_option a) cost_code)))))))
-    (λ v. (v.front, (v.before, (v.rest, (v.after, (v.tail, (v.capacity, (v.alloc, v.cost))))))))
+    (λ v. (v.front, (v.gap, (v.rest, (v.gap_after, (v.tail, (v.capacity, (v.alloc, v.cost))))))))
     (λ p. record {
       front = p.0;
-      before = p.1.0;
+      gap = p.1.0;
       rest = p.1.1.0;
-      after = p.1.1.1.0;
+      gap_after = p.1.1.1.0;
       tail = p.1.1.1.1.0;
       capacity = p.1.1.1.1.1.0;
       alloc = p.1.1.1.1.1.1.0;
@@ -43,7 +42,7 @@ open_code {T} {A} t a =
 module _ {T A : Type 0} where
   -- the slot of the first item of the tail
   abbrev pub tail_start : Open T A → ℕ
-  tail_start v = length v.front + v.before + length v.rest + v.after
+  tail_start v = length v.front + v.gap + length v.rest + v.gap_after
 
   -- how many slots there are up to the last item
   abbrev pub reach : Open T A → ℕ
@@ -52,8 +51,8 @@ module _ {T A : Type 0} where
   -- the slots, in order
   abbrev pub row_of : Open T A → List (Option T)
   row_of v = full v.front
-      ++ (empty v.before
-      ++ (full v.rest ++ (empty v.after ++ (full v.tail ++ empty (v.capacity - reach v)))))
+      ++ (empty v.gap
+      ++ (full v.rest ++ (empty v.gap_after ++ (full v.tail ++ empty (v.capacity - reach v)))))
 
   -- the items, in order
   abbrev pub items_of : Open T A → List T
@@ -62,14 +61,10 @@ module _ {T A : Type 0} where
   -- what it has cost once the empty slots after the front are closed: a move for each item after
   -- them, where there are any
   abbrev pub cost_closed : Open T A → Cost
-  cost_closed v = if v.before == 0 then v.cost else moving (length v.rest + length v.tail) v.cost
+  cost_closed v = if v.gap == 0 then v.cost else moving (length v.rest + length v.tail) v.cost
 
   -- what it has cost once the middle run is gone and the gap is closed: a move for each item of
   -- the tail, where there is a gap
   abbrev pub cost_drained : Open T A → Cost
-  cost_drained v = if v.before + length v.rest + v.after == 0 then v.cost else
+  cost_drained v = if v.gap + length v.rest + v.gap_after == 0 then v.cost else
       moving (length v.tail) v.cost
-
--- memory of this origin came from the allocator a, or there is none
-abbrev pub IsOf : {A : Type 0} → Option A → A → Type 0
-IsOf {A} alloc a = (x : A) → alloc ≡ Some x → x ≡ a

@@ -12,9 +12,9 @@ module _ {T A : Type 0} where
   open_of h =
       record {
         front = items_in (take h.front_end h.block.slots);
-        before = h.rest_start - h.front_end;
+        gap = h.rest_start - h.front_end;
         rest = items_in (slice_range h.block.slots h.rest_start h.rest_end);
-        after = h.tail_start - h.rest_end;
+        gap_after = h.tail_start - h.rest_end;
         tail = items_in (drop h.tail_start h.block.slots);
         capacity = length h.block.slots;
         alloc = h.block.alloc;
@@ -25,9 +25,9 @@ module _ {T A : Type 0} where
   pub record Shows (h : Inside T A) (v : Open T A) : Type 0 where
     pub row : h.block.slots ≡ row_of v
     pub front : length v.front ≡ h.front_end
-    pub before : h.front_end + v.before ≡ h.rest_start
+    pub gap : h.front_end + v.gap ≡ h.rest_start
     pub rest : h.rest_start + length v.rest ≡ h.rest_end
-    pub after : h.rest_end + v.after ≡ h.tail_start
+    pub gap_after : h.rest_end + v.gap_after ≡ h.tail_start
     pub tail : h.tail_start + length v.tail ≡ h.len
     pub room : h.len ≤ v.capacity
 

@@ -4,7 +4,7 @@ use Rattle.std.specs.Prelude.{◌≡◌, ℕ, suc, zero, List, [], ◌∷◌, �
 use Rattle.std.specs.declared.option.Option.TheVariants.{Some, None}
 use mathlib.Core.Path.{refl, ap, ◌∙◌}
 use native.Mathlib.Omega.{arith}
-use Rattle.thin_block.specs.Ownership.{there}
+use Rattle.std.specs.Option.{is_some}
 use Rattle.thin_block.specs.Slots.{empty, full, items_in}
 
 -- n filled slots, and m empty ones
@@ -23,25 +23,25 @@ tail_of [] = []
 tail_of (b ∷ bs) = bs
 
 -- of empty slots, none is filled
-none_there : (X : Type 0) (m : ℕ) → map there (let none : List (Option X) = empty m in
+none_shape : (X : Type 0) (m : ℕ) → map is_some (let none : List (Option X) = empty m in
     none) ≡ replicate m false
-none_there X zero = refl
-none_there X (suc m) = ap (λ l. false ∷ l) (none_there X m)
+none_shape X zero = refl
+none_shape X (suc m) = ap (λ l. false ∷ l) (none_shape X m)
 
 -- of a list in front, the first slots are filled
-front_there : {X : Type 0} (ys : List X) (m : ℕ)
-    → map there (full ys ++ empty m) ≡ shape (length ys) m
-front_there {X} [] m = none_there X m
-front_there (y ∷ ys) m = ap (λ l. true ∷ l) (front_there ys m)
+front_shape : {X : Type 0} (ys : List X) (m : ℕ)
+    → map is_some (full ys ++ empty m) ≡ shape (length ys) m
+front_shape {X} [] m = none_shape X m
+front_shape (y ∷ ys) m = ap (λ l. true ∷ l) (front_shape ys m)
 
 -- items in front fill the first slots
-pub to_there : {X : Type 0} (s : List (Option X)) (m : ℕ) → s ≡ full (items_in s) ++ empty m
-    → map there s ≡ shape (length (items_in s)) m
-to_there s m e = ap (map there) e ∙ front_there (items_in s) m
+pub to_shape : {X : Type 0} (s : List (Option X)) (m : ℕ) → s ≡ full (items_in s) ++ empty m
+    → map is_some s ≡ shape (length (items_in s)) m
+to_shape s m e = ap (map is_some) e ∙ front_shape (items_in s) m
 
 -- slots none of which is filled are empty
 all_none : {X : Type 0} (s : List (Option X)) (m : ℕ)
-    → map there s ≡ replicate m false → s ≡ empty m
+    → map is_some s ≡ replicate m false → s ≡ empty m
 unfolding head_of
 all_none [] zero e = refl
 all_none [] (suc m) e = let n : 0 ≡ 2 = ap head_of e in absurd (omega (arith, n))
@@ -50,17 +50,17 @@ all_none (Some x ∷ s) (suc m) e = let n : 1 ≡ 2 = ap head_of e in absurd (om
 all_none (None ∷ s) (suc m) e = ap (λ l. None ∷ l) (all_none s m (ap tail_of e))
 
 -- a list whose first slot is empty has no item in front
-none_first : {X : Type 0} (s : List (Option X)) (ys : List X) (m : ℕ) → false ∷ map there s ≡ shape
-    (length ys) m → None ∷ s ≡ full ys ++ empty m
+none_first : {X : Type 0} (s : List (Option X)) (ys : List X) (m : ℕ)
+    → false ∷ map is_some s ≡ shape (length ys) m → None ∷ s ≡ full ys ++ empty m
 unfolding head_of
 none_first s [] m e = all_none (None ∷ s) m e
 none_first s (y ∷ ys) m e = let n : 2 ≡ 1 = ap head_of e in absurd (omega (arith, n))
 
 -- slots of which the first are filled, and no other, hold their items in front
-pub from_there : {X : Type 0} (s : List (Option X)) (m : ℕ)
-    → map there s ≡ shape (length (items_in s)) m → s ≡ full (items_in s) ++ empty m
+pub from_shape : {X : Type 0} (s : List (Option X)) (m : ℕ)
+    → map is_some s ≡ shape (length (items_in s)) m → s ≡ full (items_in s) ++ empty m
 unfolding head_of
-from_there [] zero e = refl
-from_there [] (suc m) e = let n : 0 ≡ 2 = ap head_of e in absurd (omega (arith, n))
-from_there (Some x ∷ s) m e = ap (λ l. Some x ∷ l) (from_there s m (ap tail_of e))
-from_there (None ∷ s) m e = none_first s (items_in s) m e
+from_shape [] zero e = refl
+from_shape [] (suc m) e = let n : 0 ≡ 2 = ap head_of e in absurd (omega (arith, n))
+from_shape (Some x ∷ s) m e = ap (λ l. Some x ∷ l) (from_shape s m (ap tail_of e))
+from_shape (None ∷ s) m e = none_first s (items_in s) m e

@@ -33,7 +33,7 @@ module _ {T A : Type 0} where
   -- list's allocator
   pub record IsThin (b : Block T A) (a : A) : Type 0 where
     pub packed : IsPacked b.slots b.len
-    pub from : IsFrom b a
+    pub from : IsFrom b.alloc a
 
   -- what is seen of a block and an allocator
   abbrev pub thin_of : Block T A → A → Thin T A

@@ -210,7 +210,7 @@ impl<T, A: Allocator, G: Growth> ThinVec<T, A, G> {
     pub(crate) fn into_parts(self) -> (Block<T, A>, A)
         ensures slots { result.0.slots ≡ front self.items self.capacity }
         ensures len { result.0.len ≡ length self.items }
-        ensures from { IsFrom result.0 result.1 }
+        ensures from { IsFrom result.0.alloc result.1 }
         ensures cost { result.0.cost ≡ self.cost }
         ensures alloc { result.1 ≡ self.alloc }
     {

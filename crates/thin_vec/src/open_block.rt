@@ -2,7 +2,8 @@
 ghost use Rattle.std.specs.Prelude.{◌≡◌, ◌↔◌, ◌+◌, ◌-◌, ◌==◌, ◌<◌, ◌≤◌, ◌∷◌, ◌++◌, [], IsTrue, drop, if◌then◌else◌, length, slice_range, take};
 ghost use Rattle.thin_block.specs.Cost.{moving, no_cost};
 ghost use Rattle.thin_block.specs.Slots.{front};
-ghost use Rattle.thin_vec.specs.Open.{IsOf, cost_closed, items_of, reach};
+ghost use Rattle.thin_block.specs.Block.{IsFrom};
+ghost use Rattle.thin_vec.specs.Open.{cost_closed, items_of, reach};
 ghost use Rattle.thin_vec.specs.ThinVec.{HasRoomFor};
 
 pub(crate) mod dedup;
@@ -54,10 +55,10 @@ impl<T, A: Allocator, G: Growth> ThinVec<T, A, G> {
         ensures front { result.front ≡ take start self.old.items }
         ensures rest { result.rest ≡ slice_range self.old.items start end }
         ensures tail { result.tail ≡ drop end self.old.items }
-        ensures before { result.before ≡ 0 }
-        ensures after { result.after ≡ 0 }
+        ensures gap { result.gap ≡ 0 }
+        ensures gap_after { result.gap_after ≡ 0 }
         ensures other_capacity { result.capacity ≡ self.old.capacity }
-        ensures from { IsOf result.alloc self.old.alloc }
+        ensures from { IsFrom result.alloc self.old.alloc }
         ensures other_cost { result.cost ≡ self.old.cost }
         ensures changes { self.new ≡ record self.old { items = []; capacity = 0; cost = no_cost } }
     {
@@ -79,12 +80,12 @@ impl<T, A: Allocator, G: Growth> ThinVec<T, A, G> {
         requires in_bounds { at ≤ length self.old.items }
         requires room { HasRoomFor self.old count }
         ensures front { result.front ≡ take at self.old.items }
-        ensures before { result.before ≡ count }
+        ensures gap { result.gap ≡ count }
         ensures rest { result.rest ≡ [] }
-        ensures after { result.after ≡ 0 }
+        ensures gap_after { result.gap_after ≡ 0 }
         ensures tail { result.tail ≡ drop at self.old.items }
         ensures other_capacity { result.capacity ≡ self.old.capacity }
-        ensures from { IsOf result.alloc self.old.alloc }
+        ensures from { IsFrom result.alloc self.old.alloc }
         ensures other_cost { result.cost ≡ (if count == 0 then self.old.cost else moving
             (length self.old.items - at) self.old.cost) }
         ensures changes { self.new ≡ record self.old { items = []; capacity = 0; cost = no_cost } }
@@ -101,8 +102,8 @@ impl<T, A: Allocator, G: Growth> ThinVec<T, A, G> {
     // Closes the gap by one move of all items after it, and makes the block the list's again.
     pub(crate) fn close(&mut self, block: OpenBlock<T, A>)
         requires empty { self.old.items ≡ [] }
-        requires after { block.after ≡ 0 }
-        requires from { IsOf block.alloc self.old.alloc }
+        requires gap_after { block.gap_after ≡ 0 }
+        requires from { IsFrom block.alloc self.old.alloc }
         ensures changes { self.new ≡ record self.old {
           items = items_of block;
           capacity = block.capacity;
@@ -129,7 +130,7 @@ impl<T, A: Allocator> OpenBlock<T, A> {
         ensures rest { self.old.rest ≡ result ∷ self.new.rest }
         ensures changes { self.new ≡ record self.old {
           rest = self.new.rest;
-          before = self.old.before
+          gap = self.old.gap
               + 1;
         } }
     {
@@ -144,7 +145,7 @@ impl<T, A: Allocator> OpenBlock<T, A> {
         ensures rest { self.old.rest ≡ self.new.rest ++ result ∷ [] }
         ensures changes { self.new ≡ record self.old {
           rest = self.new.rest;
-          after = self.old.after
+          gap_after = self.old.gap_after
               + 1;
         } }
     {
@@ -169,7 +170,7 @@ impl<T, A: Allocator> OpenBlock<T, A> {
 
     // Whether there is a gap after the front.
     pub(crate) fn has_gap(&self) -> bool
-        ensures value { IsTrue result ↔ (0 < self.now.before) }
+        ensures value { IsTrue result ↔ (0 < self.now.gap) }
     {
         self.front_end < self.rest_start
     }
@@ -178,7 +179,7 @@ impl<T, A: Allocator> OpenBlock<T, A> {
     pub(crate) fn join(&mut self)
         requires none { self.old.rest ≡ [] }
         ensures { self.new
-            ≡ record self.old { before = self.old.before + self.old.after; after = 0 } }
+            ≡ record self.old { gap = self.old.gap + self.old.gap_after; gap_after = 0 } }
     {
         self.rest_start = self.tail_start;
         self.rest_end = self.tail_start;
@@ -186,7 +187,7 @@ impl<T, A: Allocator> OpenBlock<T, A> {
 
     // The block once its items lie in front.
     fn into_closed(self) -> Block<T, A>
-        requires after { self.after ≡ 0 }
+        requires gap_after { self.gap_after ≡ 0 }
         ensures slots { result.slots ≡ front (items_of self) self.capacity }
         ensures len { result.len ≡ length (items_of self) }
         ensures in_bounds { length (items_of self) ≤ self.capacity }
@@ -215,7 +216,7 @@ impl<T, A: Allocator> OpenBlock<T, A> {
         requires some { 0 < count }
         requires room { reach self.old + count ≤ self.old.capacity }
         ensures { self.new ≡ record self.old {
-          after = self.old.after + count;
+          gap_after = self.old.gap_after + count;
           cost = moving (length self.old.tail) self.old.cost;
         } }
     {
@@ -230,9 +231,9 @@ impl<T: Drop, A: Allocator> OpenBlock<T, A> {
     // Drops what is left of the middle run, and counts all empty slots as one gap. Nothing moves.
     pub(crate) fn drop_rest(&mut self)
         ensures { self.new ≡ record self.old {
-          before = self.old.before + length self.old.rest + self.old.after;
+          gap = self.old.gap + length self.old.rest + self.old.gap_after;
           rest = [];
-          after = 0;
+          gap_after = 0;
         } }
     {
         while self.rest_len() > 0 {

@@ -2,7 +2,7 @@
 -- answer says whether the item is kept, and holds the item as the judge leaves it. (std:
 -- `Vec::retain_mut`, `Vec::dedup_by`, `Vec::extract_if`)
 use Rattle.std.specs.Prelude.{ℕ, zero, suc, ◌==◌, List, [], ◌∷◌, ◌++◌, Bool, None, Option, Some, drop, false, if◌then◌else◌, not, take, true}
-use Rattle.thin_vec.specs.Edits.Retain.{Answers, flags_of, left_at, moved_up, stay}
+use Rattle.thin_vec.specs.Edits.Retain.{Verdicts, flags_of, left_at, moved_down, stay}
 use Rattle.thin_vec.specs.ThinVec.{Thin}
 use Rattle.thin_runner.specs.Setting.{Setting}
 use Rattle.thin_runner.specs.commands.Items.{edited}
@@ -19,14 +19,14 @@ module _ {T J : Type 0} where
 module _ {T J : Type 0} (ask : J → T → Bool × T × J) where
   -- for each item, in order, what `ask` returns, and the item as `ask` leaves it; j is the judge's
   -- state
-  abbrev pub asked : J → List T → Answers T
+  abbrev pub asked : J → List T → Verdicts T
   asked j [] = []
   asked j (x ∷ xs) = let a = ask j x in (a.0, a.1) ∷ asked a.2 xs
 
   -- the result of k calls of `next`, starting with the judge's state j: for each item, whether it
   -- is kept, and the item as it is left. Items after the last yielded one are not tested, and are
   -- kept
-  abbrev pub extracting : J → ℕ → List T → Answers T
+  abbrev pub extracting : J → ℕ → List T → Verdicts T
   extracting j zero xs = stay xs
   extracting j (suc k) [] = []
   extracting j (suc k) (x ∷ xs) =
@@ -36,7 +36,7 @@ module _ {T J : Type 0} (same : J → T → T → Bool × T × T × J) where
   -- compares each item with the last item kept before it, which is k at first. An item that is the
   -- same as the kept one is removed. The result is k as it is left in the end, and for each item,
   -- whether it is kept, and the item as it is left
-  abbrev pub asked_last : J → T → List T → T × Answers T
+  abbrev pub asked_last : J → T → List T → T × Verdicts T
   asked_last j k [] = (k, [])
   asked_last j k (x ∷ xs) =
       let a = same j x k in let b = asked_last a.3 (if a.0 then a.2 else a.1) xs in
@@ -44,26 +44,26 @@ module _ {T J : Type 0} (same : J → T → T → Bool × T × T × J) where
 
   -- the first item is kept, and each later item is compared with the last item kept before it: for
   -- each item, whether it is kept, and the item as it is left
-  abbrev pub asked_pairs : J → List T → Answers T
+  abbrev pub asked_pairs : J → List T → Verdicts T
   asked_pairs j [] = []
   asked_pairs j (x ∷ xs) = let b = asked_last j x xs in (true, b.0) ∷ b.1
 
 module _ {T : Type 0} where
   -- the answers for all items of xs: `answers` are those for the items from index a up to b, and
   -- the items before and after them are kept
-  abbrev pub around : List T → ℕ → ℕ → Answers T → Answers T
-  around xs a b answers = stay (take a xs) ++ (answers ++ stay (drop b xs))
+  abbrev pub around : List T → ℕ → ℕ → Verdicts T → Verdicts T
+  around xs a b verdicts = stay (take a xs) ++ (verdicts ++ stay (drop b xs))
 
   -- the list `old` with only the items that the answers keep, each as it was left. Each item that
   -- changes its place counts one move
-  abbrev pub sifted : {A : Type 0} → Thin T A → Answers T → Thin T A
-  sifted old answers = edited old (left_at true answers) (moved_up (flags_of answers))
+  abbrev pub sifted : {A : Type 0} → Thin T A → Verdicts T → Thin T A
+  sifted old verdicts = edited old (left_at true verdicts) (moved_down (flags_of verdicts))
 
 module _ {T A G J : Type 0} (here : Setting T A J) where
   -- for a command that filters: for each item, whether it is kept, and the item as it is left.
   -- `None` for any other command. `Retain` does not write to the items, and `Dedup` does not ask
   -- the judge
-  abbrev pub answered : List T → Command T A G → Option (Answers T)
+  abbrev pub answered : List T → Command T A G → Option (Verdicts T)
   answered xs Retain =
       Some (asked (λ j x. let a = here.judging.look j x in (a.0, x, a.1)) here.judge xs)
   answered xs RetainMut = Some (asked here.judging.keep here.judge xs)

@@ -86,7 +86,7 @@ module _ {T A : Type 0} where
 
   walking : (b : Block T A) {a : A} (xs : List T) (start end : ℕ) {c : ℕ}
       → b.slots ≡ empty start ++ (full xs ++ empty (c - end)) → start + length xs ≡ end → end ≤ c
-      → IsFrom b a → Walking b a xs start end c
+      → IsFrom b.alloc a → Walking b a xs start end c
   walking b xs start end {c} e n h f =
       let after : List (Option T) = empty (c - end) in
       let i : items_in b.slots ≡ xs =

@@ -5,10 +5,10 @@ use Rattle.std.proofs.lemmas.List.{append-nil, drop_at, length_push, replicate-a
 use Rattle.std.specs.List.{dedup, dedup_from}
 use Rattle.std.specs.Prelude.{MatchBool, cond, if◌then◌else◌, not, replicate}
 use Rattle.thin_block.specs.Cost.{Cost, moving}
-use Rattle.thin_vec.specs.Edits.Retain.{moved_up, trues}
+use Rattle.thin_vec.specs.Edits.Retain.{moved_down, trues}
 use Rattle.thin_vec.specs.Edits.Dedup.{AskedLast, AskedPairs, Compares, IsDedupedBy, IsDedupedTo, unlike, unlike_from}
 use Rattle.thin_vec.specs.Open.{Open}
-use Rattle.thin_vec.specs.OpenBlock.Dedup.{IsLastAsked, IsNextAsked, IsPairAskedAt, IsDeduped, PairRuns, Dedups}
+use Rattle.thin_vec.specs.OpenBlock.Dedup.{IsLastAsked, IsNextAsked, IsPairAskedAt, IsDeduped, PairsAskedUpTo, Dedups}
 use Rattle.thin_vec.specs.ThinVec.{Thin}
 use Rattle.thin_vec.proofs.RetainLemmas.{cons-head, cons-not-nil, cons-tail, moving-more, moving-none, single}
 use Rattle.thin_vec.proofs.OpenBlockLemmas.{last-of}
@@ -40,7 +40,7 @@ trues-all : (n : ℕ) → trues (replicate n true) ≡ n
 trues-all zero = refl
 trues-all (suc n) = ap suc (trues-all n)
 
-moved-all : (n : ℕ) (b : List Bool) → moved_up (replicate n true ++ b) ≡ moved_up b
+moved-all : (n : ℕ) (b : List Bool) → moved_down (replicate n true ++ b) ≡ moved_down b
 moved-all zero b = refl
 moved-all (suc n) b = moved-all n b
 
@@ -211,7 +211,7 @@ module _ {S T : Type 0} (R : OnPairs S T) where
         }
 
     pub pair-goes : (u : S) (zs : List T) → IsPairAskedAt R m t ys true u zs
-        → PairRuns R m s xs u zs
+        → PairsAskedUpTo R m s xs u zs
     pair-goes u zs a =
         record {
           first = h.first;
@@ -233,7 +233,8 @@ module _ {S T : Type 0} (R : OnPairs S T) where
 
   -- ---- what a run leaves, once its items are in front
 
-  module _ (m : ℕ) (s : S) (xs : List T) (t : S) (ys : List T) (r : PairRuns R m s xs t ys) where
+  module _ (m : ℕ) (s : S) (xs : List T) (t : S) (ys : List T)
+      (r : PairsAskedUpTo R m s xs t ys) where
     pub run-left : take m ys ≡ r.left
     run-left = ap (take m) r.now ∙ take_at r.left (r.over ++ r.after) m r.long
 
@@ -270,17 +271,17 @@ module _ {S T : Type 0} (R : OnPairs S T) where
     -- w is v with another front, gap and middle run, at this cost
     abbrev Moved : List T → Cost → Type 0
     Moved front cost = w ≡ record v
-        { front = front; before = w.before; rest = w.rest; cost = cost }
+        { front = front; gap = w.gap; rest = w.rest; cost = cost }
 
     moved : {f f' : List T} {k k' : Cost} → f ≡ f' → k ≡ k'
-        → record v { front = f; before = w.before; rest = w.rest; cost = k }
-        ≡ record v { front = f'; before = w.before; rest = w.rest; cost = k' }
-    moved e n = λ i. record v { front = e i; before = w.before; rest = w.rest; cost = n i }
+        → record v { front = f; gap = w.gap; rest = w.rest; cost = k }
+        ≡ record v { front = f'; gap = w.gap; rest = w.rest; cost = k' }
+    moved e n = λ i. record v { front = e i; gap = w.gap; rest = w.rest; cost = n i }
 
     module _ (s t : S) where
       dedups-of : (before : List T) (first : T) (done : List T) (stays : List Bool) (kept : List T)
           → v.front ≡ before ++ first ∷ [] → v.rest ≡ done ++ w.rest
-          → AskedLast R s first done stays kept t → 0 < w.before
+          → AskedLast R s first done stays kept t → 0 < w.gap
           → Moved (before ++ kept) (moving (trues stays) v.cost) → Dedups R s v t w
       dedups-of before first done stays kept was rest asked gap now =
           record {
@@ -298,7 +299,7 @@ module _ {S T : Type 0} (R : OnPairs S T) where
 
     -- the next item goes
     pub dedups-goes : {s t : S} (x y : T) (front : List T)
-        → IsLastAsked R s x v.front true t y front → v.rest ≡ x ∷ w.rest → 0 < w.before
+        → IsLastAsked R s x v.front true t y front → v.rest ≡ x ∷ w.rest → 0 < w.gap
         → Moved front v.cost → Dedups R s v t w
     dedups-goes {s} {t} x y front a rest gap now =
         dedups-of s t a.before a.kept (x ∷ []) (false ∷ []) (a.kept_left ∷ []) a.was rest
@@ -308,7 +309,7 @@ module _ {S T : Type 0} (R : OnPairs S T) where
     -- the next item stays
     pub dedups-stays : {s t : S} (x y : T) (front : List T)
         → IsLastAsked R s x v.front false t y front → v.rest ≡ x ∷ w.rest
-        → 0 < w.before → Moved (front ++ y ∷ []) (moving 1 v.cost) → Dedups R s v t w
+        → 0 < w.gap → Moved (front ++ y ∷ []) (moving 1 v.cost) → Dedups R s v t w
     dedups-stays {s} {t} x y front a rest gap now =
         dedups-of s t a.before a.kept (x ∷ []) (true ∷ []) (a.kept_left ∷ y ∷ []) a.was rest
         (last-stays s t a.kept x y a.kept_left a.asked) gap
@@ -324,7 +325,7 @@ module _ {S T : Type 0} (R : OnPairs S T) where
           ∙ append_assoc a.before (a.kept_left ∷ []) (z ∷ [])
 
       -- the next item stays, and the one after it goes
-      pub dedups-two : b ≡ true → (value : T) → zs ≡ value ∷ w.rest → 0 < w.before
+      pub dedups-two : b ≡ true → (value : T) → zs ≡ value ∷ w.rest → 0 < w.gap
           → Moved (front ++ z ∷ []) (moving 1 v.cost) → Dedups R s v u w
       dedups-two e value rest gap now =
           let asked = last-append t u y (false ∷ []) (z ∷ []) (n.later ∷ [])
@@ -338,9 +339,9 @@ module _ {S T : Type 0} (R : OnPairs S T) where
           (n.was ∙ ap (λ (l : List T). n.later ∷ l) same)) asked gap (now ∙ moved two-front refl)
 
       -- the next two items stay, with a run, and the one after the run goes
-      pub dedups-run : b ≡ false → (m : ℕ) (q : S) (ws : List T) (r : PairRuns R m u zs q ws)
+      pub dedups-run : b ≡ false → (m : ℕ) (q : S) (ws : List T) (r : PairsAskedUpTo R m u zs q ws)
           → r.after ≡ w.rest → suc (trues r.stays) ≡ m
-          → 0 < w.before → Moved ((front ++ z ∷ []) ++ take m ws) (moving m (moving 1 v.cost))
+          → 0 < w.gap → Moved ((front ++ z ∷ []) ++ take m ws) (moving m (moving 1 v.cost))
           → Dedups R s v q w
       dedups-run e m q ws r rest count gap now =
           let pair = last-append t u y (true ∷ []) (z ∷ n.later_left ∷ []) (n.later ∷ [])
@@ -368,7 +369,7 @@ module _ {S T : Type 0} (R : OnPairs S T) where
 
   -- nothing was asked yet; and one stretch after another
   pub dedups-start : {A : Type 0} (s : S) (v : Open T A) → 0 < length v.front
-      → 0 < v.before → Dedups R s v s v
+      → 0 < v.gap → Dedups R s v s v
   dedups-start s v some gap =
       let p = last-of v.front some in
       record {
@@ -410,7 +411,7 @@ module _ {S T : Type 0} (R : OnPairs S T) where
         gap = k.gap;
         now = k.now ∙ ((λ i. let u = h.now i in record u {
           front = k.before ++ k.kept;
-          before = z.before;
+          gap = z.gap;
           rest = z.rest;
           cost = moving (trues k.stays) u.cost;
         })
@@ -421,7 +422,7 @@ module _ {S T : Type 0} (R : OnPairs S T) where
       }
 
   module _ {A : Type 0} (v w : Open T A) (m : ℕ) (s t : S) (ys : List T)
-      (r : PairRuns R m s v.rest t ys) where
+      (r : PairsAskedUpTo R m s v.rest t ys) where
     -- of v, w has the tail, the slots and where they came from, and the run in front, for nothing
     abbrev RunPassed : Type 0
     RunPassed = Moved v w (take m ys) v.cost
@@ -436,7 +437,7 @@ module _ {S T : Type 0} (R : OnPairs S T) where
         let flags : r.stays ++ h.stays ≡ all-stay r.more ++ false ∷ h.stays =
         ap (λ (f : List Bool). f ++ h.stays) g.1 ∙ append_assoc (all-stay r.more)
         (false ∷ []) h.stays in
-        let up : moved_up (r.stays ++ h.stays) ≡ trues h.stays = ap moved_up flags
+        let up : moved_down (r.stays ++ h.stays) ≡ trues h.stays = ap moved_down flags
         ∙ moved-all r.more (false ∷ h.stays) in
         let all : r.after ≡ h.done = g.0
         ∙ (h.rest ∙ (ap (λ (l : List T). h.done ++ l) none ∙ append-nil h.done)) in
@@ -453,7 +454,7 @@ module _ {S T : Type 0} (R : OnPairs S T) where
               l u) (sym (ap (λ x. x.front) h.now)) asked);
           now = h.now ∙ (λ i. let x = p i in record x {
             front = sym (ap (λ y. y.front) h.now) i;
-            before = z.before;
+            gap = z.gap;
             rest = none i;
             cost = moving (sym up i) x.cost;
           });
@@ -463,7 +464,7 @@ module _ {S T : Type 0} (R : OnPairs S T) where
     pub deduped-ends : RunPassed → drop m ys ≡ [] → w.rest ≡ [] → IsDeduped R s v t w
     deduped-ends p k none =
         let g = run-ends m s v.rest t ys r k in
-        let up : moved_up r.stays ≡ 0 = ap moved_up (g.1 ∙ sym (append-nil (all-stay r.more)))
+        let up : moved_down r.stays ≡ 0 = ap moved_down (g.1 ∙ sym (append-nil (all-stay r.more)))
         ∙ moved-all r.more [] in
         record {
           stays = r.stays;
@@ -474,13 +475,13 @@ module _ {S T : Type 0} (R : OnPairs S T) where
               (sym (ap (λ x. x.front) p ∙ run-left m s v.rest t ys r)) r.asked);
           now = p ∙ (λ i. record v {
             front = sym (ap (λ x. x.front) p) i;
-            before = w.before;
+            gap = w.gap;
             rest = none i;
             cost = (sym (moving-none v.cost) ∙ ap (λ (n : ℕ). moving n v.cost) (sym up)) i;
           });
         }
 
--- a judge that holds a closure decides as the closure does
+-- a test that holds a closure decides as the closure does
 module _ {J S T : Type 0} (R : OnPairs S T) (inside : J → S) where
   abbrev through : OnPairs J T
   through s x k b t y l = R (inside s) x k b (inside t) y l
@@ -505,7 +506,7 @@ module _ {J S T : Type 0} (R : OnPairs S T) (inside : J → S) where
   pairs-through [] s t f ys h = (h.0, h.1, ap inside h.2)
   pairs-through (x ∷ xs) s t f ys h = last-through xs s t x f ys h
 
-  -- a list that such a judge deduped is one that the closure deduped
+  -- a list that such a test deduped is one that the closure deduped
   pub deduped-through : {A : Type 0} (s : J) (v w : Thin T A) (t : J) → IsDedupedTo through s v w t
       → IsDedupedBy R (inside s) v w
   deduped-through s v w t h = (

@@ -5,8 +5,8 @@ use Rattle.std.specs.List.Retain.{ExtractsNext}
 use Rattle.std.specs.Option.{option_to_list}
 use Rattle.std.specs.Prelude.{◌==◌, MatchBool, if◌then◌else◌, not}
 use Rattle.thin_block.specs.Cost.{Cost, moving}
-use Rattle.thin_vec.specs.Edits.Retain.{Answers, Asked, stay}
-use Rattle.thin_vec.specs.OpenBlock.Sift.{Runs, Stops}
+use Rattle.thin_vec.specs.Edits.Retain.{Verdicts, Asked, stay}
+use Rattle.thin_vec.specs.OpenBlock.Sift.{AskedUpTo, Stops}
 use Rattle.thin_vec.proofs.RetainLemmas.{cons-head, cons-not-nil, cons-tail}
 
 -- a test that is negated twice
@@ -39,7 +39,7 @@ module _ {F T : Type 0} (R : F → T → Bool → F → T → Type 0) where
       answered false more m = omega (arith, more m.0 m.1, ap length m.2)
 
   module _ {S : Type 0} (of : S → F) where
-    -- a judge that keeps what the closure does not pick
+    -- a test that keeps what the closure does not pick
     abbrev J : S → T → Bool → S → T → Type 0
     J s x b t y = R (of s) x (not b) (of t) y
 
@@ -60,7 +60,7 @@ module _ {F T : Type 0} (R : F → T → Bool → F → T → Type 0) where
           subst (λ (w : T). R (of s) x false (of a.2) w) (sym as_left)
           (subst (λ (b : Bool). R (of s) x (not b) (of a.2) a.1) (sym answer) a.4) in
           let on : Asked J a.2 run (stay left) between =
-          subst (λ (q : Answers T). Asked J a.2 run q between) (sym (cons-tail a.6)) a.5 in
+          subst (λ (q : Verdicts T). Asked J a.2 run q between) (sym (cons-tail a.6)) a.5 in
           (false, of a.2, z, called, (left, picked-after a.2 run left on, refl))
 
     stops-at-end : (between t : S) (after ys : List T) → Stops J between after t ys → ys ≡ []
@@ -76,7 +76,8 @@ module _ {F T : Type 0} (R : F → T → Bool → F → T → Type 0) where
         let same : v ∷ zs ≡ a.0 ∷ xs = sym some ∙ a.2 in
         (true, of t, a.0, a.1, (ap Some (cons-head same), refl, refl, cons-tail same))
 
-    module _ (m : ℕ) (s : S) (xs : List T) (t : S) (ys : List T) (h : Runs J 0 m s xs t ys) where
+    module _ (m : ℕ) (s : S) (xs : List T) (t : S) (ys : List T)
+        (h : AskedUpTo J 0 m s xs t ys) where
       none-before : h.before ≡ []
       none-before = nil_from_length h.before h.place
 
@@ -122,8 +123,8 @@ module _ {F T : Type 0} (R : F → T → Bool → F → T → Type 0) where
           h.stops (sym end-is ∙ some))
 
 -- what some first items cost where there is a gap, by how many they are
-pub cost-of : {T : Type 0} (before : ℕ) (cost : Cost) (k : ℕ) (xs : List T) → k ≤ length xs
-    → (if before == 0 then cost else moving k cost)
-    ≡ (if before == 0 then cost else moving (length (take k xs)) cost)
-cost-of before cost k xs room =
-    ap (λ (n : ℕ). if before == 0 then cost else moving n cost) (sym (length-take-le k xs room))
+pub cost-of : {T : Type 0} (gap : ℕ) (cost : Cost) (k : ℕ) (xs : List T) → k ≤ length xs
+    → (if gap == 0 then cost else moving k cost)
+    ≡ (if gap == 0 then cost else moving (length (take k xs)) cost)
+cost-of gap cost k xs room =
+    ap (λ (n : ℕ). if gap == 0 then cost else moving n cost) (sym (length-take-le k xs room))

@@ -34,7 +34,7 @@ module _ {S T A : Type 0} (steps : S → Option T → S → Type 0) (can : S →
   -- is a; f is what is left of s
   abbrev pub FillsGap : Open T A → A → S → Thin T A → Filled S → Type 0
   FillsGap v a s w f =
-      (by : IsFilledBy steps can remaining v.before s f) × IsClosedWith v by.items a w
+      (by : IsFilledBy steps can remaining v.gap s f) × IsClosedWith v by.items a w
       × (f.end ≡ length v.front + length by.items)
 
   -- the list u has the items of v, and xs in its gap up to the slot `end`, which s gave: the gap is
@@ -44,7 +44,7 @@ module _ {S T A : Type 0} (steps : S → Option T → S → Type 0) (can : S →
     pub items : u.items ≡ with_between v xs
     pub ends : end ≡ length v.front + length xs
     pub gave : Yields steps s xs t
-    pub full : v.before ≤ length xs
+    pub full : v.gap ≤ length xs
     pub can_next : can t
     pub finite : IsFinite (remaining t)
     pub nearer : length xs + size (remaining t) ≤ size (remaining s)

@@ -88,7 +88,7 @@ module _ {T : Type 0} (xs : List T) (i j : ℕ) (order : i ≤ j) (within : j �
       ∙ ap (λ (l : List T). l ++ r) (append_assoc (take i xs) ys zs))
 
 module _ {T A : Type 0} (h : Inside T A) (o : IsOpen h) (b : Block T A) (k : ℕ)
-    (few : k ≤ length (open_of h).tail) (room : k ≤ (open_of h).before) where
+    (few : k ≤ length (open_of h).tail) (room : k ≤ (open_of h).gap) where
   abbrev v : Open T A
   v = open_of h
 
@@ -107,9 +107,9 @@ module _ {T A : Type 0} (h : Inside T A) (o : IsOpen h) (b : Block T A) (k : ℕ
   abbrev pub brought-seen : Open T A
   brought-seen = record {
     front = v.front ++ drop (length v.tail - k) v.tail;
-    before = v.before - k;
+    gap = v.gap - k;
     rest = v.rest;
-    after = v.after;
+    gap_after = v.gap_after;
     tail = take (length v.tail - k) v.tail;
     capacity = v.capacity;
     alloc = b.alloc;
@@ -129,48 +129,48 @@ module _ {T A : Type 0} (h : Inside T A) (o : IsOpen h) (b : Block T A) (k : ℕ
       let more : length (v.front ++ ys) ≡ h.front_end + k =
       omega (arith, length-append v.front ys, o.front, ly) in
       let mid : List (Option T) =
-      empty (v.before - k) ++ (full v.rest ++ (empty v.after ++ full zs)) in
-      let spread : (r : List (Option T)) → mid ++ r ≡ empty (v.before - k)
-      ++ (full v.rest ++ (empty v.after ++ (full zs ++ r))) =
-      λ r. append_assoc (empty (v.before - k)) (full v.rest ++ (empty v.after ++ full zs)) r
-      ∙ ap (λ (l : List (Option T)). empty (v.before - k) ++ l)
-      (append_assoc (full v.rest) (empty v.after ++ full zs) r
+      empty (v.gap - k) ++ (full v.rest ++ (empty v.gap_after ++ full zs)) in
+      let spread : (r : List (Option T)) → mid ++ r ≡ empty (v.gap - k)
+      ++ (full v.rest ++ (empty v.gap_after ++ (full zs ++ r))) =
+      λ r. append_assoc (empty (v.gap - k)) (full v.rest ++ (empty v.gap_after ++ full zs)) r
+      ∙ ap (λ (l : List (Option T)). empty (v.gap - k) ++ l)
+      (append_assoc (full v.rest) (empty v.gap_after ++ full zs) r
       ∙ ap (λ (l : List (Option T)). full v.rest ++ l)
-      (append_assoc (empty v.after) (full zs) r)) in
+      (append_assoc (empty v.gap_after) (full zs) r)) in
       let tail : full v.tail ++ past ≡ full zs ++ (full ys ++ past) =
       ap (λ (l : List T). full l ++ past) (sym (take-append-drop m v.tail))
       ∙ (ap (λ (l : List (Option T)). l ++ past) (full-append zs ys)
       ∙ append_assoc (full zs) (full ys) past) in
-      let apart : (r : List (Option T)) → empty v.before ++ r ≡ empty k
-      ++ (empty (v.before - k) ++ r) =
+      let apart : (r : List (Option T)) → empty v.gap ++ r ≡ empty k
+      ++ (empty (v.gap - k) ++ r) =
       λ r. ap (λ (n : ℕ). empty n ++ r)
-      (let e : v.before ≡ k + (v.before - k) = omega (arith, room) in e)
+      (let e : v.gap ≡ k + (v.gap - k) = omega (arith, room) in e)
       ∙ (ap (λ (l : List (Option T)). l ++ r)
-      (sym (replicate-append-replicate k (v.before - k) None))
-      ∙ append_assoc (empty k) (empty (v.before - k)) r) in
+      (sym (replicate-append-replicate k (v.gap - k) None))
+      ∙ append_assoc (empty k) (empty (v.gap - k)) r) in
       let row : h.block.slots ≡ full v.front ++ (empty k ++ (mid ++ (full ys ++ past))) =
       o.row
       ∙ (ap (λ (l : List (Option T)). full v.front
-      ++ (empty v.before ++ (full v.rest ++ (empty v.after ++ l)))) tail
+      ++ (empty v.gap ++ (full v.rest ++ (empty v.gap_after ++ l)))) tail
       ∙ (ap (λ (l : List (Option T)). full v.front ++ l)
-      (apart (full v.rest ++ (empty v.after ++ (full zs ++ (full ys ++ past)))))
+      (apart (full v.rest ++ (empty v.gap_after ++ (full zs ++ (full ys ++ past)))))
       ∙ ap (λ (l : List (Option T)). full v.front ++ (empty k ++ l))
       (sym (spread (full ys ++ past))))) in
       let from : h.len - k ≡ h.front_end + k + length mid =
       omega (
         arith,
-        length-append (empty {T = T} (v.before - k)) (full v.rest ++ (empty v.after ++ full zs)),
-        length-append (full v.rest) (empty v.after ++ full zs),
-        length-append (empty {T = T} v.after) (full zs),
-        length-empty T (v.before - k),
-        length-empty T v.after,
+        length-append (empty {T = T} (v.gap - k)) (full v.rest ++ (empty v.gap_after ++ full zs)),
+        length-append (full v.rest) (empty v.gap_after ++ full zs),
+        length-append (empty {T = T} v.gap_after) (full zs),
+        length-empty T (v.gap - k),
+        length-empty T v.gap_after,
         length-full v.rest,
         length-full zs,
         lz,
         o.front,
-        o.before,
+        o.gap,
         o.rest,
-        o.after,
+        o.gap_after,
         o.tail,
         few,
         room,
@@ -194,22 +194,22 @@ module _ {T A : Type 0} (h : Inside T A) (o : IsOpen h) (b : Block T A) (k : ℕ
       after
       ∙ (ap (λ (l : List (Option T)). full v.front ++ (full ys ++ l)) (spread (empty k ++ past))
       ∙ (sym (append_assoc (full v.front) (full ys)
-      (empty (v.before - k) ++ (full v.rest ++ (empty v.after ++ (full zs ++ (empty k ++ past))))))
+      (empty (v.gap - k) ++ (full v.rest ++ (empty v.gap_after ++ (full zs ++ (empty k ++ past))))))
       ∙ (ap (λ (l : List (Option T)). l
-      ++ (empty (v.before - k)
-      ++ (full v.rest ++ (empty v.after ++ (full zs ++ (empty k ++ past))))))
+      ++ (empty (v.gap - k)
+      ++ (full v.rest ++ (empty v.gap_after ++ (full zs ++ (empty k ++ past))))))
       (sym (full-append v.front ys))
       ∙ ap (λ (l : List (Option T)). full (v.front ++ ys)
-      ++ (empty (v.before - k) ++ (full v.rest ++ (empty v.after ++ (full zs ++ l)))))
+      ++ (empty (v.gap - k) ++ (full v.rest ++ (empty v.gap_after ++ (full zs ++ l)))))
       (replicate-append-replicate k (v.capacity - reach v) None ∙ ap (λ (n : ℕ). empty n) left))))
       in
       found brought brought-seen
       (record {
         row = lies;
         front = more;
-        before = omega (arith, o.before, room);
+        gap = omega (arith, o.gap, room);
         rest = o.rest;
-        after = o.after;
+        gap_after = o.gap_after;
         tail = omega (arith, o.tail, lz, few);
         room = omega (arith, o.room);
       }) refl refl

@@ -33,18 +33,18 @@ moving-zero c = ap (λ m. let d : Cost = record c { moves = m } in d)
     (let e : c.moves ≡ c.moves + 0 = omega arith in e)
 
 -- the moves of a filled gap that is closed, beside those of its items
-pub closed-moves : {T A : Type 0} (v w : Open T A) (n : ℕ) → w.cost ≡ moving (v.before - w.before)
-    v.cost → w.rest ≡ [] → w.tail ≡ v.tail → n ≡ v.before - w.before
+pub closed-moves : {T A : Type 0} (v w : Open T A) (n : ℕ) → w.cost ≡ moving (v.gap - w.gap)
+    v.cost → w.rest ≡ [] → w.tail ≡ v.tail → n ≡ v.gap - w.gap
     → (m : ℕ) × (cost_closed w ≡ moving (n + m) v.cost) × (m ≤ length v.tail)
-    × (w.before ≡ 0 → m ≡ 0)
-closed-moves v w n paid none same count = go (eqb w.before 0) refl
+    × (w.gap ≡ 0 → m ≡ 0)
+closed-moves v w n paid none same count = go (eqb w.gap 0) refl
   where
     filled : w.cost ≡ moving n v.cost
     filled = paid ∙ ap (λ k. moving k v.cost) (sym count)
 
-    go : (b : Bool) → eqb w.before 0 ≡ b → (m : ℕ)
+    go : (b : Bool) → eqb w.gap 0 ≡ b → (m : ℕ)
         × ((if b then w.cost else moving (length w.rest + length w.tail) w.cost) ≡ moving (n + m)
-        v.cost) × (m ≤ length v.tail) × (w.before ≡ 0 → m ≡ 0)
+        v.cost) × (m ≤ length v.tail) × (w.gap ≡ 0 → m ≡ 0)
     go true e = (
       0,
       filled ∙ ap (λ k. moving k v.cost) (let z : n ≡ n + 0 = omega arith in z),
@@ -58,7 +58,7 @@ closed-moves v w n paid none same count = go (eqb w.before 0) refl
           ap (λ k. moving k w.cost) all
               ∙ (ap (λ c. moving (length v.tail) c) filled ∙ moving-add (length v.tail) n v.cost),
           omega arith,
-          λ z. let t : eqb w.before 0 ≡ true = grind (arith, nat_tests, z) in
+          λ z. let t : eqb w.gap 0 ≡ true = grind (arith, nat_tests, z) in
               absurd (false-true (sym e ∙ t)),
         )
       where
@@ -304,7 +304,7 @@ module _ {T A : Type 0} where
       ≡ left_of v u.alloc
   closed-left v u none no_tail =
       let free : cost_closed v ≡ v.cost =
-      unmoved (eqb v.before 0) v.cost (length v.rest + length v.tail)
+      unmoved (eqb v.gap 0) v.cost (length v.rest + length v.tail)
       (omega (arith, ap length none, ap length no_tail)) in
       λ i. record {
         items = v.front ++ (none i ++ v.tail);

@@ -179,7 +179,7 @@ module _ {T A : Type 0} where
       let v : Open T A = open_of h in
       let p = last-of v.front some in
       let pre : List T = p.0 in
-      let z : List (Option T) = empty v.before ++ (full v.rest ++ past_rest v) in
+      let z : List (Option T) = empty v.gap ++ (full v.rest ++ past_rest v) in
       let row : h.block.slots ≡ full pre ++ (Some p.1 ∷ z) = o.row
       ∙ (ap (λ (l : List T). full l ++ z) p.2 ∙ row-at [] pre p.1 [] z) in
       let here : length (full pre) ≡ h.front_end - 1 =
@@ -197,7 +197,7 @@ module _ {T A : Type 0} where
       ∙ (set_at (full pre) (Some p.1) z (Some y) (h.front_end - 1) here
       ∙ (sym (row-at [] pre y [] z)
       ∙ ap (λ (r : List (Option T)). full (pre ++ y ∷ [])
-      ++ (empty v.before ++ (full v.rest ++ r))) (same-past v w refl refl left)))) in
+      ++ (empty v.gap ++ (full v.rest ++ r))) (same-past v w refl refl left)))) in
       let i : Inside T A =
       record {
         block = b;
@@ -210,9 +210,9 @@ module _ {T A : Type 0} where
       let shows : Shows i w = record {
         row = after;
         front = count ∙ o.front;
-        before = o.before;
+        gap = o.gap;
         rest = o.rest;
-        after = o.after;
+        gap_after = o.gap_after;
         tail = o.tail;
         room = o.room;
       } in
@@ -225,7 +225,7 @@ module _ {T A : Type 0} where
 
   -- an item goes after the front
   pub put-step : (h : Inside T A) (o : IsOpen h) (b : Block T A) (x : T) {c : Cost}
-      → 0 < (open_of h).before
+      → 0 < (open_of h).gap
       → seen b ≡ record (seen h.block)
       { slots = set h.block.slots h.front_end (Some x); cost = c }
       → Found (record {
@@ -237,16 +237,16 @@ module _ {T A : Type 0} where
         len = h.len;
       }) (record (open_of h) {
         front = (open_of h).front ++ x ∷ [];
-        before =
-            (open_of h).before - 1;
+        gap =
+            (open_of h).gap - 1;
         cost = b.cost;
       })
   put-step h o b x gap now =
       let v : Open T A = open_of h in
-      let g : ℕ = v.before - 1 in
-      let wide : v.before ≡ suc g = omega arith in
+      let g : ℕ = v.gap - 1 in
+      let wide : v.gap ≡ suc g = omega arith in
       let z : List (Option T) = full v.rest ++ past_rest v in
-      let w : Open T A = record v { front = v.front ++ x ∷ []; before = g; cost = b.cost } in
+      let w : Open T A = record v { front = v.front ++ x ∷ []; gap = g; cost = b.cost } in
       let longer : length w.front ≡ length v.front + 1 = length_push v.front x in
       let left : v.capacity - reach v ≡ w.capacity - reach w = omega (arith, longer, wide) in
       let after : b.slots ≡ row_of w =
@@ -271,9 +271,9 @@ module _ {T A : Type 0} where
       record {
         row = after;
         front = omega (arith, longer, o.front);
-        before = omega (arith, o.before, wide);
+        gap = omega (arith, o.gap, wide);
         rest = o.rest;
-        after = o.after;
+        gap_after = o.gap_after;
         tail =
             o.tail;
         room = o.room;
@@ -286,5 +286,5 @@ module _ {T A : Type 0} where
   last-filled h o some =
       let v : Open T A = open_of h in
       rw (ap (λ (r : List (Option T)). slot r (h.front_end - 1)) o.row)
-      (slot-in-full [] v.front (empty v.before ++ (full v.rest ++ past_rest v)) (h.front_end - 1)
+      (slot-in-full [] v.front (empty v.gap ++ (full v.rest ++ past_rest v)) (h.front_end - 1)
       (omega arith) (omega (arith, o.front, some)))

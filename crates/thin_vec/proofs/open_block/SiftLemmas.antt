@@ -37,7 +37,7 @@ module _ {T : Type 0} where
 
 module _ {T A : Type 0} where
   -- the row from the middle run on, where as many slots lie after it
-  pub same-past : (v w : Open T A) → w.after ≡ v.after → w.tail ≡ v.tail
+  pub same-past : (v w : Open T A) → w.gap_after ≡ v.gap_after → w.tail ≡ v.tail
       → v.capacity - reach v ≡ w.capacity - reach w → past_rest v ≡ past_rest w
   same-past v w b t n = λ i. empty (sym b i) ++ (full (sym t i) ++ empty (n i))
 
@@ -102,17 +102,17 @@ module _ {T A : Type 0} where
         ∙ (set_at (to_rest v ++ full pre) (Some p.1) (full post ++ past_rest v)
         (Some y) (h.rest_start + k) here
         ∙ (sym (row-at (to_rest v) pre y post (past_rest v))
-        ∙ (append_assoc (full v.front) (empty v.before) (full (pre ++ y ∷ post) ++ past_rest v)
+        ∙ (append_assoc (full v.front) (empty v.gap) (full (pre ++ y ∷ post) ++ past_rest v)
         ∙ ap (λ (r : List (Option T)). full v.front
-        ++ (empty v.before ++ (full (pre ++ y ∷ post) ++ r))) (same-past v w refl refl left)))))
+        ++ (empty v.gap ++ (full (pre ++ y ∷ post) ++ r))) (same-past v w refl refl left)))))
         in
         let shows : Shows written w =
         record {
           row = after;
           front = o.front;
-          before = o.before;
+          gap = o.gap;
           rest = omega (arith, o.rest, count);
-          after = o.after;
+          gap_after = o.gap_after;
           tail = o.tail;
           room = o.room;
         }
@@ -132,8 +132,8 @@ module _ {T A : Type 0} where
     abbrev u : Open T A
     u = open_of h
 
-    abbrev pub moved_down : Block T A → Inside T A
-    moved_down b = record {
+    abbrev pub moved_run : Block T A → Inside T A
+    moved_run b = record {
       block = b;
       front_end = h.front_end + k;
       rest_start = h.rest_start + k;
@@ -142,17 +142,17 @@ module _ {T A : Type 0} where
       len = h.len;
     }
 
-    abbrev pub moved_down-seen : Block T A → Open T A
-    moved_down-seen b = record u
+    abbrev pub moved_run-seen : Block T A → Open T A
+    moved_run-seen b = record u
         { front = u.front ++ take k u.rest; rest = drop k u.rest; cost = b.cost }
 
     -- the items that went are the run's, and none is new
-    moved_down-shows : (b : Block T A)
+    moved_run-shows : (b : Block T A)
         → b.slots ≡ full u.front
-        ++ (full (take k u.rest) ++ (empty u.before ++ (full (drop k u.rest) ++ past_rest u)))
-        → b.alloc ≡ h.block.alloc → Found (moved_down b) (moved_down-seen b)
-    moved_down-shows b now alloc =
-        let w : Open T A = moved_down-seen b in
+        ++ (full (take k u.rest) ++ (empty u.gap ++ (full (drop k u.rest) ++ past_rest u)))
+        → b.alloc ≡ h.block.alloc → Found (moved_run b) (moved_run-seen b)
+    moved_run-shows b now alloc =
+        let w : Open T A = moved_run-seen b in
         let few : length (take k u.rest) ≡ k = length-take-le k u.rest low in
         let rest : length (drop k u.rest) ≡ length u.rest - k = length-drop k u.rest in
         let more : length w.front ≡ length u.front + k =
@@ -160,19 +160,19 @@ module _ {T A : Type 0} where
         let left : u.capacity - reach u ≡ w.capacity - reach w = omega (arith, more, rest) in
         let after : b.slots ≡ row_of w =
         now ∙ (sym (append_assoc (full u.front) (full (take k u.rest))
-        (empty u.before ++ (full (drop k u.rest) ++ past_rest u)))
+        (empty u.gap ++ (full (drop k u.rest) ++ past_rest u)))
         ∙ (ap (λ (r : List (Option T)). r
-        ++ (empty u.before ++ (full (drop k u.rest) ++ past_rest u)))
+        ++ (empty u.gap ++ (full (drop k u.rest) ++ past_rest u)))
         (sym (full-append u.front (take k u.rest)))
-        ∙ ap (λ (r : List (Option T)). full w.front ++ (empty u.before ++ (full w.rest ++ r)))
+        ∙ ap (λ (r : List (Option T)). full w.front ++ (empty u.gap ++ (full w.rest ++ r)))
         (same-past u w refl refl left))) in
-        found (moved_down b) w
+        found (moved_run b) w
         (record {
           row = after;
           front = omega (arith, o.front, more);
-          before = omega (arith, o.before);
+          gap = omega (arith, o.gap);
           rest = omega (arith, o.rest, rest);
-          after = o.after;
+          gap_after = o.gap_after;
           tail = o.tail;
           room = o.room;
         })
@@ -187,13 +187,13 @@ module _ {T A : Type 0} where
         (full (drop k u.rest)) (past_rest u))
 
     parted : h.block.slots ≡ full u.front
-        ++ (empty u.before ++ (full (take k u.rest) ++ (full (drop k u.rest) ++ past_rest u)))
-    parted = o.row ∙ ap (λ (r : List (Option T)). full u.front ++ (empty u.before ++ r)) cut
+        ++ (empty u.gap ++ (full (take k u.rest) ++ (full (drop k u.rest) ++ past_rest u)))
+    parted = o.row ∙ ap (λ (r : List (Option T)). full u.front ++ (empty u.gap ++ r)) cut
 
     -- the first k items of the middle run join the front where no empty slot lies between
-    pub pass-step : u.before ≡ 0 → Found (moved_down h.block) (moved_down-seen h.block)
+    pub pass-step : u.gap ≡ 0 → Found (moved_run h.block) (moved_run-seen h.block)
     pass-step none =
-        moved_down-shows h.block
+        moved_run-shows h.block
         (parted ∙ (ap (λ (n : ℕ). full u.front
         ++ (empty n ++ (full (take k u.rest) ++ (full (drop k u.rest) ++ past_rest u)))) none
         ∙ ap (λ (n : ℕ). full u.front
@@ -204,23 +204,23 @@ module _ {T A : Type 0} where
     pub move_run_down-step : (b : Block T A) {c : Cost}
         → seen b ≡ record (seen h.block)
         { slots = moved h.rest_start h.front_end k h.block.slots; cost = c }
-        → Found (moved_down b) (moved_down-seen b)
+        → Found (moved_run b) (moved_run-seen b)
     move_run_down-step b now =
         let few : length (full (take k u.rest)) ≡ k = length-full (take k u.rest)
         ∙ length-take-le k u.rest low in
-        moved_down-shows b
+        moved_run-shows b
         (ap (λ (z : Seen T A). z.slots) now ∙ (ap (moved h.rest_start h.front_end k) parted
-        ∙ moved_left h.rest_start h.front_end k u.before (full u.front) (full (take k u.rest))
+        ∙ moved_left h.rest_start h.front_end k u.gap (full u.front) (full (take k u.rest))
         (full (drop k u.rest) ++ past_rest u) (sym (length-full u.front ∙ o.front))
-        (sym o.before) (sym few))) (ap (λ (z : Seen T A). z.alloc) now)
+        (sym o.gap) (sym few))) (ap (λ (z : Seen T A). z.alloc) now)
 
   -- one item moves to the front, in line
   pub move_one_down-step : (h : Inside T A) (o : IsOpen h) (some : 1 ≤ length (open_of h).rest)
-      → 0 < (open_of h).before → (b : Block T A) {x : T} {c : Cost}
+      → 0 < (open_of h).gap → (b : Block T A) {x : T} {c : Cost}
       → slot h.block.slots h.rest_start ≡ Some x
       → seen b ≡ record (seen h.block)
       { slots = set (set h.block.slots h.rest_start None) h.front_end (Some x); cost = c }
-      → Found (moved_down h o 1 some b) (moved_down-seen h o 1 some b)
+      → Found (moved_run h o 1 some b) (moved_run-seen h o 1 some b)
   move_one_down-step h o some gap b {x} is now =
       let w : Open T A = open_of h in
       let parts = first-of w.rest some in
@@ -231,16 +231,16 @@ module _ {T A : Type 0} where
       let same : y ≡ x = some-same
       (sym (get_or_at (to_rest w) (Some y) z None h.rest_start (at_rest h w o))
       ∙ (ap (λ (r : List (Option T)). slot r h.rest_start) (sym row) ∙ is)) in
-      let g : ℕ = w.before - 1 in
-      let wide : w.before ≡ suc g = omega arith in
-      let wide' : g + 1 ≡ w.before = omega arith in
+      let g : ℕ = w.gap - 1 in
+      let wide : w.gap ≡ suc g = omega arith in
+      let wide' : g + 1 ≡ w.gap = omega arith in
       let opened : set h.block.slots h.rest_start None
       ≡ full w.front ++ (None ∷ (empty g ++ (None ∷ z))) =
       ap (λ (r : List (Option T)). set r h.rest_start None) row
       ∙ (set_at (to_rest w) (Some y) z None h.rest_start (at_rest h w o)
-      ∙ (append_assoc (full w.front) (empty w.before) (None ∷ z)
+      ∙ (append_assoc (full w.front) (empty w.gap) (None ∷ z)
       ∙ ap (λ (n : ℕ). full w.front ++ (empty n ++ (None ∷ z))) wide)) in
-      moved_down-shows h o 1 some b
+      moved_run-shows h o 1 some b
       (ap (λ (z : Seen T A). z.slots) now
       ∙ (ap (λ (r : List (Option T)). set r h.front_end (Some x)) opened
       ∙ (set_at (full w.front) None (empty g ++ (None ∷ z)) (Some x) h.front_end
@@ -249,7 +249,7 @@ module _ {T A : Type 0} where
       (empty-more g z ∙ ap (λ (n : ℕ). empty n ++ z) wide')
       ∙ (λ i. full w.front
       ++ (full (take 1 (firsts same parts.2 i))
-      ++ (empty w.before ++ (full (drop 1 (firsts same parts.2 i)) ++ past_rest w))))))))
+      ++ (empty w.gap ++ (full (drop 1 (firsts same parts.2 i)) ++ past_rest w))))))))
       (ap (λ (z : Seen T A). z.alloc) now)
     where
       firsts : {x y : T} {ys xs : List T} → y ≡ x → xs ≡ y ∷ ys → x ∷ ys ≡ xs

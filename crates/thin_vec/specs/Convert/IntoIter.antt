@@ -14,7 +14,7 @@ module _ {T A : Type 0} where
   pub record IsWalked (b : Block T A) (a : A) (start end : ℕ) : Type 0 where
     pub row : b.slots ≡ empty start ++ (full (items_in b.slots) ++ empty (length b.slots - end))
     pub len : start + length (items_in b.slots) ≡ end
-    pub from : IsFrom b a
+    pub from : IsFrom b.alloc a
 
   -- what remains
   abbrev pub rest : Thin T A → List T

@@ -3,7 +3,7 @@
 use Rattle.std.specs.Prelude.{◌≡◌, List, [], ◌∷◌, Bool, true, false, MatchBool, if◌then◌else◌, not}
 use Rattle.thin_block.specs.Cost.{moving}
 use Rattle.thin_vec.specs.ThinVec.{Thin}
-use Rattle.thin_vec.specs.Edits.Retain.{moved_up}
+use Rattle.thin_vec.specs.Edits.Retain.{moved_down}
 
 -- R relates a state, a later item, the last item kept, whether the later one goes, the state
 -- afterwards and both items as they were left
@@ -31,7 +31,7 @@ module _ {S T : Type 0} (R : S → T → T → Bool → S → T → T → Type 0
   pub record IsDedupedTo {A : Type 0} (s : S) (v w : Thin T A) (t : S) : Type 0 where
     pub stays : List Bool
     pub asked : AskedPairs s v.items stays w.items t
-    pub cost : w.cost ≡ moving (moved_up stays) v.cost
+    pub cost : w.cost ≡ moving (moved_down stays) v.cost
 
   -- w is what is left of the list v by such a closure, from the state s on
   abbrev pub IsDedupedBy : {A : Type 0} → S → Thin T A → Thin T A → Type 0

@@ -21,11 +21,11 @@ module _ {T F A : Type 0} (R : F → T → Bool → F → T → Type 0) where
     pub count : length old.block.rest ≡ length kept + length
         (option_to_list item) + length new.block.rest
     pub front : new.block.front ≡ old.block.front ++ kept
-    pub before : new.block.before ≡ old.block.before + length (option_to_list item)
+    pub gap : new.block.gap ≡ old.block.gap + length (option_to_list item)
     pub tail : new.block.tail ≡ old.block.tail
     pub capacity : new.block.capacity ≡ old.block.capacity
     pub alloc : new.block.alloc ≡ old.block.alloc
-    pub cost : new.block.cost ≡ (if old.block.before == 0 then old.block.cost else moving
+    pub cost : new.block.cost ≡ (if old.block.gap == 0 then old.block.cost else moving
         (length kept) old.block.cost)
 
 -- All of it speaks of the holder that users get by default.
@@ -46,7 +46,7 @@ module _ {T F A G : Type 0} {g : Ghosts G}
 
   -- how many items were yielded
   abbrev pub extract_gone : ExtractIf T F A G (Holder (Extracting T F A)) g h → ℕ
-  extract_gone e = e.holder.value.block.before
+  extract_gone e = e.holder.value.block.gap
 
   -- the closure
   abbrev pub extract_callee : ExtractIf T F A G (Holder (Extracting T F A)) g h → F

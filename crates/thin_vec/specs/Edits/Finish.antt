@@ -32,7 +32,7 @@ module _ {T A : Type 0} where
     pub alloc : w.alloc ≡ a
     -- one move for each of xs, and one for each item of the tail if the gap is not full
     pub cost : (m : ℕ) × (w.cost ≡ moving (length xs + m) v.cost) × (m ≤ length v.tail)
-        × (length xs ≡ v.before → m ≡ 0)
+        × (length xs ≡ v.gap → m ≡ 0)
 
 module _ {S T A : Type 0} (steps : S → Option T → S → Type 0) (can : S → Type 0)
     (remaining : S → Count) where
@@ -40,7 +40,7 @@ module _ {S T A : Type 0} (steps : S → Option T → S → Type 0) (can : S →
   -- that, as the clauses of `finish` say
   pub record IsFinished (rule : Rule) (R : RattleType) (v : Open T A) (a : A) (s : S)
       (w : Thin T A) (result : Result (Unit {0}) (SpliceRefused T S A)) : Type 0 where
-    pub succeeds : size (remaining s) ≤ v.before → IsOk result
+    pub succeeds : size (remaining s) ≤ v.gap → IsOk result
     pub succeeds_at_end : v.tail ≡ [] → HasRoomFor (left_of v a) (size (remaining s)) → IsOk result
     pub items : OnOk result ((xs : List T) × Drains steps s xs × (w.items ≡ with_between v xs))
     pub taken : HasTaken rule R (left_of v a) w (2 * length v.tail) (remaining s)
@@ -48,7 +48,7 @@ module _ {S T A : Type 0} (steps : S → Option T → S → Type 0) (can : S →
     pub placed : IfErr result (λ refused. (xs : List T) × (w.items ≡ with_between v xs)
         × Stopped steps can remaining s xs refused.held.items refused.in_hand refused.rest)
     pub range : OnErr result
-        (0 < length v.tail → length v.front + length v.tail + v.before ≤ length w.items)
+        (0 < length v.tail → length v.front + length v.tail + v.gap ≤ length w.items)
     pub cause : IfErr result (λ refused. IsStopCause rule R w v.tail refused.held.items
         refused.in_hand (remaining refused.rest) refused.cause)
     pub held : IfErr result (λ refused. v.tail ≡ [] → refused.held.items ≡ [])

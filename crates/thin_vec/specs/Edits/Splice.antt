@@ -71,7 +71,7 @@ module _ {T A : Type 0} where
 
   -- how many slots there are between the front and the tail
   abbrev pub range_len : Open T A → ℕ
-  range_len v = v.before + length v.rest + v.after
+  range_len v = v.gap + length v.rest + v.gap_after
 
 module _ {I T A G H : Type 0} {g : Ghosts G} {h : HoldsGhosts H (Open T A)} where
   -- the list's block: in front the items before the range, in the middle what is still to come of

@@ -3,7 +3,7 @@
 use Rattle.std.specs.Prelude.{◌≡◌, ◌⊎◌, ℕ, suc, ◌<◌, List, [], ◌∷◌, ◌++◌, Bool, true, false, Option, Some, length, replicate, slice_set}
 use Rattle.thin_block.specs.Cost.{moving}
 use Rattle.thin_block.specs.Slots.{slot}
-use Rattle.thin_vec.specs.Edits.Retain.{moved_up, trues}
+use Rattle.thin_vec.specs.Edits.Retain.{moved_down, trues}
 use Rattle.thin_vec.specs.Edits.Dedup.{AskedLast, AskedPairs}
 use Rattle.thin_vec.specs.Open.{Open}
 
@@ -63,7 +63,7 @@ module _ {S T : Type 0} (R : S → T → T → Bool → S → T → T → Type 0
   -- from the first item of xs on, which stays, each item was asked about beside the last one kept,
   -- up to one that goes or to the end: m items stay, and ys is xs with all of them as they were
   -- left
-  pub record PairRuns (m : ℕ) (s : S) (xs : List T) (t : S) (ys : List T) : Type 0 where
+  pub record PairsAskedUpTo (m : ℕ) (s : S) (xs : List T) (t : S) (ys : List T) : Type 0 where
     pub first : T
     pub done : List T
     pub after : List T
@@ -90,10 +90,10 @@ module _ {S T : Type 0} (R : S → T → T → Bool → S → T → T → Type 0
     pub was : v.front ≡ before ++ first ∷ []
     pub rest : v.rest ≡ done ++ w.rest
     pub asked : AskedLast R s first done stays kept t
-    pub gap : 0 < w.before
+    pub gap : 0 < w.gap
     pub now : w ≡ record v {
       front = before ++ kept;
-      before = w.before;
+      gap = w.gap;
       rest = w.rest;
       cost = moving (trues stays) v.cost;
     }
@@ -105,7 +105,7 @@ module _ {S T : Type 0} (R : S → T → T → Bool → S → T → T → Type 0
     pub asked : AskedPairs R s v.rest stays w.front t
     pub now : w ≡ record v {
       front = w.front;
-      before = w.before;
+      gap = w.gap;
       rest = [];
-      cost = moving (moved_up stays) v.cost;
+      cost = moving (moved_down stays) v.cost;
     }

@@ -2,7 +2,7 @@
 -- `Vec::extract_if`)
 use Rattle.std.specs.Prelude.{◌≡◌, ℕ, ◌+◌, ◌<◌, ◌==◌, List, [], ◌∷◌, ◌++◌, Bool, true, false, drop, if◌then◌else◌, length, take}
 use Rattle.thin_block.specs.Cost.{moving}
-use Rattle.thin_vec.specs.Edits.Retain.{Answers, Asked, flags_of, left_at, moved_up, stay, trues}
+use Rattle.thin_vec.specs.Edits.Retain.{Verdicts, Asked, flags_of, left_at, moved_down, stay, trues}
 use Rattle.thin_vec.specs.Open.{Open}
 
 module _ {S T : Type 0} (R : S → T → Bool → S → T → Type 0) where
@@ -25,7 +25,7 @@ module _ {S T : Type 0} (R : S → T → Bool → S → T → Type 0) where
 
   -- the items from k up to m were asked about, and each stays; then nothing was left to ask about,
   -- or the item at m was asked about and goes. ys is xs with all of them as they were left
-  pub record Runs (k m : ℕ) (s : S) (xs : List T) (t : S) (ys : List T) : Type 0 where
+  pub record AskedUpTo (k m : ℕ) (s : S) (xs : List T) (t : S) (ys : List T) : Type 0 where
     pub before : List T
     pub run : List T
     pub left : List T
@@ -45,36 +45,36 @@ module _ {S T : Type 0} (R : S → T → Bool → S → T → Type 0) where
   pub record Advances {A : Type 0} (s : S) (v : Open T A) (t : S) (w : Open T A) : Type 0 where
     pub count : ℕ
     pub left : List T
-    pub run : Runs 0 count s v.rest t left
+    pub run : AskedUpTo 0 count s v.rest t left
     pub now : w ≡ record v {
       front = v.front ++ take count left;
       rest = drop count left;
-      cost = if v.before == 0 then v.cost else moving count v.cost;
+      cost = if v.gap == 0 then v.cost else moving count v.cost;
     }
 
   -- some first items of the middle run of v were asked about, from the state s on: w is what is
   -- open then, and t the state. Those that stay went to the front, for a move each
   pub record Sifts {A : Type 0} (s : S) (v : Open T A) (t : S) (w : Open T A) : Type 0 where
     pub done : List T
-    pub answers : Answers T
+    pub verdicts : Verdicts T
     pub rest : v.rest ≡ done ++ w.rest
-    pub asked : Asked R s done answers t
-    pub gap : 0 < w.before
+    pub asked : Asked R s done verdicts t
+    pub gap : 0 < w.gap
     pub now : w ≡ record v {
-      front = v.front ++ left_at true answers;
-      before = w.before;
+      front = v.front ++ left_at true verdicts;
+      gap = w.gap;
       rest = w.rest;
-      cost = moving (trues (flags_of answers)) v.cost;
+      cost = moving (trues (flags_of verdicts)) v.cost;
     }
 
   -- all items of the middle run of v were asked about, and none is left there: a move for each that
   -- stays and changes its place
   pub record IsSifted {A : Type 0} (s : S) (v : Open T A) (t : S) (w : Open T A) : Type 0 where
-    pub answers : Answers T
-    pub asked : Asked R s v.rest answers t
+    pub verdicts : Verdicts T
+    pub asked : Asked R s v.rest verdicts t
     pub now : w ≡ record v {
-      front = v.front ++ left_at true answers;
-      before = w.before;
+      front = v.front ++ left_at true verdicts;
+      gap = w.gap;
       rest = [];
-      cost = moving (moved_up (flags_of answers)) v.cost;
+      cost = moving (moved_down (flags_of verdicts)) v.cost;
     }

@@ -6,7 +6,7 @@ ghost use Rattle.thin_block.specs.Cost.{moving};
 ghost use Rattle.thin_vec.specs.List.Capacity.{Keeps};
 
 use crate::list::ThinVec;
-use crate::open_block::dedup::AsksPairs;
+use crate::open_block::dedup::PairTest;
 use std::alloc::Allocator;
 use thin_block::Growth;
 
@@ -27,16 +27,16 @@ impl<T: Drop, A: Allocator, G: Growth> ThinVec<T, A, G> {
         ensures capacity { self.new.capacity ≡ self.old.capacity }
         ensures keeps { Keeps T.row self.old self.new }
     {
-        let mut judge = Deduping { same };
-        self.dedup_those(&mut judge);
-        let Deduping { same: _ } = judge;
+        let mut test = Deduping { same };
+        self.dedup_those(&mut test);
+        let Deduping { same: _ } = test;
     }
 
     // Asks about each item but the first, in order, beside the last one kept, and drops those that
     // go.
-    fn dedup_those<J: AsksPairs<T>>(&mut self, judge: &mut J)
-        requires ready { J.ready judge.old }
-        ensures deduped { IsDedupedTo J.asks judge.old self.old self.new judge.new }
+    fn dedup_those<J: PairTest<T>>(&mut self, test: &mut J)
+        requires ready { J.ready test.old }
+        ensures deduped { IsDedupedTo J.tests test.old self.old self.new test.new }
         ensures changes { self.new ≡ record self.old {
           items = self.new.items;
           cost = self.new.cost;
@@ -48,7 +48,7 @@ impl<T: Drop, A: Allocator, G: Growth> ThinVec<T, A, G> {
             return;
         }
         let mut block = self.open(0, len);
-        block.dedup_rest(judge);
+        block.dedup_rest(test);
         self.close(block);
     }
 
@@ -61,14 +61,14 @@ impl<T: Drop, A: Allocator, G: Growth> ThinVec<T, A, G> {
         ensures capacity { self.new.capacity ≡ self.old.capacity }
         ensures keeps { Keeps T.row self.old self.new }
     {
-        let mut judge = Keying { key };
-        self.dedup_those(&mut judge);
-        let Keying { key: _ } = judge;
+        let mut test = Keying { key };
+        self.dedup_those(&mut test);
+        let Keying { key: _ } = test;
     }
 }
 
 impl<T: PartialEq + Drop, A: Allocator, G: Growth> ThinVec<T, A, G> {
-    ghost use Rattle.thin_vec.specs.Edits.Retain.{moved_up};
+    ghost use Rattle.thin_vec.specs.Edits.Retain.{moved_down};
     ghost use Rattle.thin_vec.specs.Edits.Dedup.{unlike};
     ghost use Rattle.thin_vec.specs.ThinVec.{IsWithin};
 
@@ -78,15 +78,15 @@ impl<T: PartialEq + Drop, A: Allocator, G: Growth> ThinVec<T, A, G> {
     /// What moves is as for `retain`.
     pub fn dedup(&mut self)
         ensures items { self.new.items ≡ dedup T.eq self.old.items }
-        ensures cost { self.new.cost ≡ moving (moved_up (unlike T.eq self.old.items))
+        ensures cost { self.new.cost ≡ moving (moved_down (unlike T.eq self.old.items))
             self.old.cost }
         ensures bound { length self.new.items ≤ length self.old.items }
         ensures capacity { self.new.capacity ≡ self.old.capacity }
         ensures keeps { Keeps T.row self.old self.new }
     {
-        let mut judge = Comparing {};
-        self.dedup_those(&mut judge);
-        let Comparing {} = judge;
+        let mut test = Comparing {};
+        self.dedup_those(&mut test);
+        let Comparing {} = test;
     }
 }
 
@@ -103,40 +103,40 @@ struct Keying<F> {
 // Two equal items are the same.
 struct Comparing {}
 
-impl<T, F: FnMut(&mut T, &mut T) -> bool> AsksPairs<T> for Deduping<F> {
+impl<T, F: FnMut(&mut T, &mut T) -> bool> PairTest<T> for Deduping<F> {
     ghost use Rattle.std.specs.Fn.{CalledAtPairMut};
 
-    ghost asks = { λ s x k b t y l. CalledAtPairMut F.FnMut s.same x k b t.same y l };
+    ghost tests = { λ s x k b t y l. CalledAtPairMut F.FnMut s.same x k b t.same y l };
 
     ghost ready = { λ s. F.IsAlwaysCallable s.same };
 
-    fn ask(&mut self, later: &mut T, kept: &mut T) -> bool {
+    fn test(&mut self, later: &mut T, kept: &mut T) -> bool {
         (self.same)(later, kept)
     }
 }
 
-impl<T, K: PartialEq + Drop, F: FnMut(&mut T) -> K> AsksPairs<T> for Keying<F> {
+impl<T, K: PartialEq + Drop, F: FnMut(&mut T) -> K> PairTest<T> for Keying<F> {
     ghost use Rattle.std.specs.Fn.{ComparesKeys};
 
-    ghost asks = { λ s x k b t y l. ComparesKeys F.FnMut K.eq s.key x k b t.key y l };
+    ghost tests = { λ s x k b t y l. ComparesKeys F.FnMut K.eq s.key x k b t.key y l };
 
     ghost ready = { λ s. F.IsAlwaysCallable s.key };
 
-    fn ask(&mut self, later: &mut T, kept: &mut T) -> bool {
+    fn test(&mut self, later: &mut T, kept: &mut T) -> bool {
         let key = (self.key)(later);
         key == (self.key)(kept)
     }
 }
 
-impl<T: PartialEq> AsksPairs<T> for Comparing {
+impl<T: PartialEq> PairTest<T> for Comparing {
     ghost use Rattle.std.specs.Prelude.{⊤};
     ghost use Rattle.thin_vec.specs.Edits.Dedup.{Compares};
 
-    ghost asks = { Compares T.eq };
+    ghost tests = { Compares T.eq };
 
     ghost ready = { λ s. ⊤ };
 
-    fn ask(&mut self, later: &mut T, kept: &mut T) -> bool {
+    fn test(&mut self, later: &mut T, kept: &mut T) -> bool {
         *later == *kept
     }
 }

@@ -4,7 +4,8 @@ ghost use Rattle.std.specs.List.{remove_range};
 ghost use Rattle.std.specs.Iterator.{UpTo, item_count};
 ghost use Rattle.std.specs.Iterator.SizeHint.{IsWithinCount};
 ghost use Rattle.thin_block.specs.Cost.{moving};
-ghost use Rattle.thin_vec.specs.Open.{IsOf, cost_drained};
+ghost use Rattle.thin_block.specs.Block.{IsFrom};
+ghost use Rattle.thin_vec.specs.Open.{cost_drained};
 
 use crate::edits::holder::{Holder, Holds};
 use crate::list::ThinVec;
@@ -28,7 +29,7 @@ pub struct Drain<
 > {
     list: &'a mut ThinVec<T, A, G>,
     holder: H,
-    ghost from: { IsOf (H.inner holder).alloc list.now.alloc },
+    ghost from: { IsFrom (H.inner holder).alloc list.now.alloc },
 }
 
 impl<'a, T: Drop, A: Allocator, G: Growth, H: Holds<Inner = OpenBlock<T, A>>> Drop

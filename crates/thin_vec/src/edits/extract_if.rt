@@ -8,12 +8,13 @@ ghost use Rattle.std.specs.Prelude.{◌≡◌, ◌≤◌, IfSome, Some, drop, le
 ghost use Rattle.std.specs.Fn.{CalledAtMut};
 ghost use Rattle.std.specs.Iterator.{UpTo, at_most};
 ghost use Rattle.std.specs.Iterator.SizeHint.{IsWithinCount};
-ghost use Rattle.thin_vec.specs.Open.{IsOf, cost_closed, items_of};
+ghost use Rattle.thin_block.specs.Block.{IsFrom};
+ghost use Rattle.thin_vec.specs.Open.{cost_closed, items_of};
 
 use crate::edits::holder::{Holder, Holds};
 use crate::list::ThinVec;
 use crate::open_block::OpenBlock;
-use crate::open_block::sift::Asks;
+use crate::open_block::sift::Test;
 use std::alloc::{Allocator, Global};
 use thin_block::{Doubling, Growth};
 
@@ -32,7 +33,7 @@ pub struct ExtractIf<
 > {
     list: &'a mut ThinVec<T, A, G>,
     holder: H,
-    ghost from: { IsOf (H.inner holder).block.alloc list.now.alloc },
+    ghost from: { IsFrom (H.inner holder).block.alloc list.now.alloc },
 }
 
 /// What an `ExtractIf` owns: the open block, of which the middle run is still to be asked about,
@@ -40,7 +41,7 @@ pub struct ExtractIf<
 pub struct Extracting<T, F, A: Allocator> {
     block: OpenBlock<T, A>,
     picks: Picks<F>,
-    ghost adjacent: { block.after ≡ 0 },
+    ghost adjacent: { block.gap_after ≡ 0 },
 }
 
 /// A closure that returns true for an item that goes.
@@ -48,15 +49,15 @@ pub struct Picks<F> {
     pick: F,
 }
 
-impl<T, F: FnMut(&mut T) -> bool> Asks<T> for Picks<F> {
+impl<T, F: FnMut(&mut T) -> bool> Test<T> for Picks<F> {
     ghost use Rattle.std.specs.Fn.{CalledAtMut};
 
-    ghost asks = { λ s x stays t y. CalledAtMut F.FnMut s.pick x (not stays) t.pick y };
+    ghost tests = { λ s x stays t y. CalledAtMut F.FnMut s.pick x (not stays) t.pick y };
 
     ghost ready = { λ s. F.IsAlwaysCallable s.pick };
 
     // Whether the item stays.
-    fn ask(&mut self, item: &mut T) -> bool {
+    fn test(&mut self, item: &mut T) -> bool {
         !(self.pick)(item)
     }
 }

@@ -8,7 +8,8 @@ ghost use Rattle.std.specs.Iterator.SizeHint.{IsWithinCount};
 ghost use Rattle.std.specs.Option.{option_len, option_to_list};
 ghost use Rattle.thin_block.specs.Cost.{moving};
 ghost use Rattle.thin_vec.specs.List.Extend.{IsNamed, MustOverflow, Overflows};
-ghost use Rattle.thin_vec.specs.Open.{IsOf, reach};
+ghost use Rattle.thin_block.specs.Block.{IsFrom};
+ghost use Rattle.thin_vec.specs.Open.{reach};
 ghost use Rattle.thin_vec.specs.Edits.Splice.{IsStopCause, Stopped};
 ghost use Rattle.thin_vec.specs.Edits.Finish.{HasTaken, IsClosedWith, IsFinished};
 ghost use Rattle.thin_vec.specs.Put.{IsFilledBy};
@@ -28,11 +29,11 @@ impl<T, A: Allocator, G: Growth> ThinVec<T, A, G> {
     fn fill_gap<I: Iterator<Item = T>>(&mut self, mut block: OpenBlock<T, A>, iter: I) -> Filled<I>
         requires empty { self.old.items ≡ [] }
         requires none { block.rest ≡ [] }
-        requires after { block.after ≡ 0 }
-        requires from { IsOf block.alloc self.old.alloc }
+        requires gap_after { block.gap_after ≡ 0 }
+        requires from { IsFrom block.alloc self.old.alloc }
         requires can_next { I.can_next iter }
         requires finite { IsFinite (I.remaining iter) }
-        ensures filled { (by : IsFilledBy I.next_gives I.can_next I.remaining block.before iter result)
+        ensures filled { (by : IsFilledBy I.next_gives I.can_next I.remaining block.gap iter result)
             × IsClosedWith block by.items self.old.alloc self.new
             × (result.end ≡ length block.front + length by.items) }
     {
@@ -168,8 +169,8 @@ impl<T: Drop, A: Allocator, G: Growth> ThinVec<T, A, G> {
         requires some { 0 < length block.tail }
         requires empty { self.old.items ≡ [] }
         requires none { block.rest ≡ [] }
-        requires after { block.after ≡ 0 }
-        requires from { IsOf block.alloc self.old.alloc }
+        requires gap_after { block.gap_after ≡ 0 }
+        requires from { IsFrom block.alloc self.old.alloc }
         requires can_next { I.can_next iter }
         requires finite { IsFinite (I.remaining iter) }
         ensures { IsFinished I.next_gives I.can_next I.remaining G.rule T.row block self.old.alloc
@@ -210,8 +211,8 @@ impl<T: Drop, A: Allocator, G: Growth> ThinVec<T, A, G> {
         requires within { reach block ≤ block.capacity }
         requires empty { self.old.items ≡ [] }
         requires none { block.rest ≡ [] }
-        requires after { block.after ≡ 0 }
-        requires from { IsOf block.alloc self.old.alloc }
+        requires gap_after { block.gap_after ≡ 0 }
+        requires from { IsFrom block.alloc self.old.alloc }
         requires can_next { I.can_next iter }
         requires finite { IsFinite (I.remaining iter) }
         ensures { IsFinished I.next_gives I.can_next I.remaining G.rule T.row block self.old.alloc

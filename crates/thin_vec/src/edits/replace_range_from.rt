@@ -2,7 +2,7 @@
 ghost use Rattle.std.specs.Prelude.{◌≡◌, ◌+◌, ◌-◌, ◌==◌, ◌<◌, ◌≤◌, ◌++◌, [], IsOk, OnErr, OnOk, drop, if◌then◌else◌, length, take};
 ghost use Rattle.std.specs.List.{replace_range};
 ghost use Rattle.thin_block.specs.Cost.{moving, no_cost};
-ghost use Rattle.thin_vec.specs.Open.{IsOf};
+ghost use Rattle.thin_block.specs.Block.{IsFrom};
 ghost use Rattle.thin_vec.specs.Edits.ReplaceRange.{moves_replacing};
 ghost use Rattle.thin_vec.specs.ThinVec.{HasRoomFor, IsWithin};
 ghost use Rattle.thin_vec.specs.List.Capacity.{Costs, Keeps, Reserves};
@@ -141,12 +141,12 @@ impl<T: Drop, A: Allocator, G: Growth> ThinVec<T, A, G> {
         requires in_bounds { end ≤ length self.old.items }
         requires room { HasRoomFor self.old (count - (end - start)) }
         ensures front { result.front ≡ take start self.old.items }
-        ensures before { result.before ≡ end - start + (count - (end - start)) }
+        ensures gap { result.gap ≡ end - start + (count - (end - start)) }
         ensures rest { result.rest ≡ [] }
-        ensures after { result.after ≡ 0 }
+        ensures gap_after { result.gap_after ≡ 0 }
         ensures tail { result.tail ≡ drop end self.old.items }
         ensures other_capacity { result.capacity ≡ self.old.capacity }
-        ensures from { IsOf result.alloc self.old.alloc }
+        ensures from { IsFrom result.alloc self.old.alloc }
         ensures other_cost { result.cost ≡ (if count -
             (end - start) == 0 then self.old.cost else moving
             (length self.old.items - end) self.old.cost) }

@@ -9,7 +9,7 @@ ghost use Rattle.std.specs.Fn.{CalledAt, CalledAtMut};
 ghost use Rattle.thin_vec.specs.List.Capacity.{Keeps};
 
 use crate::list::ThinVec;
-use crate::open_block::sift::Asks;
+use crate::open_block::sift::Test;
 use std::alloc::Allocator;
 use thin_block::Growth;
 
@@ -29,9 +29,9 @@ impl<T: Drop, A: Allocator, G: Growth> ThinVec<T, A, G> {
         ensures capacity { self.new.capacity ≡ self.old.capacity }
         ensures keeps { Keeps T.row self.old self.new }
     {
-        let mut judge = Looking { keep };
-        self.keep_those(&mut judge);
-        let Looking { keep: _ } = judge;
+        let mut test = Looking { keep };
+        self.keep_those(&mut test);
+        let Looking { keep: _ } = test;
     }
 
     /// `retain` with a closure that may write to each item. What it writes stays on those that
@@ -43,15 +43,15 @@ impl<T: Drop, A: Allocator, G: Growth> ThinVec<T, A, G> {
         ensures capacity { self.new.capacity ≡ self.old.capacity }
         ensures keeps { Keeps T.row self.old self.new }
     {
-        let mut judge = Writing { keep };
-        self.keep_those(&mut judge);
-        let Writing { keep: _ } = judge;
+        let mut test = Writing { keep };
+        self.keep_those(&mut test);
+        let Writing { keep: _ } = test;
     }
 
     // Asks about each item once, in order, and keeps those that stay.
-    fn keep_those<J: Asks<T>>(&mut self, judge: &mut J)
-        requires ready { J.ready judge.old }
-        ensures retained { IsRetainedTo J.asks judge.old self.old self.new judge.new }
+    fn keep_those<J: Test<T>>(&mut self, test: &mut J)
+        requires ready { J.ready test.old }
+        ensures retained { IsRetainedTo J.tests test.old self.old self.new test.new }
         ensures changes { self.new ≡ record self.old {
           items = self.new.items;
           cost = self.new.cost;
@@ -60,7 +60,7 @@ impl<T: Drop, A: Allocator, G: Growth> ThinVec<T, A, G> {
     {
         let len = self.len();
         let mut block = self.open(0, len);
-        block.sift(judge);
+        block.sift(test);
         self.close(block);
     }
 }
@@ -75,27 +75,27 @@ struct Writing<F> {
     keep: F,
 }
 
-impl<T, F: FnMut(&T) -> bool> Asks<T> for Looking<F> {
+impl<T, F: FnMut(&T) -> bool> Test<T> for Looking<F> {
     ghost use Rattle.std.specs.Fn.{CalledAt};
     ghost use Rattle.thin_vec.specs.Edits.Retain.{Looks};
 
-    ghost asks = { λ s x b t y. Looks (CalledAt F.FnMut) s.keep x b t.keep y };
+    ghost tests = { λ s x b t y. Looks (CalledAt F.FnMut) s.keep x b t.keep y };
 
     ghost ready = { λ s. F.IsAlwaysCallable s.keep };
 
-    fn ask(&mut self, item: &mut T) -> bool {
+    fn test(&mut self, item: &mut T) -> bool {
         (self.keep)(&*item)
     }
 }
 
-impl<T, F: FnMut(&mut T) -> bool> Asks<T> for Writing<F> {
+impl<T, F: FnMut(&mut T) -> bool> Test<T> for Writing<F> {
     ghost use Rattle.std.specs.Fn.{CalledAtMut};
 
-    ghost asks = { λ s x b t y. CalledAtMut F.FnMut s.keep x b t.keep y };
+    ghost tests = { λ s x b t y. CalledAtMut F.FnMut s.keep x b t.keep y };
 
     ghost ready = { λ s. F.IsAlwaysCallable s.keep };
 
-    fn ask(&mut self, item: &mut T) -> bool {
+    fn test(&mut self, item: &mut T) -> bool {
         (self.keep)(item)
     }
 }

@@ -5,7 +5,7 @@ ghost use Rattle.std.specs.Iterator.Runs.{SomeRun, WholeRun};
 ghost use Rattle.std.specs.Option.{option_to_list};
 ghost use Rattle.thin_vec.specs.Cheap.{IsCheap};
 ghost use Rattle.thin_vec.specs.List.Extend.{IsExtended, IsLoose};
-ghost use Rattle.thin_vec.specs.Open.{IsOf};
+ghost use Rattle.thin_block.specs.Block.{IsFrom};
 ghost use Rattle.thin_vec.specs.ThinVec.{HasRoomFor, IsWithin, capacity_for};
 
 use crate::edits::holder::{Holder, Holds};
@@ -32,7 +32,7 @@ pub struct Splice<
     list: &'a mut ThinVec<T, A, G>,
     holder: H,
     iter: I,
-    ghost from: { IsOf (H.inner holder).alloc list.now.alloc },
+    ghost from: { IsFrom (H.inner holder).alloc list.now.alloc },
 }
 
 impl<T, A: Allocator, G: Growth> ThinVec<T, A, G> {

@@ -115,9 +115,9 @@ impl<T, A: Allocator, G: Growth> ThinVec<T, A, G> {
     {
         let mut rest = iter;
         loop {
-            let (left, over) = self.extend_reserved(rest);
+            let (left, extra) = self.extend_reserved(rest);
             rest = left;
-            let Some(item) = over else {
+            let Some(item) = extra else {
                 return Ok(());
             };
             match self.push(item) {
@@ -161,8 +161,8 @@ impl<T, A: Allocator, G: Growth> ThinVec<T, A, G> {
         if ended {
             return (rest, None);
         }
-        let over = rest.next();
-        (rest, over)
+        let extra = rest.next();
+        (rest, extra)
     }
 
     // Fills the spare capacity with the items that `iter` yields, and stores the length once. The

@@ -18,10 +18,10 @@ impl<T, A: Allocator> OpenBlock<T, A> {
     pub(crate) fn fill<I: Iterator<Item = T>>(&mut self, iter: I) -> Filled<I>
         requires can_next { I.can_next iter }
         requires finite { IsFinite (I.remaining iter) }
-        ensures filled { (by : IsFilledBy I.next_gives I.can_next I.remaining self.old.before iter result)
+        ensures filled { (by : IsFilledBy I.next_gives I.can_next I.remaining self.old.gap iter result)
             × (self.new ≡ record self.old {
               front = self.old.front ++ by.items;
-              before = self.old.before - length by.items;
+              gap = self.old.gap - length by.items;
               cost = moving (length by.items) self.old.cost;
             }) × (result.end ≡ length self.new.front) }
     {
@@ -32,10 +32,10 @@ impl<T, A: Allocator> OpenBlock<T, A> {
 
     // Puts the items of `items` after the front.
     pub(crate) fn fill_from_vec<B: Allocator>(&mut self, items: Vec<T, B>)
-        requires room { length items.items ≤ self.old.before }
+        requires room { length items.items ≤ self.old.gap }
         ensures { self.new ≡ record self.old {
           front = self.old.front ++ items.items;
-          before = self.old.before - length items.items;
+          gap = self.old.gap - length items.items;
           cost = moving (length items.items) self.old.cost;
         } }
     {
@@ -47,10 +47,10 @@ impl<T, A: Allocator> OpenBlock<T, A> {
     // Moves the items of `other` after the front, as one run. `other` is left empty, with its
     // block.
     pub(crate) fn fill_from_list<G: Growth>(&mut self, other: &mut ThinVec<T, A, G>)
-        requires room { length other.old.items ≤ self.old.before }
+        requires room { length other.old.items ≤ self.old.gap }
         ensures changes { self.new ≡ record self.old {
           front = self.old.front ++ other.old.items;
-          before = self.old.before - length other.old.items;
+          gap = self.old.gap - length other.old.items;
           cost = moving (length other.old.items) self.old.cost;
         } }
         ensures other_changes { other.new ≡ record other.old { items = [] } }
@@ -65,11 +65,11 @@ impl<T, A: Allocator> OpenBlock<T, A> {
 
     // The last `count` items of the tail move after the front, as one run.
     pub(crate) fn move_last_down(&mut self, count: usize)
-        requires room { count ≤ self.old.before }
+        requires room { count ≤ self.old.gap }
         requires in_bounds { count ≤ length self.old.tail }
         ensures { self.new ≡ record self.old {
           front = self.old.front ++ drop (length self.old.tail - count) self.old.tail;
-          before = self.old.before - count;
+          gap = self.old.gap - count;
           tail = take (length self.old.tail - count) self.old.tail;
           cost = moving count self.old.cost;
         } }
@@ -83,10 +83,10 @@ impl<T, A: Allocator> OpenBlock<T, A> {
 impl<T: Copy, A: Allocator> OpenBlock<T, A> {
     // Copies `items` after the front, as one run.
     pub(crate) fn fill_from_copies(&mut self, items: &[T])
-        requires room { length items.now ≤ self.old.before }
+        requires room { length items.now ≤ self.old.gap }
         ensures { self.new ≡ record self.old {
           front = self.old.front ++ items.now;
-          before = self.old.before - length items.now;
+          gap = self.old.gap - length items.now;
           cost = moving (length items.now) self.old.cost;
         } }
     {
@@ -99,13 +99,13 @@ impl<T: Clone, A: Allocator> OpenBlock<T, A> {
     // Puts clones of `items` after the front, and returns how many: it ends before a clone that
     // fails.
     pub(crate) fn fill_from_clones(&mut self, items: &[T]) -> usize
-        requires room { length items.now ≤ self.old.before }
+        requires room { length items.now ≤ self.old.gap }
         ensures in_bounds { result ≤ length items.now }
         ensures front { (copies : List T) × AllZip T.is_clone (take result items.now) copies
             × (self.new.front ≡ self.old.front ++ copies) }
         ensures changes { self.new ≡ record self.old {
           front = self.new.front;
-          before = self.old.before - result;
+          gap = self.old.gap - result;
           cost = moving result self.old.cost;
         } }
         ensures refused { result < length items.now

@@ -12,37 +12,37 @@ use thin_block::Block;
 const MANY: usize = 8;
 
 /// What says of one item after another whether it stays, and may write to it.
-pub(crate) trait Asks<T> {
+pub(crate) trait Test<T> {
     /// From one state to the next: an item, whether it stays, and the item as it is left.
-    ghost asks: { Self → T → Bool → Self → T → Type 0 };
+    ghost tests: { Self → T → Bool → Self → T → Type 0 };
 
     /// It can be asked about any item, and again after each.
     ghost ready: { Self → Type 0 };
 
-    fn ask(&mut self, item: &mut T) -> bool
+    fn test(&mut self, item: &mut T) -> bool
         requires ready { ready self.old }
-        ensures asked { asks self.old item.old result self.new item.new }
+        ensures asked { tests self.old item.old result self.new item.new }
         ensures ready { ready self.new };
 }
 
 impl<T, A: Allocator> OpenBlock<T, A> {
-    ghost use Rattle.thin_vec.specs.OpenBlock.Sift.{IsAskedAt, Runs};
+    ghost use Rattle.thin_vec.specs.OpenBlock.Sift.{IsAskedAt, AskedUpTo};
 
     // Asks about the item at `k` of the middle run, in place.
-    pub(crate) fn ask<J: Asks<T>>(&mut self, k: usize, judge: &mut J) -> bool
+    pub(crate) fn test<J: Test<T>>(&mut self, k: usize, test: &mut J) -> bool
         requires in_bounds { k < length self.old.rest }
-        requires ready { J.ready judge.old }
-        ensures asked { IsAskedAt J.asks k judge.old self.old.rest result judge.new self.new.rest }
-        ensures ready { J.ready judge.new }
+        requires ready { J.ready test.old }
+        ensures asked { IsAskedAt J.tests k test.old self.old.rest result test.new self.new.rest }
+        ensures ready { J.ready test.new }
         ensures changes { self.new ≡ record self.old { rest = self.new.rest } }
     {
-        judge.ask(self.block.slot_mut(self.rest_start + k))
+        test.test(self.block.slot_mut(self.rest_start + k))
     }
 
     // The first `k` items of the middle run join the front, where they are: no empty slot lies
     // between.
     pub(crate) fn pass(&mut self, k: usize)
-        requires none { self.old.before ≡ 0 }
+        requires none { self.old.gap ≡ 0 }
         requires in_bounds { k ≤ length self.old.rest }
         ensures { self.new
             ≡ record self.old {
@@ -58,7 +58,7 @@ impl<T, A: Allocator> OpenBlock<T, A> {
     // The first item of the middle run moves to the front.
     pub(crate) fn move_one_down(&mut self)
         requires some { 0 < length self.old.rest }
-        requires gap { 0 < self.old.before }
+        requires gap { 0 < self.old.gap }
         ensures { self.new ≡ record self.old {
           front = self.old.front ++ take 1 self.old.rest;
           rest = drop 1 self.old.rest;
@@ -76,7 +76,7 @@ impl<T, A: Allocator> OpenBlock<T, A> {
     #[inline(always)]
     pub(crate) fn move_down(&mut self, k: usize)
         requires in_bounds { k ≤ length self.old.rest }
-        requires gap { 0 < self.old.before }
+        requires gap { 0 < self.old.gap }
         ensures { self.new ≡ record self.old {
           front = self.old.front ++ take k self.old.rest;
           rest = drop k self.old.rest;
@@ -102,7 +102,7 @@ impl<T, A: Allocator> OpenBlock<T, A> {
     #[inline(always)]
     fn move_run_down(&mut self, k: usize)
         requires in_bounds { k ≤ length self.old.rest }
-        requires gap { 0 < self.old.before }
+        requires gap { 0 < self.old.gap }
         ensures { self.new ≡ record self.old {
           front = self.old.front ++ take k self.old.rest;
           rest = drop k self.old.rest;
@@ -120,7 +120,7 @@ impl<T, A: Allocator> OpenBlock<T, A> {
     // Whether the middle run has more than one item, where there is a gap before it. (The last
     // place of the run stays in a register.)
     pub(crate) fn has_two(&self) -> bool
-        requires gap { 0 < self.now.before }
+        requires gap { 0 < self.now.gap }
         ensures value { IsTrue result ↔ (1 < length self.now.rest) }
     {
         self.rest_start < self.rest_end - 1
@@ -128,16 +128,16 @@ impl<T, A: Allocator> OpenBlock<T, A> {
 
     // Asks about the items of the middle run from `k` on, up to the first that goes or to the end,
     // and returns where that is.
-    pub(crate) fn ask_run<J: Asks<T>>(&mut self, k: usize, judge: &mut J) -> usize
+    pub(crate) fn test_run<J: Test<T>>(&mut self, k: usize, test: &mut J) -> usize
         requires in_bounds { k ≤ length self.old.rest }
-        requires ready { J.ready judge.old }
-        ensures asked { Runs J.asks k result judge.old self.old.rest judge.new self.new.rest }
-        ensures ready { J.ready judge.new }
+        requires ready { J.ready test.old }
+        ensures asked { AskedUpTo J.tests k result test.old self.old.rest test.new self.new.rest }
+        ensures ready { J.ready test.new }
         ensures changes { self.new ≡ record self.old { rest = self.new.rest } }
     {
         let mut at = k;
         while at < self.rest_len() {
-            if !self.ask(at, judge) {
+            if !self.test(at, test) {
                 return at;
             }
             at += 1;
@@ -151,70 +151,70 @@ impl<T, A: Allocator> OpenBlock<T, A> {
 
     // Asks about the items of the middle run up to the first that goes, and returns whether there
     // is one. Those before it join the front: they move there where there is a gap.
-    pub(crate) fn advance<J: Asks<T>>(&mut self, judge: &mut J) -> bool
-        requires ready { J.ready judge.old }
-        ensures advances { Advances J.asks judge.old self.old judge.new self.new }
+    pub(crate) fn advance<J: Test<T>>(&mut self, test: &mut J) -> bool
+        requires ready { J.ready test.old }
+        ensures advances { Advances J.tests test.old self.old test.new self.new }
         ensures goes { IsTrue result ↔ (0 < length self.new.rest) }
-        ensures ready { J.ready judge.new }
+        ensures ready { J.ready test.new }
     {
         if self.has_gap() {
-            return self.advance_past_gap(judge);
+            return self.advance_past_gap(test);
         }
-        let count = self.ask_run(0, judge);
+        let count = self.test_run(0, test);
         self.pass(count);
         self.rest_len() > 0
     }
 
     // `advance` where there is a gap: the items before the first that goes move to the front.
-    fn advance_past_gap<J: Asks<T>>(&mut self, judge: &mut J) -> bool
-        requires gap { 0 < self.old.before }
-        requires ready { J.ready judge.old }
-        ensures advances { Advances J.asks judge.old self.old judge.new self.new }
+    fn advance_past_gap<J: Test<T>>(&mut self, test: &mut J) -> bool
+        requires gap { 0 < self.old.gap }
+        requires ready { J.ready test.old }
+        ensures advances { Advances J.tests test.old self.old test.new self.new }
         ensures goes { IsTrue result ↔ (0 < length self.new.rest) }
-        ensures ready { J.ready judge.new }
+        ensures ready { J.ready test.new }
     {
         if self.has_two() {
-            self.advance_two(judge)
+            self.advance_two(test)
         } else {
-            self.advance_last(judge)
+            self.advance_last(test)
         }
     }
 
     // `advance` of two items and more, where there is a gap. A run of none or of one is found with
     // nothing counted.
-    fn advance_two<J: Asks<T>>(&mut self, judge: &mut J) -> bool
+    fn advance_two<J: Test<T>>(&mut self, test: &mut J) -> bool
         requires two { 1 < length self.old.rest }
-        requires gap { 0 < self.old.before }
-        requires ready { J.ready judge.old }
-        ensures advances { Advances J.asks judge.old self.old judge.new self.new }
+        requires gap { 0 < self.old.gap }
+        requires ready { J.ready test.old }
+        ensures advances { Advances J.tests test.old self.old test.new self.new }
         ensures goes { IsTrue result ↔ (0 < length self.new.rest) }
-        ensures ready { J.ready judge.new }
+        ensures ready { J.ready test.new }
     {
-        if !self.ask(0, judge) {
+        if !self.test(0, test) {
             return true;
         }
-        if !self.ask(1, judge) {
+        if !self.test(1, test) {
             self.move_one_down();
             return true;
         }
-        let count = self.ask_run(2, judge);
+        let count = self.test_run(2, test);
         self.move_down(count);
         self.rest_len() > 0
     }
 
     // `advance` of one item or none, where there is a gap.
-    fn advance_last<J: Asks<T>>(&mut self, judge: &mut J) -> bool
+    fn advance_last<J: Test<T>>(&mut self, test: &mut J) -> bool
         requires short { length self.old.rest ≤ 1 }
-        requires gap { 0 < self.old.before }
-        requires ready { J.ready judge.old }
-        ensures advances { Advances J.asks judge.old self.old judge.new self.new }
+        requires gap { 0 < self.old.gap }
+        requires ready { J.ready test.old }
+        ensures advances { Advances J.tests test.old self.old test.new self.new }
         ensures goes { IsTrue result ↔ (0 < length self.new.rest) }
-        ensures ready { J.ready judge.new }
+        ensures ready { J.ready test.new }
     {
         if self.rest_len() == 0 {
             return false;
         }
-        if self.ask(0, judge) {
+        if self.test(0, test) {
             self.move_one_down();
             return false;
         }
@@ -227,55 +227,55 @@ impl<T: Drop, A: Allocator> OpenBlock<T, A> {
 
     // Asks about all items of the middle run, keeps those that stay and drops the others. None is
     // left in the middle.
-    pub(crate) fn sift<J: Asks<T>>(&mut self, judge: &mut J)
-        requires none { self.old.before ≡ 0 }
-        requires ready { J.ready judge.old }
-        ensures sifted { IsSifted J.asks judge.old self.old judge.new self.new }
+    pub(crate) fn sift<J: Test<T>>(&mut self, test: &mut J)
+        requires none { self.old.gap ≡ 0 }
+        requires ready { J.ready test.old }
+        ensures sifted { IsSifted J.tests test.old self.old test.new self.new }
     {
-        let first = self.ask_run(0, judge);
+        let first = self.test_run(0, test);
         self.pass(first);
         if self.rest_len() > 0 {
             drop(self.take_first());
-            self.sift_past_gap(judge);
+            self.sift_past_gap(test);
         }
     }
 
     // `sift` of the items after the first that goes: there is a gap.
-    fn sift_past_gap<J: Asks<T>>(&mut self, judge: &mut J)
-        requires gap { 0 < self.old.before }
-        requires ready { J.ready judge.old }
-        ensures sifts { Sifts J.asks judge.old self.old judge.new self.new }
+    fn sift_past_gap<J: Test<T>>(&mut self, test: &mut J)
+        requires gap { 0 < self.old.gap }
+        requires ready { J.ready test.old }
+        ensures sifts { Sifts J.tests test.old self.old test.new self.new }
         ensures rest { self.new.rest ≡ [] }
     {
         while self.has_two() {
-            self.sift_two(judge);
+            self.sift_two(test);
         }
-        self.sift_last(judge);
+        self.sift_last(test);
     }
 
     // Asks about two items and more up to the first that goes, which is dropped.
-    fn sift_two<J: Asks<T>>(&mut self, judge: &mut J)
+    fn sift_two<J: Test<T>>(&mut self, test: &mut J)
         requires two { 1 < length self.old.rest }
-        requires gap { 0 < self.old.before }
-        requires ready { J.ready judge.old }
-        ensures sifts { Sifts J.asks judge.old self.old judge.new self.new }
+        requires gap { 0 < self.old.gap }
+        requires ready { J.ready test.old }
+        ensures sifts { Sifts J.tests test.old self.old test.new self.new }
         ensures less { length self.new.rest < length self.old.rest }
-        ensures ready { J.ready judge.new }
+        ensures ready { J.ready test.new }
     {
-        if self.advance_two(judge) {
+        if self.advance_two(test) {
             drop(self.take_first());
         }
     }
 
     // Asks about the last item, where there is one.
-    fn sift_last<J: Asks<T>>(&mut self, judge: &mut J)
+    fn sift_last<J: Test<T>>(&mut self, test: &mut J)
         requires short { length self.old.rest ≤ 1 }
-        requires gap { 0 < self.old.before }
-        requires ready { J.ready judge.old }
-        ensures sifts { Sifts J.asks judge.old self.old judge.new self.new }
+        requires gap { 0 < self.old.gap }
+        requires ready { J.ready test.old }
+        ensures sifts { Sifts J.tests test.old self.old test.new self.new }
         ensures rest { self.new.rest ≡ [] }
     {
-        if self.advance_last(judge) {
+        if self.advance_last(test) {
             drop(self.take_first());
         }
     }

@@ -5,7 +5,7 @@ use crate::runs::judges::{EACH_SECOND, Evens};
 use crate::runs::model::Model;
 use crate::runs::orders::{Kind, Order};
 use crate::runs::random::{Done, assert_alike};
-use crate::runs::samples::{Lender, Sample, put};
+use crate::runs::samples::{Lender, Numbered, put};
 use crate::runs::shown::Form;
 use std::alloc::{AllocError, Allocator, Global};
 use std::process::Abort;
@@ -194,7 +194,7 @@ fn is_worked<T: Eq, A: Allocator, G: Growth>(
 
 // Runs the commands by the runner and by the model. Asserts that both agree, and that the list has
 // the computed items and capacity after each command.
-fn assert_worked<'a, T: Sample<Lender<'a>>, G: Ruled, J: Judge<T>, R: Abort>(
+fn assert_worked<'a, T: Numbered<Lender<'a>>, G: Ruled, J: Judge<T>, R: Abort>(
     rt: &R,
     alloc: Lender<'a>,
     judge: &J,

@@ -2,7 +2,7 @@
 //! program, and compares the two.
 use crate::runs::model::Model;
 use crate::runs::orders::{Order, command_of};
-use crate::runs::samples::{Lender, Sample};
+use crate::runs::samples::{Lender, Numbered};
 use crate::runs::shown::{Form, Shown, show};
 use std::alloc::AllocError;
 use thin_runner::judge::Judge;
@@ -12,7 +12,7 @@ use thin_vec::{ThinVec, ThinVecError};
 
 // Returns whether the number of allocated blocks is that of the list, of the model and of their
 // items.
-fn has_its_blocks<'a, T: Sample<Lender<'a>>, G: Ruled>(
+fn has_its_blocks<'a, T: Numbered<Lender<'a>>, G: Ruled>(
     alloc: Lender<'a>,
     list: &ThinVec<T, Lender<'a>, G>,
     model: &Model<T, Lender<'a>, G>,
@@ -30,7 +30,7 @@ fn has_its_blocks<'a, T: Sample<Lender<'a>>, G: Ruled>(
 
 // Runs a command by the runner, with the request `nth` refused. Returns what the reply shows, and
 // whether the command made this request.
-fn shown_by_runner<'a, T: Sample<Lender<'a>>, G: Ruled, J: Judge<T>>(
+fn shown_by_runner<'a, T: Numbered<Lender<'a>>, G: Ruled, J: Judge<T>>(
     alloc: Lender<'a>,
     list: &mut ThinVec<T, Lender<'a>, G>,
     order: Order,
@@ -48,7 +48,7 @@ fn shown_by_runner<'a, T: Sample<Lender<'a>>, G: Ruled, J: Judge<T>>(
 /// Runs a command both by the runner and by the model, with the request `nth` refused, or none if
 /// `nth` is 0. Returns the form of the reply and the cause of a failure. If the two differ, the
 /// form is `Never`.
-pub fn both<'a, T: Sample<Lender<'a>>, G: Ruled, J: Judge<T>>(
+pub fn both<'a, T: Numbered<Lender<'a>>, G: Ruled, J: Judge<T>>(
     alloc: Lender<'a>,
     list: &mut ThinVec<T, Lender<'a>, G>,
     model: &mut Model<T, Lender<'a>, G>,

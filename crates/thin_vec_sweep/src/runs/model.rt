@@ -4,7 +4,7 @@ mod filling;
 mod refused;
 
 use crate::runs::orders::{Kind, Order, command_of, steps_of};
-use crate::runs::samples::{Sample, one, put, samples};
+use crate::runs::samples::{Numbered, one, put, samples};
 use crate::runs::shown::{Form, Shown, show};
 use std::alloc::{AllocError, Allocator};
 use std::marker::PhantomData;
@@ -132,7 +132,7 @@ fn is_same<T: Eq, J: Judge<T>>(judge: &mut J, kind: Kind, later: &mut T, kept: &
     }
 }
 
-impl<T: Sample<A>, A: Allocator + Copy, G: Ruled> Model<T, A, G> {
+impl<T: Numbered<A>, A: Allocator + Copy, G: Ruled> Model<T, A, G> {
     /// Returns a new list.
     pub fn new(alloc: A) -> Model<T, A, G> {
         Model {

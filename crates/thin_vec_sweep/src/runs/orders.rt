@@ -1,5 +1,5 @@
 //! Commands as plain numbers (`Order`), and the commands of the runner that are made from them.
-use crate::runs::samples::{Sample, put, samples};
+use crate::runs::samples::{Numbered, put, samples};
 use std::alloc::{AllocError, Allocator};
 use thin_runner::command::{Command, Step};
 use thin_vec::{Growth, ThinVec};
@@ -101,7 +101,7 @@ pub fn steps_of<A: Allocator>(alloc: A, order: Order) -> Result<Vec<Step, A>, Al
 }
 
 // Returns a list of the items of an order, without spare room.
-fn listed<T: Sample<A>, A: Allocator + Copy, G: Growth>(
+fn listed<T: Numbered<A>, A: Allocator + Copy, G: Growth>(
     alloc: A,
     order: Order,
 ) -> Result<ThinVec<T, A, G>, AllocError> {
@@ -161,7 +161,7 @@ fn with_none<T, A: Allocator, G: Growth>(order: Order) -> Command<T, A, G> {
 }
 
 /// Returns the command of an order.
-pub fn command_of<T: Sample<A>, A: Allocator + Copy, G: Growth>(
+pub fn command_of<T: Numbered<A>, A: Allocator + Copy, G: Growth>(
     alloc: A,
     order: Order,
 ) -> Result<Command<T, A, G>, AllocError> {

@@ -4,7 +4,7 @@ use crate::runs::compared::both;
 use crate::runs::judges::{Digits, EACH_SECOND};
 use crate::runs::model::Model;
 use crate::runs::orders::{KINDS, Kind, Order};
-use crate::runs::samples::{Lender, Sample, put};
+use crate::runs::samples::{Lender, Numbered, put};
 use crate::runs::shown::Form;
 use std::alloc::{AllocError, Global};
 use std::process::Abort;
@@ -86,7 +86,7 @@ pub type Done = (Order, u64, Form, Option<ThinVecError>);
 
 // Runs one random command, and appends it to `done`. Returns whether the runner and the model
 // agree.
-fn is_alike<'a, T: Sample<Lender<'a>>, G: Ruled, J: Judge<T> + From<u64>>(
+fn is_alike<'a, T: Numbered<Lender<'a>>, G: Ruled, J: Judge<T> + From<u64>>(
     alloc: Lender<'a>,
     dice: &mut Dice,
     list: &mut ThinVec<T, Lender<'a>, G>,
@@ -103,7 +103,7 @@ fn is_alike<'a, T: Sample<Lender<'a>>, G: Ruled, J: Judge<T> + From<u64>>(
 
 // Runs `commands` random commands on a new list, and appends them to `done`. Returns whether the
 // runner and the model agree on all of them.
-fn are_alike<'a, T: Sample<Lender<'a>>, G: Ruled, J: Judge<T> + From<u64>>(
+fn are_alike<'a, T: Numbered<Lender<'a>>, G: Ruled, J: Judge<T> + From<u64>>(
     alloc: Lender<'a>,
     dice: &mut Dice,
     commands: u64,
@@ -121,7 +121,7 @@ fn are_alike<'a, T: Sample<Lender<'a>>, G: Ruled, J: Judge<T> + From<u64>>(
 
 // Runs up to 30 random commands, and puts them into `done`. Returns whether the runner and the
 // model agree, and all blocks are freed at the end.
-fn runs_alike<'a, T: Sample<Lender<'a>>, G: Ruled, J: Judge<T> + From<u64>>(
+fn runs_alike<'a, T: Numbered<Lender<'a>>, G: Ruled, J: Judge<T> + From<u64>>(
     alloc: Lender<'a>,
     seed: u64,
     done: &mut Vec<Done, Global>,
@@ -135,7 +135,7 @@ fn runs_alike<'a, T: Sample<Lender<'a>>, G: Ruled, J: Judge<T> + From<u64>>(
 
 /// Asserts that the runner and the model agree on the run of this seed. Puts its commands into
 /// `done`.
-pub fn assert_alike<'a, T: Sample<Lender<'a>>, G: Ruled, J: Judge<T> + From<u64>, R: Abort>(
+pub fn assert_alike<'a, T: Numbered<Lender<'a>>, G: Ruled, J: Judge<T> + From<u64>, R: Abort>(
     rt: &R,
     alloc: Lender<'a>,
     seed: u64,
@@ -182,7 +182,7 @@ impl Tally {
 
 // Asserts that the runner and the model agree on all runs from the seed `first` on. Returns the
 // counts of their commands.
-fn assert_all_from<'a, T: Sample<Lender<'a>>, G: Ruled, R: Abort>(
+fn assert_all_from<'a, T: Numbered<Lender<'a>>, G: Ruled, R: Abort>(
     rt: &R,
     alloc: Lender<'a>,
     global: Global,
@@ -206,7 +206,7 @@ fn assert_tally<R: Abort>(rt: &R, tally: &Tally, commands: u64, named: u64) {
 }
 
 // Asserts that the runner and the model agree on all runs under the growth rules of `thin_vec`.
-fn assert_all_alike<'a, T: Sample<Lender<'a>>, R: Abort>(
+fn assert_all_alike<'a, T: Numbered<Lender<'a>>, R: Abort>(
     rt: &R,
     alloc: Lender<'a>,
     global: Global,
@@ -219,7 +219,7 @@ fn assert_all_alike<'a, T: Sample<Lender<'a>>, R: Abort>(
 
 // Asserts that the runner and the model agree on all runs under two growth rules that are only for
 // tests.
-fn assert_alike_by_other_rules<'a, T: Sample<Lender<'a>>, R: Abort>(
+fn assert_alike_by_other_rules<'a, T: Numbered<Lender<'a>>, R: Abort>(
     rt: &R,
     alloc: Lender<'a>,
     global: Global,

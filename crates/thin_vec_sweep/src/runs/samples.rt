@@ -6,7 +6,7 @@ use thin_testing::Refusing;
 pub type Lender<'a> = &'a Refusing<Global>;
 
 /// A type whose values are made from numbers.
-pub trait Sample<A: Allocator>: Clone + Eq {
+pub trait Numbered<A: Allocator>: Clone + Eq {
     /// How many bytes an item takes.
     const SIZE: usize;
 
@@ -17,7 +17,7 @@ pub trait Sample<A: Allocator>: Clone + Eq {
     fn sample(alloc: A, number: u64) -> Result<Self, AllocError>;
 }
 
-impl<A: Allocator> Sample<A> for u8 {
+impl<A: Allocator> Numbered<A> for u8 {
     const SIZE: usize = 1;
 
     const OWNS_BLOCK: bool = false;
@@ -27,7 +27,7 @@ impl<A: Allocator> Sample<A> for u8 {
     }
 }
 
-impl<A: Allocator> Sample<A> for u16 {
+impl<A: Allocator> Numbered<A> for u16 {
     const SIZE: usize = 2;
 
     const OWNS_BLOCK: bool = false;
@@ -37,7 +37,7 @@ impl<A: Allocator> Sample<A> for u16 {
     }
 }
 
-impl<A: Allocator> Sample<A> for u32 {
+impl<A: Allocator> Numbered<A> for u32 {
     const SIZE: usize = 4;
 
     const OWNS_BLOCK: bool = false;
@@ -47,7 +47,7 @@ impl<A: Allocator> Sample<A> for u32 {
     }
 }
 
-impl<A: Allocator> Sample<A> for u64 {
+impl<A: Allocator> Numbered<A> for u64 {
     const SIZE: usize = 8;
 
     const OWNS_BLOCK: bool = false;
@@ -57,7 +57,7 @@ impl<A: Allocator> Sample<A> for u64 {
     }
 }
 
-impl<A: Allocator> Sample<A> for () {
+impl<A: Allocator> Numbered<A> for () {
     const SIZE: usize = 0;
 
     const OWNS_BLOCK: bool = false;
@@ -67,7 +67,7 @@ impl<A: Allocator> Sample<A> for () {
     }
 }
 
-impl<A: Allocator> Sample<A> for (u8, u64) {
+impl<A: Allocator> Numbered<A> for (u8, u64) {
     const SIZE: usize = 16;
 
     const OWNS_BLOCK: bool = false;
@@ -77,7 +77,7 @@ impl<A: Allocator> Sample<A> for (u8, u64) {
     }
 }
 
-impl<'a> Sample<Lender<'a>> for Box<u64, Lender<'a>> {
+impl<'a> Numbered<Lender<'a>> for Box<u64, Lender<'a>> {
     const SIZE: usize = 16;
 
     const OWNS_BLOCK: bool = true;
@@ -90,7 +90,7 @@ impl<'a> Sample<Lender<'a>> for Box<u64, Lender<'a>> {
     }
 }
 
-impl<'a> Sample<Lender<'a>> for Vec<u64, Lender<'a>> {
+impl<'a> Numbered<Lender<'a>> for Vec<u64, Lender<'a>> {
     const SIZE: usize = 32;
 
     const OWNS_BLOCK: bool = true;
@@ -116,7 +116,7 @@ pub fn one<T: Drop, A: Allocator>(alloc: A, item: T) -> Result<Vec<T, A>, AllocE
 }
 
 /// Returns the items of `count` numbers, from `number` on.
-pub fn samples<T: Sample<A>, A: Allocator + Copy>(
+pub fn samples<T: Numbered<A>, A: Allocator + Copy>(
     alloc: A,
     count: usize,
     number: u64,

@@ -27,7 +27,8 @@ use denote.Param.Weighed.{Weighed, most, none_max, List-puts}
 use denote.Param.Nested.{deepest}
 use Rattle.core.specs.declared.alloc.Allocator.{Ghosts}
 use Rattle.std_alloc.specs.Vec.Recursive.{lies_placed, lent_at_placed, codes_placed}
-use Rattle.thin_block.specs.Ownership.{any, any_same, block_lent, block_owns, frame, frame_lent, place, place_lent, places, places_lent, there}
+use Rattle.std.specs.Option.{is_some}
+use Rattle.thin_block.specs.Ownership.{any, any_same, block_lent, block_owns, frame, frame_lent, place, place_lent, places, places_lent}
 use Rattle.thin_block.specs.Cost.{no_cost}
 use Rattle.thin_block.specs.Slots.{items_in}
 use Rattle.std.specs.Mem.{type_size}
@@ -124,7 +125,7 @@ module _ {X Y Z : Type 0} (d : Block X Z) where
   -- the block d may hold the slots ys: they are at least as many as its length, and non-empty if
   -- and only if d has an allocation
   abbrev pub Fits : List (Option Y) → Type 0
-  Fits ys = (d.len ≤ length ys) × (there d.alloc ≡ any ys)
+  Fits ys = (d.len ≤ length ys) × (is_some d.alloc ≡ any ys)
 
   -- the block d with the slots ys
   abbrev pub holding : (ys : List (Option Y)) → Fits ys → Block Y Z

@@ -18,13 +18,13 @@ use denote.Model.Placed.{held, view_places}
 use Rattle.std.specs.Coded.{coded_option}
 use Rattle.std.specs.declared.alloc.Allocator.{Ghosts as AllocatorGhosts}
 use Rattle.thin_block.specs.Cost.{Cost, no_cost}
-use Rattle.thin_block.specs.Ownership.{there}
+use Rattle.std.specs.Option.{is_some}
 use Rattle.thin_block.specs.Slots.{IsPacked, items_in}
 use Rattle.thin_block.specs.declared.block.Block.{Block}
 use Rattle.thin_block.specs.declared.growth.Growth.{Ghosts as GrowthGhosts}
 use Rattle.thin_block.specs.formers.block.Block as block
 use Rattle.thin_block.specs.formers.block.Block.{slot, on_slot}
-use Rattle.thin_vec.specs.Shapes.{from_there, shape, to_there}
+use Rattle.thin_vec.specs.Shapes.{from_shape, shape, to_shape}
 use Rattle.thin_vec.specs.ThinVec.{IsThin, Thin}
 use Rattle.thin_vec.specs.declared.list.ThinVec.TheInside.{Inside}
 use Rattle.thin_vec.specs.declared.list.ThinVec.TheView.{view, invariant}
@@ -75,10 +75,10 @@ module _ {X Y : Type 0} (h : X → Y) where
   items_in-map (Some x ∷ s) = ap (λ l. h x ∷ l) (items_in-map s)
 
   -- the images fill the slots that the items fill
-  there-map : (s : List (Option X)) → map there (map (on_slot h) s) ≡ map there s
-  there-map [] = refl
-  there-map (None ∷ s) = ap (λ l. there {X = X} None ∷ l) (there-map s)
-  there-map (Some x ∷ s) = ap (λ l. there (Some x) ∷ l) (there-map s)
+  is_some-map : (s : List (Option X)) → map is_some (map (on_slot h) s) ≡ map is_some s
+  is_some-map [] = refl
+  is_some-map (None ∷ s) = ap (λ l. is_some {T = X} None ∷ l) (is_some-map s)
+  is_some-map (Some x ∷ s) = ap (λ l. is_some (Some x) ∷ l) (is_some-map s)
 
   -- there are as many images as items
   count-map : (s : List (Option X)) → length (items_in (map (on_slot h) s)) ≡ length (items_in s)
@@ -92,17 +92,17 @@ module _ {X Y : Type 0} (h : X → Y) where
   -- where the items lie in front, so do the images
   packed_to : (s : List (Option X)) (n : ℕ) → IsPacked s n → IsPacked (map (on_slot h) s) n
   packed_to s n p = record {
-    row = from_there (map (on_slot h) s) _
-        (there-map s ∙ (to_there s _ p.row ∙ sym (λ i. shape (count-map s i) (left-map s i))));
+    row = from_shape (map (on_slot h) s) _
+        (is_some-map s ∙ (to_shape s _ p.row ∙ sym (λ i. shape (count-map s i) (left-map s i))));
     len = p.len ∙ sym (count-map s);
   }
 
   -- where the images lie in front, so do the items
   packed_from : (s : List (Option X)) (n : ℕ) → IsPacked (map (on_slot h) s) n → IsPacked s n
   packed_from s n p = record {
-    row = from_there s _
-        (sym (there-map s)
-        ∙ (to_there (map (on_slot h) s) _ p.row ∙ (λ i. shape (count-map s i) (left-map s i))));
+    row = from_shape s _
+        (sym (is_some-map s)
+        ∙ (to_shape (map (on_slot h) s) _ p.row ∙ (λ i. shape (count-map s i) (left-map s i))));
     len = p.len ∙ count-map s;
   }
 

@@ -2,13 +2,13 @@
 //! which is a splice at the end of the list, without steps.
 use super::{Model, walked};
 use crate::runs::orders::{Kind, Order};
-use crate::runs::samples::{Sample, samples};
+use crate::runs::samples::{Numbered, samples};
 use crate::runs::shown::{Form, Shown};
 use std::alloc::{AllocError, Allocator};
 use thin_testing::Ruled;
 use thin_vec::ThinVecError;
 
-impl<T: Sample<A>, A: Allocator + Copy, G: Ruled> Model<T, A, G> {
+impl<T: Numbered<A>, A: Allocator + Copy, G: Ruled> Model<T, A, G> {
     // Returns the order with its range. The range of `Extend` is the end of the list.
     pub(crate) fn placed(&self, order: Order) -> Order {
         let len = self.items.len();

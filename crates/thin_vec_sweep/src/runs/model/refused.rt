@@ -2,7 +2,7 @@
 //! request is refused: what the list has afterwards, and what the reply is.
 use super::Model;
 use crate::runs::orders::{Kind, Order};
-use crate::runs::samples::{Sample, samples};
+use crate::runs::samples::{Numbered, samples};
 use crate::runs::shown::{Form, Shown};
 use std::alloc::{AllocError, Allocator};
 use thin_testing::Ruled;
@@ -21,7 +21,7 @@ fn form_of(order: Order) -> Form {
     if may_be { Form::Refused } else { Form::Never }
 }
 
-impl<T: Sample<A>, A: Allocator + Copy, G: Ruled> Model<T, A, G> {
+impl<T: Numbered<A>, A: Allocator + Copy, G: Ruled> Model<T, A, G> {
     // Returns for how many items in total a command makes room before it clones items, or 0 if it
     // does not.
     fn room_of_clones(&self, order: Order) -> usize {

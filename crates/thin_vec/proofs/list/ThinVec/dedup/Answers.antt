@@ -1,7 +1,7 @@
 -- By a test without a state, what is left is `dedup` of the items, and `unlike` says which stay.
 use Rattle.std.proofs.Common.{ap, ◌∙◌}
 use Rattle.thin_block.specs.Cost.{moving}
-use Rattle.thin_vec.specs.Edits.Retain.{moved_up}
+use Rattle.thin_vec.specs.Edits.Retain.{moved_down}
 use Rattle.thin_vec.specs.Edits.Dedup.{Compares}
 use Rattle.thin_vec.proofs.edits.DedupLemmas.{few-deduped, pairs-compare}
 use Rattle.thin_vec.proofs.list.ThinVec.dedup.Goals as goal
@@ -15,7 +15,7 @@ returns-clause-items g c =
 pub returns-clause-cost : goal.returns-clause-cost
 returns-clause-cost g c =
     let h = c.dedup_those.ensures.deduped in
-    h.cost ∙ ap (λ f. moving (moved_up f) c.args.self.now.cost)
+    h.cost ∙ ap (λ f. moving (moved_down f) c.args.self.now.cost)
     (pairs-compare g.T.PartialEq.eq c.args.self.now.items _ _ h.stays
     c.dedup_those.new.self.items h.asked).0
 

@@ -1,4 +1,4 @@
--- Each question to the judge is a call of the closure that it holds.
+-- Each question to the test is a call of the closure that it holds.
 use Rattle.std.specs.Fn.{CalledAtPairMut}
 use Rattle.thin_vec.proofs.edits.DedupLemmas.{deduped-through, few-deduped}
 use Rattle.thin_vec.proofs.list.ThinVec.dedup_by.Goals as goal

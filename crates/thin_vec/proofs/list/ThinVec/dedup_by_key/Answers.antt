@@ -1,4 +1,4 @@
--- Each question to the judge compares two keys by the closure that it holds.
+-- Each question to the test compares two keys by the closure that it holds.
 use Rattle.std.specs.Fn.{ComparesKeys}
 use Rattle.thin_vec.proofs.edits.DedupLemmas.{deduped-through, few-deduped}
 use Rattle.thin_vec.proofs.list.ThinVec.dedup_by_key.Goals as goal

@@ -5,8 +5,8 @@ use Rattle.thin_vec.specs.Put.{Gives}
 use Rattle.thin_vec.proofs.list.ExtendLemmas.{spare-kept}
 use Rattle.thin_vec.proofs.list.ThinVec.extend_reserved.Goals as goal
 
-pub next-over-requires : goal.next-over-requires
-next-over-requires g c =
+pub next-extra-requires : goal.next-extra-requires
+next-extra-requires g c =
     (c.fill_spare-rest.ensures.filled.0.asked c.if-ended.false).0
 
 pub returns-then-ended-clause-items : goal.returns-then-ended-clause-items
@@ -41,7 +41,7 @@ returns-clause-items g c =
     c.fill_spare-rest.result.rest) c.if-ended.false filled.0.gave in (
       filled.0.items,
       ap (λ v. v.items) filled.1,
-      (c.fill_spare-rest.result.rest, gave, c.next-over.ensures.steps),
+      (c.fill_spare-rest.result.rest, gave, c.next-extra.ensures.steps),
     )
 
 pub returns-clause-changes : goal.returns-clause-changes

@@ -15,8 +15,8 @@ returns g c =
     let closed = c.close.ensures.changes in
     let none = ap (λ z. z.rest) same ∙ c.requires.none in
     let tail = ap (λ z. z.tail) same in
-    let gap = ap (λ z. z.before) same in
-    let many : length xs ≡ v.before - block.before = omega (arith, gap, filled-fits filled.0) in
+    let gap = ap (λ z. z.gap) same in
+    let many : length xs ≡ v.gap - block.gap = omega (arith, gap, filled-fits filled.0) in
     let put = closed-moves v block (length xs)
     (ap (λ z. z.cost) same ∙ ap (λ n. moving n v.cost) many) none tail many in
     record {

@@ -59,7 +59,7 @@ returns-then-placed-items-clause-refused g c =
       ap length c.open_wide-block.ensures.tail,
       length-drop c.args.at xs,
     ) in
-    let shut = at-most-if (eqb block.before 0) (length block.rest + length block.tail) block.cost
+    let shut = at-most-if (eqb block.gap 0) (length block.rest + length block.tail) block.cost
     c.close.new.self.cost (ap (λ v. v.cost) c.close.ensures.changes) in
     let joined = at-most-more filled shut.few shut.cost in
     let long : length c.close.new.self.items ≡ length xs + c.fill_from_clones-placed.result =

@@ -57,7 +57,7 @@ returns-clause-filled g c =
     let filled = c.fill_gap.ensures.filled in
     let xs = filled.0.items in
     let there = wide g ((goal.at.returns-clause-filled g c).After-fill_gap) in (
-      c.open_wide-block.result.before,
+      c.open_wide-block.result.gap,
       filled.0,
       filled.1.items
           ∙ ((λ i. (there.front i ++ xs) ++ there.tail i)

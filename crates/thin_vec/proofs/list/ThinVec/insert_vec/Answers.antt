@@ -11,10 +11,10 @@ returns-clause-cost g c =
     let w = c.fill_from_vec.new.self in
     let k = length c.args.held.items in
     let count = c.len.ensures ∙ c.args.held.ok.0 in
-    let before = c.open_wide-block.ensures.before in
-    let none : w.before ≡ 0 =
-    omega (arith, ap (λ v. v.before) c.fill_from_vec.ensures, before, count) in
-    let all : k ≡ block.before - w.before = omega (arith, none, before, count) in
+    let before = c.open_wide-block.ensures.gap in
+    let none : w.gap ≡ 0 =
+    omega (arith, ap (λ v. v.gap) c.fill_from_vec.ensures, before, count) in
+    let all : k ≡ block.gap - w.gap = omega (arith, none, before, count) in
     let put = closed-moves block w k
     (ap (λ v. v.cost) c.fill_from_vec.ensures ∙ ap (λ n. moving n block.cost) all)
     (ap (λ v. v.rest) c.fill_from_vec.ensures ∙ c.open_wide-block.ensures.rest)

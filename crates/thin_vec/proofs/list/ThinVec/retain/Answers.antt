@@ -1,4 +1,4 @@
--- Each question to the judge is a look of the closure that it holds.
+-- Each question to the test is a look of the closure that it holds.
 use Rattle.std.specs.Fn.{CalledAt}
 use Rattle.thin_vec.specs.Edits.Retain.{Looks}
 use Rattle.thin_vec.proofs.RetainLemmas.{few-retained, retained-through, retained_filtered}

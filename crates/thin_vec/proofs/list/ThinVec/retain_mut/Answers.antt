@@ -1,4 +1,4 @@
--- Each question to the judge is a call of the closure that it holds.
+-- Each question to the test is a call of the closure that it holds.
 use Rattle.std.specs.Fn.{CalledAtMut}
 use Rattle.thin_vec.proofs.RetainLemmas.{few-retained, retained-through}
 use Rattle.thin_vec.proofs.list.ThinVec.retain_mut.Goals as goal

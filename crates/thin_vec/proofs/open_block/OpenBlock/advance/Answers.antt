@@ -8,8 +8,8 @@ use Rattle.thin_vec.proofs.open_block.OpenBlock.advance.Goals as goal
 pub returns-clause-advances : goal.returns-clause-advances
 returns-clause-advances g c =
     let v = c.args.self.now in
-    let run = c.ask_run-count in
-    let none : 0 < v.before → ⊥ =
+    let run = c.test_run-count in
+    let none : 0 < v.gap → ⊥ =
     λ some. false≢true (sym c.if-has_gap.false ∙ c.has_gap.ensures.value.1 some) in
     let run-cost : run.new.self.cost ≡ v.cost = ap (λ u. u.cost) run.ensures.changes in
     record {
@@ -19,6 +19,6 @@ returns-clause-advances g c =
       now = c.pass.ensures ∙ (λ i. let u = run.ensures.changes i in record u {
         front = u.front ++ take run.result run.new.self.rest;
         rest = drop run.result run.new.self.rest;
-        cost = (run-cost ∙ sym (moving-before v.before run.result v.cost none)) i;
+        cost = (run-cost ∙ sym (moving-before v.gap run.result v.cost none)) i;
       });
     }

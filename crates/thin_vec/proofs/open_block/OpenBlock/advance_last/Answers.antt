@@ -9,8 +9,8 @@ use Rattle.thin_vec.proofs.open_block.OpenBlock.advance_last.Goals as goal
 -- there is no item
 pub returns-then-rest_len-eq0-clause-advances : goal.returns-then-rest_len-eq0-clause-advances
 returns-then-rest_len-eq0-clause-advances g c =
-    let R = g.J.Asks.asks in
-    let s = c.args.judge.now in
+    let R = g.J.Test.tests in
+    let s = c.args.test.now in
     let v = c.args.self.now in
     record {
       count = 0;
@@ -19,56 +19,56 @@ returns-then-rest_len-eq0-clause-advances g c =
           (omega (arith, c.rest_len.ensures.value, c.if-rest_len-eq0.true));
       now = λ i. record v {
         front = sym (append-nil v.front) i;
-        cost = (sym (moving-none v.cost) ∙ sym (moving-after v.before 0 v.cost c.requires.gap)) i;
+        cost = (sym (moving-none v.cost) ∙ sym (moving-after v.gap 0 v.cost c.requires.gap)) i;
       };
     }
 
 -- it stays
-pub returns-then-ask-clause-advances : goal.returns-then-ask-clause-advances
-returns-then-ask-clause-advances g c =
-    let R = g.J.Asks.asks in
-    let s = c.args.judge.now in
+pub returns-then-test-clause-advances : goal.returns-then-test-clause-advances
+returns-then-test-clause-advances g c =
+    let R = g.J.Test.tests in
+    let s = c.args.test.now in
     let v = c.args.self.now in
-    let t = c.ask.new.judge in
-    let ys = c.ask.new.self.rest in
+    let t = c.test.new.test in
+    let ys = c.test.new.self.rest in
     record {
       count = 1;
       left = ys;
       run = stays-end R 0 1 s v.rest t ys (one-stays R s v.rest t ys (search rules))
-          (omega (arith, c.requires.short, asked-count R 0 _ _ _ _ _ c.ask.ensures.asked));
-      now = c.move_one_down.ensures ∙ (λ i. let u = c.ask.ensures.changes i in record u {
+          (omega (arith, c.requires.short, asked-count R 0 _ _ _ _ _ c.test.ensures.asked));
+      now = c.move_one_down.ensures ∙ (λ i. let u = c.test.ensures.changes i in record u {
         front = u.front ++ take 1 ys;
         rest = drop 1 ys;
-        cost = (ap (λ w. moving 1 w.cost) c.ask.ensures.changes
-            ∙ sym (moving-after v.before 1 v.cost c.requires.gap)) i;
+        cost = (ap (λ w. moving 1 w.cost) c.test.ensures.changes
+            ∙ sym (moving-after v.gap 1 v.cost c.requires.gap)) i;
       });
     }
 
 -- it goes
 pub returns-clause-advances : goal.returns-clause-advances
 returns-clause-advances g c =
-    let R = g.J.Asks.asks in
-    let s = c.args.judge.now in
+    let R = g.J.Test.tests in
+    let s = c.args.test.now in
     let v = c.args.self.now in
-    let t = c.ask.new.judge in
-    let ys = c.ask.new.self.rest in
+    let t = c.test.new.test in
+    let ys = c.test.new.self.rest in
     record {
       count = 0;
       left = ys;
       run = stays-goes R 0 0 s v.rest s v.rest (stays-start R 0 s v.rest (omega arith)) t ys
           (search rules);
-      now = c.ask.ensures.changes ∙ (λ i. record v {
+      now = c.test.ensures.changes ∙ (λ i. record v {
         front = sym (append-nil v.front) i;
         rest = ys;
-        cost = (sym (moving-none v.cost) ∙ sym (moving-after v.before 0 v.cost c.requires.gap)) i;
+        cost = (sym (moving-none v.cost) ∙ sym (moving-after v.gap 0 v.cost c.requires.gap)) i;
       });
     }
 
 pub move_one_down-requires-clause-some : goal.move_one_down-requires-clause-some
 move_one_down-requires-clause-some g c = grind (arith, common_steps)
 
-pub returns-then-ask-clause-goes : goal.returns-then-ask-clause-goes
-returns-then-ask-clause-goes g c = grind (arith, common_steps)
+pub returns-then-test-clause-goes : goal.returns-then-test-clause-goes
+returns-then-test-clause-goes g c = grind (arith, common_steps)
 
 pub returns-clause-goes : goal.returns-clause-goes
 returns-clause-goes g c = grind (arith, common_steps)

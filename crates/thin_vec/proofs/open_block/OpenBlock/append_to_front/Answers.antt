@@ -18,11 +18,11 @@ facts : (g : _) (c : goal.After-self-1 g)
     })
     (record (open_of c.self.inside) {
       front = (open_of c.self.inside).front ++ c.args.value ∷ [];
-      before = (open_of c.self.inside).before - 1;
+      gap = (open_of c.self.inside).gap - 1;
       cost = c.put.new.self.cost;
     })
 facts g c = put-step c.self.inside c.self.invariant c.put.new.self c.args.value
-    (omega (arith, c.requires.gap, ap (λ v. v.before) c.self.view_is)) c.put.ensures.changes
+    (omega (arith, c.requires.gap, ap (λ v. v.gap) c.self.view_is)) c.put.ensures.changes
 
 pub invariant_of-self : goal.invariant_of-self
 invariant_of-self g c = (facts g c).lies
@@ -31,4 +31,4 @@ pub returns : goal.returns
 returns g c =
     let spent : c.put.new.self.cost ≡ moving 1 c.args.self.now.cost = search rules in
     (facts g c).view ∙ (λ i. let v = c.self.view_is i in record v
-    { front = v.front ++ c.args.value ∷ []; before = v.before - 1; cost = spent i })
+    { front = v.front ++ c.args.value ∷ []; gap = v.gap - 1; cost = spent i })

@@ -5,7 +5,7 @@ use Rattle.thin_vec.proofs.open_block.OpenBlock.dedup_past_gap.Goals as goal
 pub loop-self-init : goal.loop-self-init
 loop-self-init g c =
     record {
-      dedups = dedups-start g.J.AsksPairs.asks c.args.judge.now c.args.self.now c.requires.some
+      dedups = dedups-start g.J.PairTest.tests c.args.test.now c.args.self.now c.requires.some
           c.requires.gap;
       some = c.requires.some;
       ready = c.requires.ready;
@@ -14,7 +14,7 @@ loop-self-init g c =
 pub loop-self-preserved : goal.loop-self-preserved
 loop-self-preserved g c =
     record {
-      dedups = dedups-then g.J.AsksPairs.asks c.loop-self.invariant.dedups
+      dedups = dedups-then g.J.PairTest.tests c.loop-self.invariant.dedups
           c.dedup_two.ensures.dedups;
       some = c.dedup_two.ensures.some;
       ready = c.dedup_two.ensures.ready;
@@ -22,4 +22,4 @@ loop-self-preserved g c =
 
 pub returns-clause-dedups : goal.returns-clause-dedups
 returns-clause-dedups g c =
-    dedups-then g.J.AsksPairs.asks c.loop-self.invariant.dedups c.dedup_last.ensures.dedups
+    dedups-then g.J.PairTest.tests c.loop-self.invariant.dedups c.dedup_last.ensures.dedups

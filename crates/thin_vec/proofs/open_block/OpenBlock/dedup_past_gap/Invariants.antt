@@ -5,9 +5,9 @@ use Rattle.thin_vec.proofs.open_block.OpenBlock.dedup_past_gap.Given as goal
 
 abbrev pub invariant-loop-self : goal.invariant-loop-self
 invariant-loop-self g l = record {
-  dedups : Dedups g.J.AsksPairs.asks l.fn.judge l.fn.self l.judge l.self;
+  dedups : Dedups g.J.PairTest.tests l.fn.test l.fn.self l.test l.self;
   some : 0 < length l.self.front;
-  ready : g.J.AsksPairs.ready l.judge;
+  ready : g.J.PairTest.ready l.test;
 }
 
 abbrev pub decreases-loop-self : goal.decreases-loop-self

@@ -6,11 +6,11 @@ use Rattle.thin_vec.proofs.open_block.OpenBlock.dedup_rest.Goals as goal
 
 pub returns-then-rest_len-gt0 : goal.returns-then-rest_len-gt0
 returns-then-rest_len-gt0 g c =
-    let run = c.ask_pairs-kept in
+    let run = c.test_pairs-kept in
     record {
-      deduped = deduped-goes g.J.AsksPairs.asks c.args.self.now c.take_first.new.self run.result
-          c.args.judge.now run.new.judge run.new.self.rest run.ensures.asked c.take_first.result
-          c.dedup_past_gap.new.judge c.dedup_past_gap.new.self
+      deduped = deduped-goes g.J.PairTest.tests c.args.self.now c.take_first.new.self run.result
+          c.args.test.now run.new.test run.new.self.rest run.ensures.asked c.take_first.result
+          c.dedup_past_gap.new.test c.dedup_past_gap.new.self
           (search rules)
           (sym (ap (λ v. v.rest) c.pass.ensures) ∙ c.take_first.ensures.rest)
           c.dedup_past_gap.ensures.dedups
@@ -19,12 +19,12 @@ returns-then-rest_len-gt0 g c =
 
 pub returns-else-rest_len-gt0 : goal.returns-else-rest_len-gt0
 returns-else-rest_len-gt0 g c =
-    let run = c.ask_pairs-kept in
+    let run = c.test_pairs-kept in
     let none : c.pass.new.self.rest ≡ [] = nil_from_length c.pass.new.self.rest
     (omega (arith, c.rest_len.ensures.value, c.if-rest_len-gt0.false)) in
     record {
-      deduped = deduped-ends g.J.AsksPairs.asks c.args.self.now c.pass.new.self run.result
-          c.args.judge.now run.new.judge run.new.self.rest run.ensures.asked
+      deduped = deduped-ends g.J.PairTest.tests c.args.self.now c.pass.new.self run.result
+          c.args.test.now run.new.test run.new.self.rest run.ensures.asked
           (search rules)
           (sym (ap (λ v. v.rest) c.pass.ensures) ∙ none) none;
     }

@@ -6,62 +6,65 @@ use Rattle.std.proofs.lemmas.Grind.{common_steps}
 use Rattle.thin_vec.proofs.open_block.OpenBlock.dedup_two.Goals as goal
 
 -- the next item goes
-pub returns-then-ask_last-clause-dedups : goal.returns-then-ask_last-clause-dedups
-returns-then-ask_last-clause-dedups g c =
-    dedups-goes g.J.AsksPairs.asks c.args.self.now c.ask_last.new.self
-    c.take_first-later.result c.ask_last.new.later c.ask_last.new.self.front
+pub returns-then-test_last-clause-dedups : goal.returns-then-test_last-clause-dedups
+returns-then-test_last-clause-dedups g c =
+    dedups-goes g.J.PairTest.tests c.args.self.now c.test_last.new.self
+    c.take_first-later.result c.test_last.new.later c.test_last.new.self.front
     (search rules) (search rules) (search rules) (search rules)
 
 -- the next item stays, and the one after it goes
 pub returns-then-goes-clause-dedups : goal.returns-then-goes-clause-dedups
 returns-then-goes-clause-dedups g c =
-    dedups-two g.J.AsksPairs.asks c.args.self.now c.take_first.new.self c.args.judge.now
-    c.ask_last.new.judge c.ask_next-goes.new.judge c.take_first-later.result
-    c.ask_last.new.later c.ask_next-goes.new.kept
-    c.ask_last.new.self.front c.ask_last.new.self.rest c.ask_next-goes.new.self.rest (search rules)
-    c.ask_next-goes.result c.ask_next-goes.ensures.asked (search rules)
+    dedups-two g.J.PairTest.tests c.args.self.now c.take_first.new.self c.args.test.now
+    c.test_last.new.test c.test_next-goes.new.test c.take_first-later.result
+    c.test_last.new.later c.test_next-goes.new.kept
+    c.test_last.new.self.front c.test_last.new.self.rest c.test_next-goes.new.self.rest
+    (search rules)
+    c.test_next-goes.result c.test_next-goes.ensures.asked (search rules)
     c.if-goes.true c.take_first.result (search rules) (search rules) (search rules)
 
 -- the next two items stay, with a run, and the one after the run goes
 pub returns-then-rest_len-gt0-clause-dedups : goal.returns-then-rest_len-gt0-clause-dedups
 returns-then-rest_len-gt0-clause-dedups g c =
-    let R = g.J.AsksPairs.asks in
-    let r = c.ask_pairs-kept.ensures.asked in
+    let R = g.J.PairTest.tests in
+    let r = c.test_pairs-kept.ensures.asked in
     let w = c.take_first-then-rest_len-gt0.new.self in
-    let goes = run-goes R c.ask_pairs-kept.result c.ask_next-goes.new.judge
-    c.append_to_front.new.self.rest c.ask_pairs-kept.new.judge c.ask_pairs-kept.new.self.rest r
+    let goes = run-goes R c.test_pairs-kept.result c.test_next-goes.new.test
+    c.append_to_front.new.self.rest c.test_pairs-kept.new.test c.test_pairs-kept.new.self.rest r
     c.take_first-then-rest_len-gt0.result w.rest
     (sym (ap (λ v. v.rest) c.move_down.ensures) ∙ c.take_first-then-rest_len-gt0.ensures.rest) in
-    dedups-run R c.args.self.now w c.args.judge.now c.ask_last.new.judge c.ask_next-goes.new.judge
-    c.take_first-later.result c.ask_last.new.later c.ask_next-goes.new.kept
-    c.ask_last.new.self.front c.ask_last.new.self.rest c.append_to_front.new.self.rest (search rules)
-    c.ask_next-goes.result (search rules) (search rules)
-    c.if-goes.false c.ask_pairs-kept.result c.ask_pairs-kept.new.judge
-    c.ask_pairs-kept.new.self.rest r goes.0 (run-count R _ _ _ _ _ r (false ∷ []) refl goes.1)
+    dedups-run R c.args.self.now w c.args.test.now c.test_last.new.test c.test_next-goes.new.test
+    c.take_first-later.result c.test_last.new.later c.test_next-goes.new.kept
+    c.test_last.new.self.front c.test_last.new.self.rest c.append_to_front.new.self.rest
+    (search rules)
+    c.test_next-goes.result (search rules) (search rules)
+    c.if-goes.false c.test_pairs-kept.result c.test_pairs-kept.new.test
+    c.test_pairs-kept.new.self.rest r goes.0 (run-count R _ _ _ _ _ r (false ∷ []) refl goes.1)
     (search rules) (search rules)
 
 -- the next two items stay, and so do all others
 pub returns-else-rest_len-gt0-clause-dedups : goal.returns-else-rest_len-gt0-clause-dedups
 returns-else-rest_len-gt0-clause-dedups g c =
-    let R = g.J.AsksPairs.asks in
-    let r = c.ask_pairs-kept.ensures.asked in
+    let R = g.J.PairTest.tests in
+    let r = c.test_pairs-kept.ensures.asked in
     let w = c.move_down.new.self in
     let none : w.rest ≡ [] =
     nil_from_length w.rest (omega (arith, c.rest_len.ensures.value, c.if-rest_len-gt0.false)) in
-    let ends = run-ends R c.ask_pairs-kept.result c.ask_next-goes.new.judge
-    c.append_to_front.new.self.rest c.ask_pairs-kept.new.judge c.ask_pairs-kept.new.self.rest r
+    let ends = run-ends R c.test_pairs-kept.result c.test_next-goes.new.test
+    c.append_to_front.new.self.rest c.test_pairs-kept.new.test c.test_pairs-kept.new.self.rest r
     (sym (ap (λ v. v.rest) c.move_down.ensures) ∙ none) in
-    dedups-run R c.args.self.now w c.args.judge.now c.ask_last.new.judge c.ask_next-goes.new.judge
-    c.take_first-later.result c.ask_last.new.later c.ask_next-goes.new.kept
-    c.ask_last.new.self.front c.ask_last.new.self.rest c.append_to_front.new.self.rest (search rules)
-    c.ask_next-goes.result (search rules) (search rules)
-    c.if-goes.false c.ask_pairs-kept.result c.ask_pairs-kept.new.judge
-    c.ask_pairs-kept.new.self.rest r (ends.0 ∙ sym none)
+    dedups-run R c.args.self.now w c.args.test.now c.test_last.new.test c.test_next-goes.new.test
+    c.take_first-later.result c.test_last.new.later c.test_next-goes.new.kept
+    c.test_last.new.self.front c.test_last.new.self.rest c.append_to_front.new.self.rest
+    (search rules)
+    c.test_next-goes.result (search rules) (search rules)
+    c.if-goes.false c.test_pairs-kept.result c.test_pairs-kept.new.test
+    c.test_pairs-kept.new.self.rest r (ends.0 ∙ sym none)
     (run-count R _ _ _ _ _ r [] refl (ends.1 ∙ sym (append-nil _)))
     (search rules) (search rules)
 
-pub returns-then-ask_last-clause-some : goal.returns-then-ask_last-clause-some
-returns-then-ask_last-clause-some g c = grind (arith, common_steps)
+pub returns-then-test_last-clause-some : goal.returns-then-test_last-clause-some
+returns-then-test_last-clause-some g c = grind (arith, common_steps)
 
 pub returns-then-goes-clause-some : goal.returns-then-goes-clause-some
 returns-then-goes-clause-some g c = grind (arith, common_steps)

@@ -4,8 +4,8 @@ use Rattle.thin_vec.proofs.open_block.OpenBlock.drop_rest.Given as goal
 
 abbrev pub invariant-loop-self : goal.invariant-loop-self
 invariant-loop-self g l = record {
-  before : l.self.before + length l.self.rest ≡ l.fn.self.before + length l.fn.self.rest;
-  same : l.self ≡ record l.fn.self { before = l.self.before; rest = l.self.rest };
+  gap : l.self.gap + length l.self.rest ≡ l.fn.self.gap + length l.fn.self.rest;
+  same : l.self ≡ record l.fn.self { gap = l.self.gap; rest = l.self.rest };
 }
 
 abbrev pub decreases-loop-self : goal.decreases-loop-self

@@ -9,7 +9,7 @@ pub invariant_of-self : goal.invariant_of-self
 invariant_of-self g c =
     let put = c.put_iter-filled.ensures.filled in
     (fill-step c.self.inside c.self.invariant c.put_iter-filled.new.block put.0.items _ put.2
-    (omega (arith, put.2, filled-fits put.0, c.self.invariant.before)) put.1).lies
+    (omega (arith, put.2, filled-fits put.0, c.self.invariant.gap)) put.1).lies
 
 pub returns : goal.returns
 returns g c =
@@ -19,11 +19,11 @@ returns g c =
     let xs = put.0.items in
     let end = c.put_iter-filled.result.end in
     let fits : end ≤ h.rest_start =
-    omega (arith, put.2, filled-fits put.0, c.self.invariant.before) in
+    omega (arith, put.2, filled-fits put.0, c.self.invariant.gap) in
     let step = fill-step h c.self.invariant block xs _ put.2 fits put.1 in
-    let room = ap (λ v. v.before) c.self.view_is in
-    let left : h.rest_start - end ≡ c.args.self.now.before - length xs =
-    omega (arith, put.2, fits, room, c.self.invariant.before) in
+    let room = ap (λ v. v.gap) c.self.view_is in
+    let left : h.rest_start - end ≡ c.args.self.now.gap - length xs =
+    omega (arith, put.2, fits, room, c.self.invariant.gap) in
     let alloc : block.alloc ≡ c.args.self.now.alloc = search (arith, ◌∙◌) in
     let many : end - h.front_end ≡ length xs = omega (arith, put.2) in
     record {
@@ -32,7 +32,7 @@ returns g c =
         step.view
             ∙ (λ i. record (c.self.view_is i) {
               front = (c.self.view_is i).front ++ xs;
-              before = left i;
+              gap = left i;
               alloc = alloc i;
               cost = (ap (λ v. v.cost) c.put_iter-filled.ensures.changes
                   ∙ (λ j. moving (many j) (c.self.view_is j).cost)) i;

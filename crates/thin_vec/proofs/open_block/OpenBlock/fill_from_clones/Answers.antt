@@ -22,7 +22,7 @@ facts : (g : _) (c : goal.After-self-1 g)
     })
     (record (open_of c.self.inside) {
       front = (open_of c.self.inside).front ++ c.put_clones-placed.ensures.slots.copies;
-      before = c.self.inside.rest_start - (c.self.inside.front_end + c.put_clones-placed.result);
+      gap = c.self.inside.rest_start - (c.self.inside.front_end + c.put_clones-placed.result);
       alloc = c.put_clones-placed.new.block.alloc;
       cost = c.put_clones-placed.new.block.cost;
     })
@@ -35,8 +35,8 @@ facts g c =
       arith,
       c.requires.room,
       c.put_clones-placed.ensures.in_bounds,
-      ap (λ v. v.before) c.self.view_is,
-      c.self.invariant.before,
+      ap (λ v. v.gap) c.self.view_is,
+      c.self.invariant.gap,
     ))
     c.put_clones-placed.ensures.slots.slots
 
@@ -59,11 +59,11 @@ returns-clause-changes g c =
     let spent : c.put_clones-placed.new.block.cost ≡ moving c.put_clones-placed.result old.cost =
     search (arith, ◌∙◌) in
     let left : c.self.inside.rest_start - (c.self.inside.front_end + c.put_clones-placed.result)
-    ≡ old.before - c.put_clones-placed.result =
-    omega (arith, ap (λ v. v.before) c.self.view_is) in
+    ≡ old.gap - c.put_clones-placed.result =
+    omega (arith, ap (λ v. v.gap) c.self.view_is) in
     seen ∙ (λ i. record (c.self.view_is i) {
       front = (sym seen i).front;
-      before = left i;
+      gap = left i;
       alloc = alloc i;
       cost = spent i;
     })

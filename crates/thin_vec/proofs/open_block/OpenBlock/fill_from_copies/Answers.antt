@@ -16,7 +16,7 @@ facts : (g : _) (c : goal.After-self-1 g)
     })
     (record (open_of c.self.inside) {
       front = (open_of c.self.inside).front ++ c.args.items.now;
-      before = c.self.inside.rest_start - (c.self.inside.front_end + length c.args.items.now);
+      gap = c.self.inside.rest_start - (c.self.inside.front_end + length c.args.items.now);
       alloc = c.copy_in.new.self.alloc;
       cost = c.copy_in.new.self.cost;
     })
@@ -26,8 +26,8 @@ facts g c =
     (omega (
       arith,
       c.requires.room,
-      ap (λ v. v.before) c.self.view_is,
-      c.self.invariant.before,
+      ap (λ v. v.gap) c.self.view_is,
+      c.self.invariant.gap,
     ))
     (ap (λ v. v.slots) c.copy_in.ensures.changes)
 
@@ -41,11 +41,11 @@ returns g c =
     let spent : c.copy_in.new.self.cost ≡ moving (length c.args.items.now) old.cost =
     search (arith, ◌∙◌) in
     let left : c.self.inside.rest_start - (c.self.inside.front_end + length c.args.items.now)
-    ≡ old.before - length c.args.items.now =
-    omega (arith, ap (λ v. v.before) c.self.view_is) in
+    ≡ old.gap - length c.args.items.now =
+    omega (arith, ap (λ v. v.gap) c.self.view_is) in
     (facts g c).view ∙ (λ i. let v = c.self.view_is i in record v {
       front = v.front ++ c.args.items.now;
-      before = left i;
+      gap = left i;
       alloc = alloc i;
       cost = spent i;
     })

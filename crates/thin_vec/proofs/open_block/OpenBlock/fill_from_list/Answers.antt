@@ -48,7 +48,7 @@ facts : (g : _) (c : goal.After-self-1 g)
     })
     (record (open_of c.self.inside) {
       front = (open_of c.self.inside).front ++ items_in c.other.inside.block.slots;
-      before = c.self.inside.rest_start - (c.self.inside.front_end + c.len-count.result);
+      gap = c.self.inside.rest_start - (c.self.inside.front_end + c.len-count.result);
       alloc = c.move_run_to.new.other.alloc;
       cost = c.move_run_to.new.other.cost;
     })
@@ -61,8 +61,8 @@ facts g c =
       arith,
       c.requires.room,
       same g c,
-      ap (λ v. v.before) c.self.view_is,
-      c.self.invariant.before,
+      ap (λ v. v.gap) c.self.view_is,
+      c.self.invariant.gap,
     ))
     (lies g c)
 
@@ -91,11 +91,11 @@ returns-clause-changes g c =
     ap (λ v. v.cost) c.move_run_to.ensures.other_changes
     ∙ (λ i. moving (same g c i) (c.self.view_is i).cost) in
     let left : c.self.inside.rest_start - (c.self.inside.front_end + c.len-count.result)
-    ≡ old.before - length c.args.other.now.items =
-    omega (arith, same g c, ap (λ v. v.before) c.self.view_is) in
+    ≡ old.gap - length c.args.other.now.items =
+    omega (arith, same g c, ap (λ v. v.gap) c.self.view_is) in
     (facts g c).view ∙ (λ i. let v = c.self.view_is i in record v {
       front = v.front ++ (c.other.view_is i).items;
-      before = left i;
+      gap = left i;
       alloc = alloc i;
       cost = spent i;
     })

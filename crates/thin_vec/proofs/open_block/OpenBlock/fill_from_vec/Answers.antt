@@ -19,7 +19,7 @@ facts : (g : _) (c : goal.After-self-1 g)
     })
     (record (open_of c.self.inside) {
       front = (open_of c.self.inside).front ++ c.args.items.items;
-      before = c.self.inside.rest_start - (c.self.inside.front_end + c.len-count.result);
+      gap = c.self.inside.rest_start - (c.self.inside.front_end + c.len-count.result);
       alloc = c.put_vec.new.block.alloc;
       cost = c.put_vec.new.block.cost;
     })
@@ -31,8 +31,8 @@ facts g c =
       arith,
       c.requires.room,
       count g c,
-      ap (λ v. v.before) c.self.view_is,
-      c.self.invariant.before,
+      ap (λ v. v.gap) c.self.view_is,
+      c.self.invariant.gap,
     ))
     (ap (λ v. v.slots) c.put_vec.ensures.changes)
 
@@ -46,11 +46,11 @@ returns g c =
     let spent : c.put_vec.new.block.cost ≡ moving (length c.args.items.items) old.cost =
     search (arith, ◌∙◌) in
     let left : c.self.inside.rest_start - (c.self.inside.front_end + c.len-count.result)
-    ≡ old.before - length c.args.items.items =
-    omega (arith, count g c, ap (λ v. v.before) c.self.view_is) in
+    ≡ old.gap - length c.args.items.items =
+    omega (arith, count g c, ap (λ v. v.gap) c.self.view_is) in
     (facts g c).view ∙ (λ i. let v = c.self.view_is i in record v {
       front = v.front ++ c.args.items.items;
-      before = left i;
+      gap = left i;
       alloc = alloc i;
       cost = spent i;
     })

@@ -10,17 +10,17 @@ use Rattle.thin_vec.proofs.open_block.OpenBlock.into_closed.Goals as goal
 pub close_gap-closed-requires-clause-empty : goal.close_gap-closed-requires-clause-empty
 close_gap-closed-requires-clause-empty g c = λ j low high.
     let o = c.self.invariant in
-    before-empty c.self.inside (open_of c.self.inside) o j low (omega (arith, high, o.before))
+    before-empty c.self.inside (open_of c.self.inside) o j low (omega (arith, high, o.gap))
 
 pub close_gap-closed-requires-clause-filled : goal.close_gap-closed-requires-clause-filled
 close_gap-closed-requires-clause-filled g c = λ j low high.
     let o = c.self.invariant in
-    after-filled c.self.inside o (ap (λ v. v.after) c.self.view_is ∙ c.requires.after) j
-    (omega (arith, low, o.before)) (omega (arith, high, o.before))
+    after-filled c.self.inside o (ap (λ v. v.gap_after) c.self.view_is ∙ c.requires.gap_after) j
+    (omega (arith, low, o.gap)) (omega (arith, high, o.gap))
 
 pub returns-then-front_end-rest_start-clause-slots : goal.returns-then-front_end-rest_start-clause-slots
 returns-then-front_end-rest_start-clause-slots g c =
-    let none = ap (λ v. v.after) c.self.view_is ∙ c.requires.after in
+    let none = ap (λ v. v.gap_after) c.self.view_is ∙ c.requires.gap_after in
     ap (λ v. v.slots) c.set_len.ensures.changes
     ∙ (closed-row c.self.inside c.self.invariant none c.if-front_end-rest_start.true
     ∙ ap (λ v. front (items_of v) v.capacity) c.self.view_is)
@@ -29,8 +29,8 @@ pub returns-clause-slots : goal.returns-clause-slots
 returns-clause-slots g c =
     let h = c.self.inside in
     let o = c.self.invariant in
-    let none = ap (λ v. v.after) c.self.view_is ∙ c.requires.after in
-    let same : h.front_end + (h.rest_start - h.front_end) ≡ h.rest_start = omega (arith, o.before) in
+    let none = ap (λ v. v.gap_after) c.self.view_is ∙ c.requires.gap_after in
+    let same : h.front_end + (h.rest_start - h.front_end) ≡ h.rest_start = omega (arith, o.gap) in
     ap (λ v. v.slots) c.store_len.ensures.changes
     ∙ (ap (λ v. v.slots) c.close_gap-closed.ensures.changes
     ∙ (ap (λ n. moved n h.front_end (h.len - h.rest_start) h.block.slots) same

@@ -13,4 +13,4 @@ invariant_of-self g c = (facts g c).lies
 
 pub returns : goal.returns
 returns g c = (facts g c).view ∙ (λ i. let v = c.self.view_is i in record v
-    { before = v.before + v.after; rest = sym c.requires.none i; after = 0 })
+    { gap = v.gap + v.gap_after; rest = sym c.requires.none i; gap_after = 0 })

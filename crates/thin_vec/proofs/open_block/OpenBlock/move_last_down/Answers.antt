@@ -16,15 +16,15 @@ move_run-requires-clause-filled g c = λ j low high.
 facts : (g : _) (c : goal.After-self-2-1 g)
     → let few : c.args.count ≤ length (open_of c.self.inside).tail =
     omega (arith, c.requires.in_bounds, ap (λ v. length v.tail) c.self.view_is) in
-    let room : c.args.count ≤ (open_of c.self.inside).before =
-    omega (arith, c.requires.room, ap (λ v. v.before) c.self.view_is) in
+    let room : c.args.count ≤ (open_of c.self.inside).gap =
+    omega (arith, c.requires.room, ap (λ v. v.gap) c.self.view_is) in
     Found (brought c.self.inside c.self.invariant c.move_run.new.self c.args.count few room)
     (brought-seen c.self.inside c.self.invariant c.move_run.new.self c.args.count few room)
 facts g c =
     let few : c.args.count ≤ length (open_of c.self.inside).tail =
     omega (arith, c.requires.in_bounds, ap (λ v. length v.tail) c.self.view_is) in
-    let room : c.args.count ≤ (open_of c.self.inside).before =
-    omega (arith, c.requires.room, ap (λ v. v.before) c.self.view_is) in
+    let room : c.args.count ≤ (open_of c.self.inside).gap =
+    omega (arith, c.requires.room, ap (λ v. v.gap) c.self.view_is) in
     bring-step c.self.inside c.self.invariant c.move_run.new.self c.args.count few room
     (ap (λ v. v.slots) c.move_run.ensures.changes)
 
@@ -38,7 +38,7 @@ returns g c =
     search (arith, ◌∙◌) in
     (facts g c).view ∙ (λ i. let v = c.self.view_is i in record v {
       front = v.front ++ drop (length v.tail - c.args.count) v.tail;
-      before = v.before - c.args.count;
+      gap = v.gap - c.args.count;
       tail = take (length v.tail - c.args.count) v.tail;
       alloc = alloc i;
       cost = spent i;

@@ -5,7 +5,7 @@ use lib.ListN.{set}
 use Rattle.thin_block.specs.Cost.{moving}
 use Rattle.thin_vec.specs.OpenBlock.{open_of}
 use Rattle.thin_vec.proofs.OpenBlockLemmas.{Found, rest-filled}
-use Rattle.thin_vec.proofs.open_block.SiftLemmas.{moved_down, moved_down-seen, move_one_down-step}
+use Rattle.thin_vec.proofs.open_block.SiftLemmas.{moved_run, moved_run-seen, move_one_down-step}
 use Rattle.std.proofs.lemmas.Grind.{common_steps}
 use Rattle.thin_vec.proofs.open_block.OpenBlock.move_one_down.Goals as goal
 
@@ -21,13 +21,13 @@ take-value-requires g c =
 facts : (g : _) (c : goal.After-self-2-1 g)
     → let some : 1 ≤ length (open_of c.self.inside).rest =
     omega (arith, c.requires.some, ap (λ v. length v.rest) c.self.view_is) in
-    Found (moved_down c.self.inside c.self.invariant 1 some c.put.new.self)
-    (moved_down-seen c.self.inside c.self.invariant 1 some c.put.new.self)
+    Found (moved_run c.self.inside c.self.invariant 1 some c.put.new.self)
+    (moved_run-seen c.self.inside c.self.invariant 1 some c.put.new.self)
 facts g c =
     let some : 1 ≤ length (open_of c.self.inside).rest =
     omega (arith, c.requires.some, ap (λ v. length v.rest) c.self.view_is) in
     move_one_down-step c.self.inside c.self.invariant some
-    (omega (arith, c.requires.gap, ap (λ v. v.before) c.self.view_is))
+    (omega (arith, c.requires.gap, ap (λ v. v.gap) c.self.view_is))
     c.put.new.self c.take-value.ensures.value
     (c.put.ensures.changes ∙ ap {A = Seen _ _} (λ v. record v {
       slots = set v.slots c.self.inside.front_end (Some c.take-value.result);

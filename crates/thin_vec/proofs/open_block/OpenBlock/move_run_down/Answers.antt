@@ -6,23 +6,23 @@ use Rattle.thin_block.specs.Cost.{moving}
 use Rattle.thin_block.specs.Slots.{moved, slot}
 use Rattle.thin_vec.specs.OpenBlock.{open_of}
 use Rattle.thin_vec.proofs.OpenBlockLemmas.{Found, before-empty, rest-filled}
-use Rattle.thin_vec.proofs.open_block.SiftLemmas.{moved_down, moved_down-seen, move_run_down-step}
+use Rattle.thin_vec.proofs.open_block.SiftLemmas.{moved_run, moved_run-seen, move_run_down-step}
 use Rattle.thin_vec.proofs.open_block.OpenBlock.move_run_down.Goals as goal
 
 pub close_gap-closed-requires-clause-empty : goal.close_gap-closed-requires-clause-empty
 close_gap-closed-requires-clause-empty g c = λ j low high.
     let o = c.self.invariant in
     ap (λ b. slot b.slots j) c.replace-block.ensures.value
-    ∙ before-empty c.self.inside (open_of c.self.inside) o j low (omega (arith, high, o.before))
+    ∙ before-empty c.self.inside (open_of c.self.inside) o j low (omega (arith, high, o.gap))
 
 pub close_gap-closed-requires-clause-filled : goal.close_gap-closed-requires-clause-filled
 close_gap-closed-requires-clause-filled g c = λ j low high.
     let o = c.self.invariant in
     subst (λ b. IsSome (slot b.slots j)) (sym c.replace-block.ensures.value)
-    (rest-filled c.self.inside (open_of c.self.inside) o j (omega (arith, low, o.before)) (omega (
+    (rest-filled c.self.inside (open_of c.self.inside) o j (omega (arith, low, o.gap)) (omega (
       arith,
       high,
-      o.before,
+      o.gap,
       o.rest,
       c.requires.in_bounds,
       ap (λ v. length v.rest) c.self.view_is,
@@ -31,14 +31,14 @@ close_gap-closed-requires-clause-filled g c = λ j low high.
 facts : (g : _) (c : goal.After-self-2-1 g)
     → let low : c.args.k ≤ length (open_of c.self.inside).rest =
     omega (arith, c.requires.in_bounds, ap (λ v. length v.rest) c.self.view_is) in
-    Found (moved_down c.self.inside c.self.invariant c.args.k low c.replace-none.new.dest)
-    (moved_down-seen c.self.inside c.self.invariant c.args.k low c.replace-none.new.dest)
+    Found (moved_run c.self.inside c.self.invariant c.args.k low c.replace-none.new.dest)
+    (moved_run-seen c.self.inside c.self.invariant c.args.k low c.replace-none.new.dest)
 facts g c =
     let h = c.self.inside in
     let o = c.self.invariant in
     let low : c.args.k ≤ length (open_of h).rest =
     omega (arith, c.requires.in_bounds, ap (λ v. length v.rest) c.self.view_is) in
-    let same : h.front_end + (h.rest_start - h.front_end) ≡ h.rest_start = omega (arith, o.before) in
+    let same : h.front_end + (h.rest_start - h.front_end) ≡ h.rest_start = omega (arith, o.gap) in
     move_run_down-step h o c.args.k low c.replace-none.new.dest
     (ap seen c.replace-none.ensures.after
     ∙ (c.close_gap-closed.ensures.changes

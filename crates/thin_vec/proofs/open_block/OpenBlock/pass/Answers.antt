@@ -2,19 +2,19 @@
 use Rattle.std.proofs.Common.{◌≤◌, ◌++◌, ap, ◌∙◌, arith, length, take, drop}
 use Rattle.thin_vec.specs.OpenBlock.{open_of}
 use Rattle.thin_vec.proofs.OpenBlockLemmas.{Found}
-use Rattle.thin_vec.proofs.open_block.SiftLemmas.{moved_down, moved_down-seen, pass-step}
+use Rattle.thin_vec.proofs.open_block.SiftLemmas.{moved_run, moved_run-seen, pass-step}
 use Rattle.thin_vec.proofs.open_block.OpenBlock.pass.Goals as goal
 
 facts : (g : _) (c : goal.After-self-2-1 g)
     → let low : c.args.k ≤ length (open_of c.self.inside).rest =
     omega (arith, c.requires.in_bounds, ap (λ v. length v.rest) c.self.view_is) in
-    Found (moved_down c.self.inside c.self.invariant c.args.k low c.self.inside.block)
-    (moved_down-seen c.self.inside c.self.invariant c.args.k low c.self.inside.block)
+    Found (moved_run c.self.inside c.self.invariant c.args.k low c.self.inside.block)
+    (moved_run-seen c.self.inside c.self.invariant c.args.k low c.self.inside.block)
 facts g c =
     let low : c.args.k ≤ length (open_of c.self.inside).rest =
     omega (arith, c.requires.in_bounds, ap (λ v. length v.rest) c.self.view_is) in
     pass-step c.self.inside c.self.invariant c.args.k low
-    (ap (λ v. v.before) c.self.view_is ∙ c.requires.none)
+    (ap (λ v. v.gap) c.self.view_is ∙ c.requires.none)
 
 pub invariant_of-self : goal.invariant_of-self
 invariant_of-self g c = (facts g c).lies

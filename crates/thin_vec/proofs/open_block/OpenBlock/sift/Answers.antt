@@ -6,12 +6,12 @@ use Rattle.thin_vec.proofs.open_block.OpenBlock.sift.Goals as goal
 
 pub returns-then-rest_len-gt0 : goal.returns-then-rest_len-gt0
 returns-then-rest_len-gt0 g c =
-    let R = g.J.Asks.asks in
-    let run = c.ask_run-first in
+    let R = g.J.Test.tests in
+    let run = c.test_run-first in
     record {
-      sifted = sifted-goes R c.args.self.now c.take_first.new.self run.result c.args.judge.now
-          run.new.judge run.new.self.rest run.ensures.asked c.take_first.result
-          c.sift_past_gap.new.judge c.sift_past_gap.new.self
+      sifted = sifted-goes R c.args.self.now c.take_first.new.self run.result c.args.test.now
+          run.new.test run.new.self.rest run.ensures.asked c.take_first.result
+          c.sift_past_gap.new.test c.sift_past_gap.new.self
           (search rules)
           (sym (ap (λ v. v.rest) c.pass.ensures) ∙ c.take_first.ensures.rest)
           c.sift_past_gap.ensures.sifts
@@ -20,13 +20,13 @@ returns-then-rest_len-gt0 g c =
 
 pub returns-else-rest_len-gt0 : goal.returns-else-rest_len-gt0
 returns-else-rest_len-gt0 g c =
-    let R = g.J.Asks.asks in
-    let run = c.ask_run-first in
+    let R = g.J.Test.tests in
+    let run = c.test_run-first in
     let none : c.pass.new.self.rest ≡ [] = nil_from_length c.pass.new.self.rest
     (omega (arith, c.rest_len.ensures.value, c.if-rest_len-gt0.false)) in
     record {
-      sifted = sifted-ends R c.args.self.now c.pass.new.self run.result c.args.judge.now
-          run.new.judge run.new.self.rest run.ensures.asked
+      sifted = sifted-ends R c.args.self.now c.pass.new.self run.result c.args.test.now
+          run.new.test run.new.self.rest run.ensures.asked
           (search rules)
           (sym (ap (λ v. v.rest) c.pass.ensures) ∙ none) none;
     }

@@ -8,14 +8,14 @@ use Rattle.thin_vec.proofs.open_block.OpenBlock.sift_last.Goals as goal
 -- an item goes
 pub returns-then-advance_last-clause-sifts : goal.returns-then-advance_last-clause-sifts
 returns-then-advance_last-clause-sifts g c =
-    advanced-goes g.J.Asks.asks c.args.judge.now c.advance_last.new.judge c.args.self.now
+    advanced-goes g.J.Test.tests c.args.test.now c.advance_last.new.test c.args.self.now
     c.advance_last.new.self c.requires.gap c.advance_last.ensures.advances c.take_first.result
     c.take_first.new.self c.take_first.ensures.rest c.take_first.ensures.changes
 
 -- none goes
 pub returns-else-advance_last-clause-sifts : goal.returns-else-advance_last-clause-sifts
 returns-else-advance_last-clause-sifts g c =
-    advanced-ends g.J.Asks.asks c.args.judge.now c.advance_last.new.judge c.args.self.now
+    advanced-ends g.J.Test.tests c.args.test.now c.advance_last.new.test c.args.self.now
     c.advance_last.new.self c.requires.gap c.advance_last.ensures.advances
     (none-left c.advance_last.new.self.rest
     (λ some. false≢true (sym c.if-advance_last.false ∙ c.advance_last.ensures.goes.1 some)))
@@ -23,7 +23,7 @@ returns-else-advance_last-clause-sifts g c =
 -- it was the last one
 pub returns-then-advance_last-clause-rest : goal.returns-then-advance_last-clause-rest
 returns-then-advance_last-clause-rest g c =
-    let few = advanced-count g.J.Asks.asks c.args.judge.now c.advance_last.new.judge c.args.self.now
+    let few = advanced-count g.J.Test.tests c.args.test.now c.advance_last.new.test c.args.self.now
     c.advance_last.new.self c.requires.gap c.advance_last.ensures.advances in
     nil_from_length c.take_first.new.self.rest
     (omega (arith, few, c.requires.short, ap length c.take_first.ensures.rest))

@@ -5,17 +5,17 @@ use Rattle.thin_vec.proofs.open_block.OpenBlock.sift_past_gap.Goals as goal
 pub loop-self-init : goal.loop-self-init
 loop-self-init g c =
     record {
-      sifts = sifts-start g.J.Asks.asks c.args.judge.now c.args.self.now c.requires.gap;
+      sifts = sifts-start g.J.Test.tests c.args.test.now c.args.self.now c.requires.gap;
       ready = c.requires.ready;
     }
 
 pub loop-self-preserved : goal.loop-self-preserved
 loop-self-preserved g c =
     record {
-      sifts = sifts-then g.J.Asks.asks c.loop-self.invariant.sifts c.sift_two.ensures.sifts;
+      sifts = sifts-then g.J.Test.tests c.loop-self.invariant.sifts c.sift_two.ensures.sifts;
       ready = c.sift_two.ensures.ready;
     }
 
 pub returns-clause-sifts : goal.returns-clause-sifts
 returns-clause-sifts g c =
-    sifts-then g.J.Asks.asks c.loop-self.invariant.sifts c.sift_last.ensures.sifts
+    sifts-then g.J.Test.tests c.loop-self.invariant.sifts c.sift_last.ensures.sifts

@@ -5,8 +5,8 @@ use Rattle.thin_vec.proofs.open_block.OpenBlock.sift_past_gap.Given as goal
 
 abbrev pub invariant-loop-self : goal.invariant-loop-self
 invariant-loop-self g l = record {
-  sifts : Sifts g.J.Asks.asks l.fn.judge l.fn.self l.judge l.self;
-  ready : g.J.Asks.ready l.judge;
+  sifts : Sifts g.J.Test.tests l.fn.test l.fn.self l.test l.self;
+  ready : g.J.Test.ready l.test;
 }
 
 abbrev pub decreases-loop-self : goal.decreases-loop-self

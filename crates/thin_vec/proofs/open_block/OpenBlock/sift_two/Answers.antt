@@ -7,14 +7,14 @@ use Rattle.thin_vec.proofs.open_block.OpenBlock.sift_two.Goals as goal
 -- an item goes
 pub returns-then-advance_two-clause-sifts : goal.returns-then-advance_two-clause-sifts
 returns-then-advance_two-clause-sifts g c =
-    advanced-goes g.J.Asks.asks c.args.judge.now c.advance_two.new.judge c.args.self.now
+    advanced-goes g.J.Test.tests c.args.test.now c.advance_two.new.test c.args.self.now
     c.advance_two.new.self c.requires.gap c.advance_two.ensures.advances c.take_first.result
     c.take_first.new.self c.take_first.ensures.rest c.take_first.ensures.changes
 
 -- none goes
 pub returns-else-advance_two-clause-sifts : goal.returns-else-advance_two-clause-sifts
 returns-else-advance_two-clause-sifts g c =
-    advanced-ends g.J.Asks.asks c.args.judge.now c.advance_two.new.judge c.args.self.now
+    advanced-ends g.J.Test.tests c.args.test.now c.advance_two.new.test c.args.self.now
     c.advance_two.new.self c.requires.gap c.advance_two.ensures.advances
     (none-left c.advance_two.new.self.rest
     (λ some. false≢true (sym c.if-advance_two.false ∙ c.advance_two.ensures.goes.1 some)))
@@ -22,7 +22,7 @@ returns-else-advance_two-clause-sifts g c =
 -- fewer are left to ask about
 pub returns-then-advance_two-clause-less : goal.returns-then-advance_two-clause-less
 returns-then-advance_two-clause-less g c =
-    let few = advanced-count g.J.Asks.asks c.args.judge.now c.advance_two.new.judge c.args.self.now
+    let few = advanced-count g.J.Test.tests c.args.test.now c.advance_two.new.test c.args.self.now
     c.advance_two.new.self c.requires.gap c.advance_two.ensures.advances in
     omega (arith, few, ap length c.take_first.ensures.rest)
 

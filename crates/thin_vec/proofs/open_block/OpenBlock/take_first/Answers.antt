@@ -36,4 +36,4 @@ returns-clause-rest g c =
 pub returns-clause-changes : goal.returns-clause-changes
 returns-clause-changes g c = let seen = (facts g c).2.view in
     seen ∙ (λ i. let v = c.self.view_is i in
-    record v { rest = (sym seen i).rest; before = v.before + 1 })
+    record v { rest = (sym seen i).rest; gap = v.gap + 1 })

@@ -35,4 +35,4 @@ returns g c =
     let spent : c.move_run.new.self.cost ≡ moving (length c.args.self.now.tail) c.args.self.now.cost
     = search (arith, ◌∙◌) in
     (facts g c).view ∙ (λ i. let v = c.self.view_is i in record v
-    { after = v.after + c.args.count; alloc = alloc i; cost = spent i })
+    { gap_after = v.gap_after + c.args.count; alloc = alloc i; cost = spent i })

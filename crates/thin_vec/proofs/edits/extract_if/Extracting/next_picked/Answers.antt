@@ -12,7 +12,7 @@ returns-then-advance-clause-extracts g c =
     let R = CalledAtMut g.F.FnMut in
     let v = c.args.self.now in
     let a = c.advance.ensures.advances in
-    let t = c.advance.new.judge in
+    let t = c.advance.new.test in
     let z = c.take_first.new.self in
     let x = c.take_first.result in
     let asked = picked-some R (λ s. s.pick) a.count v.picks v.block.rest t a.left a.run x z.rest
@@ -22,12 +22,12 @@ returns-then-advance-clause-extracts g c =
       asked = asked;
       count = picked-count R v.picks.pick v.block.rest _ t.pick (take a.count a.left) z.rest asked;
       front = search rules;
-      before = search rules;
+      gap = search rules;
       tail = search rules;
       capacity = search rules;
       alloc = search rules;
       cost = ap (λ w. w.cost) c.take_first.ensures.changes
-          ∙ (ap (λ w. w.cost) a.now ∙ cost-of v.block.before v.block.cost a.count a.left
+          ∙ (ap (λ w. w.cost) a.now ∙ cost-of v.block.gap v.block.cost a.count a.left
           (picked-room R (λ s. s.pick) a.count v.picks v.block.rest t a.left a.run));
     }
 
@@ -37,7 +37,7 @@ returns-else-advance-clause-extracts g c =
     let R = CalledAtMut g.F.FnMut in
     let v = c.args.self.now in
     let a = c.advance.ensures.advances in
-    let t = c.advance.new.judge in
+    let t = c.advance.new.test in
     let w = c.advance.new.self in
     let rest = ap (λ u. u.rest) a.now in
     let none : w.rest ≡ [] =
@@ -51,10 +51,10 @@ returns-else-advance-clause-extracts g c =
       count = rw rest
           (picked-count R v.picks.pick v.block.rest _ t.pick (take a.count a.left) _ asked);
       front = ap (λ u. u.front) a.now;
-      before = omega (arith, ap (λ u. u.before) a.now);
+      gap = omega (arith, ap (λ u. u.gap) a.now);
       tail = ap (λ u. u.tail) a.now;
       capacity = ap (λ u. u.capacity) a.now;
       alloc = ap (λ u. u.alloc) a.now;
-      cost = ap (λ u. u.cost) a.now ∙ cost-of v.block.before v.block.cost a.count a.left
+      cost = ap (λ u. u.cost) a.now ∙ cost-of v.block.gap v.block.cost a.count a.left
           (picked-room R (λ s. s.pick) a.count v.picks v.block.rest t a.left a.run);
     }

@@ -23,7 +23,7 @@ returns g c =
     ] in
     let dropped = c.drop_rest.ensures
     ∙ (λ i. let h = c.into_inner-block.ensures.value i in
-    record h { before = h.before + length h.rest + h.after; rest = []; after = 0 }) in
+    record h { gap = h.gap + length h.rest + h.gap_after; rest = []; gap_after = 0 }) in
     let f = subst
     (λ b. IsFinished steps g.I.Iterator.can_next g.I.Iterator.remaining rule T b a s w r) dropped
     (subst

@@ -1,0 +1,28 @@
+-- Lemmas about `retain_mut` with a closure that returns what a keeper returns.
+use Rattle.std.proofs.Common.{◌≡◌, Bool, true, List, [], ◌∷◌, sym, ap, ◌∙◌}
+use Rattle.thin_vec.specs.Edits.Retain.{Asked, IsRetained, left_at}
+use Rattle.thin_vec.specs.ThinVec.{Thin}
+use Rattle.thin_examples.specs.Keepers.{asked_by}
+
+module _ {F J T : Type 0} (R : F → T → Bool → F → T → Type 0) (state : F → J)
+    (keeps : J → T → Bool × (T × J))
+    (one : (f : F) (x : T) (b : Bool) (g : F) (y : T) → R f x b g y
+    → keeps (state f) x ≡ (b, (y, state g))) where
+  -- if each call of the closure does what the keeper does, its answers about the items xs are the
+  -- answers of the keeper
+  answers-are : (f : F) (xs : List T) (qs : List (Bool × T)) (t : F) → Asked R f xs qs t
+      → qs ≡ asked_by keeps (state f) xs
+  answers-are f [] qs t a = a.0
+  answers-are f (x ∷ xs) qs t a =
+      let e : keeps (state f) x ≡ (a.0, (a.1, state a.2)) = one f x a.0 a.2 a.1 a.4 in
+      let here : Bool × T = ((keeps (state f) x).0, (keeps (state f) x).1.0) in
+      a.6 ∙ (ap (λ (p : Bool × (T × J)). (p.0, p.1.0) ∷ a.3) (sym e)
+      ∙ ap (λ (l : List (Bool × T)). here ∷ l) (answers-are a.2 xs a.3 t a.5
+      ∙ ap (λ (p : Bool × (T × J)). asked_by keeps p.1.1 xs) (sym e)))
+
+  -- if each call of the closure does what the keeper does, the items left are those that the keeper
+  -- keeps
+  pub retained-by : {A : Type 0} (f : F) (v w : Thin T A) → IsRetained R f v w
+      → w.items ≡ left_at true (asked_by keeps (state f) v.items)
+  retained-by f v w r = r.1.items
+      ∙ ap (left_at true) (answers-are f v.items r.1.verdicts r.0 r.1.asked)

@@ -1,0 +1,9 @@
+-- `keep_judged`: the closure returns what its keeper returns, so the items left are those that the
+-- keeper keeps.
+use Rattle.std.proofs.Common.{rules}
+use Rattle.thin_examples.proofs.KeeperLemmas.{retained-by}
+use Rattle.thin_examples.proofs.filtering.keep_by.Goals as goal
+
+pub returns-clause-items : goal.returns-clause-items
+returns-clause-items g c = retained-by _ (λ f. f.0) g.J.Keeper.keeps
+    (λ f x b t y k. search rules) _ _ _ c.retain_mut.ensures.retained

@@ -1,0 +1,13 @@
+-- The two calls of the closure, and the comparison of their keys, in order.
+use Rattle.std.proofs.Common.{rules}
+use Rattle.thin_vec.proofs.edits.dedup.KeyingPairTest.test.Goals as goal
+
+pub returns-clause-asked : goal.returns-clause-asked
+returns-clause-asked g c = record {
+  between = c.key-key.new.self;
+  key = c.key-key.result;
+  other = c.key.result;
+  first = search rules;
+  second = search rules;
+  compared = search rules;
+}

@@ -1,0 +1,13 @@
+-- An item goes where the closure returns true: what it returns is negated twice.
+use Rattle.std.proofs.Common.{Bool, rules, sym, subst}
+use Rattle.std.specs.Fn.{CalledAtMut}
+use Rattle.thin_vec.proofs.edits.ExtractIfLemmas.{not-not}
+use Rattle.thin_vec.proofs.edits.extract_if.PicksTest.test.Goals as goal
+
+-- what the closure returns is negated twice
+pub returns-clause-asked : goal.returns-clause-asked
+returns-clause-asked g c =
+    let called : CalledAtMut g.F.FnMut c.args.self.now.pick c.args.item.now c.pick.result
+    c.pick.new.self c.pick.new.arg2 = search rules in
+    subst (λ (b : Bool). CalledAtMut g.F.FnMut c.args.self.now.pick c.args.item.now b
+    c.pick.new.self c.pick.new.arg2) (sym (not-not c.pick.result)) called

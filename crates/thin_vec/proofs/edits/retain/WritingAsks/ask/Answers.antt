@@ -1,6 +1,0 @@
--- An item stays where the closure says so, as it left it.
-use Rattle.std.proofs.Common.{arith, ◌∙◌}
-use Rattle.thin_vec.proofs.edits.retain.WritingAsks.ask.Goals as goal
-
-pub returns-clause-asked : goal.returns-clause-asked
-returns-clause-asked g c = search (arith, ◌∙◌)

@@ -1,0 +1,48 @@
+-- The slot of the item is filled, and then holds the item as it was left.
+use Rattle.std.proofs.Common.{◌<◌, ◌+◌, refl, ap, sym, ◌∙◌, arith, length}
+use Rattle.thin_block.specs.Lends.{with_item}
+use Rattle.thin_vec.specs.OpenBlock.{open_of}
+use Rattle.thin_vec.proofs.OpenBlockLemmas.{rest-filled}
+use Rattle.thin_vec.proofs.open_block.SiftLemmas.{Written, write-step}
+use Rattle.thin_vec.proofs.open_block.OpenBlock.test.Goals as goal
+
+pub slot_mut-requires : goal.slot_mut-requires
+slot_mut-requires g c =
+    let h = c.self.inside in
+    let o = c.self.invariant in
+    record {
+      filled = rest-filled h (open_of h) o (h.rest_start + c.args.k) (omega arith)
+          (omega (arith, o.rest, c.requires.in_bounds, ap (λ v. length v.rest) c.self.view_is));
+    }
+
+low : (g : _) (c : goal.After-self-1 g) → c.args.k < length (open_of c.self.inside).rest
+low g c = omega (arith, c.requires.in_bounds, ap (λ v. length v.rest) c.self.view_is)
+
+-- the item that was asked about, and what the block shows afterwards
+facts : (g : _) (c : goal.After-self-1 g) → Written c.self.inside c.self.invariant
+    (with_item c.self.inside.block (c.self.inside.rest_start + c.args.k) c.test.new.item)
+    c.args.k (low g c) c.slot_mut.result.now c.test.new.item
+facts g c = write-step c.self.inside c.self.invariant
+    (with_item c.self.inside.block (c.self.inside.rest_start + c.args.k) c.test.new.item)
+    c.args.k (low g c) c.slot_mut.result.now c.test.new.item c.slot_mut.ensures.value refl
+
+pub invariant_of-self : goal.invariant_of-self
+invariant_of-self g c = (facts g c).shown.lies
+
+pub returns-clause-asked : goal.returns-clause-asked
+returns-clause-asked g c =
+    let f = facts g c in
+    record {
+      before = f.pre;
+      item = c.slot_mut.result.now;
+      left = c.test.new.item;
+      after = f.post;
+      place = f.place;
+      was = sym (ap (λ v. v.rest) c.self.view_is) ∙ f.was;
+      asked = c.test.ensures.asked;
+      now = ap (λ v. v.rest) f.shown.view;
+    }
+
+pub returns-clause-changes : goal.returns-clause-changes
+returns-clause-changes g c = let seen = (facts g c).shown.view in
+    seen ∙ (λ i. record (c.self.view_is i) { rest = (sym seen i).rest })

@@ -1,0 +1,35 @@
+-- The first item stays unasked; one item more stays, or it goes and ends the run.
+use Rattle.std.proofs.Common.{arith, refl, rules}
+use Rattle.thin_vec.proofs.edits.DedupLemmas.{pair-goes, pair-more, pair-start}
+use Rattle.std.proofs.lemmas.Grind.{common_steps}
+use Rattle.thin_vec.proofs.open_block.OpenBlock.test_pairs.Goals as goal
+
+pub loop-kept-init : goal.loop-kept-init
+loop-kept-init g c = record {
+  stays = pair-start g.J.PairTest.tests c.args.test.now c.args.self.now.rest c.requires.some;
+  ready = c.requires.ready;
+  same = refl;
+}
+
+pub returns-then-test_pair-clause-asked : goal.returns-then-test_pair-clause-asked
+returns-then-test_pair-clause-asked g c =
+    let l = c.loop-kept in
+    pair-goes g.J.PairTest.tests l.kept c.args.test.now c.args.self.now.rest l.test l.self.rest
+    l.invariant.stays c.test_pair.new.test c.test_pair.new.self.rest (search rules)
+
+pub loop-kept-preserved : goal.loop-kept-preserved
+loop-kept-preserved g c =
+    let l = c.loop-kept in
+    record {
+      stays = pair-more g.J.PairTest.tests l.kept c.args.test.now c.args.self.now.rest l.test
+          l.self.rest l.invariant.stays c.test_pair.new.test
+          c.test_pair.new.self.rest (search rules);
+      ready = search rules;
+      same = search rules;
+    }
+
+pub loop-kept-smaller : goal.loop-kept-smaller
+loop-kept-smaller g c = grind (arith, common_steps)
+
+pub returns-clause-asked : goal.returns-clause-asked
+returns-clause-asked g c = grind (arith, common_steps)

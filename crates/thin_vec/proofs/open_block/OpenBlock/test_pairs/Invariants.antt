@@ -1,0 +1,14 @@
+-- Each item so far stays, and nothing else of the block has changed.
+use Rattle.std.proofs.Common.{◌≡◌, ◌-◌, length}
+use Rattle.thin_vec.proofs.edits.DedupLemmas.{PairStays}
+use Rattle.thin_vec.proofs.open_block.OpenBlock.test_pairs.Given as goal
+
+abbrev pub invariant-loop-kept : goal.invariant-loop-kept
+invariant-loop-kept g l = record {
+  stays : PairStays g.J.PairTest.tests l.kept l.fn.test l.fn.self.rest l.test l.self.rest;
+  ready : g.J.PairTest.ready l.test;
+  same : l.self ≡ record l.fn.self { rest = l.self.rest };
+}
+
+abbrev pub decreases-loop-kept : goal.decreases-loop-kept
+decreases-loop-kept g l = length l.self.rest - l.kept

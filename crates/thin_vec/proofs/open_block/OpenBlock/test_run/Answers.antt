@@ -1,0 +1,35 @@
+-- One item more was asked about and stays, or it goes and ends the run.
+use Rattle.std.proofs.Common.{arith, refl, rules}
+use Rattle.thin_vec.proofs.RetainLemmas.{stays-goes, stays-more, stays-start}
+use Rattle.std.proofs.lemmas.Grind.{common_steps}
+use Rattle.thin_vec.proofs.open_block.OpenBlock.test_run.Goals as goal
+
+pub loop-at-init : goal.loop-at-init
+loop-at-init g c = record {
+  stays = stays-start g.J.Test.tests c.args.k c.args.test.now
+      c.args.self.now.rest c.requires.in_bounds;
+  ready = c.requires.ready;
+  same = refl;
+}
+
+pub returns-then-not-test-clause-asked : goal.returns-then-not-test-clause-asked
+returns-then-not-test-clause-asked g c =
+    let l = c.loop-at in
+    stays-goes g.J.Test.tests c.args.k l.at c.args.test.now c.args.self.now.rest l.test l.self.rest
+    l.invariant.stays c.test.new.test c.test.new.self.rest (search rules)
+
+pub loop-at-preserved : goal.loop-at-preserved
+loop-at-preserved g c =
+    let l = c.loop-at in
+    record {
+      stays = stays-more g.J.Test.tests c.args.k l.at c.args.test.now c.args.self.now.rest l.test
+          l.self.rest l.invariant.stays c.test.new.test c.test.new.self.rest (search rules);
+      ready = search rules;
+      same = search rules;
+    }
+
+pub loop-at-smaller : goal.loop-at-smaller
+loop-at-smaller g c = grind (arith, common_steps)
+
+pub returns-clause-asked : goal.returns-clause-asked
+returns-clause-asked g c = grind (arith, common_steps)

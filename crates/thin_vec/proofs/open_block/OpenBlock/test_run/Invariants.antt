@@ -1,0 +1,14 @@
+-- Each item so far stays, and nothing else of the block has changed.
+use Rattle.std.proofs.Common.{◌≡◌, ◌-◌, length}
+use Rattle.thin_vec.proofs.RetainLemmas.{Stays}
+use Rattle.thin_vec.proofs.open_block.OpenBlock.test_run.Given as goal
+
+abbrev pub invariant-loop-at : goal.invariant-loop-at
+invariant-loop-at g l = record {
+  stays : Stays g.J.Test.tests l.fn.k l.at l.fn.test l.fn.self.rest l.test l.self.rest;
+  ready : g.J.Test.ready l.test;
+  same : l.self ≡ record l.fn.self { rest = l.self.rest };
+}
+
+abbrev pub decreases-loop-at : goal.decreases-loop-at
+decreases-loop-at g l = length l.self.rest - l.at
