@@ -1,5 +1,5 @@
 -- Which capacities are no overflow, for callers at a known type.
-use Rattle.std.proofs.Common.{if◌then◌else◌, Bool, true, false, ◌≡◌, ℕ, zero, suc, ◌-◌, ◌*◌, ◌^◌, ◌<◌, ◌≤◌, arith, IfErr, Option, Result, Ok, Err, Some, None, inl, inr, refl, sym, ◌∙◌}
+use Rattle.std.proofs.Common.{if◌then◌else◌, Bool, true, false, ◌≡◌, ℕ, zero, suc, ◌+◌, ◌-◌, ◌*◌, ◌^◌, ◌<◌, ◌≤◌, ap, arith, length, IfErr, Option, Result, Ok, Err, Some, None, inl, inr, refl, sym, ◌∙◌}
 use Rattle.std.specs.Borrow.{RattleType}
 use Rattle.std.specs.Align.{type_align}
 use Rattle.std.specs.Mem.{type_size}
@@ -11,7 +11,8 @@ use Rattle.thin_block.specs.Capacity.{first, fits}
 use Rattle.thin_block.specs.Growth.{doubling, exact_capacity, fitting, ruled_capacity}
 use Rattle.thin_block.proofs.CapacityLemmas.{exact-fits, exact-same, ruled-overflow, ruled-rule, ruled-same, small_fits}
 use Rattle.thin_block.proofs.Outcomes.{some-same}
-use Rattle.thin_vec.specs.ThinVec.{IsCause}
+use Rattle.thin_vec.specs.List.Capacity.{Reserves, TellsOverflow}
+use Rattle.thin_vec.specs.ThinVec.{IsCause, Thin}
 
 -- fewer than 2 ^ 31 items of fewer than 2 ^ 31 bytes have a capacity
 pub exact-few : (R : RattleType) (n : ℕ) → n < 2 ^ 31 → type_size R < 2 ^ 31
@@ -31,11 +32,12 @@ cause-named named n CapacityOverflow here told = none_some n (sym (told refl) �
 
 -- a call that wants room for few items fails only as `OutOfMemory`
 pub few_items : {X : Type 0} (R : RattleType) (n : ℕ) (result : Result X ThinVecError)
-    → n < 2 ^ 31 → type_size R < 2 ^ 31 → IfErr result (IsCause (exact_capacity R 0 n))
+    → n < 2 ^ 31 → type_size R < 2 ^ 31 → TellsOverflow (exact_capacity R 0 n) result
     → IfErr result (λ cause. cause ≡ OutOfMemory)
 few_items R n (Ok made) few small told = tt
 few_items R n (Err cause) few small told =
-    cause-named (exact_capacity R 0 n) n cause (exact-few R n few small) told
+    cause-named (exact_capacity R 0 n) n cause (exact-few R n few small)
+    (λ over. told.overflow.0 (ap Err over))
 
 -- a test of two small numbers is small
 either_few : (b : Bool) (m n : ℕ) → m < 2 ^ 31 → n < 2 ^ 31 → (if b then m else n) < 2 ^ 31
@@ -62,13 +64,14 @@ doubling-few R c w few small = elim (cases_lt c w) [
 ]
 
 -- a call that wants room for few items more fails only as `OutOfMemory`
-pub few_more : {X : Type 0} (R : RattleType) (c w : ℕ) (result : Result X ThinVecError)
-    → w < 2 ^ 30 → type_size R < 2 ^ 31 → IfErr result (IsCause (ruled_capacity doubling R c w))
-    → IfErr result (λ cause. cause ≡ OutOfMemory)
-few_more R c w (Ok made) few small told = tt
-few_more R c w (Err cause) few small told =
-    let named = doubling-few R c w few small in
-    cause-named (ruled_capacity doubling R c w) named.0 cause named.1 told
+pub few_more : {X T A : Type 0} (R : RattleType) (k : ℕ) (v w : Thin T A)
+    (result : Result X ThinVecError) → length v.items + k < 2 ^ 30 → type_size R < 2 ^ 31
+    → Reserves doubling R k v w result → IfErr result (λ cause. cause ≡ OutOfMemory)
+few_more R k v w (Ok made) few small told = tt
+few_more R k v w (Err cause) few small told =
+    let named = doubling-few R v.capacity (length v.items + k) few small in
+    cause-named (ruled_capacity doubling R v.capacity (length v.items + k)) named.0 cause named.1
+    (λ over. told.overflow.0 (ap Err over))
 
 -- where the test names a capacity, it is that one
 named-by : (b : Bool) (m n : ℕ) → (if b then Some m else None) ≡ Some n → m ≡ n
