@@ -26,3 +26,7 @@ error_passes cause e same = let equal : cause ≡ e = cc in ap Err equal
 -- where there was no error there is none
 pub ok_passes : {X Y E : Type 0} (x : X) (y : Y) (e : E) → IsErrOf (Ok x) e → IsErrOf (Ok y) e
 ok_passes x y e same = cc
+
+-- equal errors have equal causes
+pub same_cause : {X E : Type 0} {d e : E} → IsErrOf {T = X} (Err d) e → d ≡ e
+same_cause same = cc

@@ -1,5 +1,5 @@
 -- At the end all rows are there; a row as `with_capacity` sees it has the same size and alignment.
-use Rattle.std.proofs.Common.{◌≡◌, ◌∙◌, ap, arith, refl, replicate}
+use Rattle.std.proofs.Common.{Err, ◌≡◌, ◌∙◌, ap, arith, refl, replicate}
 use Rattle.std.specs.FinMap as map
 use Rattle.thin_rows.proofs.RowTypeLemmas.{error_passes, exact_of_same, ok_passes}
 use Rattle.thin_rows.proofs.table.Rows.with_rows.Goals as goal
@@ -12,12 +12,12 @@ returns-clause-table g c =
 
 pub returns-in-Err-clause-overflow : goal.returns-in-Err-clause-overflow
 returns-in-Err-clause-overflow g c none = error_passes _ _
-    (c.in-Err.ensures.overflow (exact_of_same _ _ 0 c.args.rows refl refl ∙ none))
+    (c.in-Err.ensures.overflow.overflow.1 (exact_of_same _ _ 0 c.args.rows refl refl ∙ none))
 
 pub returns-in-Err-clause-cause : goal.returns-in-Err-clause-cause
 returns-in-Err-clause-cause g c is = exact_of_same _ _ 0 c.args.rows refl refl
-    ∙ c.in-Err.ensures.cause is
+    ∙ c.in-Err.ensures.overflow.overflow.0 (ap Err is)
 
 pub returns-clause-overflow : goal.returns-clause-overflow
 returns-clause-overflow g c none = ok_passes _ _ _
-    (c.in-Ok.ensures.overflow (exact_of_same _ _ 0 c.args.rows refl refl ∙ none))
+    (c.in-Ok.ensures.overflow.overflow.1 (exact_of_same _ _ 0 c.args.rows refl refl ∙ none))
