@@ -29,3 +29,11 @@ error_passes cause e same = let equal : cause ≡ e = cc in ap Err equal
 -- `Ok`
 pub ok_passes : {X Y E : Type 0} (x : X) (y : Y) (e : E) → IsErrOf (Ok x) e → IsErrOf (Ok y) e
 ok_passes x y e same = cc
+
+-- equal errors have equal causes
+pub same_cause : {X E : Type 0} {d e : E} → IsErrOf {T = X} (Err d) e → d ≡ e
+same_cause same = cc
+
+-- no `Ok` is an error
+pub made_no_error : {X E P : Type 0} (x : X) (e : E) → IsErrOf (Ok x) e → P
+made_no_error x e same = cc

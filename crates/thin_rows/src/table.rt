@@ -1,5 +1,5 @@
 //! The sparse table `Rows`: its type, its model in contracts, and its methods.
-ghost use Rattle.std.specs.Prelude.{◌≡◌, ◌↔◌, ◌+◌, ◌-◌, ◌^◌, ◌<◌, IfErr, IfOk, IsErrOf, IsOk, IsSome, IsTrue, None, OnErr, OnOk, length, map, min, replicate, sum};
+ghost use Rattle.std.specs.Prelude.{◌≡◌, ◌↔◌, ◌+◌, ◌-◌, ◌^◌, ◌<◌, IfErr, IfOk, IsOk, IsSome, IsTrue, None, OnErr, OnOk, length, map, min, replicate, sum};
 ghost use Rattle.std.specs.FinMap as columns;
 ghost use Rattle.std.specs.List.Sorted.{IsStrictlyIncreasing};
 ghost use Rattle.std.specs.Option.{option_copied};
@@ -36,7 +36,7 @@ impl<V, A: Allocator> Model for Rows<V, A> {
 
 impl<V, A: Allocator + Copy> Rows<V, A> {
     ghost use Rattle.thin_vec.specs.Growth.{exact_capacity};
-    ghost use Rattle.thin_vec.specs.ThinVec.{IsCause};
+    ghost use Rattle.thin_vec.specs.List.Capacity.{TellsOverflow};
     ghost use Rattle.thin_rows.specs.RowType.{row_type};
 
     /// Makes a table of `rows` rows without entries. It allocates one block, or none if `rows` is
@@ -47,12 +47,10 @@ impl<V, A: Allocator + Copy> Rows<V, A> {
     /// Fails with `CapacityOverflow` if that many rows do not fit into a block, and with
     /// `OutOfMemory` if the allocator fails.
     pub fn with_rows(alloc: A, rows: usize) -> Result<Rows<V, A>, ThinVecError>
-        ensures succeeds { rows ≡ 0 → IsOk result }
-        ensures overflow { exact_capacity (row_type V.row A.row A.Allocator) 0 rows ≡ None
-            → IsErrOf result ThinVecError.CapacityOverflow }
-        ensures cause { IfErr result
-            (IsCause (exact_capacity (row_type V.row A.row A.Allocator) 0 rows)) }
         ensures table { IfOk result (λ table. table ≡ replicate rows columns.empty) }
+        ensures succeeds { rows ≡ 0 → IsOk result }
+        ensures overflow { TellsOverflow
+            (exact_capacity (row_type V.row A.row A.Allocator) 0 rows) result }
     {
         let mut empty_rows = match ThinVec::with_capacity(alloc, rows) {
             Ok(made) => made,

@@ -2,7 +2,7 @@
 use Rattle.std.proofs.Common.{◌≡◌, ℕ, ◌<◌, ◌⊎◌, List, [], ◌∷◌, Some, refl, length, inl, inr, arith}
 use Rattle.std.specs.Borrow.{RattleType}
 use Rattle.std.specs.Prelude.{HoldsAt}
-use Rattle.thin_vec.specs.List.Clones.{IsCloneRefused}
+use Rattle.thin_vec.specs.List.Clones.{CostsUpToClone}
 use Rattle.thin_vec.specs.Cost.{moving}
 use Rattle.thin_vec.specs.Growth.{Rule}
 use Rattle.thin_vec.specs.ThinVec.{Thin, capacity_for, cost_at}
@@ -33,17 +33,19 @@ module _ {T A : Type 0} where
     -- if a call that clones fails, and leaves the items and the allocator unchanged, then either
     -- nothing changed, or the capacity is the ruled one and a source could not be cloned, after one
     -- move for each source before it
-    pub refuses-clone : {R : RattleType} {infallible : T → Type 0} {sources : List T} {k : ℕ}
+    pub refuses-clone : (R : RattleType) (k : ℕ) {infallible : T → Type 0} {sources : List T}
         {v w : Thin T A} → w.items ≡ v.items → w.alloc ≡ v.alloc
-        → (w ≡ v) ⊎ IsCloneRefused rule R infallible sources k v w
+        → (w ≡ v) ⊎ (capacity_for rule R v k ≡ Some w.capacity)
+        → (w ≡ v) ⊎ CostsUpToClone infallible sources v w
         → (w ≡ v) ⊎ ((at : ℕ) × (at < length sources)
         × HoldsAt (λ x. ¬ (infallible x)) sources at
         × ((capacity_for rule R v k ≡ Some w.capacity) × (w ≡ grown v w.capacity v.items at)))
-    refuses-clone same alloc (inl e) = inl e
-    refuses-clone {v = v} {w} same alloc (inr r) =
+    refuses-clone R k same alloc (inl e) _ = inl e
+    refuses-clone R k same alloc (inr _) (inl e) = inl e
+    refuses-clone R k {v = v} {w} same alloc (inr capacity) (inr r) =
         inr (
-          r.stopped.at,
-          r.stopped.in_bounds,
-          r.stopped.fallible,
-          (r.capacity, is-grown v w v.items r.stopped.at same r.stopped.cost alloc),
+          r.at,
+          r.in_bounds,
+          r.fallible,
+          (capacity, is-grown v w v.items r.at same r.cost alloc),
         )

@@ -1,13 +1,13 @@
 -- After the entry of the column is overwritten, or a new entry is inserted at its index, the
 -- entries represent the map with the value inserted.
-use Rattle.std.proofs.Common.{inl, inr, ◌≡◌, ◌+◌, sym, ap, ◌∙◌, length, length-set, arith, refl, Some}
+use Rattle.std.proofs.Common.{Err, inl, inr, ◌≡◌, ◌+◌, sym, ap, ◌∙◌, length, length-set, arith, refl, Some}
 use Rattle.std.proofs.lemmas.Bool.{cases_lt, false≢true}
 use Rattle.std.specs.FinMap.{len}
 use Rattle.thin_vec.specs.Growth.{doubling}
 use Rattle.std.proofs.lemmas.Option.{get_or_from_slice_get}
 use Rattle.std.proofs.lemmas.List.Edits.{length-insert}
 use Rattle.thin_rows.proofs.RowLemmas.{get_at, get_gap, insert_is, insert_rises, len_is, set_is, set_rises}
-use Rattle.thin_rows.proofs.RowTypeLemmas.{ruled_of_same}
+use Rattle.thin_rows.proofs.RowTypeLemmas.{ruled_of_same, same_cause}
 use Rattle.thin_rows.proofs.row.Row.set.Goals as goal
 
 -- the column had an entry, which is overwritten
@@ -52,7 +52,7 @@ invariant_of-self-in-Err g c =
           gap c.args.value);
       block = (
         λ _. rw (items, longer) (omega arith),
-        λ some. omega (arith, c.in_default.ensures.within.1.room),
+        λ some. omega (arith, c.in_default.ensures.keeps.within.1.room),
       );
     }
 
@@ -71,12 +71,12 @@ returns-in-Err-insert-clause-cause g c = λ over.
     sym (sym (len_is row.items c.self.invariant.rising) ∙ ap len c.self.view_is) in
     let full : len c.args.self.now ≡ row.capacity =
     elim (cases_lt row.capacity (length row.items + 1)) [
-      | inl few ↦ omega (arith, few, many, c.insert.ensures.within.0.room)
+      | inl few ↦ omega (arith, few, many, c.insert.ensures.keeps.within.0.room)
       | inr spare ↦ absurd (false≢true (c.in-Err-insert.ensures.succeeds spare))
     ] in
     ruled_of_same doubling _ _ (len c.args.self.now) row.capacity (len c.args.self.now + 1)
     (length row.items + 1) refl refl full (ap (λ k. k + 1) many)
-    ∙ c.in-Err-insert.ensures.cause over
+    ∙ c.in-Err-insert.ensures.reserves.overflow.0 (ap Err over)
 
 pub returns-in-Err-insert-clause-overflow : goal.returns-in-Err-insert-clause-overflow
 returns-in-Err-insert-clause-overflow g c = λ none.
@@ -85,12 +85,12 @@ returns-in-Err-insert-clause-overflow g c = λ none.
     sym (sym (len_is row.items c.self.invariant.rising) ∙ ap len c.self.view_is) in
     let full : len c.args.self.now ≡ row.capacity =
     elim (cases_lt row.capacity (length row.items + 1)) [
-      | inl few ↦ omega (arith, few, many, c.insert.ensures.within.0.room)
+      | inl few ↦ omega (arith, few, many, c.insert.ensures.keeps.within.0.room)
       | inr spare ↦ absurd (false≢true (c.in-Err-insert.ensures.succeeds spare))
     ] in
-    c.in-Err-insert.ensures.overflow
+    same_cause (c.in-Err-insert.ensures.reserves.overflow.1
     (sym (ruled_of_same doubling _ _ (len c.args.self.now) row.capacity (len c.args.self.now + 1)
-    (length row.items + 1) refl refl full (ap (λ k. k + 1) many)) ∙ none)
+    (length row.items + 1) refl refl full (ap (λ k. k + 1) many)) ∙ none))
 
 pub returns-in_default-clause-value : goal.returns-in_default-clause-value
 returns-in_default-clause-value g c =
