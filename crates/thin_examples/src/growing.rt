@@ -44,7 +44,6 @@ pub fn extend_below<A: Allocator, G: Growth>(
 ///
 /// Fails only if the allocator does. By the lemma `few_items`, so few numbers cannot overflow the
 /// capacity.
-#[tactic(auto, using(thin_vec::proofs::FewLemmas::few_items))]
 pub fn room_for_eight<A: Allocator>(alloc: A) -> Result<ThinVec<u64, A>, ThinVecError>
     ensures capacity { IfOk result (λ list. list.capacity ≡ 8) }
     ensures cause { IfErr result (λ cause. cause ≡ ThinVecError.OutOfMemory) }

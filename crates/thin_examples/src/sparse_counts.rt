@@ -15,7 +15,6 @@ use thin_vec::ThinVecError;
 ///
 /// Fails only if the allocator does. By the lemma `few_items`, so few rows cannot overflow the
 /// capacity.
-#[tactic(auto, using(thin_vec::proofs::FewLemmas::few_items))]
 pub fn for_a_week(alloc: Global) -> Result<Rows<u32>, ThinVecError>
     ensures table { IfOk result (λ counts. counts ≡ replicate 7 columns.empty) }
     ensures cause { IfErr result (λ cause. cause ≡ ThinVecError.OutOfMemory) }

@@ -1,0 +1,8 @@
+-- Eight numbers have an exact capacity, so the list cannot overflow.
+use Rattle.std.proofs.Common.{arith}
+use Rattle.thin_vec.proofs.FewLemmas.{few_items}
+use Rattle.thin_examples.proofs.growing.room_for_eight.Goals as goal
+
+pub returns-clause-cause : goal.returns-clause-cause
+returns-clause-cause g c =
+    few_items _ 8 _ (omega arith) (omega arith) c.with_capacity.ensures.overflow

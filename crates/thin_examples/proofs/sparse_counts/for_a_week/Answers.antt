@@ -1,0 +1,8 @@
+-- Seven rows have an exact capacity, so the table cannot overflow.
+use Rattle.std.proofs.Common.{arith}
+use Rattle.thin_vec.proofs.FewLemmas.{few_items}
+use Rattle.thin_examples.proofs.sparse_counts.for_a_week.Goals as goal
+
+pub returns-clause-cause : goal.returns-clause-cause
+returns-clause-cause c =
+    few_items _ 7 _ (omega arith) (omega arith) c.with_rows.ensures.overflow
