@@ -11,7 +11,7 @@ use Rattle.thin_block.specs.Capacity.{first, fits}
 use Rattle.thin_block.specs.Growth.{doubling, exact_capacity, fitting, ruled_capacity}
 use Rattle.thin_block.proofs.CapacityLemmas.{exact-fits, exact-same, ruled-overflow, ruled-rule, ruled-same, small_fits}
 use Rattle.thin_block.proofs.Outcomes.{some-same}
-use Rattle.thin_vec.specs.List.Capacity.{Reserves, TellsOverflow}
+use Rattle.thin_vec.specs.List.Capacity.{Reserves, TellsOverflowOf}
 use Rattle.thin_vec.specs.ThinVec.{IsCause, Thin}
 
 -- fewer than 2 ^ 31 items of fewer than 2 ^ 31 bytes have a capacity
@@ -32,7 +32,7 @@ cause-named named n CapacityOverflow here told = none_some n (sym (told refl) �
 
 -- a call that wants room for few items fails only as `OutOfMemory`
 pub few_items : {X : Type 0} (R : RattleType) (n : ℕ) (result : Result X ThinVecError)
-    → n < 2 ^ 31 → type_size R < 2 ^ 31 → TellsOverflow (exact_capacity R 0 n) result
+    → n < 2 ^ 31 → type_size R < 2 ^ 31 → TellsOverflowOf R n result
     → IfErr result (λ cause. cause ≡ OutOfMemory)
 few_items R n (Ok made) few small told = tt
 few_items R n (Err cause) few small told =

@@ -8,7 +8,7 @@ use Rattle.std.specs.declared.result.Result.TheVariants.{Ok, Err}
 use Rattle.std.specs.Iterator.{Count, Drains, IsFinite, Yields, size}
 use Rattle.thin_block.specs.Cost.{moving}
 use Rattle.thin_block.specs.Growth.{KeepsLaw, Rule, ruled_capacity}
-use Rattle.thin_vec.specs.List.Extend.{IsExtended, IsNamed}
+use Rattle.thin_vec.specs.List.Extend.{IsExtended, IsKeptOrRuled}
 use Rattle.thin_vec.specs.Put.{Gives, IsFilledBy}
 use Rattle.thin_vec.specs.declared.put.Filled.{Filled}
 use Rattle.thin_vec.specs.Edits.Splice.{IsStopCause, Stopped, left_of, with_between}
@@ -135,7 +135,7 @@ module _ {S T A : Type 0} {steps : S → Option T → S → Type 0} {can : S →
         → u.capacity ≡ v.capacity → IsExtended rule R u d n (remaining t)
         → IsExtended rule R (left_of v a) d n (remaining s)
     reached-extended rule R a d n same (inl e) =
-        inl (subst (λ c. IsNamed rule R c d n) same e)
+        inl (subst (λ c. IsKeptOrRuled rule R c d n) same e)
     reached-extended rule R a d n same (inr e) =
         let within : e.0 ≤ size (remaining t) = e.1 p.finite in
         let want : length v.front + length v.tail + (length xs + e.0) ≡ length u.items + e.0 =
@@ -174,18 +174,16 @@ module _ {S T A : Type 0} {steps : S → Option T → S → Type 0} {can : S →
         → HasTaken rule R (left_of v a) w (2 * length v.tail) (remaining s)
         → IsExtended rule R (left_of v a) w.capacity (length w.items) (remaining s)
         → IsFinished steps can remaining rule R v a s w (Ok x)
-    finished-ok x items taken named = record {
+    finished-ok x items taken ruled = record {
       succeeds = λ _. refl;
       succeeds_at_end = λ _ _. refl;
       items = items;
       taken = taken;
-      named = named;
+      ruled = ruled;
       placed = tt;
       range = tt;
+      at_end = tt;
       cause = tt;
-      held = tt;
-      full = tt;
-      err = tt;
     }
 
     -- what was placed before a tail, and what then became of the rest
@@ -195,31 +193,29 @@ module _ {S T A : Type 0} {steps : S → Option T → S → Type 0} {can : S →
         → (size (remaining t) ≡ 0 → IsOk r)
         → OnOk r ((ys : List T) × Drains steps t ys
         × (w.items ≡ (take end u.items ++ ys) ++ drop end u.items))
-        → IfErr r (λ refused. Stopped steps can remaining t [] refused.held.items
-        refused.in_hand refused.rest)
-        → IfErr r (λ refused. IsStopCause rule R w v.tail refused.held.items refused.in_hand
-        (remaining refused.rest) refused.cause)
+        → IfErr r (λ error. Stopped steps can remaining t [] error)
+        → IfErr r (λ error. IsStopCause rule R w v.tail (remaining error.rest) error)
         → OnErr r (w ≡ u)
         → HasTaken rule R (left_of v a) w (2 * length v.tail) (remaining s)
         → IsExtended rule R (left_of v a) w.capacity (length w.items) (remaining s)
         → IsFinished steps can remaining rule R v a s w r
-    finished-from {t} {u} {xs} {end} (Ok x) p some ends items placed cause err taken named =
+    finished-from {t} {u} {xs} {end} (Ok x) p some ends items placed cause err taken ruled =
         finished-ok x (
           xs ++ items.0,
-          drains-more steps can remaining s t xs items.0 p.gave items.1,
+          drains-more steps s t xs items.0 p.gave items.1,
           items.2 ∙ between-more v u.items xs items.0 end p.items p.ends,
         )
-        taken named
-    finished-from {t} {u} {xs} (Err e) p some ends items placed cause err taken named = record {
+        taken ruled
+    finished-from {t} {u} {xs} (Err e) p some ends items placed cause err taken ruled = record {
       succeeds = λ few. ends (omega (arith, few, p.full, p.nearer));
       succeeds_at_end = λ none _. absurd (omega (arith, some, ap length none));
       items = tt;
       taken = taken;
-      named = named;
+      ruled = ruled;
       placed = (
         xs,
         ap (λ z. z.items) err ∙ p.items,
-        stopped-more steps can remaining s t e.rest xs e.held.items e.in_hand p.gave placed,
+        stopped-more steps can remaining s t xs e p.gave placed,
       );
       range = λ _. omega (
         arith,
@@ -228,8 +224,6 @@ module _ {S T A : Type 0} {steps : S → Option T → S → Type 0} {can : S →
         p.ends,
         p.full,
       );
+      at_end = λ none. absurd (omega (arith, some, ap length none));
       cause = cause;
-      held = λ none. absurd (omega (arith, some, ap length none));
-      full = λ none. absurd (omega (arith, some, ap length none));
-      err = λ none. absurd (omega (arith, some, ap length none));
     }

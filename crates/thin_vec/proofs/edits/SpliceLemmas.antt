@@ -6,11 +6,10 @@ use Rattle.std.specs.Option.{option_to_list}
 use Rattle.std.specs.Prelude.{◌↔◌, IfErr, IsSome, MatchOption}
 use Rattle.std.specs.declared.result.Result.{Result}
 use Rattle.std.specs.declared.result.Result.TheVariants.{Ok, Err}
-use Rattle.std.specs.Iterator.{Count, Drains, IsFinite, Yields, YieldsThen, size}
+use Rattle.std.specs.Iterator.{Count, Drains, Yields, YieldsThen, size}
 use Rattle.thin_vec.specs.Cheap.{IsCheap}
-use Rattle.thin_vec.specs.List.Extend.{GaveUp, IsExtendCost, IsNamed, MustOverflow, Overflows}
+use Rattle.thin_vec.specs.List.Extend.{IsExtendCause, IsExtendCost, IsKeptOrRuled, MayOverflow, MustOverflow, PausedAfter}
 use Rattle.std.proofs.lemmas.Bool.Decides.{nat_tests}
-use Rattle.thin_block.specs.declared.errors.ThinVecError.{ThinVecError}
 use Rattle.thin_block.specs.declared.errors.ThinVecError.TheVariants.{CapacityOverflow, OutOfMemory}
 use Rattle.thin_block.specs.Cost.{Cost, moving}
 use Rattle.thin_block.specs.Growth.{KeepsLaw, Rule}
@@ -19,6 +18,8 @@ use Rattle.thin_vec.specs.Open.{Open, cost_closed, items_of}
 use Rattle.thin_vec.specs.Edits.Splice.{IsSpliced, IsStopCause, Stopped, left_of, with_between}
 use Rattle.thin_vec.specs.Edits.Finish.{HasTaken}
 use Rattle.thin_vec.specs.ThinVec.{HasRoomFor, Thin, capacity_for, cost_at}
+use Rattle.thin_vec.specs.declared.errors.ExtendRefused.{ExtendRefused}
+use Rattle.thin_vec.specs.declared.errors.SpliceRefused.{SpliceRefused}
 use Rattle.thin_vec.proofs.list.ExtendLemmas.{filled-reserved, loose-join, loose-le, loose-ruled, yields-join, yields-more}
 use Rattle.thin_vec.proofs.ThinVecLemmas.{cap-kept, cost_at-copied}
 
@@ -184,55 +185,59 @@ inserted-long xs ys at in_bounds =
       in_bounds,
     )
 
-module _ {S X : Type 0} (steps : S → Option X → S → Type 0) (can : S → Type 0)
-    (remaining : S → Count) where
+module _ {S X : Type 0} (steps : S → Option X → S → Type 0) where
   -- what was given up to the first `None`, after what was given before
   pub drains-more : (s t : S) (xs ys : List X) → Yields steps s xs t → Drains steps t ys
       → Drains steps s (xs ++ ys)
   drains-more s t xs ys before now =
       (now.0, (now.1.0, yields-join steps s t now.1.0 xs ys before now.1.1, now.1.2))
 
+module _ {S X A : Type 0} (steps : S → Option X → S → Type 0) (can : S → Type 0)
+    (remaining : S → Count) where
   -- what was held and in hand, after what was placed before
-  pub stopped-more : (s t rest : S) (xs held : List X) (in_hand : Option X) → Yields steps s xs t
-      → Stopped steps can remaining t [] held in_hand rest
-      → Stopped steps can remaining s xs held in_hand rest
-  stopped-more s t rest xs held in_hand before (inl now) =
-      let last : List X = option_to_list in_hand in
+  pub stopped-more : (s t : S) (xs : List X) (error : SpliceRefused X S A) → Yields steps s xs t
+      → Stopped steps can remaining t [] error → Stopped steps can remaining s xs error
+  stopped-more s t xs error before (inl now) =
+      let held = error.held.items in let last : List X = option_to_list error.in_hand in
       inl (
-        subst (λ l. Yields steps s l rest) (sym (append_assoc xs held last))
-            (yields-join steps s t rest xs (held ++ last) before now.0),
+        record {
+          gave = subst (λ l. Yields steps s l error.rest) (sym (append_assoc xs held last))
+              (yields-join steps s t error.rest xs (held ++ last) before now.0.gave);
+          can_next = now.0.can_next;
+          finite = now.0.finite;
+        },
         now.1,
-        now.2,
-        now.3,
       )
-  stopped-more s t rest xs held in_hand before (inr now) =
+  stopped-more s t xs error before (inr now) =
       inr (
         now.0,
         now.1,
-        (now.2.0, yields-join steps s t now.2.0 xs held before now.2.1, now.2.2),
+        (now.2.0, yields-join steps s t now.2.0 xs error.held.items before now.2.1, now.2.2),
       )
 
   -- where nothing is held
-  pub stopped-now : (s rest : S) (xs held : List X) (in_hand : Option X) → held ≡ []
-      → GaveUp steps s xs in_hand rest → can rest → IsFinite (remaining rest)
-      → Stopped steps can remaining s xs held in_hand rest
-  stopped-now s rest xs held in_hand none gave asked fin =
+  pub stopped-now : (s : S) (xs : List X) (error : SpliceRefused X S A) → error.held.items ≡ []
+      → PausedAfter steps can remaining s (xs ++ option_to_list error.in_hand) error.rest
+      → Stopped steps can remaining s xs error
+  stopped-now s xs error none paused =
       inl (
-        subst (λ l. Yields steps s (l ++ option_to_list in_hand) rest)
-            (sym (append-nil xs) ∙ ap (λ l. xs ++ l) (sym none)) gave,
+        record {
+          gave = subst (λ l. Yields steps s (l ++ option_to_list error.in_hand) error.rest)
+              (sym (append-nil xs) ∙ ap (λ l. xs ++ l) (sym none)) paused.gave;
+          can_next = paused.can_next;
+          finite = paused.finite;
+        },
         λ _. none,
-        asked,
-        fin,
       )
 
--- why a splice stopped
-module _ {T A : Type 0} (rule : Rule) (R : RattleType) (v : Thin T A) (tail held : List T)
-    (in_hand : Option T) (left : Count) (cause : ThinVecError) where
-  -- before a tail, at the hint
-  pub stop-at-hint : 0 < length tail → held ≡ [] → in_hand ≡ None
-      → (MustOverflow rule R v None left → cause ≡ CapacityOverflow)
-      → (cause ≡ CapacityOverflow → Overflows rule R v None left)
-      → IsStopCause rule R v tail held in_hand left cause
+-- let `finish` fail with the given error, and leave the list v; `left` bounds the rest of the iterator
+module _ {S T A : Type 0} (rule : Rule) (R : RattleType) (v : Thin T A) (tail : List T)
+    (left : Count) (error : SpliceRefused T S A) where
+  -- if there is a tail, no item is held and none is in hand, the cause follows from the hint
+  pub stop-at-hint : 0 < length tail → error.held.items ≡ [] → error.in_hand ≡ None
+      → (MustOverflow rule R v left → error.cause ≡ CapacityOverflow)
+      → (error.cause ≡ CapacityOverflow → MayOverflow rule R v left)
+      → IsStopCause rule R v tail left error
   stop-at-hint some none empty over why = record {
     by_hint = λ _ _. (over, why);
     by_held = λ more _. absurd (omega (arith, more, ap length none));
@@ -240,12 +245,12 @@ module _ {T A : Type 0} (rule : Rule) (R : RattleType) (v : Thin T A) (tail held
     by_push = λ no_tail. absurd (omega (arith, some, ap length no_tail));
   }
 
-  -- before a tail, at an item that was to be held, or at what was held
-  pub stop-at-held : 0 < length tail → (in_hand ≡ None → 0 < length held)
-      → (in_hand ≡ None
-      → (cause ≡ CapacityOverflow) ↔ (capacity_for rule R v (length held) ≡ None))
-      → (IsSome in_hand → cause ≡ OutOfMemory)
-      → IsStopCause rule R v tail held in_hand left cause
+  -- if there is a tail, and items are held or one is in hand, the cause follows from these items
+  pub stop-at-held : 0 < length tail → (error.in_hand ≡ None → 0 < length error.held.items)
+      → (error.in_hand ≡ None → (error.cause ≡ CapacityOverflow)
+      ↔ (capacity_for rule R v (length error.held.items) ≡ None))
+      → (IsSome error.in_hand → error.cause ≡ OutOfMemory)
+      → IsStopCause rule R v tail left error
   stop-at-held some more over memory = record {
     by_hint = λ none empty. absurd (omega (arith, more empty, ap length none));
     by_held = λ _ empty. over empty;
@@ -253,40 +258,30 @@ module _ {T A : Type 0} (rule : Rule) (R : RattleType) (v : Thin T A) (tail held
     by_push = λ no_tail. absurd (omega (arith, some, ap length no_tail));
   }
 
-  -- with no tail, as `extend` does
-  pub stop-at-end : tail ≡ [] → held ≡ []
-      → (MustOverflow rule R v in_hand left → cause ≡ CapacityOverflow)
-      → (cause ≡ CapacityOverflow → Overflows rule R v in_hand left)
-      → IsStopCause rule R v tail held in_hand left cause
-  stop-at-end no_tail none over why = record {
-    by_hint = λ _ empty. (
-      λ must. over (subst (λ o. MustOverflow rule R v o left) (sym empty) must),
-      λ is. subst (λ o. Overflows rule R v o left) empty (why is),
+  -- if there is no tail, and `extend` failed with the same cause, item in hand and rest, the cause
+  -- of the splice is as that of `extend`
+  pub stop-at-end : (e : ExtendRefused T S) → tail ≡ [] → error.held.items ≡ []
+      → error.cause ≡ e.cause → error.in_hand ≡ e.in_hand → IsExtendCause rule R v left e
+      → IsStopCause rule R v tail left error
+  stop-at-end e no_tail none same hand by = record {
+    by_hint = λ _ empty. let gone : e.in_hand ≡ None = sym hand ∙ empty in (
+      λ must. same ∙ by.must gone must,
+      λ is. by.may gone (sym same ∙ is),
     );
     by_held = λ more _. absurd (omega (arith, more, ap length none));
     by_in_hand = λ some _. absurd (omega (arith, some, ap length no_tail));
-    by_push = λ _ some. (
-      λ is. one in_hand some (why is),
-      λ now. over (must in_hand some now),
+    by_push = λ _ some. let push = by.by_push (subst IsSome hand some) in (
+      λ is. push.0 (sym same ∙ is),
+      λ now. same ∙ push.1 now,
     );
   }
-    where
-      must : (o : Option T) → IsSome o → capacity_for rule R v 1 ≡ None
-          → MustOverflow rule R v o left
-      must (Some x) some now = now
-      must None some now = absurd (false≢true some)
-
-      one : (o : Option T) → IsSome o → Overflows rule R v o left
-          → capacity_for rule R v 1 ≡ None
-      one (Some x) some now = now
-      one None some now = absurd (false≢true some)
 
 module _ (rule : Rule) (R : RattleType) where
   -- a ruled capacity was named for what it was ruled for
-  pub named-ruled : KeepsLaw rule → {T A : Type 0} (v : Thin T A) (k d n : ℕ)
+  pub kept-or-ruled : KeepsLaw rule → {T A : Type 0} (v : Thin T A) (k d n : ℕ)
       → capacity_for rule R v k ≡ Some d → length v.items + k ≤ n
-      → IsNamed rule R v.capacity d n
-  named-ruled law v k d n e less =
+      → IsKeptOrRuled rule R v.capacity d n
+  kept-or-ruled law v k d n e less =
       elim (cases_lt v.capacity (length v.items + k)) [
         | inl more ↦ inr (v.capacity, length v.items + k, more, less, e)
         | inr spare ↦ inl (cap-kept rule R law v k d spare e)

@@ -1,5 +1,5 @@
 -- What calls of `next` gave, and what a block and a list are once it was placed.
-use Rattle.std.proofs.Common.{true, ◌≡◌, ℕ, ◌+◌, ◌-◌, ◌<◌, ◌≤◌, List, [], ◌∷◌, ◌++◌, inl, inr, length, length-append, Option, Some, refl, sym, ap, subst, ◌∙◌, arith, false}
+use Rattle.std.proofs.Common.{true, ◌≡◌, ℕ, ◌+◌, ◌-◌, ◌<◌, ◌≤◌, List, [], ◌∷◌, ◌++◌, inl, inr, length, length-append, Option, None, Some, refl, sym, ap, subst, ◌∙◌, arith, false}
 use Rattle.std.proofs.lemmas.Bool.{cases_lt}
 use Rattle.std.proofs.lemmas.List.{map-append}
 use Rattle.std.specs.Borrow.{RattleType}
@@ -9,7 +9,7 @@ use Rattle.std.specs.Iterator.SizeHint.{IsWithinCount}
 use Rattle.std.specs.Iterator.Runs.{SomeRun, WholeRun}
 use Rattle.std.specs.declared.result.Result.{Result}
 use Rattle.std.specs.declared.result.Result.TheVariants.{Ok, Err}
-use Rattle.std.specs.Prelude.{OnOk, IfErr}
+use Rattle.std.specs.Prelude.{OnErr, OnOk, IfErr, IsSome, MatchOption}
 use Rattle.std.proofs.lemmas.Bool.{false≢true}
 use Rattle.std.specs.Option.{option_to_list}
 use lib.ListN.{set}
@@ -20,8 +20,9 @@ use Rattle.thin_block.specs.Slots.{full, laid}
 use Rattle.thin_block.proofs.CapacityLemmas.{ruled-grows}
 use Rattle.thin_block.proofs.SlotsLemmas.{laid-one}
 use Rattle.std.specs.Prelude.{◌⊎◌}
-use Rattle.thin_vec.specs.List.Extend.{GaveUp, IsCollected, IsExtendCost, IsLoose, IsNamed}
+use Rattle.thin_vec.specs.List.Extend.{IsCollected, IsExtendCost, IsKeptOrRuled, IsLoose, PausedAfter}
 use Rattle.thin_vec.specs.ThinVec.{Thin, capacity_for, cost_at}
+use Rattle.thin_vec.specs.declared.errors.ExtendRefused.{ExtendRefused}
 use Rattle.thin_vec.proofs.RetainLemmas.{moving-more, moving-none}
 use Rattle.thin_vec.proofs.ListLemmas.{length-full}
 use Rattle.thin_vec.proofs.ThinVecLemmas.{cap-kept, cost_at-more, cost_at-moves, cost_at-same}
@@ -59,23 +60,46 @@ module _ {S X : Type 0} (steps : S → Option X → S → Type 0) where
   run_of_ok s P (Err _) all = tt
 
 module _ {S X : Type 0} (steps : S → Option X → S → Type 0) (s : S) where
-  -- what calls yielded up to a failure, as a run
+  -- if calls of `next` yielded the items xs and then the item in o, if there is one, they are a run
+  -- of the iterator
   pub run_given : (xs : List X) (o : Option X) (t : S) (P : List X → Type 0)
-      → GaveUp steps s xs o t → P (xs ++ option_to_list o) → SomeRun steps s (λ p. P p.items)
+      → Yields steps s (xs ++ option_to_list o) t → P (xs ++ option_to_list o)
+      → SomeRun steps s (λ p. P p.items)
   run_given xs o t P gave h =
       (run steps s (xs ++ option_to_list o) false (t, gave, λ e. absurd (false≢true e)), refl, h)
 
-  -- what calls yielded up to a failure, as a run, where the result is `Err`
-  pub run_given_err : {E : Type 0} (hand : E → Option X) (rest : E → S)
-      (P : List X → Type 0) (r : Result (Unit {0}) E)
-      → IfErr r (λ e. (xs : List X) × P xs × GaveUp steps s xs (hand e) (rest e))
+  -- if the result is an error, and calls of `next` yielded the placed items and the item in hand,
+  -- these are a run of the iterator
+  pub run_given_err : {E : Type 0} (can : S → Type 0) (remaining : S → Count)
+      (hand : E → Option X) (rest : E → S) (P : List X → Type 0) (r : Result (Unit {0}) E)
+      → IfErr r (λ e. (xs : List X) × P xs
+      × PausedAfter steps can remaining s (xs ++ option_to_list (hand e)) (rest e))
       → IfErr r (λ e. SomeRun steps s
       (λ p. (xs : List X) × P xs × (p.items ≡ xs ++ option_to_list (hand e))))
-  run_given_err hand rest P (Ok _) all = tt
-  run_given_err hand rest P (Err e) all =
+  run_given_err can remaining hand rest P (Ok _) all = tt
+  run_given_err can remaining hand rest P (Err e) all =
       run_given all.0 (hand e) (rest e)
       (λ l. (xs : List X) × P xs × (l ≡ xs ++ option_to_list (hand e)))
-      all.2 (all.0, all.1, refl)
+      all.2.gave (all.0, all.1, refl)
+
+-- if o has a value and P holds, then the cases of o hold, the second of which is P
+pub match-some : {X : Type 0} (P Q : Type 0) (o : Option X) → IsSome o → P
+    → MatchOption o Q (λ _. P)
+match-some P Q (Some x) some p = p
+match-some P Q None some p = absurd (false≢true some)
+
+-- no option has a value and is `None`
+pub hand-empty : {X : Type 0} {o : Option X} → IsSome o → o ≡ None → ⊥
+hand-empty some none = false≢true (subst IsSome none some)
+
+-- if a failed call always has an item in hand, and then P holds, then for each error the cases of
+-- the item in hand hold, the second of which is P
+pub full-in-hand : {T S : Type 0} (P : Type 0) (Q : ExtendRefused T S → Type 0)
+    (r : Result (Unit {0}) (ExtendRefused T S)) → IfErr r (λ error. IsSome error.in_hand)
+    → OnErr r P → IfErr r (λ error. MatchOption error.in_hand (Q error) (λ _. P))
+full-in-hand P Q (Ok _) some at_capacity = tt
+full-in-hand P Q (Err error) some at_capacity =
+    match-some P (Q error) error.in_hand some at_capacity
 
 module _ {T : Type 0} where
   module _ (s s' r : List (Option T)) where
@@ -135,21 +159,21 @@ module _ (rule : Rule) (R : RattleType) (law : KeepsLaw rule) where
   loose-join c d e (inr p) q = inr (p.0, p.1, p.2, p.3, omega (arith, p.4, loose-le d e q))
 
   -- a capacity that was named for fewer was named for more
-  pub named-more : (c n m : ℕ) {d d' : ℕ} → d' ≡ d → n ≤ m → IsNamed rule R c d n
-      → IsNamed rule R c d' m
-  named-more c n m same more (inl e) = inl (same ∙ e)
-  named-more c n m same more (inr p) =
+  pub ruled-more : (c n m : ℕ) {d d' : ℕ} → d' ≡ d → n ≤ m → IsKeptOrRuled rule R c d n
+      → IsKeptOrRuled rule R c d' m
+  ruled-more c n m same more (inl e) = inl (same ∙ e)
+  ruled-more c n m same more (inr p) =
       inr (p.0, p.1, p.2, omega (arith, p.3, more), p.4 ∙ ap Some (sym same))
 
   -- a capacity that was named after another growth
-  pub named-after : (c d e n : ℕ) (P : Type 0) → IsNamed rule R d e n → (e ≡ d → P)
-      → IsNamed rule R c e n ⊎ P
-  named-after c d e n P (inl same) f = inr (f same)
-  named-after c d e n P (inr p) f = inl (inr p)
+  pub ruled-after : (c d e n : ℕ) (P : Type 0) → IsKeptOrRuled rule R d e n → (e ≡ d → P)
+      → IsKeptOrRuled rule R c e n ⊎ P
+  ruled-after c d e n P (inl same) f = inr (f same)
+  ruled-after c d e n P (inr p) f = inl (inr p)
 
   -- a list that took exactly as many places as a hint says
   pub collected-after : {c d : ℕ} (n h : ℕ) (left : Count) → IsWithinCount h left
-      → exact_capacity R 0 h ≡ Some c → IsNamed rule R c d n → IsCollected rule R d n left
+      → exact_capacity R 0 h ≡ Some c → IsKeptOrRuled rule R c d n → IsCollected rule R d n left
   collected-after n h left hint e (inl same) = inr (h, hint, e ∙ ap Some (sym same))
   collected-after n h left hint e (inr p) = inl p
 

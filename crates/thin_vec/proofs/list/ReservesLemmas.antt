@@ -1,14 +1,14 @@
 -- How the records `Keeps`, `Reserves` and `TellsOverflow` follow from the facts of a step.
-use Rattle.std.proofs.Common.{◌≡◌, ◌⊎◌, ℕ, ◌+◌, ◌≤◌, Err, None, Ok, Option, Result, Some, ap, arith, inl, inr, length, refl, subst, sym, ◌∙◌}
+use Rattle.std.proofs.Common.{◌≡◌, ℕ, ◌+◌, Err, Ok, Option, Result, Some, ap, arith, inl, inr, length, sym, ◌∙◌}
 use Rattle.std.specs.Borrow.{RattleType}
-use Rattle.std.specs.Prelude.{IfErr, IsErrOf}
+use Rattle.std.specs.Prelude.{IfErr}
 use Rattle.thin_block.specs.declared.errors.ThinVecError.{ThinVecError}
 use Rattle.thin_block.specs.declared.errors.ThinVecError.TheVariants.{CapacityOverflow, OutOfMemory}
-use Rattle.thin_block.specs.Growth.{Rule, ruled_capacity}
+use Rattle.thin_block.specs.Growth.{Rule, exact_capacity}
 use Rattle.thin_block.proofs.CapacityLemmas.{ruled-same}
 use Rattle.thin_block.proofs.Outcomes.{err-same, none-some, ok-err}
 use Rattle.thin_vec.specs.Cheap.{IsCheap}
-use Rattle.thin_vec.specs.List.Capacity.{Keeps, Reserves, TellsOverflow}
+use Rattle.thin_vec.specs.List.Capacity.{Keeps, Reserves, TellsOverflow, TellsOverflowOf}
 use Rattle.thin_vec.specs.ThinVec.{HasRoomFor, IsWithin, Thin, capacity_for}
 
 -- if a capacity was named, an `Ok` tells of no overflow
@@ -18,20 +18,24 @@ tells-ok x named n is = record {
   overflow = (λ e. ok-err x CapacityOverflow e, λ none. absurd (none-some none is));
 }
 
--- if one list was made, no overflow is told of, whichever list is returned
-pub tells-made : {X : Type 0} {x y : X} (named other : Option ℕ) → named ≡ other
-    → TellsOverflow named (Ok x) → TellsOverflow other (Ok y)
-tells-made {x = x} {y} named other e told = record {
+-- if m items of R and n items of S have the same exact capacity, and a call that made a list for the
+-- former succeeded, then a result `Ok` of a call that makes one for the latter tells no overflow
+pub tells-made : {X : Type 0} {x y : X} (R S : RattleType) (m n : ℕ)
+    → exact_capacity R 0 m ≡ exact_capacity S 0 n
+    → TellsOverflowOf R m (let r : Result X ThinVecError = Ok x in r)
+    → TellsOverflowOf S n (let r : Result X ThinVecError = Ok y in r)
+tells-made {x = x} {y} R S m n e told = record {
   overflow = (
     λ over. ok-err y CapacityOverflow over,
     λ none. ok-err x CapacityOverflow (told.overflow.1 (e ∙ none)),
   );
 }
 
--- what tells of an overflow for one named capacity does so for an equal one
-pub tells-same : {X : Type 0} {r : Result X ThinVecError} (named other : Option ℕ)
-    → named ≡ other → TellsOverflow named r → TellsOverflow other r
-tells-same named other e told = record {
+-- if m items of R and n items of S have the same exact capacity, a result that tells an overflow for
+-- the former tells it for the latter
+pub tells-same : {X : Type 0} {r : Result X ThinVecError} (R S : RattleType) (m n : ℕ)
+    → exact_capacity R 0 m ≡ exact_capacity S 0 n → TellsOverflowOf R m r → TellsOverflowOf S n r
+tells-same R S m n e told = record {
   overflow = (λ over. sym e ∙ told.overflow.0 over, λ none. told.overflow.1 (e ∙ none));
 }
 

@@ -8,7 +8,7 @@ use Rattle.std.specs.Borrow.{RattleType}
 use Rattle.thin_block.specs.declared.errors.ThinVecError.{ThinVecError}
 use Rattle.thin_block.specs.declared.errors.ThinVecError.TheVariants.{CapacityOverflow}
 use Rattle.thin_block.specs.Cost.{moving}
-use Rattle.thin_block.specs.Growth.{Rule}
+use Rattle.thin_block.specs.Growth.{Rule, exact_capacity}
 use Rattle.thin_vec.specs.Cheap.{IsCheap}
 use Rattle.thin_vec.specs.ThinVec.{Thin, HasRoomFor, IsWithin, capacity_for, cost_at}
 use Rattle.thin_vec.specs.declared.errors.Rejected.{Rejected}
@@ -23,6 +23,13 @@ causes (Err e) = Err e.cause
 pub record TellsOverflow {X : Type 0} (named : Option ℕ) (r : Result X ThinVecError) : Type 0
   where
     pub overflow : IsErrOf r CapacityOverflow ↔ (named ≡ None)
+
+-- r is the result of a call that makes a list with room for exactly n items: the error is
+-- `CapacityOverflow` if and only if n items have no exact capacity; any other failure is
+-- `OutOfMemory`
+pub record TellsOverflowOf {X : Type 0} (R : RattleType) (n : ℕ) (r : Result X ThinVecError) : Type 0
+  where
+    pub overflow : IsErrOf r CapacityOverflow ↔ (exact_capacity R 0 n ≡ None)
 
 module _ {T A : Type 0} where
   -- w has cost what v had cost, n moves more, and, if the capacity changed, one block more, into

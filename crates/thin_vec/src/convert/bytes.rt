@@ -3,9 +3,8 @@ ghost use Rattle.std.specs.Prelude.{◌≡◌, ◌+◌, ◌++◌, IfErr, IfOk, I
 ghost use Rattle.std.specs.Borrow.{u8};
 ghost use Rattle.std.specs.IoError.{error_kind};
 ghost use Rattle.thin_block.specs.Cost.{moving};
-ghost use Rattle.thin_block.specs.Growth.{exact_capacity};
 ghost use Rattle.thin_vec.specs.ThinVec.{HasRoomFor};
-ghost use Rattle.thin_vec.specs.List.Capacity.{Costs, Keeps, TellsOverflow, IsMade};
+ghost use Rattle.thin_vec.specs.List.Capacity.{Costs, Keeps, TellsOverflowOf, IsMade};
 
 use crate::list::ThinVec;
 use std::alloc::Allocator;
@@ -29,7 +28,7 @@ impl<A: Allocator> ThinVec<u8, A> {
 
         // On failure.
         ensures succeeds_empty { length text.now ≡ 0 → IsOk result }
-        ensures overflow { TellsOverflow (exact_capacity u8 0 (length text.now)) result }
+        ensures overflow { TellsOverflowOf u8 (length text.now) result }
     {
         ThinVec::from_copies(alloc, text.as_bytes())
     }

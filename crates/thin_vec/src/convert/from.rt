@@ -3,11 +3,10 @@ ghost use Rattle.std.specs.Prelude.{◌≡◌, ◌≤◌, [], IfErr, IfOk, IsOk,
 ghost use Rattle.std.specs.Box.{boxed_slice_items};
 ghost use Rattle.std.specs.List.{AllZip};
 ghost use Rattle.thin_block.specs.Cost.{moving};
-ghost use Rattle.thin_block.specs.Growth.{exact_capacity};
 ghost use Rattle.thin_block.specs.Slots.{empty};
 ghost use Rattle.thin_vec.specs.List.Clones.{ClonesEqual};
 ghost use Rattle.thin_vec.specs.ThinVec.{IsWithin, cost_new};
-ghost use Rattle.thin_vec.specs.List.Capacity.{TellsOverflow, IsMade, causes};
+ghost use Rattle.thin_vec.specs.List.Capacity.{TellsOverflowOf, IsMade, causes};
 
 use crate::errors::Rejected;
 use crate::list::ThinVec;
@@ -36,7 +35,7 @@ impl<T, A: Allocator> ThinVec<T, A> {
         // On failure the array is in the error.
         ensures succeeds { N ≡ 0 → IsOk result }
         ensures value_returned { IfErr result (λ error. error.value ≡ items) }
-        ensures overflow { TellsOverflow (exact_capacity T.row 0 N) (causes result) }
+        ensures overflow { TellsOverflowOf T.row N (causes result) }
     {
         match ThinVec::with_capacity(alloc, N) {
             Ok(mut list) => {
@@ -70,7 +69,7 @@ impl<T, A: Allocator> ThinVec<T, A> {
         // On failure the vector is in the error.
         ensures succeeds_empty { length items.items ≡ 0 → IsOk result }
         ensures value_returned { IfErr result (λ error. error.value ≡ items) }
-        ensures overflow { TellsOverflow (exact_capacity T.row 0 (length items.items)) (causes result) }
+        ensures overflow { TellsOverflowOf T.row (length items.items) (causes result) }
     {
         match ThinVec::with_capacity(alloc, items.len()) {
             Ok(mut list) => {
@@ -102,7 +101,8 @@ impl<T, A: Allocator> ThinVec<T, A> {
         // On failure the boxed slice is in the error.
         ensures succeeds_empty { length (boxed_slice_items items) ≡ 0 → IsOk result }
         ensures value_returned { IfErr result (λ error. error.value ≡ items) }
-        ensures overflow { TellsOverflow (exact_capacity T.row 0 (length (boxed_slice_items items))) (causes result) }
+        ensures overflow { TellsOverflowOf T.row (length (boxed_slice_items items))
+            (causes result) }
     {
         match ThinVec::with_capacity(alloc, items.len()) {
             Ok(mut list) => {
@@ -146,7 +146,7 @@ impl<T: Copy, A: Allocator> ThinVec<T, A> {
 
         // On failure.
         ensures succeeds_empty { length items.now ≡ 0 → IsOk result }
-        ensures overflow { TellsOverflow (exact_capacity T.row 0 (length items.now)) result }
+        ensures overflow { TellsOverflowOf T.row (length items.now) result }
     {
         match ThinVec::with_capacity(alloc, items.len()) {
             Ok(mut list) => {
@@ -176,7 +176,7 @@ impl<T: Clone, A: Allocator> ThinVec<T, A> {
 
         // On failure.
         ensures succeeds_empty { length items.now ≡ 0 → IsOk result }
-        ensures overflow { TellsOverflow (exact_capacity T.row 0 (length items.now)) result }
+        ensures overflow { TellsOverflowOf T.row (length items.now) result }
     {
         if !fits::<T>(items.len()) {
             return Err(ThinVecError::CapacityOverflow);

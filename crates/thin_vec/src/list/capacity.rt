@@ -4,7 +4,7 @@ ghost use Rattle.std.specs.Prelude.{◌≡◌, ◌+◌, ◌<◌, ◌≤◌, [], 
 ghost use Rattle.thin_block.specs.Capacity.{Fits};
 ghost use Rattle.thin_block.specs.Cost.{growing};
 ghost use Rattle.thin_block.specs.Growth.{Grows, exact_capacity};
-ghost use Rattle.thin_vec.specs.List.Capacity.{Keeps, Reserves, TellsOverflow, IsMade};
+ghost use Rattle.thin_vec.specs.List.Capacity.{Keeps, Reserves, TellsOverflow, TellsOverflowOf, IsMade};
 
 use crate::list::ThinVec;
 use std::alloc::Allocator;
@@ -244,7 +244,7 @@ impl<T, A: Allocator> ThinVec<T, A> {
 
         // On failure.
         ensures succeeds { capacity ≡ 0 → IsOk result }
-        ensures overflow { TellsOverflow (exact_capacity T.row 0 capacity) result }
+        ensures overflow { TellsOverflowOf T.row capacity result }
     {
         if !fits::<T>(capacity) {
             return Err(ThinVecError::CapacityOverflow);

@@ -12,7 +12,7 @@ use Rattle.thin_vec.specs.ThinVec.{IsCause}
 -- bytes
 pub returns-clause-overflow : goal.returns-clause-overflow
 returns-clause-overflow g c =
-    tells-same _ _ (exact-at _ u8 0 (length c.as_bytes.result.now) refl refl
+    tells-same _ _ _ _ (exact-at _ u8 0 (length c.as_bytes.result.now) refl refl
     ∙ ap (λ bytes. exact_capacity u8 0 (length bytes)) c.as_bytes.ensures.value)
     c.from_copies.ensures.overflow
 
