@@ -55,12 +55,13 @@ pub struct SpliceRefused<T, I, A: Allocator = Global> {
     /// The items that were taken from the iterator after the placed ones, and that are not in the
     /// list. The vector has the allocator that was passed to `finish`.
     pub held: Vec<T, A>,
-    /// The item that was taken from the iterator after the held ones, and for which there was no
-    /// room. It is `None` if the list could not get room for the size hint, or for the held items.
+    /// The item that was taken from the iterator after the ones in `held`, and for which there was
+    /// no room. It is `None` if the list could not get room for the size hint, or for the items in
+    /// `held`.
     pub in_hand: Option<T>,
-    /// The iterator, which yields the items that were not taken from it. If items are held and no
-    /// item is in hand, the iterator has returned `None` and must not be asked again. Otherwise, it
-    /// may be asked again.
+    /// The iterator, which yields the items that were not taken from it. If `held` is not empty and
+    /// `in_hand` is `None`, the iterator has returned `None`, and must not be asked again.
+    /// Otherwise, it may be asked again.
     pub rest: I,
 }
 

@@ -24,14 +24,15 @@ use std::alloc::{Allocator, Global};
 use std::marker::{Model, PhantomData};
 use thin_block::{Block, Doubling, Growth, ThinVecError};
 
-/// A growable list like Rust's `Vec`, one pointer wide in addition to its allocator: the length and
-/// the capacity are stored at the start of its allocation, which is called its *block*. A list of
-/// capacity 0 has no block.
+/// A growable list, like Rust's `Vec`, but one pointer wide if its allocator is zero-sized, as
+/// `Global` is. The length and the capacity are stored at the start of the allocation, which is
+/// called the *block* of the list. A list of capacity 0 has no block.
 ///
-/// The list owns its items, its block and its allocator, which has to free the block. The type `G`
-/// is the growth rule: it chooses the new capacity if there is too little room for new items. The
-/// default `Doubling` is the rule of the Rust crate thin-vec. Dropping a list drops its items and
-/// frees its block.
+/// The list owns its items, its block and its allocator. It needs the allocator to grow, and to
+/// free the block. Dropping a list drops its items and frees its block.
+///
+/// The type `G` is the growth rule: it chooses the new capacity if there is too little room for new
+/// items. The default `Doubling` is the rule of the Rust crate thin-vec.
 pub struct ThinVec<T, A: Allocator = Global, G: Growth = Doubling> {
     pub(crate) block: Block<T, A>,
     pub(crate) alloc: A,
@@ -62,8 +63,8 @@ impl<T, A: Allocator> ThinVec<T, A> {
         ThinVec::ruled(alloc)
     }
 
-    /// Returns an empty list of capacity 0, which keeps `alloc`, and allocates nothing. It
-    /// does the same as `new`. It replaces the trait `Default`, whose method takes no allocator.
+    /// Returns an empty list of capacity 0, which keeps `alloc`. It allocates nothing, and does the
+    /// same as `new`. It replaces the trait `Default`, whose method takes no allocator.
     pub fn default_in(alloc: A) -> ThinVec<T, A>
         ensures new { IsNew result alloc }
         ensures within { IsWithin T.row result }
@@ -154,7 +155,7 @@ impl<T, A: Allocator, G: Growth> ThinVec<T, A, G> {
         ensures err { OnErr result (self.new ≡ self.old) }
         ensures value_returned { IfErr result (λ error. error.value ≡ value) }
 
-        // In any case. The capacity and the cause of a failure are those of `reserve(1)`.
+        // In any case. The capacity and the cause of a failure are as for `reserve(1)`.
         ensures reserves { Reserves G.rule T.row 1 self.old self.new (causes result) }
         ensures keeps { Keeps T.row self.old self.new }
     {
@@ -256,8 +257,8 @@ impl<T, A: Allocator, G: Growth> ThinVec<T, A, G> {
 }
 
 impl<T: Drop, A: Allocator, G: Growth> Drop for ThinVec<T, A, G> {
-    // Drops each item, and then frees the block. It stores no length again, because the block is
-    // freed.
+    // Drops each item, and then frees the block. It does not update the stored length, because the
+    // block is freed anyway.
     fn drop(self) {
         let len = self.len();
         let (mut block, alloc) = self.into_parts();

@@ -186,7 +186,7 @@ impl<T: Copy, A: Allocator> ThinVec<T, A> {
 }
 
 impl<T: Clone, A: Allocator> ThinVec<T, A> {
-    /// Makes a list of a clone of each item of a slice, in order. The capacity of the list is
+    /// Makes a list that has a clone of each item of a slice, in order. The capacity of the list is
     /// exactly the number of items. An empty slice needs no allocation. For items that are `Copy`,
     /// `from_copies` is faster.
     ///
@@ -217,7 +217,7 @@ impl<T: Clone, A: Allocator> ThinVec<T, A> {
     }
 }
 
-// Returns the number of items of an array.
+// Returns the number of items of an array. Its contract tells the prover that this number is `N`.
 fn count<T, const N: usize>(items: &[T; N]) -> usize
     ensures value { result ≡ N }
     ensures length { result ≡ length items.now }

@@ -103,7 +103,8 @@ impl<T, A: Allocator, G: Growth> ThinVec<T, A, G> {
         ensures value { result ≡ self.old.items }
         ensures items { self.new.items ≡ [] }
     {
-        // This call is only for the prover: its contract says that the number of items fits.
+        // This call is only for the prover: its contract says that the number of items fits into a
+        // block.
         let _len = self.len();
         let items = self.block.take_array(0);
         self.block.set_len(0);

@@ -18,7 +18,7 @@ use thin_block::{Block, Doubling, Growth, ThinVecError};
 /// the block and the allocator of the list. Each item stays in its slot until it is yielded.
 /// Dropping the iterator drops the items that remain, and frees the block.
 ///
-/// A contract sees an `IntoIter` as it sees a list, whose items are those that remain.
+/// Contracts see an `IntoIter` as they see a list: its `items` are the items that remain.
 pub struct IntoIter<T, A: Allocator = Global, G: Growth = Doubling> {
     // The items that remain are in the slots from `start` up to, but not including, `end`. The
     // length that is stored in the block is not read again.
@@ -201,8 +201,8 @@ impl<T: Clone, A: Allocator, G: Growth> IntoIter<T, A, G> {
             (cost_new (length self.now.items))) }
         ensures cheap { IfOk result (λ it. IsCheap it) }
     {
-        // This call is only for the prover: its contract says that the capacity fits, and so the
-        // number of items fits, too.
+        // This call is only for the prover: its contract says that the capacity fits into a block,
+        // and so the number of items does, too.
         let _room = self.block.cap();
         let list = ThinVec::from_fitting_slice(alloc, self.as_slice())?;
         Ok(list.into_iter())

@@ -31,8 +31,7 @@ impl<T, A: Allocator, G: Growth> ThinVec<T, A, G> {
         ensures err { OnErr result (self.new ≡ self.old) }
         ensures other_err { OnErr result (other.new ≡ other.old) }
 
-        // In any case. The capacity and the cause of a failure are those of `reserve` for the
-        // items.
+        // In any case. The capacity and the cause of a failure are as for `reserve(other.len())`.
         ensures reserves { Reserves G.rule T.row (length other.old.items) self.old self.new result }
         ensures keeps { Keeps T.row self.old self.new }
         ensures other_within { IsWithin T.row other.old × IsWithin T.row other.new }

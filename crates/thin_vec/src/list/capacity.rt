@@ -124,9 +124,9 @@ impl<T, A: Allocator, G: Growth> ThinVec<T, A, G> {
     }
 
     // Reserves room for at least `additional` more items, with the same contract as `reserve`. It
-    // is meant for a run of items. If the length of the run is known at compile time, as that of a
-    // literal is, the test for room is one comparison. (For one item, the test in `reserve` is one
-    // comparison, too.)
+    // is meant for a run of items. If the length of the run is known at compile time, as the
+    // length of a literal is, the test for room is one comparison. (For one item, the test in
+    // `reserve` is one comparison, too.)
     #[tactic(auto, using(thin_block::proofs::CapacityLemmas::ruled))]
     pub(crate) fn reserve_run(&mut self, additional: usize) -> Result<(), ThinVecError>
         // On success.
@@ -237,9 +237,9 @@ impl<T, A: Allocator, G: Growth> ThinVec<T, A, G> {
         self.block.grow(&self.alloc, cap)
     }
 
-    // Makes an empty list of exactly the capacity `capacity`, which must fit. At capacity 0, the
-    // list has no block. Every call that makes a list of an exact capacity uses this function,
-    // except `from_iter`, which uses `reserve_first`.
+    // Makes an empty list whose capacity is exactly `capacity`, for which `fits` must return true.
+    // At capacity 0, the list has no block. Every call that makes a list of an exact capacity uses
+    // this function, except `from_iter`, which uses `reserve_first`.
     pub(crate) fn with_fitting_capacity(
         alloc: A,
         capacity: usize,

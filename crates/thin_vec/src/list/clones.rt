@@ -44,8 +44,7 @@ impl<T: Clone, A: Allocator, G: Growth> ThinVec<T, A, G> {
         ensures err_cost { OnErr result ((self.new ≡ self.old)
             ⊎ CostsUpToClone T.is_infallible items.now self.old self.new) }
 
-        // In any case. The capacity and the cause of a failure are those of `reserve` for the
-        // clones.
+        // In any case. The capacity and any `CapacityOverflow` are as for `reserve(items.len())`.
         ensures reserves { Reserves G.rule T.row (length items.now) self.old self.new result }
         ensures keeps { Keeps T.row self.old self.new }
     {
@@ -53,9 +52,9 @@ impl<T: Clone, A: Allocator, G: Growth> ThinVec<T, A, G> {
         self.extend_from_slice_reserved(items)
     }
 
-    /// Makes a list on `alloc` of a clone of each item, in order. The new list has the same growth
-    /// rule, and its capacity is exactly the number of items. The clone of an empty list allocates
-    /// nothing. For items that are `Copy`, `clone_copies` is faster.
+    /// Makes a list on `alloc` that has a clone of each item, in order. The new list has the same
+    /// growth rule, and its capacity is exactly the number of items. The clone of an empty list
+    /// allocates nothing. For items that are `Copy`, `clone_copies` is faster.
     ///
     /// # Errors
     ///
@@ -75,13 +74,14 @@ impl<T: Clone, A: Allocator, G: Growth> ThinVec<T, A, G> {
         ensures succeeds_empty { length self.now.items ≡ 0 → IsOk result }
         ensures cause { IfErr result (λ cause. cause ≡ ThinVecError.OutOfMemory) }
     {
-        // This call is only for the prover: its contract says that the number of items fits.
+        // This call is only for the prover: its contract says that the number of items fits into a
+        // block.
         let _len = self.len();
         ThinVec::from_fitting_slice(alloc, self.as_slice())
     }
 
-    // Makes a list on `alloc` of a clone of each item of `items`, in order. Its capacity is exactly
-    // the number of items, which must fit.
+    // Makes a list on `alloc` that has a clone of each item of `items`, in order. Its capacity is
+    // exactly the number of items, for which `fits` must return true.
     pub(crate) fn from_fitting_slice(
         alloc: A,
         items: &[T],
@@ -201,8 +201,7 @@ impl<T: Clone, A: Allocator, G: Growth> ThinVec<T, A, G> {
             ⊎ CostsUpToClone T.is_infallible (slice_range self.old.items start end)
             self.old self.new) }
 
-        // In any case. The capacity and the cause of a failure are those of `reserve` for the
-        // clones.
+        // In any case. The capacity and any `CapacityOverflow` are as for `reserve(end - start)`.
         ensures reserves { Reserves G.rule T.row (end - start) self.old self.new result }
         ensures keeps { Keeps T.row self.old self.new }
     {

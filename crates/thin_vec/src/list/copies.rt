@@ -28,8 +28,7 @@ impl<T: Copy, A: Allocator, G: Growth> ThinVec<T, A, G> {
         ensures succeeds { HasRoomFor self.old (length items.now) → IsOk result }
         ensures err { OnErr result (self.new ≡ self.old) }
 
-        // In any case. The capacity and the cause of a failure are those of `reserve` for the
-        // items.
+        // In any case. The capacity and the cause of a failure are as for `reserve(items.len())`.
         ensures reserves { Reserves G.rule T.row (length items.now) self.old self.new result }
         ensures keeps { Keeps T.row self.old self.new }
     {
@@ -41,10 +40,10 @@ impl<T: Copy, A: Allocator, G: Growth> ThinVec<T, A, G> {
         Ok(())
     }
 
-    /// Makes a list on `alloc` of a copy of each item, in order. The new list has the same growth
-    /// rule, and its capacity is exactly the number of items. The copy of an empty list allocates
-    /// nothing. The items are copied as one run, which is faster than `clone`. The Rust crate
-    /// thin-vec has no such method.
+    /// Makes a list on `alloc` that has a copy of each item, in order. The new list has the same
+    /// growth rule, and its capacity is exactly the number of items. The copy of an empty list
+    /// allocates nothing. The items are copied as one run, which is faster than `clone`. The Rust
+    /// crate thin-vec has no such method.
     ///
     /// # Errors
     ///

@@ -75,8 +75,8 @@ impl<T, A: Allocator, G: Growth> IndexMut<usize> for ThinVec<T, A, G> {
         ensures item { result.now ≡ slice_index_or self.old.items index result.now }
         ensures within { IsWithin T.row self.old }
     {
-        // This call is only for the prover: its contract says that the capacity and the length are
-        // in bounds.
+        // This call is only for the prover: its contract gives the bounds that the clause `within`
+        // states.
         let _len = self.block.len();
         self.block.slot_mut(index)
     }
@@ -84,8 +84,8 @@ impl<T, A: Allocator, G: Growth> IndexMut<usize> for ThinVec<T, A, G> {
 
 impl<T, A: Allocator, G: Growth> ThinVec<T, A, G> {
     /// Returns a mutable reference to the item at `index`, or `None` if there is no such item. What
-    /// the caller writes through the reference is written to the item of the list. The Rust crate
-    /// thin-vec has this method through the slice of the items.
+    /// the caller writes through the reference is written to the item of the list. A list of the
+    /// Rust crate thin-vec has this method through its slice.
     pub fn get_mut(&mut self, index: usize) -> Option<&mut T>
         ensures* writes_back { sem 𝓛
             (LendsGet T.row A.row G.row A.Allocator G.Growth self.entry index result) }

@@ -15,7 +15,7 @@ use thin_block::{Growth, ThinVecError};
 impl<T, A: Allocator, G: Growth> ThinVec<T, A, G> {
     ghost use Rattle.thin_vec.specs.ThinVec.{HasRoomFor, IsWithin, capacity_for};
 
-    /// Inserts `value` at `index`, which is at most the length, and moves the items from there on
+    /// Inserts `value` at `index`, which is at most the length, and moves the items from `index` on
     /// back by one place. The list then owns `value`. If there is no spare capacity, the list first
     /// grows to the capacity that the growth rule chooses.
     ///
@@ -36,7 +36,7 @@ impl<T, A: Allocator, G: Growth> ThinVec<T, A, G> {
         ensures err { OnErr result (self.new ≡ self.old) }
         ensures value_returned { IfErr result (λ error. error.value ≡ value) }
 
-        // In any case. The capacity and the cause of a failure are those of `reserve(1)`.
+        // In any case. The capacity and the cause of a failure are as for `reserve(1)`.
         ensures reserves { Reserves G.rule T.row 1 self.old self.new (causes result) }
         ensures keeps { Keeps T.row self.old self.new }
     {
@@ -48,7 +48,7 @@ impl<T, A: Allocator, G: Growth> ThinVec<T, A, G> {
     }
 
     /// Inserts `value` at `index`, which is at most the length, without growing. The items from
-    /// there on are moved back by one place, and the list then owns `value`. The list must have
+    /// `index` on are moved back by one place, and the list then owns `value`. The list must have
     /// room for one more item, as it has after `reserve(1)`. So the call cannot fail, and returns
     /// no `Result`. The Rust crate thin-vec has no such method.
     pub fn insert_reserved(&mut self, index: usize, value: T)
@@ -95,7 +95,7 @@ impl<T, A: Allocator, G: Growth> ThinVec<T, A, G> {
     }
 
     /// Inserts `value` at `index`, which is at most the length, and returns a mutable reference to
-    /// it. The items from there on are moved back by one place, and the list then owns `value`.
+    /// it. The items from `index` on are moved back by one place, and the list then owns `value`.
     /// What the caller writes through the reference is written to the item of the list. If there is
     /// no spare capacity, the list first grows to the capacity that the growth rule chooses. Rust's
     /// `Vec` has a method of this name, and the Rust crate thin-vec has none.
@@ -143,9 +143,9 @@ impl<T, A: Allocator, G: Growth> ThinVec<T, A, G> {
         value
     }
 
-    /// Removes the item at `index` and returns it. The last item is moved into its place, and no
-    /// other item is moved. So the call takes constant time, but does not keep the order of the
-    /// items. The capacity does not change.
+    /// Removes the item at `index` and returns it. The last item is moved to `index`, and no other
+    /// item is moved. So the call takes constant time, but does not keep the order of the items.
+    /// The capacity does not change.
     pub fn swap_remove(&mut self, index: usize) -> T
         requires in_bounds { index < length self.old.items }
         ensures value { slice_get self.old.items index ≡ Some result }

@@ -21,7 +21,7 @@ impl<T: Clone, A: Allocator, G: Growth> ThinVec<T, A, G> {
     ///
     /// # Errors
     ///
-    /// Fails only if the list has to become longer. In each case, `value` is dropped.
+    /// Fails only if the list has to become longer. On failure, `value` is dropped.
     ///
     /// Fails if there is not enough spare capacity and the list cannot grow: with
     /// `CapacityOverflow` if the new capacity would be too large, and with `OutOfMemory` if the
@@ -47,8 +47,8 @@ impl<T: Clone, A: Allocator, G: Growth> ThinVec<T, A, G> {
         ensures err_cost { OnErr result ((self.new ≡ self.old) ⊎ CostsUpToClone T.is_infallible
             (replicate (len - length self.old.items - 1) value) self.old self.new) }
 
-        // In any case. The capacity and the cause of a failure are those of `reserve` for the items
-        // that are added.
+        // In any case. The capacity and any `CapacityOverflow` are as for `reserve` with the number
+        // of added items.
         ensures reserves { Reserves G.rule T.row (len - length self.old.items) self.old self.new
             result }
         ensures keeps { Keeps T.row self.old self.new }
@@ -137,7 +137,7 @@ impl<T: Drop, A: Allocator, G: Growth> ThinVec<T, A, G> {
     ///
     /// Fails only if `len` exceeds the capacity: with `CapacityOverflow` if the new capacity would
     /// be too large, and with `OutOfMemory` if the allocator fails. Then the list is unchanged, and
-    /// `make` is dropped without a call.
+    /// `make` is dropped without being called.
     pub fn resize_with<F: FnMut() -> T>(&mut self, len: usize, make: F) -> Result<(), ThinVecError>
         requires callable { F.IsAlwaysCallable make }
 
@@ -151,8 +151,8 @@ impl<T: Drop, A: Allocator, G: Growth> ThinVec<T, A, G> {
         ensures succeeds { len ≤ self.old.capacity → IsOk result }
         ensures err { OnErr result (self.new ≡ self.old) }
 
-        // In any case. The capacity and the cause of a failure are those of `reserve` for the items
-        // that are added.
+        // In any case. The capacity and the cause of a failure are as for `reserve` with the number
+        // of added items.
         ensures reserves { Reserves G.rule T.row (len - length self.old.items) self.old self.new
             result }
         ensures keeps { Keeps T.row self.old self.new }
