@@ -81,8 +81,9 @@ impl<T, A: Allocator, G: Growth> ThinVec<T, A, G> {
     ghost use Rattle.thin_vec.specs.ThinVec.{HasRoomFor, IsNew, IsWithin};
 
     /// Returns an empty list of capacity 0 with the growth rule `G`, which keeps `alloc`. It
-    /// allocates nothing. The Rust crate thin-vec has no such method, because it has a single
-    /// growth rule.
+    /// allocates nothing.
+    ///
+    /// This method is our own: the Rust crate thin-vec has a single growth rule.
     pub fn ruled(alloc: A) -> ThinVec<T, A, G>
         ensures new { IsNew result alloc }
         ensures within { IsWithin T.row result }
@@ -103,8 +104,9 @@ impl<T, A: Allocator, G: Growth> ThinVec<T, A, G> {
         self.block.len()
     }
 
-    /// Returns a reference to the allocator that the list keeps. The Rust crate thin-vec has no
-    /// such method, because its lists keep no allocator.
+    /// Returns a reference to the allocator that the list keeps.
+    ///
+    /// The Rust crate thin-vec has no such method, because its lists keep no allocator.
     pub fn allocator(&self) -> &A
         ensures value { result.now ≡ self.now.alloc }
     {
@@ -188,6 +190,7 @@ impl<T, A: Allocator, G: Growth> ThinVec<T, A, G> {
 
     /// Appends `value`, which the list then owns, without growing. The list must have room for one
     /// more item, as it has after `reserve(1)`. So the call cannot fail, and returns no `Result`.
+    ///
     /// Rattle's `Vec` has a method of this name, and the Rust crate thin-vec has none.
     pub fn push_reserved(&mut self, value: T)
         requires room { HasRoomFor self.old 1 }

@@ -9,8 +9,9 @@ use std::ops::Bound;
 /// or if it ends after the last item of the list.
 ///
 /// The two numbers meet the preconditions on the range of `drain`, `extract_if` and `splice`.
-/// Rust's `slice::range` returns the same numbers, and panics if this function returns `None`. The
-/// Rust crate thin-vec has no such function.
+/// Rust's `slice::range` returns the same numbers, and panics if this function returns `None`.
+///
+/// This function is our own: the Rust crate thin-vec has none like it.
 pub fn bounds(start: Bound<usize>, end: Bound<usize>, len: usize) -> Option<(usize, usize)>
     ensures value { result ≡ range_between start end len }
     ensures start_le_end { IfSome result (λ range. range.0 ≤ range.1) }

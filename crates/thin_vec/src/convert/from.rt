@@ -157,7 +157,9 @@ impl<T, A: Allocator> ThinVec<T, A> {
 impl<T: Copy, A: Allocator> ThinVec<T, A> {
     /// Copies the items of a slice into a new list, in order. The capacity of the list is exactly
     /// the number of items. An empty slice needs no allocation. The items are copied as one run,
-    /// which is faster than `from_slice`. The Rust crate thin-vec has no such method.
+    /// which is faster than `from_slice`.
+    ///
+    /// This method is our own: neither Rust's `Vec` nor the Rust crate thin-vec has it.
     ///
     /// # Errors
     ///

@@ -79,8 +79,9 @@ impl<T, A: Allocator, G: Growth> ThinVec<T, A, G> {
 
     /// Moves all items of `other` to the end of this list, in order, without growing. Afterwards,
     /// `other` is empty and has its old capacity. This list must have room for the items, as it has
-    /// after `reserve`. So the call cannot fail, and returns no `Result`. The Rust crate thin-vec
-    /// has no such method.
+    /// after `reserve`. So the call cannot fail, and returns no `Result`.
+    ///
+    /// This method is our own: neither Rust's `Vec` nor the Rust crate thin-vec has it.
     pub fn append_reserved(&mut self, other: &mut ThinVec<T, A, G>)
         requires room { HasRoomFor self.old (length other.old.items) }
         ensures items { self.new.items ≡ self.old.items ++ other.old.items }

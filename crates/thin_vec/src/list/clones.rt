@@ -111,7 +111,9 @@ impl<T: Clone, A: Allocator, G: Growth> ThinVec<T, A, G> {
     }
 
     /// Appends a clone of each item of `items`, in order, without growing. The list must have room
-    /// for the clones, as it has after `reserve`. The Rust crate thin-vec has no such method.
+    /// for the clones, as it has after `reserve`.
+    ///
+    /// This method is our own: neither Rust's `Vec` nor the Rust crate thin-vec has it.
     ///
     /// # Errors
     ///
@@ -169,7 +171,9 @@ impl<T: Clone, A: Allocator, G: Growth> ThinVec<T, A, G> {
 
     /// Appends a clone of each item from index `start` up to, but not including, `end`, in order.
     /// If there is not enough spare capacity, the list first grows to the capacity that the growth
-    /// rule chooses. Rust's `Vec` has a method of this name, and the Rust crate thin-vec has none.
+    /// rule chooses.
+    ///
+    /// Rust's `Vec` has a method of this name, and the Rust crate thin-vec has none.
     ///
     /// # Errors
     ///

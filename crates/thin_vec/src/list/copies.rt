@@ -12,7 +12,9 @@ impl<T: Copy, A: Allocator, G: Growth> ThinVec<T, A, G> {
 
     /// Appends a copy of each item of `items`, in order. If there is not enough spare capacity, the
     /// list first grows to the capacity that the growth rule chooses. The items are copied as one
-    /// run, which is faster than `extend_from_slice`. The Rust crate thin-vec has no such method.
+    /// run, which is faster than `extend_from_slice`.
+    ///
+    /// This method is our own: neither Rust's `Vec` nor the Rust crate thin-vec has it.
     ///
     /// # Errors
     ///
@@ -42,8 +44,9 @@ impl<T: Copy, A: Allocator, G: Growth> ThinVec<T, A, G> {
 
     /// Makes a list on `alloc` that has a copy of each item, in order. The new list has the same
     /// growth rule, and its capacity is exactly the number of items. The copy of an empty list
-    /// allocates nothing. The items are copied as one run, which is faster than `clone`. The Rust
-    /// crate thin-vec has no such method.
+    /// allocates nothing. The items are copied as one run, which is faster than `clone`.
+    ///
+    /// This method is our own: neither Rust's `Vec` nor the Rust crate thin-vec has it.
     ///
     /// # Errors
     ///
@@ -67,7 +70,8 @@ impl<T: Copy, A: Allocator, G: Growth> ThinVec<T, A, G> {
 
     /// Appends a copy of each item of `items`, in order, without growing. The list must have room
     /// for the items, as it has after `reserve`. So the call cannot fail, and returns no `Result`.
-    /// The Rust crate thin-vec has no such method.
+    ///
+    /// This method is our own: neither Rust's `Vec` nor the Rust crate thin-vec has it.
     pub fn extend_from_copies_reserved(&mut self, items: &[T])
         requires room { HasRoomFor self.old (length items.now) }
         ensures items { self.new.items ≡ self.old.items ++ items.now }

@@ -84,8 +84,9 @@ impl<T, A: Allocator, G: Growth> IndexMut<usize> for ThinVec<T, A, G> {
 
 impl<T, A: Allocator, G: Growth> ThinVec<T, A, G> {
     /// Returns a mutable reference to the item at `index`, or `None` if there is no such item. What
-    /// the caller writes through the reference is written to the item of the list. A list of the
-    /// Rust crate thin-vec has this method through its slice.
+    /// the caller writes through the reference is written to the item of the list.
+    ///
+    /// A list of the Rust crate thin-vec has this method through its slice.
     pub fn get_mut(&mut self, index: usize) -> Option<&mut T>
         ensures* writes_back { sem 𝓛
             (LendsGet T.row A.row G.row A.Allocator G.Growth self.entry index result) }

@@ -50,7 +50,9 @@ impl<T, A: Allocator, G: Growth> ThinVec<T, A, G> {
     /// Inserts `value` at `index`, which is at most the length, without growing. The items from
     /// `index` on are moved back by one place, and the list then owns `value`. The list must have
     /// room for one more item, as it has after `reserve(1)`. So the call cannot fail, and returns
-    /// no `Result`. The Rust crate thin-vec has no such method.
+    /// no `Result`.
+    ///
+    /// This method is our own: neither Rust's `Vec` nor the Rust crate thin-vec has it.
     pub fn insert_reserved(&mut self, index: usize, value: T)
         requires in_bounds { index ≤ length self.old.items }
         requires room { HasRoomFor self.old 1 }
@@ -66,8 +68,9 @@ impl<T, A: Allocator, G: Growth> ThinVec<T, A, G> {
 
     /// Appends `value`, which the list then owns, and returns a mutable reference to it. What the
     /// caller writes through the reference is written to the item of the list. If there is no spare
-    /// capacity, the list first grows to the capacity that the growth rule chooses. Rust's `Vec`
-    /// has a method of this name, and the Rust crate thin-vec has none.
+    /// capacity, the list first grows to the capacity that the growth rule chooses.
+    ///
+    /// Rust's `Vec` has a method of this name, and the Rust crate thin-vec has none.
     ///
     /// # Errors
     ///
@@ -97,8 +100,9 @@ impl<T, A: Allocator, G: Growth> ThinVec<T, A, G> {
     /// Inserts `value` at `index`, which is at most the length, and returns a mutable reference to
     /// it. The items from `index` on are moved back by one place, and the list then owns `value`.
     /// What the caller writes through the reference is written to the item of the list. If there is
-    /// no spare capacity, the list first grows to the capacity that the growth rule chooses. Rust's
-    /// `Vec` has a method of this name, and the Rust crate thin-vec has none.
+    /// no spare capacity, the list first grows to the capacity that the growth rule chooses.
+    ///
+    /// Rust's `Vec` has a method of this name, and the Rust crate thin-vec has none.
     ///
     /// # Errors
     ///
@@ -164,7 +168,9 @@ impl<T, A: Allocator, G: Growth> ThinVec<T, A, G> {
     /// Removes the last item and returns it, if `predicate` returns true for it. Otherwise, the
     /// item stays in the list, with what `predicate` has written to it, and the call returns
     /// `None`. `predicate` is called once, or not at all if the list is empty. The capacity does
-    /// not change. Rust's `Vec` has a method of this name, and the Rust crate thin-vec has none.
+    /// not change.
+    ///
+    /// Rust's `Vec` has a method of this name, and the Rust crate thin-vec has none.
     pub fn pop_if<P: FnOnce(&mut T) -> bool>(&mut self, predicate: P) -> Option<T>
         requires callable { P.IsAlwaysCallable predicate }
         ensures popped { PopsIf P.FnOnce self.old.items self.new.items predicate result }

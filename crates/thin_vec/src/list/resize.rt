@@ -130,8 +130,9 @@ impl<T: Drop, A: Allocator, G: Growth> ThinVec<T, A, G> {
     /// Changes the length to `len`. If the list is longer, the items from index `len` on are
     /// dropped. If it is shorter, the results of `make` are appended: `make` is called once for
     /// each new item, in order. If there is not enough spare capacity, the list first grows to the
-    /// capacity that the growth rule chooses. Rust's `Vec` has a method of this name, and the Rust
-    /// crate thin-vec has none.
+    /// capacity that the growth rule chooses.
+    ///
+    /// Rust's `Vec` has a method of this name, and the Rust crate thin-vec has none.
     ///
     /// # Errors
     ///

@@ -12,8 +12,9 @@ impl<T, A: Allocator, G: Growth> ThinVec<T, A, G> {
 
     /// Shrinks the capacity to `min_capacity`, or to the length if the length is greater. If the
     /// capacity is not greater than that, nothing changes. If the new capacity is 0, the block is
-    /// freed, and the cost that contracts see becomes 0. Rust's `Vec` has a method of this name,
-    /// and the Rust crate thin-vec has none.
+    /// freed, and the cost that contracts see becomes 0.
+    ///
+    /// Rust's `Vec` has a method of this name, and the Rust crate thin-vec has none.
     ///
     /// # Errors
     ///
