@@ -144,9 +144,11 @@ impl<T, A: Allocator, G: Growth> ThinVec<T, A, G> {
     ///
     /// # Errors
     ///
-    /// Fails only if there is no spare capacity: with `CapacityOverflow` if the new capacity would
-    /// be too large, and with `OutOfMemory` if the allocator fails. Then the list is unchanged, and
-    /// the error holds `value`, which the caller owns again.
+    /// Fails only if there is no spare capacity. Then the list is unchanged, and the error holds
+    /// `value`, which the caller owns again.
+    ///
+    /// - `CapacityOverflow`: the new capacity would be too large.
+    /// - `OutOfMemory`: the allocator failed.
     pub fn push(&mut self, value: T) -> Result<(), Rejected<T>>
         // On success.
         ensures items { OnOk result (self.new.items ≡ self.old.items ++ value ∷ []) }

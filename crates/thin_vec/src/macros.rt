@@ -33,9 +33,10 @@ use thin_block::ThinVecError;
 ///
 /// # Errors
 ///
-/// Fails with `CapacityOverflow` if the capacity would be too large, and with `OutOfMemory` if the
-/// allocator fails. The third form also fails with `OutOfMemory` if a clone fails. On failure no
-/// list is made. The third form then drops `x` and the clones already made.
+/// On failure, no list is made. The third form then drops `x` and the clones already made.
+///
+/// - `CapacityOverflow`: the capacity would be too large.
+/// - `OutOfMemory`: the allocator failed or, in the third form, a clone failed.
 #[macro_export]
 macro_rules! thin_vec {
     ($alloc:expr =>) => {
@@ -96,9 +97,10 @@ pub fn place<T, A: Allocator>(list: &mut ThinVec<T, A>, value: T)
 ///
 /// # Errors
 ///
-/// Fails with `CapacityOverflow` if the capacity that `Doubling` needs for `count` items would be
-/// too large, and with `OutOfMemory` if the allocator or a clone fails. Then `value` and the clones
-/// already made are dropped.
+/// On failure, `value` and the clones already made are dropped.
+///
+/// - `CapacityOverflow`: the capacity that `Doubling` needs for `count` items would be too large.
+/// - `OutOfMemory`: the allocator or a clone failed.
 #[doc(hidden)]
 pub fn repeated<T: Clone, A: Allocator>(
     alloc: A,

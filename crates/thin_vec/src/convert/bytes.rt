@@ -21,8 +21,10 @@ impl<A: Allocator> ThinVec<u8, A> {
     ///
     /// # Errors
     ///
-    /// Fails with `CapacityOverflow` if the capacity would be too large, and with `OutOfMemory` if
-    /// the allocator fails. Then no list is made, and `alloc` is dropped.
+    /// On failure, no list is made, and `alloc` is dropped.
+    ///
+    /// - `CapacityOverflow`: the capacity would be too large.
+    /// - `OutOfMemory`: the allocator failed.
     pub fn from_str(alloc: A, text: &str) -> Result<ThinVec<u8, A>, ThinVecError>
         // On success.
         ensures items { IfOk result (λ list. list.items ≡ text.now) }

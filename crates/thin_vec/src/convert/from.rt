@@ -27,9 +27,10 @@ impl<T, A: Allocator> ThinVec<T, A> {
     ///
     /// # Errors
     ///
-    /// Fails with `CapacityOverflow` if a capacity of `N` would be too large, and with
-    /// `OutOfMemory` if the allocator fails. Then the error holds the array, which the caller owns
-    /// again, and `alloc` is dropped.
+    /// On failure, the error holds the array, which the caller owns again, and `alloc` is dropped.
+    ///
+    /// - `CapacityOverflow`: a capacity of `N` would be too large.
+    /// - `OutOfMemory`: the allocator failed.
     pub fn from_array<const N: usize>(
         alloc: A,
         items: [T; N],
@@ -65,9 +66,10 @@ impl<T, A: Allocator> ThinVec<T, A> {
     ///
     /// # Errors
     ///
-    /// Fails with `CapacityOverflow` if the capacity would be too large, and with `OutOfMemory` if
-    /// the allocator fails. Then the error holds the vector, which the caller owns again, and
-    /// `alloc` is dropped.
+    /// On failure, the error holds the vector, which the caller owns again, and `alloc` is dropped.
+    ///
+    /// - `CapacityOverflow`: the capacity would be too large.
+    /// - `OutOfMemory`: the allocator failed.
     pub fn from_vec<B: Allocator>(
         alloc: A,
         items: Vec<T, B>,
@@ -103,9 +105,11 @@ impl<T, A: Allocator> ThinVec<T, A> {
     ///
     /// # Errors
     ///
-    /// Fails with `CapacityOverflow` if the capacity would be too large, and with `OutOfMemory` if
-    /// the allocator fails. Then the error holds the boxed slice, which the caller owns again, and
-    /// `alloc` is dropped.
+    /// On failure, the error holds the boxed slice, which the caller owns again, and `alloc` is
+    /// dropped.
+    ///
+    /// - `CapacityOverflow`: the capacity would be too large.
+    /// - `OutOfMemory`: the allocator failed.
     pub fn from_boxed_slice<B: Allocator>(
         alloc: A,
         items: BoxedSlice<T, B>,
@@ -163,8 +167,10 @@ impl<T: Copy, A: Allocator> ThinVec<T, A> {
     ///
     /// # Errors
     ///
-    /// Fails with `CapacityOverflow` if the capacity would be too large, and with `OutOfMemory` if
-    /// the allocator fails. Then no list is made, and `alloc` is dropped.
+    /// On failure, no list is made, and `alloc` is dropped.
+    ///
+    /// - `CapacityOverflow`: the capacity would be too large.
+    /// - `OutOfMemory`: the allocator failed.
     pub fn from_copies(alloc: A, items: &[T]) -> Result<ThinVec<T, A>, ThinVecError>
         // On success.
         ensures items { IfOk result (λ list. list.items ≡ items.now) }
@@ -194,9 +200,10 @@ impl<T: Clone, A: Allocator> ThinVec<T, A> {
     ///
     /// # Errors
     ///
-    /// Fails with `CapacityOverflow` if the capacity would be too large, and with `OutOfMemory` if
-    /// the allocator or a clone fails. Then no list is made, and the clones already made and
-    /// `alloc` are dropped.
+    /// On failure, no list is made, and the clones already made and `alloc` are dropped.
+    ///
+    /// - `CapacityOverflow`: the capacity would be too large.
+    /// - `OutOfMemory`: the allocator or a clone failed.
     #[tactic(auto, using(thin_block::proofs::CapacityLemmas::exact))]
     pub fn from_slice(alloc: A, items: &[T]) -> Result<ThinVec<T, A>, ThinVecError>
         // On success.

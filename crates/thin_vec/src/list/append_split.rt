@@ -17,9 +17,10 @@ impl<T, A: Allocator, G: Growth> ThinVec<T, A, G> {
     ///
     /// # Errors
     ///
-    /// Fails only if there is not enough spare capacity: with `CapacityOverflow` if the new
-    /// capacity would be too large, and with `OutOfMemory` if the allocator fails. Then neither
-    /// list changes.
+    /// Fails only if there is not enough spare capacity. Then neither list changes.
+    ///
+    /// - `CapacityOverflow`: the new capacity would be too large.
+    /// - `OutOfMemory`: the allocator failed.
     pub fn append(&mut self, other: &mut ThinVec<T, A, G>) -> Result<(), ThinVecError>
         // On success.
         ensures items { OnOk result (self.new.items ≡ self.old.items ++ other.old.items) }

@@ -23,9 +23,10 @@ impl<T, A: Allocator, G: Growth> ThinVec<T, A, G> {
     ///
     /// # Errors
     ///
-    /// Fails only if there is not enough room: with `CapacityOverflow` if the growth rule chooses
-    /// no capacity, because it would be too large, and with `OutOfMemory` if the allocator fails.
-    /// Then the list is unchanged.
+    /// Fails only if there is not enough room. Then the list is unchanged.
+    ///
+    /// - `CapacityOverflow`: the growth rule chooses no capacity, because it would be too large.
+    /// - `OutOfMemory`: the allocator failed.
     ///
     /// A capacity is too large if it exceeds `isize::MAX`, or if its block would take more than
     /// `isize::MAX` bytes.
@@ -57,9 +58,10 @@ impl<T, A: Allocator, G: Growth> ThinVec<T, A, G> {
     ///
     /// # Errors
     ///
-    /// Fails only if there is not enough room: with `CapacityOverflow` if the length plus
-    /// `additional` is too large for a capacity, and with `OutOfMemory` if the allocator fails.
-    /// Then the list is unchanged.
+    /// Fails only if there is not enough room. Then the list is unchanged.
+    ///
+    /// - `CapacityOverflow`: the length plus `additional` is too large for a capacity.
+    /// - `OutOfMemory`: the allocator failed.
     #[tactic(auto, using(thin_block::proofs::CapacityLemmas::exact))]
     pub fn reserve_exact(&mut self, additional: usize) -> Result<(), ThinVecError>
         // On success.
@@ -279,8 +281,11 @@ impl<T, A: Allocator> ThinVec<T, A> {
     ///
     /// # Errors
     ///
-    /// Fails with `CapacityOverflow` if `capacity` is too large, and with `OutOfMemory` if the
-    /// allocator fails. Then no list is made, and `alloc` is dropped.
+    /// On failure, no list is made, and `alloc` is dropped.
+    ///
+    /// - `CapacityOverflow`: `capacity` exceeds `isize::MAX`, or a block of this capacity would take
+    ///   more than `isize::MAX` bytes.
+    /// - `OutOfMemory`: the allocator failed.
     #[tactic(auto, using(thin_block::proofs::CapacityLemmas::exact))]
     pub fn with_capacity(alloc: A, capacity: usize) -> Result<ThinVec<T, A>, ThinVecError>
         // On success.

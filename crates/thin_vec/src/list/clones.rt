@@ -22,12 +22,12 @@ impl<T: Clone, A: Allocator, G: Growth> ThinVec<T, A, G> {
     ///
     /// # Errors
     ///
-    /// Fails if there is not enough spare capacity and the list cannot grow: with
-    /// `CapacityOverflow` if the new capacity would be too large, and with `OutOfMemory` if the
-    /// allocator fails. Then the list is unchanged.
-    ///
-    /// Also fails with `OutOfMemory` if a clone fails. Then the clones already made are dropped,
-    /// and the list has its old items. If it has grown, it keeps the new capacity.
+    /// - `CapacityOverflow`: there is not enough spare capacity, and the new capacity would be too
+    ///   large. The list is unchanged.
+    /// - `OutOfMemory`: there is not enough spare capacity, and the allocator failed. The list is
+    ///   unchanged.
+    /// - `OutOfMemory`: a clone failed. The clones already made are dropped, and the list has its
+    ///   old items. If it has grown, it keeps the new capacity.
     pub fn extend_from_slice(&mut self, items: &[T]) -> Result<(), ThinVecError>
         // On success.
         ensures items { OnOk result
@@ -177,12 +177,12 @@ impl<T: Clone, A: Allocator, G: Growth> ThinVec<T, A, G> {
     ///
     /// # Errors
     ///
-    /// Fails if there is not enough spare capacity and the list cannot grow: with
-    /// `CapacityOverflow` if the new capacity would be too large, and with `OutOfMemory` if the
-    /// allocator fails. Then the list is unchanged.
-    ///
-    /// Also fails with `OutOfMemory` if a clone fails. Then the clones already made are dropped,
-    /// and the list has its old items. If it has grown, it keeps the new capacity.
+    /// - `CapacityOverflow`: there is not enough spare capacity, and the new capacity would be too
+    ///   large. The list is unchanged.
+    /// - `OutOfMemory`: there is not enough spare capacity, and the allocator failed. The list is
+    ///   unchanged.
+    /// - `OutOfMemory`: a clone failed. The clones already made are dropped, and the list has its
+    ///   old items. If it has grown, it keeps the new capacity.
     pub fn extend_from_within(&mut self, start: usize, end: usize) -> Result<(), ThinVecError>
         requires start_le_end { start ≤ end }
         requires in_bounds { end ≤ length self.old.items }

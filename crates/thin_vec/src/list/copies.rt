@@ -18,9 +18,10 @@ impl<T: Copy, A: Allocator, G: Growth> ThinVec<T, A, G> {
     ///
     /// # Errors
     ///
-    /// Fails only if there is not enough spare capacity: with `CapacityOverflow` if the new
-    /// capacity would be too large, and with `OutOfMemory` if the allocator fails. Then the list is
-    /// unchanged.
+    /// Fails only if there is not enough spare capacity. Then the list is unchanged.
+    ///
+    /// - `CapacityOverflow`: the new capacity would be too large.
+    /// - `OutOfMemory`: the allocator failed.
     pub fn extend_from_copies(&mut self, items: &[T]) -> Result<(), ThinVecError>
         // On success.
         ensures items { OnOk result (self.new.items ≡ self.old.items ++ items.now) }

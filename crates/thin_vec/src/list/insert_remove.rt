@@ -21,9 +21,11 @@ impl<T, A: Allocator, G: Growth> ThinVec<T, A, G> {
     ///
     /// # Errors
     ///
-    /// Fails only if there is no spare capacity: with `CapacityOverflow` if the new capacity would
-    /// be too large, and with `OutOfMemory` if the allocator fails. Then the list is unchanged, and
-    /// the error holds `value`, which the caller owns again.
+    /// Fails only if there is no spare capacity. Then the list is unchanged, and the error holds
+    /// `value`, which the caller owns again.
+    ///
+    /// - `CapacityOverflow`: the new capacity would be too large.
+    /// - `OutOfMemory`: the allocator failed.
     pub fn insert(&mut self, index: usize, value: T) -> Result<(), Rejected<T>>
         requires in_bounds { index ≤ length self.old.items }
 
@@ -74,9 +76,11 @@ impl<T, A: Allocator, G: Growth> ThinVec<T, A, G> {
     ///
     /// # Errors
     ///
-    /// Fails only if there is no spare capacity: with `CapacityOverflow` if the new capacity would
-    /// be too large, and with `OutOfMemory` if the allocator fails. Then the list is unchanged, and
-    /// the error holds `value`, which the caller owns again.
+    /// Fails only if there is no spare capacity. Then the list is unchanged, and the error holds
+    /// `value`, which the caller owns again.
+    ///
+    /// - `CapacityOverflow`: the new capacity would be too large.
+    /// - `OutOfMemory`: the allocator failed.
     pub fn push_mut(&mut self, value: T) -> Result<&mut T, Rejected<T>>
         // On success. `writes_back` also says that the list is unchanged on failure.
         ensures* writes_back { sem 𝓛
@@ -106,9 +110,11 @@ impl<T, A: Allocator, G: Growth> ThinVec<T, A, G> {
     ///
     /// # Errors
     ///
-    /// Fails only if there is no spare capacity: with `CapacityOverflow` if the new capacity would
-    /// be too large, and with `OutOfMemory` if the allocator fails. Then the list is unchanged, and
-    /// the error holds `value`, which the caller owns again.
+    /// Fails only if there is no spare capacity. Then the list is unchanged, and the error holds
+    /// `value`, which the caller owns again.
+    ///
+    /// - `CapacityOverflow`: the new capacity would be too large.
+    /// - `OutOfMemory`: the allocator failed.
     pub fn insert_mut(&mut self, index: usize, value: T) -> Result<&mut T, Rejected<T>>
         requires in_bounds { index ≤ length self.old.items }
 

@@ -23,12 +23,12 @@ impl<T: Clone, A: Allocator, G: Growth> ThinVec<T, A, G> {
     ///
     /// Fails only if the list has to become longer. On failure, `value` is dropped.
     ///
-    /// Fails if there is not enough spare capacity and the list cannot grow: with
-    /// `CapacityOverflow` if the new capacity would be too large, and with `OutOfMemory` if the
-    /// allocator fails. Then the list is unchanged.
-    ///
-    /// Also fails with `OutOfMemory` if a clone fails. Then the clones already made are dropped,
-    /// and the list has its old items. If it has grown, it keeps the new capacity.
+    /// - `CapacityOverflow`: there is not enough spare capacity, and the new capacity would be too
+    ///   large. The list is unchanged.
+    /// - `OutOfMemory`: there is not enough spare capacity, and the allocator failed. The list is
+    ///   unchanged.
+    /// - `OutOfMemory`: a clone failed. The clones already made are dropped, and the list has its
+    ///   old items. If it has grown, it keeps the new capacity.
     pub fn resize(&mut self, len: usize, value: T) -> Result<(), ThinVecError>
         // On success.
         ensures items { OnOk result (IsResized T.is_clone self.old.items len value self.new.items) }
@@ -136,9 +136,11 @@ impl<T: Drop, A: Allocator, G: Growth> ThinVec<T, A, G> {
     ///
     /// # Errors
     ///
-    /// Fails only if `len` exceeds the capacity: with `CapacityOverflow` if the new capacity would
-    /// be too large, and with `OutOfMemory` if the allocator fails. Then the list is unchanged, and
-    /// `make` is dropped without being called.
+    /// Fails only if `len` exceeds the capacity. Then the list is unchanged, and `make` is dropped
+    /// without being called.
+    ///
+    /// - `CapacityOverflow`: the new capacity would be too large.
+    /// - `OutOfMemory`: the allocator failed.
     pub fn resize_with<F: FnMut() -> T>(&mut self, len: usize, make: F) -> Result<(), ThinVecError>
         requires callable { F.IsAlwaysCallable make }
 
