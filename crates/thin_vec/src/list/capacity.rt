@@ -1,5 +1,5 @@
-//! How the capacity of a list grows. One function, `capacity_for`, computes every ruled capacity,
-//! and one function, `grow_to`, makes every growth.
+//! How the capacity of a list grows. One function, `capacity_for`, asks the growth rule for each new
+//! capacity, and one function, `grow_to`, makes each growth.
 ghost use Rattle.std.specs.Prelude.{◌≡◌, ◌+◌, ◌<◌, ◌≤◌, [], IfErr, IfOk, IfSome, IsErrOf, IsFalse, IsOk, IsTrue, None, OnErr, OnOk, Some, length};
 ghost use Rattle.thin_block.specs.Capacity.{Fits};
 ghost use Rattle.thin_block.specs.Cost.{growing};
@@ -195,8 +195,8 @@ impl<T, A: Allocator, G: Growth> ThinVec<T, A, G> {
     }
 
     // Returns the capacity that the growth rule chooses for `additional` more items, or `None` if
-    // it chooses none. There must be too little room for these items. Every ruled capacity is
-    // computed by this function.
+    // it chooses none. There must be too little room for these items. No other function of the list
+    // asks the growth rule.
     #[tactic(auto, using(thin_block::proofs::CapacityLemmas::ruled))]
     fn capacity_for(&self, additional: usize) -> Option<usize>
         requires more { self.now.capacity < length self.now.items + additional }
@@ -283,8 +283,8 @@ impl<T, A: Allocator> ThinVec<T, A> {
     ///
     /// On failure, no list is made, and `alloc` is dropped.
     ///
-    /// - `CapacityOverflow`: `capacity` exceeds `isize::MAX`, or a block of this capacity would take
-    ///   more than `isize::MAX` bytes.
+    /// - `CapacityOverflow`: `capacity` exceeds `isize::MAX`, or a block of this capacity would
+    ///   take more than `isize::MAX` bytes.
     /// - `OutOfMemory`: the allocator failed.
     #[tactic(auto, using(thin_block::proofs::CapacityLemmas::exact))]
     pub fn with_capacity(alloc: A, capacity: usize) -> Result<ThinVec<T, A>, ThinVecError>
