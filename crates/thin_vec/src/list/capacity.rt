@@ -1,5 +1,5 @@
-//! How the capacity of a list grows. One function, `capacity_for`, asks the growth rule for each new
-//! capacity, and one function, `grow_to`, makes each growth.
+//! How the capacity of a list grows. One function, `capacity_for`, asks the growth rule for each
+//! new capacity, and one function, `grow_to`, makes each growth.
 ghost use Rattle.std.specs.Prelude.{◌≡◌, ◌+◌, ◌<◌, ◌≤◌, [], IfErr, IfOk, IfSome, IsErrOf, IsFalse, IsOk, IsTrue, None, OnErr, OnOk, Some, length};
 ghost use Rattle.thin_block.specs.Capacity.{Fits};
 ghost use Rattle.thin_block.specs.Cost.{growing};
