@@ -400,8 +400,8 @@ module _ {T A : Type 0} where
       len = h.len;
     }
 
-    -- what a contract sees of `joined`: the first gap is as long as both gaps together, and there is
-    -- no second gap
+    -- what a contract sees of `joined`: the first gap is as long as both gaps together, and there
+    -- is no second gap
     abbrev pub joined-seen : Open T A
     joined-seen = let w : Open T A = open_of h in
         record {
