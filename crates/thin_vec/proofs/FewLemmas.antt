@@ -23,7 +23,7 @@ exact-few R zero few small = exact-same R 0 0 (omega arith)
 exact-few R (suc n) few small =
     exact-fits R 0 (suc n) (omega arith) (small_fits R (suc n) few small)
 
--- an empty option does not equal `Some x`, so anything follows
+-- if None equals `Some x`, anything follows
 none_some : {A B : Type 0} (x : A) → None ≡ Some x → B
 none_some x e = cc
 
@@ -71,7 +71,7 @@ doubling-few R c w few small = elim (cases_lt c w) [
 ]
 
 -- under the rule `doubling`, a call that needs room for k more items fails only with `OutOfMemory`,
--- if there are then fewer than 2 ^ 30 items of fewer than 2 ^ 31 bytes each
+-- if these make fewer than 2 ^ 30 items of fewer than 2 ^ 31 bytes each
 pub few_more : {X T A : Type 0} (R : RattleType) (k : ℕ) (v w : Thin T A)
     (result : Result X ThinVecError) → length v.items + k < 2 ^ 30 → type_size R < 2 ^ 31
     → Reserves doubling R k v w result → IfErr result (λ cause. cause ≡ OutOfMemory)

@@ -11,7 +11,7 @@ use Rattle.thin_block.specs.declared.block.Block.{Block}
 use Rattle.thin_block.specs.Cost.{Cost}
 use Rattle.thin_vec.specs.ThinVec.{IsThin, Thin, thin_of}
 
--- k empty slots are k slots
+-- a row of k empty slots has the length k
 pub length-empty : (T : Type 0) (k : ℕ) → length (empty {T = T} k) ≡ k
 length-empty T k = length-replicate {A = Option T} k None
 
@@ -36,7 +36,7 @@ module _ {T : Type 0} where
   items-front xs c = items-full xs (replicate (c - length xs) None)
       ∙ (ap (λ (ys : List T). xs ++ ys) (items-empty (c - length xs)) ∙ append-nil xs)
 
-  -- the items of xs fill as many slots as xs is long
+  -- the filled slots of xs are as many as the items of xs
   pub length-full : (xs : List T) → length (full xs) ≡ length xs
   length-full xs = length-map xs (λ (x : T). Some x)
 
@@ -78,8 +78,8 @@ module _ {T : Type 0} where
       (sym (map_push (λ (x : T). Some x) xs v))
       ∙ ap (λ (n : ℕ). full (xs ++ v ∷ []) ++ replicate n None) m)))
 
-  -- emptying the slot i, in a row that begins with the items xs, leaves the items before i, an
-  -- empty slot, and the items after i
+  -- in a row that begins with the items xs, emptying the slot i leaves the items before i, an empty
+  -- slot, the items after i, and the slots after xs, if i is less than the length of xs
   pub full-take : (xs : List T) (s : List (Option T)) (i : ℕ) (d : T) → i < length xs
       → set (full xs ++ s) i None ≡ full (take i xs) ++ (None ∷ (full (drop (suc i) xs) ++ s))
   full-take [] s i d h = absurd (omega arith)
@@ -102,7 +102,8 @@ module _ {T : Type 0} where
       ∙ (set_at (full xs) (Some v) (replicate k None) None (length xs) (length-full xs)
       ∙ ap (λ (q : ℕ). full xs ++ replicate q None) m))
 
-  -- appending d - c empty slots to `front xs c` makes `front xs d`
+  -- if xs is no longer than c, and c ≤ d, appending d - c empty slots to `front xs c` makes `front
+  -- xs d`
   pub front-grow : (xs : List T) (c d : ℕ) → length xs ≤ c → c ≤ d
       → front xs c ++ replicate (d - c) None ≡ front xs d
   front-grow xs c d h l =
@@ -127,13 +128,13 @@ module _ {T : Type 0} where
   get-some (x ∷ xs) (suc i) h = get-some xs i (omega arith)
 
 module _ {T A : Type 0} where
-  -- the block b is that of a list with the items xs, the capacity c and the allocator a
+  -- the block b is that of a list with the items xs, the capacity c and the allocator `a`
   pub record Settled (b : Block T A) (a : A) (xs : List T) (c : ℕ) : Type 0 where
     pub thin : IsThin b a
     pub items : items_in b.slots ≡ xs
     pub cap : length b.slots ≡ c
 
-  -- if b has the slots `front xs c`, the stored length of xs, and memory that came from a, it is
+  -- if b has the slots `front xs c`, the stored length of xs, and memory that came from `a`, it is
   -- the block of a list with the items xs and the capacity c
   pub settled : (b : Block T A) (a : A) (xs : List T) (c : ℕ) → b.slots ≡ front xs c
       → b.len ≡ length xs → length xs ≤ c → IsFrom b.alloc a → Settled b a xs c
@@ -185,7 +186,7 @@ module _ {T A : Type 0} where
       → length (items_in b.slots) ≡ n → IsPacked b.slots n
   thin-packed b a n t long = record { row = t.packed.row; len = sym long }
 
-  -- if b' has the allocator of b, and the memory of b came from a, the memory of b' came from a
+  -- if b' has the allocator of b, and the memory of b came from `a`, the memory of b' came from `a`
   pub from-same : (b b' : Block T A) (a : A) → IsFrom b.alloc a → b'.alloc ≡ b.alloc
       → IsFrom b'.alloc a
   from-same b b' a f e = λ x h. f x (sym e ∙ h)

@@ -26,7 +26,7 @@ module _ {T A : Type 0} (R : RattleType) (b : Block T A) (a : A) where
       in
       subst (IsWithin R) is here
 
-  -- a list is within bounds after a step that left the capacity c, if a block of that capacity is
+  -- a list is within bounds after a step that made its capacity c, if a block of this capacity is
   -- small enough to be allocated
   pub within-settled : (xs : List T) (c : ℕ) → Fits R c → Settled b a xs c
       → IsWithin R (thin_of b a)
@@ -42,8 +42,8 @@ module _ {T A : Type 0} (R : RattleType) (b : Block T A) (a : A) where
     fits = subst (Fits R) (sym (after.cap ∙ ap (λ (w : Thin T A). w.capacity) is)) kept.fits;
   }
 
-  -- if b is small enough to be allocated, a list is within bounds before and after a step that kept
-  -- the capacity
+  -- if the block of a list is small enough to be allocated, the list is within bounds before and
+  -- after a step that kept its capacity
   pub within-kept : (b' : Block T A) (v : Thin T A) (xs : List T) → IsThin b a → thin_of b a ≡ v
       → Fits R (length b.slots) → Settled b' a xs (length b.slots) → IsWithin R v
       × IsWithin R (thin_of b' a)

@@ -4,14 +4,14 @@ use Rattle.std.specs.Prelude.{◌≡◌, ℕ, ◌*◌, ◌^◌, ◌<◌, ◌≤�
 use Rattle.thin_block.specs.Cost.{Cost}
 use Rattle.thin_vec.specs.ThinVec.{Thin}
 
--- `cost` is cheap for the capacity `cap`. For capacity 0, it counts no block and no item copied by
--- growth. For any other capacity, it counts fewer copied items than `cap`, and at most as many
--- blocks as `cap` has binary digits.
+-- `cost` is cheap for the capacity `cap`. For the capacity 0, the cost counts no block and no item
+-- copied by growth. For any other capacity, it counts fewer copied items than `cap`, and at most as
+-- many blocks as `cap` has binary digits.
 pub record IsCheapAt (cap : ℕ) (cost : Cost) : Type 0 where
   pub none : cap ≡ 0 → (cost.blocks ≡ 0) × (cost.grown ≡ 0)
   pub grown : 0 < cap → cost.grown < cap
   pub blocks : 0 < cap → 2 ^ cost.blocks ≤ 2 * cap
 
--- the cost of `v` is cheap for the capacity of `v`
+-- the cost of v is cheap for the capacity of v
 abbrev pub IsCheap : {T A : Type 0} → Thin T A → Type 0
 IsCheap v = IsCheapAt v.capacity v.cost

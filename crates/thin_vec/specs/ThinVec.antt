@@ -30,13 +30,13 @@ thin_code {T} {A} t a =
     (λ p. record { items = p.0; capacity = p.1.0; alloc = p.1.1.0; cost = p.1.1.1 }) (λ _. refl)
 
 module _ {T A : Type 0} where
-  -- the block `b` is the block of a list with the allocator `a`: the items are in the first slots,
+  -- the block b is the block of a list with the allocator `a`: the items are in the first slots,
   -- the stored length is the number of items, and the memory came from `a`
   pub record IsThin (b : Block T A) (a : A) : Type 0 where
     pub packed : IsPacked b.slots b.len
     pub from : IsFrom b.alloc a
 
-  -- the list that a contract sees for the block `b` and the allocator `a`
+  -- the list that a contract sees for the block b and the allocator `a`
   abbrev pub thin_of : Block T A → A → Thin T A
   thin_of b a = record {
     items = items_in b.slots;
@@ -45,7 +45,7 @@ module _ {T A : Type 0} where
     cost = b.cost;
   }
 
-  -- `v` is a new list with the allocator `a`: it has no items and no block, and has cost nothing
+  -- v is a new list with the allocator `a`: it has no items and no block, and has cost nothing
   pub record IsNew (v : Thin T A) (a : A) : Type 0 where
     pub items : v.items ≡ []
     pub capacity : v.capacity ≡ 0
@@ -59,33 +59,33 @@ module _ {T A : Type 0} where
     pub small : v.capacity < 2 ^ 63
     pub fits : Fits R v.capacity
 
-  -- `v` has room for `k` more items without growing
+  -- v has room for k more items without growing
   abbrev pub HasRoomFor : Thin T A → ℕ → Type 0
   HasRoomFor v k = length v.items + k ≤ v.capacity
 
-  -- the capacity that `v`, a list of items of R, gets by `rule` if it needs room for `k` more
-  -- items. It is None if this capacity overflows.
+  -- the capacity that v, a list of items of R, gets by `rule` if it needs room for k more items. It
+  -- is None if this capacity overflows.
   abbrev pub capacity_for : Rule → RattleType → Thin T A → ℕ → Option ℕ
   capacity_for rule R v k = ruled_capacity rule R v.capacity (length v.items + k)
 
-  -- the capacity that `v`, a list of items of R, gets if it needs room for exactly `k` more items.
-  -- It is None if a block of this capacity is too large to be allocated.
+  -- the capacity that v, a list of items of R, gets if it needs room for exactly k more items. It
+  -- is None if a block of this capacity is too large to be allocated.
   abbrev pub exact_for : RattleType → Thin T A → ℕ → Option ℕ
   exact_for R v k = exact_capacity R v.capacity (length v.items + k)
 
-  -- the cost of `v` after its capacity became `c`. If `c` differs from the old capacity, the cost
+  -- the cost of v after its capacity became c. If c differs from the old capacity, the cost
   -- includes one more block, into which all items were copied.
   abbrev pub cost_at : Thin T A → ℕ → Cost
   cost_at v c = if c == v.capacity then v.cost else growing (length v.items) v.cost
 
-  -- the cost of `v` after its capacity shrank to `c`. If `c` differs from the old capacity, the
-  -- cost includes one more block, into which all items were copied; but if `c` is 0, the block is
-  -- freed, and the cost becomes 0.
+  -- the cost of v after its capacity shrank to c. If c differs from the old capacity, the cost
+  -- includes one more block, into which all items were copied; but if c is 0, the block is freed,
+  -- and the cost becomes 0.
   abbrev pub cost_shrunk_to : Thin T A → ℕ → Cost
   cost_shrunk_to v c = if c == v.capacity then v.cost else
       (if c == 0 then no_cost else growing (length v.items) v.cost)
 
-  -- the cost of `v` after its capacity shrank to its length
+  -- the cost of v after its capacity shrank to its length
   abbrev pub cost_shrunk : Thin T A → Cost
   cost_shrunk v = cost_shrunk_to v (length v.items)
 
@@ -94,6 +94,6 @@ module _ {T A : Type 0} where
 abbrev pub IsCause : Option ℕ → ThinVecError → Type 0
 IsCause named cause = cause ≡ CapacityOverflow → named ≡ None
 
--- the cost of an empty list that was made with the capacity `c`
+-- the cost of an empty list that was made with the capacity c
 abbrev pub cost_new : ℕ → Cost
 cost_new c = if c == 0 then no_cost else growing 0 no_cost

@@ -86,14 +86,14 @@ module _ {T : Type 0} where
 
 module _ {T A : Type 0} where
   -- the block b is that of an iterator whose items xs are in the slots from `start` up to `end`; b
-  -- has c slots, and its memory came from a
+  -- has c slots, and its memory came from `a`
   pub record Walking (b : Block T A) (a : A) (xs : List T) (start end c : ℕ) : Type 0 where
     pub walked : IsWalked b a start end
     pub items : items_in b.slots ≡ xs
     pub cap : length b.slots ≡ c
 
   -- the block b satisfies `Walking` if its slots are `start` empty slots, the items xs, and `c -
-  -- end` empty slots, and its memory came from a
+  -- end` empty slots, and its memory came from `a`
   walking : (b : Block T A) {a : A} (xs : List T) (start end : ℕ) {c : ℕ}
       → b.slots ≡ empty start ++ (full xs ++ empty (c - end)) → start + length xs ≡ end → end ≤ c
       → IsFrom b.alloc a → Walking b a xs start end c

@@ -32,7 +32,7 @@ module _ {T A : Type 0} where
 module _ {S T A : Type 0} (steps : S → Option T → S → Type 0) (can : S → Type 0)
     (remaining : S → Count) where
   -- the gap of the block v was filled from the iterator s, and v became the block of the list w
-  -- with the allocator a. f says where filling ended: at which slot, whether the iterator has
+  -- with the allocator `a`. f says where filling ended: at which slot, whether the iterator has
   -- ended, and what is left of it.
   abbrev pub FillsGap : Open T A → A → S → Thin T A → Filled S → Type 0
   FillsGap v a s w f =

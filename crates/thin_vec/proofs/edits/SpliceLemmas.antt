@@ -64,7 +64,7 @@ closed-moves v w n paid none same count = go (eqb w.gap 0) refl
               absurd (false-true (sym e ∙ t)),
         )
       where
-        -- false is not true, so anything follows
+        -- if false equals true, anything follows
         false-true : false ≡ true → ⊥
         false-true h = cc
 

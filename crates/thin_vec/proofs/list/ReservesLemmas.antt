@@ -37,7 +37,7 @@ tells-same named other e told = record {
   overflow = (λ over. sym e ∙ told.overflow.0 over, λ none. told.overflow.1 (e ∙ none));
 }
 
--- an error that is `OutOfMemory` is not `CapacityOverflow`, so anything follows
+-- if an error is both `OutOfMemory` and `CapacityOverflow`, anything follows
 memory-no-overflow : {P : Type 0} (cause : ThinVecError) → cause ≡ OutOfMemory
     → cause ≡ CapacityOverflow → P
 memory-no-overflow cause is over = cc

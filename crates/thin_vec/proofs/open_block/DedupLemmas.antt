@@ -54,11 +54,12 @@ module _ {T : Type 0} where
       let h = neighbours s i k x k' x' e in
       record { first = h.first; second = h.second; now = ap (λ (r : List (Option T)). p ∷ r) h.now }
 
-  -- the slice of the two items from the slot i on is cut into two slices of one item each, a and b
+  -- the slice of the two items from the slot i on is cut into two slices of one item each, `a` and
+  -- `b`
   module _ (s : List (Option T)) (i : ℕ) (all a b : List T) (within : i + 2 ≤ length s)
       (lent : full all ≡ slice_range s i (i + 2)) (cut : all ≡ a ++ b) (one : length a ≡ 1) where
-    -- if the item of a is k and that of b is x, then `Neighbours` holds, and writing k' into a and
-    -- x' into b writes each into its own slot
+    -- if the item of `a` is k and that of `b` is x, then `Neighbours` holds, and writing k' into
+    -- `a` and x' into `b` writes each into its own slot
     pub parts-of : {k x : T} (k' x' : T) → k ≡ get_or a 0 k → x ≡ get_or b 0 x
         → Neighbours s i k x k' x'
         × (over s i (set a 0 k' ++ set b 0 x') ≡ set (set s i (Some k')) (suc i) (Some x'))

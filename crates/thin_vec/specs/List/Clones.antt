@@ -19,21 +19,21 @@ module _ {T : Type 0} (clones : T → T → Type 0) where
   abbrev pub ClonesEqual : Type 0
   ClonesEqual = (x : T) → CloneEquals x
 
-  -- `s'` is `s` with clones of the first `n` sources in the slots from `i` on
+  -- s' is s with clones of the first n sources in the slots from i on
   pub record LaysClones (sources : List T) (n i : ℕ) (s s' : List (Option T)) : Type 0 where
     pub copies : List T
     pub cloned : AllZip clones (take n sources) copies
     pub slots : s' ≡ laid i (full copies) s
 
-  -- what the contract of std's `Clone` says of a clone `w` of the list `v`: `w` has a clone of each
-  -- item, the same allocator, and a block of exactly as many slots as there are items
+  -- what the contract of std's `Clone` says of a clone w of the list v: w has a clone of each item,
+  -- the same allocator, and a block of exactly as many slots as there are items
   abbrev pub IsClonedList : {A : Type 0} → RattleType → Thin T A → Thin T A → Type 0
   IsClonedList R v w =
       AllZip clones v.items w.items × (length w.items ≡ length v.items)
       × (w.capacity ≡ length v.items) × (w.alloc ≡ v.alloc)
       × (w.cost ≡ moving (length v.items) (cost_new (length v.items))) × IsCheap w × IsWithin R w
 
--- `ys` is `xs` followed by `n` clones of `x`
+-- ys is xs followed by n clones of x
 pub record AppendsRepeats {T : Type 0} (clones : T → T → Type 0) (x : T) (n : ℕ)
     (xs ys : List T) : Type 0 where
   pub copies : List T
@@ -41,8 +41,8 @@ pub record AppendsRepeats {T : Type 0} (clones : T → T → Type 0) (x : T) (n 
   pub count : length copies ≡ n
   pub items : ys ≡ xs ++ copies
 
--- `ys` is `xs` resized to the length `n`: it is cut off after `n` items, or extended by clones of
--- `x` and finally by `x` itself
+-- ys is xs resized to the length n: it is cut off after n items, or extended by clones of x and
+-- finally by x itself
 pub record IsResized {T : Type 0} (clones : T → T → Type 0) (xs : List T) (n : ℕ) (x : T)
     (ys : List T) : Type 0 where
   pub shorter : n ≤ length xs → ys ≡ take n xs
@@ -59,8 +59,8 @@ pub record StopsAtClone {T : Type 0} (infallible : T → Type 0) (sources : List
   pub fallible : HoldsAt (λ x. ¬ (infallible x)) sources at
   pub cost : after ≡ moving at before
 
--- `w` has the cost of `v` at the capacity of `w`, plus one move for each source before one whose
--- clone can fail
+-- w has the cost of v at the capacity of w, plus one move for each source before one whose clone
+-- can fail
 abbrev pub CostsUpToClone : {T A : Type 0} → (T → Type 0) → List T → Thin T A → Thin T A → Type 0
 CostsUpToClone infallible sources v w =
     StopsAtClone infallible sources (cost_at v w.capacity) w.cost
