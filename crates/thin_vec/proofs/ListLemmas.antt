@@ -203,7 +203,7 @@ module _ {T A : Type 0} where
   settle-front {b} {a} t b' xs c w e n h = settled b' a xs c (ap (λ v. v.slots) w ∙ e)
       (ap (λ v. v.len) w ∙ n) h (from-same b b' a t.from (ap (λ v. v.alloc) w))
 
-  -- if v was written into the slot after the last item, and the stored length incremented, the
+  -- if v was written into the slot after the last item, and the stored length was incremented, the
   -- block is that of the list with v appended
   pub settle-push : {b : Block T A} {a : A} → IsThin b a → (b' : Block T A) (v : T) (i : ℕ)
       {k : Cost} → i ≡ b.len → i < length b.slots
@@ -237,8 +237,8 @@ module _ {T A : Type 0} where
       (drop_more xs j v l
       ∙ (ap (λ (r : List T). get_or xs j v ∷ r) z ∙ ap (λ (r : T). r ∷ []) (sym y)))
 
-  -- if the slot of the last item was emptied, and the stored length decremented, the block is that
-  -- of the list without its last item
+  -- if the slot of the last item was emptied, and the stored length was decremented, the block is
+  -- that of the list without its last item
   pub settle-pop : {b : Block T A} {a : A} → IsThin b a → (b' : Block T A) (v : T) (j : ℕ)
       {k : Cost} → j + 1 ≡ b.len → slot b.slots j ≡ Some v
       → IsWritten b b' (set b.slots j None) j k

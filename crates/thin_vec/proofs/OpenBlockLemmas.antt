@@ -17,12 +17,12 @@ use Rattle.thin_vec.specs.declared.open_block.OpenBlock.TheInside.{Inside}
 use Rattle.thin_vec.proofs.list.InsertRemoveLemmas.{full-append}
 use Rattle.thin_vec.proofs.ListLemmas.{get-some, items-front, items-full-alone, length-empty, length-full, slot-get, thin-room}
 
--- a non-empty list has a first item, followed by a rest
+-- a non-empty list consists of its first item and a rest
 pub first-of : {X : Type 0} (xs : List X) → 0 < length xs → (x : X) × (ys : List X) × (xs ≡ x ∷ ys)
 first-of [] h = absurd (omega arith)
 first-of (x ∷ ys) h = (x, ys, refl)
 
--- a non-empty list has a last item, which follows the others
+-- a non-empty list consists of some items and its last item
 pub last-of : {X : Type 0} (xs : List X) → 0 < length xs → (ys : List X)
     × (x : X) × (xs ≡ ys ++ x ∷ [])
 last-of [] h = absurd (omega arith)
@@ -178,8 +178,8 @@ module _ {T A : Type 0} where
         ∙ ap (λ (k : ℕ). full v.tail ++ empty k) (sym some)))
         ∙ items-front v.tail (length v.tail + (v.capacity - reach v))
 
-    -- if the slots and numbers of h are those of v (`Shows`), and so are the allocator and the
-    -- cost, contracts see h as v
+    -- if h has the slots and the indices of v (`Shows`), and also its allocator and its cost,
+    -- contracts see h as v
     pub found : h.block.alloc ≡ v.alloc → h.block.cost ≡ v.cost → Found h v
     found alloc cost =
         let gap : h.rest_start - h.front_end ≡ v.gap = omega (arith, s.gap) in
@@ -227,7 +227,7 @@ module _ {T A : Type 0} where
   rest-run h xs e = sym (items-full-alone xs) ∙ ap items_in e
 
   -- ---- the steps. Each has three parts: the block after the step, what a contract sees of this
-  -- block, and a lemma which says so.
+  -- block, and a lemma that proves this.
 
   module _ (h : Inside T A) (o : IsOpen h) (b : Block T A)
       (some : 0 < length (open_of h).rest) where
@@ -481,8 +481,8 @@ module _ {T A : Type 0} where
     count-all : length (items_of (open_of h)) ≡ h.front_end + length all-after
     count-all = omega (arith, length-append (open_of h).front all-after, o.front)
 
-    -- if there is no gap before the tail, moving the middle run and the tail to the end of the
-    -- front packs all items into the first slots
+    -- if there is no gap before the tail, moving the middle run and the tail to the slots directly
+    -- after the front packs all items into the first slots
     pub close-row : (open_of h).gap_after ≡ 0
         → moved h.rest_start h.front_end (h.len - h.rest_start) h.block.slots ≡ front
         (items_of (open_of h)) (length h.block.slots)

@@ -14,7 +14,7 @@ use Rattle.thin_vec.specs.Open.{Open}
 use Rattle.thin_vec.specs.ThinVec.{Thin}
 use Rattle.thin_vec.specs.OpenBlock.Sift.{Advances, IsAskedAt, IsSifted, AskedUpTo, Sifts, Stops}
 
--- b moves and then a moves are b + a moves
+-- adding b moves to a cost, and then `a` moves, adds b + a moves
 pub moving-more : (a b : ℕ) (c : Cost) → moving a (moving b c) ≡ moving (b + a) c
 moving-more a b c = let e : c.moves + b + a ≡ c.moves + (b + a) = omega arith in
     λ i. record { blocks = c.blocks; grown = c.grown; moves = e i }
@@ -24,14 +24,14 @@ pub moving-none : (c : Cost) → moving 0 c ≡ c
 moving-none c = let e : c.moves + 0 ≡ c.moves = omega arith in
     λ i. record { blocks = c.blocks; grown = c.grown; moves = e i }
 
--- if the gap is not empty, closing it costs k moves
+-- if there is a gap, moving k items over it costs k moves
 pub moving-after : (gap k : ℕ) (c : Cost) → 0 < gap
     → (if gap == 0 then c else moving k c) ≡ moving k c
 moving-after gap k c some =
     ap (λ (b : Bool). if b then c else moving k c)
     (ne_eqb gap 0 (λ (e : gap ≡ 0). omega (arith, e)))
 
--- if the gap is empty, closing it costs nothing
+-- if there is no gap, k items stay in their slots, and cost nothing
 pub moving-before : (gap k : ℕ) (c : Cost) → (0 < gap → ⊥)
     → (if gap == 0 then c else moving k c) ≡ c
 moving-before zero k c none = refl
@@ -61,14 +61,14 @@ none-left [] none = refl
 none-left (x ∷ xs) none = absurd (none (omega arith))
 
 module _ {T : Type 0} where
-  -- the items that stay of two runs are those that stay of the first run, and then those of the
+  -- the items that stay of two runs together are those of the first run, followed by those of the
   -- second
   pub left_at-append : (a b : Verdicts T) → left_at true (a ++ b) ≡ left_at true a ++ left_at true b
   left_at-append [] b = refl
   left_at-append ((true, x) ∷ a) b = ap (λ (l : List T). x ∷ l) (left_at-append a b)
   left_at-append ((false, x) ∷ a) b = left_at-append a b
 
-  -- the number of items that stay of two runs is the sum of the numbers for each run
+  -- the number of items that stay of two runs together is the sum of the numbers for each run
   pub trues-append : (a b : Verdicts T) → trues (flags_of (a ++ b)) ≡ trues
       (flags_of a) + trues (flags_of b)
   trues-append [] b = omega arith
@@ -109,7 +109,7 @@ module _ {S T : Type 0} (R : S → T → Bool → S → T → Type 0) where
       ap (λ (c : Verdicts T). c ++ b) h.6,
     )
 
-  -- if one item was tested, there is one verdict
+  -- a test of one item x is a test of the list of x alone, with one verdict
   pub asked-one : (s t : S) (x y : T) (b : Bool) → R s x b t y → Asked R s (x ∷ []) ((b, y) ∷ []) t
   asked-one s t x y b h = (b, y, t, [], h, (refl, refl), refl)
 
@@ -280,13 +280,12 @@ module _ {S T : Type 0} (R : S → T → Bool → S → T → Type 0) where
         stop-count r.between r.after t r.end r.stops,
       )
 
-  -- if the item at 0 is tested and stays, the items up to 1 were tested, and each of them stays
+  -- if the first item is tested and stays, `Stays` holds for this item
   pub one-stays : (s : S) (xs : List T) (t : S) (ys : List T)
       → IsAskedAt R 0 s xs true t ys → Stays 0 1 s xs t ys
   one-stays s xs t ys a = stays-more 0 0 s xs s xs (stays-start 0 s xs (omega arith)) t ys a
 
-  -- if the items at 0 and 1 are tested and stay, the items up to 2 were tested, and each of them
-  -- stays
+  -- if the first two items are tested and stay, `Stays` holds for these two items
   pub two-stay : (s : S) (xs : List T) (t : S) (ys : List T) (u : S) (zs : List T)
       → IsAskedAt R 0 s xs true t ys → IsAskedAt R 1 t ys true u zs → Stays 0 2 s xs u zs
   two-stay s xs t ys u zs a b = stays-more 0 1 s xs t ys (one-stays s xs t ys a) u zs b
@@ -348,11 +347,11 @@ module _ {S T : Type 0} (R : S → T → Bool → S → T → Type 0) where
     run-long : length r.left ≡ m
     run-long = omega (arith, r.reached)
 
-    -- ys is the items of the run, as the tests left them, followed by the items after the run
+    -- ys consists of the items of the run, as the tests left them, and the items after the run
     run-now : ys ≡ r.left ++ r.end
     run-now = r.now ∙ ap (λ (l : List T). l ++ (r.left ++ r.end)) run-none
 
-    -- xs is the items of the run, as they were before the tests, followed by the items after the
+    -- xs consists of the items of the run, as they were before the tests, and the items after the
     -- run
     pub run-was : xs ≡ r.run ++ r.after
     run-was = r.was ∙ ap (λ (l : List T). l ++ (r.run ++ r.after)) run-none
@@ -421,8 +420,8 @@ module _ {S T : Type 0} (R : S → T → Bool → S → T → Type 0) where
   -- ---- open blocks
 
   module _ {A : Type 0} (v w : Open T A) where
-    -- if some first items of the middle run of v were tested, and the m items that stay were moved
-    -- to the front for one move each, v and w satisfy `Sifts`
+    -- if a first part of the middle run of v was tested (`Part`), and the m items that stay were
+    -- moved to the front for one move each, v and w satisfy `Sifts`
     pub sifts-of : (m : ℕ) (s t : S) (kept : List T) → Part m s v.rest t kept w.rest
         → 0 < w.gap → w ≡ record v {
           front = v.front ++ kept;
@@ -445,8 +444,8 @@ module _ {S T : Type 0} (R : S → T → Bool → S → T → Type 0) where
           });
         }
 
-  -- the items of the middle run of v were tested up to the first that does not stay, and there is a
-  -- gap before them
+  -- the items of the middle run of v were tested up to the first that does not stay, or to the end,
+  -- and there is a gap before them
   module _ {A : Type 0} (s t : S) (v w : Open T A) (gap : 0 < v.gap)
       (h : Advances R s v t w) where
     -- the tested items that stay, as the tests left them

@@ -19,7 +19,7 @@ use Rattle.thin_vec.proofs.LendsLemmas.{over-front}
 use Rattle.thin_vec.proofs.ListLemmas.{from-same, full-same, get-some, items-empty, items-full, length-empty, length-full, slot-get}
 
 module _ {T : Type 0} where
-  -- empty slots before the slots s do not change the items
+  -- empty slots before the slots s add no items
   items-after : (k : ℕ) (s : List (Option T)) → items_in (empty k ++ s) ≡ items_in s
   items-after zero s = refl
   items-after (suc k) s = items-after k s

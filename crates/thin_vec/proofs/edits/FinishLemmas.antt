@@ -79,14 +79,14 @@ module _ {S T A : Type 0} {steps : S → Option T → S → Type 0} {can : S →
 
     module _ (rule : Rule) (R : RattleType) (n : ℕ) (left : Count) where
       -- if filling and closing the gap took at most n further moves, the list satisfies `HasTaken`
-      -- with n
+      -- with n further moves
       pub filled-taken : p.1.cost.0 ≤ n → HasTaken rule R (left_of v a) w n left
       filled-taken few =
           taken-spare rule R (left_of v a) w (length p.0.items) p.1.cost.0 n left p.1.cost.1
           p.1.capacity (omega (arith, filled-long, length-append v.front v.tail)) few p.1.alloc
 
-      -- if a gap was opened in the list u, filled and closed with at most n further moves, u and w
-      -- satisfy `HasTaken` with n
+      -- if a gap was opened in the list u, filled, and closed, with at most n further moves in all,
+      -- u and w satisfy `HasTaken` with n further moves
       pub wide-taken : (u : Thin T A) (at count : ℕ) → IsWide v u at count → a ≡ u.alloc
           → p.1.cost.0 + (length u.items - at) ≤ n → HasTaken rule R u w n left
       wide-taken u at count wide from few =
@@ -124,8 +124,8 @@ module _ {S T A : Type 0} {steps : S → Option T → S → Type 0} {can : S →
       nearer = p.nearer;
     }
 
-    -- if the steps up to u satisfy `HasTaken` with m, and those from u on with n, all steps satisfy
-    -- it with k, if m + n ≤ k
+    -- if the steps up to u satisfy `HasTaken` with m further moves, those from u on satisfy it with
+    -- n, and m + n ≤ k, then all steps satisfy it with k
     pub reached-taken : (rule : Rule) (R : RattleType) → KeepsLaw rule → (a : A) (w : Thin T A)
         (m n k : ℕ) → m + n ≤ k → HasTaken rule R (left_of v a) u m (remaining s)
         → HasTaken rule R u w n (remaining t) → HasTaken rule R (left_of v a) w k (remaining s)
@@ -136,8 +136,8 @@ module _ {S T A : Type 0} {steps : S → Option T → S → Type 0} {can : S →
         (λ fit same. omega (arith, fit, same, ap length p.items, long, left, p.nearer))
         before now
 
-    -- if u has kept the capacity of v, a capacity that satisfies `IsExtended` for the steps from u
-    -- on satisfies it for all steps
+    -- if u has the capacity of v, a capacity that satisfies `IsExtended` for the steps from u on
+    -- satisfies it for all steps
     pub reached-extended : (rule : Rule) (R : RattleType) (a : A) (d n : ℕ)
         → u.capacity ≡ v.capacity → IsExtended rule R u d n (remaining t)
         → IsExtended rule R (left_of v a) d n (remaining s)

@@ -22,7 +22,7 @@ use Rattle.thin_vec.specs.ThinVec.{HasRoomFor, Thin, capacity_for, cost_at}
 use Rattle.thin_vec.proofs.list.ExtendLemmas.{filled-reserved, loose-join, loose-le, loose-ruled, yields-join, yields-more}
 use Rattle.thin_vec.proofs.ThinVecLemmas.{cap-kept, cost_at-copied}
 
--- b moves and then a moves are b + a moves
+-- adding b moves to a cost, and then `a` moves, adds b + a moves
 pub moving-add : (a b : ℕ) (c : Cost) → moving a (moving b c) ≡ moving (b + a) c
 moving-add a b c = ap (λ m. let d : Cost = record c { moves = m } in d)
     (let e : c.moves + b + a ≡ c.moves + (b + a) = omega arith in e)
@@ -145,8 +145,8 @@ module _ {T A : Type 0} where
     grown = λ more. absurd (omega (arith, more, same));
   }
 
-  -- if v and u satisfy `IsSpliced` with m further moves, and u and w with n, then v and w do with
-  -- k, if m + n ≤ k
+  -- if v and u satisfy `IsSpliced` with m further moves, u and w satisfy it with n, and m + n ≤ k,
+  -- then v and w satisfy it with k
   pub spliced-join : (v u w : Thin T A) (m n k : ℕ) → m + n ≤ k → v.capacity ≤ u.capacity
       → u.capacity ≤ w.capacity → length v.items ≤ length u.items → IsSpliced v u m
       → IsSpliced u w n → IsSpliced v w k
@@ -310,7 +310,7 @@ module _ (rule : Rule) (R : RattleType) where
         | inr spare ↦ inl (cap-kept rule R law v k d spare e)
       ]
 
--- a cost with or without n moves is the same, if n is 0
+-- if n is 0, a cost is the same with n more moves as without them
 unmoved : (b : Bool) (c : Cost) (n : ℕ) → n ≡ 0 → (if b then c else moving n c) ≡ c
 unmoved true c n none = refl
 unmoved false c n none = ap (λ k. moving k c) none ∙ sym (moving-zero c)
@@ -349,7 +349,7 @@ module _ {T A : Type 0} where
   between-length v xs =
       omega (arith, length-append (v.front ++ xs) v.tail, length-append v.front xs)
 
-  -- if v has no tail, xs after all other items is xs in place of the middle run
+  -- if v has no tail, appending xs to the front and the tail puts xs in place of the middle run
   pub after-items : (v : Open T A) (xs : List T) → v.tail ≡ []
       → (v.front ++ v.tail) ++ xs ≡ with_between v xs
   after-items v xs none =
@@ -371,7 +371,7 @@ module _ {T A : Type 0} where
 -- what a step of `finish` does to a list
 module _ (rule : Rule) (R : RattleType) {T A : Type 0} where
   -- if k items were placed into spare capacity, with k + m moves, and m ≤ n, then v and w satisfy
-  -- `HasTaken` with n
+  -- `HasTaken` with n further moves
   pub taken-spare : (v w : Thin T A) (k m n : ℕ) (left : Count) → w.cost ≡ moving (k + m) v.cost
       → w.capacity ≡ v.capacity → length w.items ≡ length v.items + k → m ≤ n → w.alloc ≡ v.alloc
       → HasTaken rule R v w n left
@@ -418,8 +418,8 @@ module _ (rule : Rule) (R : RattleType) {T A : Type 0} where
       cheap = cheap;
     }
 
-    -- if v and u satisfy `HasTaken` with m, and u and w with n, then v and w do with k, if m + n ≤
-    -- k
+    -- if v and u satisfy `HasTaken` with m further moves, u and w satisfy it with n, and m + n ≤ k,
+    -- then v and w satisfy it with k
     pub taken-join : (v u w : Thin T A) (m n k : ℕ) (left more : Count) → m + n ≤ k
         → length v.items ≤ length u.items
         → (HasRoomFor v (size left) → u.capacity ≡ v.capacity → HasRoomFor u (size more))

@@ -67,8 +67,8 @@ module _ {T : Type 0} where
         (replicate-append-replicate k (c - length ys) None ∙ ap (λ (m : ℕ). empty m) bare))
 
 module _ {T A : Type 0} where
-  -- if xs were laid after the last item of a list, and the stored length increased by their number,
-  -- the block is that of the list with xs appended
+  -- if xs were laid after the last item of a list, and the stored length was increased by their
+  -- number, the block is that of the list with xs appended
   pub settle-more : {b : Block T A} {a : A} → IsThin b a → (b' : Block T A) (xs : List T) (n : ℕ)
       → n ≡ b.len → n + length xs ≤ length b.slots → {l : ℕ} {k : Cost} → l ≡ n + length xs
       → IsWritten b b' (laid n (full xs) b.slots) l k

@@ -16,7 +16,8 @@ use Rattle.thin_vec.proofs.ListLemmas.{length-full}
 
 module _ {T : Type 0} {clones : T → T → Type 0} {sources : List T} {n i : ℕ}
     {s s' : List (Option T)} (lays : LaysClones clones sources n i s s') where
-  -- if clones of the first n sources were laid, there are n clones
+  -- if clones of the first n sources were laid, and there are at least n sources, there are n
+  -- clones
   pub length-copies : n ≤ length sources → length lays.copies ≡ n
   length-copies few = sym (length_all_zip clones (take n sources) lays.copies lays.cloned)
       ∙ length-take-le n sources few
@@ -54,8 +55,8 @@ all-repeated {T} clones x n m ys cloned = All-from_recursion (clones x) ys (each
     each (suc n) (suc m) (y ∷ ys) e = (e.0, each n m ys e.1)
 
 module _ {T : Type 0} (clones : T → T → Type 0) where
-  -- if every clone of x equals x, then xs, n clones of x and x itself are xs and x repeated n + 1
-  -- times
+  -- if every clone of x equals x, then xs followed by n clones of x and by x itself is xs followed
+  -- by n + 1 repetitions of x
   pub equal-repeated : (n m : ℕ) {x : T} {xs ys zs : List T} → CloneEquals clones x
       → AppendsRepeats clones x n xs ys → zs ≡ ys ++ x ∷ [] → m ≡ n + 1 → zs ≡ xs ++ replicate m x
   equal-repeated n m {x} {xs} equal repeats last one =
@@ -92,12 +93,12 @@ not-all P (x ∷ xs) i low never all = never x (all i x low)
 pub ruleset new_lists = (capacity-new)
 
 module _ {T : Type 0} (xs : List T) (a b : ℕ) (within : b ≤ length xs) where
-  -- the range from a up to b has b - a items
+  -- the range `a..b` has b - a items
   pub length-range : length (slice_range xs a b) ≡ b - a
   length-range = length-take-le (b - a) (drop a xs) (omega (arith, length-drop a xs))
 
-  -- the item at i of the range from a up to b is the item at a + i of the list, even after ys were
-  -- appended to the list
+  -- the item at index i of the range `a..b` is the item at index `a + i` of the list, even after ys
+  -- were appended to the list
   pub get-range : (ys : List T) (i : ℕ) (x : T) → i < b - a → x ≡ get_or (xs ++ ys) (a + i) x
       → x ≡ get_or (slice_range xs a b) i x
   get-range ys i x less is = is ∙ (get_or_append_left xs ys x (a + i) (omega arith)

@@ -156,8 +156,8 @@ module _ (rule : Rule) (R : RattleType) (law : KeepsLaw rule) where
   named-after c d e n P (inl same) f = inr (f same)
   named-after c d e n P (inr p) f = inl (inr p)
 
-  -- if a new list first got exactly the capacity c of a size hint, and then a capacity d that
-  -- satisfies `IsNamed` after c, then d satisfies `IsCollected`
+  -- if a new list first got exactly the capacity c that a size hint asks for, and then a capacity d
+  -- that satisfies `IsNamed` after c, then d satisfies `IsCollected`
   pub collected-after : {c d : ℕ} (n h : ℕ) (left : Count) → IsWithinCount h left
       → exact_capacity R 0 h ≡ Some c → IsNamed rule R c d n → IsCollected rule R d n left
   collected-after n h left hint e (inl same) = inr (h, hint, e ∙ ap Some (sym same))

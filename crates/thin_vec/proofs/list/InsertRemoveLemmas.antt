@@ -91,8 +91,8 @@ module _ {T : Type 0} where
         ∙ get_or_at (full (take i xs)) None after None i (sym before)
 
 module _ {T A : Type 0} {b : Block T A} {a : A} (t : IsThin b a) where
-  -- if the slot of the item at i was emptied, the later items moved down by one slot, and the
-  -- stored length decremented, the block is that of the list without this item
+  -- if the slot of the item at i was emptied, the later items were moved down by one slot, and the
+  -- stored length was decremented, the block is that of the list without this item
   pub settle-remove : (b' : Block T A) (i : ℕ) {j k : ℕ} → i < length (items_in b.slots)
       → j ≡ i + 1 → k ≡ b.len - j → {l : ℕ} {m : Cost} → l ≡ b.len
       → IsWritten b b' (moved j i k (set b.slots i None)) (l - 1) m
@@ -105,8 +105,8 @@ module _ {T A : Type 0} {b : Block T A} {a : A} (t : IsThin b a) where
       (omega (arith, len, t.packed.len, length-remove xs i h))
       (omega (arith, thin-room b a t, length-remove xs i h))
 
-  -- if the items from i on moved up by one slot, v was written into the slot i, and the stored
-  -- length incremented, the block is that of the list with v inserted at i
+  -- if the items from i on were moved up by one slot, v was written into the slot i, and the stored
+  -- length was incremented, the block is that of the list with v inserted at i
   pub settle-insert : (b' : Block T A) (i : ℕ) (v : T) {j k : ℕ} → i ≤ length (items_in b.slots)
       → b.len < length b.slots → j ≡ i + 1 → k ≡ b.len - i → {l : ℕ} {m : Cost} → l ≡ b.len
       → IsWritten b b' (set (moved i j k b.slots) i (Some v)) (l + 1) m
@@ -119,7 +119,7 @@ module _ {T A : Type 0} {b : Block T A} {a : A} (t : IsThin b a) where
       (omega (arith, len, t.packed.len, length-insert xs i v h))
       (omega (arith, o, t.packed.len, length-insert xs i v h))
 
-  -- after the items from i on moved up by one slot, the slot i is empty
+  -- after the items from i on were moved up by one slot, the slot i is empty
   pub thin-gap : (i : ℕ) {j k : ℕ} → i ≤ length (items_in b.slots) → b.len < length b.slots
       → j ≡ i + 1 → k ≡ b.len - i → slot (moved i j k b.slots) i ≡ None
   thin-gap i {j} {k} h o e n =
@@ -266,7 +266,7 @@ module _ {T A : Type 0} where
 
   module _ {b : Block T A} {a : A} (t : IsThin b a) (b' : Block T A) (i last : ℕ) where
     -- if the item at i, which is not the last, and the last item were taken out, the last one was
-    -- written into the slot i, and the stored length decremented, the block is that of the list
+    -- written into the slot i, and the stored length was decremented, the block is that of the list
     -- after `swap_remove`
     settle-swap_remove : (v : T) {m : T} → i < last → last + 1 ≡ b.len → slot b.slots last ≡ Some m
         → {k : Cost} → IsWritten b b' (set (set (set b.slots i None) last None) i (Some m)) last k
@@ -307,7 +307,7 @@ module _ {T A : Type 0} where
             )
 
     -- if the content of the last filled slot was moved into the slot i, which may be the same slot,
-    -- and the stored length decremented, the block is that of the list after `swap_remove`
+    -- and the stored length was decremented, the block is that of the list after `swap_remove`
     pub settle-replaced : (v : T) → i ≤ last → last + 1 ≡ b.len → slot b.slots i ≡ Some v
         → {k : Cost} → IsWritten b b' (set (set b.slots i (slot b.slots last)) last None) last k
         → Settled b' a (swap_remove (items_in b.slots) i v) (length b.slots)

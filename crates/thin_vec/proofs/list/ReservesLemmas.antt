@@ -84,8 +84,8 @@ module _ {T A : Type 0} (R : RattleType) (v : Thin T A) where
         }
 
     -- let S be a type for which the rule chooses the same capacity as for R, and l equal to k. If v
-    -- grew to u and satisfies `Reserves`, and w has the capacity of u, then v and w satisfy
-    -- `Reserves` after a further step that fails only with `OutOfMemory`.
+    -- grew to u, so that v and u satisfy `Reserves`, and w has the capacity of u, then v and w
+    -- satisfy `Reserves` after a further step that fails only with `OutOfMemory`.
     pub reserves-then : {X Y : Type 0} {x : X} (S : RattleType) (k l : ℕ) (u w : Thin T A)
         (r : Result Y ThinVecError) → l ≡ k
         → capacity_for rule S v l ≡ capacity_for rule R v k → w.capacity ≡ u.capacity
