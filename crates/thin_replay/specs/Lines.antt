@@ -16,8 +16,8 @@ use Rattle.thin_replay.specs.declared.line.Line.TheVariants.{Carry, Help, New}
 abbrev pub BeginsForm : Words → List ℕ → ℕ → Type 0
 BeginsForm words name count = (count ≤ length words) × (word words 0 ≡ name)
 
--- the words have the form of the command, and contain its numbers, items and steps. For a command
--- that asks a judge, this does not speak of the words for the judge.
+-- the words have the form of the command, and contain its numbers, items and steps. This does not
+-- restrict the words that describe a judge.
 abbrev pub Says : {A G : Type 0} → Words → Command ℕ A G → Type 0
 Says words (Push item) = HasForm words (codes "push") 2 × Spells (word words 1) item
 Says words Pop = HasForm words (codes "pop") 1
@@ -100,7 +100,7 @@ IsLine words Help = HasForm words (codes "help") 1
 IsLine words New = HasForm words (codes "new") 1
 IsLine words (Carry call) = IsCall words call
 
--- `words` are the words of the text, which white space separates
+-- `words` are the words of the text, which are separated by white space
 abbrev pub HasWords : List ℕ → Words → Type 0
 HasWords text words = (it : SplitWhitespace)
     × (split_whitespace_rest it ≡ text) × DrainsIf split_whitespace_steps ⊤ it words

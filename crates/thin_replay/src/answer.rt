@@ -1,4 +1,4 @@
-//! Prints the replies, the list, and the text of `help`.
+//! The output of the program: the replies, the list, and the text of `help`.
 
 use crate::forms::{FORMS, NOTES};
 use std::io::{self, Write};

@@ -1,4 +1,4 @@
-//! Parses the lines that describe commands.
+//! The parser of the lines that describe commands.
 
 ghost use Rattle.std.specs.Prelude.{IfOk, IfSome};
 ghost use Rattle.thin_replay.specs.Lines.{SaysUnjudged};
@@ -14,7 +14,8 @@ use crate::line_error::LineError;
 use std::alloc::Global;
 use thin_runner::command::Command;
 
-/// A command, and the judge that it asks. If the command asks no judge, the judge may be any.
+/// A command, and the judge that it asks. If the command asks no judge, the value of `judge` does
+/// not matter.
 #[derive(Drop)]
 pub struct Call {
     pub command: Command<u64>,
@@ -25,8 +26,8 @@ impl Call {
     ghost use Rattle.std.specs.Prelude.{◌≡◌, IfOk, IfSome};
     ghost use Rattle.thin_replay.specs.Lines.{IsCall};
 
-    /// Parses the words of a line. Returns `None` if they have the form of no command, and an error
-    /// if they have such a form but one of them is wrong.
+    /// Parses the words of a line. Returns `None` if they do not have the form of a command, and an
+    /// error if they have such a form but a word in it is wrong.
     pub fn parse(alloc: Global, words: &[&str]) -> Result<Option<Call>, LineError>
         ensures says { IfOk result (λ found. IfSome found (IsCall words.now)) }
     {

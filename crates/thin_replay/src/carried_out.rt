@@ -1,4 +1,4 @@
-//! Carries out a single command by a call of `run`.
+//! The call of `run` that carries out a command.
 ghost use Rattle.std.specs.Prelude.{◌≡◌, [], ◌∷◌, IfErr, IfOk, OnErr};
 ghost use Rattle.thin_runner.specs.Headline.{Headline};
 ghost use Rattle.thin_runner.specs.Setting.{setting};

@@ -31,7 +31,7 @@ pub static FORMS: [&str; 27] = [
     "splice START END STEPS HINT ITEM ..",
 ];
 
-/// The meaning of the words in capitals.
+/// Notes on the words in capitals.
 pub static NOTES: [&str; 5] = [
     "All numbers are from 0 to 18446744073709551615.",
     "STEPS is `-`, or a word of the letters `f` (a call of `next`) and `b` (of `next_back`).",

@@ -1,4 +1,4 @@
-//! Parses the lines of the input.
+//! The lines of the input, and their parser.
 
 use crate::call::Call;
 use crate::forms::form_of;

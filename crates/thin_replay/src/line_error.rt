@@ -1,4 +1,4 @@
-//! Why a line is not a command.
+//! The errors of lines that are not commands.
 
 use std::alloc::AllocError;
 use thiserror::Error;

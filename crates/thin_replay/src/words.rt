@@ -1,4 +1,4 @@
-//! Parses the words of a line.
+//! The parsers of the single words of a line.
 ghost use Rattle.std.specs.Prelude.{IfOk};
 ghost use Rattle.std.specs.Str.Parse.{ParsesUnsigned};
 ghost use Rattle.thin_replay.specs.Words.{IsStep, SpellAll, SpellsSteps};
@@ -8,14 +8,14 @@ use std::alloc::{AllocError, Global};
 use thin_runner::command::Step;
 use thin_vec::ThinVec;
 
-/// Parses a word that is an item.
+/// Parses a word as an item.
 pub fn item_of(word: &str) -> Result<u64, LineError>
     ensures parses { ParsesUnsigned 64 10 word.now result }
 {
     number_of(word, "ITEM")
 }
 
-/// Parses a word that is a number. The error says that `name` is not a number.
+/// Parses a word as a number. The error says that `name` is not a number.
 pub fn number_of(word: &str, name: &'static str) -> Result<u64, LineError>
     ensures parses { ParsesUnsigned 64 10 word.now result }
 {
@@ -25,7 +25,7 @@ pub fn number_of(word: &str, name: &'static str) -> Result<u64, LineError>
     }
 }
 
-/// Parses a word that is an index or a count. The error says that `name` is not a number.
+/// Parses a word as an index or a count. The error says that `name` is not a number.
 pub fn count_of(word: &str, name: &'static str) -> Result<usize, LineError>
     ensures parses { ParsesUnsigned 64 10 word.now result }
 {
@@ -35,7 +35,7 @@ pub fn count_of(word: &str, name: &'static str) -> Result<usize, LineError>
     }
 }
 
-/// Parses words each of which is an item.
+/// Parses each word as an item.
 pub fn items_of(alloc: Global, words: &[&str]) -> Result<Vec<u64>, LineError>
     ensures items { IfOk result (λ items. SpellAll words.now items.items) }
 {
@@ -46,7 +46,7 @@ pub fn items_of(alloc: Global, words: &[&str]) -> Result<Vec<u64>, LineError>
     Ok(items)
 }
 
-/// Parses words each of which is an item, and returns a list that was made by a push of each item.
+/// Parses each word as an item, and pushes the items to a list.
 pub fn list_of(alloc: Global, words: &[&str]) -> Result<ThinVec<u64>, LineError>
     ensures items { IfOk result (λ list. SpellAll words.now list.items) }
 {
@@ -73,7 +73,7 @@ pub fn steps_of(alloc: Global, word: &str) -> Result<Vec<Step>, LineError>
     Ok(steps)
 }
 
-// Parses the letter of a step.
+// Parses a letter as a step.
 fn step_of(letter: u8) -> Result<Step, LineError>
     ensures step { IfOk result (IsStep letter) }
 {

@@ -592,21 +592,21 @@ module _ {S T : Type 0} (R : S → T → Bool → S → T → Type 0) where
           });
         }
 
--- a test of the type J that contains a closure, and returns what the closure returns. `inside` is
--- the state of the closure.
+-- a test of the type J contains a closure, and returns what the closure returns. `inside` is the
+-- state of the closure.
 module _ {J S T : Type 0} (R : S → T → Bool → S → T → Type 0) (inside : J → S) where
   -- the relation of the test, which is that of the closure
   abbrev through : J → T → Bool → J → T → Type 0
   through s x b t y = R (inside s) x b (inside t) y
 
-  -- if items were tested by such a test, they were tested by its closure, with the same verdicts
+  -- if items were tested by the test, they were tested by its closure, with the same verdicts
   pub asked-through : (xs : List T) (s t : J) (a : Verdicts T) → Asked through s xs a t
       → Asked R (inside s) xs a (inside t)
   asked-through [] s t a h = (h.0, ap inside h.1)
   asked-through (x ∷ xs) s t a h =
       (h.0, h.1, inside h.2, h.3, h.4, asked-through xs h.2 t h.3 h.5, h.6)
 
-  -- if v was reduced to w by such a test, it was reduced to w by the closure of the test
+  -- if the test reduced v to w, then its closure did
   pub retained-through : {A : Type 0} (s : J) (v w : Thin T A) (t : J)
       → IsRetainedTo through s v w t → IsRetained R (inside s) v w
   retained-through s v w t h = (
@@ -623,8 +623,8 @@ module _ {J S T : Type 0} (R : S → T → Bool → S → T → Type 0) (inside 
 
 -- a closure that only reads the item, with the relation R
 module _ {S T : Type 0} (R : S → T → Bool → S → Type 0) where
-  -- if xs were tested by such a closure, there is one flag for each item, the closure returned the
-  -- flags in turn, and the items left are those of xs whose flag is true
+  -- if a closure that only reads the items tested xs, there is one flag for each item, the closure
+  -- returned the flags in turn, and the items left are those of xs whose flag is true
   told : (xs : List T) (s t : S) (a : Verdicts T) → Asked (Looks R) s xs a t
       → (length (flags_of a) ≡ length xs) × ReturnsInTurn R s (flags_of a) xs t
       × (left_at true a ≡ items_where_true (flags_of a) xs)
@@ -647,8 +647,8 @@ module _ {S T : Type 0} (R : S → T → Bool → S → Type 0) where
       first true y x a xs e f = λ i. e i ∷ f i
       first false y x a xs e f = f
 
-  -- if `retain` with such a closure reduced v to w, the items satisfy `IsFiltered` of std, about
-  -- which the kit's `lemmas/Fn` has lemmas
+  -- if `retain` with a closure that only reads the items reduced v to w, the items satisfy
+  -- `IsFiltered` of std, about which the kit's `lemmas/Fn` has lemmas
   pub retained_filtered : {A : Type 0} (s : S) (v w : Thin T A) → IsRetained (Looks R) s v w
       → IsFiltered R s v.items w.items
   retained_filtered s v w h =

@@ -1,4 +1,4 @@
-//! The commands that ask a judge.
+//! The parser of the commands that ask a judge.
 ghost use Rattle.std.specs.Prelude.{IfOk, IfSome};
 ghost use Rattle.thin_replay.specs.Lines.{IsCall, IsFilter};
 
@@ -32,7 +32,8 @@ pub fn parse(words: &[&str]) -> Result<Option<Call>, LineError>
     }
 }
 
-// Returns the command with the name `name`, if the other words of its line describe only the judge.
+// Returns the command with the name `name`, if its line has no other words than those that describe
+// the judge.
 fn filter(name: &str) -> Option<Command<u64>>
     ensures filter { IfSome result (IsFilter name.now) }
 {

@@ -1,4 +1,4 @@
-//! The commands that remove or replace a range, and `dedup`.
+//! The parser of the commands that remove or replace a range, and `dedup`.
 ghost use Rattle.std.specs.Prelude.{IfOk, IfSome};
 ghost use Rattle.thin_replay.specs.Lines.{SaysUnjudged};
 

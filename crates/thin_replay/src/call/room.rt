@@ -1,4 +1,4 @@
-//! The commands that change the capacity, split the list or clone it.
+//! The parser of the commands that change the capacity, split the list or clone it.
 ghost use Rattle.std.specs.Prelude.{IfOk, IfSome};
 ghost use Rattle.thin_replay.specs.Lines.{SaysUnjudged};
 

@@ -1,4 +1,4 @@
-//! The commands that add, remove or replace one item, or remove the last items.
+//! The parser of the commands that add, remove or replace one item, or remove the last items.
 ghost use Rattle.std.specs.Prelude.{IfOk, IfSome};
 ghost use Rattle.thin_replay.specs.Lines.{SaysUnjudged};
 

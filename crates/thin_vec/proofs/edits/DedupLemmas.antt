@@ -513,15 +513,15 @@ module _ {S T : Type 0} (R : OnPairs S T) where
           });
         }
 
--- a test of the type J that contains a closure, and returns what the closure returns. `inside` is
--- the state of the closure.
+-- a test of the type J contains a closure, and returns what the closure returns. `inside` is the
+-- state of the closure.
 module _ {J S T : Type 0} (R : OnPairs S T) (inside : J → S) where
   -- the relation of the test, which is that of the closure
   abbrev through : OnPairs J T
   through s x k b t y l = R (inside s) x k b (inside t) y l
 
-  -- if items were tested by such a test after the kept item k, they were tested by its closure,
-  -- with the same answers
+  -- if items were tested by the test after the kept item k, they were tested by its closure, with
+  -- the same answers
   last-through : (xs : List T) (s t : J) (k : T) (f : List Bool) (ys : List T)
       → AskedLast through s k xs f ys t → AskedLast R (inside s) k xs f ys (inside t)
   last-through [] s t k f ys h = (h.0, h.1, ap inside h.2)
@@ -537,13 +537,13 @@ module _ {J S T : Type 0} (R : OnPairs S T) (inside : J → S) where
         (λ q. (q.0, last-through xs h.3 t h.1 h.4 q.0 q.1, q.2)) h.7,
   )
 
-  -- if items were tested by such a test, they were tested by its closure, with the same answers
+  -- if items were tested by the test, they were tested by its closure, with the same answers
   pairs-through : (xs : List T) (s t : J) (f : List Bool) (ys : List T)
       → AskedPairs through s xs f ys t → AskedPairs R (inside s) xs f ys (inside t)
   pairs-through [] s t f ys h = (h.0, h.1, ap inside h.2)
   pairs-through (x ∷ xs) s t f ys h = last-through xs s t x f ys h
 
-  -- if v was reduced to w by such a test, it was reduced to w by the closure of the test
+  -- if the test reduced v to w, then its closure did
   pub deduped-through : {A : Type 0} (s : J) (v w : Thin T A) (t : J) → IsDedupedTo through s v w t
       → IsDedupedBy R (inside s) v w
   deduped-through s v w t h = (

@@ -139,8 +139,8 @@ module _ {F T : Type 0} (R : F → T → Bool → F → T → Type 0) where
           whole (Some v) zs (stops-at-item h.between t h.after h.end v zs
           h.stops (sym end-is ∙ some))
 
--- if xs has at least k items, the cost of moving the first k of them is the same with `length (take
--- k xs)` in place of k
+-- if xs has at least k items, moving the first k of them over the gap costs one move for each item
+-- of `take k xs`
 pub cost-of : {T : Type 0} (gap : ℕ) (cost : Cost) (k : ℕ) (xs : List T) → k ≤ length xs
     → (if gap == 0 then cost else moving k cost)
     ≡ (if gap == 0 then cost else moving (length (take k xs)) cost)
