@@ -71,7 +71,8 @@ doubling-few R c w few small = elim (cases_lt c w) [
 ]
 
 -- under the rule `doubling`, a call that needs room for k more items fails only with `OutOfMemory`,
--- if these make fewer than 2 ^ 30 items of fewer than 2 ^ 31 bytes each
+-- if these k and the items of the list together are fewer than 2 ^ 30, each of fewer than 2 ^ 31
+-- bytes
 pub few_more : {X T A : Type 0} (R : RattleType) (k : ℕ) (v w : Thin T A)
     (result : Result X ThinVecError) → length v.items + k < 2 ^ 30 → type_size R < 2 ^ 31
     → Reserves doubling R k v w result → IfErr result (λ cause. cause ≡ OutOfMemory)

@@ -102,8 +102,8 @@ module _ {T : Type 0} where
       ∙ (set_at (full xs) (Some v) (replicate k None) None (length xs) (length-full xs)
       ∙ ap (λ (q : ℕ). full xs ++ replicate q None) m))
 
-  -- if xs is no longer than c, and c ≤ d, appending d - c empty slots to `front xs c` makes `front
-  -- xs d`
+  -- if xs is no longer than c, and c ≤ d, appending d - c empty slots to `front xs c` makes
+  -- `front xs d`
   pub front-grow : (xs : List T) (c d : ℕ) → length xs ≤ c → c ≤ d
       → front xs c ++ replicate (d - c) None ≡ front xs d
   front-grow xs c d h l =

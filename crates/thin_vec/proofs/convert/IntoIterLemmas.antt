@@ -92,8 +92,8 @@ module _ {T A : Type 0} where
     pub items : items_in b.slots ≡ xs
     pub cap : length b.slots ≡ c
 
-  -- the block b satisfies `Walking` if its slots are `start` empty slots, the items xs, and `c -
-  -- end` empty slots, and its memory came from `a`
+  -- the block b satisfies `Walking` if its slots are `start` empty slots, the items xs, and
+  -- `c - end` empty slots, and its memory came from `a`
   walking : (b : Block T A) {a : A} (xs : List T) (start end : ℕ) {c : ℕ}
       → b.slots ≡ empty start ++ (full xs ++ empty (c - end)) → start + length xs ≡ end → end ≤ c
       → IsFrom b.alloc a → Walking b a xs start end c

@@ -20,8 +20,8 @@ use Rattle.thin_vec.proofs.list.ExtendLemmas.{yields-join}
 use Rattle.thin_vec.proofs.edits.SpliceLemmas.{between-length, between-more, drains-more, run-moves, stopped-more, taken-join, taken-spare}
 
 module _ {T A : Type 0} where
-  -- the open block b is the list u with a gap of `count` slots before the item at `at`, made by
-  -- moving the items from `at` on, if `count` is not 0
+  -- the open block b is the list u, opened before the item at index `at`: the items from there on
+  -- were moved up for a gap of `count` slots, unless `count` is 0
   pub record IsWide (b : Open T A) (u : Thin T A) (at count : ℕ) : Type 0 where
     pub in_bounds : at ≤ length u.items
     pub front : b.front ≡ take at u.items

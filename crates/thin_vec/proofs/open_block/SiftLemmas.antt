@@ -73,8 +73,8 @@ module _ {T A : Type 0} where
       pub was : v.rest ≡ pre ++ x ∷ post
       pub shown : Found written (written-seen (pre ++ y ∷ post))
 
-    -- if the slot of the item at k of the middle run held x, and y was written into it, `Written x
-    -- y` holds
+    -- if the slot of the item at k of the middle run held x, and y was written into it,
+    -- `Written x y` holds
     pub write-step : (x y : T) → slot h.block.slots (h.rest_start + k) ≡ Some x
         → seen b ≡ record (seen h.block)
         { slots = set h.block.slots (h.rest_start + k) (Some y) } → Written x y
