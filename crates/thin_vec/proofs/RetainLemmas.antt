@@ -328,7 +328,7 @@ module _ {S T : Type 0} (R : S → T → Bool → S → T → Type 0) where
 
   -- ---- the items that the tests of a run kept
 
-  -- the items of xs were tested, from the state s to t, except `rest`, the last ones. `kept` are
+  -- all items of xs except the last ones, `rest`, were tested, from the state s to t. `kept` are
   -- the tested items that stay, as the tests left them, and m is their number.
   pub record Part (m : ℕ) (s : S) (xs : List T) (t : S) (kept rest : List T) : Type 0 where
     pub done : List T
@@ -498,7 +498,7 @@ module _ {S T : Type 0} (R : S → T → Bool → S → T → Type 0) where
             { front = sym (append-nil v.front) i; cost = sym (moving-none v.cost) i };
       }
 
-  -- if v and w satisfy `Sifts`, and so do w and z, then v and z do
+  -- `Sifts` is transitive: if it holds for v and w, and for w and z, it holds for v and z
   pub sifts-then : {A : Type 0} {s t u : S} {v w z : Open T A} → Sifts R s v t w
       → Sifts R t w u z → Sifts R s v u z
   sifts-then {s = s} {t} {u} {v} {w} {z} h k =
@@ -599,7 +599,7 @@ module _ {J S T : Type 0} (R : S → T → Bool → S → T → Type 0) (inside 
   abbrev through : J → T → Bool → J → T → Type 0
   through s x b t y = R (inside s) x b (inside t) y
 
-  -- if items were tested by the test, they were tested by its closure, with the same verdicts
+  -- if the test tested some items, its closure tested them, with the same verdicts
   pub asked-through : (xs : List T) (s t : J) (a : Verdicts T) → Asked through s xs a t
       → Asked R (inside s) xs a (inside t)
   asked-through [] s t a h = (h.0, ap inside h.1)

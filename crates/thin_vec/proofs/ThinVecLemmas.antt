@@ -131,8 +131,8 @@ module _ {T A : Type 0} (rule : Rule) (R : RattleType) (law : KeepsLaw rule)
       → capacity_for rule R v k ≡ Some c → cost_at v c ≡ v.cost
   cost_at-kept room e = cost_at-same v c (cap-kept room e)
 
-  -- if there is no room for k more items, the ruled capacity for them holds them all and is at
-  -- least twice the old capacity
+  -- if there is no room for k more items, the ruled capacity is enough for the old items and k
+  -- more, and at least twice the old capacity
   pub cap-grown : v.capacity < length v.items + k → capacity_for rule R v k ≡ Some c
       → (length v.items + k ≤ c) × (2 * v.capacity ≤ c)
   cap-grown more e = let g = ruled-grows rule R v.capacity (length v.items + k) c law more e in

@@ -252,7 +252,7 @@ module _ {S T : Type 0} (R : OnPairs S T) where
 
   module _ (m : ℕ) (s : S) (xs : List T) (t : S) (ys : List T)
       (r : PairsAskedUpTo R m s xs t ys) where
-    -- the first m items of ys are those kept, as the tests left them
+    -- the first m items of ys are the kept ones, as the tests left them
     pub run-left : take m ys ≡ r.left
     run-left = ap (take m) r.now ∙ take_at r.left (r.over ++ r.after) m r.long
 
@@ -415,7 +415,7 @@ module _ {S T : Type 0} (R : OnPairs S T) where
         now = λ i. record v { front = p.2 i; cost = sym (moving-none v.cost) i };
       }
 
-  -- if v and w satisfy `Dedups`, and so do w and z, then v and z do
+  -- `Dedups` is transitive: if it holds for v and w, and for w and z, it holds for v and z
   pub dedups-then : {A : Type 0} {s t u : S} {v w z : Open T A} → Dedups R s v t w
       → Dedups R t w u z → Dedups R s v u z
   dedups-then {s = s} {t} {u} {v} {w} {z} h k =
@@ -520,8 +520,8 @@ module _ {J S T : Type 0} (R : OnPairs S T) (inside : J → S) where
   abbrev through : OnPairs J T
   through s x k b t y l = R (inside s) x k b (inside t) y l
 
-  -- if items were tested by the test after the kept item k, they were tested by its closure, with
-  -- the same answers
+  -- if the test tested some items after the kept item k, its closure tested them, with the same
+  -- answers
   last-through : (xs : List T) (s t : J) (k : T) (f : List Bool) (ys : List T)
       → AskedLast through s k xs f ys t → AskedLast R (inside s) k xs f ys (inside t)
   last-through [] s t k f ys h = (h.0, h.1, ap inside h.2)
@@ -537,7 +537,7 @@ module _ {J S T : Type 0} (R : OnPairs S T) (inside : J → S) where
         (λ q. (q.0, last-through xs h.3 t h.1 h.4 q.0 q.1, q.2)) h.7,
   )
 
-  -- if items were tested by the test, they were tested by its closure, with the same answers
+  -- if the test tested some items, its closure tested them, with the same answers
   pairs-through : (xs : List T) (s t : J) (f : List Bool) (ys : List T)
       → AskedPairs through s xs f ys t → AskedPairs R (inside s) xs f ys (inside t)
   pairs-through [] s t f ys h = (h.0, h.1, ap inside h.2)

@@ -10,7 +10,7 @@ use Rattle.thin_vec.specs.declared.edits.holder.Holder.{Holder}
 use Rattle.thin_vec.specs.declared.edits.holder.Holds.{Ghosts as HoldsGhosts}
 
 module _ {T A G : Type 0} {g : Ghosts G} {h : HoldsGhosts (Holder (Open T A)) (Open T A)} where
-  -- if `a` and b satisfy `DrainKeeps`, and so do b and c, then `a` and c do
+  -- `DrainKeeps` is transitive: if it holds for `a` and b, and for b and c, it holds for `a` and c
   drain_keeps_more : (a b c : Drain T A G (Holder (Open T A)) g h) → DrainKeeps a b
       → DrainKeeps b c → DrainKeeps a c
   drain_keeps_more a b c p q =

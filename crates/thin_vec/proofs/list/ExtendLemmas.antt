@@ -215,7 +215,8 @@ module _ {T A : Type 0} where
       filled-at v w k (ap (λ u. u.cost) e ∙ ap (λ c. moving k c) (sym kept)) n
       (omega (arith, ap (λ c. c.grown) kept, same))
 
-  -- if v and u satisfy `IsExtendCost`, and so do u and w, then v and w do
+  -- if `IsExtendCost` holds for v and u, and for u and w, it holds for v and w, provided that no
+  -- capacity shrinks and u has at least as many items as v
   pub filled-join : {v u w : Thin T A} → IsExtendCost v u → IsExtendCost u w
       → v.capacity ≤ u.capacity → u.capacity ≤ w.capacity → length v.items ≤ length u.items
       → IsExtendCost v w
