@@ -30,7 +30,8 @@ module _ (T A G : RattleType) (a : AllocatorGhosts A.Denot) (g : GrowthGhosts G.
   abbrev pub LendsItem : ℕ → MutBor T.Denot → Fml
   LendsItem i r = Lends (the_row T A G a g) T v r (with_item v.now i)
 
-  -- if r is `Some`, it borrows the item of v at index i; if r is `None`, v does not change
+  -- if r is `Some`, it borrows the item of v at index i, as in `LendsItem`; if r is `None`, v does
+  -- not change
   abbrev pub LendsGet : ℕ → Option (MutBor T.Denot) → Fml
   LendsGet i r = LendsIf (the_row T A G a g) T v r (with_item v.now i) v.now
 
