@@ -1,4 +1,4 @@
--- The steps by which a splice's gap is filled, and what they come to.
+-- The steps by which `finish` fills the gap of a splice, and how they combine.
 use Rattle.std.proofs.Common.{if◌then◌else◌, inl, inr, Option, drop, take, subst, ◌≡◌, ℕ, ◌+◌, ◌-◌, ◌*◌, ◌<◌, ◌≤◌, true, false, eqb, List, [], ◌++◌, ap, arith, length, length-append, refl, sym, ◌∙◌}
 use Rattle.std.proofs.lemmas.List.{length-drop, length-take-le}
 use Rattle.std.specs.Borrow.{RattleType}
@@ -20,7 +20,8 @@ use Rattle.thin_vec.proofs.list.ExtendLemmas.{yields-join}
 use Rattle.thin_vec.proofs.edits.SpliceLemmas.{between-length, between-more, drains-more, run-moves, stopped-more, taken-join, taken-spare}
 
 module _ {T A : Type 0} where
-  -- the list u was opened as b at the slot `at`, `count` slots wide
+  -- the open block b is the list u, opened before the item at index `at`: the items from there on
+  -- were moved up for a gap of `count` slots, unless `count` is 0
   pub record IsWide (b : Open T A) (u : Thin T A) (at count : ℕ) : Type 0 where
     pub in_bounds : at ≤ length u.items
     pub front : b.front ≡ take at u.items
@@ -30,15 +31,16 @@ module _ {T A : Type 0} where
 
 module _ {S T A : Type 0} (steps : S → Option T → S → Type 0) (can : S → Type 0)
     (remaining : S → Count) where
-  -- the gap of the block v was filled from s, and v became the block of the list w, whose allocator
-  -- is a; f is what is left of s
+  -- the gap of the block v was filled from the iterator s, and v became the block of the list w
+  -- with the allocator `a`. f says where filling ended: at which slot, whether the iterator has
+  -- ended, and what is left of it.
   abbrev pub FillsGap : Open T A → A → S → Thin T A → Filled S → Type 0
   FillsGap v a s w f =
       (by : IsFilledBy steps can remaining v.gap s f) × IsClosedWith v by.items a w
       × (f.end ≡ length v.front + length by.items)
 
-  -- the list u has the items of v, and xs in its gap up to the slot `end`, which s gave: the gap is
-  -- full, and t is asked next
+  -- the list u is v with xs in its gap, where xs end before the slot `end` and were yielded by
+  -- calls of `next` that led from s to t. The gap is full, and `next` may be called on t.
   pub record IsReached (v : Open T A) (s : S) (u : Thin T A) (xs : List T) (end : ℕ)
       (t : S) : Type 0 where
     pub items : u.items ≡ with_between v xs
@@ -53,11 +55,12 @@ module _ {S T A : Type 0} {steps : S → Option T → S → Type 0} {can : S →
     {remaining : S → Count} where
   module _ {v : Open T A} {a : A} {s : S} {w : Thin T A} {f : Filled S}
       (p : FillsGap steps can remaining v a s w f) where
-    -- how many items there are once the gap is filled
+    -- after the gap was filled, there are as many items as in the front, the tail and the placed
+    -- items together
     pub filled-long : length w.items ≡ length v.front + length v.tail + length p.0.items
     filled-long = omega (arith, ap length p.1.items, between-length v p.0.items)
 
-    -- if the iterator has not ended, the gap is full
+    -- if the iterator has not ended after the gap was filled, `IsReached` holds
     pub filled-reached : f.ended ≡ false
         → IsReached steps can remaining v s w p.0.items f.end f.rest
     filled-reached more = record {
@@ -75,13 +78,15 @@ module _ {S T A : Type 0} {steps : S → Option T → S → Type 0} {can : S →
     filled-drains done = (f.rest, subst (λ b. Gives steps s p.0.items b f.rest) done p.0.gave)
 
     module _ (rule : Rule) (R : RattleType) (n : ℕ) (left : Count) where
-      -- what filling the gap cost
+      -- if filling and closing the gap took at most n further moves, the list satisfies `HasTaken`
+      -- with n further moves
       pub filled-taken : p.1.cost.0 ≤ n → HasTaken rule R (left_of v a) w n left
       filled-taken few =
           taken-spare rule R (left_of v a) w (length p.0.items) p.1.cost.0 n left p.1.cost.1
           p.1.capacity (omega (arith, filled-long, length-append v.front v.tail)) few p.1.alloc
 
-      -- what filling the gap of a list that was opened for it cost
+      -- if a gap was opened in the list u, filled, and closed, with at most n further moves in all,
+      -- u and w satisfy `HasTaken` with n further moves
       pub wide-taken : (u : Thin T A) (at count : ℕ) → IsWide v u at count → a ≡ u.alloc
           → p.1.cost.0 + (length u.items - at) ≤ n → HasTaken rule R u w n left
       wide-taken u at count wide from few =
@@ -102,11 +107,11 @@ module _ {S T A : Type 0} {steps : S → Option T → S → Type 0} {can : S →
 
   module _ {v : Open T A} {s t : S} {u : Thin T A} {xs : List T} {end : ℕ}
       (p : IsReached steps can remaining v s u xs end t) where
-    -- the tail lies after the slot `end`
+    -- the length of u is `end` plus the length of the tail
     pub reached-long : length u.items ≡ end + length v.tail
     reached-long = omega (arith, ap length p.items, between-length v xs, p.ends)
 
-    -- a growth of the list u changes nothing of what was reached
+    -- if u grows to w with the same items, `IsReached` still holds
     pub reached-grown : (w : Thin T A) → w.items ≡ u.items
         → IsReached steps can remaining v s w xs end t
     reached-grown w same = record {
@@ -119,7 +124,8 @@ module _ {S T A : Type 0} {steps : S → Option T → S → Type 0} {can : S →
       nearer = p.nearer;
     }
 
-    -- what was taken before u, and from u on
+    -- if the steps up to u satisfy `HasTaken` with m further moves, those from u on satisfy it with
+    -- n, and m + n ≤ k, then all steps satisfy it with k
     pub reached-taken : (rule : Rule) (R : RattleType) → KeepsLaw rule → (a : A) (w : Thin T A)
         (m n k : ℕ) → m + n ≤ k → HasTaken rule R (left_of v a) u m (remaining s)
         → HasTaken rule R u w n (remaining t) → HasTaken rule R (left_of v a) w k (remaining s)
@@ -130,7 +136,8 @@ module _ {S T A : Type 0} {steps : S → Option T → S → Type 0} {can : S →
         (λ fit same. omega (arith, fit, same, ap length p.items, long, left, p.nearer))
         before now
 
-    -- where a capacity comes from that was named after u
+    -- if u has the capacity of v, a capacity that satisfies `IsExtended` for the steps from u on
+    -- satisfies it for all steps
     pub reached-extended : (rule : Rule) (R : RattleType) (a : A) (d n : ℕ)
         → u.capacity ≡ v.capacity → IsExtended rule R u d n (remaining t)
         → IsExtended rule R (left_of v a) d n (remaining s)
@@ -147,7 +154,8 @@ module _ {S T A : Type 0} {steps : S → Option T → S → Type 0} {can : S →
               ((ap (λ n. n + (length xs + e.0)) (length-append v.front v.tail) ∙ want) i)) ∙ e.2,
         )
 
-    -- then more items were inserted at `end`, and the iterator has not ended
+    -- if more items were inserted at `end`, and the iterator has still not ended, `IsReached` holds
+    -- with these items too
     pub reached-more : {w : Thin T A} {room : ℕ} {f : Filled S}
         (by : IsFilledBy steps can remaining room t f)
         → w.items ≡ (take end u.items ++ by.items) ++ drop end u.items
@@ -168,7 +176,8 @@ module _ {S T A : Type 0} {steps : S → Option T → S → Type 0} {can : S →
         }
 
   module _ {rule : Rule} {R : RattleType} (v : Open T A) (a : A) (s : S) (w : Thin T A) where
-    -- all that the iterator gave is in the list
+    -- if the list has all items that the iterator yielded, a `finish` that returned `Ok` satisfies
+    -- `IsFinished`
     pub finished-ok : (x : Unit {0})
         → (xs : List T) × Drains steps s xs × (w.items ≡ with_between v xs)
         → HasTaken rule R (left_of v a) w (2 * length v.tail) (remaining s)
@@ -186,7 +195,8 @@ module _ {S T A : Type 0} {steps : S → Option T → S → Type 0} {can : S →
       cause = tt;
     }
 
-    -- what was placed before a tail, and what then became of the rest
+    -- if xs were placed before a tail, and the steps after that returned r, the whole `finish`
+    -- satisfies `IsFinished` with r
     pub finished-from : {t : S} {u : Thin T A} {xs : List T} {end : ℕ}
         (r : Result (Unit {0}) (SpliceRefused T S A))
         → IsReached steps can remaining v s u xs end t → 0 < length v.tail

@@ -1,4 +1,4 @@
--- What a splice moves, and what it costs.
+-- How many items a splice moves, what it costs, what its iterator yielded, and why `finish` failed.
 use Rattle.std.proofs.Common.{if◌then◌else◌, inl, inr, Option, Some, None, append_assoc, drop, take, subst, ◌≡◌, ℕ, ◌+◌, ◌-◌, ◌*◌, ◌^◌, ◌<◌, ◌≤◌, Bool, true, false, eqb, List, [], ◌∷◌, ◌++◌, ap, arith, length, length-append, refl, sym, ◌∙◌}
 use Rattle.std.proofs.lemmas.List.{append-nil, drop_at, length-drop, length-take-le, take_at}
 use Rattle.std.specs.Borrow.{RattleType}
@@ -23,23 +23,25 @@ use Rattle.thin_vec.specs.declared.errors.SpliceRefused.{SpliceRefused}
 use Rattle.thin_vec.proofs.list.ExtendLemmas.{filled-reserved, loose-join, loose-le, loose-ruled, yields-join, yields-more}
 use Rattle.thin_vec.proofs.ThinVecLemmas.{cap-kept, cost_at-copied}
 
--- moves add up
+-- adding b moves to a cost, and then `a` moves, adds b + a moves
 pub moving-add : (a b : ℕ) (c : Cost) → moving a (moving b c) ≡ moving (b + a) c
 moving-add a b c = ap (λ m. let d : Cost = record c { moves = m } in d)
     (let e : c.moves + b + a ≡ c.moves + (b + a) = omega arith in e)
 
--- no move changes nothing
+-- zero moves do not change a cost
 pub moving-zero : (c : Cost) → c ≡ moving 0 c
 moving-zero c = ap (λ m. let d : Cost = record c { moves = m } in d)
     (let e : c.moves ≡ c.moves + 0 = omega arith in e)
 
--- the moves of a filled gap that is closed, beside those of its items
+-- if n items were placed into the gap of v, which made w, closing w costs at most one further move
+-- for each item of the tail, and none if the gap is full
 pub closed-moves : {T A : Type 0} (v w : Open T A) (n : ℕ) → w.cost ≡ moving (v.gap - w.gap)
     v.cost → w.rest ≡ [] → w.tail ≡ v.tail → n ≡ v.gap - w.gap
     → (m : ℕ) × (cost_closed w ≡ moving (n + m) v.cost) × (m ≤ length v.tail)
     × (w.gap ≡ 0 → m ≡ 0)
 closed-moves v w n paid none same count = go (eqb w.gap 0) refl
   where
+    -- the cost of w is that of v plus n moves
     filled : w.cost ≡ moving n v.cost
     filled = paid ∙ ap (λ k. moving k v.cost) (sym count)
 
@@ -63,10 +65,12 @@ closed-moves v w n paid none same count = go (eqb w.gap 0) refl
               absurd (false-true (sym e ∙ t)),
         )
       where
+        -- if false equals true, anything follows
         false-true : false ≡ true → ⊥
         false-true h = cc
 
--- the moves of items that went into a list, when the items after them were moved up before
+-- if n items were moved up before k items were placed (unless `count` is 0), and m items were moved
+-- afterwards, at most n + m moves are made in addition to the k
 pub run-moves : (count n k m : ℕ) (c d : Cost) → d ≡ (if eqb count 0 then c else moving n c)
     → (x : ℕ) × (moving (k + m) d ≡ moving (k + x) c) × (x ≤ n + m)
 run-moves count n k m c d e = go (eqb count 0) e
@@ -83,7 +87,8 @@ run-moves count n k m c d e = go (eqb count 0) e
     )
 
 module _ {S X : Type 0} (steps : S → Option X → S → Type 0) where
-  -- what was held, what came after it, and one call more
+  -- if calls of `next` yielded xs, and later calls yielded ys and then returned o, all of them
+  -- yielded zs, which is xs followed by ys, and then returned o
   pub yields-held : (s t u : S) (xs ys zs : List X) (o : Option X) → Yields steps s xs t
       → zs ≡ xs ++ ys → YieldsThen steps t ys o u → YieldsThen steps s zs o u
   yields-held s t u xs ys zs o before e now = (
@@ -93,13 +98,15 @@ module _ {S X : Type 0} (steps : S → Option X → S → Type 0) where
     now.2,
   )
 
-  -- what was held and one call more, where that call gave an item
+  -- if calls of `next` yielded xs and then returned o, and o is `Some x`, they yielded xs followed
+  -- by x
   pub yields-drawn : (s u : S) (xs : List X) (o : Option X) (x : X) → o ≡ Some x
       → YieldsThen steps s xs o u → Yields steps s (xs ++ x ∷ []) u
   yields-drawn s u xs o x is all =
       yields-more steps s all.0 u xs x all.1 (subst (λ r. steps all.0 r u) is all.2)
 
-  -- the first item, and then those that were drawn into a vector
+  -- if one call of `next` yielded x and later calls xs, where x and xs are the items `held` and
+  -- then o, all calls yielded `held` and then o. If o is None, a last call returned `None`.
   pub drawn-after : (s t u : S) (x : X) (xs held : List X) (o : Option X) → steps s (Some x) t
       → held ++ option_to_list o ≡ x ∷ xs
       → MatchOption o (YieldsThen steps t xs None u) (λ _. Yields steps t xs u)
@@ -113,7 +120,7 @@ module _ {S X : Type 0} (steps : S → Option X → S → Type 0) where
       subst (λ l. Yields steps s l u) (sym parts) (t, one, now)
 
 module _ {T A : Type 0} where
-  -- what a growth alone has cost
+  -- a growth alone moves no items: v and w satisfy `IsSpliced` with 0 further moves
   pub spliced-reserved : (v w : Thin T A) → w.cost ≡ cost_at v w.capacity
       → w.items ≡ v.items
       → (cost_at v w.capacity).grown + v.capacity ≤ v.cost.grown + w.capacity → IsSpliced v w 0
@@ -127,7 +134,8 @@ module _ {T A : Type 0} where
         grown = f.grown;
       }
 
-  -- what items have cost that went into spare room
+  -- if k items were placed into spare capacity, with k + m moves, and m ≤ n, then v and w satisfy
+  -- `IsSpliced` with n further moves
   pub spliced-run : (v w : Thin T A) (k m n : ℕ) → w.cost ≡ moving (k + m) v.cost
       → w.capacity ≡ v.capacity → length w.items ≡ length v.items + k → m ≤ n → IsSpliced v w n
   spliced-run v w k m n e same long few = record {
@@ -138,7 +146,8 @@ module _ {T A : Type 0} where
     grown = λ more. absurd (omega (arith, more, same));
   }
 
-  -- one step after another
+  -- if v and u satisfy `IsSpliced` with m further moves, u and w satisfy it with n, and m + n ≤ k,
+  -- then v and w satisfy it with k
   pub spliced-join : (v u w : Thin T A) (m n k : ℕ) → m + n ≤ k → v.capacity ≤ u.capacity
       → u.capacity ≤ w.capacity → length v.items ≤ length u.items → IsSpliced v u m
       → IsSpliced u w n → IsSpliced v w k
@@ -161,18 +170,18 @@ module _ {T A : Type 0} where
     ];
   }
 
--- a fact of an outcome gives another
+-- if P holds for the error of a result, and Q follows from P, then Q holds for the error
 pub if-err : {X E : Type 0} {P Q : E → Type 0} (r : Result X E) → ((e : E) → r ≡ Err e → P e → Q e)
     → IfErr r P → IfErr r Q
 if-err (Ok _) h p = p
 if-err (Err e) h p = h e refl p
 
--- a fact of each error
+-- if Q holds for every error, it holds for the error of a result
 pub any-err : {X E : Type 0} {Q : E → Type 0} (r : Result X E) → ((e : E) → Q e) → IfErr r Q
 any-err (Ok _) h = tt
 any-err (Err e) h = h e
 
--- how many items there are once some went in
+-- inserting ys into xs makes a list that is as long as xs and ys together
 pub inserted-long : {T : Type 0} (xs ys : List T) (at : ℕ) → at ≤ length xs
     → length ((take at xs ++ ys) ++ drop at xs) ≡ length xs + length ys
 inserted-long xs ys at in_bounds =
@@ -186,7 +195,8 @@ inserted-long xs ys at in_bounds =
     )
 
 module _ {S X : Type 0} (steps : S → Option X → S → Type 0) where
-  -- what was given up to the first `None`, after what was given before
+  -- if calls of `next` yielded xs, and later calls yielded ys and then `None`, then all of them
+  -- yielded xs, ys and then `None`
   pub drains-more : (s t : S) (xs ys : List X) → Yields steps s xs t → Drains steps t ys
       → Drains steps s (xs ++ ys)
   drains-more s t xs ys before now =
@@ -194,7 +204,8 @@ module _ {S X : Type 0} (steps : S → Option X → S → Type 0) where
 
 module _ {S X A : Type 0} (steps : S → Option X → S → Type 0) (can : S → Type 0)
     (remaining : S → Count) where
-  -- what was held and in hand, after what was placed before
+  -- if xs were placed before the calls that satisfy `Stopped`, then all calls satisfy `Stopped`
+  -- with xs as the placed items
   pub stopped-more : (s t : S) (xs : List X) (error : SpliceRefused X S A) → Yields steps s xs t
       → Stopped steps can remaining t [] error → Stopped steps can remaining s xs error
   stopped-more s t xs error before (inl now) =
@@ -215,7 +226,8 @@ module _ {S X A : Type 0} (steps : S → Option X → S → Type 0) (can : S →
         (now.2.0, yields-join steps s t now.2.0 xs error.held.items before now.2.1, now.2.2),
       )
 
-  -- where nothing is held
+  -- if nothing is held, calls that yielded the placed items and then the item in hand, if there is
+  -- one, satisfy `Stopped`
   pub stopped-now : (s : S) (xs : List X) (error : SpliceRefused X S A) → error.held.items ≡ []
       → PausedAfter steps can remaining s (xs ++ option_to_list error.in_hand) error.rest
       → Stopped steps can remaining s xs error
@@ -230,7 +242,8 @@ module _ {S X A : Type 0} (steps : S → Option X → S → Type 0) (can : S →
         λ _. none,
       )
 
--- let `finish` fail with the given error, and leave the list v; `left` bounds the rest of the iterator
+-- the cause of a `finish` that failed with the error `error`, where v is the list after the failure,
+-- and `left` bounds the rest of the iterator
 module _ {S T A : Type 0} (rule : Rule) (R : RattleType) (v : Thin T A) (tail : List T)
     (left : Count) (error : SpliceRefused T S A) where
   -- if there is a tail, no item is held and none is in hand, the cause follows from the hint
@@ -277,7 +290,8 @@ module _ {S T A : Type 0} (rule : Rule) (R : RattleType) (v : Thin T A) (tail : 
   }
 
 module _ (rule : Rule) (R : RattleType) where
-  -- a ruled capacity was named for what it was ruled for
+  -- if n is at least the number of items for which a capacity was ruled, the capacity satisfies
+  -- `IsKeptOrRuled` with n
   pub kept-or-ruled : KeepsLaw rule → {T A : Type 0} (v : Thin T A) (k d n : ℕ)
       → capacity_for rule R v k ≡ Some d → length v.items + k ≤ n
       → IsKeptOrRuled rule R v.capacity d n
@@ -287,13 +301,13 @@ module _ (rule : Rule) (R : RattleType) where
         | inr spare ↦ inl (cap-kept rule R law v k d spare e)
       ]
 
--- no move is none
+-- if n is 0, a cost is the same with n more moves as without them
 unmoved : (b : Bool) (c : Cost) (n : ℕ) → n ≡ 0 → (if b then c else moving n c) ≡ c
 unmoved true c n none = refl
 unmoved false c n none = ap (λ k. moving k c) none ∙ sym (moving-zero c)
 
 module _ {T A : Type 0} where
-  -- an open block with no item after its front, once it is closed
+  -- closing an open block with an empty middle run and no tail makes the list `left_of v`
   pub closed-left : (v : Open T A) (u : Thin T A) → v.rest ≡ [] → v.tail ≡ []
       → record u { items = items_of v; capacity = v.capacity; cost = cost_closed v }
       ≡ left_of v u.alloc
@@ -308,7 +322,8 @@ module _ {T A : Type 0} where
         cost = free i;
       }
 
-  -- more items go in after those that went in before
+  -- if us is v with xs in place of the middle run, inserting ys directly after xs makes v with xs
+  -- and ys in place of the middle run
   pub between-more : (v : Open T A) (us xs ys : List T) (end : ℕ) → us ≡ with_between v xs
       → end ≡ length v.front + length xs
       → (take end us ++ ys) ++ drop end us ≡ with_between v (xs ++ ys)
@@ -319,13 +334,13 @@ module _ {T A : Type 0} where
       ∙ ((λ i. (take_at pre v.tail end here i ++ ys) ++ drop_at pre v.tail end here i)
       ∙ ap (λ l. l ++ v.tail) (append_assoc v.front xs ys))
 
-  -- how many items there are with xs in the place of the middle run
+  -- v with xs in place of its middle run has as many items as its front, xs and its tail together
   pub between-length : (v : Open T A) (xs : List T)
       → length (with_between v xs) ≡ length v.front + length xs + length v.tail
   between-length v xs =
       omega (arith, length-append (v.front ++ xs) v.tail, length-append v.front xs)
 
-  -- with no tail, what lies in the gap lies after all
+  -- if v has no tail, appending xs to the front and the tail puts xs in place of the middle run
   pub after-items : (v : Open T A) (xs : List T) → v.tail ≡ []
       → (v.front ++ v.tail) ++ xs ≡ with_between v xs
   after-items v xs none =
@@ -333,7 +348,7 @@ module _ {T A : Type 0} where
       ∙ (ap (λ l. l ++ xs) (append-nil v.front)
       ∙ (sym (append-nil (v.front ++ xs)) ∙ (λ i. (v.front ++ xs) ++ sym none i)))
 
-  -- the cost of what went after all is that of what went between
+  -- if v and w satisfy `IsExtendCost`, they satisfy `IsSpliced`
   pub spliced-extended : (v w : Thin T A) (n : ℕ) → IsExtendCost v w → IsSpliced v w n
   spliced-extended v w n p =
       record {
@@ -344,9 +359,10 @@ module _ {T A : Type 0} where
         grown = p.grown;
       }
 
--- what a step of a splice's end does to a list
+-- what a step of `finish` does to a list
 module _ (rule : Rule) (R : RattleType) {T A : Type 0} where
-  -- items that went into spare room
+  -- if k items were placed into spare capacity, with k + m moves, and m ≤ n, then v and w satisfy
+  -- `HasTaken` with n further moves
   pub taken-spare : (v w : Thin T A) (k m n : ℕ) (left : Count) → w.cost ≡ moving (k + m) v.cost
       → w.capacity ≡ v.capacity → length w.items ≡ length v.items + k → m ≤ n → w.alloc ≡ v.alloc
       → HasTaken rule R v w n left
@@ -370,7 +386,7 @@ module _ (rule : Rule) (R : RattleType) {T A : Type 0} where
     };
   }
 
-  -- nothing went in
+  -- if nothing changed, v and w satisfy `HasTaken`
   pub taken-none : (v w : Thin T A) (n : ℕ) (left : Count) → w ≡ v → HasTaken rule R v w n left
   taken-none v w n left e =
       taken-spare v w 0 0 n left (ap (λ z. z.cost) e ∙ moving-zero v.cost)
@@ -378,7 +394,8 @@ module _ (rule : Rule) (R : RattleType) {T A : Type 0} where
       (ap (λ z. z.alloc) e)
 
   module _ (law : KeepsLaw rule) where
-    -- room was made for h items, which `left` allows
+    -- if v grew to the ruled capacity for h more items, and h is at most the number of items that
+    -- the iterator has left, then v and w satisfy `HasTaken` with 0 further moves
     pub taken-reserved : (v w : Thin T A) (h : ℕ) (left : Count)
         → capacity_for rule R v h ≡ Some w.capacity → w.items ≡ v.items → w.alloc ≡ v.alloc
         → w.cost ≡ cost_at v w.capacity → (IsCheap v → IsCheap w) → h ≤ size left
@@ -392,7 +409,8 @@ module _ (rule : Rule) (R : RattleType) {T A : Type 0} where
       cheap = cheap;
     }
 
-    -- one step after another
+    -- if v and u satisfy `HasTaken` with m further moves, u and w satisfy it with n, and m + n ≤ k,
+    -- then v and w satisfy it with k
     pub taken-join : (v u w : Thin T A) (m n k : ℕ) (left more : Count) → m + n ≤ k
         → length v.items ≤ length u.items
         → (HasRoomFor v (size left) → u.capacity ≡ v.capacity → HasRoomFor u (size more))
