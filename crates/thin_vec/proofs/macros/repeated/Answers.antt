@@ -1,4 +1,5 @@
--- An overflow is that of a new list.
+-- `repeated` resizes a new list. So the call fails with `CapacityOverflow` if and only if no
+-- capacity is ruled for `count` items in a new list.
 use Rattle.std.proofs.Common.{arith, ◌∙◌}
 use Rattle.thin_vec.proofs.list.ClonesLemmas.{new_lists}
 use Rattle.thin_vec.proofs.macros.repeated.Goals as goal

@@ -1,4 +1,5 @@
--- The slots before i are empty, and those from i on still hold items.
+-- At turn i of the loop, the slots before i are empty, and the slots from i on still hold their
+-- items.
 use Rattle.std.proofs.Common.{◌≡◌, length}
 use Rattle.thin_block.specs.Block.{seen}
 use Rattle.thin_block.specs.Slots.{items_in}

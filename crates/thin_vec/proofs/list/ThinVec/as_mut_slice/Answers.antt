@@ -1,4 +1,6 @@
--- The items' slots are filled, and a list is one again once they are written.
+-- `as_mut_slice` lends the slots of the items, which are all filled. Whatever is written to the
+-- items, the block is the block of a list again when the loan ends, and this list has the written
+-- items.
 use Rattle.std.proofs.Common.{ap, arith, refl, ◌∙◌}
 use Rattle.thin_block.specs.Lends.{with_items as block_with_items}
 use Rattle.thin_vec.specs.Lends.{with_items}

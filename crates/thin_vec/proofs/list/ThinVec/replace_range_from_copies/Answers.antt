@@ -1,5 +1,6 @@
--- The capacity is that for the items beyond the range's places; the items' type as `reserve` sees it
--- has the same size and alignment.
+-- `replace_range_from_copies` reserves room for the items that do not fit into the places of the
+-- range, and its capacity is the one for their number. The contract of `reserve` names this
+-- capacity for another item type of the same size and alignment, so the two capacities are equal.
 use Rattle.std.proofs.Common.{◌≡◌, ◌+◌, ◌-◌, ◌∙◌, Ok, ap, arith, length, refl}
 use denote.Param.{copied}
 use Rattle.thin_block.proofs.CapacityLemmas.{ruled-at}

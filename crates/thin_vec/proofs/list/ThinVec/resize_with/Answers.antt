@@ -1,4 +1,6 @@
--- The ruled capacity is that for the items that are added.
+-- If the list gets no longer, its capacity stays. Otherwise the capacity is the ruled one for the
+-- number of items added, because `push_results_reserved` does not change what `reserve` has made
+-- it.
 use Rattle.std.proofs.Common.{Ok, ◌-◌, ap, arith, subst, sym, ◌∙◌}
 use denote.Param.{param}
 use Rattle.thin_vec.specs.List.Capacity.{Reserves}

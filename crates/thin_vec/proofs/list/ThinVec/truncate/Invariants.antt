@@ -1,4 +1,5 @@
--- The slots before i are those of the shorter list, and those from i on still hold items.
+-- At turn i of the loop, the slots before i hold the first `len` items and then nothing, and the
+-- slots from i on still hold their items.
 use Rattle.std.proofs.Common.{◌≡◌}
 use Rattle.thin_block.specs.Block.{IsFrom}
 use Rattle.thin_vec.proofs.list.InsertRemoveLemmas.{emptying}

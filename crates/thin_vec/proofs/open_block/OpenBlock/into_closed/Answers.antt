@@ -1,4 +1,5 @@
--- What lies after the gap goes to the front, or is there already.
+-- If there is a gap after the front, `close_gap` moves the items after it to its start. So whether
+-- there is a gap or not, all items lie in the first slots of the block that `into_closed` returns.
 use Rattle.std.proofs.Common.{◌≡◌, ◌+◌, ◌-◌, ap, arith, ◌∙◌}
 use Rattle.thin_block.specs.Slots.{front, moved}
 use Rattle.thin_vec.specs.OpenBlock.{open_of}

@@ -1,4 +1,5 @@
--- The first item stays unasked; one item more stays, or it goes and ends the run.
+-- The first item of the middle run stays without a test. Each turn of the loop tests the next item,
+-- which stays, or is to be removed and ends the run of items that stay.
 use Rattle.std.proofs.Common.{arith, refl, rules}
 use Rattle.thin_vec.proofs.edits.DedupLemmas.{pair-goes, pair-more, pair-start}
 use Rattle.std.proofs.lemmas.Grind.{common_steps}

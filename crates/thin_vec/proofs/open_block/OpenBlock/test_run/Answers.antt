@@ -1,4 +1,5 @@
--- One item more was asked about and stays, or it goes and ends the run.
+-- Each turn of the loop tests the next item, which stays, or is to be removed and ends the run of
+-- items that stay.
 use Rattle.std.proofs.Common.{arith, refl, rules}
 use Rattle.thin_vec.proofs.RetainLemmas.{stays-goes, stays-more, stays-start}
 use Rattle.std.proofs.lemmas.Grind.{common_steps}

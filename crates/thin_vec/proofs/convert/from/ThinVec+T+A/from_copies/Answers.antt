@@ -1,4 +1,6 @@
--- The items' type as `with_capacity` sees it has the same size and alignment.
+-- The contract of `with_capacity` is about an item type of the same size and alignment as the
+-- `Copy` type in the contract of `from_copies`. So both calls fail with `CapacityOverflow` for the
+-- same lengths.
 use Rattle.std.proofs.Common.{length, refl}
 use Rattle.thin_block.proofs.CapacityLemmas.{exact-at}
 use Rattle.thin_vec.proofs.list.ReservesLemmas.{tells-made, tells-same}

@@ -1,4 +1,6 @@
--- The slots that remain are filled, and an iterator is one again once they are written.
+-- `as_mut_slice` lends the slots from `start` up to `end`, which are all filled. Whatever is
+-- written to the items, the block is the block of an iterator again when the loan ends, and this
+-- iterator has the written items.
 use Rattle.std.proofs.Common.{ap, refl, ◌∙◌}
 use Rattle.thin_block.specs.Lends.{with_items as block_with_items}
 use Rattle.thin_vec.specs.Lends.{with_items}

@@ -1,4 +1,4 @@
--- Perhaps no item goes.
+-- The lower bound that `size_hint` returns is 0, because perhaps no further item is extracted.
 use Rattle.std.proofs.Common.{arith, ◌∙◌}
 use Rattle.thin_vec.proofs.edits.extract_if.ExtractIfIterator.size_hint.Goals as goal
 

@@ -1,4 +1,6 @@
--- The slot of an item is filled, and a list is one again once it is written.
+-- `index_mut` lends the slot of the item at `index`, which is filled. Whatever is written to the
+-- item, the block is the block of a list again when the loan ends, and this list has the written
+-- item.
 use Rattle.std.proofs.Common.{◌<◌, ap, arith, length, refl, sym, ◌∙◌}
 use Rattle.std.specs.List.{slice_get}
 use Rattle.std.proofs.lemmas.Option.{get_or_from_slice_get}
