@@ -5,7 +5,8 @@ use Rattle.thin_block.specs.Cost.{moving}
 use Rattle.thin_vec.specs.List.Clones.{LaysClones}
 use Rattle.thin_vec.proofs.put.put_clones.Given as goal
 
--- at turn i, clones of the first i items lie in the slots from `start` on, and i moves are counted
+-- when the loop reaches i, clones of the first i items lie in the slots from `start` on, and i
+-- moves are counted
 abbrev pub invariant-loop-i : goal.invariant-loop-i
 invariant-loop-i g l =
     record {

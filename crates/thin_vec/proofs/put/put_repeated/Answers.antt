@@ -6,7 +6,7 @@ use Rattle.std.proofs.lemmas.List.{get_or-replicate, length-replicate}
 use Rattle.thin_vec.proofs.list.ClonesLemmas.{lays-more}
 use Rattle.thin_vec.proofs.put.put_repeated.Goals as goal
 
--- if i clones were in their slots before a turn, i + 1 clones are after it
+-- if i clones are in their slots before a turn, i + 1 clones are in their slots after it
 pub loop-i-preserved : goal.loop-i-preserved
 loop-i-preserved g c =
     let was = c.loop-i.invariant in

@@ -1,6 +1,5 @@
--- `as_mut_slice` lends the slots of the items, which are all filled. Whatever is written to the
--- items, the block is the block of a list again when the loan ends, and this list has the written
--- items.
+-- The slots that `as_mut_slice` lends are all filled. When the loan ends, the block is again the
+-- block of a list, and this list has the items that were written.
 use Rattle.std.proofs.Common.{ap, arith, refl, ◌∙◌}
 use Rattle.thin_block.specs.Lends.{with_items as block_with_items}
 use Rattle.thin_vec.specs.Lends.{with_items}

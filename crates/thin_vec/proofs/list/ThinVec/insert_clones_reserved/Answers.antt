@@ -1,5 +1,5 @@
 -- If a clone fails, `drop_range` removes the clones made before it, so the list has its old items
--- again. Each item after `at` is moved at most once by each of `open_wide`, `close` and
+-- again. Each item from `at` on is moved at most once by each of `open_wide`, `close` and
 -- `drop_range`.
 use Rattle.std.proofs.Common.{◌≡◌, ◌+◌, ◌-◌, ◌++◌, ◌∙◌, [], ap, arith, drop, eqb, length, length-append, sym, take}
 use Rattle.std.proofs.lemmas.List.{length-drop, length-take-le}

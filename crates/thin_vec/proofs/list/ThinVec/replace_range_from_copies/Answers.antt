@@ -1,6 +1,7 @@
 -- `replace_range_from_copies` reserves room for the items that do not fit into the places of the
--- range, and its capacity is the one for their number. The contract of `reserve` names this
--- capacity for another item type of the same size and alignment, so the two capacities are equal.
+-- range. In its contract the item type is a `Copy` type, and in that of `reserve` it is not known
+-- to be one; both have the same size and alignment, so the capacity and the error are those of
+-- `reserve`.
 use Rattle.std.proofs.Common.{◌≡◌, ◌+◌, ◌-◌, ◌∙◌, Ok, ap, arith, length, refl}
 use denote.Param.{copied}
 use Rattle.thin_block.proofs.CapacityLemmas.{ruled-at}

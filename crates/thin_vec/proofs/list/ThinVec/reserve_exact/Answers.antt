@@ -1,5 +1,5 @@
--- If `reserve_exact` succeeds, the capacity is exactly the one requested. If that capacity does not
--- fit, the call fails, and the clause `capacity` says nothing.
+-- If `reserve_exact` succeeds, the capacity is exactly the one requested. The two answers are for
+-- the calls that fail, about which the clause `capacity` says nothing.
 use Rattle.std.proofs.Common.{arith, ◌∙◌}
 use Rattle.thin_vec.proofs.list.ThinVec.reserve_exact.Goals as goal
 

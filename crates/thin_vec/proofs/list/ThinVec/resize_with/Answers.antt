@@ -1,6 +1,5 @@
--- If the list gets no longer, its capacity stays. Otherwise the capacity is the ruled one for the
--- number of items added, because `push_results_reserved` does not change what `reserve` has made
--- it.
+-- If the list does not become longer, its capacity stays. Otherwise `reserve` makes the capacity
+-- the ruled one for the items that are added, and `push_results_reserved` does not change it.
 use Rattle.std.proofs.Common.{Ok, ◌-◌, ap, arith, subst, sym, ◌∙◌}
 use denote.Param.{param}
 use Rattle.thin_vec.specs.List.Capacity.{Reserves}

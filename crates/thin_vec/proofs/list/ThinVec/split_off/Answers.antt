@@ -1,5 +1,5 @@
--- A capacity of `len` items fits, so the smaller capacity for the `len - at` items that are split
--- off fits too. The second list has exactly this capacity.
+-- A capacity of `len` fits, so the smaller capacity `len - at` for the items that are split off
+-- fits too. The second list has exactly this capacity.
 use Rattle.std.proofs.Common.{◌-◌, arith, ◌∙◌}
 use denote.Param.{param}
 use Rattle.thin_block.proofs.CapacityLemmas.{fits-less}

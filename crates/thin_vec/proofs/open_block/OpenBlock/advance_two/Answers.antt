@@ -50,8 +50,8 @@ returns-then-not-test-2-clause-advances g c =
       });
     }
 
--- if both items stay, they are moved to the front, together with the items that stay directly after
--- them
+-- if both items stay, they are moved to the front, together with the items after them, up to the
+-- first one to be removed
 pub returns-clause-advances : goal.returns-clause-advances
 returns-clause-advances g c =
     let R = g.J.Test.tests in

@@ -23,8 +23,8 @@ count g c = c.len-count.ensures.value ∙ c.other.invariant.packed.len
 same : (g : _) (c : goal.After-self-1 g) → c.len-count.result ≡ length c.args.other.now.items
 same g c = count g c ∙ ap (λ v. length v.items) c.other.view_is
 
--- after the move, the items of `other` lie in the slots from `front_end` on, and no other slot has
--- changed
+-- after the move, the items of `other` lie in the slots of the open block from `front_end` on, and
+-- no other slot of the open block has changed
 lies : (g : _) (c : goal.After-self-1 g) → c.move_run_to.new.other.slots
     ≡ laid c.self.inside.front_end (full (items_in c.other.inside.block.slots))
     c.self.inside.block.slots

@@ -1,12 +1,12 @@
--- The middle run has at most one item. `Sifts` holds whether this item is removed, or stays, or
--- there is none, and in each case no item is left to test.
+-- The middle run has at most one item. `Sifts` holds in each of three cases: there is no item, the
+-- item stays, or the item is removed; in each case no item is left to test.
 use Rattle.std.proofs.Common.{◌∙◌, ap, arith, length, sym}
 use Rattle.std.proofs.lemmas.Bool.{false≢true}
 use Rattle.std.proofs.lemmas.List.{nil_from_length}
 use Rattle.thin_vec.proofs.RetainLemmas.{advanced-count, advanced-ends, advanced-goes, none-left}
 use Rattle.thin_vec.proofs.open_block.OpenBlock.sift_last.Goals as goal
 
--- if `advance_last` returns true, the item that it stopped at is removed
+-- if `advance_last` returns true, the next item is removed
 pub returns-then-advance_last-clause-sifts : goal.returns-then-advance_last-clause-sifts
 returns-then-advance_last-clause-sifts g c =
     advanced-goes g.J.Test.tests c.args.test.now c.advance_last.new.test c.args.self.now

@@ -5,7 +5,7 @@ use Rattle.std.proofs.lemmas.Bool.{false≢true}
 use Rattle.thin_vec.proofs.RetainLemmas.{advanced-count, advanced-ends, advanced-goes, none-left}
 use Rattle.thin_vec.proofs.open_block.OpenBlock.sift_two.Goals as goal
 
--- if `advance_two` returns true, the item that it stopped at is removed
+-- if `advance_two` returns true, the next item is removed
 pub returns-then-advance_two-clause-sifts : goal.returns-then-advance_two-clause-sifts
 returns-then-advance_two-clause-sifts g c =
     advanced-goes g.J.Test.tests c.args.test.now c.advance_two.new.test c.args.self.now

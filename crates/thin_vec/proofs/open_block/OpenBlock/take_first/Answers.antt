@@ -1,5 +1,5 @@
 -- The slot at `rest_start` holds the first item of the middle run. `take_first` empties this slot,
--- which becomes part of the gap before the middle run.
+-- which becomes part of the gap after the front.
 use Rattle.std.proofs.Common.{◌≡◌, ◌<◌, ◌+◌, ◌∷◌, List, ap, sym, ◌∙◌, arith, length}
 use Rattle.thin_vec.specs.OpenBlock.{open_of}
 use Rattle.thin_vec.proofs.OpenBlockLemmas.{Found, first-left, first-seen, first-step, rest-filled}

@@ -19,8 +19,8 @@ slot_mut-requires g c =
 low : (g : _) (c : goal.After-self-1 g) → c.args.k < length (open_of c.self.inside).rest
 low g c = omega (arith, c.requires.in_bounds, ap (λ v. length v.rest) c.self.view_is)
 
--- after the test, the middle run has the item that the test left in the place of the tested item,
--- and nothing else has changed
+-- after the test, the item at `k` of the middle run is as the test left it, and nothing else has
+-- changed
 facts : (g : _) (c : goal.After-self-1 g) → Written c.self.inside c.self.invariant
     (with_item c.self.inside.block (c.self.inside.rest_start + c.args.k) c.test.new.item)
     c.args.k (low g c) c.slot_mut.result.now c.test.new.item

@@ -1,5 +1,5 @@
--- Each turn of the loop tests the next item, which stays, or is to be removed and ends the run of
--- items that stay.
+-- Each turn of the loop tests the next item. If this item stays, the run of items that stay is one
+-- item longer; if it is to be removed, the run ends before it.
 use Rattle.std.proofs.Common.{arith, refl, rules}
 use Rattle.thin_vec.proofs.RetainLemmas.{stays-goes, stays-more, stays-start}
 use Rattle.std.proofs.lemmas.Grind.{common_steps}

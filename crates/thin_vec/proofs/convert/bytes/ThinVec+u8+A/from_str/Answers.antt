@@ -1,5 +1,6 @@
--- The contract of `from_copies` names the capacity for an item type of the same size and alignment
--- as `u8`. So this is the capacity for items of type `u8`, and both calls fail with the same error.
+-- The contract of `from_copies` is generic in the item type, and names the capacity for a type of
+-- the same size and alignment as `u8`. So this is the capacity for items of type `u8`, and both
+-- calls fail with the same error.
 use Rattle.std.proofs.Common.{◌∙◌, ap, length, refl, subst, arith}
 use Rattle.std.specs.Borrow.{u8}
 use Rattle.std.specs.Prelude.{IfErr, Option, ℕ}

@@ -1,6 +1,6 @@
--- The contract of `reserve_run` names the capacity for an item type of the same size and alignment
--- as `u8`, so this is the capacity for items of type `u8`. If there is no such capacity, the call
--- fails.
+-- The contract of `reserve_run` is generic in the item type, and names the capacity for a type of
+-- the same size and alignment as `u8`. So this is the capacity for items of type `u8`, and if there
+-- is none, the call fails.
 use Rattle.std.proofs.Common.{◌+◌, ◌∙◌, Some, ap, length, refl, sym, arith}
 use Rattle.std.specs.Borrow.{u8}
 use Rattle.thin_block.proofs.CapacityLemmas.{ruled-at}

@@ -1,6 +1,6 @@
--- `as_mut_slice` lends the slots from `start` up to `end`, which are all filled. Whatever is
--- written to the items, the block is the block of an iterator again when the loan ends, and this
--- iterator has the written items.
+-- The slots that `as_mut_slice` lends, from `start` up to `end`, are all filled. When the loan
+-- ends, the block is again the block of an iterator, and this iterator has the items that were
+-- written.
 use Rattle.std.proofs.Common.{ap, refl, ◌∙◌}
 use Rattle.thin_block.specs.Lends.{with_items as block_with_items}
 use Rattle.thin_vec.specs.Lends.{with_items}

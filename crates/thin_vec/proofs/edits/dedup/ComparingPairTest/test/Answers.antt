@@ -1,5 +1,5 @@
--- The test returns true, so that the later item is removed, if and only if the later item equals
--- the last item kept. It changes neither item.
+-- The test returns whether the later item equals the last item kept, and changes neither item. If
+-- they are equal, the later item is removed.
 use Rattle.std.proofs.Common.{arith, ◌∙◌}
 use Rattle.thin_vec.proofs.edits.dedup.ComparingPairTest.test.Goals as goal
 

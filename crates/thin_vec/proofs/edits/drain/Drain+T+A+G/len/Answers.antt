@@ -1,4 +1,4 @@
--- `len` returns the number of items not yet yielded, which is the length of the middle run.
+-- As many items come as are left.
 use Rattle.std.proofs.Common.{arith, ◌∙◌}
 use Rattle.thin_vec.proofs.edits.drain.Drain+T+A+G.len.Goals as goal
 

@@ -1,5 +1,4 @@
--- If an item is left, `next` yields the first one, and otherwise it returns `None`. What the list
--- will have once the `Drain` is dropped does not change.
+-- The first item that is left, if there is one.
 use Rattle.std.proofs.Common.{arith, ◌∙◌}
 use Rattle.thin_vec.proofs.edits.drain.Drain+T+A+G.next.Goals as goal
 

@@ -1,5 +1,4 @@
--- If an item is left, `next_back` yields the last one, and otherwise it returns `None`. What the
--- list will have once the `Drain` is dropped does not change.
+-- The last item that is left, if there is one.
 use Rattle.std.proofs.Common.{arith, ◌∙◌}
 use Rattle.thin_vec.proofs.edits.drain.Drain+T+A+G.next_back.Goals as goal
 

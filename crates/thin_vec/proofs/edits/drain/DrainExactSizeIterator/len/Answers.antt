@@ -1,5 +1,4 @@
--- The trait's `len` returns the number of items not yet yielded, as the method `len` of `Drain`
--- does.
+-- As many items come as are left.
 use Rattle.std.proofs.Common.{arith, ◌∙◌}
 use Rattle.thin_vec.proofs.edits.drain.DrainExactSizeIterator.len.Goals as goal
 

@@ -1,6 +1,5 @@
--- `index_mut` lends the slot of the item at `index`, which is filled. Whatever is written to the
--- item, the block is the block of a list again when the loan ends, and this list has the written
--- item.
+-- The slot that `index_mut` lends is filled. When the loan ends, the block is again the block of a
+-- list, and this list has at `index` the item that was written.
 use Rattle.std.proofs.Common.{◌<◌, ap, arith, length, refl, sym, ◌∙◌}
 use Rattle.std.specs.List.{slice_get}
 use Rattle.std.proofs.lemmas.Option.{get_or_from_slice_get}
