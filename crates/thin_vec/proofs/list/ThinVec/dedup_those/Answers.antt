@@ -1,4 +1,4 @@
--- A list of fewer than two items is already deduplicated, so `dedup_those` leaves it unchanged. For
+-- A list of fewer than two items is already deduplicated, so `dedup_those` does not change it. For
 -- a longer list, the items that `dedup_rest` keeps become the items of the list.
 use Rattle.std.proofs.lemmas.Grind.{common_steps}
 use Rattle.std.proofs.Common.{arith}

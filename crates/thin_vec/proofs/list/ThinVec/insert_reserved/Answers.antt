@@ -1,6 +1,6 @@
 -- `move_run` moves the items from `index` on up by one slot, and `put_and_store` puts `value` into
--- the slot that this leaves empty. So the new items are `insert` of the old ones, and the capacity
--- stays.
+-- the slot at `index`, which is then empty. So the new items are `insert` of the old ones, and the
+-- capacity does not change.
 use Rattle.std.proofs.Common.{Some, ◌+◌, ◌-◌, ap, ◌∙◌, length, arith, refl, ◌≡◌}
 use lib.ListN.{set}
 use Rattle.std.specs.Prelude.{insert}

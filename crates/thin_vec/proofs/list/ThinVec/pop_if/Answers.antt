@@ -1,5 +1,5 @@
 -- `pop_if` calls the closure with the last item. If the closure returns true, this item is removed
--- and returned, and otherwise it stays, in both cases as the closure left it.
+-- and returned; otherwise the list keeps it. In both cases the item is as the closure left it.
 use Rattle.std.proofs.Common.{◌≡◌, ℕ, ◌-◌, suc, true, false, inr, List, [], ◌∷◌, ◌++◌, length, take, take_all, get_or, Some, refl, sym, ap, subst, ◌∙◌, arith}
 use Rattle.std.proofs.Math.Seq.{take-suc, take-suc-set}
 use Rattle.std.proofs.lemmas.List.{same_from_push}

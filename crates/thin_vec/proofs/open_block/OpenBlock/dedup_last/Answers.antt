@@ -1,5 +1,5 @@
 -- The middle run has at most one item. `Dedups` holds in each of three cases: there is no item, the
--- item is removed, or the item stays; in each case no item is left to test.
+-- item is removed, or the item stays. In each case no item is left to test.
 use Rattle.std.proofs.Common.{rules}
 use Rattle.thin_vec.proofs.edits.DedupLemmas.{dedups-goes, dedups-stays, dedups-start}
 use Rattle.thin_vec.proofs.open_block.OpenBlock.dedup_last.Goals as goal

@@ -1,5 +1,5 @@
 -- The middle run has at most one item. `Sifts` holds in each of three cases: there is no item, the
--- item stays, or the item is removed; in each case no item is left to test.
+-- item stays, or the item is removed. In each case no item is left to test.
 use Rattle.std.proofs.Common.{◌∙◌, ap, arith, length, sym}
 use Rattle.std.proofs.lemmas.Bool.{false≢true}
 use Rattle.std.proofs.lemmas.List.{nil_from_length}

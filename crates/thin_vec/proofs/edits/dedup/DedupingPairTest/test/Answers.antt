@@ -1,4 +1,4 @@
--- The test passes the closure the later item first, and then the last item kept, and returns what
+-- The test passes to the closure first the later item and then the last item kept, and returns what
 -- the closure returns.
 use Rattle.std.proofs.Common.{arith, ◌∙◌}
 use Rattle.thin_vec.proofs.edits.dedup.DedupingPairTest.test.Goals as goal

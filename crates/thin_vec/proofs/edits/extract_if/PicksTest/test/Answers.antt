@@ -1,5 +1,5 @@
 -- An item is extracted if and only if the closure returns true: the test returns the negation of
--- what the closure returns, and the definition of `tests` negates that again.
+-- the closure's result, and the definition of `tests` negates the test's result.
 use Rattle.std.proofs.Common.{Bool, rules, sym, subst}
 use Rattle.std.specs.Fn.{CalledAtMut}
 use Rattle.thin_vec.proofs.edits.ExtractIfLemmas.{not-not}
