@@ -20,13 +20,14 @@ returns-else-advance_two-clause-sifts g c =
     (none-left c.advance_two.new.self.rest
     (λ some. false≢true (sym c.if-advance_two.false ∙ c.advance_two.ensures.goes.1 some)))
 
--- whether an item is removed or not, fewer items are left to test
+-- if an item is removed, fewer items are left to test
 pub returns-then-advance_two-clause-less : goal.returns-then-advance_two-clause-less
 returns-then-advance_two-clause-less g c =
     let few = advanced-count g.J.Test.tests c.args.test.now c.advance_two.new.test c.args.self.now
     c.advance_two.new.self c.requires.gap c.advance_two.ensures.advances in
     omega (arith, few, ap length c.take_first.ensures.rest)
 
+-- if no item is removed, no item is left to test, and there were at least two
 pub returns-else-advance_two-clause-less : goal.returns-else-advance_two-clause-less
 returns-else-advance_two-clause-less g c =
     let none = none-left c.advance_two.new.self.rest
