@@ -1,4 +1,6 @@
--- The cause, by the slice's length.
+-- The capacity requested is the length of the boxed slice, which is the number of its items. So the
+-- list has exactly this capacity, and the call fails with `CapacityOverflow` if and only if this
+-- capacity does not fit.
 use Rattle.std.proofs.Common.{arith, ◌∙◌, ap}
 use denote.Param.{param}
 use Rattle.thin_block.specs.Growth.{exact_capacity}

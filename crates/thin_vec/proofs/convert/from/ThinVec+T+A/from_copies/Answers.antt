@@ -1,4 +1,6 @@
--- The items' type as `with_capacity` sees it has the same size and alignment.
+-- In the contract of `from_copies`, the item type is a `Copy` type; in that of `with_capacity`, it
+-- is not known to be one. Both types have the same size and alignment, so both calls fail with
+-- `CapacityOverflow` for the same lengths.
 use Rattle.std.proofs.Common.{length, refl}
 use Rattle.thin_block.proofs.CapacityLemmas.{exact-at}
 use Rattle.thin_vec.proofs.list.ReservesLemmas.{tells-made, tells-same}

@@ -1,4 +1,5 @@
--- The cause, by the `Vec`'s length.
+-- The capacity requested is the length of the vector, which is the number of its items. So the call
+-- fails with `CapacityOverflow` if and only if this capacity does not fit.
 use Rattle.std.proofs.Common.{◌∙◌, ap}
 use denote.Param.{param}
 use Rattle.thin_block.specs.Growth.{exact_capacity}
