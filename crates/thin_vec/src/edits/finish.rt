@@ -176,13 +176,18 @@ impl<T: Drop, A: Allocator, G: Growth> ThinVec<T, A, G> {
         iter: I,
         alloc: A,
     ) -> Result<(), SpliceRefused<T, I, A>>
+        // The block has a tail, its range is empty, and it comes from this list.
         requires some { 0 < length block.tail }
         requires empty { self.old.items ≡ [] }
         requires none { block.rest ≡ [] }
         requires gap_after { block.gap_after ≡ 0 }
         requires from { IsFrom block.alloc self.old.alloc }
+
+        // The iterator may be asked, and is finite.
         requires can_next { I.can_next iter }
         requires finite { IsFinite (I.remaining iter) }
+
+        // The facts from which the clauses of `finish` follow.
         ensures { IsFinished I.next_gives I.can_next I.remaining G.rule T.row block self.old.alloc
             iter self.new result }
     {
@@ -218,14 +223,19 @@ impl<T: Drop, A: Allocator, G: Growth> ThinVec<T, A, G> {
         iter: I,
         alloc: A,
     ) -> Result<(), SpliceRefused<T, I, A>>
+        // The block has no tail, its range is empty, and it comes from this list.
         requires no_tail { block.tail ≡ [] }
         requires within { reach block ≤ block.capacity }
         requires empty { self.old.items ≡ [] }
         requires none { block.rest ≡ [] }
         requires gap_after { block.gap_after ≡ 0 }
         requires from { IsFrom block.alloc self.old.alloc }
+
+        // The iterator may be asked, and is finite.
         requires can_next { I.can_next iter }
         requires finite { IsFinite (I.remaining iter) }
+
+        // The facts from which the clauses of `finish` follow.
         ensures { IsFinished I.next_gives I.can_next I.remaining G.rule T.row block self.old.alloc
             iter self.new result }
     {
