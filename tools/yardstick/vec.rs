@@ -31,6 +31,7 @@ fn named(workload: &str) -> Option<fn(usize, usize) -> u64> {
         "extend_hinted" => extend_hinted,
         "extend_unhinted" => extend_unhinted,
         "extend_filter" => extend_filter,
+        "extend_twice" => extend_twice,
         "collect_few" => collect,
         "extend_slice" => extend_slice,
         "extend_sixteen" => extend_sixteen,
@@ -52,8 +53,10 @@ fn named(workload: &str) -> Option<fn(usize, usize) -> u64> {
         "drain_inner" => drain_few::<3, 5>,
         "splice_two" => splice_few::<3, 5, 2>,
         "splice_away" => splice_few::<5, 7, 1>,
+        "splice_more" => splice_more,
         "splice_hinted" => splice_hinted,
         "splice_unhinted" => splice_unhinted,
+        "replace_more" => replace_more,
         "retain_half" => |size, times| retain(size, times, in_turn, is_even),
         "retain_random" => |size, times| retain(size, times, in_turn, is_random),
         "retain_three" => |size, times| retain(size, times, in_turn, |number| number & 3 != 0),
@@ -94,6 +97,7 @@ fn seen<T: Item>(items: &[T]) -> u64 {
 }
 
 const SIXTEEN: [u64; 16] = [7; 16];
+const FOUR: [u64; 4] = [7; 4];
 
 // An item of 24 bytes.
 struct Triple(u64, u64, u64);
@@ -270,6 +274,18 @@ fn extend_filter(size: usize, times: usize) -> u64 {
     sum_of(times, || {
         let mut list = Vec::new();
         list.extend(source.iter().copied().filter(|number| *number & 1 == 0));
+        seen(&list)
+    })
+}
+
+#[inline(never)]
+fn extend_twice(size: usize, times: usize) -> u64 {
+    let source = filled(size);
+    sum_of(times, || {
+        let mut list = Vec::with_capacity(size);
+        let (first, second) = source.split_at(size / 2);
+        list.extend(first.iter().copied());
+        list.extend(second.iter().copied());
         seen(&list)
     })
 }
@@ -458,6 +474,49 @@ fn splice_few<const START: usize, const END: usize, const COUNT: usize>(size: us
         }
     }
     seen(&list)
+}
+
+#[inline(never)]
+fn splice_more(size: usize, times: usize) -> u64 {
+    let mut list = filled(size);
+    let mut sum = 0;
+    for first in 0..times {
+        if !list.is_empty() {
+            drop(list.splice(0..1, (0..3usize).map(|number| number.wrapping_add(first) as u64)));
+        }
+        sum = pop_two(&mut list, sum);
+    }
+    mixed(sum, seen(&list))
+}
+
+#[inline(never)]
+fn replace_more(size: usize, times: usize) -> u64 {
+    let mut list = filled(size);
+    let mut sum = 0;
+    for number in 0..times {
+        let start = 5 + (number & 1);
+        replace(&mut list, start, start + 2, &FOUR);
+        sum = pop_two(&mut list, sum);
+    }
+    mixed(sum, seen(&list))
+}
+
+#[inline(never)]
+fn replace(list: &mut Vec<u64>, start: usize, end: usize, items: &[u64]) {
+    if start <= end && end <= list.len() {
+        drop(list.splice(start..end, items.iter().copied()));
+    }
+}
+
+#[inline(always)]
+fn pop_two(list: &mut Vec<u64>, sum: u64) -> u64 {
+    let mut sum = sum;
+    for _ in 0..2 {
+        if let Some(last) = list.pop() {
+            sum = mixed(sum, last);
+        }
+    }
+    sum
 }
 
 #[inline(never)]

@@ -54,6 +54,27 @@ impl<T, A: Allocator> Block<T, A> {
         }
     }
 
+    /// Moves `k` items up by `gap` slots, of which the first is in the slot `from`. The `gap` slots
+    /// that follow the items must be empty. If `gap` is a constant, LLVM turns this call into a
+    /// `memmove`.
+    #[inline(always)]
+    pub fn move_up(&mut self, from: usize, gap: usize, k: usize)
+        requires in_bounds { from + gap + k ≤ length self.old.slots }
+        requires empty { AreEmpty self.old.slots (from + k) gap }
+        requires filled { AreFilled self.old.slots from k }
+        ensures changes { seen self.new ≡ record (seen self.old) {
+          slots = moved from (from + gap) k self.old.slots;
+          cost = moving k self.old.cost;
+        } }
+        ensures cap { length self.new.slots ≡ length self.old.slots }
+    {
+        let at = self.at;
+        unsafe {
+            let source = (at.add(HEADER_WORDS) as *mut T).add(from);
+            slide(source as *const T, source.add(gap), k, true)
+        }
+    }
+
     /// Moves items down as `move_down` does, and returns the block. The block is passed by value,
     /// so that its pointer stays in a register.
     #[inline(never)]
@@ -88,6 +109,44 @@ impl<T, A: Allocator> Block<T, A> {
             14 => block.move_down(to, gap, k),
             15 => block.move_down(to, gap, k),
             _ => block.move_run(to + gap, to, k),
+        }
+        block
+    }
+
+    /// Moves items up as `move_up` does, and returns the block. The block is passed by value, so
+    /// that its pointer stays in a register.
+    #[inline(never)]
+    pub fn open_gap(self, from: usize, gap: usize, k: usize) -> Block<T, A>
+        requires in_bounds { from + gap + k ≤ length self.slots }
+        requires empty { AreEmpty self.slots (from + k) gap }
+        requires filled { AreFilled self.slots from k }
+        ensures changes { seen result ≡ record (seen self) {
+          slots = moved from (from + gap) k self.slots;
+          cost = moving k self.cost;
+        } }
+        ensures cap { length result.slots ≡ length self.slots }
+    {
+        let mut block = self;
+        // This call tells the prover that the number of slots is below 2 ^ 63.
+        let _cap = block.cap();
+        // In each arm, `gap` is a constant for LLVM, which turns the loop into a `memmove`.
+        match gap {
+            1 => block.move_up(from, gap, k),
+            2 => block.move_up(from, gap, k),
+            3 => block.move_up(from, gap, k),
+            4 => block.move_up(from, gap, k),
+            5 => block.move_up(from, gap, k),
+            6 => block.move_up(from, gap, k),
+            7 => block.move_up(from, gap, k),
+            8 => block.move_up(from, gap, k),
+            9 => block.move_up(from, gap, k),
+            10 => block.move_up(from, gap, k),
+            11 => block.move_up(from, gap, k),
+            12 => block.move_up(from, gap, k),
+            13 => block.move_up(from, gap, k),
+            14 => block.move_up(from, gap, k),
+            15 => block.move_up(from, gap, k),
+            _ => block.move_run(from, from + gap, k),
         }
         block
     }

@@ -83,6 +83,10 @@ pub trait Numbers: List<u64> {
     /// Appends the even numbers among `items`, by `extend` with a filter.
     fn extend_filtered(&mut self, items: &[u64]) -> Result<(), AllocError>;
 
+    /// Appends the first half of `items`, and then the second half, by two calls of `extend`. The
+    /// iterators of the two calls have the same type, so both calls are of one function.
+    fn extend_twice(&mut self, items: &[u64]) -> Result<(), AllocError>;
+
     /// Appends copies of `items`.
     fn extend_from_copies(&mut self, items: &[u64]) -> Result<(), AllocError>;
 
@@ -108,6 +112,11 @@ pub trait Numbers: List<u64> {
         end: usize,
         first: usize,
     ) -> Result<(), AllocError>;
+
+    /// Replaces the items from `start` up to, but not including, `end` with copies of `items`. Does
+    /// nothing if this is not a range of the list. This method is not inlined, so its code does not
+    /// depend on the lengths.
+    fn replace(&mut self, start: usize, end: usize, items: &[u64]) -> Result<(), AllocError>;
 
     /// Replaces the middle half of the list with the numbers below `end`, by `splice` with an
     /// iterator whose size hint is exact.

@@ -179,6 +179,9 @@ impl Iterator for Unhinted {
     }
 }
 
+/// The four items that the workload `replace_more` inserts at a time.
+pub const FOUR: [u64; 4] = [7; 4];
+
 /// The number of items that the method `splice_few` inserts.
 pub trait Count {
     /// Returns the number of items.
@@ -202,6 +205,16 @@ impl Count for Two {
     #[inline(always)]
     fn count() -> usize {
         2
+    }
+}
+
+/// The count 3.
+pub struct Three;
+
+impl Count for Three {
+    #[inline(always)]
+    fn count() -> usize {
+        3
     }
 }
 

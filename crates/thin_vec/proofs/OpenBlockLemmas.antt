@@ -715,6 +715,24 @@ module _ {T A : Type 0} where
         (ap (λ (k : ℕ). empty k) (sym all)
         ∙ sym (replicate-append-replicate count (v.capacity - reach v - count) None))
 
+    -- if the tail is moved up by `count`, the slots after the old end are empty
+    pub spare-empty : (j : ℕ) → h.len ≤ j → j < h.len + count → slot h.block.slots j ≡ None
+    spare-empty j low high =
+        let v : Open T A = open_of h in
+        let before : List (Option T) = to_tail v ++ full v.tail in
+        let end : List (Option T) = empty (v.capacity - reach v - count) in
+        let long : length before ≡ h.len =
+        omega (
+          arith,
+          length-append (to_tail v) (full v.tail),
+          at_tail h v o,
+          length-full v.tail,
+          o.tail,
+        ) in
+        ap (λ (r : List (Option T)). slot r j)
+        (spare ∙ sym (append_assoc (to_tail v) (full v.tail) (empty count ++ end)))
+        ∙ slot-in-empty before count end j (omega (arith, long)) (omega (arith, long))
+
     -- if the slots of the tail were moved up by `count`, contracts see `widened` as `widened-seen`
     pub widen-step : b.slots ≡ moved h.tail_start (h.tail_start + count)
         (h.len - h.tail_start) h.block.slots

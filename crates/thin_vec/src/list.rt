@@ -2,9 +2,10 @@
 //! other methods are in the folder `list`, and in `convert` and `edits`.
 ghost use Rattle.std.specs.Prelude.{◌≡◌, ◌↔◌, ◌+◌, ◌-◌, ◌<◌, [], ◌∷◌, ◌++◌, IfErr, IsOk, IsSome, IsTrue, None, OnErr, OnOk, Some, length};
 ghost use Rattle.std.specs.Option.{option_to_list};
+ghost use Rattle.thin_block.specs.Block.{IsFrom};
 ghost use Rattle.thin_block.specs.Capacity.{Fits};
 ghost use Rattle.thin_block.specs.Cost.{moving};
-ghost use Rattle.thin_block.specs.Slots.{empty};
+ghost use Rattle.thin_block.specs.Slots.{IsPacked, empty};
 ghost use Rattle.thin_vec.specs.List.Capacity.{Costs, Keeps, Reserves, causes};
 
 mod append_split;
@@ -75,7 +76,6 @@ impl<T, A: Allocator> ThinVec<T, A> {
 
 impl<T, A: Allocator, G: Growth> ThinVec<T, A, G> {
     ghost use types.Logic.{sem};
-    ghost use Rattle.thin_block.specs.Block.{IsFrom};
     ghost use Rattle.thin_block.specs.Slots.{front};
     ghost use Rattle.thin_vec.specs.Lends.{LendsItems};
     ghost use Rattle.thin_vec.specs.ThinVec.{HasRoomFor, IsNew, IsWithin};
@@ -263,11 +263,24 @@ impl<T, A: Allocator, G: Growth> ThinVec<T, A, G> {
 
 impl<T: Drop, A: Allocator, G: Growth> Drop for ThinVec<T, A, G> {
     // Drops each item, and then frees the block. It does not update the stored length, because the
-    // block is freed anyway.
+    // block is freed anyway. A list without a block makes no call.
+    #[inline(always)]
     fn drop(self) {
-        let len = self.len();
-        let (mut block, alloc) = self.into_parts();
-        drop_items(&mut block, len);
-        block.release(&alloc);
+        let (block, alloc) = self.into_parts();
+        if block.cap() == 0 {
+            block.forget_none();
+        } else {
+            drop_block(block, alloc);
+        }
     }
+}
+
+// Drops the items of the block of a list, and frees the block.
+fn drop_block<T: Drop, A: Allocator>(mut block: Block<T, A>, alloc: A)
+    requires packed { IsPacked block.slots block.len }
+    requires from { IsFrom block.alloc alloc }
+{
+    let len = block.len();
+    drop_items(&mut block, len);
+    block.release(&alloc);
 }

@@ -221,7 +221,10 @@ impl<T, A: Allocator> OpenBlock<T, A> {
         } }
     {
         let from = self.tail_start;
-        self.block.move_run(from, from + count, self.len - from);
+        let block = mem::replace(&mut self.block, Block::none());
+        let opened = block.open_gap(from, count, self.len - from);
+        let none = mem::replace(&mut self.block, opened);
+        none.forget_none();
         self.tail_start += count;
         self.len += count;
     }

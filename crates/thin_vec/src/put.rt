@@ -138,43 +138,52 @@ pub(crate) fn put_results<T, A: Allocator, F: FnMut() -> T>(
     }
 }
 
-// Puts the items that `iter` yields into the empty slots from `start` up to `end`. Stops if the
-// iterator returns `None` or the slots are full.
+// Puts the items that `iter` yields into the empty slots from `start` up to `end`, and returns the
+// block. Stops if the iterator returns `None` or the slots are full. The block is passed by value,
+// so that its pointer stays in a register and LLVM vectorizes the loop.
 pub(crate) fn put_iter<T, A: Allocator, I: Iterator<Item = T>>(
-    block: &mut Block<T, A>,
+    block: Block<T, A>,
     start: usize,
     end: usize,
     iter: I,
-) -> Filled<I>
+) -> (Block<T, A>, Filled<I>)
     requires start_le_end { start ≤ end }
-    requires in_bounds { end ≤ length block.old.slots }
-    requires empty { (k : ℕ) → start ≤ k → k < end → slot block.old.slots k ≡ None }
+    requires in_bounds { end ≤ length block.slots }
+    requires empty { (k : ℕ) → start ≤ k → k < end → slot block.slots k ≡ None }
     requires can_next { I.can_next iter }
     requires finite { IsFinite (I.remaining iter) }
-    ensures filled { (by : IsFilledBy I.next_gives I.can_next I.remaining (end - start) iter result)
-        × (block.new.slots ≡ laid start (full by.items) block.old.slots)
-        × (result.end ≡ start + length by.items) }
-    ensures changes { seen block.new ≡ record (seen block.old) {
-      slots = block.new.slots;
-      cost = moving (result.end - start) block.old.cost;
+    ensures filled { (by : IsFilledBy I.next_gives I.can_next I.remaining (end - start) iter
+        result.1)
+        × (result.0.slots ≡ laid start (full by.items) block.slots)
+        × (result.1.end ≡ start + length by.items) }
+    ensures changes { seen result.0 ≡ record (seen block) {
+      slots = result.0.slots;
+      cost = moving (result.1.end - start) block.cost;
     } }
 {
+    let mut block = block;
     let mut rest = iter;
     let mut i = start;
     while i < end {
         let Some(item) = rest.next() else {
-            return Filled {
-                rest,
-                end: i,
-                ended: true,
-            };
+            return (
+                block,
+                Filled {
+                    rest,
+                    end: i,
+                    ended: true,
+                },
+            );
         };
         block.put(i, item);
         i += 1;
     }
-    Filled {
-        rest,
-        end: i,
-        ended: false,
-    }
+    (
+        block,
+        Filled {
+            rest,
+            end: i,
+            ended: false,
+        },
+    )
 }

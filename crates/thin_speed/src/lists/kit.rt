@@ -114,6 +114,13 @@ impl Numbers for Vec<u64> {
     }
 
     #[inline(always)]
+    fn extend_twice(&mut self, items: &[u64]) -> Result<(), AllocError> {
+        let (first, second) = items.split_at(items.len() / 2);
+        self.extend(first.iter().copied())?;
+        Ok(self.extend(second.iter().copied())?)
+    }
+
+    #[inline(always)]
     fn extend_from_copies(&mut self, items: &[u64]) -> Result<(), AllocError> {
         self.extend_from_slice(items)
     }
@@ -158,6 +165,15 @@ impl Numbers for Vec<u64> {
         }
         let numbers = (0..C::count()).map(move |number| number.wrapping_add(first) as u64);
         drop(self.splice(start..end, numbers)?);
+        Ok(())
+    }
+
+    #[inline(never)]
+    fn replace(&mut self, start: usize, end: usize, items: &[u64]) -> Result<(), AllocError> {
+        if start > end || end > self.len() {
+            return Ok(());
+        }
+        drop(self.splice(start..end, items.iter().copied())?);
         Ok(())
     }
 

@@ -115,6 +115,13 @@ impl Numbers for ThinVec<u64> {
     }
 
     #[inline(always)]
+    fn extend_twice(&mut self, items: &[u64]) -> Result<(), AllocError> {
+        let (first, second) = items.split_at(items.len() / 2);
+        self.extend(first.iter().copied())?;
+        Ok(self.extend(second.iter().copied())?)
+    }
+
+    #[inline(always)]
     fn extend_from_copies(&mut self, items: &[u64]) -> Result<(), AllocError> {
         Ok(ThinVec::extend_from_copies(self, items)?)
     }
@@ -159,6 +166,14 @@ impl Numbers for ThinVec<u64> {
         }
         let numbers = (0..C::count()).map(move |number| number.wrapping_add(first) as u64);
         Ok(self.splice(start, end, numbers).finish(alloc)?)
+    }
+
+    #[inline(never)]
+    fn replace(&mut self, start: usize, end: usize, items: &[u64]) -> Result<(), AllocError> {
+        if start > end || end > self.len() {
+            return Ok(());
+        }
+        Ok(self.replace_range_from_copies(start, end, items)?)
     }
 
     #[inline(always)]

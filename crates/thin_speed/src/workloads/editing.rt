@@ -1,6 +1,6 @@
 //! Workloads that insert, remove or replace items at indices of a list.
 use crate::lists::{Family, Numbers};
-use crate::numbers::{Count, InTurn, One, Outcome, Two, mixed, seen};
+use crate::numbers::{Count, FOUR, InTurn, One, Outcome, Three, Two, mixed, seen};
 use crate::workloads::shapes::{Work, filled, refill, refilled, repeated};
 use std::alloc::Global;
 use std::marker::PhantomData;
@@ -19,8 +19,10 @@ pub enum Editing {
     DrainInner,
     SpliceTwo,
     SpliceAway,
+    SpliceMore,
     SpliceHinted,
     SpliceUnhinted,
+    ReplaceMore,
 }
 
 /// Runs `workload` on lists of the kind `F`.
@@ -46,12 +48,14 @@ pub fn run_editing<F: Family>(
         Editing::DrainInner => repeated::<F::Numbers, DrainFew<3, 5>>(alloc, size, times),
         Editing::SpliceTwo => repeated::<F::Numbers, SpliceFew<Two, 3, 5>>(alloc, size, times),
         Editing::SpliceAway => repeated::<F::Numbers, SpliceFew<One, 5, 7>>(alloc, size, times),
+        Editing::SpliceMore => repeated::<F::Numbers, SpliceMore>(alloc, size, times),
         Editing::SpliceHinted => {
             refilled::<F::Numbers, _, InTurn, SpliceHinted>(alloc, size, times)
         }
         Editing::SpliceUnhinted => {
             refilled::<F::Numbers, _, InTurn, SpliceUnhinted>(alloc, size, times)
         }
+        Editing::ReplaceMore => repeated::<F::Numbers, ReplaceMore>(alloc, size, times),
     }
 }
 
@@ -166,6 +170,41 @@ impl<L: Numbers, C: Count, const START: usize, const END: usize> Work<L, u64>
         }
         Ok(sum)
     }
+}
+
+/// Replaces the first item with three numbers, and pops two.
+pub struct SpliceMore;
+
+impl<L: Numbers> Work<L, u64> for SpliceMore {
+    #[inline(always)]
+    fn work(list: &mut L, alloc: Global, number: usize, sum: u64) -> Outcome {
+        list.splice_few::<Three>(alloc, 0, 1, number)?;
+        Ok(pop_two(list, sum))
+    }
+}
+
+/// Replaces two items with four, at one of two indices in turn, and pops two.
+pub struct ReplaceMore;
+
+impl<L: Numbers> Work<L, u64> for ReplaceMore {
+    #[inline(always)]
+    fn work(list: &mut L, _alloc: Global, number: usize, sum: u64) -> Outcome {
+        let start = 5 + (number & 1);
+        list.replace(start, start + 2, &FOUR)?;
+        Ok(pop_two(list, sum))
+    }
+}
+
+// Pops two items. Returns `sum` after mixing each popped item into it.
+#[inline(always)]
+fn pop_two<L: Numbers>(list: &mut L, sum: u64) -> u64 {
+    let mut sum = sum;
+    for _ in 0..2 {
+        if let Some(last) = list.pop() {
+            sum = mixed(sum, last);
+        }
+    }
+    sum
 }
 
 /// Replaces the middle half of a list with as many numbers as the list has items, from an iterator

@@ -20,6 +20,7 @@ pub enum Growing {
     ExtendHinted,
     ExtendUnhinted,
     ExtendFilter,
+    ExtendTwice,
     CollectFew,
     ExtendSlice,
     ExtendSixteen,
@@ -54,6 +55,7 @@ pub fn run_growing<F: Family>(
         Growing::ExtendHinted => made_anew::<F::Numbers, ExtendHinted>(alloc, size, times),
         Growing::ExtendUnhinted => made_anew::<F::Numbers, ExtendUnhinted>(alloc, size, times),
         Growing::ExtendFilter => made_anew::<F::Numbers, ExtendFilter>(alloc, size, times),
+        Growing::ExtendTwice => made_anew::<F::Numbers, ExtendTwice>(alloc, size, times),
         Growing::CollectFew => made_anew::<F::Numbers, Collect>(alloc, size, times),
         Growing::ExtendSlice => made_anew::<F::Numbers, ExtendSlice>(alloc, size, times),
         Growing::ExtendSixteen => made_anew::<F::Numbers, ExtendSixteen>(alloc, size, times),
@@ -153,6 +155,18 @@ impl<L: Numbers> Make<L> for ExtendFilter {
     fn make(alloc: Global, _size: usize, source: &L) -> Result<L, AllocError> {
         let mut list = L::new(alloc);
         list.extend_filtered(source.as_slice())?;
+        Ok(list)
+    }
+}
+
+/// Extends a new list with enough capacity by the two halves of a slice, in two calls of `extend`.
+pub struct ExtendTwice;
+
+impl<L: Numbers> Make<L> for ExtendTwice {
+    #[inline(always)]
+    fn make(alloc: Global, size: usize, source: &L) -> Result<L, AllocError> {
+        let mut list = L::with_capacity(alloc, size)?;
+        list.extend_twice(source.as_slice())?;
         Ok(list)
     }
 }

@@ -13,7 +13,7 @@ pub enum Workload {
     Many(Many),
 }
 
-const WORKLOADS: [(&str, Workload); 53] = [
+const WORKLOADS: [(&str, Workload); 56] = [
     ("push", Workload::Growing(Growing::Push)),
     ("push_few", Workload::Growing(Growing::PushFew)),
     ("push_triples", Workload::Growing(Growing::PushTriples)),
@@ -27,6 +27,7 @@ const WORKLOADS: [(&str, Workload); 53] = [
         Workload::Growing(Growing::ExtendUnhinted),
     ),
     ("extend_filter", Workload::Growing(Growing::ExtendFilter)),
+    ("extend_twice", Workload::Growing(Growing::ExtendTwice)),
     ("collect_few", Workload::Growing(Growing::CollectFew)),
     ("extend_slice", Workload::Growing(Growing::ExtendSlice)),
     ("extend_sixteen", Workload::Growing(Growing::ExtendSixteen)),
@@ -48,11 +49,13 @@ const WORKLOADS: [(&str, Workload); 53] = [
     ("drain_inner", Workload::Editing(Editing::DrainInner)),
     ("splice_two", Workload::Editing(Editing::SpliceTwo)),
     ("splice_away", Workload::Editing(Editing::SpliceAway)),
+    ("splice_more", Workload::Editing(Editing::SpliceMore)),
     ("splice_hinted", Workload::Editing(Editing::SpliceHinted)),
     (
         "splice_unhinted",
         Workload::Editing(Editing::SpliceUnhinted),
     ),
+    ("replace_more", Workload::Editing(Editing::ReplaceMore)),
     ("retain_half", Workload::Filtering(Filtering::RetainHalf)),
     (
         "retain_random",

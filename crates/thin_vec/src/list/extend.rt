@@ -16,7 +16,8 @@ use crate::list::ThinVec;
 use crate::put::{Filled, put_iter};
 use std::alloc::{AllocError, Allocator};
 use std::iter::{Extend, FromIterator, IntoIterator, Iterator};
-use thin_block::{Growth, ThinVecError};
+use std::mem;
+use thin_block::{Block, Growth, ThinVecError};
 
 impl<T, A: Allocator, G: Growth> ThinVec<T, A, G> {
     /// Appends the items that `iter` yields before its first `None`, after which the iterator is not
@@ -189,7 +190,10 @@ impl<T, A: Allocator, G: Growth> ThinVec<T, A, G> {
     {
         let len = self.block.len();
         let cap = self.block.cap();
-        let filled = put_iter(&mut self.block, len, cap, iter);
+        let block = mem::replace(&mut self.block, Block::none());
+        let (block, filled) = put_iter(block, len, cap, iter);
+        let none = mem::replace(&mut self.block, block);
+        none.forget_none();
         self.block.set_len(filled.end);
         filled
     }

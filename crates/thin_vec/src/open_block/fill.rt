@@ -10,7 +10,8 @@ use crate::open_block::OpenBlock;
 use crate::put::{Filled, put_clones, put_iter, put_vec};
 use std::alloc::Allocator;
 use std::iter::Iterator;
-use thin_block::Growth;
+use std::mem;
+use thin_block::{Block, Growth};
 
 impl<T, A: Allocator> OpenBlock<T, A> {
     // Puts the items that `iter` yields after the front. Stops if the iterator returns `None` or
@@ -25,7 +26,10 @@ impl<T, A: Allocator> OpenBlock<T, A> {
               cost = moving (length by.items) self.old.cost;
             }) × (result.end ≡ length self.new.front) }
     {
-        let filled = put_iter(&mut self.block, self.front_end, self.rest_start, iter);
+        let block = mem::replace(&mut self.block, Block::none());
+        let (block, filled) = put_iter(block, self.front_end, self.rest_start, iter);
+        let none = mem::replace(&mut self.block, block);
+        none.forget_none();
         self.front_end = filled.end;
         filled
     }

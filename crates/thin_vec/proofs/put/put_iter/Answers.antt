@@ -19,7 +19,7 @@ loop-i-preserved g c =
       finite = goes.1;
       placed = (
         xs ++ x ∷ [],
-        laid-more c.loop-i.block.slots c.put.new.self.slots c.args.block.now.slots c.args.start
+        laid-more c.loop-i.block.slots c.put.new.self.slots c.args.block.slots c.args.start
             c.loop-i.i xs x held.placed.1 held.placed.2
             (omega (arith, c.loop-i-test.true, c.requires.in_bounds))
             (ap (λ v. v.slots) c.put.ensures.changes),
@@ -28,7 +28,7 @@ loop-i-preserved g c =
             held.placed.3 c.in-Some.ensures.steps,
       );
       within = omega (arith, c.loop-i-test.true);
-      same = put-more (seen c.args.block.now) _ (c.loop-i.i + 1 - c.args.start)
+      same = put-more (seen c.args.block) _ (c.loop-i.i + 1 - c.args.start)
           (omega (arith, held.placed.2)) c.put.ensures.changes held.same;
       nearer = omega (arith, held.nearer, goes.2);
     }

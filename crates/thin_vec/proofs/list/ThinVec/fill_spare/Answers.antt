@@ -1,20 +1,37 @@
 -- The items that the iterator yielded lie after the others, and the stored length counts all.
 use Rattle.thin_block.proofs.BlockLemmas.{slots-are, then-len}
 use Rattle.std.proofs.lemmas.Grind.{common_steps}
-use Rattle.std.proofs.Common.{◌++◌, ◌-◌, ◌≡◌, ◌∙◌, ap, arith, length, length-append, refl}
+use Rattle.std.proofs.Common.{◌++◌, ◌-◌, ◌≡◌, ◌∙◌, ap, arith, length, length-append}
+use Rattle.thin_block.specs.Block.{seen}
 use Rattle.thin_block.specs.Cost.{moving}
-use Rattle.thin_block.specs.Slots.{items_in}
+use Rattle.thin_block.specs.Slots.{full, items_in, laid}
 use Rattle.thin_vec.proofs.list.AppendSplitLemmas.{settle-more}
 use Rattle.thin_vec.proofs.ListLemmas.{Settled, thin-room, thin_of-keeps}
 use Rattle.thin_vec.proofs.PutLemmas.{filled-fits, filled-room}
 use Rattle.thin_vec.proofs.ThinVecLemmas.{within-kept}
 use Rattle.thin_vec.proofs.list.ThinVec.fill_spare.Goals as goal
 
+-- the block that was put back is the old block with the new items
+stored : (g : _) (c : goal.After-set_len g) → seen c.replace-none.new.dest
+    ≡ record (seen c.self.inside.block) {
+      slots = laid c.len-len.result (full c.put_iter-block.ensures.filled.0.items)
+          c.self.inside.block.slots;
+      cost = moving (c.put_iter-block.result.1.end - c.len-len.result) c.self.inside.block.cost;
+    }
+stored g c =
+    let put = c.put_iter-block in
+    ap seen c.replace-none.ensures.after
+    ∙ (slots-are put.ensures.changes put.ensures.filled.1
+    ∙ (λ i. let v = seen (c.replace-block.ensures.value i) in record v {
+      slots = laid c.len-len.result (full put.ensures.filled.0.items) v.slots;
+      cost = moving (put.result.1.end - c.len-len.result) v.cost;
+    }))
+
 facts : (g : _) (c : goal.After-set_len g) → Settled c.set_len.new.self c.self.inside.alloc
-    (items_in c.self.inside.block.slots ++ c.put_iter-filled.ensures.filled.0.items)
+    (items_in c.self.inside.block.slots ++ c.put_iter-block.ensures.filled.0.items)
     (length c.self.inside.block.slots)
 facts g c =
-    let put = c.put_iter-filled.ensures.filled in
+    let put = c.put_iter-block.ensures.filled in
     settle-more c.self.invariant c.set_len.new.self put.0.items c.len-len.result
     c.len-len.ensures.value
     (omega (
@@ -26,13 +43,13 @@ facts g c =
       thin-room c.self.inside.block c.self.inside.alloc c.self.invariant,
     ))
     put.2
-    (then-len c.set_len.ensures.changes (slots-are c.put_iter-filled.ensures.changes put.1))
+    (then-len c.set_len.ensures.changes (stored g c))
 
 -- where the items end
-ends : (g : _) (c : goal.After-set_len g) → c.put_iter-filled.result.end
+ends : (g : _) (c : goal.After-set_len g) → c.put_iter-block.result.1.end
     ≡ length (items_in c.set_len.new.self.slots)
 ends g c =
-    let put = c.put_iter-filled.ensures.filled in
+    let put = c.put_iter-block.ensures.filled in
     omega (
       arith,
       ap length (facts g c).items,
@@ -51,7 +68,7 @@ invariant_of-self g c = (facts g c).thin
 
 pub returns-clause-filled : goal.returns-clause-filled
 returns-clause-filled g c =
-    let put = c.put_iter-filled.ensures.filled in
+    let put = c.put_iter-block.ensures.filled in
     let xs = put.0.items in
     let room : c.cap-cap.result - c.len-len.result
     ≡ c.args.self.now.capacity - length c.args.self.now.items =
@@ -60,8 +77,8 @@ returns-clause-filled g c =
       thin_of-keeps c.self.view_is c.set_len.new.self (facts g c).cap
           ((facts g c).items ∙ ap (λ v. v.items ++ xs) c.self.view_is)
           (ap (λ v. v.cost) c.set_len.ensures.changes
-          ∙ (ap (λ v. v.cost) c.put_iter-filled.ensures.changes
-          ∙ (ap (λ v. moving (c.put_iter-filled.result.end - c.len-len.result) v.cost)
+          ∙ (ap (λ v. v.cost) (stored g c)
+          ∙ (ap (λ v. moving (c.put_iter-block.result.1.end - c.len-len.result) v.cost)
           c.self.view_is
           ∙ ap (λ k. moving k c.args.self.now.cost) (omega (arith, put.2))))),
       ends g c,

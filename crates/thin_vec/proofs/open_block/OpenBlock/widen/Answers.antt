@@ -1,11 +1,14 @@
 -- There are at least `count` empty slots after the tail, so the tail can be moved up by `count`
 -- slots. The gap before the tail then has `count` more slots.
-use Rattle.std.proofs.Common.{◌≡◌, ℕ, ◌+◌, ◌≤◌, ◌∙◌, ap, arith, length}
+use Rattle.std.proofs.Common.{◌≡◌, ℕ, ◌+◌, ◌-◌, ◌≤◌, ◌∙◌, ap, arith, length, subst, sym}
+use Rattle.std.specs.Prelude.{IsSome}
+use Rattle.thin_block.specs.Block.{seen}
 use Rattle.thin_block.specs.Cost.{moving}
+use Rattle.thin_block.specs.Slots.{moved, slot}
 use Rattle.thin_vec.specs.OpenBlock.{Shows, open_of}
 use Rattle.thin_vec.specs.Open.{Open, reach}
 use Rattle.thin_vec.specs.declared.open_block.OpenBlock.TheInside.{Inside}
-use Rattle.thin_vec.proofs.OpenBlockLemmas.{Found, reached, tail-filled, widen-step, widened, widened-seen}
+use Rattle.thin_vec.proofs.OpenBlockLemmas.{Found, reached, spare-empty, tail-filled, widen-step, widened, widened-seen}
 use Rattle.thin_vec.proofs.open_block.OpenBlock.widen.Goals as goal
 
 -- if h is seen as v, and v has at least k slots after its tail, then h has at least k slots after
@@ -15,26 +18,60 @@ fits : {T A : Type 0} (h : Inside T A) (v : Open T A) (k : ℕ) → Shows h (ope
 fits h v k shows is room =
     omega (arith, room, reached h (open_of h) shows, ap reach is, ap (λ w. w.capacity) is)
 
-pub move_run-requires-clause-filled : goal.move_run-requires-clause-filled
-move_run-requires-clause-filled g c = λ j low high. tail-filled c.self.inside
-    (open_of c.self.inside) c.self.invariant j low (omega (arith, high, c.self.invariant.tail))
+pub open_gap-opened-requires-clause-empty : goal.open_gap-opened-requires-clause-empty
+open_gap-opened-requires-clause-empty g c = λ j low high.
+    let h = c.self.inside in
+    let o = c.self.invariant in
+    let room = fits h c.args.self.now c.args.count o c.self.view_is c.requires.room in
+    ap (λ b. slot b.slots j) c.replace-block.ensures.value
+    ∙ spare-empty h o h.block c.args.count room j (omega (arith, low, o.tail))
+    (omega (arith, high, o.tail))
+
+pub open_gap-opened-requires-clause-filled : goal.open_gap-opened-requires-clause-filled
+open_gap-opened-requires-clause-filled g c = λ j low high.
+    let o = c.self.invariant in
+    subst (λ b. IsSome (slot b.slots j)) (sym c.replace-block.ensures.value)
+    (tail-filled c.self.inside (open_of c.self.inside) o j low (omega (arith, high, o.tail)))
+
+-- the block that was put back is the old block with the tail moved up
+stored : (g : _) (c : goal.After-self-2-1 g)
+    → let h = c.self.inside in
+    seen c.replace-none.new.dest ≡ record (seen h.block) {
+      slots = moved h.tail_start (h.tail_start + c.args.count) (h.len - h.tail_start) h.block.slots;
+      cost = moving (h.len - h.tail_start) h.block.cost;
+    }
+stored g c =
+    let h = c.self.inside in
+    let k : ℕ = h.len - h.tail_start in
+    ap seen c.replace-none.ensures.after
+    ∙ (c.open_gap-opened.ensures.changes
+    ∙ (λ i. let v = seen (c.replace-block.ensures.value i) in record v {
+      slots = moved h.tail_start (h.tail_start + c.args.count) k v.slots;
+      cost = moving k v.cost;
+    }))
 
 facts : (g : _) (c : goal.After-self-2-1 g)
     → let room = fits c.self.inside c.args.self.now c.args.count c.self.invariant
     c.self.view_is c.requires.room in
-    Found (widened c.self.inside c.self.invariant c.move_run.new.self c.args.count room)
-    (widened-seen c.self.inside c.self.invariant c.move_run.new.self c.args.count room)
-facts g c = widen-step c.self.inside c.self.invariant c.move_run.new.self c.args.count
+    Found (widened c.self.inside c.self.invariant c.replace-none.new.dest c.args.count room)
+    (widened-seen c.self.inside c.self.invariant c.replace-none.new.dest c.args.count room)
+facts g c = widen-step c.self.inside c.self.invariant c.replace-none.new.dest c.args.count
     (fits c.self.inside c.args.self.now c.args.count c.self.invariant c.self.view_is
-    c.requires.room) (ap (λ v. v.slots) c.move_run.ensures.changes)
+    c.requires.room) (ap (λ v. v.slots) (stored g c))
 
 pub invariant_of-self : goal.invariant_of-self
 invariant_of-self g c = (facts g c).lies
 
 pub returns : goal.returns
 returns g c =
-    let alloc : c.move_run.new.self.alloc ≡ c.args.self.now.alloc = search (arith, ◌∙◌) in
-    let spent : c.move_run.new.self.cost ≡ moving (length c.args.self.now.tail) c.args.self.now.cost
-    = search (arith, ◌∙◌) in
+    let h = c.self.inside in
+    let dest = c.replace-none.new.dest in
+    let now = c.args.self.now in
+    let alloc : dest.alloc ≡ now.alloc =
+    ap (λ v. v.alloc) (stored g c) ∙ ap (λ v. v.alloc) c.self.view_is in
+    let count : h.len - h.tail_start ≡ length now.tail =
+    omega (arith, c.self.invariant.tail, ap (λ v. length v.tail) c.self.view_is) in
+    let spent : dest.cost ≡ moving (length now.tail) now.cost =
+    ap (λ v. v.cost) (stored g c) ∙ (λ i. moving (count i) (c.self.view_is i).cost) in
     (facts g c).view ∙ (λ i. let v = c.self.view_is i in record v
     { gap_after = v.gap_after + c.args.count; alloc = alloc i; cost = spent i })
