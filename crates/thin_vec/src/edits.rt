@@ -1,5 +1,5 @@
-//! The edits, each of which works on an open block: in one call, or as an iterator that a caller
-//! walks.
+//! The methods that work on an open block. The edits `Drain`, `ExtractIf` and `Splice` keep the
+//! block open until they end. The other methods, such as `retain`, close it before they return.
 
 mod dedup;
 mod drain;
