@@ -65,13 +65,14 @@ module _ {T A : Type 0} where
   abbrev pub items_of : Open T A → List T
   items_of v = v.front ++ (v.rest ++ v.tail)
 
-  -- The cost of `v` after its gap was closed. Each item of the middle run and of the tail moves
-  -- once if the gap has a slot.
+  -- The cost of `v` after its gap was closed. If the gap has a slot, each item of the middle run
+  -- and of the tail moves once for this.
   abbrev pub cost_closed : Open T A → Cost
   cost_closed v = if v.gap == 0 then v.cost else moving (length v.rest + length v.tail) v.cost
 
-  -- The cost of `v` after the items of the middle run were removed, and the slots between the front
-  -- and the tail were closed. Each item of the tail moves once if there is such a slot.
+  -- The cost of `v` after the items of the middle run were removed, and the tail was moved down to
+  -- the front. If there is a slot between the front and the tail, each item of the tail moves once
+  -- for this.
   abbrev pub cost_drained : Open T A → Cost
   cost_drained v = if v.gap + length v.rest + v.gap_after == 0 then v.cost else
       moving (length v.tail) v.cost

@@ -32,7 +32,7 @@ module _ {T A : Type 0} where
     pub tail : h.tail_start + length v.tail ≡ h.len
     pub room : h.len ≤ v.capacity
 
-  -- The slots of `h` that are in no part with items are empty. This is the invariant of the type
-  -- `OpenBlock`.
+  -- In `h`, the slots of the front, the middle run and the tail hold items, and all other slots are
+  -- empty. This is the invariant of the type `OpenBlock`.
   abbrev pub IsOpen : Inside T A → Type 0
   IsOpen h = Shows h (open_of h)

@@ -36,7 +36,8 @@ use thin_block::{Block, Growth};
 /// - The *gap* has the empty slots between the front and the middle run.
 /// - The *middle run* has the items of the range that were not yet yielded or tested. Contracts
 ///   call it `rest`.
-/// - `gap_after` is the number of empty slots between the middle run and the tail.
+/// - `gap_after` has the empty slots between the middle run and the tail. There are such slots only
+///   after items were removed from the end of the middle run, or the tail was moved up.
 /// - The *tail* has the items after the range.
 ///
 /// A *test* decides whether an item is kept or removed, and may write to the item. The *verdict* on
@@ -105,8 +106,8 @@ impl<T, A: Allocator, G: Growth> ThinVec<T, A, G> {
     }
 
     // Takes the block out of the list, with a gap of `count` empty slots before the item at `at`.
-    // To make the gap, it moves the items from `at` on up, as one run. The list is left empty,
-    // without a block.
+    // For this, it moves the item at `at` and all items after it up by `count` slots, as one run.
+    // The list is left empty, without a block.
     pub(crate) fn open_wide(&mut self, at: usize, count: usize) -> OpenBlock<T, A>
         requires in_bounds { at ≤ length self.old.items }
         requires room { HasRoomFor self.old count }

@@ -9,10 +9,10 @@ use Rattle.thin_vec.specs.Edits.Retain.{moved_down}
 -- later item, the last item kept, whether the later item is removed, the state after the call, and
 -- the later and the kept item as the test left them.
 module _ {S T : Type 0} (R : S → T → T → Bool → S → T → T → Type 0) where
-  -- The item `k` is the last item kept. Starting in the state `s`, each item of `xs`, in order, was
-  -- tested once against the last item kept by then. `stays` says for each item of `xs` whether it
-  -- is kept. `ys` are the items kept, from `k` on, as the test left them, and `t` is the final
-  -- state.
+  -- The items of `xs` follow the item `k`, which is kept. Starting in the state `s`, each item of
+  -- `xs` was tested once, in order, against the last item kept before it. `stays` says for each
+  -- item of `xs` whether it is kept. `ys` has `k`, and then the items of `xs` that are kept, all as
+  -- the test left them. `t` is the final state.
   abbrev pub AskedLast : S → T → List T → List Bool → List T → S → Type 0
   AskedLast s k [] stays ys t = (stays ≡ []) × (ys ≡ k ∷ []) × (t ≡ s)
   AskedLast s k (x ∷ xs) stays ys t =
@@ -21,10 +21,10 @@ module _ {S T : Type 0} (R : S → T → T → Bool → S → T → T → Type 0
       × MatchBool b (AskedLast u k' xs rest ys t)
       ((zs : List T) × AskedLast u x' xs rest zs t × (ys ≡ k' ∷ zs))
 
-  -- The first item of a list is kept. Starting in the state `s`, each later item, in order, was
-  -- tested once against the last item kept by then. `stays` says for each later item whether it is
-  -- kept. `ys` are all items kept, as the test left them, and `t` is the final state. If the list
-  -- is empty, there was no test.
+  -- The first item of a list is kept. Starting in the state `s`, each later item was tested once,
+  -- in order, against the last item kept before it. `stays` says for each later item whether it is
+  -- kept. `ys` has all items that are kept, as the test left them. `t` is the final state. If the
+  -- list is empty, nothing was tested.
   abbrev pub AskedPairs : S → List T → List Bool → List T → S → Type 0
   AskedPairs s [] stays ys t = (stays ≡ []) × (ys ≡ []) × (t ≡ s)
   AskedPairs s (x ∷ xs) stays ys t = AskedLast s x xs stays ys t
@@ -37,24 +37,24 @@ module _ {S T : Type 0} (R : S → T → T → Bool → S → T → T → Type 0
     pub asked : AskedPairs s v.items stays w.items t
     pub cost : w.cost ≡ moving (moved_down stays) v.cost
 
-  -- `IsDedupedTo` holds for some final state of the test
+  -- `IsDedupedTo s v w t` holds for some final state `t` of the test
   abbrev pub IsDedupedBy : {A : Type 0} → S → Thin T A → Thin T A → Type 0
   IsDedupedBy s v w = (t : S) × IsDedupedTo s v w t
 
--- The relation of the test that compares two items by `E`: the later item is removed if `E` returns
--- true. The test does not depend on a state, and leaves both items as they are.
+-- The relation of the test that compares two items by `E`: the later item `x` is removed if `E x k`
+-- is true. The test leaves both items as they are, and its states `s` and `t` do not matter.
 abbrev pub Compares : {S T : Type 0} → (T → T → Bool) → S → T → T → Bool → S → T → T → Type 0
 Compares E s x k b t y l = (b ≡ E x k) × (y ≡ x) × (l ≡ k)
 
 module _ {T : Type 0} (E : T → T → Bool) where
-  -- For each of some items, whether it is kept. An item is kept if `E` returns false for it and the
-  -- last item kept before it. At first, `k` is the last item kept.
+  -- For each item that follows the kept item `k`, in order: whether it is kept. An item is kept if
+  -- `E` returns false for it and the last item kept before it.
   abbrev pub unlike_from : T → List T → List Bool
   unlike_from k [] = []
   unlike_from k (x ∷ xs) = if E x k then false ∷ unlike_from k xs else true ∷ unlike_from x xs
 
-  -- For each item of a list except the first, whether it is kept. The first item is kept. A later
-  -- item is kept if `E` returns false for it and the last item kept before it.
+  -- For each item of a list except the first, in order: whether it is kept. The first item is kept.
+  -- A later item is kept if `E` returns false for it and the last item kept before it.
   abbrev pub unlike : List T → List Bool
   unlike [] = []
   unlike (x ∷ xs) = unlike_from x xs

@@ -10,14 +10,15 @@ use Rattle.thin_vec.specs.declared.edits.extract_if.ExtractIf.{ExtractIf}
 use Rattle.thin_vec.specs.declared.edits.holder.Holder.{Holder}
 use Rattle.thin_vec.specs.declared.edits.holder.Holds.{Ghosts as HoldsGhosts}
 
--- `R` is the relation of a closure. It relates the closure before a call, the item that it is
--- called with, whether it returns true, the closure after the call, and the item as the closure
--- left it.
+-- `R` is the relation of a closure. It relates the closure before a call, the item that is passed
+-- to the closure, whether the closure returns true, the closure after the call, and the item as the
+-- closure left it.
 module _ {T F A : Type 0} (R : F → T → Bool → F → T → Type 0) where
-  -- A step leads from `old` to `new`. It called the closure with items of the middle run, in order,
-  -- until the closure returned true, or to the end. The item for which it returned true, if there
-  -- is one, is `item`, and was removed. `kept` are the items before it, as the closure left them.
-  -- They are now the last items of the front. If `old` has a gap, each of them counts one move.
+  -- A step of the extraction led from `old` to `new`. The closure was called with the items of the
+  -- middle run, in order, until it returned true, or until the middle run ended. `item` is the item
+  -- for which it returned true, or `None` if there is none. This item was removed. `kept` has the
+  -- items for which the closure returned false. They became the last items of the front. If `old`
+  -- has a gap, each of them counts one move. All these items are as the closure left them.
   pub record Extracts (old : Extracting T F A) (item : Option T)
       (new : Extracting T F A) : Type 0 where
     pub kept : List T
@@ -32,7 +33,8 @@ module _ {T F A : Type 0} (R : F → T → Bool → F → T → Type 0) where
     pub cost : new.block.cost ≡ (if old.block.gap == 0 then old.block.cost else moving
         (length kept) old.block.cost)
 
--- The definitions of this module are about an `ExtractIf` with the default holder, which users get.
+-- The definitions in this module are about an `ExtractIf` with the default holder, `Holder`. Users
+-- get no other.
 module _ {T F A G : Type 0} {g : Ghosts G}
     {h : HoldsGhosts (Holder (Extracting T F A)) (Extracting T F A)} where
   -- the items before the range, and the tested items that were kept, as the closure left them
@@ -71,10 +73,11 @@ module _ {T F A G : Type 0} {g : Ghosts G}
   abbrev pub extract_lender : ExtractIf T F A G (Holder (Extracting T F A)) g h → GName
   extract_lender e = e.list.ghost_name
 
-  -- A call of `next` led from `old` to `new`, and returned `item`. It called the closure with items
-  -- of the range, in order, until the closure returned true, or to the end. `item` is the item for
-  -- which the closure returned true, or `None` if there is none. `kept` are the items before it, as
-  -- the closure left them. Each of them counts one move if an item was yielded before this call.
+  -- A call of `next` led from `old` to `new`, and returned `item`. The closure was called with the
+  -- items that were not tested yet, in order, until it returned true, or until the range ended.
+  -- `item` is the item for which it returned true, or `None` if there is none. `kept` has the items
+  -- for which the closure returned false. If an item was yielded before this call, each item of
+  -- `kept` counts one move. All these items are as the closure left them.
   pub record ExtractSteps (R : F → T → Bool → F → T → Type 0)
       (old : ExtractIf T F A G (Holder (Extracting T F A)) g h) (item : Option T)
       (new : ExtractIf T F A G (Holder (Extracting T F A)) g h) : Type 0 where

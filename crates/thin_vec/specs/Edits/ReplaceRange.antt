@@ -1,5 +1,5 @@
--- The items and the moves of the calls that replace a range of a list, on success and if a clone
--- fails. (std: `Vec::splice`)
+-- Which items a list has after a range of it was replaced, and how many moves this takes. (std:
+-- `Vec::splice`)
 use Rattle.std.specs.Prelude.{◌≡◌, ℕ, ◌+◌, ◌-◌, ◌*◌, ◌==◌, ◌≤◌, List, Some, if◌then◌else◌, length, min}
 use Rattle.std.specs.Borrow.{RattleType}
 use Rattle.std.specs.List.{AllZip, replace_range}
@@ -34,7 +34,7 @@ pub record MovesAtMost (n : ℕ) (before after : Cost) : Type 0 where
   pub few : moves ≤ n
   pub cost : after ≡ moving moves before
 
--- The cost of the list `w` is that of the list `v` after its capacity became that of `w`, with at
--- most `n` more moves.
+-- The cost of the list `w` is the cost that the list `v` has after its capacity was changed to that
+-- of `w`, with at most `n` more moves.
 abbrev pub CostsAtMost : {T A : Type 0} → ℕ → Thin T A → Thin T A → Type 0
 CostsAtMost n v w = MovesAtMost n (cost_at v w.capacity) w.cost

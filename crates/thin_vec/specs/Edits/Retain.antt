@@ -3,25 +3,26 @@ use Rattle.std.specs.Prelude.{◌≡◌, ℕ, zero, suc, List, [], ◌∷◌, Bo
 use Rattle.thin_block.specs.Cost.{moving}
 use Rattle.thin_vec.specs.ThinVec.{Thin}
 
--- the number of flags that are true
+-- the number of `flags` that are true
 abbrev pub trues : List Bool → ℕ
 trues [] = zero
 trues (true ∷ flags) = suc (trues flags)
 trues (false ∷ flags) = trues flags
 
--- The number of items that have to move if `stays` says for each item of a list whether it is kept.
--- These are the items kept after the first removed item.
+-- The number of items that move if items of a list are removed. `stays` says for each item of the
+-- list whether it is kept. The items that move are those kept after the first removed item.
 abbrev pub moved_down : List Bool → ℕ
 moved_down [] = zero
 moved_down (true ∷ stays) = moved_down stays
 moved_down (false ∷ stays) = trues stays
 
--- the verdicts on some items, in order: whether the item is kept, and the item as the test left it
+-- Verdicts on items, in order. A verdict says whether the item is kept, and has the item as the
+-- test left it.
 abbrev pub Verdicts : Type 0 → Type 0
 Verdicts T = List (Bool × T)
 
 module _ {T : Type 0} where
-  -- The items that are kept, if `b` is true, or removed, if `b` is false, as the test left them.
+  -- the items that are kept (if `b` is true) or removed (if `b` is false), as the test left them
   abbrev pub left_at : Bool → Verdicts T → List T
   left_at b [] = []
   left_at true ((true, x) ∷ verdicts) = x ∷ left_at true verdicts
@@ -29,7 +30,7 @@ module _ {T : Type 0} where
   left_at false ((true, x) ∷ verdicts) = left_at false verdicts
   left_at false ((false, x) ∷ verdicts) = x ∷ left_at false verdicts
 
-  -- the verdicts that keep each item of `xs` and leave it as it is
+  -- the verdicts of a test that keeps all items and leaves them as `xs`
   abbrev pub stay : List T → Verdicts T
   stay xs = map (λ (x : T). (true, x)) xs
 
@@ -57,7 +58,7 @@ module _ {S T : Type 0} (R : S → T → Bool → S → T → Type 0) where
     pub items : w.items ≡ left_at true verdicts
     pub cost : w.cost ≡ moving (moved_down (flags_of verdicts)) v.cost
 
-  -- `IsRetainedTo` holds for some final state of the test
+  -- `IsRetainedTo s v w t` holds for some final state `t` of the test
   abbrev pub IsRetained : {A : Type 0} → S → Thin T A → Thin T A → Type 0
   IsRetained s v w = (t : S) × IsRetainedTo s v w t
 

@@ -66,10 +66,10 @@ module _ {S T : Type 0} (R : S → T → T → Bool → S → T → T → Type 0
     pub now : slots' ≡ slice_set (slice_set slots i (Some kept_left)) (suc i) (Some later_left)
 
   -- The first item of `xs` is kept. Starting in the state `s`, each later item was tested against
-  -- the item before it, up to and including the first item that is removed, or to the end. `m` is
-  -- the number of items kept, and `t` is the final state. `ys` is `xs` with the tested items as the
-  -- test left them: `left` are the items kept, and `over` has the item that is removed, if there is
-  -- one.
+  -- the item before it, up to and including the first item that is to be removed, or to the end of
+  -- `xs`. `m` is the number of items kept, and `t` is the final state. `ys` is `xs` with the tested
+  -- items as the test left them: `left` has the items kept, and `over` has the item that is to be
+  -- removed, if there is one.
   pub record PairsAskedUpTo (m : ℕ) (s : S) (xs : List T) (t : S) (ys : List T) : Type 0 where
     pub first : T
     pub done : List T
@@ -86,10 +86,10 @@ module _ {S T : Type 0} (R : S → T → T → Bool → S → T → T → Type 0
     pub stops : ((length over ≡ 1) × (stays ≡ replicate more true ++ false ∷ []))
         ⊎ ((over ≡ []) × ((after ≡ []) × (stays ≡ replicate more true)))
 
-  -- Starting in the state `s`, some first items of the middle run of `v` were tested, each against
-  -- the last item kept by then. (At first, this is the last item of the front.) `t` is the final
-  -- state, and `w` is the open block afterwards. It has a gap. The items kept were moved to the
-  -- front, and each counts one move.
+  -- Starting in the state `s`, items from the start of the middle run of `v` were tested, each
+  -- against the last item kept before it. (For the first of them, this is the last item of the
+  -- front.) `t` is the final state, and `w` is the open block afterwards. It has a gap. The items
+  -- kept were moved to the front, and each counts one move. The other tested items were removed.
   pub record Dedups {A : Type 0} (s : S) (v : Open T A) (t : S) (w : Open T A) : Type 0 where
     pub before : List T
     pub first : T
@@ -108,7 +108,7 @@ module _ {S T : Type 0} (R : S → T → T → Bool → S → T → T → Type 0
     }
 
   -- The first item of the middle run of `v` is kept. Starting in the state `s`, each later item of
-  -- the middle run was tested against the last item kept by then. `t` is the final state, and `w`
+  -- the middle run was tested against the last item kept before it. `t` is the final state, and `w`
   -- is the open block afterwards. The front of `w` has exactly the items kept, and its middle run
   -- is empty. Each item kept after the first removed item counts one move.
   pub record IsDeduped {A : Type 0} (s : S) (v : Open T A) (t : S) (w : Open T A) : Type 0 where

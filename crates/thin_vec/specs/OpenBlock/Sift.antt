@@ -20,15 +20,16 @@ module _ {S T : Type 0} (R : S → T → Bool → S → T → Type 0) where
     pub asked : R s item b t left
     pub now : ys ≡ before ++ left ∷ after
 
-  -- The list `xs` is empty, or its first item was tested in the state `s` and is removed. `t` is
-  -- the state afterwards, and `ys` is `xs` with the tested item as the test left it.
+  -- The list `xs` is empty, or its first item was tested in the state `s` and is to be removed. `t`
+  -- is the state afterwards, and `ys` is `xs` with the tested item as the test left it.
   abbrev pub Stops : S → List T → S → List T → Type 0
   Stops s [] t ys = (ys ≡ []) × (t ≡ s)
   Stops s (x ∷ xs) t ys = (y : T) × R s x false t y × (ys ≡ y ∷ xs)
 
   -- Starting in the state `s`, the items of `xs` from index `k` up to, but not including, `m` were
   -- tested, and each of them is kept. Then `xs` ended, or the item at index `m` was tested and is
-  -- removed. `t` is the final state, and `ys` is `xs` with the tested items as the test left them.
+  -- to be removed. `t` is the final state, and `ys` is `xs` with the tested items as the test left
+  -- them.
   pub record AskedUpTo (k m : ℕ) (s : S) (xs : List T) (t : S) (ys : List T) : Type 0 where
     pub before : List T
     pub run : List T
@@ -44,9 +45,9 @@ module _ {S T : Type 0} (R : S → T → Bool → S → T → Type 0) where
     pub now : ys ≡ before ++ (left ++ end)
 
   -- Starting in the state `s`, items of the middle run of `v` were tested, up to and including the
-  -- first that is removed, or to the end. `t` is the final state, and `w` is the open block
+  -- first that is to be removed, or to the end. `t` is the final state, and `w` is the open block
   -- afterwards. The items kept became a part of the front. If `v` has a gap, each of them counts
-  -- one move. The item that is removed is still the first item of the middle run of `w`.
+  -- one move. The item that is to be removed is the first item of the middle run of `w`.
   pub record Advances {A : Type 0} (s : S) (v : Open T A) (t : S) (w : Open T A) : Type 0 where
     pub count : ℕ
     pub left : List T
@@ -57,9 +58,9 @@ module _ {S T : Type 0} (R : S → T → Bool → S → T → Type 0) where
       cost = if v.gap == 0 then v.cost else moving count v.cost;
     }
 
-  -- Starting in the state `s`, some first items of the middle run of `v` were tested. `t` is the
-  -- final state, and `w` is the open block afterwards. It has a gap. The items kept were moved to
-  -- the front, and each counts one move. The other tested items were removed.
+  -- Starting in the state `s`, items from the start of the middle run of `v` were tested. `t` is
+  -- the final state, and `w` is the open block afterwards. It has a gap. The items kept were moved
+  -- to the front, and each counts one move. The other tested items were removed.
   pub record Sifts {A : Type 0} (s : S) (v : Open T A) (t : S) (w : Open T A) : Type 0 where
     pub done : List T
     pub verdicts : Verdicts T

@@ -155,7 +155,7 @@ impl<T, A: Allocator> OpenBlock<T, A> {
 
     // Tests the items of the middle run up to the first that is to be removed, and returns whether
     // there is one. That item is then the first of the middle run. The items before it become a
-    // part of the front. If there is a gap, they are moved for this.
+    // part of the front. If there is a gap, they are moved down.
     pub(crate) fn advance<J: Test<T>>(&mut self, test: &mut J) -> bool
         requires ready { J.ready test.old }
         ensures advances { Advances J.tests test.old self.old test.new self.new }
@@ -185,8 +185,9 @@ impl<T, A: Allocator> OpenBlock<T, A> {
         }
     }
 
-    // Does what `advance` does if there is a gap, and the middle run has two or more items. If no
-    // item is kept, or one, no loop counter is needed.
+    // Does what `advance` does if there is a gap, and the middle run has two or more items. The
+    // first two items are tested before the loop, so that a run of fewer than two kept items needs
+    // no counter.
     fn advance_two<J: Test<T>>(&mut self, test: &mut J) -> bool
         requires two { 1 < length self.old.rest }
         requires gap { 0 < self.old.gap }

@@ -1,6 +1,6 @@
 -- The former of `ThinVec`: how a type may contain lists of itself. A list is determined by its
 -- items, and by values that contain no items. Whether the items lie in the first slots depends only
--- on which slots are filled.
+-- on which slots are filled, as `specs/Shapes.antt` proves.
 use Rattle.std.specs.Prelude.{◌≡◌, ℕ, ◌-◌, List, [], ◌∷◌, Option, length, map}
 use Rattle.std.specs.declared.option.Option.TheVariants.{Some, None}
 use mathlib.Core.Path.{refl, sym, ap, ◌∙◌}
@@ -90,7 +90,7 @@ module _ {X Y : Type 0} (h : X → Y) where
       (items_in (map (on_slot h) s)) ≡ length s - length (items_in s)
   left-map s = λ i. length-map s (on_slot h) i - count-map s i
 
-  -- if the first `n` slots are filled, and no other, this is still so after `h` is applied
+  -- if exactly the first `n` slots are filled, this is still so after `h` is applied
   packed_to : (s : List (Option X)) (n : ℕ) → IsPacked s n → IsPacked (map (on_slot h) s) n
   packed_to s n p = record {
     row = from_shape (map (on_slot h) s) _
@@ -98,7 +98,7 @@ module _ {X Y : Type 0} (h : X → Y) where
     len = p.len ∙ sym (count-map s);
   }
 
-  -- if the first `n` slots are filled, and no other, after `h` is applied, this was so before
+  -- if exactly the first `n` slots are filled after `h` is applied, this was so before
   packed_from : (s : List (Option X)) (n : ℕ) → IsPacked (map (on_slot h) s) n → IsPacked s n
   packed_from s n p = record {
     row = from_shape s _
@@ -108,16 +108,16 @@ module _ {X Y : Type 0} (h : X → Y) where
   }
 
   module _ {Z : Type 0} (b : Block X Z) (a : Z) where
-    -- if `b` and `a` are the block and the allocator of a list, this is still so after `h` is
-    -- applied
+    -- if `b` and `a` are the block and the allocator of a list, so are `b` with `h` applied, and
+    -- `a`
     thin_to : IsThin b a → IsThin (block.mapped h b) a
     thin_to t = record { packed = packed_to b.slots b.len t.packed; from = t.from }
 
-    -- if `b` and `a` are those of a list after `h` is applied to `b`, this was so before
+    -- if `b` with `h` applied and `a` are the block and the allocator of a list, so are `b` and `a`
     thin_from : IsThin (block.mapped h b) a → IsThin b a
     thin_from t = record { packed = packed_from b.slots b.len t.packed; from = t.from }
 
--- the values of X in the items that slots hold are the values of X in the slots
+-- a list of the items in some slots holds the same values as the slots
 items_in-held : (X : Type 0) (s : List (Option X))
     → held (list this) X (items_in s) ≡ held (list (slot this)) X s
 items_in-held X [] = refl
