@@ -87,8 +87,9 @@ impl<T, A: Allocator> OpenBlock<T, A> {
     ghost use Rattle.thin_vec.specs.OpenBlock.Dedup.{PairsAskedUpTo};
 
     // Keeps the first item of the middle run. Tests each later item of the middle run against the
-    // item before it. Stops at the first item that is to be removed, which the caller has to drop,
-    // or at the end. Returns the number of items kept. No item moves.
+    // item before it, and stops at the first item that is to be removed, or at the end. Returns the
+    // number of items kept. No item moves, and the caller has to drop the item that is to be
+    // removed.
     fn test_pairs<J: PairTest<T>>(&mut self, test: &mut J) -> usize
         requires some { 0 < length self.old.rest }
         requires ready { J.ready test.old }
