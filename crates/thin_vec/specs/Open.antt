@@ -5,24 +5,23 @@ use Rattle.std.specs.Coded.{Coded, code_by, coded×, coded_ℕ, coded_list, code
 use Rattle.thin_block.specs.Cost.{Cost, cost_code, moving}
 use Rattle.thin_block.specs.Slots.{empty, full}
 
--- An open block as contracts see it:
---
--- - `front`: the items of the front
--- - `gap`: the number of empty slots between the front and the middle run
--- - `rest`: the items of the middle run
--- - `gap_after`: the number of empty slots between the middle run and the tail
--- - `tail`: the items of the tail
--- - `capacity`: the number of slots
--- - `alloc`: the allocator that the memory came from, or `None` if there is no memory
--- - `cost`: what the block has cost so far
+-- an open block as contracts see it
 pub record Open (T A : Type 0) : Type 0 where
+  -- the items of the front
   pub front : List T
+  -- the number of empty slots between the front and the middle run
   pub gap : ℕ
+  -- the items of the middle run
   pub rest : List T
+  -- the number of empty slots between the middle run and the tail
   pub gap_after : ℕ
+  -- the items of the tail
   pub tail : List T
+  -- the number of slots
   pub capacity : ℕ
+  -- the allocator that the memory came from, or `None` if there is no memory
   pub alloc : Option A
+  -- what the block has cost so far
   pub cost : Cost
 
 -- the code of an `Open` is the code of the tuple of its eight fields

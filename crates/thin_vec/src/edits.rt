@@ -1,5 +1,5 @@
-//! The methods that work on an open block. The edits `Drain`, `ExtractIf` and `Splice` keep the
-//! block open until they end. The other methods, such as `retain`, close it before they return.
+//! The methods that work on an open block, and the edits `Drain`, `ExtractIf` and `Splice`. An edit
+//! keeps the block open until it ends. Methods such as `retain` close the block before they return.
 
 mod dedup;
 mod drain;

@@ -107,7 +107,7 @@ impl<T, A: Allocator, G: Growth> ThinVec<T, A, G> {
     }
 
     // Takes the block out of the list, with a gap of `count` empty slots before the item at `at`.
-    // For this, it moves the item at `at` and all items after it up by `count` slots, as one run.
+    // For this, the item at `at` and all items after it are moved up by `count` slots, as one run.
     // The list is left empty, without a block.
     pub(crate) fn open_wide(&mut self, at: usize, count: usize) -> OpenBlock<T, A>
         requires in_bounds { at ≤ length self.old.items }
@@ -176,8 +176,8 @@ impl<T, A: Allocator> OpenBlock<T, A> {
         self.block.take(first)
     }
 
-    // Removes the last item of the middle run and returns it. `gap_after` counts its slot from then
-    // on.
+    // Removes the last item of the middle run and returns it. Its slot becomes a part of
+    // `gap_after`.
     pub(crate) fn take_last(&mut self) -> T
         requires some { 0 < length self.old.rest }
         ensures rest { self.old.rest ≡ self.new.rest ++ result ∷ [] }

@@ -30,7 +30,7 @@ module _ {T : Type 0} where
   left_at false ((true, x) ∷ verdicts) = left_at false verdicts
   left_at false ((false, x) ∷ verdicts) = x ∷ left_at false verdicts
 
-  -- the verdicts of a test that keeps all items and leaves them as `xs`
+  -- the verdicts of a test that keeps all items, if `xs` has the items as the test left them
   abbrev pub stay : List T → Verdicts T
   stay xs = map (λ (x : T). (true, x)) xs
 

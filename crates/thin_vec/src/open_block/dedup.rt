@@ -16,8 +16,8 @@ pub(crate) trait PairTest<T> {
     /// later item is removed, the state after the call, and both items as the test left them.
     ghost tests: { Self → T → T → Bool → Self → T → T → Type 0 };
 
-    /// Holds of a state in which the test can be called with any two items. It still holds after
-    /// the call.
+    /// Holds of a state if the test can be called in it with any two items. Each call preserves
+    /// this.
     ghost ready: { Self → Type 0 };
 
     /// Returns whether `later` is removed. `kept` is the last item kept.
@@ -130,7 +130,7 @@ impl<T: Drop, A: Allocator> OpenBlock<T, A> {
         }
     }
 
-    // Does the part of `dedup_rest` that follows the first removed item. So there is a gap.
+    // Continues `dedup_rest` after the first item was removed. There is now a gap.
     fn dedup_past_gap<J: PairTest<T>>(&mut self, test: &mut J)
         requires some { 0 < length self.old.front }
         requires gap { 0 < self.old.gap }

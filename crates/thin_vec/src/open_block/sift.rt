@@ -17,8 +17,7 @@ pub(crate) trait Test<T> {
     /// after the call, and the item as the test left it.
     ghost tests: { Self → T → Bool → Self → T → Type 0 };
 
-    /// Holds of a state in which the test can be called with any item. It still holds after the
-    /// call.
+    /// Holds of a state if the test can be called in it with any item. Each call preserves this.
     ghost ready: { Self → Type 0 };
 
     /// Returns whether `item` is kept.
@@ -246,7 +245,7 @@ impl<T: Drop, A: Allocator> OpenBlock<T, A> {
         }
     }
 
-    // Does the part of `sift` that follows the first removed item. So there is a gap.
+    // Continues `sift` after the first item was removed. There is now a gap.
     fn sift_past_gap<J: Test<T>>(&mut self, test: &mut J)
         requires gap { 0 < self.old.gap }
         requires ready { J.ready test.old }
