@@ -136,8 +136,8 @@ impl<T, A: Allocator, G: Growth> ThinVec<T, A, G> {
         block
     }
 
-    // Closes the gap, if there is one, by moving all items after it down, as one run, and puts the
-    // block back into the list. If the list has another block, that block is freed.
+    // Puts the block back into the list. If there is a gap, all items after it are moved down
+    // first, as one run. If the list has another block, that block is freed.
     pub(crate) fn close(&mut self, block: OpenBlock<T, A>)
         requires empty { self.old.items ≡ [] }
         requires gap_after { block.gap_after ≡ 0 }

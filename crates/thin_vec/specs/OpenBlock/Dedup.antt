@@ -88,8 +88,9 @@ module _ {S T : Type 0} (R : S → T → T → Bool → S → T → T → Type 0
 
   -- Starting in the state `s`, items from the start of the middle run of `v` were tested, each
   -- against the last item kept before it. (For the first of them, this is the last item of the
-  -- front.) `t` is the final state, and `w` is the open block afterwards. It has a gap. The items
-  -- kept were moved to the front, and each counts one move. The other tested items were removed.
+  -- front.) `t` is the final state, and `w` is the open block afterwards, which has a gap. The
+  -- items kept were moved to the front, and each counts one move. The other tested items were
+  -- removed.
   pub record Dedups {A : Type 0} (s : S) (v : Open T A) (t : S) (w : Open T A) : Type 0 where
     pub before : List T
     pub first : T

@@ -59,8 +59,8 @@ module _ {S T : Type 0} (R : S → T → Bool → S → T → Type 0) where
     }
 
   -- Starting in the state `s`, items from the start of the middle run of `v` were tested. `t` is
-  -- the final state, and `w` is the open block afterwards. It has a gap. The items kept were moved
-  -- to the front, and each counts one move. The other tested items were removed.
+  -- the final state, and `w` is the open block afterwards, which has a gap. The items kept were
+  -- moved to the front, and each counts one move. The other tested items were removed.
   pub record Sifts {A : Type 0} (s : S) (v : Open T A) (t : S) (w : Open T A) : Type 0 where
     pub done : List T
     pub verdicts : Verdicts T

@@ -52,7 +52,7 @@ impl<T: Clone, A: Allocator, G: Growth> ThinVec<T, A, G> {
         ensures cost { OnOk result
             (Costs (moves_cloning self.old start end (length items.now)) self.old self.new) }
 
-        // On failure, the items are unchanged.
+        // When the call can fail, and what holds on failure.
         ensures succeeds { HasRoomFor self.old (length items.now) → All T.is_infallible items.now
             → IsOk result }
         ensures err_items { OnErr result (self.new.items ≡ self.old.items) }

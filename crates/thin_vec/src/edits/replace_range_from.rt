@@ -1,6 +1,6 @@
 //! The methods `replace_range_from_copies` and `replace_range_from_list`, which replace the items
-//! of a range by copies of other items, or by the items of another list. If they fail, nothing
-//! changes.
+//! of a range by copies of other items, or by the items of another list. If one of them fails,
+//! nothing changes.
 ghost use Rattle.std.specs.Prelude.{◌≡◌, ◌+◌, ◌-◌, ◌==◌, ◌<◌, ◌≤◌, ◌++◌, [], IsOk, OnErr, OnOk, drop, if◌then◌else◌, length, take};
 ghost use Rattle.std.specs.List.{replace_range};
 ghost use Rattle.thin_block.specs.Cost.{moving, no_cost};
@@ -47,7 +47,7 @@ impl<T: Copy, A: Allocator, G: Growth> ThinVec<T, A, G> {
         ensures cost { OnOk result (Costs
             (moves_replacing self.old start end (length items.now)) self.old self.new) }
 
-        // On failure, nothing changes.
+        // When the call can fail, and what holds on failure.
         ensures succeeds { HasRoomFor self.old (length items.now - (end - start)) → IsOk result }
         ensures succeeds_shorter { length items.now ≤ end - start → IsOk result }
         ensures err { OnErr result (self.new ≡ self.old) }
@@ -118,7 +118,7 @@ impl<T: Drop, A: Allocator, G: Growth> ThinVec<T, A, G> {
             (moves_replacing self.old start end (length other.old.items)) self.old self.new) }
         ensures other { OnOk result (other.new ≡ record other.old { items = [] }) }
 
-        // On failure, neither list changes.
+        // When the call can fail, and what holds on failure.
         ensures succeeds { HasRoomFor self.old (length other.old.items - (end - start)) → IsOk result }
         ensures succeeds_shorter { length other.old.items ≤ end - start → IsOk result }
         ensures err { OnErr result (self.new ≡ self.old) }

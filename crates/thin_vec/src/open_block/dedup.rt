@@ -16,8 +16,7 @@ pub(crate) trait PairTest<T> {
     /// later item is removed, the state after the call, and both items as the test left them.
     ghost tests: { Self → T → T → Bool → Self → T → T → Type 0 };
 
-    /// Holds of a state if the test can be called in it with any two items. Each call preserves
-    /// this.
+    /// Says that a test in this state can be called with any two items. Each call preserves this.
     ghost ready: { Self → Type 0 };
 
     /// Returns whether `later` is removed. `kept` is the last item kept.

@@ -17,7 +17,7 @@ pub(crate) trait Test<T> {
     /// after the call, and the item as the test left it.
     ghost tests: { Self → T → Bool → Self → T → Type 0 };
 
-    /// Holds of a state if the test can be called in it with any item. Each call preserves this.
+    /// Says that a test in this state can be called with any item. Each call preserves this.
     ghost ready: { Self → Type 0 };
 
     /// Returns whether `item` is kept.

@@ -90,7 +90,7 @@ module _ {X Y : Type 0} (h : X → Y) where
       (items_in (map (on_slot h) s)) ≡ length s - length (items_in s)
   left-map s = λ i. length-map s (on_slot h) i - count-map s i
 
-  -- if exactly the first `n` slots are filled, this is still so after `h` is applied
+  -- if exactly the first `n` slots are filled, the same is true after `h` is applied
   packed_to : (s : List (Option X)) (n : ℕ) → IsPacked s n → IsPacked (map (on_slot h) s) n
   packed_to s n p = record {
     row = from_shape (map (on_slot h) s) _
@@ -98,7 +98,7 @@ module _ {X Y : Type 0} (h : X → Y) where
     len = p.len ∙ sym (count-map s);
   }
 
-  -- if exactly the first `n` slots are filled after `h` is applied, this was so before
+  -- if exactly the first `n` slots are filled after `h` is applied, the same was true before
   packed_from : (s : List (Option X)) (n : ℕ) → IsPacked (map (on_slot h) s) n → IsPacked s n
   packed_from s n p = record {
     row = from_shape s _
@@ -108,12 +108,11 @@ module _ {X Y : Type 0} (h : X → Y) where
   }
 
   module _ {Z : Type 0} (b : Block X Z) (a : Z) where
-    -- if `b` and `a` are the block and the allocator of a list, so are `b` with `h` applied, and
-    -- `a`
+    -- if `b` is the block of a list with the allocator `a`, so is `b` with `h` applied to its items
     thin_to : IsThin b a → IsThin (block.mapped h b) a
     thin_to t = record { packed = packed_to b.slots b.len t.packed; from = t.from }
 
-    -- if `b` with `h` applied and `a` are the block and the allocator of a list, so are `b` and `a`
+    -- if `b` with `h` applied to its items is the block of a list with the allocator `a`, so is `b`
     thin_from : IsThin (block.mapped h b) a → IsThin b a
     thin_from t = record { packed = packed_from b.slots b.len t.packed; from = t.from }
 
