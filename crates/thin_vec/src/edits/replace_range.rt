@@ -48,7 +48,8 @@ impl<T: Clone, A: Allocator, G: Growth> ThinVec<T, A, G> {
         ensures items { OnOk result (ReplacesByClones T.is_clone self.old.items start end items.now
             self.new.items) }
         ensures items_if_clones_equal { OnOk result (ClonesEqual T.is_clone
-            → self.new.items ≡ (take start self.old.items ++ items.now) ++ drop end self.old.items) }
+            → self.new.items ≡ (take start self.old.items ++ items.now)
+            ++ drop end self.old.items) }
         ensures cost { OnOk result
             (Costs (moves_cloning self.old start end (length items.now)) self.old self.new) }
 

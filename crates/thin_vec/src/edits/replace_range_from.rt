@@ -53,8 +53,8 @@ impl<T: Copy, A: Allocator, G: Growth> ThinVec<T, A, G> {
         ensures err { OnErr result (self.new ≡ self.old) }
 
         // In any case.
-        ensures reserves { Reserves G.rule T.row (length items.now - (end - start)) self.old self.new
-            result }
+        ensures reserves { Reserves G.rule T.row (length items.now - (end - start)) self.old
+            self.new result }
         ensures keeps { Keeps T.row self.old self.new }
     {
         match self.reserve(items.len().saturating_sub(end - start)) {
@@ -119,14 +119,15 @@ impl<T: Drop, A: Allocator, G: Growth> ThinVec<T, A, G> {
         ensures other { OnOk result (other.new ≡ record other.old { items = [] }) }
 
         // When the call can fail, and what holds on failure.
-        ensures succeeds { HasRoomFor self.old (length other.old.items - (end - start)) → IsOk result }
+        ensures succeeds { HasRoomFor self.old (length other.old.items - (end - start))
+            → IsOk result }
         ensures succeeds_shorter { length other.old.items ≤ end - start → IsOk result }
         ensures err { OnErr result (self.new ≡ self.old) }
         ensures other_err { OnErr result (other.new ≡ other.old) }
 
         // In any case.
-        ensures reserves { Reserves G.rule T.row (length other.old.items - (end - start)) self.old self.new
-            result }
+        ensures reserves { Reserves G.rule T.row (length other.old.items - (end - start)) self.old
+            self.new result }
         ensures keeps { Keeps T.row self.old self.new }
         ensures other_within { IsWithin T.row other.old × IsWithin T.row other.new }
     {

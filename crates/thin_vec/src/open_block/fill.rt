@@ -19,7 +19,8 @@ impl<T, A: Allocator> OpenBlock<T, A> {
     pub(crate) fn fill<I: Iterator<Item = T>>(&mut self, iter: I) -> Filled<I>
         requires can_next { I.can_next iter }
         requires finite { IsFinite (I.remaining iter) }
-        ensures filled { (by : IsFilledBy I.next_gives I.can_next I.remaining self.old.gap iter result)
+        ensures filled { (by : IsFilledBy I.next_gives I.can_next I.remaining self.old.gap iter
+            result)
             × (self.new ≡ record self.old {
               front = self.old.front ++ by.items;
               gap = self.old.gap - length by.items;
