@@ -46,7 +46,7 @@ use thin_block::{Block, Growth};
 ///
 /// An `OpenBlock` owns the block and all items in it. It does not implement `Drop`: `close` puts
 /// the block back into the list. Contracts see an `OpenBlock` as an `Open`, which is defined in
-/// specs/Open.antt.
+/// `specs/Open.antt`.
 pub struct OpenBlock<T, A: Allocator> {
     // The length that is stored in the block is not used while the block is open.
     pub(crate) block: Block<T, A>,

@@ -36,6 +36,7 @@ pub struct ExtractIf<
 > {
     list: &'a mut ThinVec<T, A, G>,
     holder: H,
+    // The memory of the block came from the allocator of the list.
     ghost from: { IsFrom (H.inner holder).block.alloc list.now.alloc },
 }
 
@@ -44,6 +45,7 @@ pub struct ExtractIf<
 pub struct Extracting<T, F, A: Allocator> {
     block: OpenBlock<T, A>,
     picks: Picks<F>,
+    // There is no empty slot between the middle run and the tail.
     ghost adjacent: { block.gap_after ≡ 0 },
 }
 
