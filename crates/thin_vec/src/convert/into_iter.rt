@@ -187,8 +187,10 @@ impl<T: Clone, A: Allocator, G: Growth> IntoIter<T, A, G> {
     /// Fails with `OutOfMemory` if `alloc` or a clone fails. Then no iterator is made, and the
     /// clones already made and `alloc` are dropped.
     pub fn clone(&self, alloc: A) -> Result<IntoIter<T, A, G>, ThinVecError>
-        // On failure.
+        // When it must succeed.
         ensures succeeds_empty { length self.now.items ≡ 0 → IsOk result }
+
+        // On failure.
         ensures cause { IfErr result (λ cause. cause ≡ ThinVecError.OutOfMemory) }
 
         // On success.

@@ -53,9 +53,11 @@ impl<T: Clone, A: Allocator, G: Growth> ThinVec<T, A, G> {
         ensures cost { OnOk result
             (Costs (moves_cloning self.old start end (length items.now)) self.old self.new) }
 
-        // When the call can fail, and what holds on failure.
+        // When it must succeed.
         ensures succeeds { HasRoomFor self.old (length items.now) → All T.is_infallible items.now
             → IsOk result }
+
+        // On failure.
         ensures err_items { OnErr result (self.new.items ≡ self.old.items) }
         ensures err { All T.is_infallible items.now → OnErr result (self.new ≡ self.old) }
         ensures err_cost { OnErr result ((self.new ≡ self.old) ⊎ CostsAtMost

@@ -47,9 +47,11 @@ impl<T: Copy, A: Allocator, G: Growth> ThinVec<T, A, G> {
         ensures cost { OnOk result (Costs
             (moves_replacing self.old start end (length items.now)) self.old self.new) }
 
-        // When the call can fail, and what holds on failure.
+        // When it must succeed.
         ensures succeeds { HasRoomFor self.old (length items.now - (end - start)) → IsOk result }
         ensures succeeds_shorter { length items.now ≤ end - start → IsOk result }
+
+        // On failure.
         ensures err { OnErr result (self.new ≡ self.old) }
 
         // In any case.
@@ -118,10 +120,12 @@ impl<T: Drop, A: Allocator, G: Growth> ThinVec<T, A, G> {
             (moves_replacing self.old start end (length other.old.items)) self.old self.new) }
         ensures other { OnOk result (other.new ≡ record other.old { items = [] }) }
 
-        // When the call can fail, and what holds on failure.
+        // When it must succeed.
         ensures succeeds { HasRoomFor self.old (length other.old.items - (end - start))
             → IsOk result }
         ensures succeeds_shorter { length other.old.items ≤ end - start → IsOk result }
+
+        // On failure.
         ensures err { OnErr result (self.new ≡ self.old) }
         ensures other_err { OnErr result (other.new ≡ other.old) }
 
