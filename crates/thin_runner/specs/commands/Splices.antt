@@ -7,8 +7,7 @@ use Rattle.std.specs.List.{remove_range}
 use Rattle.std.specs.Option.{option_to_list}
 use Rattle.std.specs.Vec.Iter.{into_iter_items}
 use Rattle.thin_vec.specs.Cheap.{IsCheap}
-use Rattle.thin_vec.specs.List.Extend.{IsExtended, IsLoose, MayOverflow, MustOverflow}
-use Rattle.thin_vec.specs.Edits.Splice.{IsSpliced}
+use Rattle.thin_vec.specs.List.Extend.{CostsAdding, IsExtended, IsLoose, MayOverflow, MustOverflow}
 use Rattle.thin_vec.specs.Growth.{Rule}
 use Rattle.thin_vec.specs.ThinVec.{HasRoomFor, IsWithin, Thin, capacity_for}
 use Rattle.thin_vec.specs.declared.ThinVecError.{ThinVecError}
@@ -36,7 +35,7 @@ module _ {T A : Type 0} (rule : Rule) (R : RattleType) (old : Thin T A) (a b : �
     pub ruled : IsExtended rule R (cut old a b) new.capacity (length new.items) (at_most most)
     pub within : IsWithin R new
     pub had_room : HasRoomFor (cut old a b) most → new.capacity ≡ old.capacity
-    pub cost : IsSpliced (cut old a b) new (2 * (length old.items - b))
+    pub cost : CostsAdding (cut old a b) new (2 * (length old.items - b))
     pub cheap : IsCheap old → IsCheap new
     pub alloc : new.alloc ≡ old.alloc
 

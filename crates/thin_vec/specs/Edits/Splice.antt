@@ -29,21 +29,6 @@ module _ {S T A : Type 0} (steps : S → Option T → S → Type 0) where
       × YieldsThen steps s (placed ++ error.held.items) None error.rest)
 
 module _ {T A : Type 0} where
-  -- what the list w, which was v before items were inserted into it, has cost
-  pub record IsSpliced (v w : Thin T A) (n : ℕ) : Type 0 where
-    -- one move for each inserted item, and at most n moves of other items
-    pub least : v.cost.moves + length w.items ≤ w.cost.moves + length v.items
-    pub moves : w.cost.moves + length v.items ≤ v.cost.moves + n + length w.items
-    -- if the capacity stayed, no block and no copied item was added
-    pub kept : w.capacity ≡ v.capacity → (w.cost.blocks ≡ v.cost.blocks)
-        × (w.cost.grown ≡ v.cost.grown)
-    -- if the capacity grew, there is at least one block more, and at least the items of v were
-    -- copied
-    pub grown : v.capacity < w.capacity → (v.cost.blocks < w.cost.blocks)
-        × (v.cost.grown + length v.items ≤ w.cost.grown)
-    -- growth has copied at most as many items as the capacity has grown by
-    pub copied : w.cost.grown + v.capacity ≤ v.cost.grown + w.capacity
-
   -- why `finish` failed, which left the list w; `tail` is the items after the range, and `left`
   -- bounds the rest of the iterator
   pub record IsStopCause {S : Type 0} (rule : Rule) (R : RattleType) (w : Thin T A) (tail : List T)

@@ -62,10 +62,11 @@ module _ {T A : Type 0} where
     -- allowed hint
     pub ruled : IsExtended rule R v w.capacity (length w.items) left
 
-  -- what the list w, which was v before items were added after its own, has cost
-  pub record IsExtendCost (v w : Thin T A) : Type 0 where
-    -- one move for each item
-    pub moves : w.cost.moves + length v.items ≡ v.cost.moves + length w.items
+  -- what it has cost to add items to the list v, which became w: one move for each added item, and
+  -- at most n moves of other items
+  pub record CostsAdding (v w : Thin T A) (n : ℕ) : Type 0 where
+    pub least : v.cost.moves + length w.items ≤ w.cost.moves + length v.items
+    pub moves : w.cost.moves + length v.items ≤ v.cost.moves + n + length w.items
     -- if the capacity stayed, no block and no copied item was added
     pub kept : w.capacity ≡ v.capacity → (w.cost.blocks ≡ v.cost.blocks)
         × (w.cost.grown ≡ v.cost.grown)
@@ -94,7 +95,7 @@ module _ {T A : Type 0} where
   abbrev pub Extends : Rule → RattleType → Thin T A → List T → Thin T A → Type 0
   Extends rule R v xs w =
       (w.items ≡ v.items ++ xs) × (length w.items ≡ length v.items + length xs)
-      × (v.capacity ≤ w.capacity) × IsLoose rule R v.capacity w.capacity × IsExtendCost v w
+      × (v.capacity ≤ w.capacity) × IsLoose rule R v.capacity w.capacity × CostsAdding v w 0
       × (w.alloc ≡ v.alloc) × (IsCheap v → IsCheap w) × IsWithin R w
 
   -- what std's `FromIterator` states of the list v that was made of the items xs

@@ -4,7 +4,7 @@ ghost use Rattle.std.specs.Prelude.{◌≡◌, ◌+◌, ◌-◌, ◌*◌, ◌<�
 ghost use Rattle.std.specs.Iterator.{Drains, IsFinite, size};
 ghost use Rattle.std.specs.Iterator.Runs.{WholeRun};
 ghost use Rattle.thin_vec.specs.List.Capacity.{Keeps};
-ghost use Rattle.thin_vec.specs.List.Extend.{GrowsFor};
+ghost use Rattle.thin_vec.specs.List.Extend.{CostsAdding, GrowsFor};
 ghost use Rattle.thin_block.specs.Block.{IsFrom};
 
 use crate::edits::holder::{Holder, Holds};
@@ -129,7 +129,7 @@ impl<
     G: Growth,
     H: Holds<Inner = OpenBlock<T, A>>,
 > Splice<'a, I, T, A, G, H> {
-    ghost use Rattle.thin_vec.specs.Edits.Splice.{FailsAsExtend, HasPlacesFor, IsSpliced, IsStopCause, Stopped, splice_block, splice_iter, splice_left, splice_range, splice_replaced};
+    ghost use Rattle.thin_vec.specs.Edits.Splice.{FailsAsExtend, HasPlacesFor, IsStopCause, Stopped, splice_block, splice_iter, splice_left, splice_range, splice_replaced};
 
     /// Drops the items of the range that were not yielded, and puts the items of the iterator in
     /// the place of the range. The iterator is asked until its first `None`, and not again after
@@ -207,7 +207,7 @@ impl<
         // In any case.
         ensures capacity { GrowsFor G.rule T.row (splice_left self.entry) self.exit.0.now
             (I.remaining (splice_iter self.entry)) }
-        ensures cost { IsSpliced (splice_left self.entry) self.exit.0.now
+        ensures cost { CostsAdding (splice_left self.entry) self.exit.0.now
             (2 * length (splice_block self.entry).tail) }
         ensures keeps { Keeps T.row (splice_left self.entry) self.exit.0.now }
     {

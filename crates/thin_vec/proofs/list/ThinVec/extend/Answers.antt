@@ -11,7 +11,7 @@ use Rattle.std.proofs.lemmas.Bool.{false≢true}
 use Rattle.thin_block.proofs.Outcomes.{err-same}
 use Rattle.thin_vec.specs.ThinVec.{HasRoomFor, capacity_for}
 use Rattle.std.proofs.Common.{inl, sym, Some, List, None, [], refl}
-use Rattle.thin_vec.proofs.list.ExtendLemmas.{full-in-hand, ruled-after, run_of_ok, filled-join, filled-reserved, loose-join, loose-le, loose-ruled, run_given, run_given_err}
+use Rattle.thin_vec.proofs.list.ExtendLemmas.{full-in-hand, ruled-after, run_of_ok, adding-join, filled-reserved, loose-join, loose-le, loose-ruled, run_given, run_given_err}
 use Rattle.thin_vec.proofs.list.ThinVec.extend.Goals as goal
 
 pub returns-in-Ok-clause-capacity : goal.returns-in-Ok-clause-capacity
@@ -41,7 +41,7 @@ pub returns-in-Ok-clause-cost : goal.returns-in-Ok-clause-cost
 returns-in-Ok-clause-cost g c =
     let rule = g.G.Growth.rule in let T = param 0 g.row.T in let law = g.met.G.Growth.law in
     let v = c.args.self.now in let u = c.reserve.new.self in let w = c.extend_unhinted.new.self in
-    filled-join (filled-reserved v u c.in-Ok.ensures.cost c.reserve.ensures.items
+    adding-join 0 0 0 (omega arith) (filled-reserved v u c.in-Ok.ensures.cost c.reserve.ensures.items
     (cost_at-copied rule T law v c.size_hint.result.0 u.capacity c.reserve.ensures.keeps.within.0.room
     c.in-Ok.ensures.reserves.ok))
     c.extend_unhinted.ensures.cost
