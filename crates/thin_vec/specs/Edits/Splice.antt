@@ -48,28 +48,30 @@ module _ {T A : Type 0} where
   -- bounds the rest of the iterator
   pub record IsStopCause {S : Type 0} (rule : Rule) (R : RattleType) (w : Thin T A) (tail : List T)
       (left : Count) (error : SpliceRefused T S A) : Type 0 where
-    -- with no item held or in hand, the cause is `CapacityOverflow` if each allowed hint overflows,
-    -- and only if some allowed hint does
+    -- with no item held or in hand, the cause is `CapacityOverflow` if each allowed hint without
+    -- room overflows, and only if some allowed hint does
     pub by_hint : error.held.items ≡ [] → error.in_hand ≡ None
         → (MustOverflow rule R w left → error.cause ≡ CapacityOverflow)
         × (error.cause ≡ CapacityOverflow → MayOverflow rule R w left)
-    -- with items held and none in hand, it is so if and only if no capacity is ruled for them
+    -- with items held and none in hand, the cause is `CapacityOverflow` if and only if there is no
+    -- ruled capacity for them
     pub by_held : 0 < length error.held.items → error.in_hand ≡ None
         → (error.cause ≡ CapacityOverflow)
         ↔ (capacity_for rule R w (length error.held.items) ≡ None)
     -- with an item in hand before a tail, there was no memory to hold it
     pub by_in_hand : 0 < length tail → IsSome error.in_hand → error.cause ≡ OutOfMemory
-    -- with an item in hand and no tail, it is so if and only if no capacity is ruled for one item
-    -- more
+    -- with an item in hand and no tail, the cause is `CapacityOverflow` if and only if there is no
+    -- ruled capacity for one item more
     pub by_push : tail ≡ [] → IsSome error.in_hand
         → (error.cause ≡ CapacityOverflow) ↔ (capacity_for rule R w 1 ≡ None)
 
-  -- `finish` failed with no item after the range, and the list v without the range became w: the
-  -- call fails as `extend` does with the iterator `s`
+  -- `finish` failed with no item after the range. The list v without the range became w, and `s` is
+  -- the iterator
   pub record FailsAsExtend {S : Type 0} (v w : Thin T A) (s : S) (error : SpliceRefused T S A)
       : Type 0 where
     pub held : error.held.items ≡ []
-    -- if no item is in hand, nothing was drawn; if one is, the list is full
+    -- if no item is in hand, nothing was drawn and the list lacks only the range; if an item is in
+    -- hand, the list is full
     pub in_hand : MatchOption error.in_hand ((w ≡ v) × (error.rest ≡ s))
         (λ _. length w.items ≡ w.capacity)
 

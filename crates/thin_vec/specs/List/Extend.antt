@@ -23,30 +23,30 @@ pub record PausedAfter {S X : Type 0} (steps : S → Option X → S → Type 0) 
   pub can_next : can t
   pub finite : IsFinite (remaining t)
 
--- the capacity d, which was c, stayed, or it is at least the capacity that the rule gives to some
--- want w greater than c
+-- the capacity, which was c and is d, stayed, or it grew at least to the capacity that the rule gives
+-- if a block of capacity c needs room for w items, where w is some number greater than c
 abbrev pub IsLoose : Rule → RattleType → ℕ → ℕ → Type 0
 IsLoose rule R c d =
     (d ≡ c) ⊎ ((w : ℕ) × (n : ℕ) × (c < w) × (ruled_capacity rule R c w ≡ Some n) × (n ≤ d))
 
--- d is the capacity that the rule gives to some want w of at most n items, after some capacity e
--- less than w
+-- the last growth was to the capacity d: it is what the rule gives if a block of some capacity e
+-- needs room for w items, where w is some number greater than e and at most n
 abbrev pub IsRuled : Rule → RattleType → ℕ → ℕ → Type 0
 IsRuled rule R d n = (e w : ℕ) × (e < w) × (w ≤ n) × (ruled_capacity rule R e w ≡ Some d)
 
--- the capacity d, which was c, stayed, or it is a ruled one for at most n items
+-- the capacity, which was c and is d, stayed, or its last growth was for at most n items
 abbrev pub IsKeptOrRuled : Rule → RattleType → ℕ → ℕ → ℕ → Type 0
 IsKeptOrRuled rule R c d n = (d ≡ c) ⊎ IsRuled rule R d n
 
--- d is the capacity of the list v after n items are in it: v's capacity, or a ruled one for at most
--- n items, or the ruled one for as many further items as some allowed hint of the iterator
+-- the capacity of the list v became d, and the list then has n items: the capacity stayed, or its
+-- last growth was for at most n items, or it grew once, for an allowed hint of the iterator
 abbrev pub IsExtended : {T A : Type 0} → Rule → RattleType → Thin T A → ℕ → ℕ → Count → Type 0
 IsExtended rule R v d n left =
     IsKeptOrRuled rule R v.capacity d n
     ⊎ ((h : ℕ) × IsWithinCount h left × (capacity_for rule R v h ≡ Some d))
 
--- d is the capacity of a new list of n items: a ruled one for at most n items, or exactly some
--- allowed hint of the iterator
+-- d is the capacity of a new list of n items: its last growth was for at most n items, or it is
+-- exactly an allowed hint of the iterator
 abbrev pub IsCollected : Rule → RattleType → ℕ → ℕ → Count → Type 0
 IsCollected rule R d n left =
     IsRuled rule R d n ⊎ ((h : ℕ) × IsWithinCount h left × (exact_capacity R 0 h ≡ Some d))
@@ -56,9 +56,9 @@ module _ {T A : Type 0} where
   pub record GrowsFor (rule : Rule) (R : RattleType) (v w : Thin T A) (left : Count) : Type 0 where
     -- if v has room for as many items as the iterator may yield, the capacity stays
     pub had_room : HasRoomFor v (size left) → w.capacity ≡ v.capacity
-    -- the capacity stays, or it is at least a ruled one for a want greater than it
+    -- the capacity stays, or it grows at least as far as the rule says
     pub loose : IsLoose rule R v.capacity w.capacity
-    -- the capacity stays, or it is a ruled one for at most the final number of items, or for an
+    -- the capacity stays, or its last growth was for at most the final number of items, or for an
     -- allowed hint
     pub ruled : IsExtended rule R v w.capacity (length w.items) left
 
@@ -81,7 +81,8 @@ module _ {T A : Type 0} where
       : Type 0 where
     -- without an item to yield, the list has no capacity
     pub none : size left ≡ 0 → w.capacity ≡ 0
-    -- the capacity is a ruled one for at most the number of items, or exactly an allowed hint
+    -- the last growth was for at most the final number of items, or the capacity is exactly an
+    -- allowed hint
     pub ruled : IsCollected rule R w.capacity (length w.items) left
     -- each item was moved once
     pub moves : w.cost.moves ≡ length w.items
@@ -118,8 +119,8 @@ module _ {T A : Type 0} where
     -- capacity for one item more
     pub by_push : IsSome error.in_hand
         → (error.cause ≡ CapacityOverflow) ↔ (capacity_for rule R w 1 ≡ None)
-    -- with no item in hand, the cause is `CapacityOverflow` if each allowed hint overflows, and
-    -- only if some allowed hint does
+    -- with no item in hand, the cause is `CapacityOverflow` if each allowed hint without room
+    -- overflows, and only if some allowed hint does
     pub must : error.in_hand ≡ None → MustOverflow rule R w left → error.cause ≡ CapacityOverflow
     pub may : error.in_hand ≡ None → error.cause ≡ CapacityOverflow → MayOverflow rule R w left
 

@@ -24,8 +24,9 @@ impl<T: Clone, A: Allocator, G: Growth> ThinVec<T, A, G> {
     /// kept until the last clone is made, and the clones are made in other slots.
     ///
     /// On success, each item after the range moves at most once. If a clone fails, such an item can
-    /// move up to three times: up, to make a gap for clones; down, to close the part of the gap
-    /// that was not filled; and down again, after the clones in the gap were dropped.
+    /// move up to three times. It moves up, to make a gap for the clones. If the gap was not filled,
+    /// it moves down to the clones. Then these clones are dropped, and it moves down to its old
+    /// place.
     ///
     /// # Errors
     ///
@@ -60,7 +61,7 @@ impl<T: Clone, A: Allocator, G: Growth> ThinVec<T, A, G> {
         // On failure.
         ensures err_items { OnErr result (self.new.items ≡ self.old.items) }
         ensures err { All T.is_infallible items.now → OnErr result (self.new ≡ self.old) }
-        ensures err_cost { OnErr result ((self.new ≡ self.old) ⊎ CostsAtMost
+        ensures err_cost { OnErr result (CostsAtMost
             (length items.now + 3 * (length self.old.items - end)) self.old self.new) }
 
         // In any case.
