@@ -8,7 +8,7 @@ use Rattle.std.specs.declared.result.Result.{Result}
 use Rattle.std.specs.declared.result.Result.TheVariants.{Ok, Err}
 use Rattle.std.specs.Iterator.{Count, Drains, Yields, YieldsThen, size}
 use Rattle.thin_vec.specs.Cheap.{IsCheap}
-use Rattle.thin_vec.specs.List.Extend.{IsExtendCause, CostsAdding, IsKeptOrRuled, MayOverflow, MustOverflow, PausedAfter}
+use Rattle.thin_vec.specs.List.Extend.{IsExtendCause, CostsAdding, IsKeptOrRuled, FailsAtHint, PausedAfter}
 use Rattle.std.proofs.lemmas.Bool.Decides.{nat_tests}
 use Rattle.thin_block.specs.declared.errors.ThinVecError.TheVariants.{CapacityOverflow, OutOfMemory}
 use Rattle.thin_block.specs.Cost.{Cost, moving}
@@ -210,11 +210,9 @@ module _ {S T A : Type 0} (rule : Rule) (R : RattleType) (v : Thin T A) (tail : 
     (left : Count) (error : SpliceRefused T S A) where
   -- if there is a tail, no item is held and none is in hand, the cause follows from the hint
   pub stop-at-hint : 0 < length tail → error.held.items ≡ [] → error.in_hand ≡ None
-      → (MustOverflow rule R v left → error.cause ≡ CapacityOverflow)
-      → (error.cause ≡ CapacityOverflow → MayOverflow rule R v left)
-      → IsStopCause rule R v tail left error
-  stop-at-hint some none empty over why = record {
-    by_hint = λ _ _. (over, why);
+      → FailsAtHint rule R v left error.cause → IsStopCause rule R v tail left error
+  stop-at-hint some none empty fails = record {
+    by_hint = λ _ _. fails;
     by_held = λ more _. absurd (omega (arith, more, ap length none));
     by_in_hand = λ _ is. absurd (false≢true (subst IsSome empty is));
     by_push = λ no_tail. absurd (omega (arith, some, ap length no_tail));
@@ -239,10 +237,9 @@ module _ {S T A : Type 0} (rule : Rule) (R : RattleType) (v : Thin T A) (tail : 
       → error.cause ≡ e.cause → error.in_hand ≡ e.in_hand → IsExtendCause rule R v left e
       → IsStopCause rule R v tail left error
   stop-at-end e no_tail none same hand by = record {
-    by_hint = λ _ empty. let gone : e.in_hand ≡ None = sym hand ∙ empty in (
-      λ must. same ∙ by.must gone must,
-      λ is. by.may gone (sym same ∙ is),
-    );
+    by_hint = λ _ empty.
+        subst (λ cause. FailsAtHint rule R v left cause) (sym same)
+        (by.by_hint (sym hand ∙ empty));
     by_held = λ more _. absurd (omega (arith, more, ap length none));
     by_in_hand = λ some _. absurd (omega (arith, some, ap length no_tail));
     by_push = λ _ some. let push = by.by_push (subst IsSome hand some) in (

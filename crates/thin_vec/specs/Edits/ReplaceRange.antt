@@ -1,11 +1,9 @@
 -- Which items a list has after a range of it was replaced, and how many moves this takes. (std:
 -- `Vec::splice`)
-use Rattle.std.specs.Prelude.{◌≡◌, ℕ, ◌+◌, ◌-◌, ◌*◌, ◌==◌, ◌≤◌, List, Some, if◌then◌else◌, length, min}
-use Rattle.std.specs.Borrow.{RattleType}
+use Rattle.std.specs.Prelude.{◌≡◌, ℕ, ◌+◌, ◌-◌, ◌==◌, ◌≤◌, List, if◌then◌else◌, length, min}
 use Rattle.std.specs.List.{AllZip, replace_range}
 use Rattle.thin_block.specs.Cost.{Cost, moving}
-use Rattle.thin_block.specs.Growth.{Rule}
-use Rattle.thin_vec.specs.ThinVec.{Thin, capacity_for, cost_at}
+use Rattle.thin_vec.specs.ThinVec.{Thin, cost_at}
 
 module _ {T A : Type 0} where
   -- The number of moves if `k` new items replace the items of `v` from index `i` up to `j`. There

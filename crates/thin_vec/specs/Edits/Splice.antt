@@ -8,7 +8,7 @@ use Rattle.std.specs.Borrow.{GName, RattleType}
 use Rattle.thin_block.specs.declared.errors.ThinVecError.TheVariants.{CapacityOverflow, OutOfMemory}
 use Rattle.thin_block.specs.Growth.{Rule}
 use Rattle.thin_block.specs.declared.growth.Growth.{Ghosts}
-use Rattle.thin_vec.specs.List.Extend.{MayOverflow, MustOverflow, PausedAfter}
+use Rattle.thin_vec.specs.List.Extend.{FailsAtHint, PausedAfter}
 use Rattle.thin_vec.specs.Open.{Open}
 use Rattle.thin_vec.specs.ThinVec.{HasRoomFor, Thin, capacity_for}
 use Rattle.thin_vec.specs.declared.errors.SpliceRefused.{SpliceRefused}
@@ -33,11 +33,9 @@ module _ {T A : Type 0} where
   -- bounds the rest of the iterator
   pub record IsStopCause {S : Type 0} (rule : Rule) (R : RattleType) (w : Thin T A) (tail : List T)
       (left : Count) (error : SpliceRefused T S A) : Type 0 where
-    -- with no item held or in hand, the cause is `CapacityOverflow` if each allowed hint without
-    -- room overflows, and only if some allowed hint does
+    -- with no item held or in hand, room for the hint could not be reserved
     pub by_hint : error.held.items ≡ [] → error.in_hand ≡ None
-        → (MustOverflow rule R w left → error.cause ≡ CapacityOverflow)
-        × (error.cause ≡ CapacityOverflow → MayOverflow rule R w left)
+        → FailsAtHint rule R w left error.cause
     -- with items held and none in hand, the cause is `CapacityOverflow` if and only if there is no
     -- ruled capacity for them
     pub by_held : 0 < length error.held.items → error.in_hand ≡ None

@@ -50,8 +50,8 @@ pub record IsResized {T : Type 0} (clones : T → T → Type 0) (xs : List T) (n
       × (ys ≡ xs ++ (copies ++ x ∷ []))
   pub len : length ys ≡ n
 
--- `at` is the index of a source whose clone can fail, and the cost is `before` plus one move for
--- each source before `at`
+-- a clone failed: `at` is the index of its source, whose clone can fail. The clones of the sources
+-- before it were made, so the cost `after` is `before` plus one move for each of them
 pub record StopsAtClone {T : Type 0} (infallible : T → Type 0) (sources : List T)
     (before after : Cost) : Type 0 where
   pub at : ℕ

@@ -7,6 +7,7 @@ use Rattle.std.specs.Iterator.{Count, IsFinite, Yields, size}
 use Rattle.std.specs.Iterator.SizeHint.{IsWithinCount}
 use Rattle.std.specs.declared.option.Option.TheVariants.{None, Some}
 use Rattle.std.specs.Borrow.{RattleType}
+use Rattle.thin_block.specs.declared.errors.ThinVecError.{ThinVecError}
 use Rattle.thin_block.specs.declared.errors.ThinVecError.TheVariants.{CapacityOverflow}
 use Rattle.thin_block.specs.Growth.{Rule, exact_capacity, ruled_capacity}
 use Rattle.thin_vec.specs.Cheap.{IsCheap}
@@ -30,7 +31,8 @@ IsLoose rule R c d =
     (d ≡ c) ⊎ ((w : ℕ) × (n : ℕ) × (c < w) × (ruled_capacity rule R c w ≡ Some n) × (n ≤ d))
 
 -- the last growth was to the capacity d: it is what the rule gives if a block of some capacity e
--- needs room for w items, where w is some number greater than e and at most n
+-- needs room for w items, where w is some number greater than e and at most n. (By `Doubling`, d is
+-- then at most 4 or 2 * n)
 abbrev pub IsRuled : Rule → RattleType → ℕ → ℕ → Type 0
 IsRuled rule R d n = (e w : ℕ) × (e < w) × (w ≤ n) × (ruled_capacity rule R e w ≡ Some d)
 
@@ -104,14 +106,13 @@ module _ {T A : Type 0} where
       (v.items ≡ xs) × (length v.items ≡ length xs) × (v.cost.moves ≡ length xs) × IsCheap v
       × IsWithin R v
 
-  -- for some allowed hint of the iterator there is no ruled capacity
-  abbrev pub MayOverflow : Rule → RattleType → Thin T A → Count → Type 0
-  MayOverflow rule R v left = (h : ℕ) × IsWithinCount h left × (capacity_for rule R v h ≡ None)
-
-  -- for each allowed hint of the iterator for which v lacks room there is no ruled capacity
-  abbrev pub MustOverflow : Rule → RattleType → Thin T A → Count → Type 0
-  MustOverflow rule R v left =
-      (h : ℕ) → IsWithinCount h left → ¬ (HasRoomFor v h) → capacity_for rule R v h ≡ None
+  -- a call failed since it could not reserve room for the hint h of its iterator. The list w has no
+  -- room for h items, and the cause is `CapacityOverflow` if and only if there is no ruled capacity
+  -- for them. (h is the lower bound that `size_hint` returned; `left` bounds the iterator)
+  abbrev pub FailsAtHint : Rule → RattleType → Thin T A → Count → ThinVecError → Type 0
+  FailsAtHint rule R w left cause =
+      (h : ℕ) × IsWithinCount h left × ¬ (HasRoomFor w h)
+      × ((cause ≡ CapacityOverflow) ↔ (capacity_for rule R w h ≡ None))
 
   -- why `extend` failed and left the list w: `left` bounds the rest of the iterator
   pub record IsExtendCause {S : Type 0} (rule : Rule) (R : RattleType) (w : Thin T A)
@@ -120,10 +121,8 @@ module _ {T A : Type 0} where
     -- capacity for one item more
     pub by_push : IsSome error.in_hand
         → (error.cause ≡ CapacityOverflow) ↔ (capacity_for rule R w 1 ≡ None)
-    -- with no item in hand, the cause is `CapacityOverflow` if each allowed hint without room
-    -- overflows, and only if some allowed hint does
-    pub must : error.in_hand ≡ None → MustOverflow rule R w left → error.cause ≡ CapacityOverflow
-    pub may : error.in_hand ≡ None → error.cause ≡ CapacityOverflow → MayOverflow rule R w left
+    -- with no item in hand, room for the hint could not be reserved
+    pub by_hint : error.in_hand ≡ None → FailsAtHint rule R w left error.cause
 
   -- why `from_iter` failed: `left` bounds the rest of the iterator
   pub record IsCollectCause {S : Type 0} (rule : Rule) (R : RattleType) (left : Count)
@@ -132,10 +131,8 @@ module _ {T A : Type 0} where
     -- capacity for one item more
     pub by_push : IsSome error.in_hand
         → (error.cause ≡ CapacityOverflow) ↔ (capacity_for rule R error.list 1 ≡ None)
-    -- with no item in hand, the cause is `CapacityOverflow` if no allowed hint but 0 fits as a
-    -- capacity, and only if some allowed hint does not
-    pub must : error.in_hand ≡ None
-        → ((h : ℕ) → IsWithinCount h left → 0 < h → exact_capacity R 0 h ≡ None)
-        → error.cause ≡ CapacityOverflow
-    pub may : error.in_hand ≡ None → error.cause ≡ CapacityOverflow
-        → (h : ℕ) × IsWithinCount h left × (exact_capacity R 0 h ≡ None)
+    -- with no item in hand, a block for exactly the hint h could not be made: h is not 0, and the
+    -- cause is `CapacityOverflow` if and only if h is too large as a capacity
+    pub by_hint : error.in_hand ≡ None
+        → (h : ℕ) × IsWithinCount h left × (0 < h)
+        × ((error.cause ≡ CapacityOverflow) ↔ (exact_capacity R 0 h ≡ None))

@@ -64,7 +64,7 @@ impl<T: Drop, A: Allocator, G: Growth> ThinVec<T, A, G> {
     ///
     /// Neither the call nor the drop allocates memory, and neither can fail. The call moves no item.
     /// The drop moves each item after the range once, or none if the range is empty. The function
-    /// `bounds` checks a range that is not known to be within bounds.
+    /// `bounds(start, end, len)` of this crate checks a range that may be out of bounds.
     pub fn drain(&mut self, start: usize, end: usize) -> Drain<'_, T, A, G>
         requires start_le_end { start ≤ end }
         requires in_bounds { end ≤ length self.old.items }
@@ -74,7 +74,7 @@ impl<T: Drop, A: Allocator, G: Growth> ThinVec<T, A, G> {
         ensures runs { DrainsInOrder result }
         ensures runs_back { DrainsInReverse result }
 
-        // What the list is once the `Drain` is dropped.
+        // What the list is once the `Drain` is dropped, by the contract of its `drop`.
         ensures kept { drain_kept result ≡ remove_range self.old.items start end }
         ensures capacity { drain_capacity result ≡ self.old.capacity }
         ensures alloc { drain_alloc result ≡ self.old.alloc }

@@ -1,6 +1,6 @@
 //! The method `replace_range`, which replaces the items of a range by clones of other items. If it
 //! fails, the list has its old items.
-ghost use Rattle.std.specs.Prelude.{◌≡◌, ◌⊎◌, ◌+◌, ◌-◌, ◌*◌, ◌==◌, ◌<◌, ◌≤◌, ◌++◌, All, IfErr, IsOk, OnErr, OnOk, drop, if◌then◌else◌, length, take};
+ghost use Rattle.std.specs.Prelude.{◌≡◌, ◌+◌, ◌-◌, ◌*◌, ◌==◌, ◌<◌, ◌≤◌, ◌++◌, All, IfErr, IsOk, OnErr, OnOk, drop, if◌then◌else◌, length, take};
 ghost use Rattle.std.specs.List.{replace_range};
 ghost use Rattle.thin_block.specs.Cost.{moving};
 ghost use Rattle.thin_vec.specs.List.Clones.{ClonesEqual};

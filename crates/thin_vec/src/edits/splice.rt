@@ -41,7 +41,7 @@ impl<T, A: Allocator, G: Growth> ThinVec<T, A, G> {
     /// yields the old items from either end, and its `finish` places the new ones.
     ///
     /// The call allocates nothing, moves no item, and draws no item of `iter`. It cannot fail. The
-    /// function `bounds` checks a range that is not known to be within bounds.
+    /// function `bounds(start, end, len)` of this crate checks a range that may be out of bounds.
     pub fn splice<I: Iterator<Item = T>>(
         &mut self,
         start: usize,
@@ -133,8 +133,8 @@ impl<
 
     /// Drops the items of the range that were not yielded, and puts the items of the iterator in
     /// the place of the range. The iterator is asked until its first `None`, and not again after
-    /// that. Afterwards, the list has the items before the range, the items of the iterator, and the
-    /// items after the range.
+    /// that, so it must not be endless. Afterwards, the list has the items before the range, the
+    /// items of the iterator, and the items after the range.
     ///
     /// If items follow the range, `finish` takes three steps:
     ///
@@ -151,9 +151,9 @@ impl<
     /// # Cost
     ///
     /// Each item of the iterator moves into the list once, and each item after the range at most
-    /// twice. The vector of step 3 is not counted. The steps 2 and 3 grow the list at most once
-    /// each, and a growth copies the items of the list, as always. If the iterator can yield no more
-    /// items than the range has places, `finish` allocates nothing.
+    /// twice. The steps 2 and 3 grow the list at most once each, and a growth copies the items of
+    /// the list, as always. What the vector of step 3 costs is not counted. If the iterator can
+    /// yield no more items than the range has places, `finish` allocates nothing.
     ///
     /// # Errors
     ///
@@ -168,14 +168,15 @@ impl<
     /// |---|---|---|---|---|
     /// | no items after the range: the hint | empty | `None` | all items | lacks only the range |
     /// | no items after the range: a push | empty | the next item | the others | is full |
-    /// | step 2: to reserve | empty | `None` | the others | has a full range |
-    /// | step 3: to collect an item | the collected items | the next item | the others | as above |
-    /// | step 3: to reserve | all other items | `None` | nothing: it has ended | as above |
+    /// | step 2: to reserve | empty | `None` | the others | the range is full |
+    /// | step 3: to collect an item | the collected items | the next item | the others | \* |
+    /// | step 3: to reserve | all that were not placed | `None` | it has ended | \* |
     ///
-    /// In the last case, `next` must not be called on `rest`. The `cause` is `CapacityOverflow` if
-    /// there is no ruled capacity for what the list needed, and `OutOfMemory` if an allocator
-    /// refused a block. Rust's `Vec` does all this when a `Splice` is dropped; here it is a call,
-    /// since it can fail.
+    /// (\* The range and the room of step 2 are full.) In the last case, `next` must not be called
+    /// on `rest`. In the last but one, the `cause` is `OutOfMemory`. Otherwise it is
+    /// `CapacityOverflow` if there is no ruled capacity for what the list needed, and `OutOfMemory`
+    /// if its allocator refused the block. Rust's `Vec` does all this when a `Splice` is dropped;
+    /// here it is a call, since it can fail.
     pub fn finish(self, alloc: A) -> Result<(), SpliceRefused<T, I, A>>
         requires can_next { I.can_next (splice_iter self) }
         requires finite { IsFinite (I.remaining (splice_iter self)) }
@@ -191,14 +192,15 @@ impl<
         ensures succeeds { HasPlacesFor self.entry (size (I.remaining (splice_iter self.entry)))
             → IsOk result }
 
-        // On failure, no item is lost. If items follow the range, its places are filled.
+        // On failure, no item is lost. With a tail (items after the range), the range is full;
+        // without one, the list lacks only the range, or is full.
         ensures placed { IfErr result (λ error. (xs : List T)
             × (self.exit.0.now.items ≡ splice_replaced self.entry xs)
             × Stopped I.next_gives I.can_next I.remaining (splice_iter self.entry) xs error) }
         ensures before_tail { OnErr result (0 < length (splice_block self.entry).tail
             → length (splice_left self.entry).items + splice_range self.entry
             ≤ length self.exit.0.now.items) }
-        ensures at_end { IfErr result (λ error. (splice_block self.entry).tail ≡ []
+        ensures without_tail { IfErr result (λ error. (splice_block self.entry).tail ≡ []
             → FailsAsExtend (splice_left self.entry) self.exit.0.now (splice_iter self.entry)
             error) }
         ensures cause { IfErr result (λ error. IsStopCause G.rule T.row self.exit.0.now

@@ -63,19 +63,18 @@ pub returns-in-Err-clause-cause : goal.returns-in-Err-clause-cause
 returns-in-Err-clause-cause g c =
     let hint = c.size_hint.result.0 in let same = c.in-Err.ensures.err in
     let overflow = c.in-Err.ensures.reserves.overflow in
+    let named = ap (λ v. capacity_for g.G.Growth.rule (param 0 g.row.T) v hint) same in
     record {
       by_push = λ none. absurd (false≢true none);
-      must = λ _ must.
-          err-same (overflow.1
-          (sym (ap (λ v. capacity_for g.G.Growth.rule (param 0 g.row.T) v hint) same)
-          ∙ must hint c.size_hint.ensures.lower
-          (λ room. false≢true
-          (c.in-Err.ensures.succeeds (subst (λ v. HasRoomFor v hint) same room)))));
-      may = λ _ over. (
+      by_hint = λ _. (
         hint,
         c.size_hint.ensures.lower,
-        ap (λ v. capacity_for g.G.Growth.rule (param 0 g.row.T) v hint) same
-            ∙ overflow.0 (ap Err over),
+        (λ room. false≢true
+            (c.in-Err.ensures.succeeds (subst (λ v. HasRoomFor v hint) same room))),
+        (
+          λ over. named ∙ overflow.0 (ap Err over),
+          λ none. err-same (overflow.1 (sym named ∙ none)),
+        ),
       );
     }
 

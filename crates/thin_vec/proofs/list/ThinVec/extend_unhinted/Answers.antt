@@ -192,8 +192,7 @@ returns-in-Err-clause-cause g c =
         λ over. same ∙ overflow.0 (ap Err over),
         λ none. err-same (overflow.1 (sym same ∙ none)),
       );
-      must = λ none. absurd (none-some none refl);
-      may = λ none. absurd (none-some none refl);
+      by_hint = λ none. absurd (none-some none refl);
     }
 
 pub returns-in-Err-clause-keeps : goal.returns-in-Err-clause-keeps
