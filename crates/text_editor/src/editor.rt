@@ -152,12 +152,16 @@ fn step(
     requires some { 0 < length from.old.items }
     requires from_fit { AllFit from.old.items text.old.items }
     requires to_fit { AllFit to.old.items text.old.items }
+
+    // On success.
     ensures texts { OnOk result (texts_of from.old.items text.old.items
         ≡ text.new.items ∷ texts_of from.new.items text.new.items) }
     ensures back { OnOk result (texts_of to.new.items text.new.items
         ≡ text.old.items ∷ texts_of to.old.items text.old.items) }
     ensures from_fit { OnOk result (AllFit from.new.items text.new.items) }
     ensures to_fit { OnOk result (AllFit to.new.items text.new.items) }
+
+    // On failure.
     ensures err { OnErr result (text.new ≡ text.old) }
     ensures from_err { OnErr result (from.new.items ≡ from.old.items) }
     ensures to_err { OnErr result (to.new.items ≡ to.old.items) }

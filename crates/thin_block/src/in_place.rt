@@ -67,11 +67,15 @@ impl<T, A: Allocator> Block<T, A> {
         requires len { len ≡ self.old.len }
         requires whole { len / M * M ≡ len }
         requires room { K ≤ len / M }
+
+        // On success.
         ensures ok { OnOk result (seen self.new ≡ record (seen self.old) {
           slots = laid 0 (run 0 self.old.len self.old.slots) (empty cap);
           alloc = Some alloc.now;
           cost = growing self.old.len self.old.cost;
         }) }
+
+        // On failure.
         ensures err { OnErr result (self.new ≡ self.old) }
         ensures cause { IfErr result (λ cause. cause ≡ ThinVecError.OutOfMemory) }
     {
@@ -124,11 +128,15 @@ impl<T, A: Allocator> Block<T, A> {
         requires held { held ≡ K + div_ceil old M }
         requires wanted { wanted ≡ K + div_ceil cap M }
         requires room { K ≤ count }
+
+        // On success.
         ensures ok { IfOk result (λ block. seen block ≡ record (seen self) {
           slots = laid 0 (run 0 self.len self.slots) (empty cap);
           alloc = Some alloc.now;
           cost = growing self.len self.cost;
         }) }
+
+        // On failure.
         ensures err { IfErr result (λ block. block ≡ self) }
     {
         let Block {

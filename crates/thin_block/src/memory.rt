@@ -106,11 +106,15 @@ impl<T, A: Allocator> Block<T, A> {
         requires smaller { cap < length self.old.slots }
         requires packed { IsPacked self.old.slots self.old.len }
         requires room { self.old.len ≤ cap }
+
+        // On success.
         ensures ok { OnOk result (seen self.new ≡ record (seen self.old) {
           slots = take cap self.old.slots;
           alloc = Some alloc.now;
           cost = growing self.old.len self.old.cost;
         }) }
+
+        // On failure.
         ensures err { OnErr result (self.new ≡ self.old) }
         ensures cause { IfErr result (λ cause. cause ≡ ThinVecError.OutOfMemory) }
     {
@@ -129,11 +133,15 @@ impl<T, A: Allocator> Block<T, A> {
         requires fits { Fits T.row cap }
         requires packed { IsPacked self.old.slots self.old.len }
         requires room { self.old.len ≤ cap }
+
+        // On success.
         ensures ok { OnOk result (seen self.new ≡ record (seen self.old) {
           slots = laid 0 (run 0 self.old.len self.old.slots) (empty cap);
           alloc = Some alloc.now;
           cost = growing self.old.len self.old.cost;
         }) }
+
+        // On failure.
         ensures err { OnErr result (self.new ≡ self.old) }
         ensures cause { IfErr result (λ cause. cause ≡ ThinVecError.OutOfMemory) }
     {
@@ -156,11 +164,15 @@ impl<T, A: Allocator> Block<T, A> {
         requires fits { Fits T.row cap }
         requires packed { IsPacked self.old.slots self.old.len }
         requires room { self.old.len ≤ cap }
+
+        // On success.
         ensures ok { OnOk result (seen self.new ≡ record (seen self.old) {
           slots = laid 0 (run 0 self.old.len self.old.slots) (empty cap);
           alloc = Some alloc.now;
           cost = growing self.old.len self.old.cost;
         }) }
+
+        // On failure.
         ensures err { OnErr result (self.new ≡ self.old) }
         ensures cause { IfErr result (λ cause. cause ≡ ThinVecError.OutOfMemory) }
     {

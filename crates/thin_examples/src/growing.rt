@@ -169,14 +169,19 @@ pub fn take_all<T, A: Allocator, G: Growth>(
     list: &mut ThinVec<T, A, G>,
     other: &mut ThinVec<T, A, G>,
 ) -> Result<(), ThinVecError>
+    // On success.
+    ensures items { OnOk result (list.new.items ≡ list.old.items ++ other.old.items) }
+    ensures other_items { OnOk result (other.new.items ≡ []) }
+
+    // When it must succeed.
     ensures succeeds { HasRoomFor list.old (length other.old.items) → IsOk result }
     ensures succeeds_empty { other.old.items ≡ [] → IsOk result }
+
+    // On failure, neither list changes.
     ensures overflow { capacity_for G.rule T.row list.old (length other.old.items) ≡ None
         → IsErrOf result ThinVecError.CapacityOverflow }
     ensures cause { IfErr result
         (IsCause (capacity_for G.rule T.row list.old (length other.old.items))) }
-    ensures items { OnOk result (list.new.items ≡ list.old.items ++ other.old.items) }
-    ensures other_items { OnOk result (other.new.items ≡ []) }
     ensures err { OnErr result (list.new ≡ list.old) }
     ensures other_err { OnErr result (other.new ≡ other.old) }
 {

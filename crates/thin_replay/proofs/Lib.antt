@@ -1,3 +1,4 @@
--- The lemmas: of a run of one command, and of words that are read one after the other.
+-- The lemma modules: RunLemmas is about a run of one command, WordsLemmas about words that are
+-- parsed one after the other.
 mod RunLemmas
 mod WordsLemmas

@@ -8,32 +8,33 @@ use Rattle.thin_runner.specs.Setting.{Setting}
 use Rattle.thin_runner.specs.declared.command.Command.{Command}
 use Rattle.thin_runner.specs.declared.command.Reply.{Reply}
 
--- A list whose last item is x is x alone if its length is 1.
+-- if a list ends with x and has length 1, it consists of x
 alone : {X : Type 0} (front : List X) (x : X) → length (front ++ x ∷ []) ≡ 1
     → front ++ x ∷ [] ≡ x ∷ []
 alone [] x one = refl
 alone (y ∷ front) x one = absurd (omega (arith, length-append front (x ∷ [])))
 
--- The commands of a run are one command, and there were no replies before the run.
+-- a run that satisfies `Headline`, whose commands are one command, and before which there were no
+-- replies
 module _ {T A G J : Type 0} (here : Setting T A J) (old new : Thin T A)
     (command : Command T A G) (commands : List (Command T A G)) (before after : List (Reply T A G))
     (one : commands ≡ command ∷ []) (none : before ≡ [])
     (headline : Headline here old commands before after new) where
-  -- A run of one command has one reply.
+  -- a run of one command has one reply
   has_one : (replies : List (Reply T A G)) → Runs here old (command ∷ []) replies new
       → length replies ≡ 1
   has_one [] run = absurd run
   has_one (reply ∷ []) run = refl
   has_one (reply ∷ more ∷ replies) run = absurd run.1.1
 
-  -- The run has one reply.
+  -- after the run there is one reply
   pub one_reply : length after ≡ 1
   one_reply =
       ap length (headline.appended ∙ ap (λ (l : List (Reply T A G)). l ++ headline.replies) none)
       ∙ has_one headline.replies
       (subst (λ cs. Runs here old cs headline.replies new) one headline.allowed)
 
-  -- If the reply was popped from the replies, the main theorem holds for this reply alone.
+  -- if the last of the replies was popped, `Headline` holds for one command and this reply
   pub headline-one : (left : List (Reply T A G)) (popped : Option (Reply T A G))
       (reply : Reply T A G) → after ≡ left ++ option_to_list popped → popped ≡ Some reply
       → Headline here old (command ∷ []) [] (reply ∷ []) new

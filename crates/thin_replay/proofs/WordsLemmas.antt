@@ -1,10 +1,12 @@
--- Words that are read one after the other.
+-- Lemmas about words that are parsed one after the other: R relates a word to the value that it was
+-- parsed as.
 use Rattle.std.proofs.Common.{ℕ, ◌+◌, ◌<◌, ◌≤◌, List, [], ◌∷◌, ◌++◌, get_or, length, subst, take}
 use Rattle.std.proofs.lemmas.List.{take_all, take_more}
 use Rattle.std.specs.List.{AllZip}
 
 module _ {X Y : Type 0} (R : X → Y → Type 0) where
-  -- If R holds of the items of two lists, it holds of them with one more item each.
+  -- if R relates two lists item by item, and relates x to y, it relates the lists with x and y
+  -- appended
   zip-push : (xs : List X) (ys : List Y) (x : X) (y : Y) → AllZip R xs ys → R x y
       → AllZip R (xs ++ x ∷ []) (ys ++ y ∷ [])
   zip-push [] [] x y all one = (one, tt)
@@ -12,13 +14,15 @@ module _ {X Y : Type 0} (R : X → Y → Type 0) where
   zip-push [] (b ∷ ys) x y all one = absurd all
   zip-push (a ∷ xs) [] x y all one = absurd all
 
-  -- If R holds of the first i items, and of the next one, it holds of the first i + 1 items.
+  -- if R relates the first i items of xs to ys, and the item at i to y, it relates the first i + 1
+  -- items to ys followed by y
   pub zip-next : (xs : List X) (i : ℕ) (d : X) (ys : List Y) (y : Y) → i < length xs
       → AllZip R (take i xs) ys → R (get_or xs i d) y → AllZip R (take (i + 1) xs) (ys ++ y ∷ [])
   zip-next xs i d ys y within all one =
       rw (take_more xs i d within) (zip-push (take i xs) ys (get_or xs i d) y all one)
 
-  -- If R holds of at least as many items as there are, it holds of all.
+  -- if R relates the first n items of xs to ys, and n is at least the length of xs, it relates xs
+  -- to ys
   pub zip-all : (xs : List X) (n : ℕ) (ys : List Y) → length xs ≤ n → AllZip R (take n xs) ys
       → AllZip R xs ys
   zip-all xs n ys past all = subst (λ l. AllZip R l ys) (take_all n xs past) all

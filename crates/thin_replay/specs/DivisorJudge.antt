@@ -1,18 +1,18 @@
--- What a `DivisorJudge` decides, and what it writes.
+-- What a `DivisorJudge` decides, and what it writes to the items.
 use Rattle.std.specs.Prelude.{◌≡◌, ℕ, List, Bool, ◌+◌, ◌/◌, ◌%◌, ◌^◌, ◌==◌}
 use Rattle.thin_runner.specs.Judge.{Judging}
 use Rattle.thin_replay.specs.Words.{Spells}
 use Rattle.thin_replay.specs.declared.divisor_judge.DivisorJudge.{DivisorJudge}
 
--- the number for the item x
+-- the number by which the judge decides about the item x
 abbrev pub number_for : DivisorJudge → ℕ → ℕ
 number_for judge x = (x + judge.offset) % 2 ^ 64
 
--- the judge after an answer
+-- the judge after one more decision
 abbrev pub counted : DivisorJudge → DivisorJudge
 counted judge = record judge { offset = (judge.offset + judge.stride) % 2 ^ 64 }
 
--- the item x after the judge wrote it
+-- the item x after the judge wrote to it
 abbrev pub written : DivisorJudge → ℕ → ℕ
 written judge x = (x + judge.added) % 2 ^ 64
 
@@ -20,6 +20,7 @@ written judge x = (x + judge.added) % 2 ^ 64
 abbrev pub chooses : DivisorJudge → ℕ → Bool
 chooses judge x = number_for judge x % judge.divisor == 0
 
+-- the decisions of a `DivisorJudge`, one function for each method of the trait `Judge`
 abbrev pub judging : Judging ℕ DivisorJudge
 judging = record {
   look = λ judge x. (chooses judge x, counted judge);
@@ -34,7 +35,7 @@ judging = record {
   take = λ judge x. (chooses judge x, written judge x, counted judge);
 }
 
--- three texts are the numbers of a judge that was not asked yet
+-- the three texts are the decimal numbers of the judge, which has made no decision yet
 pub record SpellsJudge (divisor stride added : List ℕ) (judge : DivisorJudge) : Type 0 where
   pub divisor_is : Spells divisor judge.divisor
   pub stride_is : Spells stride judge.stride

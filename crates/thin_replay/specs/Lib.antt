@@ -1,4 +1,5 @@
--- The words of the contracts: what the words of a line say, and what a judge decides.
+-- The definitions that the contracts use: the meaning of words and lines, and the decisions of a
+-- judge.
 pub mod DivisorJudge
 pub mod Lines
 pub mod Words

@@ -1,4 +1,4 @@
--- What a line says: the command, and the judge.
+-- The forms of the lines: which words describe which command and judge.
 use Rattle.std.specs.Prelude.{◌≡◌, ℕ, ◌≤◌, List, codes, drop, length, ⊤}
 use Rattle.std.specs.Iterator.{DrainsIf}
 use Rattle.std.specs.Str.Iter.{split_whitespace_rest, split_whitespace_steps}
@@ -12,11 +12,12 @@ use Rattle.thin_replay.specs.declared.divisor_judge.DivisorJudge.{DivisorJudge}
 use Rattle.thin_replay.specs.declared.line.Line.{Line}
 use Rattle.thin_replay.specs.declared.line.Line.TheVariants.{Carry, Help, New}
 
--- the line has at least this many words, and the first is the name
+-- there are at least `count` words, and the first word is `name`
 abbrev pub BeginsForm : Words → List ℕ → ℕ → Type 0
 BeginsForm words name count = (count ≤ length words) × (word words 0 ≡ name)
 
--- the words are the form of the command, with its numbers and its items
+-- the words have the form of the command, and contain its numbers, items and steps. This does not
+-- restrict the words that describe a judge.
 abbrev pub Says : {A G : Type 0} → Words → Command ℕ A G → Type 0
 Says words (Push item) = HasForm words (codes "push") 2 × Spells (word words 1) item
 Says words Pop = HasForm words (codes "pop") 1
@@ -58,7 +59,7 @@ Says words (Splice start end steps items lower) = BeginsForm words (codes "splic
     × (SpellsSteps (word words 3) steps.items
     × (Spells (word words 4) lower × SpellAll (drop 5 words) items.items))))
 
--- if the command asks a judge, the last three words are its numbers
+-- if the command asks a judge, the last three words are the numbers of this judge
 abbrev pub SaysJudge : {A G : Type 0} → Words → Command ℕ A G → DivisorJudge → Type 0
 SaysJudge words Retain judge = SpellsJudge (word words 1) (word words 2) (word words 3) judge
 SaysJudge words RetainMut judge = SpellsJudge (word words 1) (word words 2) (word words 3) judge
@@ -77,11 +78,11 @@ AsksNone DedupByKey = ⊥
 AsksNone (ExtractIf start end calls) = ⊥
 AsksNone command = Unit {0}
 
--- the words are the form of the command, which asks no judge
+-- the words have the form of the command, which asks no judge
 abbrev pub SaysUnjudged : {A G : Type 0} → Words → Command ℕ A G → Type 0
 SaysUnjudged words command = Says words command × AsksNone command
 
--- the command has this name, and takes a judge and nothing else
+-- the command has the name `name`, and takes no words except those for its judge
 abbrev pub IsFilter : {A G : Type 0} → List ℕ → Command ℕ A G → Type 0
 IsFilter name Retain = name ≡ codes "retain"
 IsFilter name RetainMut = name ≡ codes "retain_mut"
@@ -89,17 +90,17 @@ IsFilter name DedupBy = name ≡ codes "dedup_by"
 IsFilter name DedupByKey = name ≡ codes "dedup_by_key"
 IsFilter name command = ⊥
 
--- the words are the form of the command of this call, with its judge
+-- the words have the form of the command of this call, and describe its judge, if it asks one
 abbrev pub IsCall : Words → Call → Type 0
 IsCall words call = Says words call.command × SaysJudge words call.command call.judge
 
--- the words are the form of this line
+-- the words have the form of this line
 abbrev pub IsLine : Words → Line → Type 0
 IsLine words Help = HasForm words (codes "help") 1
 IsLine words New = HasForm words (codes "new") 1
 IsLine words (Carry call) = IsCall words call
 
--- the text has these words, with white space between them
+-- `words` are the words of the text, which are separated by white space
 abbrev pub HasWords : List ℕ → Words → Type 0
 HasWords text words = (it : SplitWhitespace)
     × (split_whitespace_rest it ≡ text) × DrainsIf split_whitespace_steps ⊤ it words

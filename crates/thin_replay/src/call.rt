@@ -1,4 +1,4 @@
-//! The lines that describe commands.
+//! The parser of the lines that describe commands.
 
 ghost use Rattle.std.specs.Prelude.{IfOk, IfSome};
 ghost use Rattle.thin_replay.specs.Lines.{SaysUnjudged};
@@ -14,7 +14,8 @@ use crate::line_error::LineError;
 use std::alloc::Global;
 use thin_runner::command::Command;
 
-/// A command, and the judge that it asks.
+/// A command, and the judge that it asks. If the command asks no judge, the value of `judge` does
+/// not matter.
 #[derive(Drop)]
 pub struct Call {
     pub command: Command<u64>,
@@ -25,7 +26,8 @@ impl Call {
     ghost use Rattle.std.specs.Prelude.{◌≡◌, IfOk, IfSome};
     ghost use Rattle.thin_replay.specs.Lines.{IsCall};
 
-    /// Parses the words of a line. Returns `None` if they have the form of no command.
+    /// Parses the words of a line. Returns `None` if they do not have the form of a command, and an
+    /// error if they have such a form but a word in it is wrong.
     pub fn parse(alloc: Global, words: &[&str]) -> Result<Option<Call>, LineError>
         ensures says { IfOk result (λ found. IfSome found (IsCall words.now)) }
     {
@@ -36,7 +38,7 @@ impl Call {
         Ok(command.map(Call::unjudged))
     }
 
-    // Returns a command that asks no judge, with some judge.
+    // Returns a call of a command that asks no judge.
     fn unjudged(command: Command<u64>) -> Call
         ensures command { result.command ≡ command }
     {
@@ -45,7 +47,7 @@ impl Call {
     }
 }
 
-// Parses the words of a command that asks no judge.
+// Parses the words of a line, if they have the form of a command that asks no judge.
 fn parse_command(alloc: Global, words: &[&str]) -> Result<Option<Command<u64>>, LineError>
     ensures says { IfOk result (λ found. IfSome found (SaysUnjudged words.now)) }
 {

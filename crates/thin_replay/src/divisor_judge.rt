@@ -1,14 +1,14 @@
-//! A judge that four numbers describe.
+//! A judge that decides by the remainder or the quotient of a division.
 ghost use Rattle.std.specs.Prelude.{◌≡◌, ◌<◌};
 
 use crate::line_error::LineError;
 use crate::words::number_of;
 use thin_runner::judge::Judge;
 
-/// Answers by the remainder of a number, and counts its answers.
+/// Decides by dividing a number by `divisor`, and counts its decisions.
 ///
-/// The number is the item, plus `stride` times the number of the answers before. An item that the
-/// judge may write is greater by `added` afterwards. All sums are modulo 2^64.
+/// The number is the item plus `stride` times the number of earlier decisions. If the judge may
+/// write to an item, it then adds `added` to the item. All sums are modulo 2^64.
 #[derive(Clone, Copy)]
 pub struct DivisorJudge {
     divisor: u64,
@@ -32,7 +32,8 @@ impl DivisorJudge {
         }
     }
 
-    /// Returns the judge that the three words say.
+    /// Parses the three words that describe a judge. Fails if one of them is not a number, or if
+    /// the divisor is 0.
     pub fn parse(divisor: &str, stride: &str, added: &str) -> Result<DivisorJudge, LineError>
         ensures says { IfOk result (SpellsJudge divisor.now stride.now added.now) }
     {
@@ -50,7 +51,7 @@ impl DivisorJudge {
         })
     }
 
-    // Returns the number for this item, and counts the answer.
+    // Returns the number for `item`, and counts the decision.
     fn number(&mut self, item: u64) -> u64
         ensures value { result ≡ number_for self.old item }
         ensures counted { self.new ≡ counted self.old }
@@ -60,7 +61,7 @@ impl DivisorJudge {
         number
     }
 
-    // Returns whether the divisor divides the number for this item.
+    // Returns whether the divisor divides the number for `item`, and counts the decision.
     fn divides(&mut self, item: u64) -> bool
         ensures value { result ≡ chooses self.old item }
         ensures counted { self.new ≡ counted self.old }
@@ -68,7 +69,7 @@ impl DivisorJudge {
         self.number(item) % self.divisor == 0
     }
 
-    // Writes an item.
+    // Adds `added` to the item.
     fn write(&self, item: &mut u64)
         ensures written { item.new ≡ written self.now item.old }
     {

@@ -1,6 +1,6 @@
-//! What `help` prints.
+//! The text that `help` prints.
 
-/// The forms, each with the name of the command as its first word.
+/// The forms of the lines. The first word of each form is the name of the command.
 pub static FORMS: [&str; 27] = [
     "help",
     "new",
@@ -31,7 +31,7 @@ pub static FORMS: [&str; 27] = [
     "splice START END STEPS HINT ITEM ..",
 ];
 
-/// What the words of the forms mean.
+/// Notes on the words in capitals.
 pub static NOTES: [&str; 5] = [
     "All numbers are from 0 to 18446744073709551615.",
     "STEPS is `-`, or a word of the letters `f` (a call of `next`) and `b` (of `next_back`).",
@@ -40,7 +40,7 @@ pub static NOTES: [&str; 5] = [
     "DIVISOR, STRIDE and ADDED describe a closure, as crates/thin_replay/README.md says.",
 ];
 
-/// Returns the form whose first word is `name`.
+/// Returns the form whose first word is `name`, if there is one.
 pub fn form_of(name: &str) -> Option<&'static str> {
     for form in &FORMS {
         if form.split_whitespace().next() == Some(name) {

@@ -1,4 +1,4 @@
-//! The lines of the input.
+//! The lines of the input, and their parser.
 
 use crate::call::Call;
 use crate::forms::form_of;
@@ -8,11 +8,11 @@ use std::alloc::Global;
 /// A line of the input.
 #[derive(Drop)]
 pub enum Line {
-    /// `help`
+    /// The line `help`: prints the forms of the lines.
     Help,
-    /// `new`
+    /// The line `new`: drops the list, and makes a new one.
     New,
-    /// Any other line.
+    /// Any other line: carries out a command.
     Carry(Call),
 }
 
@@ -21,7 +21,8 @@ impl Line {
     ghost use Rattle.thin_replay.specs.Lines.{HasWords, IsLine};
     ghost use Rattle.thin_replay.specs.Words.{Words};
 
-    /// Parses a line.
+    /// Parses a line. Fails if its words do not have the form of a line, or if there is no memory
+    /// for what the line describes.
     pub fn parse(alloc: Global, text: &str) -> Result<Line, LineError>
         ensures says { IfOk result (λ line. (words : Words) × HasWords text.now words × IsLine words line) }
     {
@@ -29,7 +30,8 @@ impl Line {
         Line::from_words(alloc, words.as_slice())
     }
 
-    // Parses the words of a line.
+    // Parses the words of a line. Fails if they do not have the form of a line, or if there is no
+    // memory for what the line describes.
     fn from_words(alloc: Global, words: &[&str]) -> Result<Line, LineError>
         ensures says { IfOk result (IsLine words.now) }
     {
@@ -44,7 +46,7 @@ impl Line {
     }
 }
 
-// Returns what is wrong with a line that has none of the forms.
+// Returns the error for a line whose words have none of the forms.
 fn wrong_form(words: &[&str]) -> LineError {
     let Some(name) = words.first() else {
         return LineError::UnknownCommand;

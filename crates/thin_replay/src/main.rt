@@ -44,7 +44,7 @@ fn replay(rt: &(impl Input + Print), alloc: Global) -> Result<(), ReplayError> {
     Ok(())
 }
 
-// Parses all lines. Blank lines are skipped.
+// Reads and parses all lines. Blank lines are skipped.
 fn read_lines(alloc: Global, reader: impl BufRead + Drop) -> Result<Vec<Line>, ReplayError> {
     let mut lines = Vec::new(alloc);
     for (index, text) in reader.lines(alloc).enumerate() {
@@ -63,7 +63,7 @@ fn read_lines(alloc: Global, reader: impl BufRead + Drop) -> Result<Vec<Line>, R
     Ok(lines)
 }
 
-// Does what the line asks for, and prints what came of it.
+// Carries out the line, and prints the result.
 fn answer_line(
     out: &mut impl Write,
     alloc: Global,

@@ -1,11 +1,11 @@
-//! Why the program ends with the status 1.
+//! The errors with which the program ends with the exit status 1.
 
 use crate::line_error::LineError;
 use std::io;
 use thin_vec::ThinVecError;
 use thiserror::Error;
 
-/// Why the commands were not carried out, or not all of them.
+/// Why no command was carried out, or why not all commands were.
 #[derive(Debug, Drop, Error)]
 pub enum ReplayError {
     /// A line is not a command. No command was carried out.

@@ -1,10 +1,10 @@
-//! What the program says about lines that are not commands.
+//! Tests of the messages about lines that are not commands.
 
 use crate::line::Line;
 use crate::read_lines;
 use std::test::Fail;
 
-// Lines that are not commands, and what is wrong with each.
+// Lines that are not commands, each with the message about it.
 static WRONG: [(&str, &str); 9] = [
     (
         "pus 3",

@@ -1,4 +1,4 @@
-//! What the words of a line say.
+//! The parsers of the single words of a line.
 ghost use Rattle.std.specs.Prelude.{IfOk};
 ghost use Rattle.std.specs.Str.Parse.{ParsesUnsigned};
 ghost use Rattle.thin_replay.specs.Words.{IsStep, SpellAll, SpellsSteps};
@@ -8,14 +8,14 @@ use std::alloc::{AllocError, Global};
 use thin_runner::command::Step;
 use thin_vec::ThinVec;
 
-/// Returns the item that the word says.
+/// Parses a word as an item.
 pub fn item_of(word: &str) -> Result<u64, LineError>
     ensures parses { ParsesUnsigned 64 10 word.now result }
 {
     number_of(word, "ITEM")
 }
 
-/// Returns the number that the word says. `name` is the name of the word in an error.
+/// Parses a word as a number. The error says that `name` is not a number.
 pub fn number_of(word: &str, name: &'static str) -> Result<u64, LineError>
     ensures parses { ParsesUnsigned 64 10 word.now result }
 {
@@ -25,7 +25,7 @@ pub fn number_of(word: &str, name: &'static str) -> Result<u64, LineError>
     }
 }
 
-/// Returns the index or the count that the word says. `name` is the name of the word in an error.
+/// Parses a word as an index or a count. The error says that `name` is not a number.
 pub fn count_of(word: &str, name: &'static str) -> Result<usize, LineError>
     ensures parses { ParsesUnsigned 64 10 word.now result }
 {
@@ -35,7 +35,7 @@ pub fn count_of(word: &str, name: &'static str) -> Result<usize, LineError>
     }
 }
 
-/// Returns the items that the words say.
+/// Parses each word as an item.
 pub fn items_of(alloc: Global, words: &[&str]) -> Result<Vec<u64>, LineError>
     ensures items { IfOk result (λ items. SpellAll words.now items.items) }
 {
@@ -46,7 +46,7 @@ pub fn items_of(alloc: Global, words: &[&str]) -> Result<Vec<u64>, LineError>
     Ok(items)
 }
 
-/// Returns a list of the items that the words say. It grew by a push for each item.
+/// Parses each word as an item, and pushes the items to a list.
 pub fn list_of(alloc: Global, words: &[&str]) -> Result<ThinVec<u64>, LineError>
     ensures items { IfOk result (λ list. SpellAll words.now list.items) }
 {
@@ -57,7 +57,8 @@ pub fn list_of(alloc: Global, words: &[&str]) -> Result<ThinVec<u64>, LineError>
     Ok(list)
 }
 
-/// Returns the steps that the word says: none for `-`, and otherwise one for each letter.
+/// Parses the word for the steps: no steps if the word is `-`, and otherwise one step for each
+/// letter.
 pub fn steps_of(alloc: Global, word: &str) -> Result<Vec<Step>, LineError>
     ensures steps { IfOk result (λ steps. SpellsSteps word.now steps.items) }
 {
@@ -72,7 +73,7 @@ pub fn steps_of(alloc: Global, word: &str) -> Result<Vec<Step>, LineError>
     Ok(steps)
 }
 
-// Returns the step that the letter says.
+// Parses a letter as a step.
 fn step_of(letter: u8) -> Result<Step, LineError>
     ensures step { IfOk result (IsStep letter) }
 {

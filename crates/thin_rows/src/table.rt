@@ -35,8 +35,7 @@ impl<V, A: Allocator> Model for Rows<V, A> {
 }
 
 impl<V, A: Allocator + Copy> Rows<V, A> {
-    ghost use Rattle.thin_vec.specs.Growth.{exact_capacity};
-    ghost use Rattle.thin_vec.specs.List.Capacity.{TellsOverflow};
+    ghost use Rattle.thin_vec.specs.List.Capacity.{TellsOverflowOf};
     ghost use Rattle.thin_rows.specs.RowType.{row_type};
 
     /// Makes a table of `rows` rows without entries. It allocates one block, or none if `rows` is
@@ -49,8 +48,7 @@ impl<V, A: Allocator + Copy> Rows<V, A> {
     pub fn with_rows(alloc: A, rows: usize) -> Result<Rows<V, A>, ThinVecError>
         ensures table { IfOk result (λ table. table ≡ replicate rows columns.empty) }
         ensures succeeds { rows ≡ 0 → IsOk result }
-        ensures overflow { TellsOverflow
-            (exact_capacity (row_type V.row A.row A.Allocator) 0 rows) result }
+        ensures overflow { TellsOverflowOf (row_type V.row A.row A.Allocator) rows result }
     {
         let mut empty_rows = match ThinVec::with_capacity(alloc, rows) {
             Ok(made) => made,

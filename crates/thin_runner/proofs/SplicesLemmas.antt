@@ -8,14 +8,15 @@ use Rattle.std.specs.Iterator.{Count, at_most}
 use Rattle.std.specs.Borrow.{RattleType}
 use Rattle.std.specs.declared.iter.Iterator.{can_next-default}
 use Rattle.std.specs.Option.{option_to_list}
+use Rattle.std.specs.Prelude.{IsSome, MatchOption}
 use Rattle.thin_vec.specs.Cheap.{IsCheap}
-use Rattle.thin_vec.specs.List.Extend.{IsExtendCost, IsExtended, IsLoose, MustOverflow, Overflows}
-use Rattle.thin_vec.specs.Edits.Splice.{IsSpliced, IsStopCause, Stopped, left_of}
+use Rattle.thin_vec.specs.List.Extend.{IsExtendCost, IsExtended, IsLoose}
+use Rattle.thin_vec.specs.Edits.Splice.{IsSpliced, Stopped, left_of}
+use Rattle.thin_vec.specs.declared.SpliceRefused.{SpliceRefused}
 use Rattle.thin_vec.specs.Growth.{Rule}
 use Rattle.thin_vec.specs.Open.{Open}
 use Rattle.thin_vec.specs.ThinVec.{HasRoomFor, IsWithin, Thin}
 use Rattle.thin_vec.specs.declared.ThinVecError.{ThinVecError}
-use Rattle.thin_vec.specs.declared.ThinVecError.TheVariants.{CapacityOverflow}
 use Rattle.thin_runner.specs.Hinted.{HintedSteps, hinted_claim, hinted_count, hinted_items}
 use Rattle.thin_runner.specs.commands.Splices.{HasPlacesFor, Replaces, StopsBetween, cut}
 use Rattle.thin_runner.specs.declared.hinted.Hinted.{Hinted}
@@ -25,28 +26,42 @@ use Rattle.thin_runner.proofs.HintedLemmas.{yields-claim, yields-items}
 some-none : {T : Type 0} {x : T} → Some x ≡ None → ⊥
 some-none e = cc
 
+-- let P hold if o is `None`, and let Q hold if o has a value: if o has a value, Q holds
+pub at-some-in-hand : {X : Type 0} (P Q : Type 0) (o : Option X) → MatchOption o P (λ _. Q)
+    → IsSome o → Q
+at-some-in-hand P Q (Some x) q some = q
+at-some-in-hand P Q None p some = absurd (false≢true some)
+
+-- let P hold if o is `None`, and let Q hold if o has a value: if o is `None`, P holds
+pub at-no-in-hand : {X : Type 0} (P Q : Type 0) (o : Option X) → MatchOption o P (λ _. Q)
+    → o ≡ None → P
+at-no-in-hand P Q (Some x) q none = absurd (some-none none)
+at-no-in-hand P Q None p none = p
+
 -- a list of length 0 is the empty list
 no-items : {T : Type 0} (xs : List T) → length xs ≡ 0 → xs ≡ []
 no-items [] none = refl
 no-items (x ∷ xs) none = absurd (omega (arith, none))
 
-module _ {T A : Type 0} (s rest : Hinted T A) (placed held : List T)
-    (in_hand : Option T) where
-  -- a failed `finish` took items from the `Hinted` s: first those in `placed`, then those in
-  -- `held`, then the one in `in_hand`; `rest` is what is left of s
+module _ {T A : Type 0} (s : Hinted T A) (placed : List T)
+    (error : SpliceRefused T (Hinted T A) A) where
+  -- `finish` failed with the error after it had placed the items `placed` of the `Hinted` s
   abbrev pub Broke : Type 0
   Broke = Stopped (HintedSteps {T = T} {A = A}) (can_next-default (Hinted T A) T) hinted_count s
-      placed held in_hand rest
+      placed error
 
   -- the items placed by a failed `finish`, those held, the one in hand and those of `rest` are
   -- together, in this order, all items of s
   pub stopped-items : Broke → hinted_items s ≡ placed
-      ++ (held ++ (option_to_list in_hand ++ hinted_items rest))
+      ++ (error.held.items ++ (option_to_list error.in_hand ++ hinted_items error.rest))
   stopped-items (inl gave) =
-      yields-items s rest ((placed ++ held) ++ option_to_list in_hand) gave.0
-      ∙ (append_assoc (placed ++ held) (option_to_list in_hand) (hinted_items rest)
-      ∙ append_assoc placed held (option_to_list in_hand ++ hinted_items rest))
+      let held = error.held.items in let one = option_to_list error.in_hand in
+      let rest = error.rest in
+      yields-items s rest ((placed ++ held) ++ one) gave.0.gave
+      ∙ (append_assoc (placed ++ held) one (hinted_items rest)
+      ∙ append_assoc placed held (one ++ hinted_items rest))
   stopped-items (inr ended) =
+      let held = error.held.items in let in_hand = error.in_hand in let rest = error.rest in
       let left : option_to_list in_hand ++ hinted_items rest ≡ [] =
       ap (λ (o : Option T). option_to_list o ++ hinted_items rest) ended.0 ∙ ended.2.2.0.1 in
       yields-items s ended.2.0 (placed ++ held) ended.2.1
@@ -54,13 +69,16 @@ module _ {T A : Type 0} (s rest : Hinted T A) (placed held : List T)
       ∙ append_assoc placed held (option_to_list in_hand ++ hinted_items rest))
 
   -- after a failed `finish`, `rest` claims the same lower bound as s
-  pub stopped-claim : Broke → hinted_claim rest ≡ hinted_claim s
-  stopped-claim (inl gave) = yields-claim s rest ((placed ++ held) ++ option_to_list in_hand) gave.0
+  pub stopped-claim : Broke → hinted_claim error.rest ≡ hinted_claim s
+  stopped-claim (inl gave) =
+      yields-claim s error.rest ((placed ++ error.held.items) ++ option_to_list error.in_hand)
+      gave.0.gave
   stopped-claim (inr ended) =
-      ended.2.2.1 ∙ yields-claim s ended.2.0 (placed ++ held) ended.2.1
+      ended.2.2.1 ∙ yields-claim s ended.2.0 (placed ++ error.held.items) ended.2.1
 
   -- if items are held and none is in hand, the iterator has ended, so no item is left in `rest`
-  pub stopped-ended : Broke → in_hand ≡ None → 0 < length held → hinted_items rest ≡ []
+  pub stopped-ended : Broke → error.in_hand ≡ None → 0 < length error.held.items
+      → hinted_items error.rest ≡ []
   stopped-ended (inl gave) none some = absurd (omega (arith, ap length (gave.1 none), some))
   stopped-ended (inr ended) none some = ended.2.2.0.1
 
@@ -101,15 +119,15 @@ module _ {T A : Type 0} (old : Thin T A) (a b : ℕ) where
 
     -- if the limit of the iterator is `most`, then what `IsExtended` states for the list without
     -- the range and this limit holds for `cut old a b` and `most`
-    pub named : (rule : Rule) (R : RattleType) (new : Thin T A) (most : ℕ) (left : Count)
+    pub ruled : (rule : Rule) (R : RattleType) (new : Thin T A) (most : ℕ) (left : Count)
         → left ≡ at_most most
         → IsExtended rule R (left_of block alloc) new.capacity (length new.items) left
         → IsExtended rule R (cut old a b) new.capacity (length new.items) (at_most most)
-    named rule R new most left count is_named =
+    ruled rule R new most left count is_ruled =
         let of = λ (v : Thin T A) (n : Count). IsExtended rule R v new.capacity (length new.items) n
         in
         subst (λ (n : Count). of (cut old a b) n) count
-        (subst (λ (v : Thin T A). of v left) left-is is_named)
+        (subst (λ (v : Thin T A). of v left) left-is is_ruled)
 
     -- if the limit of the iterator is `most`, and `cut old a b` has room for `most` items, then the
     -- list without the range has room for as many items as the iterator may yield
@@ -161,7 +179,7 @@ module _ {T A : Type 0} (rule : Rule) (R : RattleType) (old new : Thin T A) wher
   pub record IsFilled (placed : List T) (most : ℕ) : Type 0 where
     pub items : new.items ≡ old.items ++ placed
     pub capacity : IsLoose rule R old.capacity new.capacity
-    pub named : IsExtended rule R old new.capacity (length new.items) (at_most most)
+    pub ruled : IsExtended rule R old new.capacity (length new.items) (at_most most)
     pub within : IsWithin R new
     pub had_room : HasRoomFor old most → new.capacity ≡ old.capacity
     pub cost : IsExtendCost old new
@@ -188,31 +206,11 @@ module _ {T A : Type 0} (rule : Rule) (R : RattleType) (old new : Thin T A) wher
       record {
         items = f.items ∙ sym around;
         capacity = f.capacity;
-        named = subst (λ (v : Thin T A). IsExtended rule R v new.capacity (length new.items)
-            (at_most most)) (sym (cut-end old)) f.named;
+        ruled = subst (λ (v : Thin T A). IsExtended rule R v new.capacity (length new.items)
+            (at_most most)) (sym (cut-end old)) f.ruled;
         within = f.within;
         had_room = λ fits. f.had_room (room-end old most fits);
         cost = subst (λ (v : Thin T A). IsSpliced v new (2 * (end - end))) (sym (cut-end old)) same;
         cheap = f.cheap;
         alloc = f.alloc;
       }
-
-  -- the cause of a failed `extend` is as `IsStopCause` states it for a splice without items held
-  -- and without items after the range
-  pub stop-cause-end : (tail held : List T) (in_hand : Option T) (left : Count)
-      (cause : ThinVecError) → length tail ≡ 0 → held ≡ []
-      → (cause ≡ CapacityOverflow → Overflows rule R new in_hand left)
-      → (MustOverflow rule R new in_hand left → cause ≡ CapacityOverflow)
-      → IsStopCause rule R new tail held in_hand left cause
-  stop-cause-end tail held None left cause short none over back = record {
-    by_hint = λ _ _. (back, over);
-    by_held = λ some _. absurd (omega (arith, ap length none, some));
-    by_in_hand = λ some _. absurd (omega (arith, short, some));
-    by_push = λ _ some. absurd (false≢true some);
-  }
-  stop-cause-end tail held (Some x) left cause short none over back = record {
-    by_hint = λ _ wrong. absurd (some-none wrong);
-    by_held = λ some _. absurd (omega (arith, ap length none, some));
-    by_in_hand = λ some _. absurd (omega (arith, short, some));
-    by_push = λ _ some. (over, back);
-  }

@@ -1,5 +1,5 @@
--- The lemmas; those in ThinVecLemmas and RetainLemmas are for callers too, those in UndoLemmas and
--- FewLemmas for them alone.
+-- The lemma modules. ThinVecLemmas and RetainLemmas are for callers too, UndoLemmas and FewLemmas
+-- for callers alone.
 mod ListLemmas
 pub mod ThinVecLemmas
 pub mod UndoLemmas

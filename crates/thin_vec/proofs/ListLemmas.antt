@@ -1,4 +1,5 @@
--- What a block holds whose items all lie in front, after each step on it.
+-- What the block of a list contains after each step on it. The items of a list are in the first
+-- slots of its block.
 use Rattle.std.proofs.Common.{◌≡◌, ◌≢◌, ℕ, zero, suc, ◌+◌, ◌-◌, ◌<◌, ◌≤◌, List, [], ◌∷◌, ◌++◌, length, take, drop, Option, Some, None, refl, sym, ap, ◌∙◌, arith, get_or, length-append, append_assoc}
 use Rattle.std.proofs.lemmas.List.{length-replicate, length-map, take-append-drop, replicate-append-replicate, set_at, get_or_append_left, get_or-map, map_push, append-nil, length-take-le, drop_more, length_push, get_or-set_other}
 use Rattle.std.proofs.Math.Seq.{drop-length, take-append_seam}
@@ -10,36 +11,36 @@ use Rattle.thin_block.specs.declared.block.Block.{Block}
 use Rattle.thin_block.specs.Cost.{Cost}
 use Rattle.thin_vec.specs.ThinVec.{IsThin, Thin, thin_of}
 
--- as many empty slots as are asked for
+-- a row of k empty slots has the length k
 pub length-empty : (T : Type 0) (k : ℕ) → length (empty {T = T} k) ≡ k
 length-empty T k = length-replicate {A = Option T} k None
 
 module _ {T : Type 0} where
-  -- empty slots hold no item
+  -- empty slots hold no items
   pub items-empty : (k : ℕ) → items_in {T = T} (replicate k None) ≡ []
   items-empty zero = refl
   items-empty (suc k) = items-empty k
 
-  -- the items of filled slots
+  -- the items in the slots of xs followed by the slots s are xs followed by the items in s
   pub items-full : (xs : List T) (s : List (Option T)) → items_in (full xs ++ s) ≡ xs ++ items_in s
   items-full [] s = refl
   items-full (x ∷ xs) s = ap (λ (ys : List T). x ∷ ys) (items-full xs s)
 
-  -- the items of filled slots alone
+  -- the items in the slots of xs are xs
   pub items-full-alone : (xs : List T) → items_in (full xs) ≡ xs
   items-full-alone [] = refl
   items-full-alone (x ∷ xs) = ap (λ (ys : List T). x ∷ ys) (items-full-alone xs)
 
-  -- the items of a list in front
+  -- if the first of c slots hold xs and the others are empty, the items are xs
   pub items-front : (xs : List T) (c : ℕ) → items_in (front xs c) ≡ xs
   items-front xs c = items-full xs (replicate (c - length xs) None)
       ∙ (ap (λ (ys : List T). xs ++ ys) (items-empty (c - length xs)) ∙ append-nil xs)
 
-  -- a list has as many filled slots as items
+  -- the filled slots of xs are as many as the items of xs
   pub length-full : (xs : List T) → length (full xs) ≡ length xs
   length-full xs = length-map xs (λ (x : T). Some x)
 
-  -- a list in front of c slots has c slots
+  -- if xs is no longer than c, `front xs c` has c slots
   pub length-front : (xs : List T) (c : ℕ) → length xs ≤ c → length (front xs c) ≡ c
   length-front xs c h =
       let e : List (Option T) = replicate (c - length xs) None in
@@ -50,18 +51,20 @@ module _ {T : Type 0} where
         length-replicate {A = Option T} (c - length xs) None,
       )
 
-  -- rows of filled slots are equal only where their items are
+  -- if the filled slots of xs equal those of ys, then xs equals ys
   pub full-same : (xs ys : List T) → full xs ≡ full ys → xs ≡ ys
   full-same xs ys e = sym (items-full-alone xs) ∙ (ap items_in e ∙ items-full-alone ys)
 
-  -- a run of filled slots read at i
+  -- in a row that begins with the items xs, the slot i holds the item of xs at index i, if i is
+  -- less than the length of xs
   pub slot-full : (xs : List T) (s : List (Option T)) (i : ℕ) (d : T) → i < length xs
       → slot (full xs ++ s) i ≡ Some (get_or xs i d)
   slot-full xs s i d h =
       let n : i < length (full xs) = omega (arith, length-full xs) in
       get_or_append_left (full xs) s None i n ∙ get_or-map (λ (x : T). Some x) xs i d None h
 
-  -- the first empty slot is filled
+  -- if the first of c slots hold xs and the others are empty, writing v into the first empty slot
+  -- appends v to the items
   pub front-push : (xs : List T) (c : ℕ) (v : T) → length xs < c → set (front xs c) (length xs)
       (Some v) ≡ front (xs ++ v ∷ []) c
   front-push xs c v h =
@@ -75,7 +78,8 @@ module _ {T : Type 0} where
       (sym (map_push (λ (x : T). Some x) xs v))
       ∙ ap (λ (n : ℕ). full (xs ++ v ∷ []) ++ replicate n None) m)))
 
-  -- one slot of a filled run is emptied
+  -- in a row that begins with the items xs, emptying the slot i leaves the items before i, an empty
+  -- slot, the items after i, and the slots after xs, if i is less than the length of xs
   pub full-take : (xs : List T) (s : List (Option T)) (i : ℕ) (d : T) → i < length xs
       → set (full xs ++ s) i None ≡ full (take i xs) ++ (None ∷ (full (drop (suc i) xs) ++ s))
   full-take [] s i d h = absurd (omega arith)
@@ -83,7 +87,8 @@ module _ {T : Type 0} where
   full-take (x ∷ xs) s (suc i) d h = let l : i < length xs = omega arith in
       ap (λ (r : List (Option T)). Some x ∷ r) (full-take xs s i d l)
 
-  -- the last filled slot is emptied
+  -- if the first of c slots hold the items of xs and v, emptying the slot of v leaves xs in the
+  -- first slots
   pub front-pop : (xs : List T) (c : ℕ) (v : T) → length (xs ++ v ∷ []) ≤ c
       → set (front (xs ++ v ∷ []) c) (length xs) None ≡ front xs c
   front-pop xs c v h =
@@ -97,7 +102,8 @@ module _ {T : Type 0} where
       ∙ (set_at (full xs) (Some v) (replicate k None) None (length xs) (length-full xs)
       ∙ ap (λ (q : ℕ). full xs ++ replicate q None) m))
 
-  -- more empty slots after those there are
+  -- if xs is no longer than c, and c ≤ d, appending d - c empty slots to `front xs c` makes
+  -- `front xs d`
   pub front-grow : (xs : List T) (c d : ℕ) → length xs ≤ c → c ≤ d
       → front xs c ++ replicate (d - c) None ≡ front xs d
   front-grow xs c d h l =
@@ -107,27 +113,29 @@ module _ {T : Type 0} where
       (replicate-append-replicate (c - length xs) (d - c) None
       ∙ ap (λ (q : ℕ). replicate q None) m)
 
-  -- what a filled slot holds
+  -- in a row that begins with the items xs, reading the slot i is reading xs at index i, if i is
+  -- less than the length of xs
   pub slot-get : (xs : List T) (s : List (Option T)) (i : ℕ) → i < length xs
       → slot (full xs ++ s) i ≡ slice_get xs i
   slot-get [] s i h = absurd (omega arith)
   slot-get (x ∷ xs) s zero h = refl
   slot-get (x ∷ xs) s (suc i) h = slot-get xs s i (omega arith)
 
-  -- an item within the bounds is there
+  -- there is an item at each index that is less than the length
   pub get-some : (xs : List T) (i : ℕ) → i < length xs → IsSome (slice_get xs i)
   get-some [] i h = absurd (omega arith)
   get-some (x ∷ xs) zero h = refl
   get-some (x ∷ xs) (suc i) h = get-some xs i (omega arith)
 
 module _ {T A : Type 0} where
-  -- the block of a list of the items xs and the capacity c
+  -- the block b is that of a list with the items xs, the capacity c and the allocator `a`
   pub record Settled (b : Block T A) (a : A) (xs : List T) (c : ℕ) : Type 0 where
     pub thin : IsThin b a
     pub items : items_in b.slots ≡ xs
     pub cap : length b.slots ≡ c
 
-  -- a block with a list in front
+  -- if b has the slots `front xs c`, the stored length of xs, and memory that came from `a`, it is
+  -- the block of a list with the items xs and the capacity c
   pub settled : (b : Block T A) (a : A) (xs : List T) (c : ℕ) → b.slots ≡ front xs c
       → b.len ≡ length xs → length xs ≤ c → IsFrom b.alloc a → Settled b a xs c
   settled b a xs c e n h f =
@@ -146,7 +154,8 @@ module _ {T A : Type 0} where
         cap = l;
       }
 
-  -- what is seen of a list whose block is b' afterwards, by what was seen before
+  -- if b' has c slots, the items xs and the cost k, contracts see it as the old list v with the
+  -- items xs, the capacity c and the cost k
   pub thin_of-becomes : {w v : Thin T A} → w ≡ v → (b' : Block T A) {xs : List T} {c : ℕ} {k : Cost}
       → length b'.slots ≡ c → items_in b'.slots ≡ xs → b'.cost ≡ k
       → thin_of b' w.alloc ≡ record v { items = xs; capacity = c; cost = k }
@@ -157,42 +166,45 @@ module _ {T A : Type 0} where
     cost = cost i;
   }
 
-  -- what is seen of a list whose block is b' afterwards, of as many slots as before
+  -- if b' has as many slots as before, the items xs and the cost k, contracts see it as the old
+  -- list v with the items xs and the cost k
   pub thin_of-keeps : {w v : Thin T A} → w ≡ v → (b' : Block T A) {xs : List T} {k : Cost}
       → length b'.slots ≡ w.capacity → items_in b'.slots ≡ xs → b'.cost ≡ k
       → thin_of b' w.alloc ≡ record v { items = xs; cost = k }
   thin_of-keeps is b' slots items cost =
       thin_of-becomes is b' (slots ∙ ap (λ (u : Thin T A). u.capacity) is) items cost
 
-  -- a thin block has room for its items
+  -- the block of a list has at least as many slots as items
   pub thin-room : (b : Block T A) (a : A) → IsThin b a → length (items_in b.slots) ≤ length b.slots
   thin-room b a t =
       let xs : List T = items_in b.slots in
       let e : List (Option T) = replicate (length b.slots - length xs) None in
       omega (arith, ap length t.packed.row, length-append (full xs) e, length-full xs)
 
-  -- the slots of n items
+  -- if a list has n items, exactly the first n slots of its block are filled
   pub thin-packed : (b : Block T A) (a : A) (n : ℕ) → IsThin b a
       → length (items_in b.slots) ≡ n → IsPacked b.slots n
   thin-packed b a n t long = record { row = t.packed.row; len = sym long }
 
-  -- a block from the same allocator
+  -- if b' has the allocator of b, and the memory of b came from `a`, the memory of b' came from `a`
   pub from-same : (b b' : Block T A) (a : A) → IsFrom b.alloc a → b'.alloc ≡ b.alloc
       → IsFrom b'.alloc a
   from-same b b' a f e = λ x h. f x (sym e ∙ h)
 
-  -- b' is b once its slots are s, its stored length is n and it has cost k
+  -- b' is b with the slots s, the stored length n and the cost k
   abbrev pub IsWritten : Block T A → Block T A → List (Option T) → ℕ → Cost → Type 0
   IsWritten b b' s n k = seen b' ≡ record (seen b) { slots = s; len = n; cost = k }
 
-  -- a block that was written with a list in front
+  -- if the slots of a list's block became `front xs c`, and the stored length became the length of
+  -- xs, the block is that of a list with the items xs and the capacity c
   pub settle-front : {b : Block T A} {a : A} → IsThin b a → (b' : Block T A) (xs : List T) (c : ℕ)
       {s : List (Option T)} {n : ℕ} {k : Cost} → IsWritten b b' s n k → s ≡ front xs c
       → n ≡ length xs → length xs ≤ c → Settled b' a xs c
   settle-front {b} {a} t b' xs c w e n h = settled b' a xs c (ap (λ v. v.slots) w ∙ e)
       (ap (λ v. v.len) w ∙ n) h (from-same b b' a t.from (ap (λ v. v.alloc) w))
 
-  -- an item went in at the end
+  -- if v was written into the slot after the last item, and the stored length was incremented, the
+  -- block is that of the list with v appended
   pub settle-push : {b : Block T A} {a : A} → IsThin b a → (b' : Block T A) (v : T) (i : ℕ)
       {k : Cost} → i ≡ b.len → i < length b.slots
       → IsWritten b b' (set b.slots i (Some v)) (i + 1) k
@@ -207,7 +219,7 @@ module _ {T A : Type 0} where
       ∙ front-push xs c v l))
       (omega (arith, t.packed.len, length_push xs v)) (omega (arith, length_push xs v))
 
-  -- the item in the last filled slot
+  -- if the last filled slot, at j, holds v, the items are the first j items and then v
   pub last-item : (b : Block T A) (a : A) (v : T) (j : ℕ) → IsThin b a → j + 1 ≡ b.len
       → slot b.slots j ≡ Some v → items_in b.slots ≡ take j (items_in b.slots) ++ v ∷ []
   last-item b a v j t o w =
@@ -225,7 +237,8 @@ module _ {T A : Type 0} where
       (drop_more xs j v l
       ∙ (ap (λ (r : List T). get_or xs j v ∷ r) z ∙ ap (λ (r : T). r ∷ []) (sym y)))
 
-  -- the last item came out
+  -- if the slot of the last item was emptied, and the stored length was decremented, the block is
+  -- that of the list without its last item
   pub settle-pop : {b : Block T A} {a : A} → IsThin b a → (b' : Block T A) (v : T) (j : ℕ)
       {k : Cost} → j + 1 ≡ b.len → slot b.slots j ≡ Some v
       → IsWritten b b' (set b.slots j None) j k
@@ -244,19 +257,21 @@ module _ {T A : Type 0} where
       ∙ (ap (λ (q : ℕ). set (front (ys ++ v ∷ []) c) q None) (sym m) ∙ front-pop ys c v k))
       (sym m) (omega (arith, length_push ys v))
 
-  -- what an item's slot holds
+  -- in the block of a list, reading the slot i is reading the items at index i, if i is less than
+  -- their number
   thin-slot : (b : Block T A) (a : A) (i : ℕ) → IsThin b a → i < length (items_in b.slots)
       → slot b.slots i ≡ slice_get (items_in b.slots) i
   thin-slot b a i t h =
       ap (λ (r : List (Option T)). slot r i) t.packed.row ∙ slot-get (items_in b.slots)
       (replicate (length b.slots - length (items_in b.slots)) None) i h
 
-  -- the slot of an item is filled
+  -- in the block of a list, the slot of each item is filled
   pub thin-filled : (b : Block T A) (a : A) (i : ℕ) → IsThin b a → i < length (items_in b.slots)
       → IsSome (slot b.slots i)
   thin-filled b a i t h = rw (thin-slot b a i t h) (get-some (items_in b.slots) i h)
 
-  -- the slots of the items, as a run
+  -- if the slots up to the stored length of a list's block hold exactly xs, then xs are the items
+  -- of the list
   pub thin-run : (b : Block T A) (a : A) (xs : List T) (n : ℕ) → IsThin b a → n ≡ b.len
       → full xs ≡ slice_range b.slots 0 n → xs ≡ items_in b.slots
   thin-run b a xs n t len run =
@@ -266,13 +281,13 @@ module _ {T A : Type 0} where
       ∙ (ap (λ (k : ℕ). take k (front ys (length b.slots))) all ∙ take-append_seam (full ys)
       (empty (length b.slots - length ys)))))
 
-  -- the item at i is what its slot holds
+  -- if the slot i of a list's block holds v, the item at index i is v
   pub thin-get : (b : Block T A) (a : A) (i : ℕ) (v : T) → IsThin b a
       → i < length (items_in b.slots) → slot b.slots i ≡ Some v
       → slice_get (items_in b.slots) i ≡ Some v
   thin-get b a i v t h e = sym (thin-slot b a i t h) ∙ e
 
-  -- an item stays where another slot is emptied
+  -- if the slot i of a list's block was emptied, the slot of each later item is still filled
   pub kept-filled : (b : Block T A) (a : A) (i j : ℕ) (s : List (Option T)) → IsThin b a → i < j
       → j < length (items_in b.slots) → s ≡ set b.slots i None → IsSome (slot s j)
   kept-filled b a i j s t n h e = let ne : j ≢ i = omega arith in

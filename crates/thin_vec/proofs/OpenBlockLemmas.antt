@@ -1,4 +1,5 @@
--- What a block that is open shows, after each step on it.
+-- What a contract sees of an open block after each step on it. Throughout, h is an open block as it
+-- is stored: its memory, and the indices where its runs begin and end.
 use Rattle.std.proofs.Common.{◌≡◌, ℕ, suc, ◌+◌, ◌-◌, ◌<◌, ◌≤◌, List, [], ◌∷◌, ◌++◌, Option, Some, None, length, take, drop, refl, sym, ap, ◌∙◌, subst, arith, length-append, append_assoc}
 use Rattle.std.proofs.lemmas.List.{drop_at, get_or-append_right, get_or-replicate, get_or_append_left, get_or_at, length-drop, length-take, length-take-le, length_push, map_push, replicate-append-replicate, set_at, take_at}
 use Rattle.std.proofs.lemmas.List.Edits.{split_between}
@@ -16,12 +17,12 @@ use Rattle.thin_vec.specs.declared.open_block.OpenBlock.TheInside.{Inside}
 use Rattle.thin_vec.proofs.list.InsertRemoveLemmas.{full-append}
 use Rattle.thin_vec.proofs.ListLemmas.{get-some, items-front, items-full-alone, length-empty, length-full, slot-get, thin-room}
 
--- a list that is not empty, by its first item
+-- a non-empty list consists of its first item and a rest
 pub first-of : {X : Type 0} (xs : List X) → 0 < length xs → (x : X) × (ys : List X) × (xs ≡ x ∷ ys)
 first-of [] h = absurd (omega arith)
 first-of (x ∷ ys) h = (x, ys, refl)
 
--- a list that is not empty, by its last item and those before
+-- a non-empty list consists of some items and its last item
 pub last-of : {X : Type 0} (xs : List X) → 0 < length xs → (ys : List X)
     × (x : X) × (xs ≡ ys ++ x ∷ [])
 last-of [] h = absurd (omega arith)
@@ -30,7 +31,7 @@ last-of (x ∷ z ∷ zs) h = let p = last-of (z ∷ zs) (omega arith) in
     (x ∷ p.0, p.1, ap (λ q. x ∷ q) p.2)
 
 module _ {T : Type 0} where
-  -- a slot of a filled run, and of an empty one
+  -- in the row `pre ++ (full xs ++ post)`, each slot of `full xs` holds an item
   pub slot-in-full : (pre : List (Option T)) (xs : List T) (post : List (Option T)) (j : ℕ)
       → length pre ≤ j → j < length pre + length xs → IsSome (slot (pre ++ (full xs ++ post)) j)
   slot-in-full pre xs post j low high =
@@ -38,6 +39,7 @@ module _ {T : Type 0} where
       ∙ slot-get xs post (j - length pre) (omega arith))
       (get-some xs (j - length pre) (omega arith))
 
+  -- in the row `pre ++ (empty k ++ post)`, each slot of `empty k` is empty
   slot-in-empty : (pre : List (Option T)) (k : ℕ) (post : List (Option T)) (j : ℕ) → length pre ≤ j
       → j < length pre + k → slot (pre ++ (empty k ++ post)) j ≡ None
   slot-in-empty pre k post j low high =
@@ -46,51 +48,56 @@ module _ {T : Type 0} where
       ∙ (get_or_append_left (empty k) post None (j - length pre) (omega (arith, length-empty T k))
       ∙ get_or-replicate k (j - length pre) None None n)
 
-  -- one more empty slot after a run of them
+  -- g empty slots followed by one more are g + 1 empty slots
   pub empty-more : (g : ℕ) (z : List (Option T)) → empty g ++ (None ∷ z) ≡ empty (g + 1) ++ z
   empty-more g z = sym (append_assoc (empty g) (None ∷ []) z) ∙ ap (λ (e : List (Option T)). e ++ z)
       (replicate-append-replicate g 1 None)
 
 module _ {T A : Type 0} where
-  -- how an open block is seen
+  -- h is an open block, and contracts see it as v
   pub record Found (h : Inside T A) (v : Open T A) : Type 0 where
     pub lies : IsOpen h
     pub view : open_of h ≡ v
 
-  -- the row up to each run
+  -- the slots before the middle run
   abbrev pub to_rest : Open T A → List (Option T)
   to_rest v = full v.front ++ empty v.gap
 
+  -- the slots up to the end of the middle run
   abbrev to_after : Open T A → List (Option T)
   to_after v = to_rest v ++ full v.rest
 
+  -- the slots before the tail
   abbrev to_tail : Open T A → List (Option T)
   to_tail v = to_after v ++ empty v.gap_after
 
-  -- the row from the end of the tail on
+  -- the slots after the tail
   abbrev pub past_tail : Open T A → List (Option T)
   past_tail v = empty (v.capacity - reach v)
 
-  -- the row from the gap before the tail on
+  -- the slots from the start of the tail on
   abbrev pub past_after : Open T A → List (Option T)
   past_after v = full v.tail ++ past_tail v
 
-  -- the row from the end of the middle run on
+  -- the slots after the middle run
   abbrev pub past_rest : Open T A → List (Option T)
   past_rest v = empty v.gap_after ++ past_after v
 
   module _ (h : Inside T A) (v : Open T A) (s : Shows h v) where
+    -- the slots of h are those before the middle run, the middle run, and those after it
     pub by_rest : h.block.slots ≡ to_rest v ++ (full v.rest ++ past_rest v)
     by_rest = s.row ∙ sym
         (append_assoc (full v.front) (empty v.gap) (full v.rest ++ past_rest v))
 
+    -- the slots of h are those up to the end of the middle run, and those after it
     by_after : h.block.slots ≡ to_after v ++ past_rest v
     by_after = by_rest ∙ sym (append_assoc (to_rest v) (full v.rest) (past_rest v))
 
+    -- the slots of h are those before the tail, and those from its start on
     by_tail : h.block.slots ≡ to_tail v ++ past_after v
     by_tail = by_after ∙ sym (append_assoc (to_after v) (empty v.gap_after) (past_after v))
 
-    -- how long the row up to each run is
+    -- the number of slots before the middle run is `rest_start`
     pub at_rest : length (to_rest v) ≡ h.rest_start
     at_rest = omega (
       arith,
@@ -101,6 +108,7 @@ module _ {T A : Type 0} where
       s.gap,
     )
 
+    -- the number of slots up to the end of the middle run is `rest_end`
     at_after : length (to_after v) ≡ h.rest_end
     at_after = omega (
       arith,
@@ -110,6 +118,7 @@ module _ {T A : Type 0} where
       s.rest,
     )
 
+    -- the number of slots before the tail is `tail_start`
     at_tail : length (to_tail v) ≡ h.tail_start
     at_tail = omega (
       arith,
@@ -119,10 +128,11 @@ module _ {T A : Type 0} where
       s.gap_after,
     )
 
+    -- the number of slots up to the last item is `len`
     pub reached : reach v ≡ h.len
     reached = omega (arith, s.front, s.gap, s.rest, s.gap_after, s.tail)
 
-    -- how many slots there are
+    -- the number of slots of h is the capacity of v
     shown-cap : length h.block.slots ≡ v.capacity
     shown-cap =
         omega (
@@ -138,6 +148,7 @@ module _ {T A : Type 0} where
           s.room,
         )
 
+    -- the items in the slots up to `front_end` are the front of v
     shown-front : items_in (take h.front_end h.block.slots) ≡ v.front
     shown-front =
         ap items_in (ap (take h.front_end) s.row
@@ -145,6 +156,7 @@ module _ {T A : Type 0} where
         (length-full v.front ∙ s.front))
         ∙ items-full-alone v.front
 
+    -- the items in the slots `rest_start..rest_end` are the middle run of v
     shown-rest : items_in (slice_range h.block.slots h.rest_start h.rest_end) ≡ v.rest
     shown-rest =
         let count : length (full v.rest) ≡ h.rest_end - h.rest_start =
@@ -156,6 +168,7 @@ module _ {T A : Type 0} where
         ∙ take_at (full v.rest) (past_rest v) (h.rest_end - h.rest_start) count))
         ∙ items-full-alone v.rest
 
+    -- the items in the slots from `tail_start` on are the tail of v
     shown-tail : items_in (drop h.tail_start h.block.slots) ≡ v.tail
     shown-tail =
         let some : length v.tail + (v.capacity - reach v) - length v.tail ≡ v.capacity - reach v =
@@ -165,7 +178,8 @@ module _ {T A : Type 0} where
         ∙ ap (λ (k : ℕ). full v.tail ++ empty k) (sym some)))
         ∙ items-front v.tail (length v.tail + (v.capacity - reach v))
 
-    -- a block that shows v is seen as v
+    -- if h has the slots and the indices of v (`Shows`), and also its allocator and its cost,
+    -- contracts see h as v
     pub found : h.block.alloc ≡ v.alloc → h.block.cost ≡ v.cost → Found h v
     found alloc cost =
         let gap : h.rest_start - h.front_end ≡ v.gap = omega (arith, s.gap) in
@@ -184,19 +198,21 @@ module _ {T A : Type 0} where
         } in
         record { lies = subst (Shows h) (sym view) s; view = view }
 
-    -- which slots are filled, and which are empty
+    -- each slot of the middle run is filled
     pub rest-filled : (j : ℕ) → h.rest_start ≤ j → j < h.rest_end → IsSome (slot h.block.slots j)
     rest-filled j low high =
         rw (ap (λ (r : List (Option T)). slot r j) by_rest)
         (slot-in-full (to_rest v) v.rest (past_rest v) j (omega (arith, at_rest))
         (omega (arith, at_rest, s.rest)))
 
+    -- each slot of the tail is filled
     pub tail-filled : (j : ℕ) → h.tail_start ≤ j → j < h.len → IsSome (slot h.block.slots j)
     tail-filled j low high =
         rw (ap (λ (r : List (Option T)). slot r j) by_tail)
         (slot-in-full (to_tail v) v.tail (past_tail v) j (omega (arith, at_tail))
         (omega (arith, at_tail, s.tail)))
 
+    -- each slot between the front and the middle run is empty
     pub before-empty : (j : ℕ) → h.front_end ≤ j → j < h.rest_start → slot h.block.slots j ≡ None
     before-empty j low high =
         ap (λ (r : List (Option T)). slot r j) s.row
@@ -204,20 +220,22 @@ module _ {T A : Type 0} where
         (omega (arith, length-full v.front, s.front))
         (omega (arith, length-full v.front, s.front, s.gap))
 
-  -- the slots of the middle run, as a run
+  -- if xs fill exactly the slots `rest_start..rest_end`, xs are the middle run
   pub rest-run : (h : Inside T A) (xs : List T) → full xs
       ≡ slice_range h.block.slots h.rest_start h.rest_end
       → xs ≡ (open_of h).rest
   rest-run h xs e = sym (items-full-alone xs) ∙ ap items_in e
 
-  -- ---- the steps
+  -- ---- the steps. Each has three parts: the block after the step, what a contract sees of this
+  -- block, and a lemma that proves this.
 
   module _ (h : Inside T A) (o : IsOpen h) (b : Block T A)
       (some : 0 < length (open_of h).rest) where
+    -- what a contract sees of the block before the step
     abbrev v : Open T A
     v = open_of h
 
-    -- the first item of the middle run leaves
+    -- the block after the first item of the middle run was removed
     abbrev pub first-left : Inside T A
     first-left = record {
       block = b;
@@ -228,6 +246,8 @@ module _ {T A : Type 0} where
       len = h.len;
     }
 
+    -- what a contract sees of `first-left`: ys are the items left in the middle run, and the gap
+    -- before them has one more slot
     abbrev pub first-seen : List T → Open T A
     first-seen ys = record {
       front = v.front;
@@ -240,6 +260,8 @@ module _ {T A : Type 0} where
       cost = v.cost;
     }
 
+    -- if the first slot of the middle run held x and was emptied, the middle run was x followed by
+    -- some ys, and contracts see `first-left` as `first-seen ys`
     pub first-step : (x : T) → slot h.block.slots h.rest_start ≡ Some x
         → seen b ≡ record (seen h.block) { slots = set h.block.slots h.rest_start None }
         → (ys : List T) × (v.rest ≡ x ∷ ys) × Found first-left (first-seen ys)
@@ -281,7 +303,7 @@ module _ {T A : Type 0} where
               (ap (λ (z : Seen T A). z.cost) now),
         )
 
-    -- the last item of the middle run leaves
+    -- the block after the last item of the middle run was removed
     abbrev pub last-left : Inside T A
     last-left = record {
       block = b;
@@ -292,6 +314,8 @@ module _ {T A : Type 0} where
       len = h.len;
     }
 
+    -- what a contract sees of `last-left`: ys are the items left in the middle run, and the gap
+    -- after them has one more slot
     abbrev pub last-seen : List T → Open T A
     last-seen ys = record {
       front = v.front;
@@ -304,6 +328,8 @@ module _ {T A : Type 0} where
       cost = v.cost;
     }
 
+    -- if the last slot of the middle run held x and was emptied, the middle run was some ys
+    -- followed by x, and contracts see `last-left` as `last-seen ys`
     pub last-step : (x : T) → slot h.block.slots (h.rest_end - 1) ≡ Some x
         → seen b ≡ record (seen h.block) { slots = set h.block.slots (h.rest_end - 1) None }
         → (ys : List T) × (v.rest ≡ ys ++ x ∷ []) × Found last-left (last-seen ys)
@@ -361,8 +387,9 @@ module _ {T A : Type 0} where
               (ap (λ (z : Seen T A). z.cost) now),
         )
 
-  -- the empty slots, as one run after the front
+  -- in an open block whose middle run is empty, the two gaps are one gap between front and tail
   module _ (h : Inside T A) (o : IsOpen h) where
+    -- the block h with both gaps taken as one gap after the front
     abbrev pub joined : Inside T A
     joined = record {
       block = h.block;
@@ -373,6 +400,8 @@ module _ {T A : Type 0} where
       len = h.len;
     }
 
+    -- what a contract sees of `joined`: the first gap is as long as both gaps together, and there
+    -- is no second gap
     abbrev pub joined-seen : Open T A
     joined-seen = let w : Open T A = open_of h in
         record {
@@ -386,6 +415,7 @@ module _ {T A : Type 0} where
           cost = w.cost;
         }
 
+    -- if the middle run is empty, contracts see `joined` as `joined-seen`
     pub join-step : (open_of h).rest ≡ [] → Found joined joined-seen
     join-step none =
         let w : Open T A = open_of h in
@@ -412,10 +442,12 @@ module _ {T A : Type 0} where
         } in
         found joined joined-seen shows refl refl
 
-    -- the middle run and the tail as one run, where they lie side by side
+    -- the items of the middle run and of the tail, in order
     abbrev all-after : List T
     all-after = (open_of h).rest ++ (open_of h).tail
 
+    -- if there is no gap before the tail, the slots are the front, the gap, one run of the middle
+    -- run and the tail, and the empty slots after the tail
     side-by-side : (open_of h).gap_after ≡ 0 → h.block.slots ≡ full (open_of h).front
         ++ (empty (open_of h).gap ++ (full all-after ++ past_tail (open_of h)))
     side-by-side none =
@@ -426,10 +458,13 @@ module _ {T A : Type 0} where
         (sym (append_assoc (full w.rest) (full w.tail) (past_tail w))
         ∙ ap (λ (r : List (Option T)). r ++ past_tail w) (sym (full-append w.rest w.tail))))
 
+    -- if there is no gap before the tail, the middle run and the tail have `len - rest_start` items
     count-after : (open_of h).gap_after ≡ 0 → length all-after ≡ h.len - h.rest_start
     count-after none =
         omega (arith, length-append (open_of h).rest (open_of h).tail, o.rest, o.gap_after, o.tail)
 
+    -- if there is no gap before the tail, each slot from the middle run to the end of the tail is
+    -- filled
     pub after-filled : (open_of h).gap_after ≡ 0 → (j : ℕ) → h.rest_start ≤ j → j < h.len
         → IsSome (slot h.block.slots j)
     after-filled none j low high =
@@ -442,10 +477,12 @@ module _ {T A : Type 0} where
         (slot-in-full pre all-after (past_tail w) j (omega (arith, start))
         (omega (arith, start, count-after none)))
 
+    -- the number of all items is that of the front plus that of the middle run and the tail
     count-all : length (items_of (open_of h)) ≡ h.front_end + length all-after
     count-all = omega (arith, length-append (open_of h).front all-after, o.front)
 
-    -- the middle run and the tail go to the front as one run
+    -- if there is no gap before the tail, moving the middle run and the tail to the slots directly
+    -- after the front packs all items into the first slots
     pub close-row : (open_of h).gap_after ≡ 0
         → moved h.rest_start h.front_end (h.len - h.rest_start) h.block.slots ≡ front
         (items_of (open_of h)) (length h.block.slots)
@@ -475,7 +512,7 @@ module _ {T A : Type 0} where
         (replicate-append-replicate w.gap (w.capacity - reach w) None
         ∙ ap (λ (k : ℕ). empty k) left))))
 
-    -- the middle run and the tail are in front already where no empty slot lies before them
+    -- if there is no gap at all, all items are already in the first slots
     pub closed-row : (open_of h).gap_after ≡ 0 → h.front_end ≡ h.rest_start
         → h.block.slots ≡ front (items_of (open_of h)) (length h.block.slots)
     closed-row none here =
@@ -499,9 +536,10 @@ module _ {T A : Type 0} where
         ∙ (ap (λ (r : List (Option T)). r ++ past_tail w) (sym (full-append w.front all-after))
         ∙ ap (λ (k : ℕ). full (items_of w) ++ empty k) left)))
 
-  -- a list's block, before anything is done to it
+  -- the block of a list, opened for the items from `start` up to `end`
   module _ (b : Block T A) (a : A) (start end : ℕ) (t : IsThin b a) (order : start ≤ end)
       (within : end ≤ length (items_in b.slots)) where
+    -- the open block: the items from `start` up to `end` are its middle run, and it has no gap
     abbrev pub opened : ℕ → Inside T A
     opened len =
         record {
@@ -513,6 +551,7 @@ module _ {T A : Type 0} where
           len = len;
         }
 
+    -- what a contract sees of `opened len`
     abbrev pub opened-seen : Open T A
     opened-seen = let xs : List T = items_in b.slots in
         record {
@@ -526,6 +565,7 @@ module _ {T A : Type 0} where
           cost = b.cost;
         }
 
+    -- if `len` is the number of items, contracts see `opened len` as `opened-seen`
     pub open-step : (len : ℕ) → len ≡ length (items_in b.slots) → Found (opened len) opened-seen
     open-step len all =
         let xs : List T = items_in b.slots in
@@ -559,9 +599,10 @@ module _ {T A : Type 0} where
               omega (arith, all, thin-room b a t);
         }) refl refl
 
-  -- items go into the empty slots after the front
+  -- the items xs are laid into the gap after the front; `end` is the slot after the last of them
   module _ (h : Inside T A) (o : IsOpen h) (b : Block T A) (xs : List T) (end : ℕ)
       (ends : end ≡ h.front_end + length xs) (fits : end ≤ h.rest_start) where
+    -- the block after the items xs were laid
     abbrev pub filled : Inside T A
     filled =
         record {
@@ -573,6 +614,8 @@ module _ {T A : Type 0} where
           len = h.len;
         }
 
+    -- what a contract sees of `filled`: the front ends with xs, and the gap is shorter by their
+    -- number
     abbrev pub filled-seen : Open T A
     filled-seen =
         let v : Open T A = open_of h in
@@ -587,6 +630,8 @@ module _ {T A : Type 0} where
           cost = b.cost;
         }
 
+    -- if xs were laid into the slots from the end of the front on, contracts see `filled` as
+    -- `filled-seen`
     pub fill-step : b.slots ≡ laid h.front_end (full xs) h.block.slots → Found filled filled-seen
     fill-step now =
         let v : Open T A = open_of h in
@@ -629,9 +674,10 @@ module _ {T A : Type 0} where
         } in
         found filled filled-seen shows refl refl
 
-  -- the tail goes up, and leaves empty slots before it
+  -- the tail is moved up by `count` slots; there are at least `count` empty slots after it
   module _ (h : Inside T A) (o : IsOpen h) (b : Block T A) (count : ℕ)
       (room : h.len + count ≤ (open_of h).capacity) where
+    -- the block after the tail was moved
     abbrev pub widened : Inside T A
     widened = record {
       block = b;
@@ -642,6 +688,7 @@ module _ {T A : Type 0} where
       len = h.len + count;
     }
 
+    -- what a contract sees of `widened`: the gap before the tail has `count` more slots
     abbrev pub widened-seen : Open T A
     widened-seen =
         let v : Open T A = open_of h in
@@ -656,7 +703,7 @@ module _ {T A : Type 0} where
           cost = b.cost;
         }
 
-    -- the slots after the tail
+    -- the slots after the tail begin with `count` empty slots, followed by the other empty slots
     spare : h.block.slots ≡ to_tail (open_of h)
         ++ (full (open_of h).tail
         ++ (empty count ++ empty ((open_of h).capacity - reach (open_of h) - count)))
@@ -668,7 +715,7 @@ module _ {T A : Type 0} where
         (ap (λ (k : ℕ). empty k) (sym all)
         ∙ sym (replicate-append-replicate count (v.capacity - reach v - count) None))
 
-    -- the slots to which it moves are empty
+    -- the `count` slots after the tail are empty
     pub spare-empty : (j : ℕ) → h.len ≤ j → j < h.len + count → slot h.block.slots j ≡ None
     spare-empty j low high =
         let v : Open T A = open_of h in
@@ -686,6 +733,7 @@ module _ {T A : Type 0} where
         (spare ∙ sym (append_assoc (to_tail v) (full v.tail) (empty count ++ end)))
         ∙ slot-in-empty before count end j (omega (arith, long)) (omega (arith, long))
 
+    -- if the slots of the tail were moved up by `count`, contracts see `widened` as `widened-seen`
     pub widen-step : b.slots ≡ moved h.tail_start (h.tail_start + count)
         (h.len - h.tail_start) h.block.slots
         → Found widened widened-seen

@@ -1,5 +1,5 @@
--- What filling slots from an iterator says of the number of its items, and what a block holds while
--- the items of a `Vec` come in, from the last to the first.
+-- The number of items after slots were filled from an iterator, and the slots of a block while the
+-- items of a `Vec` are moved into them, from the last item to the first.
 use Rattle.std.proofs.Common.{◌≡◌, ℕ, ◌+◌, ◌<◌, ◌≤◌, List, [], ◌∷◌, ◌++◌, length, take, drop, Option, Some, None, sym, ap, ◌∙◌, append_assoc, arith, get_or, length-append}
 use Rattle.std.proofs.lemmas.List.{append-nil, length-take-le, length_push, set_at, take_more}
 use lib.ListN.{set}
@@ -12,7 +12,7 @@ use Rattle.thin_vec.specs.declared.put.Filled.{Filled}
 
 module _ {S X : Type 0} {steps : S → Option X → S → Type 0} {can : S → Type 0}
     {remaining : S → Count} {s : S} {f : Filled S} where
-  -- the items that were placed are at most as many as there were slots
+  -- no more items were placed than there were slots
   pub filled-fits : {room : ℕ} (by : IsFilledBy steps can remaining room s f)
       → length by.items ≤ room
   filled-fits {room} by = go f.ended by.full by.short
@@ -22,7 +22,7 @@ module _ {S X : Type 0} {steps : S → Option X → S → Type 0} {can : S → T
       go true full short = omega (arith, short refl)
       go false full short = omega (arith, full refl)
 
-  -- if two numbers of slots are equal, filling one is filling the other
+  -- if m slots were filled from an iterator, and n equals m, then n slots were filled from it
   abbrev pub filled-room : {m n : ℕ} → m ≡ n → IsFilledBy steps can remaining m s f
       → IsFilledBy steps can remaining n s f
   filled-room same by = record {
@@ -35,7 +35,8 @@ module _ {S X : Type 0} {steps : S → Option X → S → Type 0} {can : S → T
   }
 
 module _ {T : Type 0} where
-  -- one slot more is laid, before the others
+  -- if ys were laid from the slot i + 1 on, writing y into the slot i is the same as laying y
+  -- followed by ys from the slot i on
   laid-before : (i k : ℕ) (y : Option T) (ys s : List (Option T)) → k ≡ i + 1 → i < length s
       → set (laid k ys s) i y ≡ laid i (y ∷ ys) s
   laid-before i k y ys s next low =
@@ -49,14 +50,14 @@ module _ {T : Type 0} where
       ∙ (set_at (take i s) (get_or s i None) (ys ++ rest) y i (length-take-le i s (omega arith))
       ∙ ap (λ (n : ℕ). take i s ++ (y ∷ (ys ++ drop n s))) past))
 
-  -- the row s, which was r: xs go to its slots from `start` on, and those of `left` have not come
-  -- in yet
+  -- s is the row r after the last items of xs were moved into it, where all of xs are to fill the
+  -- slots from `start` on; `left` are the first items of xs, which were not yet moved
   pub record IsMoving (xs left : List T) (start : ℕ) (r s : List (Option T)) : Type 0 where
     pub rest : List T
     pub parts : xs ≡ left ++ rest
     pub row : s ≡ laid (start + length left) (full rest) r
 
-  -- no item has come in yet
+  -- before any item is moved, all of xs are left, and the row is unchanged
   pub moving-first : (xs : List T) (start : ℕ) (s : List (Option T)) → IsMoving xs xs start s s
   moving-first xs start s =
       record {
@@ -65,7 +66,7 @@ module _ {T : Type 0} where
         row = sym (laid-none (start + length xs) s);
       }
 
-  -- the last of the items left goes into its slot
+  -- after the last item v of those left was moved into its slot i, the items before v are left
   pub moving-next : {xs : List T} (left : List T) {start : ℕ} (i : ℕ) (v : T)
       {r s : List (Option T)} → IsMoving xs (left ++ v ∷ []) start r s → i ≡ start + length left
       → start + length xs ≤ length r → IsMoving xs left start r (set s i (Some v))

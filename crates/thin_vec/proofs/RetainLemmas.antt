@@ -1,4 +1,6 @@
--- What is left of items that a closure was asked about, as one stretch of items follows another.
+-- Which items stay after a closure tested them, and how the results of consecutive tests combine.
+-- Throughout, R is the relation of the closure (as in specs/Edits/Retain), and s, t and u are
+-- states of the closure. An item is tested when the closure is called with it.
 use Rattle.std.proofs.Common.{◌≡◌, ℕ, zero, suc, ◌+◌, ◌<◌, ◌≤◌, Bool, true, false, List, [], ◌∷◌, ◌++◌, length, take, drop, refl, sym, ap, subst, ◌∙◌, arith, length-append, append_assoc}
 use Rattle.std.proofs.lemmas.Bool.{ne_eqb}
 use Rattle.std.proofs.lemmas.List.{append-nil, drop_at, length-drop, length-take-le, map-append, map_push, nil_from_length, take-append-drop, take_at}
@@ -12,34 +14,34 @@ use Rattle.thin_vec.specs.Open.{Open}
 use Rattle.thin_vec.specs.ThinVec.{Thin}
 use Rattle.thin_vec.specs.OpenBlock.Sift.{Advances, IsAskedAt, IsSifted, AskedUpTo, Sifts, Stops}
 
--- moves add up
+-- adding b moves to a cost, and then `a` moves, adds b + a moves
 pub moving-more : (a b : ℕ) (c : Cost) → moving a (moving b c) ≡ moving (b + a) c
 moving-more a b c = let e : c.moves + b + a ≡ c.moves + (b + a) = omega arith in
     λ i. record { blocks = c.blocks; grown = c.grown; moves = e i }
 
--- no move costs nothing
+-- zero moves do not change a cost
 pub moving-none : (c : Cost) → moving 0 c ≡ c
 moving-none c = let e : c.moves + 0 ≡ c.moves = omega arith in
     λ i. record { blocks = c.blocks; grown = c.grown; moves = e i }
 
--- where there is a gap, the moves are paid
+-- if there is a gap, moving k items over it costs k moves
 pub moving-after : (gap k : ℕ) (c : Cost) → 0 < gap
     → (if gap == 0 then c else moving k c) ≡ moving k c
 moving-after gap k c some =
     ap (λ (b : Bool). if b then c else moving k c)
     (ne_eqb gap 0 (λ (e : gap ≡ 0). omega (arith, e)))
 
--- where there is no gap, nothing moves
+-- if there is no gap, k items stay in their slots, and cost nothing
 pub moving-before : (gap k : ℕ) (c : Cost) → (0 < gap → ⊥)
     → (if gap == 0 then c else moving k c) ≡ c
 moving-before zero k c none = refl
 moving-before (suc gap) k c none = absurd (none (omega arith))
 
--- two equal lists that begin with an item begin with equal ones
+-- if two equal lists both begin with an item, these items are equal
 pub cons-head : {X : Type 0} {x y : X} {xs ys : List X} → x ∷ xs ≡ y ∷ ys → x ≡ y
 cons-head e = cc
 
--- two equal lists that begin with an item have equal rests
+-- if two equal lists both begin with an item, the rests after these items are equal
 pub cons-tail : {X : Type 0} {x y : X} {xs ys : List X} → x ∷ xs ≡ y ∷ ys → xs ≡ ys
 cons-tail e = ap (drop 1) e
 
@@ -47,51 +49,52 @@ cons-tail e = ap (drop 1) e
 pub cons-not-nil : {X : Type 0} {x : X} {xs : List X} → x ∷ xs ≡ [] → ⊥
 cons-not-nil e = let n = ap length e in omega (arith, n)
 
--- a list of one item, by the item
+-- a list of length 1 consists of one item
 pub single : {X : Type 0} (xs : List X) → length xs ≡ 1 → (x : X) × (xs ≡ x ∷ [])
 single [] e = absurd (omega (arith, e))
 single (x ∷ []) e = (x, refl)
 single (x ∷ y ∷ xs) e = absurd (omega (arith, e))
 
--- a list of which none is left is empty
+-- a list whose length is not positive is empty
 pub none-left : {X : Type 0} (xs : List X) → (0 < length xs → ⊥) → xs ≡ []
 none-left [] none = refl
 none-left (x ∷ xs) none = absurd (none (omega arith))
 
 module _ {T : Type 0} where
-  -- the items that stay of two stretches
+  -- the items that stay of two runs together are those of the first run, followed by those of the
+  -- second
   pub left_at-append : (a b : Verdicts T) → left_at true (a ++ b) ≡ left_at true a ++ left_at true b
   left_at-append [] b = refl
   left_at-append ((true, x) ∷ a) b = ap (λ (l : List T). x ∷ l) (left_at-append a b)
   left_at-append ((false, x) ∷ a) b = left_at-append a b
 
-  -- how many items stay of two stretches
+  -- the number of items that stay of two runs together is the sum of the numbers for each run
   pub trues-append : (a b : Verdicts T) → trues (flags_of (a ++ b)) ≡ trues
       (flags_of a) + trues (flags_of b)
   trues-append [] b = omega arith
   trues-append ((true, x) ∷ a) b = let e = trues-append a b in omega arith
   trues-append ((false, x) ∷ a) b = trues-append a b
 
-  -- what is left of items that all stay
+  -- if all items of xs stay, the items left are xs
   pub left_at-stay : (xs : List T) → left_at true (stay xs) ≡ xs
   left_at-stay [] = refl
   left_at-stay (x ∷ xs) = ap (λ (l : List T). x ∷ l) (left_at-stay xs)
 
-  -- how many items stay of items that all stay
+  -- if all items of xs stay, the number of items that stay is the length of xs
   pub trues-stay : (xs : List T) → trues (flags_of (stay xs)) ≡ length xs
   trues-stay [] = refl
   trues-stay (x ∷ xs) = ap suc (trues-stay xs)
 
-  -- items that all stay don't move, nor do later ones because of them
+  -- items that stay at the beginning do not move, and do not make later items move
   pub moved_down-stay : (xs : List T) (a : Verdicts T) → moved_down (flags_of (stay xs ++ a))
       ≡ moved_down (flags_of a)
   moved_down-stay [] a = refl
   moved_down-stay (x ∷ xs) a = moved_down-stay xs a
 
 module _ {S T : Type 0} (R : S → T → Bool → S → T → Type 0) where
-  -- a stretch that begins in the state t
+  -- the items ys were tested, from the state t to the state u
   module _ (t u : S) (ys : List T) (b : Verdicts T) (k : Asked R t ys b u) where
-    -- a stretch that begins in t goes on after one that ended in t
+    -- if xs were tested from the state s to t, then xs followed by ys were tested from s to u
     asked-append : (xs : List T) (s : S) (a : Verdicts T) → Asked R s xs a t
         → Asked R s (xs ++ ys) (a ++ b) u
     asked-append [] s a h = subst (λ (c : Verdicts T). Asked R s ys (c ++ b) u) (sym h.0)
@@ -106,13 +109,14 @@ module _ {S T : Type 0} (R : S → T → Bool → S → T → Type 0) where
       ap (λ (c : Verdicts T). c ++ b) h.6,
     )
 
-  -- one question
+  -- a test of one item x is a test of the list of x alone, with one verdict
   pub asked-one : (s t : S) (x y : T) (b : Bool) → R s x b t y → Asked R s (x ∷ []) ((b, y) ∷ []) t
   asked-one s t x y b h = (b, y, t, [], h, (refl, refl), refl)
 
-  -- ---- a run of items that stay
+  -- ---- runs of items that all stay
 
-  -- the items from k up to m were asked about, and each stays
+  -- the items from k up to m were tested, starting in the state s, and each of them stays; t is the
+  -- state afterwards, and ys is xs with these items as the tests left them
   pub record Stays (k m : ℕ) (s : S) (xs : List T) (t : S) (ys : List T) : Type 0 where
     pub before : List T
     pub run : List T
@@ -124,7 +128,7 @@ module _ {S T : Type 0} (R : S → T → Bool → S → T → Type 0) where
     pub asked : Asked R s run (stay left) t
     pub now : ys ≡ before ++ (left ++ more)
 
-  -- before the first question nothing changed
+  -- before the first test, nothing has changed
   pub stays-start : (k : ℕ) (s : S) (xs : List T) → k ≤ length xs → Stays k k s xs s xs
   stays-start k s xs low =
       record {
@@ -140,16 +144,19 @@ module _ {S T : Type 0} (R : S → T → Bool → S → T → Type 0) where
       }
 
   module _ (k m : ℕ) (s : S) (xs : List T) (t : S) (ys : List T) (h : Stays k m s xs t ys) where
+    -- the items up to m, as the tests left them
     abbrev asked-part : List T
     asked-part = h.before ++ h.left
 
+    -- `asked-part` has m items
     long : length asked-part ≡ m
     long = omega (arith, length-append h.before h.left, h.place, h.reached)
 
+    -- ys is `asked-part`, followed by the items not yet tested
     parted : ys ≡ asked-part ++ h.more
     parted = h.now ∙ sym (append_assoc h.before h.left h.more)
 
-    -- where the next item stands
+    -- if the item at m is tested next, it is the first of the items not yet tested
     next-parts : (b : Bool) (u : S) (zs : List T) (a : IsAskedAt R m t ys b u zs)
         → (a.before ≡ asked-part) × (h.more ≡ a.item ∷ a.after)
     next-parts b u zs a =
@@ -160,11 +167,14 @@ module _ {S T : Type 0} (R : S → T → Bool → S → T → Type 0) where
               ∙ (ap (drop m) e ∙ drop_at a.before (a.item ∷ a.after) m a.place),
         )
 
+    -- after the test of the item at m, only that item may have changed
     next-now : (b : Bool) (u : S) (zs : List T) (a : IsAskedAt R m t ys b u zs)
         → zs ≡ h.before ++ (h.left ++ a.left ∷ a.after)
     next-now b u zs a = a.now ∙ (ap (λ (l : List T). l ++ a.left ∷ a.after) (next-parts b u zs a).0
         ∙ append_assoc h.before h.left (a.left ∷ a.after))
 
+    -- if the item at m is tested and stays, the items from k up to m + 1 were tested, and each of
+    -- them stays
     pub stays-more : (u : S) (zs : List T) → IsAskedAt R m t ys true u zs
         → Stays k (m + 1) s xs u zs
     stays-more u zs a =
@@ -187,6 +197,7 @@ module _ {S T : Type 0} (R : S → T → Bool → S → T → Type 0) where
               (sym (append_assoc h.left (a.left ∷ []) a.after));
         }
 
+    -- if the item at m is tested and does not stay, the tests from k on stopped at m (`AskedUpTo`)
     pub stays-goes : (u : S) (zs : List T) → IsAskedAt R m t ys false u zs
         → AskedUpTo R k m s xs u zs
     stays-goes u zs a =
@@ -205,6 +216,7 @@ module _ {S T : Type 0} (R : S → T → Bool → S → T → Type 0) where
           now = next-now false u zs a;
         }
 
+    -- if there is no item at m, the tests from k on stopped at m (`AskedUpTo`)
     pub stays-end : length ys ≤ m → AskedUpTo R k m s xs t ys
     stays-end short =
         let none : h.more ≡ [] =
@@ -225,7 +237,7 @@ module _ {S T : Type 0} (R : S → T → Bool → S → T → Type 0) where
           now = h.now ∙ ap (λ (l : List T). h.before ++ (h.left ++ l)) none;
         }
 
-  -- one question leaves as many items as there were
+  -- testing one item does not change the number of items
   pub asked-count : (k : ℕ) (s : S) (xs : List T) (b : Bool) (t : S) (ys : List T)
       → IsAskedAt R k s xs b t ys → length ys ≡ length xs
   asked-count k s xs b t ys h =
@@ -237,6 +249,7 @@ module _ {S T : Type 0} (R : S → T → Bool → S → T → Type 0) where
         length-append h.before (h.left ∷ h.after),
       )
 
+  -- if all tested items stay, as many items are left as were tested
   stay-count : (xs : List T) (s t : S) (ys : List T) → Asked R s xs (stay ys) t
       → length xs ≡ length ys
   stay-count [] s t [] h = refl
@@ -246,11 +259,12 @@ module _ {S T : Type 0} (R : S → T → Bool → S → T → Type 0) where
       ap suc (stay-count xs h.2 t ys
       (subst (λ (a : Verdicts T). Asked R h.2 xs a t) (sym (cons-tail h.6)) h.5))
 
+  -- the last test of a run does not change the number of items
   stop-count : (u : S) (b : List T) (t : S) (e : List T) → Stops R u b t e → length e ≡ length b
   stop-count u [] t e h = ap length h.0
   stop-count u (x ∷ b) t e h = ap length h.2
 
-  -- a run that was asked about has as many items as before
+  -- testing a run of items does not change the number of items
   pub runs-count : (k m : ℕ) (s : S) (xs : List T) (t : S) (ys : List T) → AskedUpTo R k m s xs t ys
       → length ys ≡ length xs
   runs-count k m s xs t ys r =
@@ -266,18 +280,19 @@ module _ {S T : Type 0} (R : S → T → Bool → S → T → Type 0) where
         stop-count r.between r.after t r.end r.stops,
       )
 
-  -- one item stays
+  -- if the first item is tested and stays, `Stays` holds for this item
   pub one-stays : (s : S) (xs : List T) (t : S) (ys : List T)
       → IsAskedAt R 0 s xs true t ys → Stays 0 1 s xs t ys
   one-stays s xs t ys a = stays-more 0 0 s xs s xs (stays-start 0 s xs (omega arith)) t ys a
 
-  -- two items stay
+  -- if the first two items are tested and stay, `Stays` holds for these two items
   pub two-stay : (s : S) (xs : List T) (t : S) (ys : List T) (u : S) (zs : List T)
       → IsAskedAt R 0 s xs true t ys → IsAskedAt R 1 t ys true u zs → Stays 0 2 s xs u zs
   two-stay s xs t ys u zs a b = stays-more 0 1 s xs t ys (one-stays s xs t ys a) u zs b
 
   module _ (m n : ℕ) where
-    -- two runs, one after the other
+    -- if the items up to m were tested and all stay, and the tests from m on stopped at n, then the
+    -- tests from 0 on stopped at n
     pub runs-join : (s : S) (xs : List T) (t : S) (ys : List T) (u : S) (zs : List T)
         → Stays 0 m s xs t ys → AskedUpTo R m n t ys u zs → AskedUpTo R 0 n s xs u zs
     runs-join s xs t ys u zs h r =
@@ -311,10 +326,10 @@ module _ {S T : Type 0} (R : S → T → Bool → S → T → Type 0) where
               ∙ sym (append_assoc h.left r.left r.end));
         }
 
-  -- ---- what a run leaves, once its items are in front
+  -- ---- the items that the tests of a run kept
 
-  -- some first items were asked about: what stays of them, how many those are, and what is left to
-  -- ask about
+  -- all items of xs except the last ones, `rest`, were tested, from the state s to t. `kept` are
+  -- the tested items that stay, as the tests left them, and m is their number.
   pub record Part (m : ℕ) (s : S) (xs : List T) (t : S) (kept rest : List T) : Type 0 where
     pub done : List T
     pub verdicts : Verdicts T
@@ -324,25 +339,32 @@ module _ {S T : Type 0} (R : S → T → Bool → S → T → Type 0) where
     pub count : trues (flags_of verdicts) ≡ m
 
   module _ (m : ℕ) (s : S) (xs : List T) (t : S) (ys : List T) (r : AskedUpTo R 0 m s xs t ys) where
+    -- the run begins at the first item
     run-none : r.before ≡ []
     run-none = nil_from_length r.before r.place
 
+    -- the run has m items
     run-long : length r.left ≡ m
     run-long = omega (arith, r.reached)
 
+    -- ys consists of the items of the run, as the tests left them, and the items after the run
     run-now : ys ≡ r.left ++ r.end
     run-now = r.now ∙ ap (λ (l : List T). l ++ (r.left ++ r.end)) run-none
 
+    -- xs consists of the items of the run, as they were before the tests, and the items after the
+    -- run
     pub run-was : xs ≡ r.run ++ r.after
     run-was = r.was ∙ ap (λ (l : List T). l ++ (r.run ++ r.after)) run-none
 
+    -- the first m items of ys are those of the run, as the tests left them
     pub run-kept : take m ys ≡ r.left
     run-kept = ap (take m) run-now ∙ take_at r.left r.end m run-long
 
+    -- the items of ys from m on are those after the run
     pub run-end : drop m ys ≡ r.end
     run-end = ap (drop m) run-now ∙ drop_at r.left r.end m run-long
 
-    -- the item after the run goes
+    -- if there is an item after the run, it was tested, and the closure returned false for it
     pub stop-goes : (u : S) (b e : List T) (v : T) (rest : List T) → Stops R u b t e → e ≡ v ∷ rest
         → (x : T) × (b ≡ x ∷ rest) × R u x false t v
     stop-goes u [] e v rest h k = absurd (cons-not-nil (sym k ∙ h.0))
@@ -353,6 +375,8 @@ module _ {S T : Type 0} (R : S → T → Bool → S → T → Type 0) where
           subst (λ (y : T). R u x false t y) (cons-head same) h.1,
         )
 
+    -- if there is an item v after the run, the items of the run are kept, v is not, and the items
+    -- after v were not yet tested
     pub part-goes : (v : T) (rest : List T) → drop m ys ≡ v ∷ rest → Part m s xs t (take m ys) rest
     part-goes v rest k =
         let g = stop-goes r.between r.after r.end v rest r.stops (sym run-end ∙ k) in
@@ -375,11 +399,12 @@ module _ {S T : Type 0} (R : S → T → Bool → S → T → Type 0) where
               );
         }
 
-    -- no item after the run goes: none is left
+    -- if there is no item after the run, no further item was tested, and the state did not change
     pub stop-ends : (u : S) (b e : List T) → Stops R u b t e → e ≡ [] → (b ≡ []) × (t ≡ u)
     stop-ends u [] e h k = (refl, h.1)
     stop-ends u (x ∷ b) e h k = absurd (cons-not-nil (sym h.2 ∙ k))
 
+    -- if there is no item after the run, all items were tested, and all are kept
     pub part-ends : drop m ys ≡ [] → Part m s xs t (take m ys) []
     part-ends k =
         let g = stop-ends r.between r.after r.end r.stops (sym run-end ∙ k) in
@@ -392,9 +417,11 @@ module _ {S T : Type 0} (R : S → T → Bool → S → T → Type 0) where
           count = trues-stay r.left ∙ run-long;
         }
 
-  -- ---- on blocks that are open
+  -- ---- open blocks
 
   module _ {A : Type 0} (v w : Open T A) where
+    -- if a first part of the middle run of v was tested (`Part`), and the m items that stay were
+    -- moved to the front for one move each, v and w satisfy `Sifts`
     pub sifts-of : (m : ℕ) (s t : S) (kept : List T) → Part m s v.rest t kept w.rest
         → 0 < w.gap → w ≡ record v {
           front = v.front ++ kept;
@@ -417,16 +444,19 @@ module _ {S T : Type 0} (R : S → T → Bool → S → T → Type 0) where
           });
         }
 
-  -- the middle run up to the first item that goes, after a gap
+  -- the items of the middle run of v were tested up to the first that does not stay, or to the end,
+  -- and there is a gap before them
   module _ {A : Type 0} (s t : S) (v w : Open T A) (gap : 0 < v.gap)
       (h : Advances R s v t w) where
+    -- the tested items that stay, as the tests left them
     abbrev kept : List T
     kept = take h.count h.left
 
+    -- each item of `kept` cost one move
     moved : w.cost ≡ moving h.count v.cost
     moved = ap (λ u. u.cost) h.now ∙ moving-after v.gap h.count v.cost gap
 
-    -- the first item that goes left w, and nothing else did: z is what is open then
+    -- if z is w after the first item that does not stay was removed, v and z satisfy `Sifts`
     pub advanced-goes : (value : T) (z : Open T A) → w.rest ≡ value ∷ z.rest
         → z ≡ record w { rest = z.rest; gap = w.gap + 1 } → Sifts R s v t z
     advanced-goes value z rest same =
@@ -437,7 +467,7 @@ module _ {S T : Type 0} (R : S → T → Bool → S → T → Type 0) where
         (same ∙ (λ i. record (h.now i)
         { gap = sym (ap (λ u. u.gap) same) i; rest = z.rest; cost = moved i }))
 
-    -- none of the items goes
+    -- if no item is left in the middle run of w, v and w satisfy `Sifts`, and no item was removed
     pub advanced-ends : w.rest ≡ [] → Sifts R s v t w
     advanced-ends none =
         sifts-of v w h.count s t kept
@@ -446,7 +476,7 @@ module _ {S T : Type 0} (R : S → T → Bool → S → T → Type 0) where
         (omega (arith, ap (λ u. u.gap) h.now, gap))
         (λ i. record (h.now i) { gap = w.gap; rest = w.rest; cost = moved i })
 
-    -- no more items are left to ask about
+    -- the middle run of w has at most as many items as that of v
     pub advanced-count : length w.rest ≤ length v.rest
     advanced-count = omega (
       arith,
@@ -455,7 +485,7 @@ module _ {S T : Type 0} (R : S → T → Bool → S → T → Type 0) where
       runs-count 0 h.count s v.rest t h.left h.run,
     )
 
-  -- nothing was asked yet; and one stretch after another
+  -- before the first test, v and v itself satisfy `Sifts`
   pub sifts-start : {A : Type 0} (s : S) (v : Open T A) → 0 < v.gap → Sifts R s v s v
   sifts-start s v gap =
       record {
@@ -468,7 +498,7 @@ module _ {S T : Type 0} (R : S → T → Bool → S → T → Type 0) where
             { front = sym (append-nil v.front) i; cost = sym (moving-none v.cost) i };
       }
 
-  -- one round after another
+  -- `Sifts` is transitive: if it holds for v and w, and for w and z, it holds for v and z
   pub sifts-then : {A : Type 0} {s t u : S} {v w z : Open T A} → Sifts R s v t w
       → Sifts R t w u z → Sifts R s v u z
   sifts-then {s = s} {t} {u} {v} {w} {z} h k =
@@ -498,13 +528,14 @@ module _ {S T : Type 0} (R : S → T → Bool → S → T → Type 0) where
 
   module _ {A : Type 0} (v w : Open T A) (m : ℕ) (s t : S) (ys : List T)
       (run : AskedUpTo R 0 m s v.rest t ys) where
-    -- of v, w has the tail, the slots and where they came from, and the run in front of it, for
-    -- nothing
+    -- w is v with the first m items of ys appended to the front, for no move. The gap and the
+    -- middle run of w may be any.
     abbrev Passed : Type 0
     Passed = w ≡ record v
         { front = v.front ++ take m ys; gap = w.gap; rest = w.rest }
 
-    -- the item after the run goes, and then all others were asked about
+    -- if the item after the run is removed, and all items after it were then tested, v and z
+    -- satisfy `IsSifted`
     pub sifted-goes : (value : T) (u : S) (z : Open T A) → Passed → drop m ys ≡ value ∷ w.rest
         → Sifts R t w u z → z.rest ≡ [] → IsSifted R s v u z
     unfolding part-goes
@@ -541,7 +572,7 @@ module _ {S T : Type 0} (R : S → T → Bool → S → T → Type 0) where
               }));
         }
 
-    -- all items stay
+    -- if no item is left after the run, v and w satisfy `IsSifted`: all items stay
     pub sifted-ends : Passed → drop m ys ≡ [] → w.rest ≡ [] → IsSifted R s v t w
     unfolding part-ends
     sifted-ends p k none =
@@ -561,19 +592,21 @@ module _ {S T : Type 0} (R : S → T → Bool → S → T → Type 0) where
           });
         }
 
--- a test that holds a closure decides as the closure does
+-- a test of the type J contains a closure, and returns what the closure returns. `inside` is the
+-- state of the closure.
 module _ {J S T : Type 0} (R : S → T → Bool → S → T → Type 0) (inside : J → S) where
+  -- the relation of the test, which is that of the closure
   abbrev through : J → T → Bool → J → T → Type 0
   through s x b t y = R (inside s) x b (inside t) y
 
-  -- items that such a test was asked about were asked of the closure
+  -- if the test tested some items, its closure tested them, with the same verdicts
   pub asked-through : (xs : List T) (s t : J) (a : Verdicts T) → Asked through s xs a t
       → Asked R (inside s) xs a (inside t)
   asked-through [] s t a h = (h.0, ap inside h.1)
   asked-through (x ∷ xs) s t a h =
       (h.0, h.1, inside h.2, h.3, h.4, asked-through xs h.2 t h.3 h.5, h.6)
 
-  -- what such a test leaves of a list is what the closure leaves
+  -- if the test reduced v to w, then its closure did
   pub retained-through : {A : Type 0} (s : J) (v w : Thin T A) (t : J)
       → IsRetainedTo through s v w t → IsRetained R (inside s) v w
   retained-through s v w t h = (
@@ -588,8 +621,10 @@ module _ {J S T : Type 0} (R : S → T → Bool → S → T → Type 0) (inside 
 
 -- ---- for callers
 
--- what a closure that only looks returns, alone
+-- a closure that only reads the item, with the relation R
 module _ {S T : Type 0} (R : S → T → Bool → S → Type 0) where
+  -- if a closure that only reads the items tested xs, there is one flag for each item, the closure
+  -- returned the flags in turn, and the items left are those of xs whose flag is true
   told : (xs : List T) (s t : S) (a : Verdicts T) → Asked (Looks R) s xs a t
       → (length (flags_of a) ≡ length xs) × ReturnsInTurn R s (flags_of a) xs t
       × (left_at true a ≡ items_where_true (flags_of a) xs)
@@ -605,13 +640,15 @@ module _ {S T : Type 0} (R : S → T → Bool → S → Type 0) where
       let left : y ≡ x = ap (λ (p : Bool × T). p.1) same ∙ h.4.1 in
       (ap suc rest.0, (h.2, answer, rest.1), first b y x a xs left rest.2)
     where
+      -- the third part of `told`, for one more item that its test left unchanged
       first : (b : Bool) (y x : T) (a : Verdicts T) (xs : List T) → y ≡ x
           → left_at true a ≡ items_where_true (flags_of a) xs
           → left_at true ((b, y) ∷ a) ≡ items_where_true (b ∷ flags_of a) (x ∷ xs)
       first true y x a xs e f = λ i. e i ∷ f i
       first false y x a xs e f = f
 
-  -- std's word for what `retain` leaves, for whose lemmas see the kit's `lemmas/Fn`
+  -- if `retain` with a closure that only reads the items reduced v to w, the items satisfy
+  -- `IsFiltered` of std, about which the kit's `lemmas/Fn` has lemmas
   pub retained_filtered : {A : Type 0} (s : S) (v w : Thin T A) → IsRetained (Looks R) s v w
       → IsFiltered R s v.items w.items
   retained_filtered s v w h =
@@ -619,8 +656,8 @@ module _ {S T : Type 0} (R : S → T → Bool → S → Type 0) where
       let t = told v.items s h.0 r.verdicts r.asked in
       (flags_of r.verdicts, h.0, t.0, t.1, r.items ∙ t.2)
 
-  -- where the closure returns what a test does, and stays as it was, the items are those that pass
-  -- the test
+  -- if the closure is stateless, and returns `test x` for each item x, `retain` keeps exactly the
+  -- items that pass `test`
   pub retained_filter : {A : Type 0} (test : T → Bool) {s : S} {v w : Thin T A}
       → ((x : T) (b : Bool) (t : S) → R s x b t → (b ≡ test x) × (t ≡ s))
       → IsRetained (Looks R) s v w → w.items ≡ filter test v.items
@@ -628,7 +665,7 @@ module _ {S T : Type 0} (R : S → T → Bool → S → Type 0) where
       (retained_filtered s v w h)
 
 module _ {S T : Type 0} (R : S → T → Bool → S → T → Type 0) where
-  -- no more items stay than there were
+  -- at most as many items stay as were tested
   pub few-left : (xs : List T) (s t : S) (a : Verdicts T) → Asked R s xs a t
       → length (left_at true a) ≤ length xs
   few-left [] s t a h =
@@ -638,13 +675,14 @@ module _ {S T : Type 0} (R : S → T → Bool → S → T → Type 0) where
       subst (λ (b : Verdicts T). length (left_at true b) ≤ suc (length xs)) (sym h.6)
       (one h.0 h.1 h.3 xs rest)
     where
+      -- one more verdict adds at most one item to those that stay
       one : (b : Bool) (y : T) (a : Verdicts T) (xs : List T)
           → length (left_at true a) ≤ length xs
           → length (left_at true ((b, y) ∷ a)) ≤ suc (length xs)
       one true y a xs few = omega (arith, few)
       one false y a xs few = omega (arith, few)
 
-  -- nor after `retain`
+  -- after `retain`, the list has at most as many items as before
   pub few-retained : {A : Type 0} (s : S) (v w : Thin T A) → IsRetained R s v w
       → length w.items ≤ length v.items
   few-retained s v w h =

@@ -1,4 +1,5 @@
--- What follows from the words of `specs/ThinVec.antt` and `specs/Cheap.antt`, for callers.
+-- Lemmas about the definitions of `specs/ThinVec.antt` and `specs/Cheap.antt`. They are for callers
+-- too.
 use Rattle.thin_block.proofs.Outcomes.{some-same}
 use Rattle.std.proofs.Common.{if◌then◌else◌, Bool, ◌≡◌, ℕ, zero, suc, ◌+◌, ◌*◌, ◌^◌, ◌<◌, ◌≤◌, true, false, Some, ap, List, [], arith, eqb, inl, inr, length, refl, subst, sym, ◌∙◌}
 use Rattle.std.specs.Borrow.{RattleType}
@@ -15,7 +16,8 @@ use Rattle.thin_vec.specs.Cheap.{IsCheap, IsCheapAt}
 use Rattle.thin_vec.specs.ThinVec.{IsThin, IsWithin, Thin, capacity_for, cost_at, thin_of}
 
 module _ {T A : Type 0} (R : RattleType) (b : Block T A) (a : A) where
-  -- a list whose block fits is within its capacity
+  -- if b is the block of the list v and is small enough to be allocated, v is within bounds
+  -- (`IsWithin`)
   pub within-of : (v : Thin T A) → IsThin b a → thin_of b a ≡ v
       → Fits R (length b.slots) → IsWithin R v
   within-of v thin is fits =
@@ -24,13 +26,14 @@ module _ {T A : Type 0} (R : RattleType) (b : Block T A) (a : A) where
       in
       subst (IsWithin R) is here
 
-  -- a list is within its capacity after a step that left it one that fits
+  -- a list is within bounds after a step that made its capacity c, if a block of this capacity is
+  -- small enough to be allocated
   pub within-settled : (xs : List T) (c : ℕ) → Fits R c → Settled b a xs c
       → IsWithin R (thin_of b a)
   within-settled xs c fits after =
       within-of (thin_of b a) after.thin refl (subst (Fits R) (sym after.cap) fits)
 
-  -- or that kept the capacity of a list that was within it
+  -- a list that was within bounds is within bounds after a step that kept its capacity
   pub within-stays : (b' : Block T A) (v : Thin T A) (xs : List T) → IsWithin R v → thin_of b a ≡ v
       → Settled b' a xs (length b.slots) → IsWithin R (thin_of b' a)
   within-stays b' v xs kept is after = record {
@@ -39,7 +42,8 @@ module _ {T A : Type 0} (R : RattleType) (b : Block T A) (a : A) where
     fits = subst (Fits R) (sym (after.cap ∙ ap (λ (w : Thin T A). w.capacity) is)) kept.fits;
   }
 
-  -- before and after a step that kept the capacity
+  -- if the block of a list is small enough to be allocated, the list is within bounds before and
+  -- after a step that kept its capacity
   pub within-kept : (b' : Block T A) (v : Thin T A) (xs : List T) → IsThin b a → thin_of b a ≡ v
       → Fits R (length b.slots) → Settled b' a xs (length b.slots) → IsWithin R v
       × IsWithin R (thin_of b' a)
@@ -53,7 +57,7 @@ module _ {T A : Type 0} (R : RattleType) (b : Block T A) (a : A) where
   )
 
 module _ {T A : Type 0} (R : RattleType) (w : Thin T A) where
-  -- a list of no capacity is within it
+  -- a list without items and with capacity 0 is within bounds
   pub within-none : w.items ≡ [] → w.capacity ≡ 0 → IsWithin R w
   within-none none nothing = record {
     room = omega (arith, ap length none);
@@ -61,7 +65,8 @@ module _ {T A : Type 0} (R : RattleType) (w : Thin T A) where
     fits = subst (Fits R) (sym nothing) (fits-none R);
   }
 
-  -- as many items as there is room for are within the same capacity
+  -- if v is within bounds, a list w of the same capacity is too, if it has no more items than that
+  -- capacity
   pub within-like : (v : Thin T A) → IsWithin R v → w.capacity ≡ v.capacity
       → length w.items ≤ v.capacity → IsWithin R w
   within-like v kept same room =
@@ -71,17 +76,17 @@ module _ {T A : Type 0} (R : RattleType) (w : Thin T A) where
         fits = subst (Fits R) (sym same) kept.fits;
       }
 
--- what a list has cost once its capacity is c
+-- the cost of the list v after its capacity became c
 module _ {T A : Type 0} (v : Thin T A) (c : ℕ) where
-  -- what a list has cost stays at the same capacity
+  -- the cost does not change if the capacity does not
   pub cost_at-same : c ≡ v.capacity → cost_at v c ≡ v.cost
   cost_at-same e = let t : eqb c v.capacity ≡ true = grind (arith, nat_tests) in rw t refl
 
-  -- another capacity is one block more
+  -- if the capacity grew, the cost counts one more block, into which all items were copied
   pub cost_at-more : v.capacity < c → cost_at v c ≡ growing (length v.items) v.cost
   cost_at-more e = let t : eqb c v.capacity ≡ false = grind (arith, nat_tests) in rw t refl
 
-  -- a growth adds no move
+  -- a change of capacity does not change the number of moves
   pub cost_at-moves : (cost_at v c).moves ≡ v.cost.moves
   cost_at-moves = go (eqb c v.capacity)
     where
@@ -89,10 +94,11 @@ module _ {T A : Type 0} (v : Thin T A) (c : ℕ) where
       go true = refl
       go false = refl
 
--- what a growth has cost, for callers at numbers that they know
+-- the rules that compute the cost of a growth, for callers that know the capacities
 pub ruleset costs = (cost_at-same, cost_at-more)
 
--- a cheap cost stays cheap over a growth for more than there was room for
+-- a cost that was cheap for the capacity c is cheap for c' after at most c items were copied into a
+-- new block, if c' is larger than c and at least 2 * c
 cheap-growing : {c : ℕ} {k : Cost} (n c' : ℕ) → IsCheapAt c k → n ≤ c → c < c' → 2 * c ≤ c'
     → IsCheapAt c' (growing n k)
 cheap-growing {c = zero} {k} n c' h le larger doubled =
@@ -116,29 +122,31 @@ cheap-growing {c = suc c} {k} n c' h le larger doubled =
 
 module _ {T A : Type 0} (rule : Rule) (R : RattleType) (law : KeepsLaw rule)
     (v : Thin T A) (k c : ℕ) where
-  -- where there is room, the ruled capacity is the one that is there, and nothing is paid
+  -- if there is room for k more items, the ruled capacity for them is the old capacity
   pub cap-kept : length v.items + k ≤ v.capacity → capacity_for rule R v k ≡ Some c → c ≡ v.capacity
   cap-kept room e = some-same (sym e ∙ ruled-same rule R v.capacity (length v.items + k) room)
 
-  -- where there is room, nothing is paid
+  -- if there is room for k more items, changing to the ruled capacity for them costs nothing
   pub cost_at-kept : length v.items + k ≤ v.capacity
       → capacity_for rule R v k ≡ Some c → cost_at v c ≡ v.cost
   cost_at-kept room e = cost_at-same v c (cap-kept room e)
 
-  -- where there is no room, the capacity grows, and each item is copied
+  -- if there is no room for k more items, the ruled capacity is enough for the old items and k
+  -- more, and at least twice the old capacity
   pub cap-grown : v.capacity < length v.items + k → capacity_for rule R v k ≡ Some c
       → (length v.items + k ≤ c) × (2 * v.capacity ≤ c)
   cap-grown more e = let g = ruled-grows rule R v.capacity (length v.items + k) c law more e in
       (g.enough, g.doubled)
 
-  -- a growth copies each item
+  -- if there is no room for k more items, changing to the ruled capacity for them costs one block,
+  -- into which all items are copied
   pub cost_at-grown : v.capacity < length v.items + k → capacity_for rule R v k ≡ Some c
       → cost_at v c ≡ growing (length v.items) v.cost
   cost_at-grown more e =
       let g = cap-grown more e in
       cost_at-more v c (omega (arith, g.0))
 
-  -- a growth copies at most as many items as the capacity grows by
+  -- a change to the ruled capacity copies at most as many items as the capacity grows by
   pub cost_at-copied : length v.items ≤ v.capacity → capacity_for rule R v k ≡ Some c
       → (cost_at v c).grown + v.capacity ≤ v.cost.grown + c
   cost_at-copied room e =
@@ -151,7 +159,7 @@ module _ {T A : Type 0} (rule : Rule) (R : RattleType) (law : KeepsLaw rule)
             omega (arith, paid, cap-kept spare e)
       ]
 
-  -- a cheap list stays cheap where its capacity becomes the ruled one
+  -- a cheap list stays cheap if its capacity becomes the ruled one
   pub cheap-regrown : IsCheap v → length v.items ≤ v.capacity → capacity_for rule R v k ≡ Some c
       → IsCheapAt c (cost_at v c)
   cheap-regrown h room e =

@@ -1,2 +1,2 @@
--- The lemmas of `src/convert/`. (rattle makes this module, so no line of Lib.antt names it.)
+-- The lemma modules of `src/convert/`. (Rattle makes this module, so no line of Lib.antt names it.)
 pub mod IntoIterLemmas

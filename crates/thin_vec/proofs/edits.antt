@@ -1,4 +1,4 @@
--- The lemmas of `src/edits/`. (rattle makes this module, so no line of Lib.antt names it.)
+-- The lemma modules of `src/edits/`. (Rattle makes this module, so no line of Lib.antt names it.)
 pub mod DedupLemmas
 pub mod DrainLemmas
 pub mod ExtractIfLemmas

@@ -1,4 +1,4 @@
--- The lemmas of `src/list/`. (rattle makes this module, so no line of Lib.antt names it.)
+-- The lemma modules of `src/list/`. (Rattle makes this module, so no line of Lib.antt names it.)
 pub mod AppendSplitLemmas
 pub mod CapacityLemmas
 pub mod ClonesLemmas

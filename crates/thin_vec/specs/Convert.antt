@@ -1,2 +1,2 @@
--- The words of conversions.
+-- The definitions for the conversions in `src/convert/`.
 pub mod IntoIter

@@ -1,4 +1,4 @@
--- What a list holds once a `&mut` to its items ends.
+-- What a list contains after a `&mut` borrow of its items has ended.
 use Rattle.std.specs.Prelude.{List, Option, ℕ, length, slice_set}
 use Rattle.std.specs.declared.alloc.Allocator.{Ghosts as AllocatorGhosts}
 use Rattle.std.specs.List.{refill}
@@ -11,33 +11,37 @@ use Rattle.thin_vec.specs.contracts.convert.into_iter.IntoIter.{the_row as itera
 use Rattle.thin_vec.specs.contracts.list.ThinVec.{the_row}
 
 module _ {T A : Type 0} where
-  -- v with the items ws in place of its own, as far as both go
+  -- the list v, with ws written over its first items. The length does not change: items of ws
+  -- beyond it are ignored.
   abbrev pub with_items : Thin T A → List T → Thin T A
   with_items v ws = record v { items = refill (length v.items) v.items ws }
 
-  -- v with the item w at i
+  -- the list v, with w in place of the item at index i
   abbrev pub with_item : Thin T A → ℕ → T → Thin T A
   with_item v i w = record v { items = slice_set v.items i w }
 
 module _ (T A G : RattleType) (a : AllocatorGhosts A.Denot) (g : GrowthGhosts G.Denot)
     (v : MutBor (Thin T.Denot A.Denot)) where
-  -- r is the items of v
+  -- r borrows all items of v: when the borrow ends, v contains what was written to r
   abbrev pub LendsItems : MutBor (List T.Denot) → Fml
   LendsItems r = Lends (the_row T A G a g) (Array T 0) v r (with_items v.now)
 
-  -- r is the item of v at i
+  -- r borrows the item of v at index i: when the borrow ends, v contains what was written to r
   abbrev pub LendsItem : ℕ → MutBor T.Denot → Fml
   LendsItem i r = Lends (the_row T A G a g) T v r (with_item v.now i)
 
-  -- r is the item of v at i, and at `None` v stays as it is
+  -- if r is `Some`, it borrows the item of v at index i, as in `LendsItem`; if r is `None`, v does
+  -- not change
   abbrev pub LendsGet : ℕ → Option (MutBor T.Denot) → Fml
   LendsGet i r = LendsIf (the_row T A G a g) T v r (with_item v.now i) v.now
 
-  -- the items of v are those that the iteration it goes over
+  -- the iterator `it` borrows all items of v: when the borrow ends, v contains what was written to
+  -- them
   abbrev pub LendsIter : IterMut T.Denot → Fml
   LendsIter it = follows (the_row T A G a g) (Array T 0) v.ghost_name
       (iter_mut_name it) (with_items v.now)
 
-  -- r is the items that remain of v, where v is the iterator that a list became
+  -- v is a borrowed iterator that was made from a list, and r borrows the items that it has not
+  -- yielded yet: when the borrow r ends, the iterator contains what was written to r
   abbrev pub LendsRest : MutBor (List T.Denot) → Fml
   LendsRest r = Lends (iterator_row T A G a g) (Array T 0) v r (with_items v.now)

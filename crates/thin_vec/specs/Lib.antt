@@ -1,4 +1,4 @@
--- The words of the contracts, with those of the block that they cite.
+-- The definitions that the contracts of `thin_vec` use, including those of `thin_block`.
 pub mod ThinVec
 pub mod Cheap
 pub mod List
@@ -11,7 +11,7 @@ pub mod Ranges
 pub mod Convert
 pub mod Shapes
 pub mod formers
--- the words of the block that the clauses above cite
+-- the definitions of `thin_block` that the contracts of `thin_vec` use
 pub use Rattle.thin_block.specs.Capacity
 pub use Rattle.thin_block.specs.Cost
 pub use Rattle.thin_block.specs.Growth

@@ -1,4 +1,4 @@
--- The words of the calls of `src/list/`.
+-- The definitions for the calls in `src/list/`.
 pub mod Capacity
 pub mod Clones
 pub mod Extend

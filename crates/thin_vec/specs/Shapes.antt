@@ -1,5 +1,5 @@
--- That items lie in the first slots is told by which slots are filled. Here and not in proofs/,
--- since a file of specs/formers/ cites it.
+-- If the first n slots of a row are filled and all others are empty, the row consists of its items
+-- followed by empty slots. These lemmas are in specs/ because a file in specs/formers/ uses them.
 use Rattle.std.specs.Prelude.{◌≡◌, ℕ, suc, zero, List, [], ◌∷◌, ◌++◌, Bool, true, false, Option, length, map, replicate}
 use Rattle.std.specs.declared.option.Option.TheVariants.{Some, None}
 use mathlib.Core.Path.{refl, ap, ◌∙◌}
@@ -7,39 +7,41 @@ use native.Mathlib.Omega.{arith}
 use Rattle.std.specs.Option.{is_some}
 use Rattle.thin_block.specs.Slots.{empty, full, items_in}
 
--- n filled slots, and m empty ones
+-- the flags of n filled slots, followed by m empty ones: true stands for a filled slot
 abbrev pub shape : ℕ → ℕ → List Bool
 shape n m = replicate n true ++ replicate m false
 
--- a list of flags by its first: none, true or false, as a number
+-- a number that encodes the first flag of a list: 0 if the list is empty, 1 for true, 2 for false
 head_of : List Bool → ℕ
 head_of [] = 0
 head_of (true ∷ bs) = 1
 head_of (false ∷ bs) = 2
 
--- the flags but for the first
+-- the flags without the first
 abbrev tail_of : List Bool → List Bool
 tail_of [] = []
 tail_of (b ∷ bs) = bs
 
--- of empty slots, none is filled
+-- m empty slots have m flags, all false
 none_shape : (X : Type 0) (m : ℕ) → map is_some (let none : List (Option X) = empty m in
     none) ≡ replicate m false
 none_shape X zero = refl
 none_shape X (suc m) = ap (λ l. false ∷ l) (none_shape X m)
 
--- of a list in front, the first slots are filled
+-- the flags of the items ys, followed by m empty slots, are `shape n m`, where n is the length of
+-- ys
 front_shape : {X : Type 0} (ys : List X) (m : ℕ)
     → map is_some (full ys ++ empty m) ≡ shape (length ys) m
 front_shape {X} [] m = none_shape X m
 front_shape (y ∷ ys) m = ap (λ l. true ∷ l) (front_shape ys m)
 
--- items in front fill the first slots
+-- if s consists of its items followed by m empty slots, its flags are `shape n m`, where n is the
+-- number of its items
 pub to_shape : {X : Type 0} (s : List (Option X)) (m : ℕ) → s ≡ full (items_in s) ++ empty m
     → map is_some s ≡ shape (length (items_in s)) m
 to_shape s m e = ap (map is_some) e ∙ front_shape (items_in s) m
 
--- slots none of which is filled are empty
+-- if s has m flags, all false, it consists of m empty slots
 all_none : {X : Type 0} (s : List (Option X)) (m : ℕ)
     → map is_some s ≡ replicate m false → s ≡ empty m
 unfolding head_of
@@ -49,14 +51,16 @@ all_none (x ∷ s) zero e = let n = ap length e in absurd (omega (arith, n))
 all_none (Some x ∷ s) (suc m) e = let n : 1 ≡ 2 = ap head_of e in absurd (omega (arith, n))
 all_none (None ∷ s) (suc m) e = ap (λ l. None ∷ l) (all_none s m (ap tail_of e))
 
--- a list whose first slot is empty has no item in front
+-- if the flags of an empty slot followed by s are `shape n m`, where n is the length of ys, then
+-- this row consists of ys followed by m empty slots (n is then 0)
 none_first : {X : Type 0} (s : List (Option X)) (ys : List X) (m : ℕ)
     → false ∷ map is_some s ≡ shape (length ys) m → None ∷ s ≡ full ys ++ empty m
 unfolding head_of
 none_first s [] m e = all_none (None ∷ s) m e
 none_first s (y ∷ ys) m e = let n : 2 ≡ 1 = ap head_of e in absurd (omega (arith, n))
 
--- slots of which the first are filled, and no other, hold their items in front
+-- if the flags of s are `shape n m`, where n is the number of its items, then s consists of its
+-- items followed by m empty slots
 pub from_shape : {X : Type 0} (s : List (Option X)) (m : ℕ)
     → map is_some s ≡ shape (length (items_in s)) m → s ≡ full (items_in s) ++ empty m
 unfolding head_of

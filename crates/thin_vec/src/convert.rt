@@ -1,4 +1,4 @@
-//! What a list is made from, and what it becomes.
+//! Conversions of other types into lists, and of lists into other types.
 
 mod bytes;
 mod from;

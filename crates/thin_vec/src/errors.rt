@@ -1,4 +1,5 @@
-//! The errors of calls that take ownership of what they are passed.
+//! The errors of calls that take an argument by value. An error holds the parts of the argument
+//! that the call did not use, so that the caller owns them again.
 ghost use Rattle.std.specs.Prelude.{◌≡◌};
 ghost use Rattle.std.specs.IoError.{error_kind};
 ghost use Rattle.std.specs.declared.io.ErrorKind.TheVariants as Kind;
@@ -10,58 +11,64 @@ use std::io::ErrorKind;
 use std::{fmt, io};
 use thin_block::ThinVecError;
 
-/// A value that a failed call returns to its caller, who owns it again.
+/// The error of a call that takes one argument by value and returns it on failure, such as `push`.
 #[derive(Drop)]
 pub struct Rejected<S> {
-    /// What was passed by value, as it was passed.
+    /// The argument, unchanged. The caller owns it again.
     pub value: S,
-    /// Why the call failed.
+    /// Says why the call failed.
     pub cause: ThinVecError,
 }
 
-/// What `extend` returns when it fails. The items that were placed stay in the list.
+/// The error of `extend`. The items that were placed before the failure stay in the list.
 #[derive(Drop)]
 pub struct ExtendRefused<T, I> {
-    /// Why the call failed.
+    /// Says why the call failed.
     pub cause: ThinVecError,
-    /// The item that was drawn, and for which there was no room.
+    /// The item that was taken from the iterator and for which there was no room. It is `None` if
+    /// the list could not get room for the size hint: then no item was taken.
     pub in_hand: Option<T>,
-    /// The iterator, which yields the items that were not drawn.
+    /// The iterator, which yields the items that were not taken from it.
     pub rest: I,
 }
 
-/// What `from_iter` returns when it fails.
+/// The error of `from_iter`. It holds every item that was taken from the iterator.
 #[derive(Drop)]
 pub struct CollectRefused<T, I, A: Allocator = Global> {
-    /// The items that were placed.
+    /// The list, which has the items that were placed and the allocator that was passed.
     pub list: ThinVec<T, A>,
-    /// Why the call failed.
+    /// Says why the call failed.
     pub cause: ThinVecError,
-    /// The item that was drawn, and for which there was no room.
+    /// The item that was taken from the iterator and for which there was no room. It is `None` if
+    /// the list could not get room for the size hint: then no item was taken.
     pub in_hand: Option<T>,
-    /// The iterator, which yields the items that were not drawn.
+    /// The iterator, which yields the items that were not taken from it.
     pub rest: I,
 }
 
-/// What `finish` of a `Splice` returns when it fails. The items that were placed stay in the list.
+/// The error of `finish` of a `Splice`. The items that were placed before the failure stay in the
+/// list.
 #[derive(Drop)]
 pub struct SpliceRefused<T, I, A: Allocator = Global> {
-    /// Why the call failed.
+    /// Says why the call failed.
     pub cause: ThinVecError,
-    /// The items that were drawn after those that were placed, and for which the list has no room
-    /// yet.
+    /// The items that were taken from the iterator after the placed ones, and that are not in the
+    /// list. The vector has the allocator that was passed to `finish`.
     pub held: Vec<T, A>,
-    /// The item that was drawn after those, and for which there was no room.
+    /// The item that was taken from the iterator after the ones in `held`, and for which there was
+    /// no room. It is `None` if the list could not get room for the size hint, or for the items in
+    /// `held`.
     pub in_hand: Option<T>,
-    /// The iterator, which yields the items that were not drawn. With nothing in hand and something
-    /// held it has ended, and is not to be asked again; else it may be.
+    /// The iterator, which yields the items that were not taken from it. If `held` is not empty and
+    /// `in_hand` is `None`, the iterator has returned `None`, and must not be asked again.
+    /// Otherwise, it may be asked again.
     pub rest: I,
 }
 
 impl<S: Drop> From<Rejected<S>> for ThinVecError {
     ghost from_gives = { λ refused cause. cause ≡ refused.cause };
 
-    // The value is dropped.
+    // Returns the cause, and drops the value.
     fn from(refused: Rejected<S>) -> ThinVecError {
         refused.cause
     }
@@ -70,7 +77,7 @@ impl<S: Drop> From<Rejected<S>> for ThinVecError {
 impl<T: Drop, I: Drop> From<ExtendRefused<T, I>> for ThinVecError {
     ghost from_gives = { λ refused cause. cause ≡ refused.cause };
 
-    // The item in hand and the rest of the iterator are dropped.
+    // Returns the cause, and drops the item in hand and the iterator.
     fn from(refused: ExtendRefused<T, I>) -> ThinVecError {
         refused.cause
     }
@@ -79,7 +86,7 @@ impl<T: Drop, I: Drop> From<ExtendRefused<T, I>> for ThinVecError {
 impl<T: Drop, I: Drop, A: Allocator> From<CollectRefused<T, I, A>> for ThinVecError {
     ghost from_gives = { λ refused cause. cause ≡ refused.cause };
 
-    // The list is dropped, and with it the item in hand and the rest of the iterator.
+    // Returns the cause, and drops the list, the item in hand and the iterator.
     fn from(refused: CollectRefused<T, I, A>) -> ThinVecError {
         refused.cause
     }
@@ -88,35 +95,38 @@ impl<T: Drop, I: Drop, A: Allocator> From<CollectRefused<T, I, A>> for ThinVecEr
 impl<T: Drop, I: Drop, A: Allocator> From<SpliceRefused<T, I, A>> for ThinVecError {
     ghost from_gives = { λ refused cause. cause ≡ refused.cause };
 
-    // What is held, the item in hand and the rest of the iterator are dropped.
+    // Returns the cause, and drops the held items, the item in hand and the iterator.
     fn from(refused: SpliceRefused<T, I, A>) -> ThinVecError {
         refused.cause
     }
 }
 
 impl<S: Drop> From<Rejected<S>> for AllocError {
-    // The value is dropped, and the cause with it.
+    // Drops the value. The cause is lost, because `AllocError` has no field for it.
     fn from(_refused: Rejected<S>) -> AllocError {
         AllocError
     }
 }
 
 impl<T: Drop, I: Drop> From<ExtendRefused<T, I>> for AllocError {
-    // What was returned is dropped, and the cause with it.
+    // Drops the item in hand and the iterator. The cause is lost, because `AllocError` has no field
+    // for it.
     fn from(_refused: ExtendRefused<T, I>) -> AllocError {
         AllocError
     }
 }
 
 impl<T: Drop, I: Drop, A: Allocator> From<CollectRefused<T, I, A>> for AllocError {
-    // What was returned is dropped, and the cause with it.
+    // Drops the list, the item in hand and the iterator. The cause is lost, because `AllocError`
+    // has no field for it.
     fn from(_refused: CollectRefused<T, I, A>) -> AllocError {
         AllocError
     }
 }
 
 impl<T: Drop, I: Drop, A: Allocator> From<SpliceRefused<T, I, A>> for AllocError {
-    // What was returned is dropped, and the cause with it.
+    // Drops the held items, the item in hand and the iterator. The cause is lost, because
+    // `AllocError` has no field for it.
     fn from(_refused: SpliceRefused<T, I, A>) -> AllocError {
         AllocError
     }
@@ -125,7 +135,8 @@ impl<T: Drop, I: Drop, A: Allocator> From<SpliceRefused<T, I, A>> for AllocError
 impl<S: Drop> From<Rejected<S>> for io::Error {
     ghost from_gives = { λ _ error. error_kind error ≡ Kind.OutOfMemory };
 
-    // The value is dropped.
+    // Drops the value. The kind is `OutOfMemory` for both causes, because std has no `ErrorKind`
+    // for an overflow.
     fn from(_refused: Rejected<S>) -> io::Error {
         io::Error::from(ErrorKind::OutOfMemory)
     }
@@ -134,7 +145,7 @@ impl<S: Drop> From<Rejected<S>> for io::Error {
 impl<T: Drop, I: Drop> From<ExtendRefused<T, I>> for io::Error {
     ghost from_gives = { λ _ error. error_kind error ≡ Kind.OutOfMemory };
 
-    // What was returned is dropped.
+    // Drops the item in hand and the iterator. The kind is `OutOfMemory` for both causes.
     fn from(_refused: ExtendRefused<T, I>) -> io::Error {
         io::Error::from(ErrorKind::OutOfMemory)
     }
@@ -143,7 +154,7 @@ impl<T: Drop, I: Drop> From<ExtendRefused<T, I>> for io::Error {
 impl<T: Drop, I: Drop, A: Allocator> From<CollectRefused<T, I, A>> for io::Error {
     ghost from_gives = { λ _ error. error_kind error ≡ Kind.OutOfMemory };
 
-    // What was returned is dropped.
+    // Drops the list, the item in hand and the iterator. The kind is `OutOfMemory` for both causes.
     fn from(_refused: CollectRefused<T, I, A>) -> io::Error {
         io::Error::from(ErrorKind::OutOfMemory)
     }
@@ -152,13 +163,15 @@ impl<T: Drop, I: Drop, A: Allocator> From<CollectRefused<T, I, A>> for io::Error
 impl<T: Drop, I: Drop, A: Allocator> From<SpliceRefused<T, I, A>> for io::Error {
     ghost from_gives = { λ _ error. error_kind error ≡ Kind.OutOfMemory };
 
-    // What was returned is dropped.
+    // Drops the held items, the item in hand and the iterator. The kind is `OutOfMemory` for both
+    // causes.
     fn from(_refused: SpliceRefused<T, I, A>) -> io::Error {
         io::Error::from(ErrorKind::OutOfMemory)
     }
 }
 
-// The texts name only the cause, so that what the error returns need not be printable.
+// The texts name only the cause. So the values that an error holds need not implement `Debug` or
+// `Display`.
 impl<S> fmt::Debug for Rejected<S> {
     fn fmt<W: fmt::Write>(&self, f: &mut fmt::Formatter<W>) -> fmt::Result {
         f.debug_struct("Rejected")

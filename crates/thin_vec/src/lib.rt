@@ -1,5 +1,8 @@
-//! A growable list that is one pointer wide: its length and its capacity stand in the block that it
-//! allocates. (own) marks a call that the Rust crate thin-vec lacks.
+//! A growable list that is one pointer wide: its length and its capacity are stored in its
+//! allocation, before the items. Its methods have the names that they have in Rust's `Vec`.
+//!
+//! The list is a port of the Rust crate thin-vec. If that crate lacks a method of this list, the
+//! comment of the method says so.
 #![tactic(auto)]
 
 mod convert;

@@ -1,4 +1,5 @@
-//! The list: its type, what a contract sees of it, and the calls that most callers make.
+//! The type `ThinVec`, what contracts see of a list, and the methods that most callers use. The
+//! other methods are in the folder `list`, and in `convert` and `edits`.
 ghost use Rattle.std.specs.Prelude.{◌≡◌, ◌↔◌, ◌+◌, ◌-◌, ◌<◌, [], ◌∷◌, ◌++◌, IfErr, IsOk, IsSome, IsTrue, None, OnErr, OnOk, Some, length};
 ghost use Rattle.std.specs.Option.{option_to_list};
 ghost use Rattle.thin_block.specs.Block.{IsFrom};
@@ -24,10 +25,15 @@ use std::alloc::{Allocator, Global};
 use std::marker::{Model, PhantomData};
 use thin_block::{Block, Doubling, Growth, ThinVecError};
 
-/// A `Vec` one pointer wide, beside its allocator: length and capacity are stored at the start of
-/// its allocation. A new list allocates nothing.
+/// A growable list, like Rust's `Vec`, but one pointer wide if its allocator is zero-sized, as
+/// `Global` is. The length and the capacity are stored at the start of the allocation, which is
+/// called the *block* of the list. A list of capacity 0 has no block.
 ///
-/// `G` is the rule by which its capacity grows.
+/// The list owns its items, its block and its allocator. It needs the allocator to grow, and to
+/// free the block. Dropping a list drops its items and frees its block.
+///
+/// The type `G` is the growth rule: it chooses the new capacity if there is too little room for new
+/// items. The default `Doubling` is the rule of the Rust crate thin-vec.
 pub struct ThinVec<T, A: Allocator = Global, G: Growth = Doubling> {
     pub(crate) block: Block<T, A>,
     pub(crate) alloc: A,
@@ -49,7 +55,8 @@ impl<T, A: Allocator, G: Growth> Model for ThinVec<T, A, G> {
 impl<T, A: Allocator> ThinVec<T, A> {
     ghost use Rattle.thin_vec.specs.ThinVec.{IsNew, IsWithin};
 
-    /// An empty list of capacity 0. It allocates nothing.
+    /// Returns an empty list of capacity 0, which keeps `alloc`. It allocates nothing. The growth
+    /// rule of the list is `Doubling`.
     pub fn new(alloc: A) -> ThinVec<T, A>
         ensures new { IsNew result alloc }
         ensures within { IsWithin T.row result }
@@ -57,7 +64,8 @@ impl<T, A: Allocator> ThinVec<T, A> {
         ThinVec::ruled(alloc)
     }
 
-    /// `new`, in place of the trait `Default`, which has no allocator to pass.
+    /// Returns an empty list of capacity 0, which keeps `alloc`. It allocates nothing, and does the
+    /// same as `new`. It replaces the trait `Default`, whose method takes no allocator.
     pub fn default_in(alloc: A) -> ThinVec<T, A>
         ensures new { IsNew result alloc }
         ensures within { IsWithin T.row result }
@@ -72,7 +80,10 @@ impl<T, A: Allocator, G: Growth> ThinVec<T, A, G> {
     ghost use Rattle.thin_vec.specs.Lends.{LendsItems};
     ghost use Rattle.thin_vec.specs.ThinVec.{HasRoomFor, IsNew, IsWithin};
 
-    /// `new` under any growth rule. (own)
+    /// Returns an empty list of capacity 0 with the growth rule `G`, which keeps `alloc`. It
+    /// allocates nothing.
+    ///
+    /// This method is our own: the Rust crate thin-vec has a single growth rule.
     pub fn ruled(alloc: A) -> ThinVec<T, A, G>
         ensures new { IsNew result alloc }
         ensures within { IsWithin T.row result }
@@ -84,7 +95,7 @@ impl<T, A: Allocator, G: Growth> ThinVec<T, A, G> {
         }
     }
 
-    /// The number of items.
+    /// Returns the number of items.
     pub fn len(&self) -> usize
         ensures value { result ≡ length self.now.items }
         ensures fits { Fits T.row result }
@@ -93,14 +104,16 @@ impl<T, A: Allocator, G: Growth> ThinVec<T, A, G> {
         self.block.len()
     }
 
-    /// The allocator that the list keeps. (own)
+    /// Returns a reference to the allocator that the list keeps.
+    ///
+    /// The Rust crate thin-vec has no such method, because its lists keep no allocator.
     pub fn allocator(&self) -> &A
         ensures value { result.now ≡ self.now.alloc }
     {
         &self.alloc
     }
 
-    /// Whether there is no item.
+    /// Returns whether the list has no items.
     pub fn is_empty(&self) -> bool
         ensures value { IsTrue result ↔ (self.now.items ≡ []) }
         ensures within { IsWithin T.row self.now }
@@ -108,7 +121,8 @@ impl<T, A: Allocator, G: Growth> ThinVec<T, A, G> {
         self.len() == 0
     }
 
-    /// How many items there is room for.
+    /// Returns the number of items for which the block has room, including the items that the list
+    /// has.
     pub fn capacity(&self) -> usize
         ensures value { result ≡ self.now.capacity }
         ensures within { IsWithin T.row self.now }
@@ -116,7 +130,7 @@ impl<T, A: Allocator, G: Growth> ThinVec<T, A, G> {
         self.block.cap()
     }
 
-    /// Whether the list owns a block.
+    /// Returns whether the list has a block, which it has if and only if its capacity is not 0.
     pub fn has_capacity(&self) -> bool
         ensures value { IsTrue result ↔ (0 < self.now.capacity) }
         ensures within { IsWithin T.row self.now }
@@ -124,21 +138,28 @@ impl<T, A: Allocator, G: Growth> ThinVec<T, A, G> {
         self.capacity() != 0
     }
 
-    /// Appends `value`, which the list owns afterwards.
+    /// Appends `value`, which the list then owns. If there is no spare capacity, the list first
+    /// grows to the capacity that the growth rule chooses. A push takes amortised constant time,
+    /// because each growth at least doubles the capacity.
     ///
-    /// It fails only where there is no spare room, and then because the ruled capacity overflows,
-    /// or the allocator fails.
+    /// # Errors
+    ///
+    /// Fails only if there is no spare capacity. Then the list is unchanged, and the error holds
+    /// `value`, which the caller owns again.
+    ///
+    /// - `CapacityOverflow`: the new capacity would be too large.
+    /// - `OutOfMemory`: the allocator failed.
     pub fn push(&mut self, value: T) -> Result<(), Rejected<T>>
         // On success.
         ensures items { OnOk result (self.new.items ≡ self.old.items ++ value ∷ []) }
         ensures cost { OnOk result (Costs 1 self.old self.new) }
 
-        // On failure nothing changes, and the value is in the error. A push into spare capacity succeeds.
+        // On failure, the list is unchanged.
         ensures succeeds { HasRoomFor self.old 1 → IsOk result }
         ensures err { OnErr result (self.new ≡ self.old) }
         ensures value_returned { IfErr result (λ error. error.value ≡ value) }
 
-        // In any case. The capacity and the cause of a failure are those of `reserve(1)`.
+        // In any case. The capacity and the cause of a failure are as for `reserve(1)`.
         ensures reserves { Reserves G.rule T.row 1 self.old self.new (causes result) }
         ensures keeps { Keeps T.row self.old self.new }
     {
@@ -149,7 +170,7 @@ impl<T, A: Allocator, G: Growth> ThinVec<T, A, G> {
         Ok(())
     }
 
-    /// The items, in order.
+    /// Returns the items, in order, as a slice.
     pub fn as_slice(&self) -> &[T]
         ensures value { result.now ≡ self.now.items }
         ensures within { IsWithin T.row self.now }
@@ -157,7 +178,8 @@ impl<T, A: Allocator, G: Growth> ThinVec<T, A, G> {
         self.block.slice(0, self.block.len())
     }
 
-    /// The items, in order, to be written. What is written is what the list holds afterwards.
+    /// Returns the items, in order, as a mutable slice. What the caller writes to the slice is
+    /// written to the items of the list.
     pub fn as_mut_slice(&mut self) -> &mut [T]
         ensures* writes_back { sem 𝓛
             (LendsItems T.row A.row G.row A.Allocator G.Growth self.entry result) }
@@ -168,8 +190,10 @@ impl<T, A: Allocator, G: Growth> ThinVec<T, A, G> {
         self.block.slice_mut(0, len)
     }
 
-    /// `push` into room that the caller has shown to be there, as after `reserve`: it returns no
-    /// `Result`. (`push_reserved` of the kit's `Vec` and `smallvec`)
+    /// Appends `value`, which the list then owns, without growing. The list must have room for one
+    /// more item, as it has after `reserve(1)`. So the call cannot fail, and returns no `Result`.
+    ///
+    /// Rattle's `Vec` has a method of this name, and the Rust crate thin-vec has none.
     pub fn push_reserved(&mut self, value: T)
         requires room { HasRoomFor self.old 1 }
         ensures items { self.new.items ≡ self.old.items ++ value ∷ [] }
@@ -181,7 +205,8 @@ impl<T, A: Allocator, G: Growth> ThinVec<T, A, G> {
         self.block.put_and_store(len, value, len + 1);
     }
 
-    /// Removes the last item and returns it, or `None` where there is none. The capacity stays.
+    /// Removes the last item and returns it, or returns `None` if the list is empty. The capacity
+    /// does not change.
     pub fn pop(&mut self) -> Option<T>
         ensures variant { IsSome result ↔ (0 < length self.old.items) }
         ensures items { self.old.items ≡ self.new.items ++ option_to_list result }
@@ -194,7 +219,7 @@ impl<T, A: Allocator, G: Growth> ThinVec<T, A, G> {
         Some(self.pop_last())
     }
 
-    // `pop` of a list that is not empty.
+    // Removes the last item of a list that is not empty, and returns the item.
     pub(crate) fn pop_last(&mut self) -> T
         requires some { 0 < length self.old.items }
         ensures items { self.old.items ≡ self.new.items ++ result ∷ [] }
@@ -206,7 +231,8 @@ impl<T, A: Allocator, G: Growth> ThinVec<T, A, G> {
         value
     }
 
-    // The block and the allocator. The caller owns them, and the items in the block.
+    // Takes the list apart into its block and its allocator. The caller then owns both, and the
+    // items in the block.
     pub(crate) fn into_parts(self) -> (Block<T, A>, A)
         ensures slots { result.0.slots ≡ front self.items self.capacity }
         ensures len { result.0.len ≡ length self.items }
@@ -222,7 +248,7 @@ impl<T, A: Allocator, G: Growth> ThinVec<T, A, G> {
         (block, alloc)
     }
 
-    // The end of an empty list: its block is freed.
+    // Consumes an empty list, and frees its block.
     pub(crate) fn release(self)
         requires empty { self.items ≡ [] }
     {
@@ -236,8 +262,8 @@ impl<T, A: Allocator, G: Growth> ThinVec<T, A, G> {
 }
 
 impl<T: Drop, A: Allocator, G: Growth> Drop for ThinVec<T, A, G> {
-    // Drops each item, and then frees the block. No length is stored any more. A list without a
-    // block is dropped without a call.
+    // Drops each item, and then frees the block. It does not update the stored length, because the
+    // block is freed anyway. A list without a block is dropped without a call.
     #[inline(always)]
     fn drop(self) {
         let (block, alloc) = self.into_parts();

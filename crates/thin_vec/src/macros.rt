@@ -1,4 +1,5 @@
-//! `thin_vec!`: a list written out, and what it calls.
+//! The macro `thin_vec!`, which makes a list of the items that are written in it, and the functions
+//! that the macro calls.
 ghost use Rattle.std.specs.Prelude.{◌≡◌, [], ◌∷◌, ◌++◌, IfOk, IsOk, Some, replicate};
 ghost use Rattle.thin_block.specs.Cost.{moving};
 ghost use Rattle.thin_block.specs.Growth.{doubling, ruled_capacity};
@@ -10,16 +11,32 @@ use crate::list::ThinVec;
 use std::alloc::Allocator;
 use thin_block::ThinVecError;
 
-/// Makes a list: `thin_vec![alloc =>]` is `Ok` of `new`, and `thin_vec![alloc => x, y]` has the
-/// items in order, with exactly that capacity. `thin_vec![alloc => x; k]` is `new` and then
-/// `resize(k, x)`: clones of x, and x itself as the last of k, at the capacity that `Doubling`
-/// names for k items.
+/// Makes a list with the growth rule `Doubling`. The macro has three forms:
 ///
-/// Each form is a `Result<ThinVec<T, A>, ThinVecError>`, and is used inside a function's body,
-/// whatever that function returns. A trailing comma is allowed, but not after k. `alloc` is
-/// evaluated once and first. Items that are written out are evaluated once each, in order, and only
-/// where the memory was granted; x and then k are evaluated before it is asked for, and where that
-/// fails x is dropped.
+/// - `thin_vec![alloc =>]` makes an empty list of capacity 0. It allocates nothing.
+/// - `thin_vec![alloc => x, y]` makes a list of the items that are written, in order. Its capacity
+///   is exactly the number of items.
+/// - `thin_vec![alloc => x; k]` makes a list of `k` items: clones of `x`, and `x` itself as the
+///   last item. Its capacity is the one that `Doubling` chooses for `k` items. If `k` is 0, the
+///   capacity is 0, and `x` is dropped.
+///
+/// In each form, `in alloc;` may be written instead of `alloc =>`, as in
+/// `thin_vec![in alloc; x, y]`. The first form is then `thin_vec![in alloc]`. A trailing comma is
+/// allowed after items, but not after `k`.
+///
+/// The macro evaluates to a `Result<ThinVec<T, A>, ThinVecError>`. It may be used in the body of
+/// any function, whatever the function returns.
+///
+/// The macro evaluates `alloc` once, before everything else. In the second form, it then requests
+/// the memory, and evaluates each item once, in order, only if the memory was granted. In the third
+/// form, it evaluates `x` and then `k`, and then requests the memory.
+///
+/// # Errors
+///
+/// On failure, no list is made. The third form then drops `x` and the clones already made.
+///
+/// - `CapacityOverflow`: the capacity would be too large.
+/// - `OutOfMemory`: the allocator failed or, in the third form, a clone failed.
 #[macro_export]
 macro_rules! thin_vec {
     ($alloc:expr =>) => {
@@ -48,7 +65,8 @@ macro_rules! thin_vec {
     };
 }
 
-/// What `thin_vec!` calls: how many items are written out. None is evaluated.
+/// Counts the items that are written in `thin_vec!`, and evaluates none of them. `thin_vec!` calls
+/// this macro to compute the capacity.
 #[doc(hidden)]
 #[macro_export]
 macro_rules! count_items {
@@ -60,7 +78,8 @@ macro_rules! count_items {
     };
 }
 
-/// What `thin_vec!` calls for each item: `push` into the room that it has made.
+/// Appends `value` to a list that has room for one more item, without growing. The list then owns
+/// `value`. `thin_vec!` calls this function once for each item that is written in it.
 #[doc(hidden)]
 pub fn place<T, A: Allocator>(list: &mut ThinVec<T, A>, value: T)
     requires room { HasRoomFor list.old 1 }
@@ -72,7 +91,16 @@ pub fn place<T, A: Allocator>(list: &mut ThinVec<T, A>, value: T)
     list.push_reserved(value);
 }
 
-/// What `thin_vec!` calls for `count` times the same: `new`, and then `resize`.
+/// Makes a list of `count` items: clones of `value`, and `value` itself as the last item. If
+/// `count` is 0, `value` is dropped. `thin_vec!` calls this function for
+/// `thin_vec![alloc => value; count]`.
+///
+/// # Errors
+///
+/// On failure, `value` and the clones already made are dropped.
+///
+/// - `CapacityOverflow`: the capacity that `Doubling` needs for `count` items would be too large.
+/// - `OutOfMemory`: the allocator or a clone failed.
 #[doc(hidden)]
 pub fn repeated<T: Clone, A: Allocator>(
     alloc: A,

@@ -1,14 +1,17 @@
-//! Rust's forms of a range, as the two numbers that `drain`, `extract_if` and `splice` take.
+//! Converts the ranges of Rust into the two numbers that `drain`, `extract_if` and `splice` take.
 ghost use Rattle.std.specs.Prelude.{◌≡◌, ◌≤◌, IfSome};
 ghost use Rattle.thin_vec.specs.Ranges.{range_between};
 
 use std::ops::Bound;
 
-/// The range between two bounds in a list of `len` items, as the index of its first item and the
-/// one after its last, or `None` where it begins after its end, or ends past the list. It is the
-/// test for the ranges that edits ask for. (own)
+/// Returns the range between two bounds in a list of `len` items, as two numbers: the index of its
+/// first item, and the index after its last item. Returns `None` if the range begins after its end,
+/// or if it ends after the last item of the list.
 ///
-/// It is what std's `slice::range` does with such bounds, where that panics.
+/// The two numbers meet the preconditions on the range of `drain`, `extract_if` and `splice`.
+/// Rust's `slice::range` returns the same numbers, and panics if this function returns `None`.
+///
+/// This function is our own: the Rust crate thin-vec has none like it.
 pub fn bounds(start: Bound<usize>, end: Bound<usize>, len: usize) -> Option<(usize, usize)>
     ensures value { result ≡ range_between start end len }
     ensures start_le_end { IfSome result (λ range. range.0 ≤ range.1) }

@@ -1,4 +1,4 @@
-//! The commands that remove or replace a range, and `dedup`.
+//! The parser of the commands that remove or replace a range, and `dedup`.
 ghost use Rattle.std.specs.Prelude.{IfOk, IfSome};
 ghost use Rattle.thin_replay.specs.Lines.{SaysUnjudged};
 
@@ -7,7 +7,8 @@ use crate::words::{count_of, items_of, steps_of};
 use std::alloc::Global;
 use thin_runner::command::Command;
 
-/// Parses the words, if they have the form of one of these commands.
+/// Parses the words of a line. Returns `None` if they do not have the form of one of these
+/// commands.
 pub fn parse(alloc: Global, words: &[&str]) -> Result<Option<Command<u64>>, LineError>
     ensures says { IfOk result (λ found. IfSome found (SaysUnjudged words.now)) }
 {

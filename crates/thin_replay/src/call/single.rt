@@ -1,4 +1,4 @@
-//! The commands that add, remove or write an item, or remove the last items.
+//! The parser of the commands that add, remove or replace one item, or remove the last items.
 ghost use Rattle.std.specs.Prelude.{IfOk, IfSome};
 ghost use Rattle.thin_replay.specs.Lines.{SaysUnjudged};
 
@@ -6,7 +6,8 @@ use crate::line_error::LineError;
 use crate::words::{count_of, item_of};
 use thin_runner::command::Command;
 
-/// Parses the words, if they have the form of one of these commands.
+/// Parses the words of a line. Returns `None` if they do not have the form of one of these
+/// commands.
 pub fn parse(words: &[&str]) -> Result<Option<Command<u64>>, LineError>
     ensures says { IfOk result (λ found. IfSome found (SaysUnjudged words.now)) }
 {

@@ -1,17 +1,18 @@
 -- A splice: the items of a range are removed, and the items of an iterator take their places. (std:
 -- `Vec::splice`, `Vec::extend`)
-use Rattle.std.specs.Prelude.{◌≡◌, ◌⊎◌, ℕ, ◌+◌, ◌-◌, ◌*◌, ◌<◌, ◌≤◌, List, [], ◌++◌, IsSome, None, Option, drop, length, take}
+use Rattle.std.specs.Prelude.{◌≡◌, ◌↔◌, ◌⊎◌, ℕ, ◌+◌, ◌-◌, ◌*◌, ◌<◌, ◌≤◌, List, [], ◌++◌, IsSome, None, Option, drop, length, take}
 use Rattle.std.specs.Borrow.{RattleType}
 use Rattle.std.specs.Iterator.{at_most}
 use Rattle.std.specs.List.{remove_range}
 use Rattle.std.specs.Option.{option_to_list}
 use Rattle.std.specs.Vec.Iter.{into_iter_items}
 use Rattle.thin_vec.specs.Cheap.{IsCheap}
-use Rattle.thin_vec.specs.List.Extend.{IsExtended, IsLoose}
-use Rattle.thin_vec.specs.Edits.Splice.{IsSpliced, IsStopCause}
+use Rattle.thin_vec.specs.List.Extend.{IsExtended, IsLoose, MayOverflow, MustOverflow}
+use Rattle.thin_vec.specs.Edits.Splice.{IsSpliced}
 use Rattle.thin_vec.specs.Growth.{Rule}
-use Rattle.thin_vec.specs.ThinVec.{HasRoomFor, IsWithin, Thin}
+use Rattle.thin_vec.specs.ThinVec.{HasRoomFor, IsWithin, Thin, capacity_for}
 use Rattle.thin_vec.specs.declared.ThinVecError.{ThinVecError}
+use Rattle.thin_vec.specs.declared.ThinVecError.TheVariants.{CapacityOverflow, OutOfMemory}
 use Rattle.thin_runner.specs.declared.hinted.Hinted.{Hinted}
 
 module _ {T A : Type 0} (old : Thin T A) (a b : ℕ) where
@@ -32,7 +33,7 @@ module _ {T A : Type 0} (rule : Rule) (R : RattleType) (old : Thin T A) (a b : �
   pub record Replaces (placed : List T) (most : ℕ) (new : Thin T A) : Type 0 where
     pub items : new.items ≡ (take a old.items ++ placed) ++ drop b old.items
     pub capacity : IsLoose rule R old.capacity new.capacity
-    pub named : IsExtended rule R (cut old a b) new.capacity (length new.items) (at_most most)
+    pub ruled : IsExtended rule R (cut old a b) new.capacity (length new.items) (at_most most)
     pub within : IsWithin R new
     pub had_room : HasRoomFor (cut old a b) most → new.capacity ≡ old.capacity
     pub cost : IsSpliced (cut old a b) new (2 * (length old.items - b))
@@ -51,8 +52,22 @@ module _ {T A : Type 0} (rule : Rule) (R : RattleType) (old : Thin T A) (a b : �
     pub claim : rest.lower ≡ lower
     pub filled : Replaces placed (lower + length xs) new
     pub no_room : ¬ (HasPlacesFor old a b (lower + length xs))
-    pub told : IsStopCause rule R new (drop b old.items) held in_hand
-        (at_most (rest.lower + length (into_iter_items rest.items))) cause
+    -- without an item held or in hand, the cause is an overflow if each allowed hint overflows, and
+    -- only if some allowed hint does
+    pub by_hint : held ≡ [] → in_hand ≡ None
+        → (MustOverflow rule R new (at_most (rest.lower + length (into_iter_items rest.items)))
+        → cause ≡ CapacityOverflow)
+        × (cause ≡ CapacityOverflow
+        → MayOverflow rule R new (at_most (rest.lower + length (into_iter_items rest.items))))
+    -- with items held and none in hand, it is one if and only if no capacity is ruled for the items
+    pub by_held : 0 < length held → in_hand ≡ None
+        → (cause ≡ CapacityOverflow) ↔ (capacity_for rule R new (length held) ≡ None)
+    -- with an item in hand and items after the range, there was no memory to hold the item
+    pub by_in_hand : b < length old.items → IsSome in_hand → cause ≡ OutOfMemory
+    -- with an item in hand and no item after the range, it is one if and only if no capacity is
+    -- ruled for one item more
+    pub by_push : b ≡ length old.items → IsSome in_hand
+        → (cause ≡ CapacityOverflow) ↔ (capacity_for rule R new 1 ≡ None)
     pub ended : in_hand ≡ None → 0 < length held → into_iter_items rest.items ≡ []
     pub range : b < length old.items → b - a ≤ length placed
     pub at_end : b ≡ length old.items → (held ≡ [])

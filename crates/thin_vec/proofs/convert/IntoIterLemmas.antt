@@ -1,5 +1,5 @@
--- What a block holds whose items lie in a row with no slot filled before or after them, after each
--- step on it; and what a walk over it yields.
+-- What the block of an `IntoIter` contains after each step, and what the iterator yields. The items
+-- not yet yielded are in the slots from `start` up to `end`; all other slots are empty.
 use Rattle.std.proofs.Common.{◌≡◌, ℕ, zero, suc, ◌+◌, ◌-◌, ◌<◌, ◌≤◌, List, [], ◌∷◌, ◌++◌, Option, Some, None, length, take, drop, refl, sym, ap, ◌∙◌, arith, get_or, length-append, append_assoc}
 use Rattle.std.proofs.iter.runs.Sources.{as_is, as_is_back, from_back, from_front}
 use Rattle.std.proofs.lemmas.Grind.{take_at_read}
@@ -19,11 +19,12 @@ use Rattle.thin_vec.proofs.LendsLemmas.{over-front}
 use Rattle.thin_vec.proofs.ListLemmas.{from-same, full-same, get-some, items-empty, items-full, length-empty, length-full, slot-get}
 
 module _ {T : Type 0} where
+  -- empty slots before the slots s add no items
   items-after : (k : ℕ) (s : List (Option T)) → items_in (empty k ++ s) ≡ items_in s
   items-after zero s = refl
   items-after (suc k) s = items-after k s
 
-  -- the first item leaves
+  -- emptying the slot of the first item leaves one more empty slot before the other items
   set-first : (start k : ℕ) (x : T) (xs : List T) → set (empty start ++ (full (x ∷ xs) ++ empty k))
       start None ≡ empty (start + 1) ++ (full xs ++ empty k)
   set-first start k x xs =
@@ -32,7 +33,8 @@ module _ {T : Type 0} where
       ∙ ap (λ (s : List (Option T)). s ++ (full xs ++ empty k))
       (replicate-append-replicate start 1 None))
 
-  -- the last item, in front of empty slots
+  -- a row whose last item is x consists of the slots before x, the slot of x, and the empty slots
+  -- after it
   row-last : (start k : ℕ) (xs : List T) (x : T) → empty start ++ (full (xs ++ x ∷ []) ++ empty k)
       ≡ (empty start ++ full xs) ++ (Some x ∷ empty k)
   row-last start k xs x =
@@ -41,17 +43,20 @@ module _ {T : Type 0} where
       (append_assoc (full xs) (Some x ∷ []) (empty k))
       ∙ sym (append_assoc (empty start) (full xs) (Some x ∷ empty k)))
 
+  -- `start` empty slots and the items xs take `start + length xs` slots
   before-last : (start : ℕ) (xs : List T) → length (empty start ++ full xs) ≡ start + length xs
   before-last start xs =
       omega (arith, length-append (empty start) (full xs), length-empty T start, length-full xs)
 
+  -- in the row of `start` empty slots, the items xs and x, and k empty slots, the slot after xs
+  -- holds x
   slot-last : (start k : ℕ) (xs : List T) (x : T)
       → slot (empty start ++ (full (xs ++ x ∷ []) ++ empty k)) (start + length xs) ≡ Some x
   slot-last start k xs x = ap (λ (s : List (Option T)). slot s (start + length xs))
       (row-last start k xs x) ∙ get_or_at (empty start ++ full xs) (Some x) (empty k) None
       (start + length xs) (before-last start xs)
 
-  -- the last item leaves
+  -- emptying the slot of the last item leaves one more empty slot after the other items
   set-last : (start k : ℕ) (xs : List T) (x : T)
       → set (empty start ++ (full (xs ++ x ∷ []) ++ empty k)) (start + length xs) None ≡ empty start
       ++ (full xs ++ empty (k + 1))
@@ -63,27 +68,32 @@ module _ {T : Type 0} where
       ∙ ap (λ (n : ℕ). empty start ++ (full xs ++ empty n))
       (let e : suc k ≡ k + 1 = omega arith in e)))
 
-  -- a list that is not empty, by its last item
+  -- a list of j + 1 items consists of its first j items and its last item
   split-last : (xs : List T) (j : ℕ) (d : T) → j + 1 ≡ length xs
       → xs ≡ take j xs ++ get_or xs j d ∷ []
   split-last xs j d e = sym (all xs (j + 1) e) ∙ (take_at_read xs j d (omega arith)).1
     where
+      -- the first n items of a list of length n are all its items
       all : (ys : List T) (n : ℕ) → n ≡ length ys → take n ys ≡ ys
       all ys n same = ap (take n) (sym (append-nil ys)) ∙ take_at ys [] n (sym same)
 
-  -- what is written over the items
+  -- in the row of `start` empty slots and the slots s, writing ws from the slot `start` on writes
+  -- ws over s
   over-after : (start : ℕ) (s : List (Option T)) (ws : List T)
       → over (empty start ++ s) start ws ≡ empty start ++ over s 0 ws
   over-after zero s ws = refl
   over-after (suc start) s ws = ap (λ (r : List (Option T)). None ∷ r) (over-after start s ws)
 
 module _ {T A : Type 0} where
-  -- the block of an iterator whose items xs lie in the slots from `start` up to `end`, of c
+  -- the block b is that of an iterator whose items xs are in the slots from `start` up to `end`; b
+  -- has c slots, and its memory came from `a`
   pub record Walking (b : Block T A) (a : A) (xs : List T) (start end c : ℕ) : Type 0 where
     pub walked : IsWalked b a start end
     pub items : items_in b.slots ≡ xs
     pub cap : length b.slots ≡ c
 
+  -- the block b satisfies `Walking` if its slots are `start` empty slots, the items xs, and
+  -- `c - end` empty slots, and its memory came from `a`
   walking : (b : Block T A) {a : A} (xs : List T) (start end : ℕ) {c : ℕ}
       → b.slots ≡ empty start ++ (full xs ++ empty (c - end)) → start + length xs ≡ end → end ≤ c
       → IsFrom b.alloc a → Walking b a xs start end c
@@ -115,7 +125,7 @@ module _ {T A : Type 0} where
         cap = l;
       }
 
-  -- the items lie within the slots
+  -- `end` is at most the number of slots
   pub walked-room : (b : Block T A) (a : A) (start end : ℕ)
       → IsWalked b a start end → end ≤ length b.slots
   walked-room b a start end t =
@@ -143,7 +153,7 @@ module _ {T A : Type 0} where
       low ∙ slot-get xs after (i - start) within))
       (get-some xs (i - start) within)
 
-  -- the slots of the items, as a run
+  -- if ys fill exactly the slots from `start` up to `end`, then ys are the items of the iterator
   pub walked-run : (b : Block T A) (a : A) (start end : ℕ) (ys : List T) → IsWalked b a start end
       → full ys ≡ slice_range b.slots start end → ys ≡ items_in b.slots
   walked-run b a start end ys t run =
@@ -157,13 +167,17 @@ module _ {T A : Type 0} where
 
   module _ (b b' : Block T A) (a : A) (start end : ℕ) (v : T) (t : IsWalked b a start end)
       (some : start < end) where
+    -- the items not yet yielded
     abbrev xs : List T
     xs = items_in b.slots
 
+    -- the number of empty slots after the items
     abbrev gap : ℕ
     gap = length b.slots - end
 
-    -- the first item was yielded
+    -- in the row of `start` empty slots, the items ys and k empty slots: if the slot `start` holds
+    -- v, then v is the first of ys, and emptying this slot leaves one more empty slot before the
+    -- other items
     first-of : (ys : List T) (k : ℕ) → 0 < length ys
         → slot (empty start ++ (full ys ++ empty k)) start ≡ Some v
         → (ys ≡ v ∷ drop 1 ys)
@@ -177,6 +191,7 @@ module _ {T A : Type 0} where
         let same : y ≡ v = cc in
         (ap (λ (x : T). x ∷ ys) same, set-first start k y ys)
 
+    -- `first-of` for the slots of b
     first : slot b.slots start ≡ Some v → (xs ≡ v ∷ drop 1 xs)
         × (set b.slots start None ≡ empty (start + 1) ++ (full (drop 1 xs) ++ empty gap))
     first e =
@@ -184,9 +199,12 @@ module _ {T A : Type 0} where
         (ap (λ (s : List (Option T)). slot s start) (sym t.row) ∙ e) in
         (h.0, ap (λ (s : List (Option T)). set s start None) t.row ∙ h.1)
 
+    -- if the slot `start` holds v, v is the first item
     pub first-item : slot b.slots start ≡ Some v → xs ≡ v ∷ drop 1 xs
     first-item e = (first e).0
 
+    -- if the slot `start` held v and was emptied, the block is that of the iterator without its
+    -- first item
     pub settle-first : slot b.slots start ≡ Some v
         → seen b' ≡ record (seen b) { slots = set b.slots start None }
         → Walking b' a (drop 1 xs) (start + 1) end (length b.slots)
@@ -195,19 +213,23 @@ module _ {T A : Type 0} where
         (omega (arith, t.len, ap length (first e).0)) (walked-room b a start end t)
         (from-same b b' a t.from (ap (λ v. v.alloc) w))
 
-    -- the last item was yielded
+    -- all items except the last
     abbrev most : List T
     most = take (end - 1 - start) xs
 
+    -- the items are `most` and then the last item
     whole : xs ≡ most ++ get_or xs (end - 1 - start) v ∷ []
     whole = split-last xs (end - 1 - start) v (omega (arith, t.len))
 
+    -- the last item is in the slot `end - 1`
     place : start + length most ≡ end - 1
     place = omega (arith, t.len, length-take-le (end - 1 - start) xs (omega (arith, t.len)))
 
+    -- the slots of b, with the last item written apart from `most`
     row : b.slots ≡ empty start ++ (full (most ++ get_or xs (end - 1 - start) v ∷ []) ++ empty gap)
     row = t.row ∙ ap (λ (ys : List T). empty start ++ (full ys ++ empty gap)) whole
 
+    -- if the slot `end - 1` holds v, v is the last item
     pub last-item : slot b.slots (end - 1) ≡ Some v → xs ≡ most ++ v ∷ []
     last-item e =
         let is : Some (get_or xs (end - 1 - start) v) ≡ Some v =
@@ -217,6 +239,7 @@ module _ {T A : Type 0} where
         let same : get_or xs (end - 1 - start) v ≡ v = cc in
         whole ∙ ap (λ (x : T). most ++ x ∷ []) same
 
+    -- if the slot `end - 1` was emptied, the block is that of the iterator without its last item
     pub settle-last : seen b' ≡ record (seen b) { slots = set b.slots (end - 1) None }
         → Walking b' a most start (end - 1) (length b.slots)
     settle-last w =
@@ -229,7 +252,8 @@ module _ {T A : Type 0} where
         place (omega (arith, walked-room b a start end t))
         (from-same b b' a t.from (ap (λ v. v.alloc) w))
 
-  -- what remains was written
+  -- if ws was written over the slots from `start` on, the block is that of an iterator of the same
+  -- length, with ws in place of its first items
   pub settle-written : (b b' : Block T A) (a : A) (start end : ℕ) (ws : List T)
       → IsWalked b a start end → seen b' ≡ record (seen b) { slots = over b.slots start ws }
       → Walking b' a (refill (length (items_in b.slots)) (items_in b.slots) ws)
@@ -244,14 +268,15 @@ module _ {T A : Type 0} where
       (omega (arith, t.len, length_refill (length xs) xs ws refl)) (walked-room b a start end t)
       (from-same b b' a t.from (ap (λ v. v.alloc) w))
 
-  -- the iterator of a block whose items were written
+  -- writing ws over the slots from `start` on writes it over the items of the iterator that
+  -- contracts see
   pub view-written : (b : Block T A) (a : A) (start end : ℕ) (ws : List T) → IsWalked b a start end
       → thin_of (block_with_items b start ws) a ≡ with_items (thin_of b a) ws
   view-written b a start end ws t =
       let f = settle-written b (block_with_items b start ws) a start end ws t refl in
       λ i. record { items = f.items i; capacity = f.cap i; alloc = a; cost = b.cost }
 
-  -- nothing remains: every slot is empty
+  -- if all items were yielded, every slot is empty
   pub walked-empty : (b : Block T A) (a : A) (start end : ℕ) → IsWalked b a start end
       → length (items_in b.slots) ≡ 0 → b.slots ≡ empty (length b.slots)
   walked-empty b a start end t none =
@@ -263,15 +288,15 @@ module _ {T A : Type 0} where
       ∙ (replicate-append-replicate start (length b.slots - end) None
       ∙ ap (λ (n : ℕ). empty n) all))
 
--- what calls of `next`, and of `next_back`, give
+-- what repeated calls of `next` and of `next_back` yield
 module _ (T A : Type 0) where
-  -- `next` yields what remains, in order
+  -- repeated calls of `next` yield the items not yet yielded, in order
   pub rest_in_order : RestInOrder T A
   rest_in_order p s =
       as_is p (rest p.from)
       (from_front (YieldsFirst rest) (λ x. x) rest (λ s t h. ap length h.0) (λ s x t h. h) p s)
 
-  -- `next_back` yields what remains, in reverse
+  -- repeated calls of `next_back` yield the items not yet yielded, in reverse order
   pub rest_in_reverse : RestInReverse T A
   rest_in_reverse p s =
       as_is_back p (rest p.from)

@@ -1,5 +1,6 @@
--- What is left of items of which each was asked about beside the last one kept, as one stretch of
--- items follows another.
+-- Which items stay after each was tested against the last item kept so far, and how the results of
+-- consecutive tests combine. Throughout, R is the relation of the closure, and s, t and u are
+-- states of the closure.
 use Rattle.std.proofs.Common.{◌≡◌, ℕ, zero, suc, ◌+◌, ◌<◌, ◌≤◌, Bool, true, false, List, [], ◌∷◌, ◌++◌, length, take, drop, refl, sym, ap, subst, ◌∙◌, arith, inl, inr, append_assoc}
 use Rattle.std.proofs.lemmas.List.{append-nil, drop_at, length_push, replicate-append-replicate, take_at}
 use Rattle.std.specs.List.{dedup, dedup_from}
@@ -13,12 +14,13 @@ use Rattle.thin_vec.specs.ThinVec.{Thin}
 use Rattle.thin_vec.proofs.RetainLemmas.{cons-head, cons-not-nil, cons-tail, moving-more, moving-none, single}
 use Rattle.thin_vec.proofs.OpenBlockLemmas.{last-of}
 
--- a relation of a state, a later item, the last item kept, whether the later one goes, the state
--- afterwards and both items as they were left
+-- the type of relations between a state, a later item, the last item kept, whether the later item
+-- is removed, the state afterwards, and both items as the test left them
 abbrev OnPairs : Type 0 → Type 0 → Type 1
 OnPairs S T = S → T → T → Bool → S → T → T → Type 0
 
--- two ends of one list
+-- if two lists that each end with an item are equal, their last items are equal, and so are the
+-- lists before them
 last-same : {X : Type 0} (a b : List X) (x y : X) → a ++ x ∷ [] ≡ b ++ y ∷ [] → (a ≡ b) × (x ≡ y)
 last-same [] [] x y e = (refl, cons-head e)
 last-same [] (z ∷ b) x y e = let n = ap length e in absurd (omega (arith, n, length_push b y))
@@ -27,41 +29,46 @@ last-same (z ∷ a) (q ∷ b) x y e =
     let p = last-same a b x y (cons-tail e) in
     ((λ i. cons-head e i ∷ p.0 i), p.1)
 
--- flags of items that all stay
+-- the flags of n items that all stay
 abbrev pub all-stay : ℕ → List Bool
 all-stay n = replicate n true
 
+-- the number of true flags in two lists of flags is the sum of the numbers for each list
 trues-join : (a b : List Bool) → trues (a ++ b) ≡ trues a + trues b
 trues-join [] b = omega arith
 trues-join (true ∷ a) b = let e = trues-join a b in omega arith
 trues-join (false ∷ a) b = trues-join a b
 
+-- n flags that are all true have n true flags
 trues-all : (n : ℕ) → trues (replicate n true) ≡ n
 trues-all zero = refl
 trues-all (suc n) = ap suc (trues-all n)
 
+-- items that all stay at the beginning do not move, and do not make later items move
 moved-all : (n : ℕ) (b : List Bool) → moved_down (replicate n true ++ b) ≡ moved_down b
 moved-all zero b = refl
 moved-all (suc n) b = moved-all n b
 
--- a fact for each of the two results of a closure
+-- if G follows from P and from Q, it follows from `MatchBool b P Q`
 by-answer : (b : Bool) (P Q G : Type 0) → (P → G) → (Q → G) → MatchBool b P Q → G
 by-answer true P Q G f g m = f m
 by-answer false P Q G f g m = g m
 
+-- if P' follows from P, and Q' from Q, then `MatchBool b P' Q'` follows from `MatchBool b P Q`
 map-answer : (b : Bool) {P Q P' Q' : Type 0} → (P → P') → (Q → Q') → MatchBool b P Q
     → MatchBool b P' Q'
 map-answer true f g m = f m
 map-answer false f g m = g m
 
--- a list of two and more, by its first and its last
+-- if a list of at least two items ends with l and begins with k, the items after k end with l, and
+-- the items before l begin with k
 after-first : {X : Type 0} (pre zs : List X) (k l : X) → pre ++ l ∷ [] ≡ k ∷ zs → 0 < length zs
     → (p : List X) × (zs ≡ p ++ l ∷ []) × (pre ≡ k ∷ p)
 after-first [] zs k l e some = let n = ap length e in absurd (omega (arith, n, some))
 after-first (a ∷ p) zs k l e some = (p, sym (cons-tail e), ap (λ z. z ∷ p) (cons-head e))
 
 module _ {S T : Type 0} (R : OnPairs S T) where
-  -- the last item kept is always there
+  -- at least one item is kept
   pub last-some : (xs : List T) (s t : S) (k : T) (stays : List Bool) (ys : List T)
       → AskedLast R s k xs stays ys t → 0 < length ys
   last-some [] s t k stays ys h = omega (arith, ap length h.1)
@@ -69,19 +76,21 @@ module _ {S T : Type 0} (R : OnPairs S T) where
       by-answer h.0 _ _ (0 < length ys) (λ m. last-some xs h.3 t h.2 h.4 ys m)
       (λ m. omega (arith, ap length m.2)) h.7
 
-  -- one item goes, or stays
+  -- if x is tested against k and is removed, k alone is kept, as the test left it
   pub last-goes : (s t : S) (k x x' k' : T) → R s x k true t x' k'
       → AskedLast R s k (x ∷ []) (false ∷ []) (k' ∷ []) t
   last-goes s t k x x' k' h = (true, x', k', t, [], h, refl, (refl, refl, refl))
 
-  -- the later item stays, and is the last that does then
+  -- if x is tested against k and stays, k and x are kept, as the test left them
   pub last-stays : (s t : S) (k x x' k' : T) → R s x k false t x' k'
       → AskedLast R s k (x ∷ []) (true ∷ []) (k' ∷ x' ∷ []) t
   last-stays s t k x x' k' h = (false, x', k', t, [], h, refl, (x' ∷ [], (refl, refl, refl), refl))
 
-  -- a stretch that begins in the state t with l as the last item kept
+  -- the items zs were tested, from the state t to the state u, with l as the last item kept before
+  -- them
   module _ (t u : S) (l : T) (g : List Bool) (ws zs : List T) (m : AskedLast R t l zs g ws u) where
-    -- a stretch that begins in t, with l kept, goes on after one that ended so
+    -- if xs were tested from the state s to t, and l was the last item kept then, then xs followed
+    -- by zs were tested from s to u
     last-append : (xs : List T) (s : S) (k : T) (f : List Bool) (pre : List T)
         → AskedLast R s k xs f (pre ++ l ∷ []) t → AskedLast R s k (xs ++ zs) (f ++ g) (pre ++ ws) u
     last-append [] s k f pre h =
@@ -110,9 +119,11 @@ module _ {S T : Type 0} (R : OnPairs S T) where
           h.7,
     )
 
-  -- ---- a run of items that stay
+  -- ---- runs of items that all stay
 
-  -- from the first of xs on, m stay so far
+  -- the first m items of xs stay so far: the first item, and m - 1 later items, which were tested.
+  -- ys is xs with these items as the tests left them; s and t are the states before and after the
+  -- tests.
   pub record PairStays (m : ℕ) (s : S) (xs : List T) (t : S) (ys : List T) : Type 0 where
     pub first : T
     pub done : List T
@@ -124,7 +135,7 @@ module _ {S T : Type 0} (R : OnPairs S T) where
     pub kept : suc (length pre) ≡ m
     pub now : ys ≡ pre ++ last ∷ after
 
-  -- before the first question the first item alone stays
+  -- before the first test, only the first item stays
   pub pair-start : (s : S) (xs : List T) → 0 < length xs → PairStays 1 s xs s xs
   pair-start s [] some = absurd (omega arith)
   pair-start s (x ∷ xs) some =
@@ -141,13 +152,14 @@ module _ {S T : Type 0} (R : OnPairs S T) where
       }
 
   module _ (m : ℕ) (s : S) (xs : List T) (t : S) (ys : List T) (h : PairStays m s xs t ys) where
-    -- where the next two items stand
+    -- the pair of items that `a` tests is the last item kept and the first item not yet tested
     pub record NextPair (b : Bool) (u : S) (zs : List T)
         (a : IsPairAskedAt R m t ys b u zs) : Type 0 where
       pub front : a.before ≡ h.pre
       pub last : a.kept ≡ h.last
       pub after : h.after ≡ a.later ∷ a.after
 
+    -- each test `a` of the items at m - 1 and m satisfies `NextPair`
     next-pair : (b : Bool) (u : S) (zs : List T) (a : IsPairAskedAt R m t ys b u zs)
         → NextPair b u zs a
     next-pair b u zs a =
@@ -164,18 +176,21 @@ module _ {S T : Type 0} (R : OnPairs S T) where
         ∙ drop_at a.before (a.kept ∷ a.later ∷ a.after) (length h.pre) n) in
         record { front = sym fronts; last = sym (cons-head rests); after = cons-tail rests }
 
-    -- what was asked of the next item
+    -- the test `a` tested its later item against the last item kept
     next-asked : (b : Bool) (u : S) (zs : List T) (a : IsPairAskedAt R m t ys b u zs)
         → R t a.later h.last b u a.later_left a.kept_left
     next-asked b u zs a = subst (λ (k : T). R t a.later k b u a.later_left a.kept_left)
         (next-pair b u zs a).last a.asked
 
+    -- after the test `a`, xs is its first item, the tested items, which end with the later item of
+    -- `a`, and the items not yet tested
     next-was : (b : Bool) (u : S) (zs : List T) (a : IsPairAskedAt R m t ys b u zs)
         → xs ≡ h.first ∷ ((h.done ++ a.later ∷ []) ++ a.after)
     next-was b u zs a = h.was ∙ ap (λ (l : List T). h.first ∷ l)
         (ap (λ (l : List T). h.done ++ l) (next-pair b u zs a).after
         ∙ sym (append_assoc h.done (a.later ∷ []) a.after))
 
+    -- after the test `a`, only the two items that it tested may have changed
     next-now : (b : Bool) (u : S) (zs : List T) (a : IsPairAskedAt R m t ys b u zs)
         → zs ≡ (h.pre ++ a.kept_left ∷ []) ++ a.later_left ∷ a.after
     next-now b u zs a =
@@ -183,6 +198,7 @@ module _ {S T : Type 0} (R : OnPairs S T) where
         (next-pair b u zs a).front
         ∙ sym (append_assoc h.pre (a.kept_left ∷ []) (a.later_left ∷ a.after)))
 
+    -- if the item at m is tested and stays, `PairStays` holds for m + 1
     pub pair-more : (u : S) (zs : List T) → IsPairAskedAt R m t ys false u zs
         → PairStays (m + 1) s xs u zs
     pair-more u zs a =
@@ -210,6 +226,7 @@ module _ {S T : Type 0} (R : OnPairs S T) where
           now = next-now false u zs a;
         }
 
+    -- if the item at m is tested and is removed, the tests stopped at m (`PairsAskedUpTo`)
     pub pair-goes : (u : S) (zs : List T) → IsPairAskedAt R m t ys true u zs
         → PairsAskedUpTo R m s xs u zs
     pair-goes u zs a =
@@ -231,17 +248,21 @@ module _ {S T : Type 0} (R : OnPairs S T) where
           stops = inl (refl, refl);
         }
 
-  -- ---- what a run leaves, once its items are in front
+  -- ---- the items that the tests of a run kept
 
   module _ (m : ℕ) (s : S) (xs : List T) (t : S) (ys : List T)
       (r : PairsAskedUpTo R m s xs t ys) where
+    -- the first m items of ys are the kept ones, as the tests left them
     pub run-left : take m ys ≡ r.left
     run-left = ap (take m) r.now ∙ take_at r.left (r.over ++ r.after) m r.long
 
+    -- the items of ys from m on are the item to be removed, if there is one, and those not yet
+    -- tested
     pub run-over : drop m ys ≡ r.over ++ r.after
     run-over = ap (drop m) r.now ∙ drop_at r.left (r.over ++ r.after) m r.long
 
-    -- the item after the run goes, or there is none
+    -- if there is an item after those kept, it is the one to be removed, and the items after it
+    -- were not yet tested
     pub run-goes : (value : T) (rest : List T) → drop m ys ≡ value ∷ rest → (r.after ≡ rest)
         × (r.stays ≡ all-stay r.more ++ false ∷ [])
     run-goes value rest k =
@@ -251,6 +272,7 @@ module _ {S T : Type 0} (R : OnPairs S T) where
           | inr q ↦ absurd (cons-not-nil (sym k ∙ (run-over ∙ (λ i. q.0 i ++ q.1.0 i))))
         ]
 
+    -- if there is no item after those kept, all items were tested, and all are kept
     pub run-ends : drop m ys ≡ [] → (r.after ≡ []) × (r.stays ≡ all-stay r.more)
     run-ends k =
         elim r.stops [
@@ -260,25 +282,29 @@ module _ {S T : Type 0} (R : OnPairs S T) where
           | inr q ↦ (q.1.0, q.1.1)
         ]
 
+    -- the first item and the later items that stay are m items
     pub run-count : (f : List Bool) → trues f ≡ 0 → r.stays ≡ all-stay r.more ++ f
         → suc (trues r.stays) ≡ m
     run-count f none e =
         omega (arith, ap trues e, trues-join (all-stay r.more) f, trues-all r.more, none, r.kept)
 
-  -- ---- on blocks that are open
+  -- ---- open blocks
 
   module _ {A : Type 0} (v w : Open T A) where
-    -- w is v with another front, gap and middle run, at this cost
+    -- w is v with another front, gap, middle run and cost
     abbrev Moved : List T → Cost → Type 0
     Moved front cost = w ≡ record v
         { front = front; gap = w.gap; rest = w.rest; cost = cost }
 
+    -- an open block does not change if its front and its cost are replaced by equal ones
     moved : {f f' : List T} {k k' : Cost} → f ≡ f' → k ≡ k'
         → record v { front = f; gap = w.gap; rest = w.rest; cost = k }
         ≡ record v { front = f'; gap = w.gap; rest = w.rest; cost = k' }
     moved e n = λ i. record v { front = e i; gap = w.gap; rest = w.rest; cost = n i }
 
     module _ (s t : S) where
+      -- v and w satisfy `Dedups` if the items `done` were tested, with `first` as the last item
+      -- kept before them, and those that stay were moved to the front
       dedups-of : (before : List T) (first : T) (done : List T) (stays : List Bool) (kept : List T)
           → v.front ≡ before ++ first ∷ [] → v.rest ≡ done ++ w.rest
           → AskedLast R s first done stays kept t → 0 < w.gap
@@ -297,7 +323,7 @@ module _ {S T : Type 0} (R : OnPairs S T) where
             now = now;
           }
 
-    -- the next item goes
+    -- if the next item x was tested and removed, v and w satisfy `Dedups`
     pub dedups-goes : {s t : S} (x y : T) (front : List T)
         → IsLastAsked R s x v.front true t y front → v.rest ≡ x ∷ w.rest → 0 < w.gap
         → Moved front v.cost → Dedups R s v t w
@@ -306,7 +332,8 @@ module _ {S T : Type 0} (R : OnPairs S T) where
         (last-goes s t a.kept x y a.kept_left a.asked) gap
         (now ∙ moved (λ i. a.now i) (sym (moving-none v.cost)))
 
-    -- the next item stays
+    -- if the next item x was tested and stays, and was moved to the front for one move, v and w
+    -- satisfy `Dedups`
     pub dedups-stays : {s t : S} (x y : T) (front : List T)
         → IsLastAsked R s x v.front false t y front → v.rest ≡ x ∷ w.rest
         → 0 < w.gap → Moved (front ++ y ∷ []) (moving 1 v.cost) → Dedups R s v t w
@@ -319,12 +346,14 @@ module _ {S T : Type 0} (R : OnPairs S T) where
     module _ (s t u : S) (x y z : T) (front ys zs : List T)
         (a : IsLastAsked R s x v.front false t y front) (b : Bool)
         (n : IsNextAsked R t y ys b u z zs) (whole : v.rest ≡ x ∷ ys) where
-      -- what is in front once two items stayed
+      -- if the next item stays, and the item after it was tested too, the front then ends with the
+      -- last item kept before, as the first test left it, and the next item, as the second test
+      -- left it
       two-front : (front ++ z ∷ [] ≡ a.before ++ a.kept_left ∷ z ∷ [])
       two-front = ap (λ (l : List T). l ++ z ∷ []) a.now
           ∙ append_assoc a.before (a.kept_left ∷ []) (z ∷ [])
 
-      -- the next item stays, and the one after it goes
+      -- if the next item stays, and the item after it is removed, v and w satisfy `Dedups`
       pub dedups-two : b ≡ true → (value : T) → zs ≡ value ∷ w.rest → 0 < w.gap
           → Moved (front ++ z ∷ []) (moving 1 v.cost) → Dedups R s v u w
       dedups-two e value rest gap now =
@@ -338,7 +367,8 @@ module _ {S T : Type 0} (R : OnPairs S T) where
           (a.kept_left ∷ z ∷ []) a.was (whole ∙ ap (λ (l : List T). x ∷ l)
           (n.was ∙ ap (λ (l : List T). n.later ∷ l) same)) asked gap (now ∙ moved two-front refl)
 
-      -- the next two items stay, with a run, and the one after the run goes
+      -- if the next two items stay, the run of items from the second one on stays too, and the item
+      -- after the run, if there is one, is removed, then v and w satisfy `Dedups`
       pub dedups-run : b ≡ false → (m : ℕ) (q : S) (ws : List T) (r : PairsAskedUpTo R m u zs q ws)
           → r.after ≡ w.rest → suc (trues r.stays) ≡ m
           → 0 < w.gap → Moved ((front ++ z ∷ []) ++ take m ws) (moving m (moving 1 v.cost))
@@ -367,7 +397,7 @@ module _ {S T : Type 0} (R : OnPairs S T) where
           ∙ append_assoc a.before (a.kept_left ∷ z ∷ []) r.left)
           (moving-more m 1 v.cost ∙ ap (λ (k : ℕ). moving k v.cost) paid))
 
-  -- nothing was asked yet; and one stretch after another
+  -- before the first test, v and v itself satisfy `Dedups`
   pub dedups-start : {A : Type 0} (s : S) (v : Open T A) → 0 < length v.front
       → 0 < v.gap → Dedups R s v s v
   dedups-start s v some gap =
@@ -385,7 +415,7 @@ module _ {S T : Type 0} (R : OnPairs S T) where
         now = λ i. record v { front = p.2 i; cost = sym (moving-none v.cost) i };
       }
 
-  -- one round after another
+  -- `Dedups` is transitive: if it holds for v and w, and for w and z, it holds for v and z
   pub dedups-then : {A : Type 0} {s t u : S} {v w z : Open T A} → Dedups R s v t w
       → Dedups R t w u z → Dedups R s v u z
   dedups-then {s = s} {t} {u} {v} {w} {z} h k =
@@ -423,11 +453,13 @@ module _ {S T : Type 0} (R : OnPairs S T) where
 
   module _ {A : Type 0} (v w : Open T A) (m : ℕ) (s t : S) (ys : List T)
       (r : PairsAskedUpTo R m s v.rest t ys) where
-    -- of v, w has the tail, the slots and where they came from, and the run in front, for nothing
+    -- w is v with the first m items of ys as its front, for no move. The gap and the middle run of
+    -- w may be any.
     abbrev RunPassed : Type 0
     RunPassed = Moved v w (take m ys) v.cost
 
-    -- the item after the run goes, and then all others were asked about
+    -- if the item after the run is removed, and all items after it were then tested, v and z
+    -- satisfy `IsDeduped`
     pub deduped-goes : (value : T) (u : S) (z : Open T A) → RunPassed → drop m ys ≡ value ∷ w.rest
         → Dedups R t w u z → z.rest ≡ [] → IsDeduped R s v u z
     deduped-goes value u z p k h none =
@@ -460,7 +492,7 @@ module _ {S T : Type 0} (R : OnPairs S T) where
           });
         }
 
-    -- all items stay
+    -- if no item is left after the run, v and w satisfy `IsDeduped`: all items stay
     pub deduped-ends : RunPassed → drop m ys ≡ [] → w.rest ≡ [] → IsDeduped R s v t w
     deduped-ends p k none =
         let g = run-ends m s v.rest t ys r k in
@@ -481,11 +513,15 @@ module _ {S T : Type 0} (R : OnPairs S T) where
           });
         }
 
--- a test that holds a closure decides as the closure does
+-- a test of the type J contains a closure, and returns what the closure returns. `inside` is the
+-- state of the closure.
 module _ {J S T : Type 0} (R : OnPairs S T) (inside : J → S) where
+  -- the relation of the test, which is that of the closure
   abbrev through : OnPairs J T
   through s x k b t y l = R (inside s) x k b (inside t) y l
 
+  -- if the test tested some items after the kept item k, its closure tested them, with the same
+  -- answers
   last-through : (xs : List T) (s t : J) (k : T) (f : List Bool) (ys : List T)
       → AskedLast through s k xs f ys t → AskedLast R (inside s) k xs f ys (inside t)
   last-through [] s t k f ys h = (h.0, h.1, ap inside h.2)
@@ -501,12 +537,13 @@ module _ {J S T : Type 0} (R : OnPairs S T) (inside : J → S) where
         (λ q. (q.0, last-through xs h.3 t h.1 h.4 q.0 q.1, q.2)) h.7,
   )
 
+  -- if the test tested some items, its closure tested them, with the same answers
   pairs-through : (xs : List T) (s t : J) (f : List Bool) (ys : List T)
       → AskedPairs through s xs f ys t → AskedPairs R (inside s) xs f ys (inside t)
   pairs-through [] s t f ys h = (h.0, h.1, ap inside h.2)
   pairs-through (x ∷ xs) s t f ys h = last-through xs s t x f ys h
 
-  -- a list that such a test deduped is one that the closure deduped
+  -- if the test reduced v to w, then its closure did
   pub deduped-through : {A : Type 0} (s : J) (v w : Thin T A) (t : J) → IsDedupedTo through s v w t
       → IsDedupedBy R (inside s) v w
   deduped-through s v w t h = (
@@ -519,8 +556,11 @@ module _ {J S T : Type 0} (R : OnPairs S T) (inside : J → S) where
     },
   )
 
--- where a test decides, what is left and what moves are functions of the items
+-- if a stateless test E decides, the items that stay and the items that move are functions of the
+-- items
 module _ {S T : Type 0} (E : T → T → Bool) where
+  -- after the kept item k, the flags are `unlike_from E k` of the items, and the items kept are
+  -- `dedup_from E k` of them
   last-compares : (xs : List T) (s t : S) (k : T) (f : List Bool) (ys : List T)
       → AskedLast (Compares E) s k xs f ys t → (f ≡ unlike_from E k xs) × (ys ≡ dedup_from E k xs)
   last-compares [] s t k f ys h = (h.0, h.1)
@@ -546,20 +586,21 @@ module _ {S T : Type 0} (E : T → T → Bool) where
       ]
       h.5.0 h.6 h.7
 
-  -- the flags and the items that stay are those of the definition
+  -- the flags are `unlike E` of the items, and the items kept are `dedup E` of them
   pub pairs-compare : (xs : List T) (s t : S) (f : List Bool) (ys : List T)
       → AskedPairs (Compares E) s xs f ys t → (f ≡ unlike E xs) × (ys ≡ dedup E xs)
   pairs-compare [] s t f ys h = (h.0, h.1)
   pairs-compare (x ∷ xs) s t f ys h = last-compares xs s t x f ys h
 
 module _ {S T : Type 0} (R : OnPairs S T) where
-  -- no more items stay than there were
+  -- at most as many items are kept as k and the items after it
   few-last : (xs : List T) (s t : S) (k : T) (stays : List Bool) (ys : List T)
       → AskedLast R s k xs stays ys t → length ys ≤ suc (length xs)
   few-last [] s t k stays ys h = omega (arith, ap length h.1)
   few-last (x ∷ xs) s t k stays ys h =
       one h.0 h.7 (λ l zs m. few-last xs h.3 t l h.4 zs m)
     where
+      -- one more test adds at most one item to those kept
       one : (b : Bool) → MatchBool b (AskedLast R h.3 h.2 xs h.4 ys t)
           ((zs : List T) × AskedLast R h.3 h.1 xs h.4 zs t × (ys ≡ h.2 ∷ zs))
           → ((l : T) (zs : List T) → AskedLast R h.3 l xs h.4 zs t → length zs ≤ suc (length xs))
@@ -567,11 +608,13 @@ module _ {S T : Type 0} (R : OnPairs S T) where
       one true m few = let f = few h.2 ys m in omega (arith, f)
       one false m few = let f = few h.1 m.0 m.1 in omega (arith, f, ap length m.2)
 
+  -- at most as many items are kept as there were
   few-pairs : (xs : List T) (s t : S) (stays : List Bool) (ys : List T)
       → AskedPairs R s xs stays ys t → length ys ≤ length xs
   few-pairs [] s t stays ys h = omega (arith, ap length h.1)
   few-pairs (x ∷ xs) s t stays ys h = few-last xs s t x stays ys h
 
+  -- after `dedup_by`, the list has at most as many items as before
   pub few-deduped : {A : Type 0} (s : S) (v w : Thin T A) → IsDedupedBy R s v w
       → length w.items ≤ length v.items
   few-deduped s v w h = few-pairs v.items s h.0 h.1.stays w.items h.1.asked

@@ -1,4 +1,4 @@
--- What calls of `next` of a `Drain` give, and what they keep.
+-- What calls of `next` and `next_back` on a `Drain` yield, and what they keep.
 use Rattle.std.proofs.Common.{[], ◌∷◌, ap, refl, subst, ◌∙◌, length}
 use Rattle.std.proofs.iter.runs.Sources.{as_is, as_is_back, from_back, from_front}
 use Rattle.std.specs.Iterator.Runs.{YieldsInOrder, YieldsInReverse}
@@ -10,6 +10,7 @@ use Rattle.thin_vec.specs.declared.edits.holder.Holder.{Holder}
 use Rattle.thin_vec.specs.declared.edits.holder.Holds.{Ghosts as HoldsGhosts}
 
 module _ {T A G : Type 0} {g : Ghosts G} {h : HoldsGhosts (Holder (Open T A)) (Open T A)} where
+  -- `DrainKeeps` is transitive: if it holds for `a` and b, and for b and c, it holds for `a` and c
   drain_keeps_more : (a b c : Drain T A G (Holder (Open T A)) g h) → DrainKeeps a b
       → DrainKeeps b c → DrainKeeps a c
   drain_keeps_more a b c p q =
@@ -22,14 +23,14 @@ module _ {T A G : Type 0} {g : Ghosts G} {h : HoldsGhosts (Holder (Open T A)) (O
         cost = q.cost ∙ p.cost;
       }
 
-  -- calls of `next` keep what one of them keeps
+  -- a `Drain`, and the same `Drain` after any number of calls of `next`, satisfy `DrainKeeps`
   pub drain_keeps_along : (d : Drain T A G (Holder (Open T A)) g h) → DrainKeepsAlong d
   drain_keeps_along d [] later e = subst (λ t. DrainKeeps d t) e
       (record { lender = refl; kept = refl; capacity = refl; alloc = refl; cost = refl })
   drain_keeps_along d (x ∷ xs) later e = drain_keeps_more d e.0 later e.1.keeps
       (drain_keeps_along e.0 xs later e.2)
 
-  -- calls of `next` yield the range from its first item on
+  -- repeated calls of `next` yield the items not yet yielded, in order
   pub drains_in_order : YieldsInOrder (DrainSteps {T = T} {A = A} {G = G} {g = g} {h = h})
       drain_rest
   drains_in_order p s =
@@ -37,7 +38,7 @@ module _ {T A G : Type 0} {g : Ghosts G} {h : HoldsGhosts (Holder (Open T A)) (O
       (from_front DrainSteps (λ x. x) drain_rest (λ a b n. ap length n.gave.0)
       (λ a x b n. n.gave) p s)
 
-  -- calls of `next_back` yield the range from its last item on
+  -- repeated calls of `next_back` yield the items not yet yielded, in reverse order
   pub drains_in_reverse : YieldsInReverse (DrainStepsBack {T = T} {A = A} {G = G} {g = g} {h = h})
       drain_rest
   drains_in_reverse p s =

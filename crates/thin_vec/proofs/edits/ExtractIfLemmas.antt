@@ -1,4 +1,5 @@
--- What a closure picked, as items are asked about up to the first that goes.
+-- Which item a closure extracts, if items are tested up to and including the first that it
+-- extracts.
 use Rattle.std.proofs.Common.{◌≡◌, ℕ, ◌+◌, ◌≤◌, Bool, true, false, List, [], ◌∷◌, ◌++◌, Option, None, Some, length, take, drop, refl, sym, ap, subst, ◌∙◌, arith, length-append}
 use Rattle.std.proofs.lemmas.List.{drop_at, length-take-le, nil_from_length, take_at}
 use Rattle.std.specs.List.Retain.{ExtractsNext}
@@ -9,13 +10,14 @@ use Rattle.thin_vec.specs.Edits.Retain.{Verdicts, Asked, stay}
 use Rattle.thin_vec.specs.OpenBlock.Sift.{AskedUpTo, Stops}
 use Rattle.thin_vec.proofs.RetainLemmas.{cons-head, cons-not-nil, cons-tail}
 
--- a test that is negated twice
+-- negating a flag twice gives the flag
 pub not-not : (b : Bool) → not (not b) ≡ b
 not-not true = refl
 not-not false = refl
 
 module _ {F T : Type 0} (R : F → T → Bool → F → T → Type 0) where
-  -- each item stays, was yielded, or is still to be asked about
+  -- the number of items is that of the kept ones, plus 1 if an item was extracted, plus that of the
+  -- items not yet tested
   pub picked-count : (s : F) (xs : List T) (item : Option T) (t : F) (kept rest : List T)
       → ExtractsNext R s xs item t kept rest → length xs ≡ length kept + length
       (option_to_list item) + length rest
@@ -27,6 +29,7 @@ module _ {F T : Type 0} (R : F → T → Bool → F → T → Type 0) where
   picked-count s (x ∷ xs) item t kept rest e =
       answered e.0 (λ ks m. picked-count e.1 xs item t ks rest m) e.4
     where
+      -- `picked-count` for one more item, by the answer b of the closure for it
       answered : (b : Bool)
           → ((ks : List T) → ExtractsNext R e.1 xs item t ks rest
           → length xs ≡ length ks + length (option_to_list item) + length rest)
@@ -39,13 +42,17 @@ module _ {F T : Type 0} (R : F → T → Bool → F → T → Type 0) where
       answered false more m = omega (arith, more m.0 m.1, ap length m.2)
 
   module _ {S : Type 0} (of : S → F) where
-    -- a test that keeps what the closure does not pick
+    -- the relation of a test that keeps exactly the items which the closure does not extract. `of`
+    -- is the state of the closure.
     abbrev J : S → T → Bool → S → T → Type 0
     J s x b t y = R (of s) x (not b) (of t) y
 
-    -- the item that was picked from those after a run that stays
+    -- from the state `between` on, the closure keeps none of the items `after`: it extracts the
+    -- first of them, `item`, or there are none
     module _ (between : S) (after : List T) (item : Option T) (t : F) (rest : List T)
         (e : ExtractsNext R (of between) after item t [] rest) where
+      -- if a run of items was tested before, and all of them stay, the closure kept this run, and
+      -- then extracted `item`, if there is one
       picked-after : (s : S) (run left : List T) → Asked J s run (stay left) between
           → ExtractsNext R (of s) (run ++ after) item t left rest
       picked-after s [] [] a =
@@ -63,11 +70,13 @@ module _ {F T : Type 0} (R : F → T → Bool → F → T → Type 0) where
           subst (λ (q : Verdicts T). Asked J a.2 run q between) (sym (cons-tail a.6)) a.5 in
           (false, of a.2, z, called, (left, picked-after a.2 run left on, refl))
 
+    -- if the tests stopped at the end of the items, the closure extracted nothing
     stops-at-end : (between t : S) (after ys : List T) → Stops J between after t ys → ys ≡ []
         → ExtractsNext R (of between) after None (of t) [] ys
     stops-at-end between t [] ys a none = (refl, ap of a.1, refl, none)
     stops-at-end between t (x ∷ xs) ys a none = absurd (cons-not-nil (sym a.2 ∙ none))
 
+    -- if the tests stopped at an item v, the closure extracted v
     stops-at-item : (between t : S) (after ys : List T) (v : T) (zs : List T)
         → Stops J between after t ys → ys ≡ v ∷ zs → ExtractsNext R (of between)
         after (Some v) (of t) [] zs
@@ -78,27 +87,35 @@ module _ {F T : Type 0} (R : F → T → Bool → F → T → Type 0) where
 
     module _ (m : ℕ) (s : S) (xs : List T) (t : S) (ys : List T)
         (h : AskedUpTo J 0 m s xs t ys) where
+      -- no item is before the tested run
       none-before : h.before ≡ []
       none-before = nil_from_length h.before h.place
 
+      -- xs is the tested run, followed by the items after it
       was : xs ≡ h.run ++ h.after
       was = h.was ∙ ap (λ (l : List T). l ++ (h.run ++ h.after)) none-before
 
+      -- ys is the tested run, as the tests left it, followed by the items after it
       now : ys ≡ h.left ++ h.end
       now = h.now ∙ ap (λ (l : List T). l ++ (h.left ++ h.end)) none-before
 
+      -- the tested run has m items
       reached : length h.left ≡ m
       reached = omega (arith, h.reached)
 
+      -- the first m items of ys are the tested run, as the tests left it
       left-is : take m ys ≡ h.left
       left-is = ap (take m) now ∙ take_at h.left h.end m reached
 
+      -- the items of ys from m on are those after the tested run
       end-is : drop m ys ≡ h.end
       end-is = ap (drop m) now ∙ drop_at h.left h.end m reached
 
+      -- ys has at least m items
       pub picked-room : m ≤ length ys
       picked-room = omega (arith, reached, ap length now, length-append h.left h.end)
 
+      -- what the closure extracted from the items after the run is what it extracted from all of xs
       whole : (item : Option T) (rest : List T) → ExtractsNext R (of h.between) h.after item (of t)
           [] rest → ExtractsNext R (of s) xs item (of t) (take m ys) rest
       whole item rest e =
@@ -107,7 +124,7 @@ module _ {F T : Type 0} (R : F → T → Bool → F → T → Type 0) where
           (sym left-is)
           (picked-after h.between h.after item (of t) rest e s h.run h.left h.asked))
 
-      -- no item goes
+      -- if no item is left after the run, the closure extracted nothing
       pub picked-none : drop m ys ≡ [] → ExtractsNext R (of s) xs None (of t)
           (take m ys) (drop m ys)
       picked-none none =
@@ -115,14 +132,15 @@ module _ {F T : Type 0} (R : F → T → Bool → F → T → Type 0) where
           (subst (λ (l : List T). ExtractsNext R (of h.between) h.after None (of t) [] l)
           (sym end-is) (stops-at-end h.between t h.after h.end h.stops (sym end-is ∙ none)))
 
-      -- the item v goes
+      -- if the first item after the run is v, the closure extracted v
       pub picked-some : (v : T) (zs : List T) → drop m ys ≡ v ∷ zs
           → ExtractsNext R (of s) xs (Some v) (of t) (take m ys) zs
       picked-some v zs some =
           whole (Some v) zs (stops-at-item h.between t h.after h.end v zs
           h.stops (sym end-is ∙ some))
 
--- what some first items cost where there is a gap, by how many they are
+-- if xs has at least k items, moving the first k of them over the gap costs one move for each item
+-- of `take k xs`
 pub cost-of : {T : Type 0} (gap : ℕ) (cost : Cost) (k : ℕ) (xs : List T) → k ≤ length xs
     → (if gap == 0 then cost else moving k cost)
     ≡ (if gap == 0 then cost else moving (length (take k xs)) cost)

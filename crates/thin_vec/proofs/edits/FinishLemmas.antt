@@ -1,4 +1,4 @@
--- The steps by which a splice's gap is filled, and what they come to.
+-- The steps by which `finish` fills the gap of a splice, and how they combine.
 use Rattle.std.proofs.Common.{if◌then◌else◌, inl, inr, Option, drop, take, subst, ◌≡◌, ℕ, ◌+◌, ◌-◌, ◌*◌, ◌<◌, ◌≤◌, true, false, eqb, List, [], ◌++◌, ap, arith, length, length-append, refl, sym, ◌∙◌}
 use Rattle.std.proofs.lemmas.List.{length-drop, length-take-le}
 use Rattle.std.specs.Borrow.{RattleType}
@@ -8,7 +8,7 @@ use Rattle.std.specs.declared.result.Result.TheVariants.{Ok, Err}
 use Rattle.std.specs.Iterator.{Count, Drains, IsFinite, Yields, size}
 use Rattle.thin_block.specs.Cost.{moving}
 use Rattle.thin_block.specs.Growth.{KeepsLaw, Rule, ruled_capacity}
-use Rattle.thin_vec.specs.List.Extend.{IsExtended, IsNamed}
+use Rattle.thin_vec.specs.List.Extend.{IsExtended, IsKeptOrRuled}
 use Rattle.thin_vec.specs.Put.{Gives, IsFilledBy}
 use Rattle.thin_vec.specs.declared.put.Filled.{Filled}
 use Rattle.thin_vec.specs.Edits.Splice.{IsStopCause, Stopped, left_of, with_between}
@@ -20,7 +20,8 @@ use Rattle.thin_vec.proofs.list.ExtendLemmas.{yields-join}
 use Rattle.thin_vec.proofs.edits.SpliceLemmas.{between-length, between-more, drains-more, run-moves, stopped-more, taken-join, taken-spare}
 
 module _ {T A : Type 0} where
-  -- the list u was opened as b at the slot `at`, `count` slots wide
+  -- the open block b is the list u, opened before the item at index `at`: the items from there on
+  -- were moved up for a gap of `count` slots, unless `count` is 0
   pub record IsWide (b : Open T A) (u : Thin T A) (at count : ℕ) : Type 0 where
     pub in_bounds : at ≤ length u.items
     pub front : b.front ≡ take at u.items
@@ -30,15 +31,16 @@ module _ {T A : Type 0} where
 
 module _ {S T A : Type 0} (steps : S → Option T → S → Type 0) (can : S → Type 0)
     (remaining : S → Count) where
-  -- the gap of the block v was filled from s, and v became the block of the list w, whose allocator
-  -- is a; f is what is left of s
+  -- the gap of the block v was filled from the iterator s, and v became the block of the list w
+  -- with the allocator `a`. f says where filling ended: at which slot, whether the iterator has
+  -- ended, and what is left of it.
   abbrev pub FillsGap : Open T A → A → S → Thin T A → Filled S → Type 0
   FillsGap v a s w f =
       (by : IsFilledBy steps can remaining v.gap s f) × IsClosedWith v by.items a w
       × (f.end ≡ length v.front + length by.items)
 
-  -- the list u has the items of v, and xs in its gap up to the slot `end`, which s gave: the gap is
-  -- full, and t is asked next
+  -- the list u is v with xs in its gap, where xs end before the slot `end` and were yielded by
+  -- calls of `next` that led from s to t. The gap is full, and `next` may be called on t.
   pub record IsReached (v : Open T A) (s : S) (u : Thin T A) (xs : List T) (end : ℕ)
       (t : S) : Type 0 where
     pub items : u.items ≡ with_between v xs
@@ -53,11 +55,12 @@ module _ {S T A : Type 0} {steps : S → Option T → S → Type 0} {can : S →
     {remaining : S → Count} where
   module _ {v : Open T A} {a : A} {s : S} {w : Thin T A} {f : Filled S}
       (p : FillsGap steps can remaining v a s w f) where
-    -- how many items there are once the gap is filled
+    -- after the gap was filled, there are as many items as in the front, the tail and the placed
+    -- items together
     pub filled-long : length w.items ≡ length v.front + length v.tail + length p.0.items
     filled-long = omega (arith, ap length p.1.items, between-length v p.0.items)
 
-    -- if the iterator has not ended, the gap is full
+    -- if the iterator has not ended after the gap was filled, `IsReached` holds
     pub filled-reached : f.ended ≡ false
         → IsReached steps can remaining v s w p.0.items f.end f.rest
     filled-reached more = record {
@@ -75,13 +78,15 @@ module _ {S T A : Type 0} {steps : S → Option T → S → Type 0} {can : S →
     filled-drains done = (f.rest, subst (λ b. Gives steps s p.0.items b f.rest) done p.0.gave)
 
     module _ (rule : Rule) (R : RattleType) (n : ℕ) (left : Count) where
-      -- what filling the gap cost
+      -- if filling and closing the gap took at most n further moves, the list satisfies `HasTaken`
+      -- with n further moves
       pub filled-taken : p.1.cost.0 ≤ n → HasTaken rule R (left_of v a) w n left
       filled-taken few =
           taken-spare rule R (left_of v a) w (length p.0.items) p.1.cost.0 n left p.1.cost.1
           p.1.capacity (omega (arith, filled-long, length-append v.front v.tail)) few p.1.alloc
 
-      -- what filling the gap of a list that was opened for it cost
+      -- if a gap was opened in the list u, filled, and closed, with at most n further moves in all,
+      -- u and w satisfy `HasTaken` with n further moves
       pub wide-taken : (u : Thin T A) (at count : ℕ) → IsWide v u at count → a ≡ u.alloc
           → p.1.cost.0 + (length u.items - at) ≤ n → HasTaken rule R u w n left
       wide-taken u at count wide from few =
@@ -102,11 +107,11 @@ module _ {S T A : Type 0} {steps : S → Option T → S → Type 0} {can : S →
 
   module _ {v : Open T A} {s t : S} {u : Thin T A} {xs : List T} {end : ℕ}
       (p : IsReached steps can remaining v s u xs end t) where
-    -- the tail lies after the slot `end`
+    -- the length of u is `end` plus the length of the tail
     pub reached-long : length u.items ≡ end + length v.tail
     reached-long = omega (arith, ap length p.items, between-length v xs, p.ends)
 
-    -- a growth of the list u changes nothing of what was reached
+    -- if u grows to w with the same items, `IsReached` still holds
     pub reached-grown : (w : Thin T A) → w.items ≡ u.items
         → IsReached steps can remaining v s w xs end t
     reached-grown w same = record {
@@ -119,7 +124,8 @@ module _ {S T A : Type 0} {steps : S → Option T → S → Type 0} {can : S →
       nearer = p.nearer;
     }
 
-    -- what was taken before u, and from u on
+    -- if the steps up to u satisfy `HasTaken` with m further moves, those from u on satisfy it with
+    -- n, and m + n ≤ k, then all steps satisfy it with k
     pub reached-taken : (rule : Rule) (R : RattleType) → KeepsLaw rule → (a : A) (w : Thin T A)
         (m n k : ℕ) → m + n ≤ k → HasTaken rule R (left_of v a) u m (remaining s)
         → HasTaken rule R u w n (remaining t) → HasTaken rule R (left_of v a) w k (remaining s)
@@ -130,12 +136,13 @@ module _ {S T A : Type 0} {steps : S → Option T → S → Type 0} {can : S →
         (λ fit same. omega (arith, fit, same, ap length p.items, long, left, p.nearer))
         before now
 
-    -- where a capacity comes from that was named after u
+    -- if u has the capacity of v, a capacity that satisfies `IsExtended` for the steps from u on
+    -- satisfies it for all steps
     pub reached-extended : (rule : Rule) (R : RattleType) (a : A) (d n : ℕ)
         → u.capacity ≡ v.capacity → IsExtended rule R u d n (remaining t)
         → IsExtended rule R (left_of v a) d n (remaining s)
     reached-extended rule R a d n same (inl e) =
-        inl (subst (λ c. IsNamed rule R c d n) same e)
+        inl (subst (λ c. IsKeptOrRuled rule R c d n) same e)
     reached-extended rule R a d n same (inr e) =
         let within : e.0 ≤ size (remaining t) = e.1 p.finite in
         let want : length v.front + length v.tail + (length xs + e.0) ≡ length u.items + e.0 =
@@ -147,7 +154,8 @@ module _ {S T A : Type 0} {steps : S → Option T → S → Type 0} {can : S →
               ((ap (λ n. n + (length xs + e.0)) (length-append v.front v.tail) ∙ want) i)) ∙ e.2,
         )
 
-    -- then more items were inserted at `end`, and the iterator has not ended
+    -- if more items were inserted at `end`, and the iterator has still not ended, `IsReached` holds
+    -- with these items too
     pub reached-more : {w : Thin T A} {room : ℕ} {f : Filled S}
         (by : IsFilledBy steps can remaining room t f)
         → w.items ≡ (take end u.items ++ by.items) ++ drop end u.items
@@ -168,58 +176,56 @@ module _ {S T A : Type 0} {steps : S → Option T → S → Type 0} {can : S →
         }
 
   module _ {rule : Rule} {R : RattleType} (v : Open T A) (a : A) (s : S) (w : Thin T A) where
-    -- all that the iterator gave is in the list
+    -- if the list has all items that the iterator yielded, a `finish` that returned `Ok` satisfies
+    -- `IsFinished`
     pub finished-ok : (x : Unit {0})
         → (xs : List T) × Drains steps s xs × (w.items ≡ with_between v xs)
         → HasTaken rule R (left_of v a) w (2 * length v.tail) (remaining s)
         → IsExtended rule R (left_of v a) w.capacity (length w.items) (remaining s)
         → IsFinished steps can remaining rule R v a s w (Ok x)
-    finished-ok x items taken named = record {
+    finished-ok x items taken ruled = record {
       succeeds = λ _. refl;
       succeeds_at_end = λ _ _. refl;
       items = items;
       taken = taken;
-      named = named;
+      ruled = ruled;
       placed = tt;
       range = tt;
+      at_end = tt;
       cause = tt;
-      held = tt;
-      full = tt;
-      err = tt;
     }
 
-    -- what was placed before a tail, and what then became of the rest
+    -- if xs were placed before a tail, and the steps after that returned r, the whole `finish`
+    -- satisfies `IsFinished` with r
     pub finished-from : {t : S} {u : Thin T A} {xs : List T} {end : ℕ}
         (r : Result (Unit {0}) (SpliceRefused T S A))
         → IsReached steps can remaining v s u xs end t → 0 < length v.tail
         → (size (remaining t) ≡ 0 → IsOk r)
         → OnOk r ((ys : List T) × Drains steps t ys
         × (w.items ≡ (take end u.items ++ ys) ++ drop end u.items))
-        → IfErr r (λ refused. Stopped steps can remaining t [] refused.held.items
-        refused.in_hand refused.rest)
-        → IfErr r (λ refused. IsStopCause rule R w v.tail refused.held.items refused.in_hand
-        (remaining refused.rest) refused.cause)
+        → IfErr r (λ error. Stopped steps can remaining t [] error)
+        → IfErr r (λ error. IsStopCause rule R w v.tail (remaining error.rest) error)
         → OnErr r (w ≡ u)
         → HasTaken rule R (left_of v a) w (2 * length v.tail) (remaining s)
         → IsExtended rule R (left_of v a) w.capacity (length w.items) (remaining s)
         → IsFinished steps can remaining rule R v a s w r
-    finished-from {t} {u} {xs} {end} (Ok x) p some ends items placed cause err taken named =
+    finished-from {t} {u} {xs} {end} (Ok x) p some ends items placed cause err taken ruled =
         finished-ok x (
           xs ++ items.0,
-          drains-more steps can remaining s t xs items.0 p.gave items.1,
+          drains-more steps s t xs items.0 p.gave items.1,
           items.2 ∙ between-more v u.items xs items.0 end p.items p.ends,
         )
-        taken named
-    finished-from {t} {u} {xs} (Err e) p some ends items placed cause err taken named = record {
+        taken ruled
+    finished-from {t} {u} {xs} (Err e) p some ends items placed cause err taken ruled = record {
       succeeds = λ few. ends (omega (arith, few, p.full, p.nearer));
       succeeds_at_end = λ none _. absurd (omega (arith, some, ap length none));
       items = tt;
       taken = taken;
-      named = named;
+      ruled = ruled;
       placed = (
         xs,
         ap (λ z. z.items) err ∙ p.items,
-        stopped-more steps can remaining s t e.rest xs e.held.items e.in_hand p.gave placed,
+        stopped-more steps can remaining s t xs e p.gave placed,
       );
       range = λ _. omega (
         arith,
@@ -228,8 +234,6 @@ module _ {S T A : Type 0} {steps : S → Option T → S → Type 0} {can : S →
         p.ends,
         p.full,
       );
+      at_end = λ none. absurd (omega (arith, some, ap length none));
       cause = cause;
-      held = λ none. absurd (omega (arith, some, ap length none));
-      full = λ none. absurd (omega (arith, some, ap length none));
-      err = λ none. absurd (omega (arith, some, ap length none));
     }

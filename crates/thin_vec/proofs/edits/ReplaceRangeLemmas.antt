@@ -1,5 +1,5 @@
--- What a list holds while clones that are to replace a range lie beside it, and what an open block
--- shows once they go there.
+-- What a list contains while the clones that are to replace a range are outside that range, and
+-- what a contract sees of the open block after the clones were moved into the range.
 use Rattle.std.proofs.Common.{if◌then◌else◌, inl, inr, eqb, min, Bool, true, false, ◌≡◌, ℕ, zero, suc, ◌+◌, ◌-◌, ◌≤◌, List, [], ◌∷◌, ◌++◌, None, Option, append_assoc, ap, arith, drop, length, length-append, refl, sym, take, ◌∙◌}
 use Rattle.std.proofs.lemmas.List.{drop_at, length-drop, length-take-le, replicate-append-replicate, take-append-drop, take-append-le, take_at}
 use Rattle.std.proofs.lemmas.Bool.{cases_lt}
@@ -19,7 +19,7 @@ use Rattle.thin_vec.proofs.edits.SpliceLemmas.{moving-add, moving-zero}
 use Rattle.thin_vec.proofs.OpenBlockLemmas.{Found, found, past_tail, reached}
 use Rattle.thin_vec.proofs.ListLemmas.{length-empty, length-full}
 
--- the clones of two lists of sources are those of the two as one
+-- if xs are clones of ss, and ys of ts, then xs followed by ys are clones of ss followed by ts
 pub all_zip-append : {X : Type 0} (R : X → X → Type 0) (ss ts xs ys : List X) → AllZip R ss xs
     → AllZip R ts ys → AllZip R (ss ++ ts) (xs ++ ys)
 all_zip-append R [] ts [] ys e h = h
@@ -28,7 +28,7 @@ all_zip-append R (a ∷ ss) ts [] ys e h = absurd e
 all_zip-append R (a ∷ ss) ts (x ∷ xs) ys e h = (e.0, all_zip-append R ss ts xs ys e.1 h)
 
 module _ {T : Type 0} where
-  -- fewer of the first items are the first of all
+  -- if i ≤ j, the first i of the first j items are the first i items
   take-less : (xs : List T) (i j : ℕ) → i ≤ j → take i (take j xs) ≡ take i xs
   take-less xs zero j h = refl
   take-less xs (suc i) zero h = absurd (omega arith)
@@ -36,7 +36,7 @@ module _ {T : Type 0} where
   take-less (x ∷ xs) (suc i) (suc j) h = ap (λ (l : List T). x ∷ l)
       (take-less xs i j (omega arith))
 
-  -- items that went in at i and go out again leave the list as it was
+  -- removing the n items ys that were inserted at i restores the list
   pub put-and-gone : (xs ys : List T) {zs : List T} (i : ℕ) {n : ℕ} → i ≤ length xs
       → length ys ≡ n → zs ≡ replace_range xs i i ys → take i zs ++ drop (i + n) zs ≡ xs
   put-and-gone xs ys {zs} i {n} within count is =
@@ -50,8 +50,8 @@ module _ {T : Type 0} where
       (λ m. front m ++ past m) ∙ take-append-drop i xs
 
 module _ {T : Type 0} (xs : List T) (i j : ℕ) (order : i ≤ j) (within : j ≤ length xs) where
-  -- clones of the first sources lie after the list and those of the others after the range: the
-  -- first go to its place
+  -- if w is xs with zs inserted at j and ys appended, then moving ys from the end of w into the
+  -- place of the items from i up to j makes xs with ys and zs in place of these items
   pub brought-in : (ys zs : List T) {w : List T} {n : ℕ} → length ys ≡ n
       → w ≡ replace_range xs j j zs ++ ys
       → (take i w ++ drop (length w - n) w) ++ take (length w - n - j) (drop j w)
@@ -89,10 +89,11 @@ module _ {T : Type 0} (xs : List T) (i j : ℕ) (order : i ≤ j) (within : j �
 
 module _ {T A : Type 0} (h : Inside T A) (o : IsOpen h) (b : Block T A) (k : ℕ)
     (few : k ≤ length (open_of h).tail) (room : k ≤ (open_of h).gap) where
+  -- what a contract sees of h
   abbrev v : Open T A
   v = open_of h
 
-  -- the last items of the tail lie after the front
+  -- the block b after the last k items of the tail were moved to the end of the front
   abbrev pub brought : Inside T A
   brought = record {
     block = b;
@@ -103,7 +104,8 @@ module _ {T A : Type 0} (h : Inside T A) (o : IsOpen h) (b : Block T A) (k : ℕ
     len = h.len - k;
   }
 
-  -- what is seen of the block then: the tail is shorter, and the front longer
+  -- what a contract sees of `brought`: the last k items of the tail are now the last items of the
+  -- front
   abbrev pub brought-seen : Open T A
   brought-seen = record {
     front = v.front ++ drop (length v.tail - k) v.tail;
@@ -116,7 +118,8 @@ module _ {T A : Type 0} (h : Inside T A) (o : IsOpen h) (b : Block T A) (k : ℕ
     cost = b.cost;
   }
 
-  -- the slots lie so once the last items of the tail have moved
+  -- if the slots of the last k items of the tail were moved to the end of the front, contracts see
+  -- `brought` as `brought-seen`
   pub bring-step : b.slots ≡ moved (h.len - k) h.front_end k h.block.slots
       → Found brought brought-seen
   bring-step now =
@@ -214,7 +217,8 @@ module _ {T A : Type 0} (h : Inside T A) (o : IsOpen h) (b : Block T A) (k : ℕ
         room = omega (arith, o.room);
       }) refl refl
 
--- the length of a list with clones in the place of a range
+-- if clones of the sources were inserted into xs, the length is that of xs plus the number of
+-- sources
 pub replaced-length : {T : Type 0} (clones : T → T → Type 0) (xs : List T) (i : ℕ)
     (sources ys : List T) → i ≤ length xs → ReplacesByClones clones xs i i sources ys
     → length ys ≡ length xs + length sources
@@ -230,7 +234,8 @@ replaced-length clones xs i sources ys within is =
       length_all_zip clones sources zs is.cloned,
     )
 
--- moves that add up stay few
+-- if at most n moves lead from the cost c to d, m moves lead from d to e, and m ≤ k, then at most n
+-- + k moves lead from c to e
 pub at-most-more : {n m k : ℕ} {c d e : Cost} → MovesAtMost n c d → (few : m ≤ k)
     → e ≡ moving m d → MovesAtMost (n + k) c e
 at-most-more {n} {m} {k} {c} {d} {e} h few is = record {
@@ -239,7 +244,7 @@ at-most-more {n} {m} {k} {c} {d} {e} h few is = record {
   cost = is ∙ (ap (λ q. moving m q) h.cost ∙ moving-add m h.moves c);
 }
 
--- a bound on the moves may be any larger number
+-- if at most n moves lead from one cost to another, and n ≤ m, then at most m moves do
 pub at-most-le : {n m : ℕ} {c d : Cost} → MovesAtMost n c d → n ≤ m → MovesAtMost m c d
 at-most-le {n} {m} {c} {d} h le = record {
   moves = h.moves;
@@ -247,26 +252,28 @@ at-most-le {n} {m} {c} {d} h le = record {
   cost = h.cost;
 }
 
--- a bound on moves that are none, or a known number
+-- if no moves or n moves lead from one cost to another, at most n moves do
 pub at-most-if : (b : Bool) (n : ℕ) (c d : Cost) → d ≡ (if b then c else moving n c)
     → MovesAtMost n c d
 at-most-if true n c d is = record { moves = 0; few = omega arith; cost = is ∙ moving-zero c }
 at-most-if false n c d is = record { moves = n; few = omega arith; cost = is }
 
--- what is added where a test fails is no more than what is always added
+-- k moves, and n more in one of two cases, are at most k + n moves
 pub if-le : (b : Bool) (k n : ℕ) → k + (if b then 0 else n) ≤ k + n
 if-le true k n = omega arith
 if-le false k n = omega arith
 
--- of k clones that come in beside a range of r items, k1 go to its places, and k2 are more
+-- k clones replace a range of r items: the first k1 clones take the places of the range, and the
+-- other k2 need further places
 pub record IsParted (k r k1 k2 : ℕ) : Type 0 where
-  -- as many clones go to places as there are places
+  -- the places of the range are taken by as many clones as possible
   pub first : k1 ≡ min k r
-  -- each clone goes to a place or is one more
+  -- each clone is one of the k1 or of the k2
   pub all : k1 + k2 ≡ k
 
--- the moves of such clones, with t items after the range: k2 of them come in after the range, and
--- k1 after the list, from where they go to its places
+-- the number of moves if the k2 clones are inserted after the range, and the k1 clones are appended
+-- to the list and then moved into the range, where t items follow the range: it is the number of
+-- moves of a replacement, plus one for each of the k1 clones
 pub cloning-moves : {k r k1 k2 : ℕ} → IsParted k r k1 k2 → (t : ℕ) {z u : ℕ} → z ≡ 0 → u ≡ t + k2
     → ((k2 + (if eqb k2 z then 0 else t)) + k1) + (k1 + (if eqb k1 r then 0 else u))
     ≡ (k + (if eqb k r then 0 else t)) + min k r

@@ -1,4 +1,4 @@
--- What a splice moves, and what it costs.
+-- How many items a splice moves, what it costs, what its iterator yielded, and why `finish` failed.
 use Rattle.std.proofs.Common.{if◌then◌else◌, inl, inr, Option, Some, None, append_assoc, drop, take, subst, ◌≡◌, ℕ, ◌+◌, ◌-◌, ◌*◌, ◌^◌, ◌<◌, ◌≤◌, Bool, true, false, eqb, List, [], ◌∷◌, ◌++◌, ap, arith, length, length-append, refl, sym, ◌∙◌}
 use Rattle.std.proofs.lemmas.List.{append-nil, drop_at, length-drop, length-take-le, take_at}
 use Rattle.std.specs.Borrow.{RattleType}
@@ -6,11 +6,10 @@ use Rattle.std.specs.Option.{option_to_list}
 use Rattle.std.specs.Prelude.{◌↔◌, IfErr, IsSome, MatchOption}
 use Rattle.std.specs.declared.result.Result.{Result}
 use Rattle.std.specs.declared.result.Result.TheVariants.{Ok, Err}
-use Rattle.std.specs.Iterator.{Count, Drains, IsFinite, Yields, YieldsThen, size}
+use Rattle.std.specs.Iterator.{Count, Drains, Yields, YieldsThen, size}
 use Rattle.thin_vec.specs.Cheap.{IsCheap}
-use Rattle.thin_vec.specs.List.Extend.{GaveUp, IsExtendCost, IsNamed, MustOverflow, Overflows}
+use Rattle.thin_vec.specs.List.Extend.{IsExtendCause, IsExtendCost, IsKeptOrRuled, MayOverflow, MustOverflow, PausedAfter}
 use Rattle.std.proofs.lemmas.Bool.Decides.{nat_tests}
-use Rattle.thin_block.specs.declared.errors.ThinVecError.{ThinVecError}
 use Rattle.thin_block.specs.declared.errors.ThinVecError.TheVariants.{CapacityOverflow, OutOfMemory}
 use Rattle.thin_block.specs.Cost.{Cost, moving}
 use Rattle.thin_block.specs.Growth.{KeepsLaw, Rule}
@@ -19,26 +18,30 @@ use Rattle.thin_vec.specs.Open.{Open, cost_closed, items_of}
 use Rattle.thin_vec.specs.Edits.Splice.{IsSpliced, IsStopCause, Stopped, left_of, with_between}
 use Rattle.thin_vec.specs.Edits.Finish.{HasTaken}
 use Rattle.thin_vec.specs.ThinVec.{HasRoomFor, Thin, capacity_for, cost_at}
+use Rattle.thin_vec.specs.declared.errors.ExtendRefused.{ExtendRefused}
+use Rattle.thin_vec.specs.declared.errors.SpliceRefused.{SpliceRefused}
 use Rattle.thin_vec.proofs.list.ExtendLemmas.{filled-reserved, loose-join, loose-le, loose-ruled, yields-join, yields-more}
 use Rattle.thin_vec.proofs.ThinVecLemmas.{cap-kept, cost_at-copied}
 
--- moves add up
+-- adding b moves to a cost, and then `a` moves, adds b + a moves
 pub moving-add : (a b : ℕ) (c : Cost) → moving a (moving b c) ≡ moving (b + a) c
 moving-add a b c = ap (λ m. let d : Cost = record c { moves = m } in d)
     (let e : c.moves + b + a ≡ c.moves + (b + a) = omega arith in e)
 
--- no move changes nothing
+-- zero moves do not change a cost
 pub moving-zero : (c : Cost) → c ≡ moving 0 c
 moving-zero c = ap (λ m. let d : Cost = record c { moves = m } in d)
     (let e : c.moves ≡ c.moves + 0 = omega arith in e)
 
--- the moves of a filled gap that is closed, beside those of its items
+-- if n items were placed into the gap of v, which made w, closing w costs at most one further move
+-- for each item of the tail, and none if the gap is full
 pub closed-moves : {T A : Type 0} (v w : Open T A) (n : ℕ) → w.cost ≡ moving (v.gap - w.gap)
     v.cost → w.rest ≡ [] → w.tail ≡ v.tail → n ≡ v.gap - w.gap
     → (m : ℕ) × (cost_closed w ≡ moving (n + m) v.cost) × (m ≤ length v.tail)
     × (w.gap ≡ 0 → m ≡ 0)
 closed-moves v w n paid none same count = go (eqb w.gap 0) refl
   where
+    -- the cost of w is that of v plus n moves
     filled : w.cost ≡ moving n v.cost
     filled = paid ∙ ap (λ k. moving k v.cost) (sym count)
 
@@ -62,10 +65,12 @@ closed-moves v w n paid none same count = go (eqb w.gap 0) refl
               absurd (false-true (sym e ∙ t)),
         )
       where
+        -- if false equals true, anything follows
         false-true : false ≡ true → ⊥
         false-true h = cc
 
--- the moves of items that went into a list, when the items after them were moved up before
+-- if n items were moved up before k items were placed (unless `count` is 0), and m items were moved
+-- afterwards, at most n + m moves are made in addition to the k
 pub run-moves : (count n k m : ℕ) (c d : Cost) → d ≡ (if eqb count 0 then c else moving n c)
     → (x : ℕ) × (moving (k + m) d ≡ moving (k + x) c) × (x ≤ n + m)
 run-moves count n k m c d e = go (eqb count 0) e
@@ -82,7 +87,8 @@ run-moves count n k m c d e = go (eqb count 0) e
     )
 
 module _ {S X : Type 0} (steps : S → Option X → S → Type 0) where
-  -- what was held, what came after it, and one call more
+  -- if calls of `next` yielded xs, and later calls yielded ys and then returned o, all of them
+  -- yielded zs, which is xs followed by ys, and then returned o
   pub yields-held : (s t u : S) (xs ys zs : List X) (o : Option X) → Yields steps s xs t
       → zs ≡ xs ++ ys → YieldsThen steps t ys o u → YieldsThen steps s zs o u
   yields-held s t u xs ys zs o before e now = (
@@ -92,13 +98,15 @@ module _ {S X : Type 0} (steps : S → Option X → S → Type 0) where
     now.2,
   )
 
-  -- what was held and one call more, where that call gave an item
+  -- if calls of `next` yielded xs and then returned o, and o is `Some x`, they yielded xs followed
+  -- by x
   pub yields-drawn : (s u : S) (xs : List X) (o : Option X) (x : X) → o ≡ Some x
       → YieldsThen steps s xs o u → Yields steps s (xs ++ x ∷ []) u
   yields-drawn s u xs o x is all =
       yields-more steps s all.0 u xs x all.1 (subst (λ r. steps all.0 r u) is all.2)
 
-  -- the first item, and then those that were drawn into a vector
+  -- if one call of `next` yielded x and later calls xs, where x and xs are the items `held` and
+  -- then o, all calls yielded `held` and then o. If o is None, a last call returned `None`.
   pub drawn-after : (s t u : S) (x : X) (xs held : List X) (o : Option X) → steps s (Some x) t
       → held ++ option_to_list o ≡ x ∷ xs
       → MatchOption o (YieldsThen steps t xs None u) (λ _. Yields steps t xs u)
@@ -112,7 +120,7 @@ module _ {S X : Type 0} (steps : S → Option X → S → Type 0) where
       subst (λ l. Yields steps s l u) (sym parts) (t, one, now)
 
 module _ {T A : Type 0} where
-  -- what a growth alone has cost
+  -- a growth alone moves no items: v and w satisfy `IsSpliced` with 0 further moves
   pub spliced-reserved : (v w : Thin T A) → w.cost ≡ cost_at v w.capacity
       → w.items ≡ v.items
       → (cost_at v w.capacity).grown + v.capacity ≤ v.cost.grown + w.capacity → IsSpliced v w 0
@@ -126,7 +134,8 @@ module _ {T A : Type 0} where
         grown = f.grown;
       }
 
-  -- what items have cost that went into spare room
+  -- if k items were placed into spare capacity, with k + m moves, and m ≤ n, then v and w satisfy
+  -- `IsSpliced` with n further moves
   pub spliced-run : (v w : Thin T A) (k m n : ℕ) → w.cost ≡ moving (k + m) v.cost
       → w.capacity ≡ v.capacity → length w.items ≡ length v.items + k → m ≤ n → IsSpliced v w n
   spliced-run v w k m n e same long few = record {
@@ -137,7 +146,8 @@ module _ {T A : Type 0} where
     grown = λ more. absurd (omega (arith, more, same));
   }
 
-  -- one step after another
+  -- if v and u satisfy `IsSpliced` with m further moves, u and w satisfy it with n, and m + n ≤ k,
+  -- then v and w satisfy it with k
   pub spliced-join : (v u w : Thin T A) (m n k : ℕ) → m + n ≤ k → v.capacity ≤ u.capacity
       → u.capacity ≤ w.capacity → length v.items ≤ length u.items → IsSpliced v u m
       → IsSpliced u w n → IsSpliced v w k
@@ -160,18 +170,18 @@ module _ {T A : Type 0} where
     ];
   }
 
--- a fact of an outcome gives another
+-- if P holds for the error of a result, and Q follows from P, then Q holds for the error
 pub if-err : {X E : Type 0} {P Q : E → Type 0} (r : Result X E) → ((e : E) → r ≡ Err e → P e → Q e)
     → IfErr r P → IfErr r Q
 if-err (Ok _) h p = p
 if-err (Err e) h p = h e refl p
 
--- a fact of each error
+-- if Q holds for every error, it holds for the error of a result
 pub any-err : {X E : Type 0} {Q : E → Type 0} (r : Result X E) → ((e : E) → Q e) → IfErr r Q
 any-err (Ok _) h = tt
 any-err (Err e) h = h e
 
--- how many items there are once some went in
+-- inserting ys into xs makes a list that is as long as xs and ys together
 pub inserted-long : {T : Type 0} (xs ys : List T) (at : ℕ) → at ≤ length xs
     → length ((take at xs ++ ys) ++ drop at xs) ≡ length xs + length ys
 inserted-long xs ys at in_bounds =
@@ -184,55 +194,63 @@ inserted-long xs ys at in_bounds =
       in_bounds,
     )
 
-module _ {S X : Type 0} (steps : S → Option X → S → Type 0) (can : S → Type 0)
-    (remaining : S → Count) where
-  -- what was given up to the first `None`, after what was given before
+module _ {S X : Type 0} (steps : S → Option X → S → Type 0) where
+  -- if calls of `next` yielded xs, and later calls yielded ys and then `None`, then all of them
+  -- yielded xs, ys and then `None`
   pub drains-more : (s t : S) (xs ys : List X) → Yields steps s xs t → Drains steps t ys
       → Drains steps s (xs ++ ys)
   drains-more s t xs ys before now =
       (now.0, (now.1.0, yields-join steps s t now.1.0 xs ys before now.1.1, now.1.2))
 
-  -- what was held and in hand, after what was placed before
-  pub stopped-more : (s t rest : S) (xs held : List X) (in_hand : Option X) → Yields steps s xs t
-      → Stopped steps can remaining t [] held in_hand rest
-      → Stopped steps can remaining s xs held in_hand rest
-  stopped-more s t rest xs held in_hand before (inl now) =
-      let last : List X = option_to_list in_hand in
+module _ {S X A : Type 0} (steps : S → Option X → S → Type 0) (can : S → Type 0)
+    (remaining : S → Count) where
+  -- if xs were placed before the calls that satisfy `Stopped`, then all calls satisfy `Stopped`
+  -- with xs as the placed items
+  pub stopped-more : (s t : S) (xs : List X) (error : SpliceRefused X S A) → Yields steps s xs t
+      → Stopped steps can remaining t [] error → Stopped steps can remaining s xs error
+  stopped-more s t xs error before (inl now) =
+      let held = error.held.items in let last : List X = option_to_list error.in_hand in
       inl (
-        subst (λ l. Yields steps s l rest) (sym (append_assoc xs held last))
-            (yields-join steps s t rest xs (held ++ last) before now.0),
+        record {
+          gave = subst (λ l. Yields steps s l error.rest) (sym (append_assoc xs held last))
+              (yields-join steps s t error.rest xs (held ++ last) before now.0.gave);
+          can_next = now.0.can_next;
+          finite = now.0.finite;
+        },
         now.1,
-        now.2,
-        now.3,
       )
-  stopped-more s t rest xs held in_hand before (inr now) =
+  stopped-more s t xs error before (inr now) =
       inr (
         now.0,
         now.1,
-        (now.2.0, yields-join steps s t now.2.0 xs held before now.2.1, now.2.2),
+        (now.2.0, yields-join steps s t now.2.0 xs error.held.items before now.2.1, now.2.2),
       )
 
-  -- where nothing is held
-  pub stopped-now : (s rest : S) (xs held : List X) (in_hand : Option X) → held ≡ []
-      → GaveUp steps s xs in_hand rest → can rest → IsFinite (remaining rest)
-      → Stopped steps can remaining s xs held in_hand rest
-  stopped-now s rest xs held in_hand none gave asked fin =
+  -- if nothing is held, calls that yielded the placed items and then the item in hand, if there is
+  -- one, satisfy `Stopped`
+  pub stopped-now : (s : S) (xs : List X) (error : SpliceRefused X S A) → error.held.items ≡ []
+      → PausedAfter steps can remaining s (xs ++ option_to_list error.in_hand) error.rest
+      → Stopped steps can remaining s xs error
+  stopped-now s xs error none paused =
       inl (
-        subst (λ l. Yields steps s (l ++ option_to_list in_hand) rest)
-            (sym (append-nil xs) ∙ ap (λ l. xs ++ l) (sym none)) gave,
+        record {
+          gave = subst (λ l. Yields steps s (l ++ option_to_list error.in_hand) error.rest)
+              (sym (append-nil xs) ∙ ap (λ l. xs ++ l) (sym none)) paused.gave;
+          can_next = paused.can_next;
+          finite = paused.finite;
+        },
         λ _. none,
-        asked,
-        fin,
       )
 
--- why a splice stopped
-module _ {T A : Type 0} (rule : Rule) (R : RattleType) (v : Thin T A) (tail held : List T)
-    (in_hand : Option T) (left : Count) (cause : ThinVecError) where
-  -- before a tail, at the hint
-  pub stop-at-hint : 0 < length tail → held ≡ [] → in_hand ≡ None
-      → (MustOverflow rule R v None left → cause ≡ CapacityOverflow)
-      → (cause ≡ CapacityOverflow → Overflows rule R v None left)
-      → IsStopCause rule R v tail held in_hand left cause
+-- the cause of a `finish` that failed with the error `error`, where v is the list after the failure,
+-- and `left` bounds the rest of the iterator
+module _ {S T A : Type 0} (rule : Rule) (R : RattleType) (v : Thin T A) (tail : List T)
+    (left : Count) (error : SpliceRefused T S A) where
+  -- if there is a tail, no item is held and none is in hand, the cause follows from the hint
+  pub stop-at-hint : 0 < length tail → error.held.items ≡ [] → error.in_hand ≡ None
+      → (MustOverflow rule R v left → error.cause ≡ CapacityOverflow)
+      → (error.cause ≡ CapacityOverflow → MayOverflow rule R v left)
+      → IsStopCause rule R v tail left error
   stop-at-hint some none empty over why = record {
     by_hint = λ _ _. (over, why);
     by_held = λ more _. absurd (omega (arith, more, ap length none));
@@ -240,12 +258,12 @@ module _ {T A : Type 0} (rule : Rule) (R : RattleType) (v : Thin T A) (tail held
     by_push = λ no_tail. absurd (omega (arith, some, ap length no_tail));
   }
 
-  -- before a tail, at an item that was to be held, or at what was held
-  pub stop-at-held : 0 < length tail → (in_hand ≡ None → 0 < length held)
-      → (in_hand ≡ None
-      → (cause ≡ CapacityOverflow) ↔ (capacity_for rule R v (length held) ≡ None))
-      → (IsSome in_hand → cause ≡ OutOfMemory)
-      → IsStopCause rule R v tail held in_hand left cause
+  -- if there is a tail, and items are held or one is in hand, the cause follows from these items
+  pub stop-at-held : 0 < length tail → (error.in_hand ≡ None → 0 < length error.held.items)
+      → (error.in_hand ≡ None → (error.cause ≡ CapacityOverflow)
+      ↔ (capacity_for rule R v (length error.held.items) ≡ None))
+      → (IsSome error.in_hand → error.cause ≡ OutOfMemory)
+      → IsStopCause rule R v tail left error
   stop-at-held some more over memory = record {
     by_hint = λ none empty. absurd (omega (arith, more empty, ap length none));
     by_held = λ _ empty. over empty;
@@ -253,52 +271,43 @@ module _ {T A : Type 0} (rule : Rule) (R : RattleType) (v : Thin T A) (tail held
     by_push = λ no_tail. absurd (omega (arith, some, ap length no_tail));
   }
 
-  -- with no tail, as `extend` does
-  pub stop-at-end : tail ≡ [] → held ≡ []
-      → (MustOverflow rule R v in_hand left → cause ≡ CapacityOverflow)
-      → (cause ≡ CapacityOverflow → Overflows rule R v in_hand left)
-      → IsStopCause rule R v tail held in_hand left cause
-  stop-at-end no_tail none over why = record {
-    by_hint = λ _ empty. (
-      λ must. over (subst (λ o. MustOverflow rule R v o left) (sym empty) must),
-      λ is. subst (λ o. Overflows rule R v o left) empty (why is),
+  -- if there is no tail, and `extend` failed with the same cause, item in hand and rest, the cause
+  -- of the splice is as that of `extend`
+  pub stop-at-end : (e : ExtendRefused T S) → tail ≡ [] → error.held.items ≡ []
+      → error.cause ≡ e.cause → error.in_hand ≡ e.in_hand → IsExtendCause rule R v left e
+      → IsStopCause rule R v tail left error
+  stop-at-end e no_tail none same hand by = record {
+    by_hint = λ _ empty. let gone : e.in_hand ≡ None = sym hand ∙ empty in (
+      λ must. same ∙ by.must gone must,
+      λ is. by.may gone (sym same ∙ is),
     );
     by_held = λ more _. absurd (omega (arith, more, ap length none));
     by_in_hand = λ some _. absurd (omega (arith, some, ap length no_tail));
-    by_push = λ _ some. (
-      λ is. one in_hand some (why is),
-      λ now. over (must in_hand some now),
+    by_push = λ _ some. let push = by.by_push (subst IsSome hand some) in (
+      λ is. push.0 (sym same ∙ is),
+      λ now. same ∙ push.1 now,
     );
   }
-    where
-      must : (o : Option T) → IsSome o → capacity_for rule R v 1 ≡ None
-          → MustOverflow rule R v o left
-      must (Some x) some now = now
-      must None some now = absurd (false≢true some)
-
-      one : (o : Option T) → IsSome o → Overflows rule R v o left
-          → capacity_for rule R v 1 ≡ None
-      one (Some x) some now = now
-      one None some now = absurd (false≢true some)
 
 module _ (rule : Rule) (R : RattleType) where
-  -- a ruled capacity was named for what it was ruled for
-  pub named-ruled : KeepsLaw rule → {T A : Type 0} (v : Thin T A) (k d n : ℕ)
+  -- if n is at least the number of items for which a capacity was ruled, the capacity satisfies
+  -- `IsKeptOrRuled` with n
+  pub kept-or-ruled : KeepsLaw rule → {T A : Type 0} (v : Thin T A) (k d n : ℕ)
       → capacity_for rule R v k ≡ Some d → length v.items + k ≤ n
-      → IsNamed rule R v.capacity d n
-  named-ruled law v k d n e less =
+      → IsKeptOrRuled rule R v.capacity d n
+  kept-or-ruled law v k d n e less =
       elim (cases_lt v.capacity (length v.items + k)) [
         | inl more ↦ inr (v.capacity, length v.items + k, more, less, e)
         | inr spare ↦ inl (cap-kept rule R law v k d spare e)
       ]
 
--- no move is none
+-- if n is 0, a cost is the same with n more moves as without them
 unmoved : (b : Bool) (c : Cost) (n : ℕ) → n ≡ 0 → (if b then c else moving n c) ≡ c
 unmoved true c n none = refl
 unmoved false c n none = ap (λ k. moving k c) none ∙ sym (moving-zero c)
 
 module _ {T A : Type 0} where
-  -- an open block with no item after its front, once it is closed
+  -- closing an open block with an empty middle run and no tail makes the list `left_of v`
   pub closed-left : (v : Open T A) (u : Thin T A) → v.rest ≡ [] → v.tail ≡ []
       → record u { items = items_of v; capacity = v.capacity; cost = cost_closed v }
       ≡ left_of v u.alloc
@@ -313,7 +322,8 @@ module _ {T A : Type 0} where
         cost = free i;
       }
 
-  -- more items go in after those that went in before
+  -- if us is v with xs in place of the middle run, inserting ys directly after xs makes v with xs
+  -- and ys in place of the middle run
   pub between-more : (v : Open T A) (us xs ys : List T) (end : ℕ) → us ≡ with_between v xs
       → end ≡ length v.front + length xs
       → (take end us ++ ys) ++ drop end us ≡ with_between v (xs ++ ys)
@@ -324,13 +334,13 @@ module _ {T A : Type 0} where
       ∙ ((λ i. (take_at pre v.tail end here i ++ ys) ++ drop_at pre v.tail end here i)
       ∙ ap (λ l. l ++ v.tail) (append_assoc v.front xs ys))
 
-  -- how many items there are with xs in the place of the middle run
+  -- v with xs in place of its middle run has as many items as its front, xs and its tail together
   pub between-length : (v : Open T A) (xs : List T)
       → length (with_between v xs) ≡ length v.front + length xs + length v.tail
   between-length v xs =
       omega (arith, length-append (v.front ++ xs) v.tail, length-append v.front xs)
 
-  -- with no tail, what lies in the gap lies after all
+  -- if v has no tail, appending xs to the front and the tail puts xs in place of the middle run
   pub after-items : (v : Open T A) (xs : List T) → v.tail ≡ []
       → (v.front ++ v.tail) ++ xs ≡ with_between v xs
   after-items v xs none =
@@ -338,7 +348,7 @@ module _ {T A : Type 0} where
       ∙ (ap (λ l. l ++ xs) (append-nil v.front)
       ∙ (sym (append-nil (v.front ++ xs)) ∙ (λ i. (v.front ++ xs) ++ sym none i)))
 
-  -- the cost of what went after all is that of what went between
+  -- if v and w satisfy `IsExtendCost`, they satisfy `IsSpliced`
   pub spliced-extended : (v w : Thin T A) (n : ℕ) → IsExtendCost v w → IsSpliced v w n
   spliced-extended v w n p =
       record {
@@ -349,9 +359,10 @@ module _ {T A : Type 0} where
         grown = p.grown;
       }
 
--- what a step of a splice's end does to a list
+-- what a step of `finish` does to a list
 module _ (rule : Rule) (R : RattleType) {T A : Type 0} where
-  -- items that went into spare room
+  -- if k items were placed into spare capacity, with k + m moves, and m ≤ n, then v and w satisfy
+  -- `HasTaken` with n further moves
   pub taken-spare : (v w : Thin T A) (k m n : ℕ) (left : Count) → w.cost ≡ moving (k + m) v.cost
       → w.capacity ≡ v.capacity → length w.items ≡ length v.items + k → m ≤ n → w.alloc ≡ v.alloc
       → HasTaken rule R v w n left
@@ -375,7 +386,7 @@ module _ (rule : Rule) (R : RattleType) {T A : Type 0} where
     };
   }
 
-  -- nothing went in
+  -- if nothing changed, v and w satisfy `HasTaken`
   pub taken-none : (v w : Thin T A) (n : ℕ) (left : Count) → w ≡ v → HasTaken rule R v w n left
   taken-none v w n left e =
       taken-spare v w 0 0 n left (ap (λ z. z.cost) e ∙ moving-zero v.cost)
@@ -383,7 +394,8 @@ module _ (rule : Rule) (R : RattleType) {T A : Type 0} where
       (ap (λ z. z.alloc) e)
 
   module _ (law : KeepsLaw rule) where
-    -- room was made for h items, which `left` allows
+    -- if v grew to the ruled capacity for h more items, and h is at most the number of items that
+    -- the iterator has left, then v and w satisfy `HasTaken` with 0 further moves
     pub taken-reserved : (v w : Thin T A) (h : ℕ) (left : Count)
         → capacity_for rule R v h ≡ Some w.capacity → w.items ≡ v.items → w.alloc ≡ v.alloc
         → w.cost ≡ cost_at v w.capacity → (IsCheap v → IsCheap w) → h ≤ size left
@@ -397,7 +409,8 @@ module _ (rule : Rule) (R : RattleType) {T A : Type 0} where
       cheap = cheap;
     }
 
-    -- one step after another
+    -- if v and u satisfy `HasTaken` with m further moves, u and w satisfy it with n, and m + n ≤ k,
+    -- then v and w satisfy it with k
     pub taken-join : (v u w : Thin T A) (m n k : ℕ) (left more : Count) → m + n ≤ k
         → length v.items ≤ length u.items
         → (HasRoomFor v (size left) → u.capacity ≡ v.capacity → HasRoomFor u (size more))

@@ -1,4 +1,4 @@
--- What a growth rule promises, and what a block holds once its capacity has changed.
+-- What a growth rule guarantees, and what the block of a list contains after its capacity changed.
 use Rattle.std.proofs.Common.{◌≡◌, ℕ, ◌^◌, ◌<◌, ◌≤◌, Err, Ok, Result, Some, None, arith, refl, subst, sym, ◌-◌, List, [], ◌++◌, length, take, Option, ap, ◌∙◌}
 use Rattle.std.specs.Align.{type_align}
 use Rattle.std.specs.Borrow.{RattleType}
@@ -16,7 +16,7 @@ use Rattle.thin_vec.specs.ThinVec.{IsThin}
 use Rattle.thin_vec.proofs.ListLemmas.{Settled, settled, length-front, thin-room, front-grow}
 
 module _ (rule : Rule) (law : KeepsLaw rule) (R : RattleType) where
-  -- the law of a rule, at the capacity that it names
+  -- if a rule keeps the law of growth rules, each capacity that it chooses satisfies `Grows`
   pub grows-rule : (w : ℕ) {c c' w' : ℕ} {o : Option ℕ}
       → o ≡ rule (type_size R) (type_align R) c w → c ≡ c' → w ≡ w' → c < w → w < 2 ^ 64
       → IfSome o (λ n. Grows R c' w' n)
@@ -30,12 +30,13 @@ module _ (rule : Rule) (law : KeepsLaw rule) (R : RattleType) where
       }
 
 module _ {T : Type 0} where
-  -- c empty slots are those of a list of no items
+  -- c empty slots are the slots of a list with no items and the capacity c
   pub front-none : (c : ℕ) → empty {T = T} c ≡ front [] c
   front-none c = let same : c ≡ c - 0 = omega arith in ap (λ (m : ℕ). empty m) same
 
 module _ {T A : Type 0} {b : Block T A} {a : A} (t : IsThin b a) where
-  -- a block of other slots, which hold all items
+  -- if the slots of a list's block became `front xs c`, where xs are its items, the block is that
+  -- of a list with the same items and the capacity c
   settle-remade : (b' : Block T A) (c : ℕ) {s : List (Option T)} {k : Cost}
       → seen b' ≡ record (seen b) { slots = s; alloc = Some a; cost = k }
       → s ≡ front (items_in b.slots) c → length (items_in b.slots) ≤ c
@@ -44,8 +45,8 @@ module _ {T A : Type 0} {b : Block T A} {a : A} (t : IsThin b a) where
       settled b' a (items_in b.slots) c (ap (λ v. v.slots) w ∙ e) (ap (λ v. v.len) w ∙ t.packed.len)
       room (λ x h. some-same (sym h ∙ ap (λ v. v.alloc) w))
 
-  -- what a growth to c slots leaves, whether it was made or failed: the items in front, of at
-  -- most so many slots
+  -- after a growth to c slots that succeeded or failed, the block is that of a list with the same
+  -- items, and has at most c slots
   pub settle-tried : {X E : Type 0} (r : Result X E) (b' : Block T A) (c : ℕ)
       → length b.slots < c
       → OnOk r (seen b' ≡ record (seen b) {
@@ -67,7 +68,8 @@ module _ {T A : Type 0} {b : Block T A} {a : A} (t : IsThin b a) where
     omega (arith, ap (λ (q : Block T A). length q.slots) same),
   )
 
-  -- a block of fewer slots, which hold all items
+  -- after the block of a list shrank to its first k slots, and these hold all items, the block is
+  -- that of a list with the same items and the capacity k
   pub settle-shrink : (b' : Block T A) (k : ℕ) {m : Cost} → length (items_in b.slots) ≤ k
       → k ≤ length b.slots
       → seen b' ≡ record (seen b) { slots = take k b.slots; alloc = Some a; cost = m }
@@ -81,7 +83,7 @@ module _ {T A : Type 0} {b : Block T A} {a : A} (t : IsThin b a) where
       ∙ (ap (λ (m : ℕ). take m (front xs k ++ rest)) (sym (length-front xs k room))
       ∙ take-append_seam (front xs k) rest)) room
 
--- a new block
+-- a new block of c empty slots is that of a list with no items and the capacity c
 pub settle-new : {T A : Type 0} (b : Block T A) (a : A) (c : ℕ) {k : Cost}
     → seen b ≡ record { slots = empty c; len = 0; alloc = Some a; cost = k } → Settled b a [] c
 settle-new b a c w = settled b a [] c (ap (λ v. v.slots) w ∙ front-none c) (ap (λ v. v.len) w)

@@ -1,5 +1,6 @@
--- What calls of `next` gave, and what a block and a list are once it was placed.
-use Rattle.std.proofs.Common.{true, ◌≡◌, ℕ, ◌+◌, ◌-◌, ◌<◌, ◌≤◌, List, [], ◌∷◌, ◌++◌, inl, inr, length, length-append, Option, Some, refl, sym, ap, subst, ◌∙◌, arith, false}
+-- What calls of `next` yielded, and what the block and the list contain after the yielded items
+-- were placed.
+use Rattle.std.proofs.Common.{true, ◌≡◌, ℕ, ◌+◌, ◌-◌, ◌<◌, ◌≤◌, List, [], ◌∷◌, ◌++◌, inl, inr, length, length-append, Option, None, Some, refl, sym, ap, subst, ◌∙◌, arith, false}
 use Rattle.std.proofs.lemmas.Bool.{cases_lt}
 use Rattle.std.proofs.lemmas.List.{map-append}
 use Rattle.std.specs.Borrow.{RattleType}
@@ -9,7 +10,7 @@ use Rattle.std.specs.Iterator.SizeHint.{IsWithinCount}
 use Rattle.std.specs.Iterator.Runs.{SomeRun, WholeRun}
 use Rattle.std.specs.declared.result.Result.{Result}
 use Rattle.std.specs.declared.result.Result.TheVariants.{Ok, Err}
-use Rattle.std.specs.Prelude.{OnOk, IfErr}
+use Rattle.std.specs.Prelude.{OnErr, OnOk, IfErr, IsSome, MatchOption}
 use Rattle.std.proofs.lemmas.Bool.{false≢true}
 use Rattle.std.specs.Option.{option_to_list}
 use lib.ListN.{set}
@@ -20,38 +21,41 @@ use Rattle.thin_block.specs.Slots.{full, laid}
 use Rattle.thin_block.proofs.CapacityLemmas.{ruled-grows}
 use Rattle.thin_block.proofs.SlotsLemmas.{laid-one}
 use Rattle.std.specs.Prelude.{◌⊎◌}
-use Rattle.thin_vec.specs.List.Extend.{GaveUp, IsCollected, IsExtendCost, IsLoose, IsNamed}
+use Rattle.thin_vec.specs.List.Extend.{IsCollected, IsExtendCost, IsKeptOrRuled, IsLoose, PausedAfter}
 use Rattle.thin_vec.specs.ThinVec.{Thin, capacity_for, cost_at}
+use Rattle.thin_vec.specs.declared.errors.ExtendRefused.{ExtendRefused}
 use Rattle.thin_vec.proofs.RetainLemmas.{moving-more, moving-none}
 use Rattle.thin_vec.proofs.ListLemmas.{length-full}
 use Rattle.thin_vec.proofs.ThinVecLemmas.{cap-kept, cost_at-more, cost_at-moves, cost_at-same}
 
 module _ {S X : Type 0} (steps : S → Option X → S → Type 0) where
-  -- one call more
+  -- if calls of `next` yielded xs, and one more call yielded x, then all of them yielded xs
+  -- followed by x
   pub yields-more : (s t u : S) (xs : List X) (x : X) → Yields steps s xs t → steps t (Some x) u
       → Yields steps s (xs ++ x ∷ []) u
   yields-more s t u [] x e now = (u, subst (λ r. steps r (Some x) u) (sym e) now, λ _. u)
   yields-more s t u (y ∷ ys) x e now = (e.0, e.1, yields-more e.0 t u ys x e.2 now)
 
-  -- one run of calls after another
+  -- if calls of `next` yielded xs, and later calls ys, then all of them yielded xs followed by ys
   pub yields-join : (s t u : S) (xs ys : List X) → Yields steps s xs t → Yields steps t ys u
       → Yields steps s (xs ++ ys) u
   yields-join s t u [] ys e more = subst (λ r. Yields steps r ys u) (sym e) more
   yields-join s t u (x ∷ xs) ys e more = (e.0, e.1, yields-join e.0 t u xs ys e.2 more)
 
-  -- the first of several calls, alone
+  -- if calls of `next` yielded xs followed by ys, the first of these calls yielded xs
   pub yields-first : (s u : S) (xs ys : List X) → Yields steps s (xs ++ ys) u
       → (t : S) × Yields steps s xs t
   yields-first s u [] ys e = (s, refl)
   yields-first s u (x ∷ xs) ys e =
       let rest = yields-first e.0 u xs ys e.2 in (rest.0, (e.0, e.1, rest.1))
 
-  -- calls that went on to `None`, as a run
+  -- if calls of `next` yielded xs and then `None`, and P holds for xs, these calls form a whole run
+  -- (`WholeRun`) for whose items P holds
   pub run_of : (s : S) (P : List X → Type 0) → (xs : List X) × Drains steps s xs × P xs
       → WholeRun steps s (λ p. P p.items)
   run_of s P all = (run steps s all.0 true (to_end steps s all.0 all.1), refl, refl, all.2)
 
-  -- calls that went on to `None`, as a run, where the result is `Ok`
+  -- `run_of` for the result r of a call: the whole run exists if r is `Ok`
   pub run_of_ok : {E : Type 0} (s : S) (P : List X → Type 0) (r : Result (Unit {0}) E)
       → OnOk r ((xs : List X) × Drains steps s xs × P xs)
       → OnOk r (WholeRun steps s (λ p. P p.items))
@@ -59,27 +63,50 @@ module _ {S X : Type 0} (steps : S → Option X → S → Type 0) where
   run_of_ok s P (Err _) all = tt
 
 module _ {S X : Type 0} (steps : S → Option X → S → Type 0) (s : S) where
-  -- what calls yielded up to a failure, as a run
+  -- if calls of `next` yielded the items xs and then the item in o, if there is one, they are a run
+  -- of the iterator
   pub run_given : (xs : List X) (o : Option X) (t : S) (P : List X → Type 0)
-      → GaveUp steps s xs o t → P (xs ++ option_to_list o) → SomeRun steps s (λ p. P p.items)
+      → Yields steps s (xs ++ option_to_list o) t → P (xs ++ option_to_list o)
+      → SomeRun steps s (λ p. P p.items)
   run_given xs o t P gave h =
       (run steps s (xs ++ option_to_list o) false (t, gave, λ e. absurd (false≢true e)), refl, h)
 
-  -- what calls yielded up to a failure, as a run, where the result is `Err`
-  pub run_given_err : {E : Type 0} (hand : E → Option X) (rest : E → S)
-      (P : List X → Type 0) (r : Result (Unit {0}) E)
-      → IfErr r (λ e. (xs : List X) × P xs × GaveUp steps s xs (hand e) (rest e))
+  -- if the result is an error, and calls of `next` yielded the placed items and the item in hand,
+  -- these are a run of the iterator
+  pub run_given_err : {E : Type 0} (can : S → Type 0) (remaining : S → Count)
+      (hand : E → Option X) (rest : E → S) (P : List X → Type 0) (r : Result (Unit {0}) E)
+      → IfErr r (λ e. (xs : List X) × P xs
+      × PausedAfter steps can remaining s (xs ++ option_to_list (hand e)) (rest e))
       → IfErr r (λ e. SomeRun steps s
       (λ p. (xs : List X) × P xs × (p.items ≡ xs ++ option_to_list (hand e))))
-  run_given_err hand rest P (Ok _) all = tt
-  run_given_err hand rest P (Err e) all =
+  run_given_err can remaining hand rest P (Ok _) all = tt
+  run_given_err can remaining hand rest P (Err e) all =
       run_given all.0 (hand e) (rest e)
       (λ l. (xs : List X) × P xs × (l ≡ xs ++ option_to_list (hand e)))
-      all.2 (all.0, all.1, refl)
+      all.2.gave (all.0, all.1, refl)
+
+-- if o has a value and P holds, then the cases of o hold, the second of which is P
+pub match-some : {X : Type 0} (P Q : Type 0) (o : Option X) → IsSome o → P
+    → MatchOption o Q (λ _. P)
+match-some P Q (Some x) some p = p
+match-some P Q None some p = absurd (false≢true some)
+
+-- no option has a value and is `None`
+pub hand-empty : {X : Type 0} {o : Option X} → IsSome o → o ≡ None → ⊥
+hand-empty some none = false≢true (subst IsSome none some)
+
+-- if a failed call always has an item in hand, and then P holds, then for each error the cases of
+-- the item in hand hold, the second of which is P
+pub full-in-hand : {T S : Type 0} (P : Type 0) (Q : ExtendRefused T S → Type 0)
+    (r : Result (Unit {0}) (ExtendRefused T S)) → IfErr r (λ error. IsSome error.in_hand)
+    → OnErr r P → IfErr r (λ error. MatchOption error.in_hand (Q error) (λ _. P))
+full-in-hand P Q (Ok _) some at_capacity = tt
+full-in-hand P Q (Err error) some at_capacity =
+    match-some P (Q error) error.in_hand some at_capacity
 
 module _ {T : Type 0} where
   module _ (s s' r : List (Option T)) where
-    -- one item more in a row
+    -- if xs were laid from the slot i on, writing x into the slot after them lays xs followed by x
     pub laid-more : (i k : ℕ) (xs : List T) (x : T) → s ≡ laid i (full xs) r → k ≡ i + length xs
         → k < length r → s' ≡ set s k (Some x) → s' ≡ laid i (full (xs ++ x ∷ [])) r
     laid-more i k xs x e at within e' =
@@ -90,12 +117,13 @@ module _ {T : Type 0} where
         (sym (map-append (λ (y : T). Some y) xs (x ∷ [])))))
 
 module _ {T A : Type 0} where
-  -- a block before the first item is put
+  -- adding n moves to the cost of a block changes nothing, if n is 0
   pub put-none : (v : Seen T A) (n : ℕ) → n ≡ 0 → v ≡ record v { cost = moving n v.cost }
   put-none v n none = λ i. record v
       { cost = (sym (moving-none v.cost) ∙ ap (λ (k : ℕ). moving k v.cost) (sym none)) i }
 
-  -- a block after one item more is put
+  -- if v is u with other slots and n more moves, and w is v after one more item was placed, then w
+  -- is u with other slots and n + 1 more moves
   pub put-more : (u : Seen T A) {v w : Seen T A} {s : List (Option T)} (n k : ℕ) → k ≡ n + 1
       → w ≡ record v { slots = s; cost = moving 1 v.cost }
       → v ≡ record u { slots = v.slots; cost = moving n u.cost }
@@ -109,7 +137,8 @@ module _ {T A : Type 0} where
         ∙ (moving-more 1 n u.cost ∙ ap (λ (m : ℕ). moving m u.cost) (sym one)))) i;
   }
 
--- items that were placed after those of a list: as many moves as it has more items
+-- if w is v with xs appended and one more move for each of xs, then w is v with the items of w, and
+-- with as many more moves as w has more items than v
 pub spare-kept : {T A : Type 0} (v w : Thin T A) (xs : List T)
     → w ≡ record v { items = v.items ++ xs; cost = moving (length xs) v.cost }
     → w ≡ record v
@@ -123,37 +152,40 @@ spare-kept v w xs is =
 -- ---- how a capacity grows over several calls
 
 module _ (rule : Rule) (R : RattleType) (law : KeepsLaw rule) where
-  -- what a loose capacity grew to is not less than before
+  -- after a loose growth (`IsLoose`), the capacity is not smaller than before
   pub loose-le : (c d : ℕ) → IsLoose rule R c d → c ≤ d
   loose-le c d (inl e) = omega arith
   loose-le c d (inr p) = let g = ruled-grows rule R c p.0 p.1 law p.2 p.3 in
       omega (arith, g.doubled, p.4)
 
-  -- one loose growth after another
+  -- two loose growths, one after the other, are one loose growth
   pub loose-join : (c d e : ℕ) → IsLoose rule R c d → IsLoose rule R d e → IsLoose rule R c e
   loose-join c d e (inl p) q = subst (λ n. IsLoose rule R n e) p q
   loose-join c d e (inr p) q = inr (p.0, p.1, p.2, p.3, omega (arith, p.4, loose-le d e q))
 
-  -- a capacity that was named for fewer was named for more
-  pub named-more : (c n m : ℕ) {d d' : ℕ} → d' ≡ d → n ≤ m → IsNamed rule R c d n
-      → IsNamed rule R c d' m
-  named-more c n m same more (inl e) = inl (same ∙ e)
-  named-more c n m same more (inr p) =
+  -- a capacity that satisfies `IsKeptOrRuled` for at most n items satisfies it for at most m items,
+  -- if n ≤ m
+  pub ruled-more : (c n m : ℕ) {d d' : ℕ} → d' ≡ d → n ≤ m → IsKeptOrRuled rule R c d n
+      → IsKeptOrRuled rule R c d' m
+  ruled-more c n m same more (inl e) = inl (same ∙ e)
+  ruled-more c n m same more (inr p) =
       inr (p.0, p.1, p.2, omega (arith, p.3, more), p.4 ∙ ap Some (sym same))
 
-  -- a capacity that was named after another growth
-  pub named-after : (c d e n : ℕ) (P : Type 0) → IsNamed rule R d e n → (e ≡ d → P)
-      → IsNamed rule R c e n ⊎ P
-  named-after c d e n P (inl same) f = inr (f same)
-  named-after c d e n P (inr p) f = inl (inr p)
+  -- if the capacity e satisfies `IsKeptOrRuled` after d, then it satisfies it after c, or e is d, and
+  -- then P holds
+  pub ruled-after : (c d e n : ℕ) (P : Type 0) → IsKeptOrRuled rule R d e n → (e ≡ d → P)
+      → IsKeptOrRuled rule R c e n ⊎ P
+  ruled-after c d e n P (inl same) f = inr (f same)
+  ruled-after c d e n P (inr p) f = inl (inr p)
 
-  -- a list that took exactly as many places as a hint says
+  -- if a new list first got exactly the capacity c that a size hint asks for, and then a capacity d
+  -- that satisfies `IsKeptOrRuled` after c, then d satisfies `IsCollected`
   pub collected-after : {c d : ℕ} (n h : ℕ) (left : Count) → IsWithinCount h left
-      → exact_capacity R 0 h ≡ Some c → IsNamed rule R c d n → IsCollected rule R d n left
+      → exact_capacity R 0 h ≡ Some c → IsKeptOrRuled rule R c d n → IsCollected rule R d n left
   collected-after n h left hint e (inl same) = inr (h, hint, e ∙ ap Some (sym same))
   collected-after n h left hint e (inr p) = inl p
 
-  -- a ruled capacity
+  -- a change to the ruled capacity is a loose growth
   pub loose-ruled : {T A : Type 0} (v : Thin T A) (k d : ℕ) → capacity_for rule R v k ≡ Some d
       → IsLoose rule R v.capacity d
   loose-ruled v k d e =
@@ -163,7 +195,8 @@ module _ (rule : Rule) (R : RattleType) (law : KeepsLaw rule) where
       ]
 
 module _ {T A : Type 0} where
-  -- k items that came in by as many moves, after at most one growth
+  -- if k items were appended to v with k moves, after at most one growth, v and w satisfy
+  -- `IsExtendCost`
   pub filled-at : (v w : Thin T A) (k : ℕ) → w.cost ≡ moving k (cost_at v w.capacity)
       → length w.items ≡ length v.items + k
       → (cost_at v w.capacity).grown + v.capacity ≤ v.cost.grown + w.capacity → IsExtendCost v w
@@ -178,7 +211,7 @@ module _ {T A : Type 0} where
         (omega (arith, ap (λ c. c.blocks) f), omega (arith, ap (λ c. c.grown) f));
   }
 
-  -- where no item came in, the cost is that of the room
+  -- if v only grew, and no item was appended, v and w satisfy `IsExtendCost`
   pub filled-reserved : (v w : Thin T A) → w.cost ≡ cost_at v w.capacity
       → w.items ≡ v.items
       → (cost_at v w.capacity).grown + v.capacity ≤ v.cost.grown + w.capacity → IsExtendCost v w
@@ -193,7 +226,8 @@ module _ {T A : Type 0} where
             z) i;
       })) (omega (arith, ap length n)) few
 
-  -- items came in without a growth
+  -- if k items were appended to v with k moves, and the capacity did not change, v and w satisfy
+  -- `IsExtendCost`
   pub filled-spare : (v w : Thin T A) (k : ℕ)
       → w ≡ record v { items = w.items; cost = moving k v.cost }
       → length w.items ≡ length v.items + k → IsExtendCost v w
@@ -203,7 +237,8 @@ module _ {T A : Type 0} where
       filled-at v w k (ap (λ u. u.cost) e ∙ ap (λ c. moving k c) (sym kept)) n
       (omega (arith, ap (λ c. c.grown) kept, same))
 
-  -- one step after another
+  -- if `IsExtendCost` holds for v and u, and for u and w, it holds for v and w, provided that no
+  -- capacity shrinks and u has at least as many items as v
   pub filled-join : {v u w : Thin T A} → IsExtendCost v u → IsExtendCost u w
       → v.capacity ≤ u.capacity → u.capacity ≤ w.capacity → length v.items ≤ length u.items
       → IsExtendCost v w

@@ -1,4 +1,4 @@
--- What a block holds while items leave it or move along it, and afterwards.
+-- What a block contains while items are removed from it, or moved within it, and afterwards.
 use Rattle.thin_vec.proofs.list.CapacityLemmas.{front-none}
 use Rattle.std.proofs.Common.{◌≡◌, ◌≢◌, ℕ, zero, suc, ◌+◌, ◌-◌, ◌<◌, ◌≤◌, List, [], ◌∷◌, ◌++◌, length, take, drop, Option, Some, None, refl, sym, ap, ◌∙◌, subst, arith, get_or, length-append, append_assoc}
 use Rattle.std.proofs.Math.Seq.{drop-length, take-append_seam}
@@ -17,10 +17,11 @@ use Rattle.thin_block.proofs.SlotsLemmas.{same_or_not, the_item, moved_left, mov
 use lib.Seq.{set-set, take-set-le}
 use mathlib.Core.Logic.{⊎_elim}
 
--- ---- a run moves by one place
+-- ---- moves of a run by one slot
 
 module _ {T : Type 0} where
-  -- one item is taken, and those after it close the gap
+  -- if the slot of the item at i is emptied, and the later items move down by one slot, the slots
+  -- are those of the list without this item
   pub front-remove : (xs : List T) (c i : ℕ) {j k : ℕ} → i < length xs → length xs ≤ c → j ≡ i + 1
       → k ≡ length xs - j → moved j i k (set (front xs c) i None) ≡ front (remove xs i) c
   front-remove [] c i h l e n = absurd (omega arith)
@@ -40,18 +41,18 @@ module _ {T : Type 0} where
       (replicate-append-replicate 1 (c - length xs) None
       ∙ ap (λ (z : ℕ). replicate z None) m))))
 
-  -- the items from i on make room for one
+  -- the items of xs from i on move up one slot, to make room for one item at i
   module _ (xs : List T) (c i : ℕ) {j k : ℕ} (h : i ≤ length xs) (l : length xs < c) (e : j ≡ i + 1)
       (n : k ≡ length xs - i) where
     -- the slots after the room for the item
     after : List (Option T)
     after = full (drop i xs) ++ replicate (c - length xs - 1) None
 
-    -- how many slots lie before the room for the item
+    -- there are i slots before the room for the item
     before : i ≡ length (full (take i xs))
     before = omega (arith, length-full (take i xs), length-take i xs)
 
-    -- the room between the slots before it and after it is one empty slot
+    -- after the move, one empty slot lies between the items before i and the items that moved
     apart : moved i j k (front xs c) ≡ full (take i xs) ++ (None ∷ after)
     unfolding after
     apart =
@@ -69,7 +70,7 @@ module _ {T : Type 0} where
         ap (λ (ys : List (Option T)). moved i j k ys) s
         ∙ moved_right i j k 1 (full a) (full b) r before e q
 
-    -- the slots once the item is in
+    -- if v is then written into the slot i, the slots are those of the list with v inserted at i
     pub front-insert : (v : T)
         → set (moved i j k (front xs c)) i (Some v) ≡ front (insert xs i v) c
     unfolding after
@@ -83,14 +84,15 @@ module _ {T : Type 0} where
         ∙ (ap (λ (ys : List (Option T)). ys ++ r) (sym (map-append (λ (y : T). Some y) a (v ∷ b)))
         ∙ ap (λ (z : ℕ). full (insert xs i v) ++ replicate z None) m)))
 
-    -- before the item is in, its slot is empty
+    -- before the item is written, its slot i is empty
     front-gap : slot (moved i j k (front xs c)) i ≡ None
     front-gap =
         ap (λ (ys : List (Option T)). slot ys i) apart
         ∙ get_or_at (full (take i xs)) None after None i (sym before)
 
 module _ {T A : Type 0} {b : Block T A} {a : A} (t : IsThin b a) where
-  -- an item came out
+  -- if the slot of the item at i was emptied, the later items were moved down by one slot, and the
+  -- stored length was decremented, the block is that of the list without this item
   pub settle-remove : (b' : Block T A) (i : ℕ) {j k : ℕ} → i < length (items_in b.slots)
       → j ≡ i + 1 → k ≡ b.len - j → {l : ℕ} {m : Cost} → l ≡ b.len
       → IsWritten b b' (moved j i k (set b.slots i None)) (l - 1) m
@@ -103,7 +105,8 @@ module _ {T A : Type 0} {b : Block T A} {a : A} (t : IsThin b a) where
       (omega (arith, len, t.packed.len, length-remove xs i h))
       (omega (arith, thin-room b a t, length-remove xs i h))
 
-  -- an item went in
+  -- if the items from i on were moved up by one slot, v was written into the slot i, and the stored
+  -- length was incremented, the block is that of the list with v inserted at i
   pub settle-insert : (b' : Block T A) (i : ℕ) (v : T) {j k : ℕ} → i ≤ length (items_in b.slots)
       → b.len < length b.slots → j ≡ i + 1 → k ≡ b.len - i → {l : ℕ} {m : Cost} → l ≡ b.len
       → IsWritten b b' (set (moved i j k b.slots) i (Some v)) (l + 1) m
@@ -116,7 +119,7 @@ module _ {T A : Type 0} {b : Block T A} {a : A} (t : IsThin b a) where
       (omega (arith, len, t.packed.len, length-insert xs i v h))
       (omega (arith, o, t.packed.len, length-insert xs i v h))
 
-  -- after a run has moved one place back, the slot that it left is empty
+  -- after the items from i on were moved up by one slot, the slot i is empty
   pub thin-gap : (i : ℕ) {j k : ℕ} → i ≤ length (items_in b.slots) → b.len < length b.slots
       → j ≡ i + 1 → k ≡ b.len - i → slot (moved i j k b.slots) i ≡ None
   thin-gap i {j} {k} h o e n =
@@ -124,15 +127,15 @@ module _ {T A : Type 0} {b : Block T A} {a : A} (t : IsThin b a) where
       ∙ front-gap (items_in b.slots) (length b.slots) i h (omega (arith, o, t.packed.len)) e
       (omega (arith, n, t.packed.len))
 
--- ---- items leave
+-- ---- removal of items
 
 module _ {T : Type 0} where
-  -- c slots that held xs, of which those from k up to i were emptied
+  -- c slots that held xs, after the slots from k up to i were emptied
   abbrev pub emptying : List T → ℕ → ℕ → ℕ → List (Option T)
   emptying xs k i c =
       full (take k xs) ++ (empty (i - k) ++ (full (drop i xs) ++ empty (c - length xs)))
 
-  -- the item at i, and those after it
+  -- the items from i on are the item at i and those after it
   item-at : (xs : List T) (i : ℕ) → i < length xs → (x : T) × (drop i xs ≡ x ∷ drop (i + 1) xs)
   item-at [] i h = absurd (omega arith)
   item-at (x ∷ xs) zero h = (x, refl)
@@ -144,11 +147,11 @@ module _ {T : Type 0} where
             e),
       )
 
-  -- filled slots after filled slots
+  -- the filled slots of xs followed by ys are those of xs, followed by those of ys
   pub full-append : (xs ys : List T) → full (xs ++ ys) ≡ full xs ++ full ys
   full-append xs ys = map-append (λ (x : T). Some x) xs ys
 
-  -- with no item out, the slots are those of the list
+  -- before the first slot is emptied, the slots are those of the list
   pub emptying-none : (xs : List T) (k c : ℕ) → emptying xs k k c ≡ front xs c
   emptying-none xs k c =
       let r : List (Option T) = empty (c - length xs) in
@@ -159,12 +162,15 @@ module _ {T : Type 0} where
       ∙ ap full (take-append-drop k xs)))
 
   module _ (xs : List T) (k i c : ℕ) (order : k ≤ i) (bound : i < length xs) where
+    -- the slots before the slot i
     pre : List (Option T)
     pre = full (take k xs) ++ empty (i - k)
 
+    -- the slots after the slot i
     post : List (Option T)
     post = full (drop (i + 1) xs) ++ empty (c - length xs)
 
+    -- there are i slots before the slot i
     length-pre : length pre ≡ i
     unfolding pre
     length-pre =
@@ -176,6 +182,7 @@ module _ {T : Type 0} where
           length-replicate {A = Option T} (i - k) None,
         )
 
+    -- while slots are emptied, the slot i, which is the next one, still holds the item at i
     split : emptying xs k i c ≡ pre ++ (Some (item-at xs i bound).0 ∷ post)
     unfolding pre post
     split =
@@ -185,10 +192,12 @@ module _ {T : Type 0} where
         ∙ sym (append_assoc (full (take k xs)) (empty (i - k))
         (Some r.0 ∷ (full (drop (i + 1) xs) ++ empty (c - length xs))))
 
+    -- the next slot to be emptied, i, is filled
     pub emptying-filled : IsSome (slot (emptying xs k i c) i)
     emptying-filled = rw (ap (λ (s : List (Option T)). slot s i) split
         ∙ get_or_at pre (Some (item-at xs i bound).0) post None i length-pre) refl
 
+    -- emptying the slot i makes the row `emptying xs k (i + 1) c`
     pub emptying-take : set (emptying xs k i c) i None ≡ emptying xs k (i + 1) c
     unfolding pre post
     emptying-take =
@@ -201,7 +210,7 @@ module _ {T : Type 0} where
         ∙ ap (λ (s : List (Option T)). s ++ post)
         (replicate-append-replicate (i - k) 1 None ∙ ap empty more))))
 
-  -- once all items from k on are out, the first k are left
+  -- after all slots from k on were emptied, the slots are those of the first k items
   pub emptying-all : (xs : List T) (k c : ℕ) → k ≤ length xs → length xs ≤ c
       → emptying xs k (length xs) c ≡ front (take k xs) c
   emptying-all xs k c order room =
@@ -212,7 +221,7 @@ module _ {T : Type 0} where
       ∙ ap (λ (s : List (Option T)). full (take k xs) ++ s)
       (replicate-append-replicate (length xs - k) (c - length xs) None ∙ ap empty many)
 
-  -- an item that is written over
+  -- writing m into the slot of the item at i replaces that item by m
   pub full-set : (xs : List T) (s : List (Option T)) (i : ℕ) (m : T) → i < length xs
       → set (full xs ++ s) i (Some m) ≡ full (set xs i m) ++ s
   full-set [] s i m h = absurd (omega arith)
@@ -220,7 +229,8 @@ module _ {T : Type 0} where
   full-set (x ∷ xs) s (suc i) m h = ap (λ (r : List (Option T)). Some x ∷ r)
       (full-set xs s i m (omega arith))
 
-  -- the last item in place of another
+  -- if the item at i and the last item m are taken out, and m is written into the slot i, the slots
+  -- are those of the list after `swap_remove`
   front-swap_remove : (ys : List T) (c i : ℕ) (v m : T) → i < length ys → length (ys ++ m ∷ []) ≤ c
       → set (set (set (front (ys ++ m ∷ []) c) i None) (length ys) None) i (Some m) ≡ front
       (swap_remove (ys ++ m ∷ []) i v) c
@@ -246,7 +256,8 @@ module _ {T : Type 0} where
       ∙ ap (λ (l : List T). front l c) (sym cut))))
 
 module _ {T A : Type 0} where
-  -- once all items are out
+  -- if all slots were emptied, and the stored length is 0, the block is that of a list with no
+  -- items and the same capacity
   pub settle-emptied : {b : Block T A} {a : A} → IsThin b a → (b' : Block T A)
       {s : List (Option T)} {m : Cost} → IsWritten b b' s 0 m → s ≡ empty (length b.slots)
       → Settled b' a [] (length b.slots)
@@ -254,7 +265,9 @@ module _ {T A : Type 0} where
       settle-front t b' [] (length b.slots) w (e ∙ front-none (length b.slots)) refl (omega arith)
 
   module _ {b : Block T A} {a : A} (t : IsThin b a) (b' : Block T A) (i last : ℕ) where
-    -- an item came out, and the last one went into its place
+    -- if the item at i, which is not the last, and the last item were taken out, the last one was
+    -- written into the slot i, and the stored length was decremented, the block is that of the list
+    -- after `swap_remove`
     settle-swap_remove : (v : T) {m : T} → i < last → last + 1 ≡ b.len → slot b.slots last ≡ Some m
         → {k : Cost} → IsWritten b b' (set (set (set b.slots i None) last None) i (Some m)) last k
         → Settled b' a (swap_remove (items_in b.slots) i v) (length b.slots)
@@ -279,6 +292,7 @@ module _ {T A : Type 0} where
         (omega (arith, cut, room, length_push ys m, long)) in
         subst (λ (l : List T). Settled b' a (swap_remove l i v) c) (sym at_end) done
       where
+        -- `swap_remove` makes a list shorter by one
         length-swap_remove : (ys : List T) (i : ℕ) (v m : T) {k : ℕ} → length ys ≡ k → i < k
             → length (swap_remove (ys ++ m ∷ []) i v) ≡ k
         length-swap_remove ys i v m {k} long lt =
@@ -292,7 +306,8 @@ module _ {T A : Type 0} where
               long,
             )
 
-    -- the last item takes the place of the i-th, which may be the last itself
+    -- if the content of the last filled slot was moved into the slot i, which may be the same slot,
+    -- and the stored length was decremented, the block is that of the list after `swap_remove`
     pub settle-replaced : (v : T) → i ≤ last → last + 1 ≡ b.len → slot b.slots i ≡ Some v
         → {k : Cost} → IsWritten b b' (set (set b.slots i (slot b.slots last)) last None) last k
         → Settled b' a (swap_remove (items_in b.slots) i v) (length b.slots)

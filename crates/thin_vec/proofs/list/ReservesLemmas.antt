@@ -1,47 +1,52 @@
--- How the records `Keeps`, `Reserves` and `TellsOverflow` follow from the facts of a step.
-use Rattle.std.proofs.Common.{◌≡◌, ◌⊎◌, ℕ, ◌+◌, ◌≤◌, Err, None, Ok, Option, Result, Some, ap, arith, inl, inr, length, refl, subst, sym, ◌∙◌}
+-- How `Keeps`, `Reserves` and `TellsOverflow` follow from the facts about a step.
+use Rattle.std.proofs.Common.{◌≡◌, ℕ, ◌+◌, Err, Ok, Option, Result, Some, ap, arith, inl, inr, length, sym, ◌∙◌}
 use Rattle.std.specs.Borrow.{RattleType}
-use Rattle.std.specs.Prelude.{IfErr, IsErrOf}
+use Rattle.std.specs.Prelude.{IfErr}
 use Rattle.thin_block.specs.declared.errors.ThinVecError.{ThinVecError}
 use Rattle.thin_block.specs.declared.errors.ThinVecError.TheVariants.{CapacityOverflow, OutOfMemory}
-use Rattle.thin_block.specs.Growth.{Rule, ruled_capacity}
+use Rattle.thin_block.specs.Growth.{Rule, exact_capacity}
 use Rattle.thin_block.proofs.CapacityLemmas.{ruled-same}
 use Rattle.thin_block.proofs.Outcomes.{err-same, none-some, ok-err}
 use Rattle.thin_vec.specs.Cheap.{IsCheap}
-use Rattle.thin_vec.specs.List.Capacity.{Keeps, Reserves, TellsOverflow}
+use Rattle.thin_vec.specs.List.Capacity.{Keeps, Reserves, TellsOverflow, TellsOverflowOf}
 use Rattle.thin_vec.specs.ThinVec.{HasRoomFor, IsWithin, Thin, capacity_for}
 
--- if a capacity was named, an `Ok` tells of no overflow
+-- if a capacity was chosen, a call that returned `Ok` satisfies `TellsOverflow`
 pub tells-ok : {X : Type 0} (x : X) (named : Option ℕ) (n : ℕ) → named ≡ Some n
     → TellsOverflow named (Ok x)
 tells-ok x named n is = record {
   overflow = (λ e. ok-err x CapacityOverflow e, λ none. absurd (none-some none is));
 }
 
--- if one list was made, no overflow is told of, whichever list is returned
-pub tells-made : {X : Type 0} {x y : X} (named other : Option ℕ) → named ≡ other
-    → TellsOverflow named (Ok x) → TellsOverflow other (Ok y)
-tells-made {x = x} {y} named other e told = record {
+-- if m items of R and n items of S have the same exact capacity, and a call that made a list for the
+-- former succeeded, then a result `Ok` of a call that makes one for the latter tells no overflow
+pub tells-made : {X : Type 0} {x y : X} (R S : RattleType) (m n : ℕ)
+    → exact_capacity R 0 m ≡ exact_capacity S 0 n
+    → TellsOverflowOf R m (let r : Result X ThinVecError = Ok x in r)
+    → TellsOverflowOf S n (let r : Result X ThinVecError = Ok y in r)
+tells-made {x = x} {y} R S m n e told = record {
   overflow = (
     λ over. ok-err y CapacityOverflow over,
     λ none. ok-err x CapacityOverflow (told.overflow.1 (e ∙ none)),
   );
 }
 
--- what tells of an overflow for one named capacity does so for an equal one
-pub tells-same : {X : Type 0} {r : Result X ThinVecError} (named other : Option ℕ)
-    → named ≡ other → TellsOverflow named r → TellsOverflow other r
-tells-same named other e told = record {
+-- if m items of R and n items of S have the same exact capacity, a result that tells an overflow for
+-- the former tells it for the latter
+pub tells-same : {X : Type 0} {r : Result X ThinVecError} (R S : RattleType) (m n : ℕ)
+    → exact_capacity R 0 m ≡ exact_capacity S 0 n → TellsOverflowOf R m r → TellsOverflowOf S n r
+tells-same R S m n e told = record {
   overflow = (λ over. sym e ∙ told.overflow.0 over, λ none. told.overflow.1 (e ∙ none));
 }
 
--- no overflow is told of by a cause that is `OutOfMemory`
+-- if an error is both `OutOfMemory` and `CapacityOverflow`, anything follows
 memory-no-overflow : {P : Type 0} (cause : ThinVecError) → cause ≡ OutOfMemory
     → cause ≡ CapacityOverflow → P
 memory-no-overflow cause is over = cc
 
 module _ {T A : Type 0} (R : RattleType) (v : Thin T A) where
-  -- a list stays cheap if its capacity stays and no block and no copied item is added
+  -- a cheap list stays cheap if the capacity does not change, and neither a block nor a copied item
+  -- is added to its cost
   cheap-kept : (w : Thin T A) → w.capacity ≡ v.capacity
       → (w.cost.blocks ≡ v.cost.blocks) × (w.cost.grown ≡ v.cost.grown) → IsCheap v → IsCheap w
   cheap-kept w capacity (blocks, grown) cheap = record {
@@ -53,8 +58,8 @@ module _ {T A : Type 0} (R : RattleType) (v : Thin T A) where
         rw (blocks, capacity) old;
   }
 
-  -- if the allocator and the capacity stay and no block and no copied item is added, the list keeps
-  -- what `Keeps` says
+  -- the list w satisfies `Keeps` if neither the allocator nor the capacity changed, neither a block
+  -- nor a copied item was added to its cost, and both lists are within bounds
   pub keeps-kept : (w : Thin T A) → w.alloc ≡ v.alloc → w.capacity ≡ v.capacity
       → (w.cost.blocks ≡ v.cost.blocks) × (w.cost.grown ≡ v.cost.grown)
       → IsWithin R v × IsWithin R w → Keeps R v w
@@ -66,7 +71,8 @@ module _ {T A : Type 0} (R : RattleType) (v : Thin T A) where
   }
 
   module _ (rule : Rule) where
-    -- if v has room for k items more and the capacity stays, a success is as `Reserves` says
+    -- if v has room for k more items and the capacity does not change, a call that succeeded
+    -- satisfies `Reserves`
     pub reserves-room : {X : Type 0} {x : X} (k : ℕ) (w : Thin T A) → HasRoomFor v k
         → w.capacity ≡ v.capacity → Reserves rule R k v w (Ok x)
     reserves-room {x = x} k w room capacity =
@@ -79,9 +85,9 @@ module _ {T A : Type 0} (R : RattleType) (v : Thin T A) where
           overflow = (λ e. ok-err x CapacityOverflow e, λ none. absurd (none-some none named));
         }
 
-    -- let S be a type for which the rule names the same capacities as for R, and l equal to k. If v
-    -- grew to u as `Reserves` says, and w has the capacity of u, then a further step that fails
-    -- only with `OutOfMemory` leaves v and w as `Reserves` says
+    -- let S be a type for which the rule chooses the same capacity as for R, and l equal to k. If v
+    -- grew to u, so that v and u satisfy `Reserves`, and w has the capacity of u, then v and w
+    -- satisfy `Reserves` after a further step that fails only with `OutOfMemory`.
     pub reserves-then : {X Y : Type 0} {x : X} (S : RattleType) (k l : ℕ) (u w : Thin T A)
         (r : Result Y ThinVecError) → l ≡ k
         → capacity_for rule S v l ≡ capacity_for rule R v k → w.capacity ≡ u.capacity
@@ -107,8 +113,9 @@ module _ {T A : Type 0} (R : RattleType) (v : Thin T A) where
           );
         }
 
-    -- let S be a type for which the rule names the same capacities as for R, and l equal to k. If a
-    -- call failed as `Reserves` says for k items of R, it failed so for l items of S
+    -- let S be a type for which the rule chooses the same capacity as for R, and l equal to k. If a
+    -- call for k items of R failed, satisfies `Reserves` and left the list unchanged, then a call
+    -- for l items of S that failed with the same error satisfies `Reserves`.
     pub reserves-failed : {X Y : Type 0} (S : RattleType) (k l : ℕ) (w : Thin T A)
         (cause : ThinVecError) → l ≡ k
         → capacity_for rule S v l ≡ capacity_for rule R v k

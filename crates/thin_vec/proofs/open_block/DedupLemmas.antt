@@ -1,4 +1,5 @@
--- What asking about items, each beside the last one kept, leaves of an open block, step by step.
+-- What a contract sees of an open block after two of its items were tested against each other, step
+-- by step.
 use Rattle.std.proofs.Common.{◌≡◌, ◌≢◌, ℕ, zero, suc, ◌+◌, ◌-◌, ◌<◌, ◌≤◌, List, [], ◌∷◌, ◌++◌, Option, Some, None, length, take, drop, refl, sym, ap, ◌∙◌, arith, length-append, append_assoc, get_or}
 use Rattle.std.proofs.lemmas.List.{drop_at, get_or_at, get_or-set_other, length-drop, length-take-le, length_push, set_at, take_at}
 use Rattle.std.specs.Prelude.{IsSome, slice_range}
@@ -19,20 +20,22 @@ use Rattle.thin_vec.proofs.ListLemmas.{length-full}
 use Rattle.thin_vec.proofs.open_block.SiftLemmas.{row-at, same-past, write-step, written}
 
 module _ {T : Type 0} where
-  -- ---- two items that lie side by side
+  -- ---- two neighbouring items
 
+  -- writing no items over slots does not change them
   over-none : (s : List (Option T)) → over s 0 [] ≡ s
   over-none [] = refl
   over-none (None ∷ s) = refl
   over-none (Some x ∷ s) = refl
 
-  -- two items side by side are what is lent, and what is written is what their slots hold
+  -- the slots i and i + 1 hold k and x, and writing k' and x' over them writes each into its own
+  -- slot
   pub record Neighbours (s : List (Option T)) (i : ℕ) (k x k' x' : T) : Type 0 where
     pub first : slot s i ≡ Some k
     pub second : slot s (suc i) ≡ Some x
     pub now : over s i (k' ∷ x' ∷ []) ≡ set (set s i (Some k')) (suc i) (Some x')
 
-  -- two items that are lent side by side are those of two slots
+  -- if k and x are the first two items from the slot i on, `Neighbours` holds
   pub neighbours : (s : List (Option T)) (i : ℕ) (k x k' x' : T) → Some k ∷ Some x ∷ [] ≡ take 2
       (drop i s) → Neighbours s i k x k' x'
   neighbours [] zero k x k' x' e = absurd (cons-not-nil e)
@@ -51,9 +54,12 @@ module _ {T : Type 0} where
       let h = neighbours s i k x k' x' e in
       record { first = h.first; second = h.second; now = ap (λ (r : List (Option T)). p ∷ r) h.now }
 
-  -- two items side by side, as the two parts of a slice of two
+  -- the slice of the two items from the slot i on is cut into two slices of one item each, `a` and
+  -- `b`
   module _ (s : List (Option T)) (i : ℕ) (all a b : List T) (within : i + 2 ≤ length s)
       (lent : full all ≡ slice_range s i (i + 2)) (cut : all ≡ a ++ b) (one : length a ≡ 1) where
+    -- if the item of `a` is k and that of `b` is x, then `Neighbours` holds, and writing k' into
+    -- `a` and x' into `b` writes each into its own slot
     pub parts-of : {k x : T} (k' x' : T) → k ≡ get_or a 0 k → x ≡ get_or b 0 x
         → Neighbours s i k x k' x'
         × (over s i (set a 0 k' ++ set b 0 x') ≡ set (set s i (Some k')) (suc i) (Some x'))
@@ -81,9 +87,10 @@ module _ {T : Type 0} where
         (h, (λ j. over s i (set (p.1 j) 0 k' ++ set (q.1 j) 0 x')) ∙ h.now)
 
 module _ {T A : Type 0} where
-  -- ---- on a block that is open
+  -- ---- open blocks
 
-  -- two items of the middle run were written, one after the other
+  -- x and y, the items at k and k + 1 of the middle run, were overwritten by x' and y', and
+  -- contracts see the block as h with x' and y' in their place
   pub record WrittenTwo (h : Inside T A) (o : IsOpen h) (k : ℕ) (b : Block T A)
       (x y x' y' : T) : Type 0 where
     pub pre : List T
@@ -101,7 +108,8 @@ module _ {T A : Type 0} where
 
   module _ (h : Inside T A) (o : IsOpen h) (b : Block T A)
       (kept : seen b ≡ record (seen h.block) { slots = b.slots }) where
-    -- writing to two items of the middle run changes nothing else
+    -- if two neighbouring slots of the middle run were overwritten, `WrittenTwo` holds: nothing
+    -- else changes
     pub write-two-step : (k : ℕ) {x y : T} (x' y' : T) → suc k < length (open_of h).rest
         → slot h.block.slots (h.rest_start + k) ≡ Some x
         → slot h.block.slots (suc (h.rest_start + k)) ≡ Some y
@@ -157,7 +165,8 @@ module _ {T A : Type 0} where
           };
         }
 
-  -- the last item in front was written
+  -- x, the last item of the front, was overwritten by y, and contracts see the block as h with y in
+  -- its place
   pub record WrittenLast (h : Inside T A) (b : Block T A) (x y : T) : Type 0 where
     pub pre : List T
     pub was : (open_of h).front ≡ pre ++ x ∷ []
@@ -170,7 +179,7 @@ module _ {T A : Type 0} where
       len = h.len;
     }) (record (open_of h) { front = pre ++ y ∷ [] })
 
-  -- writing to the last item in front changes nothing else
+  -- if the last slot of the front was overwritten, `WrittenLast` holds: nothing else changes
   pub write-last-step : (h : Inside T A) (o : IsOpen h) (b : Block T A) {x : T} (y : T)
       → 0 < length (open_of h).front → slot h.block.slots (h.front_end - 1) ≡ Some x
       → seen b ≡ record (seen h.block) { slots = set h.block.slots (h.front_end - 1) (Some y) }
@@ -223,7 +232,8 @@ module _ {T A : Type 0} where
             (ap (λ (z : Seen T A). z.cost) now);
       }
 
-  -- an item goes after the front
+  -- if x was written into the first slot of the gap, contracts see the block with x as the last
+  -- item of the front, and with a gap that is shorter by one
   pub put-step : (h : Inside T A) (o : IsOpen h) (b : Block T A) (x : T) {c : Cost}
       → 0 < (open_of h).gap
       → seen b ≡ record (seen h.block)
@@ -280,7 +290,7 @@ module _ {T A : Type 0} where
       } in
       found i w shows (ap (λ (z : Seen T A). z.alloc) now) refl
 
-  -- the slot of the last item in front is filled
+  -- if the front is not empty, its last slot is filled
   pub last-filled : (h : Inside T A) (o : IsOpen h) → 0 < length (open_of h).front
       → IsSome (slot h.block.slots (h.front_end - 1))
   last-filled h o some =

@@ -1,5 +1,6 @@
--- What a block that is open shows once an item of its middle run was asked about, and once some
--- first items of it went to the front.
+-- What a contract sees of an open block after an item of its middle run was tested, and after the
+-- first items of its middle run were moved to the front. Throughout, h is an open block as it is
+-- stored.
 use Rattle.std.proofs.Common.{◌≡◌, ℕ, zero, suc, ◌+◌, ◌-◌, ◌<◌, ◌≤◌, List, [], ◌∷◌, ◌++◌, Option, Some, None, length, take, drop, refl, sym, ap, ◌∙◌, arith, length-append, append_assoc}
 use Rattle.std.proofs.lemmas.List.{get_or_at, length-drop, length-take-le, set_at, take-append-drop}
 use lib.ListN.{set}
@@ -16,7 +17,7 @@ use Rattle.thin_block.proofs.Outcomes.{some-same}
 use Rattle.thin_vec.proofs.OpenBlockLemmas.{Found, at_rest, by_rest, empty-more, first-of, found, past_rest, to_rest}
 use Rattle.thin_vec.proofs.ListLemmas.{length-full}
 
--- a list, by the item at k
+-- a list with more than k items consists of k items, the item at k, and the items after it
 pub split-at : {X : Type 0} (xs : List X) (k : ℕ) → k < length xs → (pre : List X) × (x : X)
     × (post : List X) × (length pre ≡ k) × (xs ≡ pre ++ x ∷ post)
 split-at [] k low = absurd (omega arith)
@@ -27,7 +28,8 @@ split-at (x ∷ xs) (suc k) low =
     (x ∷ p.0, p.1, p.2, ap suc p.3, ap (λ l. x ∷ l) p.4)
 
 module _ {T : Type 0} where
-  -- a row, by the slot of one item
+  -- in a row that contains the items pre, x and post, the slot of x may be written apart from the
+  -- others
   pub row-at : (a : List (Option T)) (pre : List T) (x : T) (post : List T) (z : List (Option T))
       → a ++ (full (pre ++ x ∷ post) ++ z) ≡ (a ++ full pre) ++ (Some x ∷ (full post ++ z))
   row-at a pre x post z =
@@ -36,17 +38,19 @@ module _ {T : Type 0} where
       ∙ sym (append_assoc a (full pre) (Some x ∷ (full post ++ z))))
 
 module _ {T A : Type 0} where
-  -- the row from the middle run on, where as many slots lie after it
+  -- if two open blocks have the same gap before the tail, the same tail, and as many empty slots
+  -- after it, their slots after the middle run are equal
   pub same-past : (v w : Open T A) → w.gap_after ≡ v.gap_after → w.tail ≡ v.tail
       → v.capacity - reach v ≡ w.capacity - reach w → past_rest v ≡ past_rest w
   same-past v w b t n = λ i. empty (sym b i) ++ (full (sym t i) ++ empty (n i))
 
   module _ (h : Inside T A) (o : IsOpen h) (b : Block T A) (k : ℕ)
       (low : k < length (open_of h).rest) where
+    -- what a contract sees of h
     abbrev v : Open T A
     v = open_of h
 
-    -- the item at k of the middle run was written
+    -- the block after the item at k of the middle run was overwritten
     abbrev pub written : Inside T A
     written = record {
       block = b;
@@ -57,11 +61,11 @@ module _ {T A : Type 0} where
       len = h.len;
     }
 
+    -- what a contract sees of `written`, where ys is its middle run
     abbrev pub written-seen : List T → Open T A
     written-seen ys = record v { rest = ys }
 
-    -- the middle run and its item at k, which lies in its slot; and what the block shows with
-    -- another item there
+    -- x was the item at k of the middle run, and contracts see `written` as h with y in place of x
     pub record Written (x y : T) : Type 0 where
       pub pre : List T
       pub post : List T
@@ -69,6 +73,8 @@ module _ {T A : Type 0} where
       pub was : v.rest ≡ pre ++ x ∷ post
       pub shown : Found written (written-seen (pre ++ y ∷ post))
 
+    -- if the slot of the item at k of the middle run held x, and y was written into it,
+    -- `Written x y` holds
     pub write-step : (x y : T) → slot h.block.slots (h.rest_start + k) ≡ Some x
         → seen b ≡ record (seen h.block)
         { slots = set h.block.slots (h.rest_start + k) (Some y) } → Written x y
@@ -127,11 +133,13 @@ module _ {T A : Type 0} where
               (ap (λ (z : Seen T A). z.cost) now);
         }
 
-  -- the first k items of the middle run go to the front
+  -- the first k items of the middle run are moved to the end of the front
   module _ (h : Inside T A) (o : IsOpen h) (k : ℕ) (low : k ≤ length (open_of h).rest) where
+    -- what a contract sees of h
     abbrev u : Open T A
     u = open_of h
 
+    -- the block b after the first k items of the middle run were moved
     abbrev pub moved_run : Block T A → Inside T A
     moved_run b = record {
       block = b;
@@ -142,11 +150,14 @@ module _ {T A : Type 0} where
       len = h.len;
     }
 
+    -- what a contract sees of `moved_run b`: the first k items of the middle run are now the last
+    -- items of the front
     abbrev pub moved_run-seen : Block T A → Open T A
     moved_run-seen b = record u
         { front = u.front ++ take k u.rest; rest = drop k u.rest; cost = b.cost }
 
-    -- the items that went are the run's, and none is new
+    -- if the slots of b are the front, the first k items of the middle run, the gap, and the rest
+    -- of the slots, contracts see `moved_run b` as `moved_run-seen b`
     moved_run-shows : (b : Block T A)
         → b.slots ≡ full u.front
         ++ (full (take k u.rest) ++ (empty u.gap ++ (full (drop k u.rest) ++ past_rest u)))
@@ -178,7 +189,7 @@ module _ {T A : Type 0} where
         })
         alloc refl
 
-    -- the slots from the middle run on, cut after its first k items
+    -- the slots from the middle run on are those of its first k items, and those after them
     cut : full u.rest ++ past_rest u ≡ full (take k u.rest) ++ (full (drop k u.rest) ++ past_rest u)
     cut =
         ap (λ (l : List T). full l ++ past_rest u) (sym (take-append-drop k u.rest))
@@ -186,11 +197,14 @@ module _ {T A : Type 0} where
         (full-append (take k u.rest) (drop k u.rest)) ∙ append_assoc (full (take k u.rest))
         (full (drop k u.rest)) (past_rest u))
 
+    -- the slots of h are the front, the gap, the first k items of the middle run, and the rest of
+    -- the slots
     parted : h.block.slots ≡ full u.front
         ++ (empty u.gap ++ (full (take k u.rest) ++ (full (drop k u.rest) ++ past_rest u)))
     parted = o.row ∙ ap (λ (r : List (Option T)). full u.front ++ (empty u.gap ++ r)) cut
 
-    -- the first k items of the middle run join the front where no empty slot lies between
+    -- if there is no gap after the front, the first k items of the middle run join the front
+    -- without a move
     pub pass-step : u.gap ≡ 0 → Found (moved_run h.block) (moved_run-seen h.block)
     pass-step none =
         moved_run-shows h.block
@@ -200,7 +214,8 @@ module _ {T A : Type 0} where
         ++ (full (take k u.rest) ++ (empty n ++ (full (drop k u.rest) ++ past_rest u))))
         (sym none))) refl
 
-    -- the first k items of the middle run move to the front as one run
+    -- if the slots of the first k items of the middle run were moved to the end of the front,
+    -- contracts see `moved_run b` as `moved_run-seen b`
     pub move_run_down-step : (b : Block T A) {c : Cost}
         → seen b ≡ record (seen h.block)
         { slots = moved h.rest_start h.front_end k h.block.slots; cost = c }
@@ -214,7 +229,8 @@ module _ {T A : Type 0} where
         (full (drop k u.rest) ++ past_rest u) (sym (length-full u.front ∙ o.front))
         (sym o.gap) (sym few))) (ap (λ (z : Seen T A). z.alloc) now)
 
-  -- one item moves to the front, in line
+  -- if the first item x of the middle run was taken out of its slot and written into the first slot
+  -- after the front, contracts see `moved_run b` for one item as `moved_run-seen b`
   pub move_one_down-step : (h : Inside T A) (o : IsOpen h) (some : 1 ≤ length (open_of h).rest)
       → 0 < (open_of h).gap → (b : Block T A) {x : T} {c : Cost}
       → slot h.block.slots h.rest_start ≡ Some x
@@ -252,5 +268,6 @@ module _ {T A : Type 0} where
       ++ (empty w.gap ++ (full (drop 1 (firsts same parts.2 i)) ++ past_rest w))))))))
       (ap (λ (z : Seen T A). z.alloc) now)
     where
+      -- if y equals x, and xs is y followed by ys, then xs is x followed by ys
       firsts : {x y : T} {ys xs : List T} → y ≡ x → xs ≡ y ∷ ys → x ∷ ys ≡ xs
       firsts {x} {y} {ys} e f = ap (λ (a : T). a ∷ ys) (sym e) ∙ sym f

@@ -1,4 +1,4 @@
--- What a contract sees of a `Drain`. (std: `vec::Drain`)
+-- The parts of a `Drain` that contracts name, and what its calls state. (std: `vec::Drain`)
 use Rattle.std.specs.Prelude.{◌≡◌, ℕ, List, [], ◌∷◌, ◌++◌, MatchOption, Option}
 use Rattle.std.specs.Borrow.{GName}
 use Rattle.std.specs.Iterator.{Yields}
@@ -10,17 +10,18 @@ use Rattle.thin_vec.specs.declared.edits.drain.Drain.{Drain}
 use Rattle.thin_vec.specs.declared.edits.holder.Holder.{Holder}
 use Rattle.thin_vec.specs.declared.edits.holder.Holds.{Ghosts as HoldsGhosts}
 
--- All of it speaks of the holder that users get by default.
+-- The definitions are for a `Drain` with the default holder, `Holder`: it is the one that `drain`
+-- returns. A holder is the field that owns the list's open block.
 module _ {T A G : Type 0} {g : Ghosts G} {h : HoldsGhosts (Holder (Open T A)) (Open T A)} where
-  -- the items that are still to come
+  -- the items of the range that were not yet yielded
   abbrev pub drain_rest : Drain T A G (Holder (Open T A)) g h → List T
   drain_rest d = d.holder.value.rest
 
-  -- the items that the list has once the `Drain` is dropped
+  -- the items that the list will have once the `Drain` is dropped
   abbrev pub drain_kept : Drain T A G (Holder (Open T A)) g h → List T
   drain_kept d = d.holder.value.front ++ d.holder.value.tail
 
-  -- the capacity of the list once the `Drain` is dropped
+  -- the capacity that the list will have once the `Drain` is dropped
   abbrev pub drain_capacity : Drain T A G (Holder (Open T A)) g h → ℕ
   drain_capacity d = d.holder.value.capacity
 
@@ -28,15 +29,16 @@ module _ {T A G : Type 0} {g : Ghosts G} {h : HoldsGhosts (Holder (Open T A)) (O
   abbrev pub drain_alloc : Drain T A G (Holder (Open T A)) g h → A
   drain_alloc d = d.list.now.alloc
 
-  -- what the list has cost once the `Drain` is dropped
+  -- what the list will have cost once the `Drain` is dropped
   abbrev pub drain_cost : Drain T A G (Holder (Open T A)) g h → Cost
   drain_cost d = cost_drained d.holder.value
 
-  -- the ghost name of the reference to the list
+  -- the ghost name of the reference to the list: two references with equal ghost names are to the
+  -- same list
   abbrev pub drain_lender : Drain T A G (Holder (Open T A)) g h → GName
   drain_lender d = d.list.ghost_name
 
-  -- both borrow the same list, and leave it the same once dropped
+  -- `old` and `new` borrow the same list, and the list will be the same once either is dropped
   pub record DrainKeeps (old new : Drain T A G (Holder (Open T A)) g h) : Type 0 where
     pub lender : drain_lender new ≡ drain_lender old
     pub kept : drain_kept new ≡ drain_kept old
@@ -44,29 +46,34 @@ module _ {T A G : Type 0} {g : Ghosts G} {h : HoldsGhosts (Holder (Open T A)) (O
     pub alloc : drain_alloc new ≡ drain_alloc old
     pub cost : drain_cost new ≡ drain_cost old
 
-  -- `next` took old to new, and gave the first item, or `None` where there is none
+  -- a call of `next` on `old` returned `item` and led to `new`: it yields the first item, or returns
+  -- `None` if no item is left
   pub record DrainSteps (old : Drain T A G (Holder (Open T A)) g h) (item : Option T)
       (new : Drain T A G (Holder (Open T A)) g h) : Type 0 where
     pub gave : MatchOption item ((drain_rest old ≡ []) × (drain_rest new ≡ []))
         (λ x. drain_rest old ≡ x ∷ drain_rest new)
     pub keeps : DrainKeeps old new
 
-  -- `next_back` did, and gave the last one
+  -- a call of `next_back` on `old` returned `item` and led to `new`: it yields the last item, or
+  -- returns `None` if no item is left
   pub record DrainStepsBack (old : Drain T A G (Holder (Open T A)) g h) (item : Option T)
       (new : Drain T A G (Holder (Open T A)) g h) : Type 0 where
     pub gave : MatchOption item ((drain_rest old ≡ []) × (drain_rest new ≡ []))
         (λ x. drain_rest old ≡ drain_rest new ++ x ∷ [])
     pub keeps : DrainKeeps old new
 
-  -- each state that calls of `next` lead to leaves the list what the first leaves it
+  -- calls of `next` do not change what the list will be once the `Drain` is dropped. (`DrainSteps`
+  -- and `DrainStepsBack` state it of each single call, also in any mixture)
   abbrev pub DrainKeepsAlong : Drain T A G (Holder (Open T A)) g h → Type 0
   DrainKeepsAlong first = (items : List T) (later : Drain T A G (Holder (Open T A)) g h)
       → Yields DrainSteps first items later → DrainKeeps first later
 
-  -- however often `next` is called, it yields what remains, in order
+  -- each run of calls of `next` yields the remaining items in order. The argument only fixes the
+  -- type of `Drain`
   abbrev pub DrainsInOrder : Drain T A G (Holder (Open T A)) g h → Type 0
   DrainsInOrder d = YieldsInOrder DrainSteps drain_rest
 
-  -- however often `next_back` is called, it yields what remains, in reverse
+  -- each run of calls of `next_back` yields the remaining items in reverse. The argument only fixes
+  -- the type of `Drain`
   abbrev pub DrainsInReverse : Drain T A G (Holder (Open T A)) g h → Type 0
   DrainsInReverse d = YieldsInReverse DrainStepsBack drain_rest

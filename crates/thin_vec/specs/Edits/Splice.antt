@@ -1,62 +1,79 @@
--- What a contract sees of a `Splice`, and what a list is, and has cost, once it is finished. (std:
--- `Vec::splice`)
+-- The parts of a `Splice` that contracts name, and what a list is, and has cost, once the splice is
+-- finished. (std: `Vec::splice`)
 use Rattle.std.specs.Prelude.{◌≡◌, ◌⊎◌, ◌↔◌, ◌+◌, ◌<◌, ◌≤◌, [], ◌++◌, ◌∷◌, IsSome, List, MatchOption, Option, length, ℕ}
-use Rattle.std.specs.Iterator.{Count, IsFinite, YieldsThen}
+use Rattle.std.specs.Iterator.{Count, YieldsThen}
+use Rattle.std.specs.Option.{option_to_list}
 use Rattle.std.specs.declared.option.Option.TheVariants.{None}
 use Rattle.std.specs.Borrow.{GName, RattleType}
-use Rattle.thin_block.specs.declared.errors.ThinVecError.{ThinVecError}
 use Rattle.thin_block.specs.declared.errors.ThinVecError.TheVariants.{CapacityOverflow, OutOfMemory}
 use Rattle.thin_block.specs.Growth.{Rule}
 use Rattle.thin_block.specs.declared.growth.Growth.{Ghosts}
-use Rattle.thin_vec.specs.List.Extend.{GaveUp, MustOverflow, Overflows}
+use Rattle.thin_vec.specs.List.Extend.{MayOverflow, MustOverflow, PausedAfter}
 use Rattle.thin_vec.specs.Open.{Open}
-use Rattle.thin_vec.specs.ThinVec.{Thin, capacity_for}
+use Rattle.thin_vec.specs.ThinVec.{HasRoomFor, Thin, capacity_for}
+use Rattle.thin_vec.specs.declared.errors.SpliceRefused.{SpliceRefused}
 use Rattle.thin_vec.specs.declared.edits.splice.Splice.{Splice}
 use Rattle.thin_vec.specs.declared.edits.holder.Holds.{Ghosts as HoldsGhosts}
 
-module _ {S X : Type 0} (steps : S → Option X → S → Type 0) where
-  -- calls of `next` from s gave what was placed, then what is held and in hand; with nothing in
-  -- hand and something held, they have then given `None`; else the rest can be asked, and ends
-  abbrev pub Stopped : (S → Type 0) → (S → Count) → S → List X → List X → Option X → S → Type 0
-  Stopped can remaining s placed held in_hand rest =
-      (GaveUp steps s (placed ++ held) in_hand rest × (in_hand ≡ None → held ≡ []) × can rest
-      × IsFinite (remaining rest))
-      ⊎ ((in_hand ≡ None) × (0 < length held) × YieldsThen steps s (placed ++ held) None rest)
+module _ {S T A : Type 0} (steps : S → Option T → S → Type 0) where
+  -- where the iterator `s` was when `finish` failed, which had placed the items `placed`. The error
+  -- has the items that `s` yielded after those, in `held` and `in_hand`, and its `rest` is the
+  -- iterator then. Either `next` may be called on `rest`, and items are held only if one is in
+  -- hand; or no item is in hand, items are held, and `s` has returned `None` after them
+  abbrev pub Stopped : (S → Type 0) → (S → Count) → S → List T → SpliceRefused T S A → Type 0
+  Stopped can remaining s placed error =
+      (PausedAfter steps can remaining s
+      ((placed ++ error.held.items) ++ option_to_list error.in_hand) error.rest
+      × (error.in_hand ≡ None → error.held.items ≡ []))
+      ⊎ ((error.in_hand ≡ None) × (0 < length error.held.items)
+      × YieldsThen steps s (placed ++ error.held.items) None error.rest)
 
 module _ {T A : Type 0} where
-  -- what w has cost that was v, after items went in between
+  -- what the list w, which was v before items were inserted into it, has cost
   pub record IsSpliced (v w : Thin T A) (n : ℕ) : Type 0 where
-    -- one move for each item, and at most n others
+    -- one move for each inserted item, and at most n moves of other items
     pub least : v.cost.moves + length w.items ≤ w.cost.moves + length v.items
     pub moves : w.cost.moves + length v.items ≤ v.cost.moves + n + length w.items
-    -- where the capacity stayed, no block and no copied item more
+    -- if the capacity stayed, no block and no copied item was added
     pub kept : w.capacity ≡ v.capacity → (w.cost.blocks ≡ v.cost.blocks)
         × (w.cost.grown ≡ v.cost.grown)
-    -- where it grew, at least one block more, into which at least the items of v were copied
+    -- if the capacity grew, there is at least one block more, and at least the items of v were
+    -- copied
     pub grown : v.capacity < w.capacity → (v.cost.blocks < w.cost.blocks)
         × (v.cost.grown + length v.items ≤ w.cost.grown)
     -- growth has copied at most as many items as the capacity has grown by
     pub copied : w.cost.grown + v.capacity ≤ v.cost.grown + w.capacity
 
-  -- why the call failed that left v and its tail: `held` and `in_hand` found no room, and the
-  -- iterator still has `left` to give
-  pub record IsStopCause (rule : Rule) (R : RattleType) (v : Thin T A) (tail held : List T)
-      (in_hand : Option T) (left : Count) (cause : ThinVecError) : Type 0 where
-    -- nothing was drawn for which there was no room: the cause is an overflow if no capacity is
-    -- ruled for any allowed hint that lacks room, and only if none is ruled for some allowed hint
-    pub by_hint : held ≡ [] → in_hand ≡ None
-        → (MustOverflow rule R v None left → cause ≡ CapacityOverflow)
-        × (cause ≡ CapacityOverflow → Overflows rule R v None left)
-    -- items are held: exactly where no capacity is ruled for them
-    pub by_held : 0 < length held → in_hand ≡ None
-        → (cause ≡ CapacityOverflow) ↔ (capacity_for rule R v (length held) ≡ None)
-    -- an item is in hand before a tail: the memory to hold it was not there
-    pub by_in_hand : 0 < length tail → IsSome in_hand → cause ≡ OutOfMemory
-    -- an item is in hand, and there is no tail: exactly where no capacity is ruled for one more
-    pub by_push : tail ≡ [] → IsSome in_hand
-        → (cause ≡ CapacityOverflow) ↔ (capacity_for rule R v 1 ≡ None)
+  -- why `finish` failed, which left the list w; `tail` is the items after the range, and `left`
+  -- bounds the rest of the iterator
+  pub record IsStopCause {S : Type 0} (rule : Rule) (R : RattleType) (w : Thin T A) (tail : List T)
+      (left : Count) (error : SpliceRefused T S A) : Type 0 where
+    -- with no item held or in hand, the cause is `CapacityOverflow` if each allowed hint overflows,
+    -- and only if some allowed hint does
+    pub by_hint : error.held.items ≡ [] → error.in_hand ≡ None
+        → (MustOverflow rule R w left → error.cause ≡ CapacityOverflow)
+        × (error.cause ≡ CapacityOverflow → MayOverflow rule R w left)
+    -- with items held and none in hand, it is so if and only if no capacity is ruled for them
+    pub by_held : 0 < length error.held.items → error.in_hand ≡ None
+        → (error.cause ≡ CapacityOverflow)
+        ↔ (capacity_for rule R w (length error.held.items) ≡ None)
+    -- with an item in hand before a tail, there was no memory to hold it
+    pub by_in_hand : 0 < length tail → IsSome error.in_hand → error.cause ≡ OutOfMemory
+    -- with an item in hand and no tail, it is so if and only if no capacity is ruled for one item
+    -- more
+    pub by_push : tail ≡ [] → IsSome error.in_hand
+        → (error.cause ≡ CapacityOverflow) ↔ (capacity_for rule R w 1 ≡ None)
 
-  -- the list that is left of an open block without its middle run, at the allocator a
+  -- `finish` failed with no item after the range, and the list v without the range became w: the
+  -- call fails as `extend` does with the iterator `s`
+  pub record FailsAsExtend {S : Type 0} (v w : Thin T A) (s : S) (error : SpliceRefused T S A)
+      : Type 0 where
+    pub held : error.held.items ≡ []
+    -- if no item is in hand, nothing was drawn; if one is, the list is full
+    pub in_hand : MatchOption error.in_hand ((w ≡ v) × (error.rest ≡ s))
+        (λ _. length w.items ≡ w.capacity)
+
+  -- the list on the allocator a that an open block leaves if its middle run is dropped
   abbrev pub left_of : Open T A → A → Thin T A
   left_of v a = record {
     items = v.front ++ v.tail;
@@ -65,21 +82,21 @@ module _ {T A : Type 0} where
     cost = v.cost;
   }
 
-  -- the items with xs in the place of the middle run
+  -- the items of an open block with xs in the place of its middle run
   abbrev pub with_between : Open T A → List T → List T
   with_between v xs = (v.front ++ xs) ++ v.tail
 
-  -- how many slots there are between the front and the tail
+  -- the number of slots between the front and the tail
   abbrev pub range_len : Open T A → ℕ
   range_len v = v.gap + length v.rest + v.gap_after
 
 module _ {I T A G H : Type 0} {g : Ghosts G} {h : HoldsGhosts H (Open T A)} where
-  -- the list's block: in front the items before the range, in the middle what is still to come of
-  -- it, and then the items after it
+  -- the list's open block: its front is the items before the range, its middle run is the items of
+  -- the range that were not yet yielded, and its tail is the items after the range
   abbrev pub splice_block : Splice I T A G H g h → Open T A
   splice_block s = h.inner s.holder
 
-  -- the iterator whose items are to take the range's place
+  -- the iterator whose items will take the place of the range
   abbrev pub splice_iter : Splice I T A G H g h → I
   splice_iter s = s.iter
 
@@ -91,20 +108,27 @@ module _ {I T A G H : Type 0} {g : Ghosts G} {h : HoldsGhosts H (Open T A)} wher
   abbrev pub splice_lender : Splice I T A G H g h → GName
   splice_lender s = s.list.ghost_name
 
-  -- the list without the range: what it has where no item takes its place, and what it has cost
+  -- the list without the range, as it will be if the iterator yields no item and no item has moved
   abbrev pub splice_left : Splice I T A G H g h → Thin T A
   splice_left s = left_of (splice_block s) (splice_alloc s)
 
-  -- how many places the range has
+  -- the number of places of the range, from which items were yielded or not
   abbrev pub splice_range : Splice I T A G H g h → ℕ
   splice_range s = range_len (splice_block s)
 
-  -- the items with xs in the place of the range
+  -- the items of the list with xs in the place of the range
   abbrev pub splice_replaced : Splice I T A G H g h → List T → List T
   splice_replaced s xs = with_between (splice_block s) xs
 
-  -- both borrow the same list, and have the same iterator, and the same items before and after the
-  -- range
+  -- the iterator can place `most` items without new memory: they are at most as many as the range
+  -- has places, or no item follows the range, and the list without it has room for them
+  abbrev pub HasPlacesFor : Splice I T A G H g h → ℕ → Type 0
+  HasPlacesFor s most =
+      (most ≤ splice_range s)
+      ⊎ (((splice_block s).tail ≡ []) × HasRoomFor (splice_left s) most)
+
+  -- `old` and `new` borrow the same list, have the same iterator, and the same items before and
+  -- after the range
   pub record SpliceKeeps (old new : Splice I T A G H g h) : Type 0 where
     pub lender : splice_lender new ≡ splice_lender old
     pub iter : splice_iter new ≡ splice_iter old
@@ -115,7 +139,8 @@ module _ {I T A G H : Type 0} {g : Ghosts G} {h : HoldsGhosts H (Open T A)} wher
     pub alloc : splice_alloc new ≡ splice_alloc old
     pub cost : (splice_block new).cost ≡ (splice_block old).cost
 
-  -- `next` took old to new, and gave the first item, or `None` where there is none
+  -- a call of `next` on `old` returned `item` and led to `new`: it yields the first item, or returns
+  -- `None` if no item is left
   pub record SpliceSteps (old : Splice I T A G H g h) (item : Option T)
       (new : Splice I T A G H g h) : Type 0 where
     pub gave : MatchOption item
@@ -123,7 +148,8 @@ module _ {I T A G H : Type 0} {g : Ghosts G} {h : HoldsGhosts H (Open T A)} wher
         (λ x. (splice_block old).rest ≡ x ∷ (splice_block new).rest)
     pub keeps : SpliceKeeps old new
 
-  -- `next_back` took old to new, and gave the last item, or `None` where there is none
+  -- a call of `next_back` on `old` returned `item` and led to `new`: it yields the last item, or
+  -- returns `None` if no item is left
   pub record SpliceStepsBack (old : Splice I T A G H g h) (item : Option T)
       (new : Splice I T A G H g h) : Type 0 where
     pub gave : MatchOption item

@@ -1,4 +1,6 @@
--- What the calls that clone items say of clones, and of a clone that fails. (std: `Clone`)
+-- What the calls that clone items guarantee about the clones, and about a clone that fails.
+-- Throughout, `clones x y` says that y may be a clone of x, and `infallible x` that cloning x
+-- cannot fail. (std: `Clone`)
 use Rattle.std.specs.Prelude.{◌≡◌, ℕ, ◌<◌, ◌≤◌, List, [], ◌∷◌, ◌++◌, All, HoldsAt, Option, Some, length, take}
 use Rattle.std.specs.Borrow.{RattleType}
 use Rattle.std.specs.List.{AllZip}
@@ -9,11 +11,11 @@ use Rattle.thin_vec.specs.Cheap.{IsCheap}
 use Rattle.thin_vec.specs.ThinVec.{IsWithin, Thin, capacity_for, cost_at, cost_new}
 
 module _ {T : Type 0} (clones : T → T → Type 0) where
-  -- each clone of x is equal to it
+  -- every clone of x equals x
   abbrev pub CloneEquals : T → Type 0
   CloneEquals x = (y : T) → clones x y → y ≡ x
 
-  -- each clone is equal to its source
+  -- every clone equals the item that it was made from
   abbrev pub ClonesEqual : Type 0
   ClonesEqual = (x : T) → CloneEquals x
 
@@ -23,15 +25,15 @@ module _ {T : Type 0} (clones : T → T → Type 0) where
     pub cloned : AllZip clones (take n sources) copies
     pub slots : s' ≡ laid i (full copies) s
 
-  -- what std's `Clone` says of the list w that was cloned from v: a clone of each item, at the same
-  -- allocator, in a block of exactly their number
+  -- what the contract of std's `Clone` says of a clone w of the list v: w has a clone of each item,
+  -- the same allocator, and a block of exactly as many slots as there are items
   abbrev pub IsClonedList : {A : Type 0} → RattleType → Thin T A → Thin T A → Type 0
   IsClonedList R v w =
       AllZip clones v.items w.items × (length w.items ≡ length v.items)
       × (w.capacity ≡ length v.items) × (w.alloc ≡ v.alloc)
       × (w.cost ≡ moving (length v.items) (cost_new (length v.items))) × IsCheap w × IsWithin R w
 
--- ys is xs, and after it n clones of x
+-- ys is xs followed by n clones of x
 pub record AppendsRepeats {T : Type 0} (clones : T → T → Type 0) (x : T) (n : ℕ)
     (xs ys : List T) : Type 0 where
   pub copies : List T
@@ -39,7 +41,8 @@ pub record AppendsRepeats {T : Type 0} (clones : T → T → Type 0) (x : T) (n 
   pub count : length copies ≡ n
   pub items : ys ≡ xs ++ copies
 
--- ys is xs at the length n: cut short, or with clones of x after it, the last one x itself
+-- ys is xs resized to the length n: it is cut off after n items, or extended by clones of x and
+-- finally by x itself
 pub record IsResized {T : Type 0} (clones : T → T → Type 0) (xs : List T) (n : ℕ) (x : T)
     (ys : List T) : Type 0 where
   pub shorter : n ≤ length xs → ys ≡ take n xs
@@ -47,7 +50,8 @@ pub record IsResized {T : Type 0} (clones : T → T → Type 0) (xs : List T) (n
       × (ys ≡ xs ++ (copies ++ x ∷ []))
   pub len : length ys ≡ n
 
--- the clone of the source at `at` may fail, and there was one move for each source before it
+-- `at` is the index of a source whose clone can fail, and the cost is `before` plus one move for
+-- each source before `at`
 pub record StopsAtClone {T : Type 0} (infallible : T → Type 0) (sources : List T)
     (before after : Cost) : Type 0 where
   pub at : ℕ
@@ -55,7 +59,8 @@ pub record StopsAtClone {T : Type 0} (infallible : T → Type 0) (sources : List
   pub fallible : HoldsAt (λ x. ¬ (infallible x)) sources at
   pub cost : after ≡ moving at before
 
--- w has cost what growing v cost, and one move for each source before one whose clone can fail
+-- w has the cost of v at the capacity of w, plus one move for each source before one whose clone
+-- can fail
 abbrev pub CostsUpToClone : {T A : Type 0} → (T → Type 0) → List T → Thin T A → Thin T A → Type 0
 CostsUpToClone infallible sources v w =
     StopsAtClone infallible sources (cost_at v w.capacity) w.cost

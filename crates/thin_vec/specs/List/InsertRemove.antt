@@ -1,4 +1,4 @@
--- What a list holds once the `&mut` to an item that came in ends. (std: `Vec::push_mut`,
+-- What a list contains after a `&mut` borrow of an added item has ended. (std: `Vec::push_mut`,
 -- `Vec::insert_mut`)
 use Rattle.std.specs.Prelude.{◌≡◌, ℕ, List, Result, Some}
 use Rattle.std.specs.declared.alloc.Allocator.{Ghosts as AllocatorGhosts}
@@ -10,7 +10,8 @@ use Rattle.thin_vec.specs.Cheap.{IsCheap}
 use Rattle.thin_vec.specs.ThinVec.{Thin, IsWithin, capacity_for, cost_at}
 use Rattle.thin_vec.specs.contracts.list.ThinVec.{the_row}
 
--- w is v at the ruled capacity for one item more, and holds xs, after k moves
+-- w is the list v after one item was added with k moves: it contains xs, and its capacity is the
+-- ruled one for one more item
 pub record IsAdded {T A : Type 0} (rule : Rule) (R : RattleType) (v : Thin T A) (xs : List T)
     (k : ℕ) (w : Thin T A) : Type 0 where
   pub items : w.items ≡ xs
@@ -22,8 +23,8 @@ pub record IsAdded {T A : Type 0} (rule : Rule) (R : RattleType) (v : Thin T A) 
 
 module _ (T A G : RattleType) (a : AllocatorGhosts A.Denot) (g : GrowthGhosts G.Denot)
     (v : MutBor (Thin T.Denot A.Denot)) where
-  -- r is an item that came in after k moves, with which v has the items of `holding`; where there
-  -- is none, v is as before
+  -- if r is `Ok`, it borrows an item that was added with k moves: when the borrow ends with the
+  -- value x, v satisfies `IsAdded` with the items `holding x`. If r is `Err`, v does not change.
   abbrev pub LendsAdded : {E : Type 0} → (T.Denot → List T.Denot) → ℕ
       → Result (MutBor T.Denot) E → Fml
   LendsAdded holding k r = LendsSoOk (the_row T A G a g) T v r

@@ -1,11 +1,10 @@
-//! Lists of bytes: made from text, and written to.
+//! Lists of bytes: `from_str`, and std's trait `Write`.
 ghost use Rattle.std.specs.Prelude.{◌≡◌, ◌+◌, ◌++◌, IfErr, IfOk, IsErr, IsOk, None, OnErr, OnOk, Some, length};
 ghost use Rattle.std.specs.Borrow.{u8};
 ghost use Rattle.std.specs.IoError.{error_kind};
 ghost use Rattle.thin_block.specs.Cost.{moving};
-ghost use Rattle.thin_block.specs.Growth.{exact_capacity};
 ghost use Rattle.thin_vec.specs.ThinVec.{HasRoomFor};
-ghost use Rattle.thin_vec.specs.List.Capacity.{Costs, Keeps, TellsOverflow, IsMade};
+ghost use Rattle.thin_vec.specs.List.Capacity.{Costs, Keeps, TellsOverflowOf, IsMade};
 
 use crate::list::ThinVec;
 use std::alloc::Allocator;
@@ -16,20 +15,26 @@ use thin_block::{Growth, ThinVecError};
 impl<A: Allocator> ThinVec<u8, A> {
     ghost use Rattle.thin_vec.specs.ThinVec.{cost_new};
 
-    /// Makes a list of the text's bytes, with exactly that capacity. An empty text needs no
-    /// allocation.
+    /// Makes a list of the bytes of `text`, in order. Its capacity is exactly their number. An
+    /// empty text needs no allocation.
     ///
-    /// It fails where that capacity does not fit or the allocator fails.
+    /// # Errors
+    ///
+    /// On failure, no list is made, and `alloc` is dropped.
+    ///
+    /// - `CapacityOverflow`: the capacity would be too large.
+    /// - `OutOfMemory`: the allocator failed.
     pub fn from_str(alloc: A, text: &str) -> Result<ThinVec<u8, A>, ThinVecError>
         // On success.
         ensures items { IfOk result (λ list. list.items ≡ text.now) }
         ensures capacity { IfOk result (λ list. list.capacity ≡ length text.now) }
-        ensures cost { IfOk result (λ list. list.cost ≡ moving (length text.now) (cost_new (length text.now))) }
+        ensures cost { IfOk result
+            (λ list. list.cost ≡ moving (length text.now) (cost_new (length text.now))) }
         ensures made { IfOk result (IsMade u8 alloc) }
 
         // On failure.
         ensures succeeds_empty { length text.now ≡ 0 → IsOk result }
-        ensures overflow { TellsOverflow (exact_capacity u8 0 (length text.now)) result }
+        ensures overflow { TellsOverflowOf u8 (length text.now) result }
     {
         ThinVec::from_copies(alloc, text.as_bytes())
     }
@@ -40,10 +45,14 @@ impl<A: Allocator, G: Growth> Write for ThinVec<u8, A, G> {
 
     ghost contents = { λ list. Some list.items };
 
-    /// Appends all of `buf`, and returns how many bytes it has.
+    /// Appends all bytes of `buf`, and returns their number. If there is not enough spare capacity,
+    /// the list first grows to the capacity that the growth rule chooses.
     ///
-    /// It fails as `reserve` does, and then nothing changes. The error's kind is `OutOfMemory` also
-    /// where the ruled capacity overflows.
+    /// # Errors
+    ///
+    /// Fails only if there is not enough spare capacity, and the new capacity would be too large or
+    /// the allocator fails. Then the list is unchanged. In both cases the kind of the error is
+    /// `OutOfMemory`, because std has no `ErrorKind` for an overflow.
     fn write(&mut self, buf: &[u8]) -> io::Result<usize>
         // On success.
         ensures value { IfOk result (λ count. count ≡ length buf.now) }
@@ -52,7 +61,7 @@ impl<A: Allocator, G: Growth> Write for ThinVec<u8, A, G> {
             (capacity_for G.rule u8 self.old (length buf.now) ≡ Some self.new.capacity) }
         ensures cost { OnOk result (Costs (length buf.now) self.old self.new) }
 
-        // On failure nothing changes. Into spare capacity it succeeds.
+        // On failure, the list is unchanged.
         ensures succeeds { HasRoomFor self.old (length buf.now) → IsOk result }
         ensures overflow { capacity_for G.rule u8 self.old (length buf.now) ≡ None → IsErr result }
         ensures cause { IfErr result (λ error. error_kind error ≡ ErrorKind.OutOfMemory) }
@@ -67,9 +76,14 @@ impl<A: Allocator, G: Growth> Write for ThinVec<u8, A, G> {
         Ok(buf.len())
     }
 
-    /// Appends all of `buf`.
+    /// Appends all bytes of `buf`. If there is not enough spare capacity, the list first grows to
+    /// the capacity that the growth rule chooses.
     ///
-    /// It fails as `write` does.
+    /// # Errors
+    ///
+    /// Fails only if there is not enough spare capacity, and the new capacity would be too large or
+    /// the allocator fails. Then the list is unchanged. In both cases the kind of the error is
+    /// `OutOfMemory`, because std has no `ErrorKind` for an overflow.
     fn write_all(&mut self, buf: &[u8]) -> io::Result<()>
         // On success.
         ensures items { OnOk result (self.new.items ≡ self.old.items ++ buf.now) }
@@ -77,7 +91,7 @@ impl<A: Allocator, G: Growth> Write for ThinVec<u8, A, G> {
             (capacity_for G.rule u8 self.old (length buf.now) ≡ Some self.new.capacity) }
         ensures cost { OnOk result (Costs (length buf.now) self.old self.new) }
 
-        // On failure nothing changes. Into spare capacity it succeeds.
+        // On failure, the list is unchanged.
         ensures succeeds { HasRoomFor self.old (length buf.now) → IsOk result }
         ensures overflow { capacity_for G.rule u8 self.old (length buf.now) ≡ None → IsErr result }
         ensures cause { IfErr result (λ error. error_kind error ≡ ErrorKind.OutOfMemory) }
@@ -96,12 +110,12 @@ impl<A: Allocator, G: Growth> Write for ThinVec<u8, A, G> {
         Ok(())
     }
 
-    /// Does nothing: what was written is in the list.
+    /// Does nothing, and never fails: every byte that was written is already in the list.
     fn flush(&mut self) -> io::Result<()>
         ensures succeeds { IsOk result }
         ensures unchanged { self.new ≡ self.old }
     {
-        // No byte is held back.
+        // No written byte is kept outside the list, so there is nothing to write.
         Ok(())
     }
 }

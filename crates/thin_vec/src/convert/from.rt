@@ -1,13 +1,12 @@
-//! Lists made from other types.
+//! Lists made from an array, a vector, a boxed slice or a slice.
 ghost use Rattle.std.specs.Prelude.{◌≡◌, ◌≤◌, [], IfErr, IfOk, IsOk, length};
 ghost use Rattle.std.specs.Box.{boxed_slice_items};
 ghost use Rattle.std.specs.List.{AllZip};
 ghost use Rattle.thin_block.specs.Cost.{moving};
-ghost use Rattle.thin_block.specs.Growth.{exact_capacity};
 ghost use Rattle.thin_block.specs.Slots.{empty};
 ghost use Rattle.thin_vec.specs.List.Clones.{ClonesEqual};
 ghost use Rattle.thin_vec.specs.ThinVec.{IsWithin, cost_new};
-ghost use Rattle.thin_vec.specs.List.Capacity.{TellsOverflow, IsMade, causes};
+ghost use Rattle.thin_vec.specs.List.Capacity.{TellsOverflowOf, IsMade, causes};
 
 use crate::errors::Rejected;
 use crate::list::ThinVec;
@@ -17,12 +16,20 @@ use std::boxed::BoxedSlice;
 use thin_block::{ThinVecError, fits};
 
 impl<T, A: Allocator> ThinVec<T, A> {
-    /// Makes a list of the array's items, with exactly that capacity. An empty array needs no
-    /// allocation.
+    /// Moves the items of an array into a new list, in order. The capacity of the list is exactly
+    /// `N`. An empty array needs no allocation.
     ///
-    /// It fails where N does not fit or the allocator fails, and then returns the array. Code that
-    /// is generic in T shows that its array takes fewer than 2^63 bytes: `thin_vec!` asks nothing
-    /// of the size of an item.
+    /// Like every array, the array has to take fewer than 2^63 bytes. If `T` is a concrete type,
+    /// the checker proves this by itself. A function that is generic in `T` needs the precondition
+    /// `N * type_size T.row < 2 ^ 63`, with `type_size` of `Rattle.std.specs.Mem`. `thin_vec!` has
+    /// no such condition.
+    ///
+    /// # Errors
+    ///
+    /// On failure, the error holds the array, which the caller owns again, and `alloc` is dropped.
+    ///
+    /// - `CapacityOverflow`: a capacity of `N` would be too large.
+    /// - `OutOfMemory`: the allocator failed.
     pub fn from_array<const N: usize>(
         alloc: A,
         items: [T; N],
@@ -33,10 +40,10 @@ impl<T, A: Allocator> ThinVec<T, A> {
         ensures cost { IfOk result (λ list. list.cost ≡ moving N (cost_new N)) }
         ensures made { IfOk result (IsMade T.row alloc) }
 
-        // On failure the array is in the error.
+        // On failure, the error holds the array.
         ensures succeeds { N ≡ 0 → IsOk result }
         ensures value_returned { IfErr result (λ error. error.value ≡ items) }
-        ensures overflow { TellsOverflow (exact_capacity T.row 0 N) (causes result) }
+        ensures overflow { TellsOverflowOf T.row N (causes result) }
     {
         match ThinVec::with_capacity(alloc, N) {
             Ok(mut list) => {
@@ -52,11 +59,16 @@ impl<T, A: Allocator> ThinVec<T, A> {
         }
     }
 
-    /// Makes a list of the vector's items, with exactly that capacity. An empty vector needs no
-    /// allocation.
+    /// Moves the items of a vector into a new list, in order. The capacity of the list is exactly
+    /// the number of items. The vector, which may use any allocator, is freed. An empty vector
+    /// needs no allocation.
     ///
-    /// It fails where that capacity does not fit or the allocator fails, and then returns the
-    /// vector.
+    /// # Errors
+    ///
+    /// On failure, the error holds the vector, which the caller owns again, and `alloc` is dropped.
+    ///
+    /// - `CapacityOverflow`: the capacity would be too large.
+    /// - `OutOfMemory`: the allocator failed.
     pub fn from_vec<B: Allocator>(
         alloc: A,
         items: Vec<T, B>,
@@ -64,13 +76,14 @@ impl<T, A: Allocator> ThinVec<T, A> {
         // On success.
         ensures items { IfOk result (λ list. list.items ≡ items.items) }
         ensures capacity { IfOk result (λ list. list.capacity ≡ length items.items) }
-        ensures cost { IfOk result (λ list. list.cost ≡ moving (length items.items) (cost_new (length items.items))) }
+        ensures cost { IfOk result
+            (λ list. list.cost ≡ moving (length items.items) (cost_new (length items.items))) }
         ensures made { IfOk result (IsMade T.row alloc) }
 
-        // On failure the vector is in the error.
+        // On failure, the error holds the vector.
         ensures succeeds_empty { length items.items ≡ 0 → IsOk result }
         ensures value_returned { IfErr result (λ error. error.value ≡ items) }
-        ensures overflow { TellsOverflow (exact_capacity T.row 0 (length items.items)) (causes result) }
+        ensures overflow { TellsOverflowOf T.row (length items.items) (causes result) }
     {
         match ThinVec::with_capacity(alloc, items.len()) {
             Ok(mut list) => {
@@ -84,11 +97,17 @@ impl<T, A: Allocator> ThinVec<T, A> {
         }
     }
 
-    /// Makes a list of the items of a boxed slice, with exactly that capacity. An empty slice needs
-    /// no allocation.
+    /// Moves the items of a boxed slice into a new list, in order. The capacity of the list is
+    /// exactly the number of items. The boxed slice, which may use any allocator, is freed. An
+    /// empty slice needs no allocation.
     ///
-    /// It fails where that capacity does not fit or the allocator fails, and then returns the boxed
-    /// slice.
+    /// # Errors
+    ///
+    /// On failure, the error holds the boxed slice, which the caller owns again, and `alloc` is
+    /// dropped.
+    ///
+    /// - `CapacityOverflow`: the capacity would be too large.
+    /// - `OutOfMemory`: the allocator failed.
     pub fn from_boxed_slice<B: Allocator>(
         alloc: A,
         items: BoxedSlice<T, B>,
@@ -96,13 +115,16 @@ impl<T, A: Allocator> ThinVec<T, A> {
         // On success.
         ensures items { IfOk result (λ list. list.items ≡ boxed_slice_items items) }
         ensures capacity { IfOk result (λ list. list.capacity ≡ length (boxed_slice_items items)) }
-        ensures cost { IfOk result (λ list. list.cost ≡ moving (length (boxed_slice_items items)) (cost_new (length (boxed_slice_items items)))) }
+        ensures cost { IfOk result
+            (λ list. list.cost ≡ moving (length (boxed_slice_items items))
+            (cost_new (length (boxed_slice_items items)))) }
         ensures made { IfOk result (IsMade T.row alloc) }
 
-        // On failure the boxed slice is in the error.
+        // On failure, the error holds the boxed slice.
         ensures succeeds_empty { length (boxed_slice_items items) ≡ 0 → IsOk result }
         ensures value_returned { IfErr result (λ error. error.value ≡ items) }
-        ensures overflow { TellsOverflow (exact_capacity T.row 0 (length (boxed_slice_items items))) (causes result) }
+        ensures overflow { TellsOverflowOf T.row (length (boxed_slice_items items))
+            (causes result) }
     {
         match ThinVec::with_capacity(alloc, items.len()) {
             Ok(mut list) => {
@@ -116,7 +138,8 @@ impl<T, A: Allocator> ThinVec<T, A> {
         }
     }
 
-    // The items of `items` go into the room of a list that holds none.
+    // Moves the items of `items` into this list, in order, and frees the vector. The list must be
+    // empty and have room for the items.
     fn extend_from_vec_reserved<B: Allocator>(&mut self, items: Vec<T, B>)
         requires empty { self.old.items ≡ [] }
         requires room { length items.items ≤ self.old.capacity }
@@ -134,19 +157,29 @@ impl<T, A: Allocator> ThinVec<T, A> {
 }
 
 impl<T: Copy, A: Allocator> ThinVec<T, A> {
-    /// `from_slice` of items that are copied: they come in as one run. (own)
+    /// Copies the items of a slice into a new list, in order. The capacity of the list is exactly
+    /// the number of items. An empty slice needs no allocation. The items are copied as one run,
+    /// which is faster than `from_slice`.
     ///
-    /// It fails where a capacity of their number does not fit or the allocator fails.
+    /// This method is our own: neither Rust's `Vec` nor the Rust crate thin-vec has it.
+    ///
+    /// # Errors
+    ///
+    /// On failure, no list is made, and `alloc` is dropped.
+    ///
+    /// - `CapacityOverflow`: the capacity would be too large.
+    /// - `OutOfMemory`: the allocator failed.
     pub fn from_copies(alloc: A, items: &[T]) -> Result<ThinVec<T, A>, ThinVecError>
         // On success.
         ensures items { IfOk result (λ list. list.items ≡ items.now) }
         ensures capacity { IfOk result (λ list. list.capacity ≡ length items.now) }
-        ensures cost { IfOk result (λ list. list.cost ≡ moving (length items.now) (cost_new (length items.now))) }
+        ensures cost { IfOk result
+            (λ list. list.cost ≡ moving (length items.now) (cost_new (length items.now))) }
         ensures made { IfOk result (IsMade T.row alloc) }
 
         // On failure.
         ensures succeeds_empty { length items.now ≡ 0 → IsOk result }
-        ensures overflow { TellsOverflow (exact_capacity T.row 0 (length items.now)) result }
+        ensures overflow { TellsOverflowOf T.row (length items.now) result }
     {
         match ThinVec::with_capacity(alloc, items.len()) {
             Ok(mut list) => {
@@ -159,11 +192,16 @@ impl<T: Copy, A: Allocator> ThinVec<T, A> {
 }
 
 impl<T: Clone, A: Allocator> ThinVec<T, A> {
-    /// Makes a list of a clone of each of `items`, in order, with exactly that capacity. An empty
-    /// slice needs no allocation. For items that are `Copy`, `from_copies` is faster.
+    /// Makes a list that has a clone of each item of a slice, in order. The capacity of the list is
+    /// exactly the number of items. An empty slice needs no allocation. For items that are `Copy`,
+    /// `from_copies` is faster.
     ///
-    /// It fails where that capacity does not fit, or the allocator or the clone of an item fails,
-    /// and then the clones made before are dropped.
+    /// # Errors
+    ///
+    /// On failure, no list is made, and the clones already made and `alloc` are dropped.
+    ///
+    /// - `CapacityOverflow`: the capacity would be too large.
+    /// - `OutOfMemory`: the allocator or a clone failed.
     #[tactic(auto, using(thin_block::proofs::CapacityLemmas::exact))]
     pub fn from_slice(alloc: A, items: &[T]) -> Result<ThinVec<T, A>, ThinVecError>
         // On success.
@@ -171,12 +209,13 @@ impl<T: Clone, A: Allocator> ThinVec<T, A> {
         ensures items_if_clones_equal { IfOk result (λ list. ClonesEqual T.is_clone
             → list.items ≡ items.now) }
         ensures capacity { IfOk result (λ list. list.capacity ≡ length items.now) }
-        ensures cost { IfOk result (λ list. list.cost ≡ moving (length items.now) (cost_new (length items.now))) }
+        ensures cost { IfOk result
+            (λ list. list.cost ≡ moving (length items.now) (cost_new (length items.now))) }
         ensures made { IfOk result (IsMade T.row alloc) }
 
         // On failure.
         ensures succeeds_empty { length items.now ≡ 0 → IsOk result }
-        ensures overflow { TellsOverflow (exact_capacity T.row 0 (length items.now)) result }
+        ensures overflow { TellsOverflowOf T.row (length items.now) result }
     {
         if !fits::<T>(items.len()) {
             return Err(ThinVecError::CapacityOverflow);
@@ -185,7 +224,7 @@ impl<T: Clone, A: Allocator> ThinVec<T, A> {
     }
 }
 
-// How many items an array has.
+// Returns the number of items of an array. Its contract tells the prover that this number is `N`.
 fn count<T, const N: usize>(items: &[T; N]) -> usize
     ensures value { result ≡ N }
     ensures length { result ≡ length items.now }

@@ -1,4 +1,4 @@
-//! Other types that a list becomes.
+//! Conversions of a list into a vector, a boxed slice or an array.
 ghost use Rattle.std.specs.Prelude.{◌≡◌, ◌↔◌, ◌≤◌, [], IfErr, IfOk, IsOk, length, vec_capacity, vec_len};
 ghost use Rattle.std.specs.Box.{boxed_slice_items, boxed_slice_len};
 ghost use Rattle.thin_vec.specs.ThinVec.{IsWithin};
@@ -10,11 +10,13 @@ use std::boxed::BoxedSlice;
 use thin_block::{Growth, ThinVecError};
 
 impl<T, A: Allocator, G: Growth> ThinVec<T, A, G> {
-    /// The items, in order, as a `Vec` on `alloc` whose capacity is their number. The list's block
-    /// is freed.
+    /// Moves the items, in order, into a `Vec` on `alloc` whose capacity is exactly their number.
+    /// The block of the list is freed. An empty list needs no allocation.
     ///
-    /// It fails only where the allocator does, and then returns the list. An empty list needs no
-    /// allocation.
+    /// # Errors
+    ///
+    /// Fails with `OutOfMemory` if `alloc` fails. Then the error holds the list, unchanged, which
+    /// the caller owns again, and `alloc` is dropped.
     pub fn into_vec(self, alloc: A) -> Result<Vec<T, A>, Rejected<ThinVec<T, A, G>>>
         ensures succeeds_empty { length self.items ≡ 0 → IsOk result }
         ensures cause { IfErr result (λ refused. refused.cause ≡ ThinVecError.OutOfMemory) }
@@ -33,7 +35,8 @@ impl<T, A: Allocator, G: Growth> ThinVec<T, A, G> {
         }
     }
 
-    // `vec` with the list's items. It held none, and has room for them.
+    // Moves the items, in order, into `vec`, which must be empty and have room for them, and frees
+    // the block of the list. Returns `vec`.
     fn moved_to(self, mut vec: Vec<T, A>) -> Vec<T, A>
         requires empty { vec.items ≡ [] }
         requires room { length self.items ≤ vec_capacity vec }
@@ -49,10 +52,13 @@ impl<T, A: Allocator, G: Growth> ThinVec<T, A, G> {
         vec
     }
 
-    /// The items, in order, as a boxed slice on `alloc`. The list's block is freed.
+    /// Moves the items, in order, into a boxed slice on `alloc`. The block of the list is freed. An
+    /// empty list needs no allocation.
     ///
-    /// It fails only where the allocator does, and then returns the list. An empty list needs no
-    /// allocation.
+    /// # Errors
+    ///
+    /// Fails with `OutOfMemory` if `alloc` fails. Then the error holds the list, unchanged, which
+    /// the caller owns again, and `alloc` is dropped.
     pub fn into_boxed_slice(self, alloc: A) -> Result<BoxedSlice<T, A>, Rejected<ThinVec<T, A, G>>>
         ensures succeeds_empty { length self.items ≡ 0 → IsOk result }
         ensures cause { IfErr result (λ refused. refused.cause ≡ ThinVecError.OutOfMemory) }
@@ -64,14 +70,18 @@ impl<T, A: Allocator, G: Growth> ThinVec<T, A, G> {
         Ok(self.into_vec(alloc)?.into_boxed_slice())
     }
 
-    /// The items, in order, as an array, where there are N of them. The list's block is freed.
+    /// Moves the items, in order, into an array, if there are exactly `N` of them. Then the block
+    /// of the list is freed. The call allocates nothing.
     ///
-    /// A list of any other length is returned as it was. It allocates nothing.
+    /// Like every array, the array has to take fewer than 2^63 bytes. If `T` is a concrete type,
+    /// the checker proves this by itself. A function that is generic in `T` needs the precondition
+    /// `N * type_size T.row < 2 ^ 63`, with `type_size` of `Rattle.std.specs.Mem`. `into_vec` and
+    /// `into_iter` have no such condition.
     ///
-    /// N items have to take fewer than 2^63 bytes, as any array: at a known type each caller shows
-    /// that by itself, and one that is generic in T requires it, as `N * type_size T.row < 2 ^ 63`
-    /// with `type_size` of `Rattle.std.specs.Mem`. `into_vec` and `into_iter` ask for nothing of
-    /// the kind.
+    /// # Errors
+    ///
+    /// Fails if the number of items is not `N`. The error is the list, unchanged, which the caller
+    /// owns again.
     pub fn into_array<const N: usize>(mut self) -> Result<[T; N], ThinVec<T, A, G>>
         ensures variant { IsOk result ↔ (length self.items ≡ N) }
         ensures items { IfOk result (λ items. items ≡ self.items) }
@@ -86,13 +96,15 @@ impl<T, A: Allocator, G: Growth> ThinVec<T, A, G> {
         Ok(items)
     }
 
-    // All items, as an array of their number. The list is left empty, with its block.
+    // Moves all items out of the list, as an array. There must be exactly `N` items. The list is
+    // then empty, and keeps its block.
     fn take_all<const N: usize>(&mut self) -> [T; N]
         requires all { length self.old.items ≡ N }
         ensures value { result ≡ self.old.items }
         ensures items { self.new.items ≡ [] }
     {
-        // This call tells the prover that the number of items fits.
+        // This call is only for the prover: its contract says that the number of items fits into a
+        // block.
         let _len = self.len();
         let items = self.block.take_array(0);
         self.block.set_len(0);

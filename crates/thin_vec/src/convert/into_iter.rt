@@ -1,4 +1,4 @@
-//! The iterator that a list becomes: it yields the items from either end.
+//! The iterator `IntoIter`, into which a list is converted. It yields the items from either end.
 ghost use Rattle.std.specs.Prelude.{◌≡◌, ◌↔◌, ◌^◌, ◌<◌, [], ◌∷◌, ◌++◌, IfErr, IfOk, IsOk, IsSome, Some, length};
 ghost use Rattle.std.specs.Iterator.{YieldsFirst, YieldsLast, item_count};
 ghost use Rattle.std.specs.List.{AllZip};
@@ -14,14 +14,14 @@ use std::iter::FusedIterator;
 use std::marker::{Model, PhantomData};
 use thin_block::{Block, Doubling, Growth, ThinVecError};
 
-/// The items of a list, yielded from either end. It owns those that remain, and the list's block
-/// and allocator.
+/// An iterator that yields the items of a list, from either end. It owns the items that remain, and
+/// the block and the allocator of the list. Each item stays in its slot until it is yielded.
+/// Dropping the iterator drops the items that remain, and frees the block.
 ///
-/// Contracts see it as they see a list, of the items that remain. An item stays in its place until
-/// it is yielded.
+/// Contracts see an `IntoIter` as they see a list: its `items` are the items that remain.
 pub struct IntoIter<T, A: Allocator = Global, G: Growth = Doubling> {
-    // The items that remain lie in the slots from `start` up to `end`. The block's stored length is
-    // not read again.
+    // The items that remain are in the slots from `start` up to, but not including, `end`. The
+    // length that is stored in the block is not read again.
     block: Block<T, A>,
     alloc: A,
     start: usize,
@@ -43,7 +43,8 @@ impl<T, A: Allocator, G: Growth> Model for IntoIter<T, A, G> {
 }
 
 impl<T, A: Allocator, G: Growth> ThinVec<T, A, G> {
-    /// The items, to be yielded from either end. It allocates nothing: the block stays as it is.
+    /// Converts the list into an iterator over its items, from either end. The iterator owns the
+    /// items, the block and the allocator. The call allocates nothing, and moves no item.
     pub fn into_iter(self) -> IntoIter<T, A, G>
         ensures value { result ≡ self }
         ensures small { length result.items < 2 ^ 64 }
@@ -67,7 +68,8 @@ impl<T: Drop, A: Allocator, G: Growth> IntoIterator for ThinVec<T, A, G> {
 
     type IntoIter = IntoIter<T, A, G>;
 
-    ghost into_iter_gives = { λ list it. (it ≡ list) × (length it.items < 2 ^ 64) × RestInOrder T A × RestInReverse T A };
+    ghost into_iter_gives = { λ list it. (it ≡ list) × (length it.items < 2 ^ 64)
+        × RestInOrder T A × RestInReverse T A };
 
     fn into_iter(self) -> IntoIter<T, A, G> {
         ThinVec::into_iter(self)
@@ -78,14 +80,14 @@ impl<T, A: Allocator, G: Growth> IntoIter<T, A, G> {
     ghost use types.Logic.{sem};
     ghost use Rattle.thin_vec.specs.Lends.{LendsRest};
 
-    /// How many items remain.
+    /// Returns the number of items that remain.
     pub fn len(&self) -> usize
         ensures value { result ≡ length self.now.items }
     {
         self.end - self.start
     }
 
-    /// How many items remain, as the least and the greatest number that may come.
+    /// Returns the number of items that remain, as both the lower and the upper bound.
     pub fn size_hint(&self) -> (usize, Option<usize>)
         ensures value { result ≡ (length self.now.items, Some (length self.now.items)) }
     {
@@ -93,7 +95,8 @@ impl<T, A: Allocator, G: Growth> IntoIter<T, A, G> {
         (len, Some(len))
     }
 
-    /// Returns the first item of those that remain, or `None` where none does.
+    /// Removes the first of the items that remain and returns it, or returns `None` if no item
+    /// remains.
     pub fn next(&mut self) -> Option<T>
         ensures variant { IsSome result ↔ (0 < length self.old.items) }
         ensures items { self.old.items ≡ option_to_list result ++ self.new.items }
@@ -105,7 +108,8 @@ impl<T, A: Allocator, G: Growth> IntoIter<T, A, G> {
         Some(self.take_first())
     }
 
-    /// Returns the last item of those that remain, or `None` where none does.
+    /// Removes the last of the items that remain and returns it, or returns `None` if no item
+    /// remains.
     pub fn next_back(&mut self) -> Option<T>
         ensures variant { IsSome result ↔ (0 < length self.old.items) }
         ensures items { self.old.items ≡ self.new.items ++ option_to_list result }
@@ -117,7 +121,7 @@ impl<T, A: Allocator, G: Growth> IntoIter<T, A, G> {
         Some(self.take_last())
     }
 
-    // `next` where an item remains.
+    // Removes the first of the items that remain and returns it. At least one item must remain.
     fn take_first(&mut self) -> T
         requires some { 0 < length self.old.items }
         ensures items { self.old.items ≡ result ∷ self.new.items }
@@ -128,7 +132,7 @@ impl<T, A: Allocator, G: Growth> IntoIter<T, A, G> {
         self.block.take(first)
     }
 
-    // `next_back` where an item remains.
+    // Removes the last of the items that remain and returns it. At least one item must remain.
     fn take_last(&mut self) -> T
         requires some { 0 < length self.old.items }
         ensures items { self.old.items ≡ self.new.items ++ result ∷ [] }
@@ -138,15 +142,15 @@ impl<T, A: Allocator, G: Growth> IntoIter<T, A, G> {
         self.block.take(self.end)
     }
 
-    /// The items that remain, in order.
+    /// Returns the items that remain, in order, as a slice.
     pub fn as_slice(&self) -> &[T]
         ensures value { result.now ≡ self.now.items }
     {
         self.block.slice(self.start, self.end)
     }
 
-    /// The items that remain, in order, to be written. What is written is what is yielded
-    /// afterwards.
+    /// Returns the items that remain, in order, as a mutable slice. What the caller writes to an
+    /// item of the slice is what the iterator then yields.
     pub fn as_mut_slice(&mut self) -> &mut [T]
         ensures* writes_back { sem 𝓛
             (LendsRest T.row A.row G.row A.Allocator G.Growth self.entry result) }
@@ -155,7 +159,7 @@ impl<T, A: Allocator, G: Growth> IntoIter<T, A, G> {
         self.block.slice_mut(self.start, self.end)
     }
 
-    // The end of an iterator of which nothing remains: the block is freed.
+    // Consumes an iterator of which no item remains, and frees its block.
     pub(crate) fn release(self)
         requires empty { self.items ≡ [] }
     {
@@ -174,14 +178,20 @@ impl<T: Clone, A: Allocator, G: Growth> IntoIter<T, A, G> {
     ghost use Rattle.thin_vec.specs.Cheap.{IsCheap};
     ghost use Rattle.thin_vec.specs.ThinVec.{cost_new};
 
-    /// An iterator on `alloc` over a clone of each item that remains, in order. Its capacity is
-    /// their number: where none remains, it allocates nothing.
+    /// Makes an iterator on `alloc` over a clone of each item that remains, in order. Its capacity
+    /// is exactly the number of clones. If no item remains, it allocates nothing. This iterator is
+    /// unchanged.
     ///
-    /// It fails where the allocator or the clone of an item fails, and then the clones made before
-    /// are dropped.
+    /// # Errors
+    ///
+    /// Fails with `OutOfMemory` if `alloc` or a clone fails. Then no iterator is made, and the
+    /// clones already made and `alloc` are dropped.
     pub fn clone(&self, alloc: A) -> Result<IntoIter<T, A, G>, ThinVecError>
+        // On failure.
         ensures succeeds_empty { length self.now.items ≡ 0 → IsOk result }
         ensures cause { IfErr result (λ cause. cause ≡ ThinVecError.OutOfMemory) }
+
+        // On success.
         ensures items { IfOk result (λ it. AllZip T.is_clone self.now.items it.items) }
         ensures items_if_clones_equal { IfOk result (λ it. ClonesEqual T.is_clone
             → it.items ≡ self.now.items) }
@@ -191,7 +201,8 @@ impl<T: Clone, A: Allocator, G: Growth> IntoIter<T, A, G> {
             (cost_new (length self.now.items))) }
         ensures cheap { IfOk result (λ it. IsCheap it) }
     {
-        // This call tells the prover that the capacity fits, so that the number of items fits, too.
+        // This call is only for the prover: its contract says that the capacity fits into a block,
+        // and so the number of items does, too.
         let _room = self.block.cap();
         let list = ThinVec::from_fitting_slice(alloc, self.as_slice())?;
         Ok(list.into_iter())
@@ -239,7 +250,7 @@ impl<T: fmt::Debug, A: Allocator, G: Growth> fmt::Debug for IntoIter<T, A, G> {
 }
 
 impl<T: Drop, A: Allocator, G: Growth> Drop for IntoIter<T, A, G> {
-    // Each item that remains is dropped, and then the block is freed.
+    // Drops each item that remains, and then frees the block.
     fn drop(mut self) {
         while let Some(_item) = self.next() {}
         self.release();

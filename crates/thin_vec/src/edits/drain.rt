@@ -1,4 +1,4 @@
-//! `drain`: the items of a range go out of a list, one by one, from either end.
+//! `drain`: removes the items of a range from a list, and yields them one by one from either end.
 ghost use Rattle.std.specs.Prelude.{◌≡◌, ◌+◌, ◌-◌, ◌<◌, ◌≤◌, ◌==◌, ◌++◌, IfSome, Some, if◌then◌else◌, length, slice_range};
 ghost use Rattle.std.specs.List.{remove_range};
 ghost use Rattle.std.specs.Iterator.{UpTo, item_count};
@@ -15,11 +15,11 @@ use std::fmt;
 use std::iter::FusedIterator;
 use thin_block::{Doubling, Growth};
 
-/// The items of a range of a list, yielded from either end. When dropped, it drops those that
-/// remain, and the list keeps the items before and after the range.
+/// An iterator over the items of a range of a list, which yields them from either end.
 ///
-/// While it lives it owns the list's block, and the list is empty and without one: a `Drain` that
-/// is forgotten leaves such a list.
+/// When it is dropped, it drops the items that were not yielded, and the list keeps the items before
+/// and after the range. Until then it owns the list's block, and the list is empty and has no block.
+/// So a `Drain` that is leaked leaves an empty list, and the items of the old list are leaked.
 pub struct Drain<
     'a,
     T,
@@ -34,7 +34,8 @@ pub struct Drain<
 
 impl<'a, T: Drop, A: Allocator, G: Growth, H: Holds<Inner = OpenBlock<T, A>>> Drop
     for Drain<'a, T, A, G, H> {
-    // Each item that remains is dropped, and those after the range move to its start, as one run.
+    // Drops the items that were not yielded, and moves the items after the range to its start, as
+    // one run.
     fn drop(self)
         ensures items { self.exit.0.now.items ≡ (H.inner self.entry.holder).front
             ++ (H.inner self.entry.holder).tail }
@@ -45,7 +46,7 @@ impl<'a, T: Drop, A: Allocator, G: Growth, H: Holds<Inner = OpenBlock<T, A>>> Dr
         let Drain { list, holder } = self;
         let mut block = holder.into_inner();
         block.drop_rest();
-        // The list is empty. This call proves it, and `close` requires it.
+        // The list is empty already. This call is for the prover: `close` requires an empty list.
         list.clear();
         list.close(block);
     }
@@ -54,25 +55,31 @@ impl<'a, T: Drop, A: Allocator, G: Growth, H: Holds<Inner = OpenBlock<T, A>>> Dr
 impl<T: Drop, A: Allocator, G: Growth> ThinVec<T, A, G> {
     ghost use Rattle.thin_vec.specs.Edits.Drain.{DrainKeepsAlong, DrainsInOrder, DrainsInReverse, drain_alloc, drain_capacity, drain_cost, drain_kept, drain_lender, drain_rest};
 
-    /// Takes the items from `start` up to `end` out of the list, and yields them from either end.
+    /// Removes the items with the indices `start..end` from the list, and returns an iterator that
+    /// yields them from either end. The list is borrowed until the iterator is dropped.
     ///
-    /// Once the `Drain` is dropped, whatever it yielded, the list keeps the items before and after
-    /// the range, its capacity and its allocator. Neither allocates. `bounds` is the test for the
-    /// range.
+    /// Once the iterator is dropped, the list has the items before and after the range, whichever
+    /// items were yielded. Neither the call nor the drop allocates memory, and neither can fail. The
+    /// call moves no item; the drop moves each item after the range once. The function `bounds`
+    /// checks a range that is not known to be within bounds.
     pub fn drain(&mut self, start: usize, end: usize) -> Drain<'_, T, A, G>
         requires start_le_end { start ≤ end }
         requires in_bounds { end ≤ length self.old.items }
+
+        // What it yields: the items of the range, in order from the front, in reverse from the back.
         ensures rest { drain_rest result ≡ slice_range self.old.items start end }
         ensures runs { DrainsInOrder result }
         ensures runs_back { DrainsInReverse result }
 
-        // When dropped, it leaves the list this, also after calls of `next`.
-        ensures same_reference { drain_lender result ≡ self.entry.ghost_name }
+        // What the list is once the `Drain` is dropped.
         ensures kept { drain_kept result ≡ remove_range self.old.items start end }
         ensures capacity { drain_capacity result ≡ self.old.capacity }
         ensures alloc { drain_alloc result ≡ self.old.alloc }
         ensures cost { drain_cost result ≡ (if start == end then self.old.cost else moving
             (length self.old.items - end) self.old.cost) }
+
+        // It borrows this list, and calls of `next` do not change what the list will be.
+        ensures same_reference { drain_lender result ≡ self.entry.ghost_name }
         ensures stays { DrainKeepsAlong result }
     {
         let block = self.open(start, end);
@@ -86,14 +93,14 @@ impl<T: Drop, A: Allocator, G: Growth> ThinVec<T, A, G> {
 impl<'a, T, A: Allocator, G: Growth> Drain<'a, T, A, G> {
     ghost use Rattle.thin_vec.specs.Edits.Drain.{DrainSteps, DrainStepsBack, drain_rest};
 
-    /// How many items remain.
+    /// Returns how many items were not yet yielded.
     pub fn len(&self) -> usize
         ensures value { result ≡ length (drain_rest self.now) }
     {
         self.holder.value.rest_len()
     }
 
-    /// How many items remain, as the least and the greatest number that may come.
+    /// Returns how many items were not yet yielded, as both the lower and the upper bound.
     pub fn size_hint(&self) -> (usize, Option<usize>)
         ensures value { result
             ≡ (length (drain_rest self.now), Some (length (drain_rest self.now))) }
@@ -102,7 +109,7 @@ impl<'a, T, A: Allocator, G: Growth> Drain<'a, T, A, G> {
         (len, Some(len))
     }
 
-    /// Returns the first item of those that remain, or `None` where none does.
+    /// Yields the first item that was not yet yielded, or returns `None` if there is none.
     pub fn next(&mut self) -> Option<T>
         ensures steps { DrainSteps self.old result self.new }
     {
@@ -112,7 +119,7 @@ impl<'a, T, A: Allocator, G: Growth> Drain<'a, T, A, G> {
         Some(self.holder.value.take_first())
     }
 
-    /// Returns the last item of those that remain, or `None` where none does.
+    /// Yields the last item that was not yet yielded, or returns `None` if there is none.
     pub fn next_back(&mut self) -> Option<T>
         ensures steps { DrainStepsBack self.old result self.new }
     {
@@ -122,7 +129,7 @@ impl<'a, T, A: Allocator, G: Growth> Drain<'a, T, A, G> {
         Some(self.holder.value.take_last())
     }
 
-    /// The items that remain, in order.
+    /// Returns the items that were not yet yielded, in order.
     pub fn as_slice(&self) -> &[T]
         ensures value { result.now ≡ drain_rest self.now }
     {

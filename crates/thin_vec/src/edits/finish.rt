@@ -1,13 +1,13 @@
-//! What `finish` of a `Splice` does: it inserts the items of an iterator into a list, where a range
-//! was removed. First it fills the gap that the range left (`fill_gap`). Then it makes room for as
-//! many items as the iterator's size hint says, and fills this room (`insert_hinted`). The remaining
-//! items are collected in a vector, and inserted from there (`insert_held`).
+//! The steps of `finish` of a `Splice`, which inserts the items of an iterator into a list where a
+//! range was removed. First, it fills the gap that the range left (`fill_gap`). Then it makes room
+//! for as many items as the iterator's size hint says, and fills this room (`insert_hinted`). Last,
+//! it collects the remaining items in a vector, and inserts them from there (`insert_held`).
 ghost use Rattle.std.specs.Prelude.{◌≡◌, ◌+◌, ◌-◌, ◌*◌, ◌<◌, ◌≤◌, [], ◌++◌, ◌∷◌, IfErr, IfOk, IsOk, IsSome, List, MatchOption, None, OnErr, OnOk, OnSome, Some, drop, false, length, take, ℕ};
 ghost use Rattle.std.specs.Iterator.{Drains, IsFinite, Yields, YieldsThen, size};
 ghost use Rattle.std.specs.Iterator.SizeHint.{IsWithinCount};
 ghost use Rattle.std.specs.Option.{option_len, option_to_list};
 ghost use Rattle.thin_block.specs.Cost.{moving};
-ghost use Rattle.thin_vec.specs.List.Extend.{IsNamed, MustOverflow, Overflows};
+ghost use Rattle.thin_vec.specs.List.Extend.{IsKeptOrRuled, MayOverflow, MustOverflow};
 ghost use Rattle.thin_block.specs.Block.{IsFrom};
 ghost use Rattle.thin_vec.specs.Open.{reach};
 ghost use Rattle.thin_vec.specs.Edits.Splice.{IsStopCause, Stopped};
@@ -43,7 +43,7 @@ impl<T, A: Allocator, G: Growth> ThinVec<T, A, G> {
     }
 
     // Makes room before the item at `at` for as many items as the size hint of `iter` says, and
-    // fills this room. Fails if there is no room, and then changes nothing.
+    // fills this room. If the room cannot be made, nothing changes, and `iter` is returned.
     fn insert_hinted<I: Iterator<Item = T>>(
         &mut self,
         at: usize,
@@ -52,7 +52,8 @@ impl<T, A: Allocator, G: Growth> ThinVec<T, A, G> {
         requires in_bounds { at ≤ length self.old.items }
         requires can_next { I.can_next iter }
         requires finite { IsFinite (I.remaining iter) }
-        ensures succeeds { size (I.remaining iter) ≡ 0 → IsOk result }
+
+        // On success.
         ensures filled { IfOk result (λ filled. (hint : ℕ)
             × (by : IsFilledBy I.next_gives I.can_next I.remaining hint iter filled)
             × (self.new.items ≡ (take at self.old.items ++ by.items) ++ drop at self.old.items)
@@ -60,22 +61,25 @@ impl<T, A: Allocator, G: Growth> ThinVec<T, A, G> {
         ensures capacity { OnOk result ((hint : ℕ) × IsWithinCount hint (I.remaining iter)
             × (capacity_for G.rule T.row self.old hint ≡ Some self.new.capacity)) }
 
-        // Each item after `at` moves at most twice, and once if the room is full.
+        // When it must succeed.
+        ensures succeeds { size (I.remaining iter) ≡ 0 → IsOk result }
+
+        // On failure, nothing changed.
+        ensures err { IfErr result (λ rejected. (self.new ≡ self.old)
+            × (rejected.value ≡ iter)) }
+        ensures must { IfErr result
+            (λ rejected. MustOverflow G.rule T.row self.new (I.remaining iter)
+            → rejected.cause ≡ ThinVecError.CapacityOverflow) }
+        ensures may { IfErr result
+            (λ rejected. rejected.cause ≡ ThinVecError.CapacityOverflow
+            → MayOverflow G.rule T.row self.new (I.remaining iter)) }
+
+        // In any case. Each item from `at` on moves at most twice, and once if the room is full.
         ensures taken { HasTaken G.rule T.row self.old self.new
             (2 * (length self.old.items - at)) (I.remaining iter) }
         ensures taken_full { IfOk result (λ filled. filled.ended ≡ false
             → HasTaken G.rule T.row self.old self.new (length self.old.items - at)
             (I.remaining iter)) }
-
-        // On failure, nothing changed.
-        ensures overflow { IfErr result
-            (λ rejected. MustOverflow G.rule T.row self.new None (I.remaining iter)
-            → rejected.cause ≡ ThinVecError.CapacityOverflow) }
-        ensures cause { IfErr result
-            (λ rejected. rejected.cause ≡ ThinVecError.CapacityOverflow
-            → Overflows G.rule T.row self.new None (I.remaining iter)) }
-        ensures err { IfErr result (λ rejected. (self.new ≡ self.old)
-            × (rejected.value ≡ iter)) }
     {
         let hint = iter.size_hint().0;
         if let Err(cause) = self.reserve(hint) {
@@ -88,7 +92,7 @@ impl<T, A: Allocator, G: Growth> ThinVec<T, A, G> {
 
 impl<T: Drop, A: Allocator, G: Growth> ThinVec<T, A, G> {
     // Collects the items that `iter` yields in a vector on `alloc`, and moves them before the item
-    // at `at`. If there are none, nothing is allocated.
+    // at `at`. If `iter` yields none, nothing is allocated.
     fn insert_held<I: Iterator<Item = T>>(
         &mut self,
         at: usize,
@@ -98,20 +102,26 @@ impl<T: Drop, A: Allocator, G: Growth> ThinVec<T, A, G> {
         requires in_bounds { at ≤ length self.old.items }
         requires can_next { I.can_next iter }
         requires finite { IsFinite (I.remaining iter) }
-        ensures succeeds { size (I.remaining iter) ≡ 0 → IsOk result }
+
+        // On success.
         ensures items { OnOk result ((xs : List T) × Drains I.next_gives iter xs
             × (self.new.items ≡ (take at self.old.items ++ xs) ++ drop at self.old.items)) }
+
+        // When it must succeed.
+        ensures succeeds { size (I.remaining iter) ≡ 0 → IsOk result }
+
+        // On failure, the list is unchanged, and no item is lost.
+        ensures err { OnErr result (self.new ≡ self.old) }
         ensures placed { IfErr result
-            (λ refused. Stopped I.next_gives I.can_next I.remaining iter [] refused.held.items
-            refused.in_hand refused.rest) }
-        ensures cause { IfErr result (λ refused. (tail : List T) → 0 < length tail
-            → IsStopCause G.rule T.row self.new tail refused.held.items refused.in_hand
-            (I.remaining refused.rest) refused.cause) }
+            (λ error. Stopped I.next_gives I.can_next I.remaining iter [] error) }
+        ensures cause { IfErr result (λ error. (tail : List T) → 0 < length tail
+            → IsStopCause G.rule T.row self.new tail (I.remaining error.rest) error) }
+
+        // In any case.
+        ensures ruled { IsKeptOrRuled G.rule T.row self.old.capacity self.new.capacity
+            (length self.new.items) }
         ensures taken { HasTaken G.rule T.row self.old self.new (length self.old.items - at)
             (I.remaining iter) }
-        ensures named { IsNamed G.rule T.row self.old.capacity self.new.capacity
-            (length self.new.items) }
-        ensures err { OnErr result (self.new ≡ self.old) }
     {
         let mut rest = iter;
         let Some(first) = rest.next() else {
@@ -142,7 +152,7 @@ impl<T: Drop, A: Allocator, G: Growth> ThinVec<T, A, G> {
         Ok(())
     }
 
-    // Moves the items of `held` before the item at `at`, into spare capacity.
+    // Moves the items of `held` into spare capacity, before the item at `at`.
     fn insert_vec(&mut self, at: usize, held: Vec<T, A>)
         requires in_bounds { at ≤ length self.old.items }
         requires room { HasRoomFor self.old (length held.items) }
@@ -159,20 +169,25 @@ impl<T: Drop, A: Allocator, G: Growth> ThinVec<T, A, G> {
     }
 
     // Fills the gap of `block`. Then inserts the remaining items of `iter` before the tail: first
-    // as many as its size hint says, and then the others.
+    // as many as the size hint of `iter` says, and then the others.
     pub(crate) fn finish_before_tail<I: Iterator<Item = T>>(
         &mut self,
         block: OpenBlock<T, A>,
         iter: I,
         alloc: A,
     ) -> Result<(), SpliceRefused<T, I, A>>
+        // The block has a tail, its range is empty, and it comes from this list.
         requires some { 0 < length block.tail }
         requires empty { self.old.items ≡ [] }
         requires none { block.rest ≡ [] }
         requires gap_after { block.gap_after ≡ 0 }
         requires from { IsFrom block.alloc self.old.alloc }
+
+        // The iterator may be asked, and is finite.
         requires can_next { I.can_next iter }
         requires finite { IsFinite (I.remaining iter) }
+
+        // The facts from which the clauses of `finish` follow.
         ensures { IsFinished I.next_gives I.can_next I.remaining G.rule T.row block self.old.alloc
             iter self.new result }
     {
@@ -200,21 +215,27 @@ impl<T: Drop, A: Allocator, G: Growth> ThinVec<T, A, G> {
         }
     }
 
-    // Appends the items that `iter` yields to the front, as `extend` does. There is no tail.
+    // Appends the items that `iter` yields to the front of `block`, as `extend` does. There is no
+    // tail.
     pub(crate) fn finish_at_end<I: Iterator<Item = T>>(
         &mut self,
         block: OpenBlock<T, A>,
         iter: I,
         alloc: A,
     ) -> Result<(), SpliceRefused<T, I, A>>
+        // The block has no tail, its range is empty, and it comes from this list.
         requires no_tail { block.tail ≡ [] }
         requires within { reach block ≤ block.capacity }
         requires empty { self.old.items ≡ [] }
         requires none { block.rest ≡ [] }
         requires gap_after { block.gap_after ≡ 0 }
         requires from { IsFrom block.alloc self.old.alloc }
+
+        // The iterator may be asked, and is finite.
         requires can_next { I.can_next iter }
         requires finite { IsFinite (I.remaining iter) }
+
+        // The facts from which the clauses of `finish` follow.
         ensures { IsFinished I.next_gives I.can_next I.remaining G.rule T.row block self.old.alloc
             iter self.new result }
     {
@@ -239,17 +260,17 @@ impl<T: Drop, A: Allocator, G: Growth> ThinVec<T, A, G> {
     }
 }
 
-/// The items that were drawn from an iterator into a vector, and what is left of the iterator.
+/// The items that were drawn from an iterator into a vector, and the rest of the iterator.
 struct Drawn<T, I, A: Allocator> {
     /// The items, in order.
     held: Vec<T, A>,
-    /// The item that was drawn after those, for which the vector has no room.
+    /// The item that was drawn after the items in `held`, and for which the vector has no room.
     in_hand: Option<T>,
     /// The iterator, which yields the items that were not drawn.
     rest: I,
 }
 
-// Makes a vector on `alloc` of `first` and the items that `iter` yields. Stops if the iterator
+// Makes a vector on `alloc` of `first` and the items that `iter` yields. Stops once the iterator
 // returns `None`, or if there is no memory for an item.
 fn draw<T, A: Allocator, I: Iterator<Item = T>>(first: T, iter: I, alloc: A) -> Drawn<T, I, A>
     requires can_next { I.can_next iter }

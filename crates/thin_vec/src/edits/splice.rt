@@ -1,12 +1,11 @@
-//! `splice`: a range's items go out of a list, from either end, and an iterator's take their place.
-ghost use Rattle.std.specs.Prelude.{◌≡◌, ◌+◌, ◌-◌, ◌*◌, ◌<◌, ◌≤◌, ◌++◌, ◌↔◌, List, [], IfErr, IsOk, IsSome, IsTrue, None, OnErr, OnOk, Some, drop, length, slice_range, take};
+//! `splice`: the items of a range are removed from a list, and the items of an iterator take their
+//! place.
+ghost use Rattle.std.specs.Prelude.{◌≡◌, ◌+◌, ◌-◌, ◌*◌, ◌<◌, ◌≤◌, List, [], IfErr, IsOk, None, OnErr, OnOk, Some, drop, length, slice_range, take};
 ghost use Rattle.std.specs.Iterator.{Drains, IsFinite, size};
-ghost use Rattle.std.specs.Iterator.Runs.{SomeRun, WholeRun};
-ghost use Rattle.std.specs.Option.{option_to_list};
-ghost use Rattle.thin_vec.specs.Cheap.{IsCheap};
-ghost use Rattle.thin_vec.specs.List.Extend.{IsExtended, IsLoose};
+ghost use Rattle.std.specs.Iterator.Runs.{WholeRun};
+ghost use Rattle.thin_vec.specs.List.Capacity.{Keeps};
+ghost use Rattle.thin_vec.specs.List.Extend.{GrowsFor};
 ghost use Rattle.thin_block.specs.Block.{IsFrom};
-ghost use Rattle.thin_vec.specs.ThinVec.{HasRoomFor, IsWithin, capacity_for};
 
 use crate::edits::holder::{Holder, Holds};
 use crate::errors::SpliceRefused;
@@ -16,11 +15,11 @@ use std::alloc::{Allocator, Global};
 use std::iter::Iterator;
 use thin_block::{Doubling, Growth, ThinVecError};
 
-/// The items of a range of a list, yielded from either end, and an iterator whose items are to take
-/// their place.
+/// A splice that has begun: it yields the items of a range of a list from either end, and holds an
+/// iterator whose items will take their place.
 ///
-/// It ends by `finish` alone: a program that lets one go does not compile. While it lives it owns
-/// the list's block, and the list is empty and without one.
+/// It has to be ended by a call of `finish`: a program that drops it does not compile. Until then it
+/// owns the list's block, and the list is empty and has no block.
 pub struct Splice<
     'a,
     I,
@@ -38,10 +37,11 @@ pub struct Splice<
 impl<T, A: Allocator, G: Growth> ThinVec<T, A, G> {
     ghost use Rattle.thin_vec.specs.Edits.Splice.{splice_alloc, splice_block, splice_iter, splice_lender, splice_range};
 
-    /// Takes the items from `start` up to `end` out of the list, and puts those of `iter` in their
-    /// place: the `Splice` yields the former from either end, and its `finish` draws the latter.
+    /// Begins to replace the items with the indices `start..end` by the items of `iter`. The `Splice`
+    /// yields the old items from either end, and its `finish` places the new ones.
     ///
-    /// It allocates nothing, and draws no item of `iter`. `bounds` is the test for the range.
+    /// The call allocates nothing, moves no item, and draws no item of `iter`. It cannot fail. The
+    /// function `bounds` checks a range that is not known to be within bounds.
     pub fn splice<I: Iterator<Item = T>>(
         &mut self,
         start: usize,
@@ -50,15 +50,21 @@ impl<T, A: Allocator, G: Growth> ThinVec<T, A, G> {
     ) -> Splice<'_, I, T, A, G>
         requires start_le_end { start ≤ end }
         requires in_bounds { end ≤ length self.old.items }
-        ensures front { (splice_block result).front ≡ take start self.old.items }
+
+        // What it yields, and what it will put there.
         ensures rest { (splice_block result).rest ≡ slice_range self.old.items start end }
-        ensures tail { (splice_block result).tail ≡ drop end self.old.items }
         ensures range { splice_range result ≡ end - start }
         ensures iter { splice_iter result ≡ iter }
-        ensures same_reference { splice_lender result ≡ self.entry.ghost_name }
+
+        // What it will leave.
+        ensures front { (splice_block result).front ≡ take start self.old.items }
+        ensures tail { (splice_block result).tail ≡ drop end self.old.items }
         ensures capacity { (splice_block result).capacity ≡ self.old.capacity }
         ensures alloc { splice_alloc result ≡ self.old.alloc }
         ensures cost { (splice_block result).cost ≡ self.old.cost }
+
+        // It borrows this list.
+        ensures same_reference { splice_lender result ≡ self.entry.ghost_name }
     {
         let block = self.open(start, end);
         Splice {
@@ -72,14 +78,15 @@ impl<T, A: Allocator, G: Growth> ThinVec<T, A, G> {
 impl<'a, T, I, A: Allocator, G: Growth> Splice<'a, I, T, A, G> {
     ghost use Rattle.thin_vec.specs.Edits.Splice.{SpliceSteps, SpliceStepsBack, splice_block};
 
-    /// How many items of the range remain.
+    /// Returns how many items of the range were not yet yielded.
     pub fn len(&self) -> usize
         ensures value { result ≡ length (splice_block self.now).rest }
     {
         self.holder.value.rest_len()
     }
 
-    /// How many items of the range remain, as the least and the greatest number that may come.
+    /// Returns how many items of the range were not yet yielded, as both the lower and the upper
+    /// bound.
     pub fn size_hint(&self) -> (usize, Option<usize>)
         ensures value { result ≡ (
           length (splice_block self.now).rest,
@@ -91,7 +98,8 @@ impl<'a, T, I, A: Allocator, G: Growth> Splice<'a, I, T, A, G> {
         (len, Some(len))
     }
 
-    /// Yields the first item of those of the range that remain, or returns `None` where none does.
+    /// Yields the first item of the range that was not yet yielded, or returns `None` if there is
+    /// none.
     pub fn next(&mut self) -> Option<T>
         ensures steps { SpliceSteps self.old result self.new }
     {
@@ -101,7 +109,8 @@ impl<'a, T, I, A: Allocator, G: Growth> Splice<'a, I, T, A, G> {
         Some(self.holder.value.take_first())
     }
 
-    /// Yields the last item of those of the range that remain, or returns `None` where none does.
+    /// Yields the last item of the range that was not yet yielded, or returns `None` if there is
+    /// none.
     pub fn next_back(&mut self) -> Option<T>
         ensures steps { SpliceStepsBack self.old result self.new }
     {
@@ -120,79 +129,85 @@ impl<
     G: Growth,
     H: Holds<Inner = OpenBlock<T, A>>,
 > Splice<'a, I, T, A, G, H> {
-    ghost use Rattle.thin_vec.specs.Edits.Splice.{IsSpliced, IsStopCause, Stopped, splice_alloc, splice_block, splice_iter, splice_left, splice_range, splice_replaced};
+    ghost use Rattle.thin_vec.specs.Edits.Splice.{FailsAsExtend, HasPlacesFor, IsSpliced, IsStopCause, Stopped, splice_block, splice_iter, splice_left, splice_range, splice_replaced};
 
-    /// Drops what is left of the range, and puts the items in its place that the iterator yields
-    /// before its first `None`. After that it is not asked again. (own)
+    /// Drops the items of the range that were not yielded, and puts the items of the iterator in
+    /// their place. The iterator is asked until its first `None`, and not again after that.
     ///
-    /// With no item after the range this is an `extend`. With some, the range's places are filled
-    /// first. Then the iterator's hint is asked, once, and room is made for its lower bound. What
-    /// it yields beyond that is held in a vector on `alloc`, for which the items after the range
-    /// move up once more, as one run. Where the iterator can yield no more items than the range
-    /// has, it allocates nothing and can't fail.
+    /// If no item follows the range, `finish` works as `extend` does. Otherwise it takes three
+    /// steps:
     ///
-    /// Where it fails, the list has what was placed, and the error has the rest.
+    /// 1. It moves items of the iterator into the places of the range. If the iterator ends here,
+    ///    the items after the range move back to it, as one run.
+    /// 2. It asks the iterator for its size hint, once, reserves room for the lower bound before the
+    ///    items after the range, and fills this room.
+    /// 3. It collects all further items in a vector on `alloc`, reserves room for them, and inserts
+    ///    them as one run.
+    ///
+    /// So it moves each item of the iterator once and each item after the range at most twice
+    /// (growth copies count apart). If the iterator can yield no more items than the range has
+    /// places, it allocates nothing, and cannot fail. Rust's `Vec` does all this when a `Splice` is
+    /// dropped. `finish` is a call of its own since it can fail.
+    ///
+    /// # Errors
+    ///
+    /// The list keeps the items that were placed. No item is lost: the error has the others. There
+    /// are four cases, and `cause` is `CapacityOverflow` if there is no ruled capacity for what was
+    /// needed, and `OutOfMemory` if an allocator refused a block:
+    ///
+    /// - No item follows the range. Then `finish` fails as `extend` does, and `held` is empty.
+    /// - Step 2 cannot reserve room. Then the places of the range are filled, `held` is empty,
+    ///   `in_hand` is `None`, and `rest` yields the further items.
+    /// - Step 3 gets no memory to collect an item. Then `held` has the items that were collected,
+    ///   `in_hand` is the item without memory, `rest` yields the items after it, and `cause` is
+    ///   `OutOfMemory`.
+    /// - Step 3 cannot reserve room for the collected items. Then `held` has these items, `in_hand`
+    ///   is `None`, and the iterator has ended: `next` is not to be called on `rest`.
     pub fn finish(self, alloc: A) -> Result<(), SpliceRefused<T, I, A>>
         requires can_next { I.can_next (splice_iter self) }
         requires finite { IsFinite (I.remaining (splice_iter self)) }
-        ensures succeeds { size (I.remaining (splice_iter self.entry)) ≤ splice_range self.entry
-            → IsOk result }
-        ensures succeeds_at_end { (splice_block self.entry).tail ≡ []
-            → HasRoomFor (splice_left self.entry) (size (I.remaining (splice_iter self.entry)))
-            → IsOk result }
+
+        // The list after the call is `self.exit.0.now`. On success.
         ensures items { OnOk result ((xs : List T) × Drains I.next_gives (splice_iter self.entry) xs
             × (self.exit.0.now.items ≡ splice_replaced self.entry xs)) }
         ensures runs { OnOk result (WholeRun I.next_gives (splice_iter self.entry)
             (λ p. self.exit.0.now.items ≡ splice_replaced self.entry p.items)) }
 
-        // On success and failure, each item that came in has moved once, and each after the range
-        // at most twice.
-        ensures capacity { IsLoose G.rule T.row (splice_block self.entry).capacity
-            self.exit.0.now.capacity }
-        ensures named { IsExtended G.rule T.row (splice_left self.entry) self.exit.0.now.capacity
-            (length self.exit.0.now.items) (I.remaining (splice_iter self.entry)) }
-        ensures had_room { HasRoomFor (splice_left self.entry)
-            (size (I.remaining (splice_iter self.entry)))
-            → self.exit.0.now.capacity ≡ (splice_block self.entry).capacity }
-        ensures never_less { (splice_block self.entry).capacity ≤ self.exit.0.now.capacity }
-        ensures cost { IsSpliced (splice_left self.entry) self.exit.0.now
-            (2 * length (splice_block self.entry).tail) }
-        ensures alloc { self.exit.0.now.alloc ≡ splice_alloc self.entry }
-        ensures cheap { IsCheap (splice_left self.entry) → IsCheap self.exit.0.now }
-        ensures within { IsWithin T.row self.exit.0.now }
+        // When it must succeed.
+        ensures succeeds { HasPlacesFor self.entry (size (I.remaining (splice_iter self.entry)))
+            → IsOk result }
 
-        // On failure no item is lost. With items after the range, its places are filled by then.
-        ensures placed { IfErr result (λ refused. (xs : List T)
+        // On failure, no item is lost. If items follow the range, its places are filled.
+        ensures placed { IfErr result (λ error. (xs : List T)
             × (self.exit.0.now.items ≡ splice_replaced self.entry xs)
-            × Stopped I.next_gives I.can_next I.remaining
-            (splice_iter self.entry) xs refused.held.items refused.in_hand refused.rest) }
-        ensures range { OnErr result (0 < length (splice_block self.entry).tail
+            × Stopped I.next_gives I.can_next I.remaining (splice_iter self.entry) xs error) }
+        ensures before_tail { OnErr result (0 < length (splice_block self.entry).tail
             → length (splice_left self.entry).items + splice_range self.entry
             ≤ length self.exit.0.now.items) }
-        ensures cause { IfErr result (λ refused. IsStopCause G.rule T.row self.exit.0.now
-            (splice_block self.entry).tail refused.held.items refused.in_hand
-            (I.remaining refused.rest) refused.cause) }
+        ensures at_end { IfErr result (λ error. (splice_block self.entry).tail ≡ []
+            → FailsAsExtend (splice_left self.entry) self.exit.0.now (splice_iter self.entry)
+            error) }
+        ensures cause { IfErr result (λ error. IsStopCause G.rule T.row self.exit.0.now
+            (splice_block self.entry).tail (I.remaining error.rest) error) }
 
-        // With no item after the range, it fails as `extend` does.
-        ensures held { IfErr result (λ refused. (splice_block self.entry).tail ≡ []
-            → refused.held.items ≡ []) }
-        ensures full { IfErr result (λ refused. (splice_block self.entry).tail ≡ []
-            → IsSome refused.in_hand → length self.exit.0.now.items ≡ self.exit.0.now.capacity) }
-        ensures err { IfErr result (λ refused. (splice_block self.entry).tail ≡ []
-            → refused.in_hand ≡ None → (self.exit.0.now ≡ splice_left self.entry)
-            × (refused.rest ≡ splice_iter self.entry)) }
+        // In any case.
+        ensures capacity { GrowsFor G.rule T.row (splice_left self.entry) self.exit.0.now
+            (I.remaining (splice_iter self.entry)) }
+        ensures cost { IsSpliced (splice_left self.entry) self.exit.0.now
+            (2 * length (splice_block self.entry).tail) }
+        ensures keeps { Keeps T.row (splice_left self.entry) self.exit.0.now }
     {
         let Splice { list, holder, iter } = self;
         let mut block = holder.into_inner();
         block.drop_rest();
-        // The list is empty. This call proves it, and `close` requires it.
+        // The list is empty already. This call is for the prover: `close` requires an empty list.
         list.clear();
         let answer = if block.has_tail() {
             list.finish_before_tail(block, iter, alloc)
         } else {
             list.finish_at_end(block, iter, alloc)
         };
-        // A list knows of itself that its items are within its capacity, and that this fits.
+        // This call is for the prover: it yields that the list is within bounds.
         let _len = list.len();
         answer
     }

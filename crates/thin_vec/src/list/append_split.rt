@@ -1,4 +1,5 @@
-//! Two lists: one is appended to the other, or one is cut in two.
+//! `append`, which moves the items of one list to another, and `split_off`, which cuts a list in
+//! two.
 ghost use Rattle.std.specs.Prelude.{◌≡◌, ◌+◌, ◌-◌, ◌≤◌, ◌++◌, [], IfErr, IfOk, IsOk, OnErr, OnOk, drop, length, take};
 ghost use Rattle.thin_block.specs.Cost.{moving};
 ghost use Rattle.thin_vec.specs.List.Capacity.{Costs, Keeps, Reserves, IsMade};
@@ -10,22 +11,28 @@ use thin_block::{Growth, ThinVecError};
 impl<T, A: Allocator, G: Growth> ThinVec<T, A, G> {
     ghost use Rattle.thin_vec.specs.ThinVec.{HasRoomFor, IsWithin, cost_new};
 
-    /// Moves all items of `other` to the end of this list. `other` is left empty, with its
-    /// capacity.
+    /// Moves all items of `other` to the end of this list, in order. Afterwards, `other` is empty
+    /// and has its old capacity. If there is not enough spare capacity, this list first grows to
+    /// the capacity that the growth rule chooses.
     ///
-    /// It fails as `reserve` does, before either list changes.
+    /// # Errors
+    ///
+    /// Fails only if there is not enough spare capacity. Then neither list changes.
+    ///
+    /// - `CapacityOverflow`: the new capacity would be too large.
+    /// - `OutOfMemory`: the allocator failed.
     pub fn append(&mut self, other: &mut ThinVec<T, A, G>) -> Result<(), ThinVecError>
-        // On success, `other` is empty, and keeps its capacity.
+        // On success.
         ensures items { OnOk result (self.new.items ≡ self.old.items ++ other.old.items) }
         ensures cost { OnOk result (Costs (length other.old.items) self.old self.new) }
         ensures other { OnOk result (other.new ≡ record other.old { items = [] }) }
 
-        // On failure neither list changes. Into spare capacity it succeeds.
+        // On failure, neither list changes.
         ensures succeeds { HasRoomFor self.old (length other.old.items) → IsOk result }
         ensures err { OnErr result (self.new ≡ self.old) }
         ensures other_err { OnErr result (other.new ≡ other.old) }
 
-        // In any case. The capacity and the cause of a failure are those of `reserve` for the items.
+        // In any case. The capacity and the cause of a failure are as for `reserve(other.len())`.
         ensures reserves { Reserves G.rule T.row (length other.old.items) self.old self.new result }
         ensures keeps { Keeps T.row self.old self.new }
         ensures other_within { IsWithin T.row other.old × IsWithin T.row other.new }
@@ -38,15 +45,18 @@ impl<T, A: Allocator, G: Growth> ThinVec<T, A, G> {
         Ok(())
     }
 
-    /// Cuts the list at `at`: it keeps the first `at` items and its capacity, and the others are
-    /// returned, with exactly the capacity that they need.
+    /// Moves the items from index `at` on, in order, to a new list on `alloc`, and returns the new
+    /// list. Its capacity is exactly the number of these items. This list keeps the first `at`
+    /// items and its capacity. If `at` is the length, the call needs no allocation.
     ///
-    /// It fails only where the allocator does, and then nothing changes. At the length it needs no
-    /// allocation.
+    /// # Errors
+    ///
+    /// Fails with `OutOfMemory` if `alloc` fails. Then the list is unchanged, and `alloc` is
+    /// dropped.
     pub fn split_off(&mut self, alloc: A, at: usize) -> Result<ThinVec<T, A, G>, ThinVecError>
         requires in_bounds { at ≤ length self.old.items }
 
-        // On success: what the list keeps, and what the second list is.
+        // On success.
         ensures items { OnOk result (self.new.items ≡ take at self.old.items) }
         ensures other_items { IfOk result (λ tail. tail.items ≡ drop at self.old.items) }
         ensures other_capacity { IfOk result (λ tail. tail.capacity ≡ length self.old.items - at) }
@@ -54,7 +64,7 @@ impl<T, A: Allocator, G: Growth> ThinVec<T, A, G> {
             (cost_new (length self.old.items - at))) }
         ensures other_made { IfOk result (IsMade T.row alloc) }
 
-        // On failure nothing changes. At the length it succeeds.
+        // On failure, the list is unchanged.
         ensures succeeds { at ≡ length self.old.items → IsOk result }
         ensures cause { IfErr result (λ cause. cause ≡ ThinVecError.OutOfMemory) }
         ensures err { OnErr result (self.new ≡ self.old) }
@@ -68,7 +78,11 @@ impl<T, A: Allocator, G: Growth> ThinVec<T, A, G> {
         Ok(tail)
     }
 
-    /// `append` into room that the caller has shown to be there: it returns no `Result`. (own)
+    /// Moves all items of `other` to the end of this list, in order, without growing. Afterwards,
+    /// `other` is empty and has its old capacity. This list must have room for the items, as it has
+    /// after `reserve`. So the call cannot fail, and returns no `Result`.
+    ///
+    /// This method is our own: neither Rust's `Vec` nor the Rust crate thin-vec has it.
     pub fn append_reserved(&mut self, other: &mut ThinVec<T, A, G>)
         requires room { HasRoomFor self.old (length other.old.items) }
         ensures items { self.new.items ≡ self.old.items ++ other.old.items }
@@ -81,8 +95,8 @@ impl<T, A: Allocator, G: Growth> ThinVec<T, A, G> {
         self.append_from(other, 0);
     }
 
-    // Moves the items of `other` from `start` on to the end of this list, into spare room, as one
-    // run.
+    // Moves the items of `other` from index `start` on to the end of this list, as one run. This
+    // list must have room for them.
     fn append_from(&mut self, other: &mut ThinVec<T, A, G>, start: usize)
         requires in_bounds { start ≤ length other.old.items }
         requires room { HasRoomFor self.old (length other.old.items - start) }

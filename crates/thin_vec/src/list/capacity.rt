@@ -1,10 +1,10 @@
-//! How a list's capacity grows: the one function that computes a ruled capacity, and the one that
-//! makes a growth.
+//! How the capacity of a list grows. One function, `capacity_for`, asks the growth rule for each
+//! new capacity, and one function, `grow_to`, makes each growth.
 ghost use Rattle.std.specs.Prelude.{◌≡◌, ◌+◌, ◌<◌, ◌≤◌, [], IfErr, IfOk, IfSome, IsErrOf, IsFalse, IsOk, IsTrue, None, OnErr, OnOk, Some, length};
 ghost use Rattle.thin_block.specs.Capacity.{Fits};
 ghost use Rattle.thin_block.specs.Cost.{growing};
 ghost use Rattle.thin_block.specs.Growth.{Grows, exact_capacity};
-ghost use Rattle.thin_vec.specs.List.Capacity.{Keeps, Reserves, TellsOverflow, IsMade};
+ghost use Rattle.thin_vec.specs.List.Capacity.{Keeps, Reserves, TellsOverflow, TellsOverflowOf, IsMade};
 
 use crate::list::ThinVec;
 use std::alloc::Allocator;
@@ -15,16 +15,27 @@ impl<T, A: Allocator, G: Growth> ThinVec<T, A, G> {
     ghost use Rattle.thin_vec.specs.Cheap.{IsCheap};
     ghost use Rattle.thin_vec.specs.ThinVec.{HasRoomFor, IsCause, IsWithin, capacity_for, cost_at, cost_new, exact_for};
 
-    /// Makes room for `additional` more items: where there is not room enough, the capacity becomes
-    /// the ruled one.
+    /// Reserves room for at least `additional` more items. If there is not enough room, the list
+    /// grows to the capacity that the growth rule chooses, which is at least twice the old one.
+    /// Otherwise, nothing changes.
     ///
-    /// It fails where that capacity overflows, or the allocator fails, and then nothing changes.
+    /// A growth may move the block to another address, which copies every item.
+    ///
+    /// # Errors
+    ///
+    /// Fails only if there is not enough room. Then the list is unchanged.
+    ///
+    /// - `CapacityOverflow`: the growth rule chooses no capacity, because it would be too large.
+    /// - `OutOfMemory`: the allocator failed.
+    ///
+    /// A capacity is too large if it exceeds `isize::MAX`, or if its block would take more than
+    /// `isize::MAX` bytes.
     pub fn reserve(&mut self, additional: usize) -> Result<(), ThinVecError>
         // On success.
         ensures room { OnOk result (HasRoomFor self.new additional) }
         ensures cost { OnOk result (self.new.cost ≡ cost_at self.old self.new.capacity) }
 
-        // On failure nothing changes. A call for room that is there succeeds.
+        // On failure, the list is unchanged.
         ensures succeeds { HasRoomFor self.old additional → IsOk result }
         ensures err { OnErr result (self.new ≡ self.old) }
 
@@ -39,11 +50,18 @@ impl<T, A: Allocator, G: Growth> ThinVec<T, A, G> {
         self.grow_for(additional)
     }
 
-    /// Makes room for exactly `additional` more items: where there is not room enough, the capacity
-    /// becomes the length and `additional`.
+    /// Reserves room for exactly `additional` more items. If there is not enough room, the capacity
+    /// becomes the length plus `additional`. Otherwise, nothing changes.
     ///
-    /// It fails where that capacity does not fit, or the allocator fails, and then nothing changes.
-    /// A list that grows by this call alone copies its items each time: see `reserve`.
+    /// A list that grows only by this call may copy all its items at each call. `reserve` avoids
+    /// this, because it at least doubles the capacity.
+    ///
+    /// # Errors
+    ///
+    /// Fails only if there is not enough room. Then the list is unchanged.
+    ///
+    /// - `CapacityOverflow`: the length plus `additional` is too large for a capacity.
+    /// - `OutOfMemory`: the allocator failed.
     #[tactic(auto, using(thin_block::proofs::CapacityLemmas::exact))]
     pub fn reserve_exact(&mut self, additional: usize) -> Result<(), ThinVecError>
         // On success.
@@ -52,7 +70,7 @@ impl<T, A: Allocator, G: Growth> ThinVec<T, A, G> {
             (exact_for T.row self.old additional ≡ Some self.new.capacity) }
         ensures cost { OnOk result (self.new.cost ≡ cost_at self.old self.new.capacity) }
 
-        // On failure nothing changes. A call for room that is there succeeds.
+        // On failure, the list is unchanged.
         ensures succeeds { HasRoomFor self.old additional → IsOk result }
         ensures err { OnErr result (self.new ≡ self.old) }
         ensures overflow { TellsOverflow (exact_for T.row self.old additional) result }
@@ -73,15 +91,20 @@ impl<T, A: Allocator, G: Growth> ThinVec<T, A, G> {
         }
     }
 
-    // `reserve_exact` of a list that owns no block, with no test for what it holds.
+    // Reserves room for exactly `capacity` items in a list that has no block. Unlike
+    // `reserve_exact`, it does not test for spare capacity first.
     #[tactic(auto, using(thin_block::proofs::CapacityLemmas::exact))]
     pub(crate) fn reserve_first(&mut self, capacity: usize) -> Result<(), ThinVecError>
         requires none { self.old.capacity ≡ 0 }
         requires within { IsWithin T.row self.old }
+
+        // Whether the call fails, and with which error.
         ensures succeeds_empty { capacity ≡ 0 → IsOk result }
         ensures overflow { exact_capacity T.row 0 capacity ≡ None
             → IsErrOf result ThinVecError.CapacityOverflow }
         ensures cause { IfErr result (IsCause (exact_capacity T.row 0 capacity)) }
+
+        // What the list is after the call.
         ensures changes { self.new ≡ record self.old {
           capacity = self.new.capacity;
           cost = self.new.cost;
@@ -102,16 +125,17 @@ impl<T, A: Allocator, G: Growth> ThinVec<T, A, G> {
         self.grow_to(capacity)
     }
 
-    // `reserve` for a run of items. Its test is one comparison where the run's length is known when
-    // this is compiled, as that of a literal is. (For one item the test of `reserve` is one
-    // comparison too.)
+    // Reserves room for at least `additional` more items, with the same contract as `reserve`. It
+    // is meant for a run of items. If the length of the run is known at compile time, as the
+    // length of a literal is, the test for room is one comparison. (For one item, the test in
+    // `reserve` is one comparison, too.)
     #[tactic(auto, using(thin_block::proofs::CapacityLemmas::ruled))]
     pub(crate) fn reserve_run(&mut self, additional: usize) -> Result<(), ThinVecError>
         // On success.
         ensures room { OnOk result (HasRoomFor self.new additional) }
         ensures cost { OnOk result (self.new.cost ≡ cost_at self.old self.new.capacity) }
 
-        // On failure nothing changes.
+        // On failure, the list is unchanged.
         ensures succeeds { HasRoomFor self.old additional → IsOk result }
         ensures err { OnErr result (self.new ≡ self.old) }
 
@@ -126,8 +150,9 @@ impl<T, A: Allocator, G: Growth> ThinVec<T, A, G> {
         Ok(())
     }
 
-    // Whether `additional` more items fit with no growth. No length is past `isize::MAX`, so the
-    // sum can't overflow.
+    // Returns whether there is room for `additional` more items. The sum of the length and
+    // `additional` is computed only if `additional` is at most `isize::MAX`. It cannot overflow,
+    // because the length is at most `isize::MAX`, too.
     fn has_room_for(&self, additional: usize) -> bool
         ensures within { IsWithin T.row self.now }
         ensures room { IsTrue result → HasRoomFor self.now additional }
@@ -141,11 +166,16 @@ impl<T, A: Allocator, G: Growth> ThinVec<T, A, G> {
         len + additional <= cap
     }
 
-    // `reserve` where there is not room enough.
+    // Grows the list for `additional` more items, for which there must be too little room. This
+    // part of `reserve` is a function of its own, marked as cold, because most calls find room.
     #[cold]
     fn grow_for(&mut self, additional: usize) -> Result<(), ThinVecError>
         requires more { self.old.capacity < length self.old.items + additional }
+
+        // Whether the call fails with `CapacityOverflow`.
         ensures overflow { TellsOverflow (capacity_for G.rule T.row self.old additional) result }
+
+        // What the list is after the call.
         ensures changes { self.new ≡ record self.old {
           capacity = self.new.capacity;
           cost = self.new.cost;
@@ -164,7 +194,9 @@ impl<T, A: Allocator, G: Growth> ThinVec<T, A, G> {
         }
     }
 
-    // The ruled capacity. Every one is computed here.
+    // Returns the capacity that the growth rule chooses for `additional` more items, or `None` if
+    // it chooses none. There must be too little room for these items. No other function of the list
+    // asks the growth rule.
     #[tactic(auto, using(thin_block::proofs::CapacityLemmas::ruled))]
     fn capacity_for(&self, additional: usize) -> Option<usize>
         requires more { self.now.capacity < length self.now.items + additional }
@@ -179,35 +211,48 @@ impl<T, A: Allocator, G: Growth> ThinVec<T, A, G> {
         }
     }
 
-    // Every growth is made here. (In line, as `grow` is, so that the first of a new list tests
-    // nothing.)
+    // Grows the list to the capacity `cap`. Every growth is made by this function. It is inlined,
+    // as `Block::grow` is, so that the first growth of a new list needs no test.
     #[inline(always)]
     pub(crate) fn grow_to(&mut self, cap: usize) -> Result<(), ThinVecError>
         requires larger { self.old.capacity < cap }
         requires fits { Fits T.row cap }
         requires within { IsWithin T.row self.old }
+
+        // In any case, only the capacity and the cost change.
         ensures changes { self.new ≡ record self.old {
           capacity = self.new.capacity;
           cost = self.new.cost;
         } }
+
+        // On success.
         ensures capacity { OnOk result (self.new.capacity ≡ cap) }
         ensures cost { OnOk result (self.new.cost ≡ growing (length self.old.items) self.old.cost) }
+
+        // On failure, the list is unchanged.
         ensures err { OnErr result (self.new ≡ self.old) }
         ensures cause { IfErr result (λ cause. cause ≡ ThinVecError.OutOfMemory) }
+
+        // In any case.
         ensures within { IsWithin T.row self.new }
     {
         self.block.grow(&self.alloc, cap)
     }
 
-    // An empty list of a capacity that fits, which owns no block at 0. Every list of an exact
-    // capacity begins here.
+    // Makes an empty list whose capacity is exactly `capacity`, for which `fits` must return true.
+    // At capacity 0, the list has no block. Every call that makes a list of an exact capacity uses
+    // this function, except `from_iter`, which uses `reserve_first`.
     pub(crate) fn with_fitting_capacity(
         alloc: A,
         capacity: usize,
     ) -> Result<ThinVec<T, A, G>, ThinVecError>
         requires fits { Fits T.row capacity }
+
+        // On failure.
         ensures succeeds { capacity ≡ 0 → IsOk result }
         ensures cause { IfErr result (λ cause. cause ≡ ThinVecError.OutOfMemory) }
+
+        // On success.
         ensures items { IfOk result (λ list. list.items ≡ []) }
         ensures capacity { IfOk result (λ list. list.capacity ≡ capacity) }
         ensures alloc { IfOk result (λ list. list.alloc ≡ alloc) }
@@ -231,9 +276,16 @@ impl<T, A: Allocator> ThinVec<T, A> {
     ghost use Rattle.thin_vec.specs.ThinVec.{IsCause, IsWithin, cost_new};
     ghost use Rattle.thin_vec.specs.Cheap.{IsCheap};
 
-    /// An empty list with room for exactly `capacity` items. At 0 it owns no block.
+    /// Makes an empty list with room for exactly `capacity` items. If `capacity` is 0, it allocates
+    /// nothing.
     ///
-    /// It fails where that capacity does not fit, or the allocator fails.
+    /// # Errors
+    ///
+    /// On failure, no list is made, and `alloc` is dropped.
+    ///
+    /// - `CapacityOverflow`: `capacity` exceeds `isize::MAX`, or a block of this capacity would
+    ///   take more than `isize::MAX` bytes.
+    /// - `OutOfMemory`: the allocator failed.
     #[tactic(auto, using(thin_block::proofs::CapacityLemmas::exact))]
     pub fn with_capacity(alloc: A, capacity: usize) -> Result<ThinVec<T, A>, ThinVecError>
         // On success.
@@ -244,7 +296,7 @@ impl<T, A: Allocator> ThinVec<T, A> {
 
         // On failure.
         ensures succeeds { capacity ≡ 0 → IsOk result }
-        ensures overflow { TellsOverflow (exact_capacity T.row 0 capacity) result }
+        ensures overflow { TellsOverflowOf T.row capacity result }
     {
         if !fits::<T>(capacity) {
             return Err(ThinVecError::CapacityOverflow);

@@ -1,5 +1,5 @@
-//! The calls that clone items. Each clones into spare room that it has made before, with no test
-//! per item.
+//! The methods that clone items. The room for all clones is reserved before the first one is made,
+//! so that no clone needs a test for room.
 ghost use Rattle.std.specs.Prelude.{◌≡◌, ◌⊎◌, ◌+◌, ◌<◌, ◌≤◌, [], ◌++◌, ◌-◌, All, HoldsAt, IfErr, IfOk, IsOk, OnErr, OnOk, length, slice_range, take};
 ghost use Rattle.std.specs.List.{AllZip, AppendsClones};
 ghost use Rattle.thin_block.specs.Capacity.{Fits};
@@ -16,12 +16,18 @@ impl<T: Clone, A: Allocator, G: Growth> ThinVec<T, A, G> {
     ghost use Rattle.thin_vec.specs.Cheap.{IsCheap};
     ghost use Rattle.thin_vec.specs.ThinVec.{HasRoomFor, IsWithin, cost_new};
 
-    /// Appends a clone of each of `items`, in order. For items that are `Copy`,
-    /// `extend_from_copies` is faster.
+    /// Appends a clone of each item of `items`, in order. If there is not enough spare capacity,
+    /// the list first grows to the capacity that the growth rule chooses. For items that are
+    /// `Copy`, `extend_from_copies` is faster.
     ///
-    /// It fails as `reserve` does, and then nothing changes. It fails with `OutOfMemory` also where
-    /// a clone does: the clones made before are dropped, the list has its old items, and the room
-    /// that was made stays.
+    /// # Errors
+    ///
+    /// - `CapacityOverflow`: there is not enough spare capacity, and the new capacity would be too
+    ///   large. The list is unchanged.
+    /// - `OutOfMemory`: there is not enough spare capacity, and the allocator failed. The list is
+    ///   unchanged.
+    /// - `OutOfMemory`: a clone failed. The clones already made are dropped, and the list has its
+    ///   old items. If it has grown, it keeps the new capacity.
     pub fn extend_from_slice(&mut self, items: &[T]) -> Result<(), ThinVecError>
         // On success.
         ensures items { OnOk result
@@ -30,8 +36,7 @@ impl<T: Clone, A: Allocator, G: Growth> ThinVec<T, A, G> {
             → self.new.items ≡ self.old.items ++ items.now) }
         ensures cost { OnOk result (Costs (length items.now) self.old self.new) }
 
-        // It fails if it cannot grow: then nothing changes. It fails also if a clone fails: then the
-        // clones made are dropped, the items are as before, and the new capacity stays.
+        // On failure, the items are as before.
         ensures succeeds { HasRoomFor self.old (length items.now) → All T.is_infallible items.now
             → IsOk result }
         ensures err_items { OnErr result (self.new.items ≡ self.old.items) }
@@ -39,7 +44,7 @@ impl<T: Clone, A: Allocator, G: Growth> ThinVec<T, A, G> {
         ensures err_cost { OnErr result ((self.new ≡ self.old)
             ⊎ CostsUpToClone T.is_infallible items.now self.old self.new) }
 
-        // In any case. The capacity and the cause of a failure are those of `reserve` for the clones.
+        // In any case. The capacity and any `CapacityOverflow` are as for `reserve(items.len())`.
         ensures reserves { Reserves G.rule T.row (length items.now) self.old self.new result }
         ensures keeps { Keeps T.row self.old self.new }
     {
@@ -47,12 +52,14 @@ impl<T: Clone, A: Allocator, G: Growth> ThinVec<T, A, G> {
         self.extend_from_slice_reserved(items)
     }
 
-    /// A list on `alloc` of a clone of each item, in order, under the same growth rule. Its
-    /// capacity is the length: the clone of an empty list allocates nothing. For items that are
-    /// `Copy`, `clone_copies` is faster.
+    /// Makes a list on `alloc` that has a clone of each item, in order. The new list has the same
+    /// growth rule, and its capacity is exactly the number of items. The clone of an empty list
+    /// allocates nothing. For items that are `Copy`, `clone_copies` is faster.
     ///
-    /// It fails where the allocator or the clone of an item fails, and then the clones made before
-    /// are dropped.
+    /// # Errors
+    ///
+    /// Fails with `OutOfMemory` if `alloc` or a clone fails. Then no list is made, and the clones
+    /// already made and `alloc` are dropped.
     pub fn clone(&self, alloc: A) -> Result<ThinVec<T, A, G>, ThinVecError>
         // On success.
         ensures items { IfOk result (λ list. AllZip T.is_clone self.now.items list.items) }
@@ -67,19 +74,25 @@ impl<T: Clone, A: Allocator, G: Growth> ThinVec<T, A, G> {
         ensures succeeds_empty { length self.now.items ≡ 0 → IsOk result }
         ensures cause { IfErr result (λ cause. cause ≡ ThinVecError.OutOfMemory) }
     {
-        // The number of a list's items fits.
+        // This call is only for the prover: its contract says that the number of items fits into a
+        // block.
         let _len = self.len();
         ThinVec::from_fitting_slice(alloc, self.as_slice())
     }
 
-    // A list of clones of `items`, whose number fits, with exactly that capacity.
+    // Makes a list on `alloc` that has a clone of each item of `items`, in order. Its capacity is
+    // exactly the number of items, for which `fits` must return true.
     pub(crate) fn from_fitting_slice(
         alloc: A,
         items: &[T],
     ) -> Result<ThinVec<T, A, G>, ThinVecError>
         requires fits { Fits T.row (length items.now) }
+
+        // On failure.
         ensures succeeds_empty { length items.now ≡ 0 → IsOk result }
         ensures cause { IfErr result (λ cause. cause ≡ ThinVecError.OutOfMemory) }
+
+        // On success.
         ensures items { IfOk result (λ list. AllZip T.is_clone items.now list.items) }
         ensures items_if_clones_equal { IfOk result
             (λ list. ClonesEqual T.is_clone → list.items ≡ items.now) }
@@ -97,8 +110,15 @@ impl<T: Clone, A: Allocator, G: Growth> ThinVec<T, A, G> {
         Ok(list)
     }
 
-    /// `extend_from_slice` into room that the caller has shown to be there: it fails only where a
-    /// clone does, with `OutOfMemory`. The clones made until then are dropped. (own)
+    /// Appends a clone of each item of `items`, in order, without growing. The list must have room
+    /// for the clones, as it has after `reserve`.
+    ///
+    /// This method is our own: neither Rust's `Vec` nor the Rust crate thin-vec has it.
+    ///
+    /// # Errors
+    ///
+    /// Fails with `OutOfMemory` if a clone fails. Then the clones already made are dropped, and the
+    /// list has its old items and its old capacity.
     pub fn extend_from_slice_reserved(&mut self, items: &[T]) -> Result<(), ThinVecError>
         requires room { HasRoomFor self.old (length items.now) }
 
@@ -109,7 +129,7 @@ impl<T: Clone, A: Allocator, G: Growth> ThinVec<T, A, G> {
             → self.new.items ≡ self.old.items ++ items.now) }
         ensures cost { OnOk result (self.new.cost ≡ moving (length items.now) self.old.cost) }
 
-        // It fails if a clone fails: then the clones made are dropped, and the items are as before.
+        // On failure, the items are as before.
         ensures succeeds { All T.is_infallible items.now → IsOk result }
         ensures cause { IfErr result (λ cause. cause ≡ ThinVecError.OutOfMemory) }
         ensures err_items { OnErr result (self.new.items ≡ self.old.items) }
@@ -128,8 +148,8 @@ impl<T: Clone, A: Allocator, G: Growth> ThinVec<T, A, G> {
         Ok(())
     }
 
-    // Clones of `items` go into the spare room, as many as it returns: it ends before a clone that
-    // fails.
+    // Appends clones of `items`, in order, until a clone fails, and returns the number of clones.
+    // The list must have room for a clone of every item.
     fn push_clones_reserved(&mut self, items: &[T]) -> usize
         requires room { HasRoomFor self.old (length items.now) }
         ensures in_bounds { result ≤ length items.now }
@@ -149,9 +169,20 @@ impl<T: Clone, A: Allocator, G: Growth> ThinVec<T, A, G> {
         placed
     }
 
-    /// Appends a clone of each item from `start` up to `end`, in order. (own)
+    /// Appends a clone of each item from index `start` up to, but not including, `end`, in order.
+    /// If there is not enough spare capacity, the list first grows to the capacity that the growth
+    /// rule chooses.
     ///
-    /// It fails as `extend_from_slice` does.
+    /// Rust's `Vec` has a method of this name, and the Rust crate thin-vec has none.
+    ///
+    /// # Errors
+    ///
+    /// - `CapacityOverflow`: there is not enough spare capacity, and the new capacity would be too
+    ///   large. The list is unchanged.
+    /// - `OutOfMemory`: there is not enough spare capacity, and the allocator failed. The list is
+    ///   unchanged.
+    /// - `OutOfMemory`: a clone failed. The clones already made are dropped, and the list has its
+    ///   old items. If it has grown, it keeps the new capacity.
     pub fn extend_from_within(&mut self, start: usize, end: usize) -> Result<(), ThinVecError>
         requires start_le_end { start ≤ end }
         requires in_bounds { end ≤ length self.old.items }
@@ -164,16 +195,17 @@ impl<T: Clone, A: Allocator, G: Growth> ThinVec<T, A, G> {
             → self.new.items ≡ self.old.items ++ slice_range self.old.items start end) }
         ensures cost { OnOk result (Costs (end - start) self.old self.new) }
 
-        // It fails if it cannot grow: then nothing changes. It fails also if a clone fails: then the
-        // clones made are dropped, the items are as before, and the new capacity stays.
-        ensures succeeds { HasRoomFor self.old (end - start) → All T.is_infallible (slice_range self.old.items start end)
-            → IsOk result }
+        // On failure, the items are as before.
+        ensures succeeds { HasRoomFor self.old (end - start)
+            → All T.is_infallible (slice_range self.old.items start end) → IsOk result }
         ensures err_items { OnErr result (self.new.items ≡ self.old.items) }
-        ensures err { All T.is_infallible (slice_range self.old.items start end) → OnErr result (self.new ≡ self.old) }
+        ensures err { All T.is_infallible (slice_range self.old.items start end)
+            → OnErr result (self.new ≡ self.old) }
         ensures err_cost { OnErr result ((self.new ≡ self.old)
-            ⊎ CostsUpToClone T.is_infallible (slice_range self.old.items start end) self.old self.new) }
+            ⊎ CostsUpToClone T.is_infallible (slice_range self.old.items start end)
+            self.old self.new) }
 
-        // In any case. The capacity and the cause of a failure are those of `reserve` for the clones.
+        // In any case. The capacity and any `CapacityOverflow` are as for `reserve(end - start)`.
         ensures reserves { Reserves G.rule T.row (end - start) self.old self.new result }
         ensures keeps { Keeps T.row self.old self.new }
     {
@@ -181,12 +213,15 @@ impl<T: Clone, A: Allocator, G: Growth> ThinVec<T, A, G> {
         self.extend_from_within_reserved(start, end)
     }
 
-    // `extend_from_within` into room that is there: it fails only where a clone does. The clones
-    // made until then are dropped.
+    // Appends a clone of each item from index `start` up to, but not including, `end`, in order,
+    // without growing. The list must have room for the clones. If a clone fails, the clones already
+    // made are dropped.
     fn extend_from_within_reserved(&mut self, start: usize, end: usize) -> Result<(), ThinVecError>
         requires start_le_end { start ≤ end }
         requires in_bounds { end ≤ length self.old.items }
         requires room { HasRoomFor self.old (end - start) }
+
+        // On success, which is certain if no clone can fail.
         ensures succeeds { All T.is_infallible (slice_range self.old.items start end)
             → IsOk result }
         ensures items { OnOk result (AppendsClones T.is_clone self.old.items self.new.items
@@ -194,14 +229,20 @@ impl<T: Clone, A: Allocator, G: Growth> ThinVec<T, A, G> {
         ensures items_if_clones_equal { OnOk result (ClonesEqual T.is_clone
             → self.new.items ≡ self.old.items ++ slice_range self.old.items start end) }
         ensures cost { OnOk result (self.new.cost ≡ moving (end - start) self.old.cost) }
+
+        // In any case, only the items and the cost change.
         ensures changes { self.new ≡ record self.old {
           items = self.new.items;
           cost = self.new.cost;
         } }
+
+        // On failure, the items are as before.
         ensures err_items { OnErr result (self.new.items ≡ self.old.items) }
         ensures refused { OnErr result (StopsAtClone T.is_infallible
             (slice_range self.old.items start end) self.old.cost self.new.cost) }
         ensures cause { IfErr result (λ cause. cause ≡ ThinVecError.OutOfMemory) }
+
+        // In any case.
         ensures within { IsWithin T.row self.old × IsWithin T.row self.new }
     {
         let len = self.len();
@@ -212,13 +253,17 @@ impl<T: Clone, A: Allocator, G: Growth> ThinVec<T, A, G> {
         Ok(())
     }
 
-    // Clones of the items from `start` up to `end` go into the spare room, as many as it returns:
-    // it ends before a clone that fails. It reads the list that it fills, so each length is stored.
+    // Appends clones of the items from index `start` up to, but not including, `end`, in order,
+    // until a clone fails, and returns the number of clones. The list must have room for a clone of
+    // each of these items. The items are read from the list that is filled, so the length is stored
+    // after each clone.
     fn push_clones_within(&mut self, start: usize, end: usize) -> usize
         requires start_le_end { start ≤ end }
         requires in_bounds { end ≤ length self.old.items }
         requires room { HasRoomFor self.old (end - start) }
         requires within { IsWithin T.row self.old }
+
+        // The clones that are appended.
         ensures in_bounds { result ≤ end - start }
         ensures items { AppendsClones T.is_clone self.old.items self.new.items
             (take result (slice_range self.old.items start end)) }
@@ -227,8 +272,12 @@ impl<T: Clone, A: Allocator, G: Growth> ThinVec<T, A, G> {
           items = self.new.items;
           cost = moving result self.old.cost;
         } }
+
+        // If some clones are missing, the clone of the next item can fail.
         ensures refused { result < end - start → HoldsAt (λ x. ¬ (T.is_infallible x))
             (slice_range self.old.items start end) result }
+
+        // In any case.
         ensures within { IsWithin T.row self.new }
     {
         let count = end - start;
@@ -247,6 +296,8 @@ impl<T: Clone, A: Allocator + Copy, G: Growth> Clone for ThinVec<T, A, G> {
 
     ghost is_infallible = { λ list. list.items ≡ [] };
 
+    // Clones the list onto a copy of its allocator. The cause of a failure is lost, because
+    // `AllocError` has no field for it.
     fn clone(&self) -> Result<Self, AllocError> {
         match ThinVec::clone(self, *self.allocator()) {
             Ok(other) => Ok(other),

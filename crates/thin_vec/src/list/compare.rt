@@ -1,5 +1,6 @@
-//! How lists are compared, hashed and printed: as slices of their items, whatever their capacities
-//! and costs.
+//! Comparing, hashing and printing lists. A list is compared, hashed and printed as the slice of
+//! its items: its capacity and its cost have no effect. The traits `Emptied` and `MadeWith`
+//! make empty lists.
 ghost use Rattle.std.specs.Cmp.{on_equiv, on_per, on_po, on_total};
 ghost use Rattle.std.specs.Cmp.Lexicographic.{lists_agrees, lists_equiv, lists_per, lists_po, lists_ties, lists_total, pointwise, slice_cmp, slice_partial_cmp};
 ghost use Rattle.std.specs.Hash as fed;
@@ -43,7 +44,8 @@ impl<T: Ord, A: Allocator, G: Growth> Ord for ThinVec<T, A, G> {
 
     ghost total = { on_total (λ list. list.items) (lists_total T.total) };
 
-    ghost matches_partial_cmp = { λ list other. lists_agrees T.matches_partial_cmp list.items other.items };
+    ghost matches_partial_cmp = { λ list other.
+        lists_agrees T.matches_partial_cmp list.items other.items };
 
     ghost matches_eq = { λ list other. lists_ties T.cmp T.matches_eq list.items other.items };
 
@@ -55,7 +57,8 @@ impl<T: Ord, A: Allocator, G: Growth> Ord for ThinVec<T, A, G> {
 impl<T: Hash, A: Allocator, G: Growth> Hash for ThinVec<T, A, G> {
     ghost hash_input = { λ list. fed.slice T.hash_input list.items };
 
-    ghost respects_eq = { (on_Alike (λ list. list.items) (items_Alike (record { fed = T.respects_eq }))).fed };
+    ghost respects_eq = { (on_Alike (λ list. list.items)
+        (items_Alike (record { fed = T.respects_eq }))).fed };
 
     fn hash<H: Hasher>(&self, state: &mut H) {
         self.as_slice().hash(state);
@@ -63,7 +66,7 @@ impl<T: Hash, A: Allocator, G: Growth> Hash for ThinVec<T, A, G> {
 }
 
 impl<T: fmt::Debug, A: Allocator, G: Growth> fmt::Debug for ThinVec<T, A, G> {
-    // As the slice is printed.
+    // Prints the list as the slice of its items is printed.
     fn fmt<W: fmt::Write>(&self, f: &mut fmt::Formatter<W>) -> fmt::Result {
         self.as_slice().fmt(f)
     }
@@ -72,6 +75,8 @@ impl<T: fmt::Debug, A: Allocator, G: Growth> fmt::Debug for ThinVec<T, A, G> {
 impl<T, A: Allocator + Clone, G: Growth> Emptied for ThinVec<T, A, G> {
     ghost is_emptied = { λ list. list.items ≡ [] };
 
+    // Makes an empty list with a clone of the allocator of `like`. Fails if that clone fails. This
+    // function is called by std's `mem::try_take`.
     fn emptied(like: &ThinVec<T, A, G>) -> Result<ThinVec<T, A, G>, AllocError> {
         Ok(ThinVec::ruled(like.allocator().clone()?))
     }
@@ -80,6 +85,8 @@ impl<T, A: Allocator + Clone, G: Growth> Emptied for ThinVec<T, A, G> {
 impl<T, A: Allocator, G: Growth> MadeWith<A> for ThinVec<T, A, G> {
     ghost is_made_with = { λ list. list.items ≡ [] };
 
+    // Makes an empty list that keeps `alloc`. The method `or_default` of std's maps calls this
+    // function.
     fn made_with(alloc: A) -> ThinVec<T, A, G> {
         ThinVec::ruled(alloc)
     }

@@ -1,4 +1,4 @@
-//! The calls that copy items, where these are `Copy`: they come in as one run.
+//! The methods that copy items of a `Copy` type. They copy the items as one run.
 ghost use Rattle.std.specs.Prelude.{◌≡◌, ◌+◌, ◌<◌, ◌++◌, IfErr, IfOk, IsOk, OnErr, OnOk, length};
 ghost use Rattle.thin_block.specs.Cost.{moving};
 ghost use Rattle.thin_vec.specs.List.Capacity.{Costs, Keeps, Reserves, IsMade};
@@ -10,19 +10,28 @@ use thin_block::{Growth, ThinVecError};
 impl<T: Copy, A: Allocator, G: Growth> ThinVec<T, A, G> {
     ghost use Rattle.thin_vec.specs.ThinVec.{HasRoomFor, cost_new};
 
-    /// `extend_from_slice` of items that are copied: they come in as one run. (own)
+    /// Appends a copy of each item of `items`, in order. If there is not enough spare capacity, the
+    /// list first grows to the capacity that the growth rule chooses. The items are copied as one
+    /// run, which is faster than `extend_from_slice`.
     ///
-    /// It fails as `reserve` does, and then nothing changes.
+    /// This method is our own: neither Rust's `Vec` nor the Rust crate thin-vec has it.
+    ///
+    /// # Errors
+    ///
+    /// Fails only if there is not enough spare capacity. Then the list is unchanged.
+    ///
+    /// - `CapacityOverflow`: the new capacity would be too large.
+    /// - `OutOfMemory`: the allocator failed.
     pub fn extend_from_copies(&mut self, items: &[T]) -> Result<(), ThinVecError>
         // On success.
         ensures items { OnOk result (self.new.items ≡ self.old.items ++ items.now) }
         ensures cost { OnOk result (Costs (length items.now) self.old self.new) }
 
-        // On failure nothing changes. Into spare capacity it succeeds.
+        // On failure, the list is unchanged.
         ensures succeeds { HasRoomFor self.old (length items.now) → IsOk result }
         ensures err { OnErr result (self.new ≡ self.old) }
 
-        // In any case. The capacity and the cause of a failure are those of `reserve` for the items.
+        // In any case. The capacity and the cause of a failure are as for `reserve(items.len())`.
         ensures reserves { Reserves G.rule T.row (length items.now) self.old self.new result }
         ensures keeps { Keeps T.row self.old self.new }
     {
@@ -34,9 +43,15 @@ impl<T: Copy, A: Allocator, G: Growth> ThinVec<T, A, G> {
         Ok(())
     }
 
-    /// `clone` of items that are copied: they come over as one run. (own)
+    /// Makes a list on `alloc` that has a copy of each item, in order. The new list has the same
+    /// growth rule, and its capacity is exactly the number of items. The copy of an empty list
+    /// allocates nothing. The items are copied as one run, which is faster than `clone`.
     ///
-    /// It fails only where the allocator does.
+    /// This method is our own: neither Rust's `Vec` nor the Rust crate thin-vec has it.
+    ///
+    /// # Errors
+    ///
+    /// Fails with `OutOfMemory` if `alloc` fails. Then no list is made, and `alloc` is dropped.
     pub fn clone_copies(&self, alloc: A) -> Result<ThinVec<T, A, G>, ThinVecError>
         // On success.
         ensures items { IfOk result (λ list. list.items ≡ self.now.items) }
@@ -54,8 +69,10 @@ impl<T: Copy, A: Allocator, G: Growth> ThinVec<T, A, G> {
         Ok(list)
     }
 
-    /// `extend_from_copies` into room that the caller has shown to be there: it returns no
-    /// `Result`. (own)
+    /// Appends a copy of each item of `items`, in order, without growing. The list must have room
+    /// for the items, as it has after `reserve`. So the call cannot fail, and returns no `Result`.
+    ///
+    /// This method is our own: neither Rust's `Vec` nor the Rust crate thin-vec has it.
     pub fn extend_from_copies_reserved(&mut self, items: &[T])
         requires room { HasRoomFor self.old (length items.now) }
         ensures items { self.new.items ≡ self.old.items ++ items.now }

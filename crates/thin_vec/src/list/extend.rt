@@ -1,16 +1,15 @@
-//! Lists that take the items of an iterator.
-ghost use Rattle.std.specs.Prelude.{◌≡◌, ◌+◌, ◌-◌, ◌<◌, ◌≤◌, ◌⊎◌, List, ◌++◌, IfErr, IfOk, IsOk, IsSome, None, OnErr, OnOk, OnSome, length, true, false, ℕ};
+//! The calls that add the items of an iterator to a list.
+ghost use Rattle.std.specs.Prelude.{◌≡◌, ◌+◌, ◌-◌, ◌<◌, ◌≤◌, List, ◌++◌, ◌↔◌, IfErr, IfOk, IsOk, IsSome, MatchOption, None, OnErr, OnOk, OnSome, length};
 ghost use Rattle.std.specs.Iterator.Runs.{SomeRun, WholeRun};
 ghost use Rattle.std.specs.Iterator.{Drains, IsFinite, YieldsThen, size};
 ghost use Rattle.std.specs.Option.{option_to_list};
 ghost use Rattle.thin_block.specs.Cost.{moving};
 ghost use Rattle.thin_block.specs.Growth.{doubling};
-ghost use Rattle.thin_block.specs.Slots.{full, laid, slot};
 ghost use Rattle.thin_vec.specs.Cheap.{IsCheap};
-ghost use Rattle.thin_vec.specs.List.Extend.{Extends, GaveUp, IsCollected, IsExtended, IsExtendCost, IsLoose, IsMadeOf, IsNamed, MustOverflow, MustOverflowNew, Overflows, OverflowsNew};
+ghost use Rattle.thin_vec.specs.List.Capacity.{Keeps};
+ghost use Rattle.thin_vec.specs.List.Extend.{Extends, GrowsFor, IsCollectCause, IsCollectedList, IsExtendCause, IsExtendCost, IsKeptOrRuled, IsLoose, IsMadeOf, PausedAfter};
 ghost use Rattle.thin_vec.specs.Put.{IsFilledBy};
-ghost use Rattle.thin_vec.specs.ThinVec.{HasRoomFor, IsCause, IsNew, IsWithin, capacity_for};
-ghost use Rattle.std.specs.Iterator.SizeHint.{IsWithinCount};
+ghost use Rattle.thin_vec.specs.ThinVec.{HasRoomFor, IsNew, IsWithin, capacity_for};
 
 use crate::errors::{CollectRefused, ExtendRefused, Rejected};
 use crate::list::ThinVec;
@@ -21,55 +20,55 @@ use std::mem;
 use thin_block::{Block, Growth, ThinVecError};
 
 impl<T, A: Allocator, G: Growth> ThinVec<T, A, G> {
-    /// Appends the items that `iter` yields before its first `None`, after which it is not asked
-    /// again.
+    /// Appends the items that `iter` yields before its first `None`, after which the iterator is not
+    /// asked again.
     ///
-    /// It asks for the hint once, and makes room for its lower bound. Then it places items while
-    /// there is room, and pushes each further one. It fails as `reserve` and `push` do: what was
-    /// placed stays, and the item for which there was no room is returned with the rest of the
-    /// iterator.
+    /// First, it asks `iter` for its size hint, once, and reserves room for the lower bound. Then it
+    /// moves items into the spare capacity, and pushes each further one. So it cannot fail if there
+    /// is room for as many items as the iterator may yield.
+    ///
+    /// # Errors
+    ///
+    /// The cause is `CapacityOverflow` if there is no ruled capacity for what was needed (the rule G
+    /// gives a larger capacity than a block can have, or none), and `OutOfMemory` if the allocator
+    /// refuses a block. There are two cases:
+    ///
+    /// - The room for the lower bound cannot be reserved. Then the list is unchanged, `in_hand` is
+    ///   `None`, and `rest` is the whole iterator.
+    /// - A further item cannot be pushed. Then the list keeps the items that were placed, and it is
+    ///   full; `in_hand` is the item without room, and `rest` yields the items after it.
     pub fn extend<I: Iterator<Item = T>>(&mut self, iter: I) -> Result<(), ExtendRefused<T, I>>
         requires can_next { I.can_next iter }
         requires finite { IsFinite (I.remaining iter) }
-        ensures succeeds { HasRoomFor self.old (size (I.remaining iter)) → IsOk result }
-        ensures succeeds_empty { size (I.remaining iter) ≡ 0 → IsOk result }
-        ensures overflow { IfErr result
-            (λ refused. MustOverflow G.rule T.row self.new refused.in_hand
-            (I.remaining refused.rest) → refused.cause ≡ ThinVecError.CapacityOverflow) }
-        ensures cause { IfErr result (λ refused. refused.cause ≡ ThinVecError.CapacityOverflow
-            → Overflows G.rule T.row self.new refused.in_hand (I.remaining refused.rest)) }
+
+        // On success.
         ensures items { OnOk result ((xs : List T) × Drains I.next_gives iter xs
             × (self.new.items ≡ self.old.items ++ xs)) }
         ensures runs { OnOk result
             (WholeRun I.next_gives iter (λ p. self.new.items ≡ self.old.items ++ p.items)) }
 
-        // Whether it fails or not, each item that came in has moved once.
-        ensures capacity { IsLoose G.rule T.row self.old.capacity self.new.capacity }
-        ensures named { IsExtended G.rule T.row self.old self.new.capacity (length self.new.items)
-            (I.remaining iter) }
-        ensures had_room { HasRoomFor self.old (size (I.remaining iter))
-            → self.new.capacity ≡ self.old.capacity }
-        ensures cost { IsExtendCost self.old self.new }
-        ensures alloc { self.new.alloc ≡ self.old.alloc }
-        ensures cheap { IsCheap self.old → IsCheap self.new }
+        // When it must succeed.
+        ensures succeeds { HasRoomFor self.old (size (I.remaining iter)) → IsOk result }
 
-        // Where it fails, no item is lost. One is in hand only where the list is full; otherwise
-        // nothing happened.
-        ensures placed { IfErr result (λ refused. (xs : List T)
+        // On failure, no item is lost.
+        ensures placed { IfErr result (λ error. (xs : List T)
             × (self.new.items ≡ self.old.items ++ xs)
-            × GaveUp I.next_gives iter xs refused.in_hand refused.rest) }
+            × PausedAfter I.next_gives I.can_next I.remaining iter
+            (xs ++ option_to_list error.in_hand) error.rest) }
         ensures runs_err { IfErr result
-            (λ refused. SomeRun I.next_gives iter
+            (λ error. SomeRun I.next_gives iter
             (λ p. (xs : List T) × (self.new.items ≡ self.old.items ++ xs)
-            × (p.items ≡ xs ++ option_to_list refused.in_hand))) }
-        ensures rest { IfErr result (λ refused. I.can_next refused.rest
-            × IsFinite (I.remaining refused.rest)) }
-        ensures full { IfErr result (λ refused. IsSome refused.in_hand
-            → length self.new.items ≡ self.new.capacity) }
-        ensures err { IfErr result (λ refused. refused.in_hand ≡ None → (self.new ≡ self.old)
-            × (refused.rest ≡ iter)) }
-        ensures never_less { self.old.capacity ≤ self.new.capacity }
-        ensures within { IsWithin T.row self.old × IsWithin T.row self.new }
+            × (p.items ≡ xs ++ option_to_list error.in_hand))) }
+        ensures in_hand { IfErr result (λ error. MatchOption error.in_hand
+            ((self.new ≡ self.old) × (error.rest ≡ iter))
+            (λ _. length self.new.items ≡ self.new.capacity)) }
+        ensures cause { IfErr result
+            (λ error. IsExtendCause G.rule T.row self.new (I.remaining error.rest) error) }
+
+        // In any case.
+        ensures capacity { GrowsFor G.rule T.row self.old self.new (I.remaining iter) }
+        ensures cost { IsExtendCost self.old self.new }
+        ensures keeps { Keeps T.row self.old self.new }
     {
         match self.reserve(iter.size_hint().0) {
             Ok(()) => self.extend_unhinted(iter),
@@ -81,7 +80,7 @@ impl<T, A: Allocator, G: Growth> ThinVec<T, A, G> {
         }
     }
 
-    // `extend` that asks for no hint.
+    // Appends the items that `iter` yields, as `extend` does, but does not ask for a size hint.
     pub(crate) fn extend_unhinted<I: Iterator<Item = T>>(
         &mut self,
         iter: I,
@@ -89,30 +88,32 @@ impl<T, A: Allocator, G: Growth> ThinVec<T, A, G> {
         requires can_next { I.can_next iter }
         requires finite { IsFinite (I.remaining iter) }
         requires within { IsWithin T.row self.old }
-        ensures succeeds { HasRoomFor self.old (size (I.remaining iter)) → IsOk result }
-        ensures overflow { IfErr result (λ refused. capacity_for G.rule T.row self.new 1 ≡ None
-            → refused.cause ≡ ThinVecError.CapacityOverflow) }
-        ensures cause { IfErr result
-            (λ refused. IsCause (capacity_for G.rule T.row self.new 1) refused.cause) }
+
+        // On success.
         ensures items { OnOk result ((xs : List T) × Drains I.next_gives iter xs
             × (self.new.items ≡ self.old.items ++ xs)) }
-        ensures capacity { IsLoose G.rule T.row self.old.capacity self.new.capacity }
+
+        // When it must succeed.
+        ensures succeeds { HasRoomFor self.old (size (I.remaining iter)) → IsOk result }
+
+        // On failure, no item is lost.
+        ensures placed { IfErr result (λ error. (xs : List T)
+            × (self.new.items ≡ self.old.items ++ xs)
+            × PausedAfter I.next_gives I.can_next I.remaining iter
+            (xs ++ option_to_list error.in_hand) error.rest) }
+        ensures in_hand { IfErr result (λ error. IsSome error.in_hand) }
+        ensures full { OnErr result (length self.new.items ≡ self.new.capacity) }
+        ensures cause { IfErr result
+            (λ error. IsExtendCause G.rule T.row self.new (I.remaining error.rest) error) }
+
+        // In any case.
         ensures had_room { HasRoomFor self.old (size (I.remaining iter))
             → self.new.capacity ≡ self.old.capacity }
-        ensures cost { IsExtendCost self.old self.new }
-        ensures alloc { self.new.alloc ≡ self.old.alloc }
-        ensures cheap { IsCheap self.old → IsCheap self.new }
-        ensures placed { IfErr result (λ refused. (xs : List T)
-            × (self.new.items ≡ self.old.items ++ xs)
-            × GaveUp I.next_gives iter xs refused.in_hand refused.rest) }
-        ensures rest { IfErr result (λ refused. I.can_next refused.rest
-            × IsFinite (I.remaining refused.rest)) }
-        ensures named { IsNamed G.rule T.row self.old.capacity self.new.capacity
+        ensures loose { IsLoose G.rule T.row self.old.capacity self.new.capacity }
+        ensures ruled { IsKeptOrRuled G.rule T.row self.old.capacity self.new.capacity
             (length self.new.items) }
-        ensures in_hand { IfErr result (λ refused. IsSome refused.in_hand) }
-        ensures full { OnErr result (length self.new.items ≡ self.new.capacity) }
-        ensures never_less { self.old.capacity ≤ self.new.capacity }
-        ensures within { IsWithin T.row self.new }
+        ensures cost { IsExtendCost self.old self.new }
+        ensures keeps { Keeps T.row self.old self.new }
     {
         let mut rest = iter;
         loop {
@@ -135,23 +136,30 @@ impl<T, A: Allocator, G: Growth> ThinVec<T, A, G> {
         }
     }
 
-    // Fills the spare room, and draws one item more, which it returns with the iterator.
+    // Moves the items that `iter` yields into the spare capacity, and then draws one item more if the
+    // iterator has not ended. Returns the iterator and that item.
     fn extend_reserved<I: Iterator<Item = T>>(&mut self, iter: I) -> (I, Option<T>)
         requires can_next { I.can_next iter }
         requires finite { IsFinite (I.remaining iter) }
+
+        // What the iterator yielded, and what the list then is.
         ensures items { (xs : List T) × (self.new.items ≡ self.old.items ++ xs)
             × YieldsThen I.next_gives iter xs result.1 result.0 }
         ensures changes { self.new ≡ record self.old {
           items = self.new.items;
           cost = moving (length self.new.items - length self.old.items) self.old.cost;
         } }
-        ensures room { length self.new.items ≤ self.new.capacity }
-        ensures cheap { IsCheap self.old → IsCheap self.new }
+
+        // If it returns an item, the list is full, and the iterator is nearer to its end.
+        ensures full { OnSome result.1 (length self.new.items ≡ self.new.capacity) }
         ensures rest { OnSome result.1 (I.can_next result.0 × IsFinite (I.remaining result.0)) }
         ensures nearer { OnSome result.1
             (length self.new.items + size (I.remaining result.0) < length self.old.items + size
             (I.remaining iter)) }
-        ensures full { OnSome result.1 (length self.new.items ≡ self.new.capacity) }
+
+        // In any case.
+        ensures room { length self.new.items ≤ self.new.capacity }
+        ensures cheap { IsCheap self.old → IsCheap self.new }
         ensures within { IsWithin T.row self.old × IsWithin T.row self.new }
     {
         let Filled {
@@ -166,8 +174,8 @@ impl<T, A: Allocator, G: Growth> ThinVec<T, A, G> {
         (rest, extra)
     }
 
-    // Fills the spare capacity with the items that `iter` yields, and stores the length once. The
-    // `end` of the result is the length.
+    // Moves the items that `iter` yields into the spare capacity, and stores the length once. The
+    // `end` of the result is the new length.
     fn fill_spare<I: Iterator<Item = T>>(&mut self, iter: I) -> Filled<I>
         requires can_next { I.can_next iter }
         requires finite { IsFinite (I.remaining iter) }
@@ -192,56 +200,53 @@ impl<T, A: Allocator, G: Growth> ThinVec<T, A, G> {
 }
 
 impl<T, A: Allocator> ThinVec<T, A> {
-    /// A list of the items that `iter` yields before its first `None`, after which it is not asked
-    /// again.
+    /// Makes a list on `alloc` of the items that `iter` yields before its first `None`, after which
+    /// the iterator is not asked again.
     ///
-    /// It asks for the hint once, and the list begins with its lower bound as capacity. It fails as
-    /// `with_capacity` and `push` do, and returns the list of what was placed, the item for which
-    /// there was no room, and the rest of the iterator.
+    /// First, it asks `iter` for its size hint, once, and makes a block with exactly as many places
+    /// as the lower bound says. Then it moves items into the places, and pushes each further one. So
+    /// it cannot fail if the iterator yields no item.
+    ///
+    /// # Errors
+    ///
+    /// The cause is `CapacityOverflow` if there is no capacity for what was needed, and
+    /// `OutOfMemory` if the allocator refuses a block. There are two cases:
+    ///
+    /// - The first block cannot be made. Then `list` is a new list, `in_hand` is `None`, and `rest`
+    ///   is the whole iterator.
+    /// - A further item cannot be pushed. Then `list` has the items that were placed, and it is full;
+    ///   `in_hand` is the item without room, and `rest` yields the items after it.
     pub fn from_iter<I: Iterator<Item = T>>(
         alloc: A,
         iter: I,
     ) -> Result<ThinVec<T, A>, CollectRefused<T, I, A>>
         requires can_next { I.can_next iter }
         requires finite { IsFinite (I.remaining iter) }
-        ensures succeeds { size (I.remaining iter) ≡ 0 → IsOk result }
-        ensures overflow { IfErr result
-            (λ refused. MustOverflowNew doubling T.row refused.list refused.in_hand
-            (I.remaining refused.rest) → refused.cause ≡ ThinVecError.CapacityOverflow) }
-        ensures cause { IfErr result (λ refused. refused.cause ≡ ThinVecError.CapacityOverflow
-            → OverflowsNew doubling T.row refused.list refused.in_hand (I.remaining refused.rest)) }
+
+        // On success.
         ensures items { IfOk result (λ list. Drains I.next_gives iter list.items) }
         ensures runs { IfOk result
             (λ list. WholeRun I.next_gives iter (λ p. list.items ≡ p.items)) }
-        ensures capacity { size (I.remaining iter) ≡ 0 → IfOk result (λ list. list.capacity ≡ 0) }
-        ensures named { IfOk result (λ list. IsCollected doubling T.row list.capacity
-            (length list.items) (I.remaining iter)) }
-        ensures moves { IfOk result (λ list. list.cost.moves ≡ length list.items) }
-        ensures alloc { IfOk result (λ list. list.alloc ≡ alloc) }
-        ensures cheap { IfOk result (λ list. IsCheap list) }
+        ensures list { IfOk result
+            (λ list. IsCollectedList doubling T.row alloc list (I.remaining iter)) }
 
-        // Where it fails, no item is lost. One is in hand only where the list is full; otherwise
-        // nothing happened.
+        // When it must succeed.
+        ensures succeeds { size (I.remaining iter) ≡ 0 → IsOk result }
+
+        // On failure, no item is lost.
         ensures placed { IfErr result
-            (λ refused. GaveUp I.next_gives iter refused.list.items refused.in_hand refused.rest) }
+            (λ error. PausedAfter I.next_gives I.can_next I.remaining iter
+            (error.list.items ++ option_to_list error.in_hand) error.rest) }
         ensures runs_err { IfErr result
-            (λ refused. SomeRun I.next_gives iter
-            (λ p. p.items ≡ refused.list.items ++ option_to_list refused.in_hand)) }
-        ensures rest { IfErr result (λ refused. I.can_next refused.rest
-            × IsFinite (I.remaining refused.rest)) }
-        ensures full { IfErr result (λ refused. IsSome refused.in_hand
-            → length refused.list.items ≡ refused.list.capacity) }
-        ensures err { IfErr result (λ refused. refused.in_hand ≡ None → IsNew refused.list alloc
-            × (refused.rest ≡ iter)) }
-        ensures err_named { IfErr result
-            (λ refused. IsCollected doubling T.row refused.list.capacity (length refused.list.items)
-            (I.remaining iter)) }
-        ensures err_moves { IfErr result
-            (λ refused. refused.list.cost.moves ≡ length refused.list.items) }
-        ensures err_alloc { IfErr result (λ refused. refused.list.alloc ≡ alloc) }
-        ensures err_cheap { IfErr result (λ refused. IsCheap refused.list) }
-        ensures within { IfOk result (λ list. IsWithin T.row list) }
-        ensures err_within { IfErr result (λ refused. IsWithin T.row refused.list) }
+            (λ error. SomeRun I.next_gives iter
+            (λ p. p.items ≡ error.list.items ++ option_to_list error.in_hand)) }
+        ensures in_hand { IfErr result (λ error. MatchOption error.in_hand
+            (IsNew error.list alloc × (error.rest ≡ iter))
+            (λ _. length error.list.items ≡ error.list.capacity)) }
+        ensures err_list { IfErr result
+            (λ error. IsCollectedList doubling T.row alloc error.list (I.remaining iter)) }
+        ensures cause { IfErr result
+            (λ error. IsCollectCause doubling T.row (I.remaining error.rest) error) }
     {
         let mut list = ThinVec::new(alloc);
         match list.reserve_first(iter.size_hint().0) {
@@ -277,7 +282,7 @@ impl<T, A: Allocator> ThinVec<T, A> {
 impl<T: Drop, A: Allocator, G: Growth> Extend<T> for ThinVec<T, A, G> {
     ghost extend_gives = { Extends G.rule T.row };
 
-    // Where it fails, what was not placed is dropped.
+    // On failure, the item in hand and the rest of the iterator are dropped.
     fn extend<U: IntoIterator<Item = T>>(&mut self, iter: U) -> Result<(), AllocError> {
         match ThinVec::extend(self, iter.into_iter()) {
             Ok(()) => Ok(()),
@@ -291,7 +296,7 @@ impl<T: Drop, A: Allocator> FromIterator<T> for ThinVec<T, A> {
 
     ghost from_iter_gives = { IsMadeOf T.row };
 
-    // Where it fails, what was drawn is dropped.
+    // On failure, the drawn items and the rest of the iterator are dropped.
     fn from_iter<U: IntoIterator<Item = T>>(
         alloc: A,
         iter: U,

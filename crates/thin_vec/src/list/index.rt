@@ -1,4 +1,5 @@
-//! The standard traits at `ThinVec`: indexing, and iteration over a borrowed list.
+//! Access to a list by std's traits: as a slice, by an index, and by iteration over a borrowed
+//! list.
 ghost use Rattle.std.specs.Prelude.{◌≡◌, ◌^◌, ◌<◌, ◌↔◌, IfSome, IsSome, Some, length, slice_get, slice_index_or};
 ghost use Rattle.std.specs.Iterator.Runs.{EveryRun, ItemsMapTo};
 ghost use Rattle.std.specs.Slice.Iter.{iter_mut_rest, iter_mut_steps, iter_rest, iter_steps};
@@ -50,7 +51,8 @@ impl<T, A: Allocator, G: Growth> Index<usize> for ThinVec<T, A, G> {
 
     ghost can_index = { λ list index. index < length list.items };
 
-    ghost index_gives = { λ list index item. (slice_get list.items index ≡ Some item) × (item ≡ slice_index_or list.items index item) };
+    ghost index_gives = { λ list index item. (slice_get list.items index ≡ Some item)
+        × (item ≡ slice_index_or list.items index item) };
 
     fn index(&self, index: usize) -> &T
         requires { index < length self.now.items }
@@ -63,7 +65,8 @@ impl<T, A: Allocator, G: Growth> Index<usize> for ThinVec<T, A, G> {
 }
 
 impl<T, A: Allocator, G: Growth> IndexMut<usize> for ThinVec<T, A, G> {
-    // What is written is what the list holds at `index` afterwards.
+    // Returns a mutable reference to the item at `index`. What the caller writes through the
+    // reference is written to the item of the list.
     fn index_mut(&mut self, index: usize) -> &mut T
         requires { index < length self.old.items }
         ensures* writes_back { sem 𝓛
@@ -72,13 +75,18 @@ impl<T, A: Allocator, G: Growth> IndexMut<usize> for ThinVec<T, A, G> {
         ensures item { result.now ≡ slice_index_or self.old.items index result.now }
         ensures within { IsWithin T.row self.old }
     {
+        // This call is only for the prover: its contract gives the bounds that the clause `within`
+        // states.
         let _len = self.block.len();
         self.block.slot_mut(index)
     }
 }
 
 impl<T, A: Allocator, G: Growth> ThinVec<T, A, G> {
-    /// The item at `index`, to be written, or `None` where there is none.
+    /// Returns a mutable reference to the item at `index`, or `None` if there is no such item. What
+    /// the caller writes through the reference is written to the item of the list.
+    ///
+    /// A list of the Rust crate thin-vec has this method through its slice.
     pub fn get_mut(&mut self, index: usize) -> Option<&mut T>
         ensures* writes_back { sem 𝓛
             (LendsGet T.row A.row G.row A.Allocator G.Growth self.entry index result) }
@@ -98,7 +106,8 @@ impl<'a, T, A: Allocator, G: Growth> IntoIterator for &'a ThinVec<T, A, G> {
 
     type IntoIter = Iter<'a, T>;
 
-    ghost into_iter_gives = { λ list it. (iter_rest it ≡ list.now.items) × (length (iter_rest it) < 2 ^ 64)
+    ghost into_iter_gives = { λ list it. (iter_rest it ≡ list.now.items)
+        × (length (iter_rest it) < 2 ^ 64)
         × EveryRun (iter_steps {A = T}) (λ p. ItemsMapTo p (λ x. x.now) (iter_rest p.from)) };
 
     fn into_iter(self) -> Iter<'a, T> {
@@ -111,15 +120,20 @@ impl<'a, T, A: Allocator, G: Growth> IntoIterator for &'a mut ThinVec<T, A, G> {
 
     type IntoIter = IterMut<'a, T>;
 
-    ghost into_iter_gives = { λ list it. (iter_mut_rest it ≡ list.now.items) × (length (iter_mut_rest it) < 2 ^ 64)
-        × EveryRun (iter_mut_steps {A = T}) (λ p. ItemsMapTo p (λ x. x.now) (iter_mut_rest p.from)) };
+    ghost into_iter_gives = { λ list it. (iter_mut_rest it ≡ list.now.items)
+        × (length (iter_mut_rest it) < 2 ^ 64)
+        × EveryRun (iter_mut_steps {A = T})
+        (λ p. ItemsMapTo p (λ x. x.now) (iter_mut_rest p.from)) };
 
-    // What is written to the items is what the list holds afterwards.
+    // Returns an iterator over mutable references to the items, in order. What the caller writes
+    // through a reference is written to the item of the list.
     fn into_iter(self) -> IterMut<'a, T>
         ensures* writes_back { sem 𝓛
             (LendsIter T.row A.row G.row A.Allocator G.Growth self.entry result) }
-        ensures into_iter_gives { (iter_mut_rest result ≡ self.old.items) × (length (iter_mut_rest result) < 2 ^ 64)
-            × EveryRun (iter_mut_steps {A = T}) (λ p. ItemsMapTo p (λ x. x.now) (iter_mut_rest p.from)) }
+        ensures into_iter_gives { (iter_mut_rest result ≡ self.old.items)
+            × (length (iter_mut_rest result) < 2 ^ 64)
+            × EveryRun (iter_mut_steps {A = T})
+            (λ p. ItemsMapTo p (λ x. x.now) (iter_mut_rest p.from)) }
     {
         self.as_mut_slice().iter_mut()
     }

@@ -1,4 +1,4 @@
-//! The calls by which one item goes in or out, or the rest of a list goes.
+//! The methods that insert or remove one item, and `truncate` and `clear`.
 ghost use Rattle.std.specs.Prelude.{◌≡◌, ◌+◌, ◌-◌, ◌<◌, ◌≤◌, ◌==◌, [], ◌∷◌, ◌++◌, IfErr, IfOk, IsOk, None, OnErr, OnOk, Some, if◌then◌else◌, insert, length, remove, slice_get, take};
 ghost use Rattle.std.specs.List.{swap_remove};
 ghost use Rattle.std.specs.List.Retain.{PopsIf};
@@ -15,10 +15,17 @@ use thin_block::{Growth, ThinVecError};
 impl<T, A: Allocator, G: Growth> ThinVec<T, A, G> {
     ghost use Rattle.thin_vec.specs.ThinVec.{HasRoomFor, IsWithin, capacity_for};
 
-    /// Puts `value` at `index`, and moves the items from there on one place back. The list owns it
-    /// afterwards.
+    /// Inserts `value` at `index`, which is at most the length, and moves the items from `index` on
+    /// back by one place. The list then owns `value`. If there is no spare capacity, the list first
+    /// grows to the capacity that the growth rule chooses.
     ///
-    /// It fails as `push` does.
+    /// # Errors
+    ///
+    /// Fails only if there is no spare capacity. Then the list is unchanged, and the error holds
+    /// `value`, which the caller owns again.
+    ///
+    /// - `CapacityOverflow`: the new capacity would be too large.
+    /// - `OutOfMemory`: the allocator failed.
     pub fn insert(&mut self, index: usize, value: T) -> Result<(), Rejected<T>>
         requires in_bounds { index ≤ length self.old.items }
 
@@ -26,12 +33,12 @@ impl<T, A: Allocator, G: Growth> ThinVec<T, A, G> {
         ensures items { OnOk result (self.new.items ≡ insert self.old.items index value) }
         ensures cost { OnOk result (Costs (length self.old.items - index + 1) self.old self.new) }
 
-        // On failure nothing changes, and the value is in the error. Into spare capacity it succeeds.
+        // On failure, the list is unchanged.
         ensures succeeds { HasRoomFor self.old 1 → IsOk result }
         ensures err { OnErr result (self.new ≡ self.old) }
         ensures value_returned { IfErr result (λ error. error.value ≡ value) }
 
-        // In any case. The capacity and the cause of a failure are those of `reserve(1)`.
+        // In any case. The capacity and the cause of a failure are as for `reserve(1)`.
         ensures reserves { Reserves G.rule T.row 1 self.old self.new (causes result) }
         ensures keeps { Keeps T.row self.old self.new }
     {
@@ -42,7 +49,12 @@ impl<T, A: Allocator, G: Growth> ThinVec<T, A, G> {
         Ok(())
     }
 
-    /// `insert` into room that the caller has shown to be there: it returns no `Result`. (own)
+    /// Inserts `value` at `index`, which is at most the length, without growing. The items from
+    /// `index` on are moved back by one place, and the list then owns `value`. The list must have
+    /// room for one more item, as it has after `reserve(1)`. So the call cannot fail, and returns
+    /// no `Result`.
+    ///
+    /// This method is our own: neither Rust's `Vec` nor the Rust crate thin-vec has it.
     pub fn insert_reserved(&mut self, index: usize, value: T)
         requires in_bounds { index ≤ length self.old.items }
         requires room { HasRoomFor self.old 1 }
@@ -56,17 +68,27 @@ impl<T, A: Allocator, G: Growth> ThinVec<T, A, G> {
         self.block.put_and_store(index, value, len + 1);
     }
 
-    /// `push` that lends the item: what is written is what the list holds. (own)
+    /// Appends `value`, which the list then owns, and returns a mutable reference to it. What the
+    /// caller writes through the reference is written to the item of the list. If there is no spare
+    /// capacity, the list first grows to the capacity that the growth rule chooses.
     ///
-    /// It fails as `push` does, and then nothing changes.
+    /// Rust's `Vec` has a method of this name, and the Rust crate thin-vec has none.
+    ///
+    /// # Errors
+    ///
+    /// Fails only if there is no spare capacity. Then the list is unchanged, and the error holds
+    /// `value`, which the caller owns again.
+    ///
+    /// - `CapacityOverflow`: the new capacity would be too large.
+    /// - `OutOfMemory`: the allocator failed.
     pub fn push_mut(&mut self, value: T) -> Result<&mut T, Rejected<T>>
-        // On success, the item is lent, and the list has what was written to it.
+        // On success. `writes_back` also says that the list is unchanged on failure.
         ensures* writes_back { sem 𝓛
             (LendsAdded T.row A.row G.row A.Allocator G.Growth self.entry
             (λ x. self.old.items ++ x ∷ []) 1 result) }
         ensures value { IfOk result (λ item. item.now ≡ value) }
 
-        // On failure nothing changes, and the value is in the error. Into spare capacity it succeeds.
+        // On failure.
         ensures succeeds { HasRoomFor self.old 1 → IsOk result }
         ensures value_returned { IfErr result (λ error. error.value ≡ value) }
         ensures overflow { TellsOverflow (capacity_for G.rule T.row self.old 1) (causes result) }
@@ -79,19 +101,30 @@ impl<T, A: Allocator, G: Growth> ThinVec<T, A, G> {
         Ok(&mut self[len])
     }
 
-    /// `insert` that lends the item: what is written is what the list holds. (own)
+    /// Inserts `value` at `index`, which is at most the length, and returns a mutable reference to
+    /// it. The items from `index` on are moved back by one place, and the list then owns `value`.
+    /// What the caller writes through the reference is written to the item of the list. If there is
+    /// no spare capacity, the list first grows to the capacity that the growth rule chooses.
     ///
-    /// It fails as `insert` does, and then nothing changes.
+    /// Rust's `Vec` has a method of this name, and the Rust crate thin-vec has none.
+    ///
+    /// # Errors
+    ///
+    /// Fails only if there is no spare capacity. Then the list is unchanged, and the error holds
+    /// `value`, which the caller owns again.
+    ///
+    /// - `CapacityOverflow`: the new capacity would be too large.
+    /// - `OutOfMemory`: the allocator failed.
     pub fn insert_mut(&mut self, index: usize, value: T) -> Result<&mut T, Rejected<T>>
         requires in_bounds { index ≤ length self.old.items }
 
-        // On success, the item is lent, and the list has what was written to it.
+        // On success. `writes_back` also says that the list is unchanged on failure.
         ensures* writes_back { sem 𝓛
             (LendsAdded T.row A.row G.row A.Allocator G.Growth self.entry
             (insert self.old.items index) (length self.old.items - index + 1) result) }
         ensures value { IfOk result (λ item. item.now ≡ value) }
 
-        // On failure nothing changes, and the value is in the error. Into spare capacity it succeeds.
+        // On failure.
         ensures succeeds { HasRoomFor self.old 1 → IsOk result }
         ensures value_returned { IfErr result (λ error. error.value ≡ value) }
         ensures overflow { TellsOverflow (capacity_for G.rule T.row self.old 1) (causes result) }
@@ -103,7 +136,8 @@ impl<T, A: Allocator, G: Growth> ThinVec<T, A, G> {
         Ok(&mut self[index])
     }
 
-    /// Removes the item at `index` and returns it. The items after it move one place forward.
+    /// Removes the item at `index` and returns it. The items after it are moved forward by one
+    /// place, in order. The capacity does not change.
     pub fn remove(&mut self, index: usize) -> T
         requires in_bounds { index < length self.old.items }
         ensures value { slice_get self.old.items index ≡ Some result }
@@ -119,8 +153,9 @@ impl<T, A: Allocator, G: Growth> ThinVec<T, A, G> {
         value
     }
 
-    /// Removes the item at `index` and returns it. The last item takes its place, and no other
-    /// moves.
+    /// Removes the item at `index` and returns it. The last item is moved to `index`, and no other
+    /// item is moved. So the call takes constant time, but does not keep the order of the items.
+    /// The capacity does not change.
     pub fn swap_remove(&mut self, index: usize) -> T
         requires in_bounds { index < length self.old.items }
         ensures value { slice_get self.old.items index ≡ Some result }
@@ -136,9 +171,12 @@ impl<T, A: Allocator, G: Growth> ThinVec<T, A, G> {
         value
     }
 
-    /// Removes the last item and returns it, where `predicate` returns true of it; else it stays,
-    /// as `predicate` left it. It is called once, and not for an empty list. The capacity stays.
-    /// (own)
+    /// Removes the last item and returns it, if `predicate` returns true for it. Otherwise, the
+    /// item stays in the list, with what `predicate` has written to it, and the call returns
+    /// `None`. `predicate` is called once, or not at all if the list is empty. The capacity does
+    /// not change.
+    ///
+    /// Rust's `Vec` has a method of this name, and the Rust crate thin-vec has none.
     pub fn pop_if<P: FnOnce(&mut T) -> bool>(&mut self, predicate: P) -> Option<T>
         requires callable { P.IsAlwaysCallable predicate }
         ensures popped { PopsIf P.FnOnce self.old.items self.new.items predicate result }
@@ -159,7 +197,8 @@ impl<T, A: Allocator, G: Growth> ThinVec<T, A, G> {
 impl<T: Drop, A: Allocator, G: Growth> ThinVec<T, A, G> {
     ghost use Rattle.thin_vec.specs.ThinVec.{IsWithin};
 
-    /// Keeps the first `len` items and drops the rest. The capacity stays.
+    /// Drops the items from index `len` on. If the list has at most `len` items, nothing changes.
+    /// The capacity does not change.
     pub fn truncate(&mut self, len: usize)
         ensures items { self.new.items ≡ take len self.old.items }
         ensures changes { self.new ≡ record self.old { items = self.new.items } }
@@ -175,7 +214,7 @@ impl<T: Drop, A: Allocator, G: Growth> ThinVec<T, A, G> {
         }
     }
 
-    /// Drops every item. The capacity stays.
+    /// Drops all items. The capacity does not change.
     pub fn clear(&mut self)
         ensures items { self.new.items ≡ [] }
         ensures changes { self.new ≡ record self.old { items = self.new.items } }

@@ -1,4 +1,4 @@
-//! The length becomes another: `resize`, `resize_with`.
+//! `resize` and `resize_with`, which change the length of a list.
 ghost use Rattle.std.specs.Prelude.{◌≡◌, ◌⊎◌, ◌+◌, ◌-◌, ◌<◌, ◌≤◌, ◌++◌, IfErr, IsOk, OnErr, OnOk, length, replicate, take};
 ghost use Rattle.std.specs.List.{AppendsResults};
 ghost use Rattle.thin_block.specs.Cost.{moving};
@@ -14,13 +14,21 @@ impl<T: Clone, A: Allocator, G: Growth> ThinVec<T, A, G> {
     ghost use Rattle.thin_vec.specs.Cheap.{IsCheap};
     ghost use Rattle.thin_vec.specs.ThinVec.{HasRoomFor, IsWithin};
 
-    /// Makes the length `len`: drops the items from there on, or appends clones of `value`, the
-    /// last one `value` itself. Where none is appended, `value` is dropped.
+    /// Changes the length to `len`. If the list is longer, the items from index `len` on are
+    /// dropped. If it is shorter, clones of `value` are appended, and `value` itself as the last
+    /// item. If no item is appended, `value` is dropped. If there is not enough spare capacity, the
+    /// list first grows to the capacity that the growth rule chooses.
     ///
-    /// It fails only where the list is to be longer, as `reserve` does, and then nothing changes.
-    /// It fails with `OutOfMemory` also where a clone does: the clones made before are dropped, the
-    /// list has its old items, and the room that was made stays. Where it fails, `value` is
-    /// dropped.
+    /// # Errors
+    ///
+    /// Fails only if the list has to become longer. On failure, `value` is dropped.
+    ///
+    /// - `CapacityOverflow`: there is not enough spare capacity, and the new capacity would be too
+    ///   large. The list is unchanged.
+    /// - `OutOfMemory`: there is not enough spare capacity, and the allocator failed. The list is
+    ///   unchanged.
+    /// - `OutOfMemory`: a clone failed. The clones already made are dropped, and the list has its
+    ///   old items. If it has grown, it keeps the new capacity.
     pub fn resize(&mut self, len: usize, value: T) -> Result<(), ThinVecError>
         // On success.
         ensures items { OnOk result (IsResized T.is_clone self.old.items len value self.new.items) }
@@ -29,8 +37,7 @@ impl<T: Clone, A: Allocator, G: Growth> ThinVec<T, A, G> {
             (len - length self.old.items) value) }
         ensures cost { OnOk result (Costs (len - length self.old.items) self.old self.new) }
 
-        // It fails if it cannot grow: then nothing changes. It fails also if a clone fails: then the
-        // clones made are dropped, the items are as before, and the new capacity stays.
+        // On failure, the items are as before.
         ensures succeeds { len ≤ self.old.capacity → T.is_infallible value → IsOk result }
         ensures succeeds_shorter { len ≤ length self.old.items → IsOk result }
         ensures succeeds_by_one { len ≡ length self.old.items + 1 → HasRoomFor self.old 1
@@ -40,8 +47,8 @@ impl<T: Clone, A: Allocator, G: Growth> ThinVec<T, A, G> {
         ensures err_cost { OnErr result ((self.new ≡ self.old) ⊎ CostsUpToClone T.is_infallible
             (replicate (len - length self.old.items - 1) value) self.old self.new) }
 
-        // In any case. The capacity and the cause of a failure are those of `reserve` for the items
-        // that are added.
+        // In any case. The capacity and any `CapacityOverflow` are as for `reserve` with the number
+        // of added items.
         ensures reserves { Reserves G.rule T.row (len - length self.old.items) self.old self.new
             result }
         ensures keeps { Keeps T.row self.old self.new }
@@ -55,11 +62,13 @@ impl<T: Clone, A: Allocator, G: Growth> ThinVec<T, A, G> {
         self.resize_reserved(value, len - old)
     }
 
-    // Clones of `value`, and then `value` itself, go into `count` places of the spare room. Where a
-    // clone fails, those made before it are dropped, and so is `value`.
+    // Appends `count` items, which are clones of `value` and then `value` itself. The list must
+    // have room for them. If a clone fails, the clones already made and `value` are dropped.
     fn resize_reserved(&mut self, value: T, count: usize) -> Result<(), ThinVecError>
         requires some { 0 < count }
         requires room { HasRoomFor self.old count }
+
+        // On success, which is certain if no clone can fail, or if no clone is made.
         ensures succeeds { T.is_infallible value → IsOk result }
         ensures succeeds_by_one { count ≡ 1 → IsOk result }
         ensures items { OnOk result
@@ -68,15 +77,21 @@ impl<T: Clone, A: Allocator, G: Growth> ThinVec<T, A, G> {
         ensures items_if_clones_equal { OnOk result (CloneEquals T.is_clone value
             → self.new.items ≡ self.old.items ++ replicate count value) }
         ensures cost { OnOk result (self.new.cost ≡ moving count self.old.cost) }
+
+        // In any case, only the items and the cost change.
         ensures changes { self.new ≡ record self.old {
           items = self.new.items;
           cost = self.new.cost;
         } }
+
+        // On failure, the items are as before.
         ensures err_items { OnErr result (self.new.items ≡ self.old.items) }
         ensures refused { OnErr result
             (StopsAtClone T.is_infallible (replicate (count - 1) value) self.old.cost
             self.new.cost) }
         ensures cause { IfErr result (λ cause. cause ≡ ThinVecError.OutOfMemory) }
+
+        // In any case.
         ensures within { IsWithin T.row self.old × IsWithin T.row self.new }
     {
         let len = self.len();
@@ -88,8 +103,8 @@ impl<T: Clone, A: Allocator, G: Growth> ThinVec<T, A, G> {
         Ok(())
     }
 
-    // Up to `count` clones of `value` go into the spare room, as many as it returns: it ends before
-    // a clone that fails.
+    // Appends up to `count` clones of `value`, until a clone fails, and returns the number of
+    // clones. The list must have room for `count` clones.
     fn push_repeated_reserved(&mut self, value: &T, count: usize) -> usize
         requires room { HasRoomFor self.old count }
         ensures in_bounds { result ≤ count }
@@ -112,11 +127,20 @@ impl<T: Drop, A: Allocator, G: Growth> ThinVec<T, A, G> {
     ghost use Rattle.thin_vec.specs.Cheap.{IsCheap};
     ghost use Rattle.thin_vec.specs.ThinVec.{HasRoomFor, IsWithin};
 
-    /// Makes the length `len`: drops the items from there on, or appends what `make` returns, which
-    /// is called once for each new item, in order. (own)
+    /// Changes the length to `len`. If the list is longer, the items from index `len` on are
+    /// dropped. If it is shorter, the results of `make` are appended: `make` is called once for
+    /// each new item, in order. If there is not enough spare capacity, the list first grows to the
+    /// capacity that the growth rule chooses.
     ///
-    /// It fails only where the list is to be longer, as `reserve` does: then nothing changes, and
-    /// `make` was not called.
+    /// Rust's `Vec` has a method of this name, and the Rust crate thin-vec has none.
+    ///
+    /// # Errors
+    ///
+    /// Fails only if `len` exceeds the capacity. Then the list is unchanged, and `make` is dropped
+    /// without being called.
+    ///
+    /// - `CapacityOverflow`: the new capacity would be too large.
+    /// - `OutOfMemory`: the allocator failed.
     pub fn resize_with<F: FnMut() -> T>(&mut self, len: usize, make: F) -> Result<(), ThinVecError>
         requires callable { F.IsAlwaysCallable make }
 
@@ -126,12 +150,12 @@ impl<T: Drop, A: Allocator, G: Growth> ThinVec<T, A, G> {
         ensures len { OnOk result (length self.new.items ≡ len) }
         ensures cost { OnOk result (Costs (len - length self.old.items) self.old self.new) }
 
-        // On failure nothing changes. Up to the capacity it succeeds.
+        // On failure, the list is unchanged.
         ensures succeeds { len ≤ self.old.capacity → IsOk result }
         ensures err { OnErr result (self.new ≡ self.old) }
 
-        // In any case. The capacity and the cause of a failure are those of `reserve` for the items
-        // that are added.
+        // In any case. The capacity and the cause of a failure are as for `reserve` with the number
+        // of added items.
         ensures reserves { Reserves G.rule T.row (len - length self.old.items) self.old self.new
             result }
         ensures keeps { Keeps T.row self.old self.new }
@@ -146,7 +170,7 @@ impl<T: Drop, A: Allocator, G: Growth> ThinVec<T, A, G> {
         Ok(())
     }
 
-    // What `count` calls of `make` return goes into the spare room.
+    // Appends the results of `count` calls of `make`, in order. The list must have room for them.
     fn push_results_reserved<F: FnMut() -> T>(&mut self, count: usize, make: F)
         requires room { HasRoomFor self.old count }
         requires callable { F.IsAlwaysCallable make }

@@ -1,4 +1,4 @@
-//! How a list's capacity becomes less: `shrink_to`, `shrink_to_fit`.
+//! `shrink_to` and `shrink_to_fit`, which make the capacity of a list smaller.
 ghost use Rattle.std.specs.Prelude.{◌≡◌, ◌<◌, ◌≤◌, [], IfErr, IsOk, OnErr, OnOk, length, max, min};
 ghost use Rattle.thin_block.specs.Cost.{growing, no_cost};
 
@@ -10,22 +10,34 @@ use thin_block::{Block, Growth, ThinVecError};
 impl<T, A: Allocator, G: Growth> ThinVec<T, A, G> {
     ghost use Rattle.thin_vec.specs.ThinVec.{IsWithin, cost_shrunk, cost_shrunk_to};
 
-    /// Makes the capacity `min_capacity`, or the length where that is greater. A list of no greater
-    /// capacity stays as it is. (own)
+    /// Shrinks the capacity to `min_capacity`, or to the length if the length is greater. If the
+    /// capacity is not greater than that, nothing changes. If the new capacity is 0, the block is
+    /// freed, and the cost that contracts see becomes 0.
     ///
-    /// It fails only where the allocator does, and then nothing changes. At 0 an empty list frees
-    /// its block, and resets its counters.
+    /// Rust's `Vec` has a method of this name, and the Rust crate thin-vec has none.
+    ///
+    /// # Errors
+    ///
+    /// Fails only with `OutOfMemory`, if the allocator fails. Then the list is unchanged. An empty
+    /// list that is shrunk to 0 frees its block, which cannot fail.
     pub fn shrink_to(&mut self, min_capacity: usize) -> Result<(), ThinVecError>
+        // Cases in which the call succeeds.
         ensures succeeds { self.old.capacity ≤ max min_capacity (length self.old.items)
             → IsOk result }
         ensures succeeds_empty { length self.old.items ≡ 0 → min_capacity ≡ 0 → IsOk result }
+
+        // The items and the allocator do not change. On success, the capacity may change.
         ensures items { self.new.items ≡ self.old.items }
         ensures capacity { OnOk result (self.new.capacity
             ≡ min self.old.capacity (max min_capacity (length self.old.items))) }
         ensures alloc { self.new.alloc ≡ self.old.alloc }
         ensures cost { OnOk result (self.new.cost ≡ cost_shrunk_to self.old self.new.capacity) }
+
+        // On failure, the list is unchanged.
         ensures err { OnErr result (self.new ≡ self.old) }
         ensures cause { IfErr result (λ cause. cause ≡ ThinVecError.OutOfMemory) }
+
+        // In any case.
         ensures within { IsWithin T.row self.old × IsWithin T.row self.new }
     {
         let wanted = min_capacity.max(self.len());
@@ -39,45 +51,64 @@ impl<T, A: Allocator, G: Growth> ThinVec<T, A, G> {
         self.shrink_block(wanted)
     }
 
-    /// Makes the capacity the length: a full list stays, and an empty one frees its block.
+    /// Shrinks the capacity to the length. If the list is full, nothing changes. If it is empty,
+    /// its block is freed, and the cost that contracts see becomes 0.
     ///
-    /// It fails only where the allocator does, and then nothing changes. An empty list that frees
-    /// its block resets its counters.
+    /// # Errors
+    ///
+    /// Fails only with `OutOfMemory`, if the allocator fails. Then the list is unchanged. An empty
+    /// list frees its block, which cannot fail.
     pub fn shrink_to_fit(&mut self) -> Result<(), ThinVecError>
+        // Cases in which the call succeeds.
         ensures succeeds_empty { length self.old.items ≡ 0 → IsOk result }
         ensures succeeds_full { length self.old.items ≡ self.old.capacity → IsOk result }
+
+        // The items and the allocator do not change. On success, the capacity may change.
         ensures items { self.new.items ≡ self.old.items }
         ensures capacity { OnOk result (self.new.capacity ≡ length self.old.items) }
         ensures alloc { self.new.alloc ≡ self.old.alloc }
         ensures cost { OnOk result (self.new.cost ≡ cost_shrunk self.old) }
+
+        // On failure, the list is unchanged.
         ensures err { OnErr result (self.new ≡ self.old) }
         ensures cause { IfErr result (λ cause. cause ≡ ThinVecError.OutOfMemory) }
+
+        // In any case.
         ensures within { IsWithin T.row self.old × IsWithin T.row self.new }
     {
         self.shrink_to(0)
     }
 
-    // `shrink_to` a capacity that is less than before, and not 0.
+    // Shrinks the capacity to `cap`, which must be smaller than the capacity, at least the length,
+    // and not 0.
     fn shrink_block(&mut self, cap: usize) -> Result<(), ThinVecError>
         requires some { 0 < cap }
         requires room { length self.old.items ≤ cap }
         requires smaller { cap < self.old.capacity }
         requires within { IsWithin T.row self.old }
+
+        // In any case, only the capacity and the cost change.
         ensures changes { self.new ≡ record self.old {
           capacity = self.new.capacity;
           cost = self.new.cost;
         } }
+
+        // On success.
         ensures capacity { OnOk result (self.new.capacity ≡ cap) }
         ensures cost { OnOk result (self.new.cost ≡ growing (length self.old.items) self.old.cost) }
+
+        // On failure, the list is unchanged.
         ensures err { OnErr result (self.new ≡ self.old) }
         ensures cause { IfErr result (λ cause. cause ≡ ThinVecError.OutOfMemory) }
+
+        // In any case.
         ensures within { IsWithin T.row self.new }
     {
         self.block.shrink(&self.alloc, cap)?;
         Ok(())
     }
 
-    // The block of an empty list is freed.
+    // Frees the block of an empty list, which then has capacity 0 and no cost.
     fn give_block_back(&mut self)
         requires empty { self.old.items ≡ [] }
         ensures changes { self.new ≡ record self.old { items = []; capacity = 0; cost = no_cost } }

@@ -1,8 +1,9 @@
--- A run of one command has one reply.
+-- The answers for `carry_out`: a run of one command has one reply.
 use Rattle.std.proofs.Common.{◌≡◌, [], ◌∷◌, ap, arith, ◌++◌, ◌∙◌}
 use Rattle.thin_replay.proofs.RunLemmas.{headline-one, one_reply}
 use Rattle.thin_replay.proofs.carried_out.carry_out.Goals as goal
 
+-- `pop` returns `Some`, because there is one reply
 pub unwrap-requires : goal.unwrap-requires
 unwrap-requires g c =
     let one : c.push.new.self.items ≡ c.args.command ∷ [] =
@@ -14,6 +15,7 @@ unwrap-requires g c =
           c.in-Ok-run.ensures.ok,
     ))
 
+-- the main theorem holds for the popped reply, because it is the only one
 pub returns-in-Ok-run-clause-ok : goal.returns-in-Ok-run-clause-ok
 returns-in-Ok-run-clause-ok g c =
     let one : c.push.new.self.items ≡ c.args.command ∷ [] =

@@ -1,12 +1,14 @@
--- Each turn reads the next word.
+-- The answers for `list_of`, whose loop parses one word in each iteration.
 use Rattle.std.proofs.Common.{◌≡◌, [], ◌∷◌, ◌++◌, rules}
 use Rattle.thin_replay.proofs.WordsLemmas.{zip-all, zip-next}
 use Rattle.thin_replay.specs.Words.{Spells}
 use Rattle.thin_replay.proofs.words.list_of.Goals as goal
 
+-- before the first iteration, no word was parsed, and there are no items
 pub loop-word-init : goal.loop-word-init
 loop-word-init c = rw c.new-list.ensures.new.items tt
 
+-- an iteration parses the next word, and pushes its number
 pub loop-word-preserved : goal.loop-word-preserved
 loop-word-preserved c =
     let grown : c.push.new.self.items ≡ c.loop-word.list.items ++ c.in_ok-item_of.field-0 ∷ [] =
@@ -16,6 +18,7 @@ loop-word-preserved c =
     (record { ref_ptr = (0, 0); now = [] }) c.loop-word.list.items c.in_ok-item_of.field-0
     c.loop-word-test.true c.loop-word.invariant (search rules))
 
+-- after the last iteration, all words were parsed
 pub returns : goal.returns
 returns c = record {
   items = zip-all (λ w n. Spells w.now n) c.args.words.now c.loop-word.word-index

@@ -1,7 +1,8 @@
--- The items of the list are the numbers that the words read so far say.
+-- The invariant of the loop of `list_of`.
 use Rattle.std.proofs.Common.{take}
 use Rattle.thin_replay.specs.Words.{SpellAll}
 use Rattle.thin_replay.proofs.words.list_of.Given as goal
 
+-- the items are the numbers of the words that were parsed so far
 abbrev pub invariant-loop-word : goal.invariant-loop-word
 invariant-loop-word l = SpellAll (take l.word-index l.words) l.list.items

@@ -1,4 +1,4 @@
--- The item comes in last, and moves once.
+-- `place` appends the item to the list, for one move.
 use Rattle.std.proofs.Common.{arith, ◌∙◌}
 use Rattle.thin_vec.proofs.macros.place.Goals as goal
 

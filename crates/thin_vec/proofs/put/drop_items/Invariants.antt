@@ -1,4 +1,4 @@
--- The slots before i are empty, and those from i on still hold items.
+-- When the loop reaches i, the slots before i are empty, and the slots from i on are unchanged.
 use Rattle.std.proofs.Common.{◌≡◌, length}
 use Rattle.thin_block.specs.Block.{seen}
 use Rattle.thin_block.specs.Slots.{items_in}

@@ -1,4 +1,5 @@
--- One clone more is laid.
+-- Each turn of the loop puts a clone of the next item into the next slot. If the clone fails, the
+-- item is one whose clone can fail.
 use Rattle.thin_block.specs.Block.{seen}
 use Rattle.thin_vec.proofs.list.ExtendLemmas.{put-more}
 use Rattle.std.proofs.lemmas.Grind.{common_steps}
@@ -6,7 +7,8 @@ use Rattle.std.proofs.Common.{ap, arith, ◌∙◌, refl, ◌+◌}
 use Rattle.thin_vec.proofs.list.ClonesLemmas.{lays-more}
 use Rattle.thin_vec.proofs.put.put_clones.Goals as goal
 
--- one more item is cloned after those that are
+-- if clones of the first i items are in their slots before a turn, clones of the first i + 1 items
+-- are in their slots after it
 pub loop-i-preserved : goal.loop-i-preserved
 loop-i-preserved g c =
     let was = c.loop-i.invariant in

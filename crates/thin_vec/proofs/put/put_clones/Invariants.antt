@@ -1,11 +1,12 @@
--- So many clones are laid.
+-- The loop of `put_clones` puts a clone of each item, in order, into the slots from `start` on.
 use Rattle.std.proofs.Common.{◌≡◌}
 use Rattle.thin_block.specs.Block.{seen}
 use Rattle.thin_block.specs.Cost.{moving}
 use Rattle.thin_vec.specs.List.Clones.{LaysClones}
 use Rattle.thin_vec.proofs.put.put_clones.Given as goal
 
--- the first i items are cloned, and as many moves counted
+-- when the loop reaches i, clones of the first i items lie in the slots from `start` on, and i
+-- moves are counted
 abbrev pub invariant-loop-i : goal.invariant-loop-i
 invariant-loop-i g l =
     record {

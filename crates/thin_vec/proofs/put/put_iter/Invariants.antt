@@ -1,4 +1,5 @@
--- The slots from `start` up to i hold what the iterator has given.
+-- When the loop reaches i, the slots from `start` up to i hold the items that the iterator has
+-- yielded, in order, and one move is counted for each of these items.
 use Rattle.std.proofs.Common.{◌≡◌, ◌+◌, ◌-◌, ◌≤◌, List, length}
 use Rattle.std.specs.Iterator.{IsFinite, Yields, size}
 use Rattle.thin_block.specs.Block.{seen}

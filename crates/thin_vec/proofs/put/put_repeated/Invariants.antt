@@ -1,11 +1,12 @@
--- So many clones are laid.
+-- The loop of `put_repeated` puts `count` clones of `value` into the slots from `start` on.
 use Rattle.std.proofs.Common.{◌≡◌, replicate}
 use Rattle.thin_block.specs.Block.{seen}
 use Rattle.thin_block.specs.Cost.{moving}
 use Rattle.thin_vec.specs.List.Clones.{LaysClones}
 use Rattle.thin_vec.proofs.put.put_repeated.Given as goal
 
--- i clones stand there, and as many moves are counted
+-- when the loop reaches i, clones of `value` lie in the i slots from `start` on, and i moves are
+-- counted
 abbrev pub invariant-loop-i : goal.invariant-loop-i
 invariant-loop-i g l =
     record {

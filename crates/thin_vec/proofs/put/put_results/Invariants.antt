@@ -1,4 +1,5 @@
--- So many results are laid.
+-- The loop of `put_results` puts the results of `count` calls of `make` into the slots from `start`
+-- on.
 use Rattle.std.proofs.Common.{◌≡◌, List, length}
 use Rattle.std.specs.Fn.{Called}
 use Rattle.std.specs.List.{FoldsTo}
@@ -7,7 +8,8 @@ use Rattle.thin_block.specs.Cost.{moving}
 use Rattle.thin_block.specs.Slots.{full, laid}
 use Rattle.thin_vec.proofs.put.put_results.Given as goal
 
--- what i calls returned stands there, and as many moves are counted
+-- when the loop reaches i, the results of i calls of `make` lie in the slots from `start` on, in
+-- order, and i moves are counted
 abbrev pub invariant-loop-i : goal.invariant-loop-i
 invariant-loop-i g l = record {
   placed : (xs : List g.row.T.Denot) × (l.block.slots ≡ laid l.start (full xs) l.fn.block.slots)

@@ -1,4 +1,5 @@
--- One item more has come in, from the last on.
+-- Each turn of the loop takes the last item out of the vector and puts it into its slot. Once the
+-- vector is empty, all items are in their slots.
 use Rattle.std.proofs.lemmas.Grind.{common_steps}
 use Rattle.thin_block.specs.Cost.{moving}
 use Rattle.thin_block.specs.Slots.{full, laid}

@@ -1,4 +1,5 @@
--- The items that the `Vec` has given up lie in their slots, and as many moves are counted.
+-- The items that were taken out of the vector lie in their slots, and one move is counted for each
+-- of them. Each turn of the loop reduces the number of items in the vector.
 use Rattle.std.proofs.Common.{◌≡◌, ◌-◌, length}
 use Rattle.thin_block.specs.Block.{seen}
 use Rattle.thin_block.specs.Cost.{moving}

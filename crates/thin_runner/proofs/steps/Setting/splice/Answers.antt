@@ -1,17 +1,17 @@
 -- Together, the items placed, those held, the one in hand and those of `rest` are all items of the
 -- iterator.
-use Rattle.std.proofs.Common.{rules, List, ◌≡◌, ◌≤◌, ◌+◌, ◌-◌, ◌++◌, ◌∙◌, ap, arith, length, length-append, subst, sym}
+use Rattle.std.proofs.Common.{rules, inl, inr, ◌≡◌, ◌≤◌, ◌+◌, ◌-◌, ◌++◌, ◌∙◌, ap, arith, length, length-append, subst, sym}
 use Rattle.std.proofs.lemmas.Bool.{false≢true}
 use Rattle.std.specs.Iterator.{at_most, size}
 use mathlib.Core.Logic.{⊎_elim}
 use denote.Param.{param}
 use Rattle.thin_runner.specs.Hinted.{hinted_claim, hinted_count, hinted_items}
 use Rattle.thin_runner.proofs.HintedLemmas.{drains-items}
-use Rattle.thin_runner.proofs.SplicesLemmas.{IsOpened, left-is, named, no-tail, replaces-of, room-left, some-tail, spliced, stops-of, stopped-claim, stopped-ended, stopped-items}
+use Rattle.thin_runner.proofs.SplicesLemmas.{IsOpened, at-no-in-hand, at-some-in-hand, left-is, ruled, no-tail, replaces-of, room-left, some-tail, spliced, stops-of, stopped-claim, stopped-ended, stopped-items}
 use Rattle.thin_runner.specs.commands.Splices.{cut}
 use Rattle.thin_vec.specs.Cheap.{IsCheap}
 use Rattle.thin_vec.specs.List.Extend.{IsLoose}
-use Rattle.thin_vec.specs.Edits.Splice.{IsStopCause, splice_alloc, splice_block, splice_iter}
+use Rattle.thin_vec.specs.Edits.Splice.{splice_alloc, splice_block, splice_iter}
 use Rattle.thin_vec.specs.ThinVec.{HasRoomFor, IsWithin}
 use Rattle.thin_runner.proofs.steps.Setting.splice.Goals as goal
 
@@ -51,16 +51,16 @@ returns-in-Ok-finish g c =
           search rules,
           replaces-of left (record {
             items = e.items.2 ∙ (λ i. (is.front i ++ all i) ++ is.tail i);
-            capacity = subst (λ n. IsLoose g.G.Growth.rule _ n now.capacity) is.capacity e.capacity;
-            named = named old start end block alloc is g.G.Growth.rule (param 0 g.row.T)
-                now _ _ count e.named;
+            capacity = subst (λ n. IsLoose g.G.Growth.rule _ n now.capacity) is.capacity e.capacity.loose;
+            ruled = ruled old start end block alloc is g.G.Growth.rule (param 0 g.row.T)
+                now _ _ count e.capacity.ruled;
             within = subst (λ list. IsWithin _ list) (sym left) c.capacity-capacity.ensures.within;
             had_room = λ room.
-                e.had_room (room-left old start end block alloc is _ _ most room) ∙ is.capacity;
+                e.capacity.had_room (room-left old start end block alloc is _ _ most room) ∙ is.capacity;
             cost = spliced old start end block alloc is _ e.cost;
             cheap = λ cheap.
-                e.cheap (subst IsCheap (sym (left-is old start end block alloc is)) cheap);
-            alloc = e.alloc ∙ is.same;
+                e.keeps.cheap (subst IsCheap (sym (left-is old start end block alloc is)) cheap);
+            alloc = e.keeps.alloc ∙ is.same;
           }),
         ),
       );
@@ -92,7 +92,8 @@ returns-in-Err-finish g c =
     let count : hinted_count drawn ≡ at_most may =
     λ i. at_most (claim i + length (items i)) in
     let now = c.finish.new.self.0 in
-    let left : now ≡ c.list-1.given.0 = search rules in
+    let left : now ≡ c.list-1.given.0 =
+    sym (c.list-1.given.1 (sym (k.lender ∙ s.same_reference))) in
     let e = c.in-Err-finish.ensures in
     let refused = c.in-Err-finish.refused in
     let placed = e.placed.0 in
@@ -105,47 +106,51 @@ returns-in-Err-finish g c =
           stops-of left (record {
             placed = placed;
             all = sym items
-                ∙ stopped-items drawn refused.rest placed held refused.in_hand e.placed.2;
-            claim = stopped-claim drawn refused.rest placed held refused.in_hand e.placed.2
-                ∙ claim;
+                ∙ stopped-items drawn placed refused e.placed.2;
+            claim = stopped-claim drawn placed refused e.placed.2 ∙ claim;
             filled = record {
               items = e.placed.1 ∙ (λ i. (is.front i ++ placed) ++ is.tail i);
               capacity = subst (λ n. IsLoose g.G.Growth.rule _ n now.capacity) is.capacity
-                  e.capacity;
-              named = named old start end block alloc is g.G.Growth.rule (param 0 g.row.T)
-                  now _ _ count e.named;
+                  e.capacity.loose;
+              ruled = ruled old start end block alloc is g.G.Growth.rule (param 0 g.row.T)
+                  now _ _ count e.capacity.ruled;
               within = subst (λ list. IsWithin _ list) (sym left)
                   c.capacity-capacity-in-Err-finish.ensures.within;
               had_room = λ room.
-                  e.had_room (room-left old start end block alloc is _ _ most room) ∙ is.capacity;
+                  e.capacity.had_room (room-left old start end block alloc is _ _ most room) ∙ is.capacity;
               cost = spliced old start end block alloc is _ e.cost;
               cheap = λ cheap.
-                  e.cheap (subst IsCheap (sym (left-is old start end block alloc is)) cheap);
-              alloc = e.alloc ∙ is.same;
+                  e.keeps.cheap (subst IsCheap (sym (left-is old start end block alloc is)) cheap);
+              alloc = e.keeps.alloc ∙ is.same;
             };
             no_room = λ places. false≢true (⊎_elim
-                (λ (few : may ≤ end - start). e.succeeds (omega (arith, few, most, width)))
+                (λ (few : may ≤ end - start). e.succeeds (inl (omega (arith, few, most, width))))
                 (λ (room : (end ≡ length old.items) × HasRoomFor (cut old start end) may).
-                e.succeeds_at_end (no-tail old start end block alloc is room.0)
-                (room-left old start end block alloc is _ _ most room.1)) places);
-            told = subst (λ (t : List _). IsStopCause g.G.Growth.rule (param 0 g.row.T)
-                now t held refused.in_hand (hinted_count refused.rest) refused.cause)
-                is.tail e.cause;
-            ended = stopped-ended drawn refused.rest placed held refused.in_hand e.placed.2;
+                e.succeeds (inr (
+                  no-tail old start end block alloc is room.0,
+                  room-left old start end block alloc is _ _ most room.1,
+                ))) places);
+            by_hint = e.cause.by_hint;
+            by_held = e.cause.by_held;
+            by_in_hand = λ more some.
+                e.cause.by_in_hand (some-tail old start end block alloc is more) some;
+            by_push = λ full some.
+                e.cause.by_push (no-tail old start end block alloc is full) some;
+            ended = stopped-ended drawn placed refused e.placed.2;
             range = λ more. omega (
               arith,
               width,
-              e.range (some-tail old start end block alloc is more),
+              e.before_tail (some-tail old start end block alloc is more),
               ap length e.placed.1,
               length-append (block.front ++ placed) block.tail,
               length-append block.front placed,
               length-append block.front block.tail,
             );
-            at_end = λ full. (
-              e.held (no-tail old start end block alloc is full),
-              e.full (no-tail old start end block alloc is full),
-            );
-            unchanged = λ full none. (e.err (no-tail old start end block alloc is full) none).0
+            at_end = λ full. let fails = e.at_end (no-tail old start end block alloc is full) in
+                (fails.held, at-some-in-hand _ _ refused.in_hand fails.in_hand);
+            unchanged = λ full none.
+                let fails = e.at_end (no-tail old start end block alloc is full) in
+                (at-no-in-hand _ _ refused.in_hand fails.in_hand none).0
                 ∙ left-is old start end block alloc is;
           }),
         ),

@@ -1,4 +1,4 @@
--- The array has N items.
+-- `count` returns N, which is the number of items of the array.
 use Rattle.std.proofs.Common.{arith, ◌∙◌}
 use Rattle.thin_vec.proofs.convert.from.count.Goals as goal
 

@@ -1,4 +1,4 @@
--- The cause is taken out.
+-- The conversion returns the field `cause` of the error.
 use Rattle.std.proofs.Common.{arith, ◌∙◌}
 use Rattle.thin_vec.proofs.errors.ThinVecErrorFromExtendRefused.from.Goals as goal
 

@@ -1,4 +1,4 @@
--- It is a new list, which owns no block.
+-- `default_in` only calls `new`, so it returns a new list, which owns no block.
 use Rattle.std.proofs.Common.{arith, ◌∙◌}
 use Rattle.thin_vec.proofs.list.ThinVec+T+A.default_in.Goals as goal
 

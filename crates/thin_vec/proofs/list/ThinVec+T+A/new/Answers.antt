@@ -1,4 +1,4 @@
--- It owns no block.
+-- `new` only calls `ruled`, so it returns a new list, which owns no block.
 use Rattle.std.proofs.Common.{arith, ◌∙◌}
 use Rattle.thin_vec.proofs.list.ThinVec+T+A.new.Goals as goal
 

@@ -1,4 +1,5 @@
--- The capacity is that for the other list's length.
+-- `append` reserves room for `other.len()` more items, and `other.len()` is the number of items of
+-- `other`. So the capacity and the error of `append` are those of `reserve` for that number.
 use Rattle.std.proofs.Common.{Ok, arith, ap, sym, ◌∙◌}
 use denote.Param.{param}
 use Rattle.thin_vec.specs.ThinVec.{capacity_for}

@@ -1,4 +1,5 @@
--- The one list is cut, and the other has the items that left it.
+-- `append_from` moves the items of `other` from `start` on. Afterwards `other` has its first
+-- `start` items, and this list has its old items followed by the moved ones.
 use Rattle.std.proofs.Common.{◌-◌, ◌++◌, ◌∙◌, ap, arith, drop, length, take, rules}
 use Rattle.thin_block.proofs.BlockLemmas.{then-len}
 use Rattle.thin_block.specs.Slots.{items_in}

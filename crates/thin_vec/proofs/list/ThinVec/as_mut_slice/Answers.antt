@@ -1,4 +1,5 @@
--- The items' slots are filled, and a list is one again once they are written.
+-- The slots that `as_mut_slice` lends are all filled. When the loan ends, the block is again the
+-- block of a list, and this list has the items that were written.
 use Rattle.std.proofs.Common.{ap, arith, refl, ◌∙◌}
 use Rattle.thin_block.specs.Lends.{with_items as block_with_items}
 use Rattle.thin_vec.specs.Lends.{with_items}

@@ -1,4 +1,5 @@
--- The items' slots are filled.
+-- `as_slice` lends the first `len` slots. They are all filled, and the items in them are the items
+-- of the list.
 use Rattle.std.proofs.Common.{ap, arith, ◌∙◌}
 use Rattle.thin_vec.proofs.ListLemmas.{thin-filled, thin-run}
 use Rattle.thin_vec.proofs.ThinVecLemmas.{within-of}

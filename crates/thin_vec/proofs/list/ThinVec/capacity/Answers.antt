@@ -1,4 +1,4 @@
--- The capacity is that of the block.
+-- `capacity` returns the number of slots of the block, which is the capacity of the list.
 use Rattle.std.proofs.Common.{arith, ◌∙◌}
 use Rattle.thin_vec.proofs.list.ThinVec.capacity.Goals as goal
 

@@ -1,4 +1,5 @@
--- By a test without a state, what is left is `dedup` of the items, and `unlike` says which stay.
+-- The test of `dedup` is stateless. So the items left are `dedup` of the old ones, `unlike` tells
+-- which items stay, and no more items are left than before.
 use Rattle.std.proofs.Common.{ap, ◌∙◌}
 use Rattle.thin_block.specs.Cost.{moving}
 use Rattle.thin_vec.specs.Edits.Retain.{moved_down}

@@ -1,4 +1,5 @@
--- A list of fewer than two items is one that is deduplicated.
+-- A list of fewer than two items is already deduplicated, so `dedup_those` does not change it. For
+-- a longer list, the items that `dedup_rest` keeps become the items of the list.
 use Rattle.std.proofs.lemmas.Grind.{common_steps}
 use Rattle.std.proofs.Common.{arith}
 use Rattle.thin_vec.proofs.list.ThinVec.dedup_those.Goals as goal

@@ -11,16 +11,31 @@ use Rattle.std.proofs.lemmas.Bool.{false≢true}
 use Rattle.thin_block.proofs.Outcomes.{err-same}
 use Rattle.thin_vec.specs.ThinVec.{HasRoomFor, capacity_for}
 use Rattle.std.proofs.Common.{inl, sym, Some, List, None, [], refl}
-use Rattle.thin_vec.proofs.list.ExtendLemmas.{named-after, run_of_ok, filled-join, filled-reserved, loose-join, loose-le, loose-ruled, run_given, run_given_err}
+use Rattle.thin_vec.proofs.list.ExtendLemmas.{full-in-hand, ruled-after, run_of_ok, filled-join, filled-reserved, loose-join, loose-le, loose-ruled, run_given, run_given_err}
 use Rattle.thin_vec.proofs.list.ThinVec.extend.Goals as goal
 
 pub returns-in-Ok-clause-capacity : goal.returns-in-Ok-clause-capacity
 returns-in-Ok-clause-capacity g c =
     let rule = g.G.Growth.rule in let T = param 0 g.row.T in let law = g.met.G.Growth.law in
-    let v = c.args.self.now in let u = c.reserve.new.self in
-    loose-join rule T law v.capacity u.capacity c.extend_unhinted.new.self.capacity
-    (loose-ruled rule T law v c.size_hint.result.0 u.capacity c.in-Ok.ensures.reserves.ok)
-    c.extend_unhinted.ensures.capacity
+    let v = c.args.self.now in let u = c.reserve.new.self in let w = c.extend_unhinted.new.self in
+    let e = c.extend_unhinted.ensures in let reserves = c.in-Ok.ensures.reserves in
+    let hint = c.size_hint.result.0 in
+    record {
+      had_room = λ room. let same = reserves.had_room (omega (
+        arith,
+        room,
+        c.size_hint.ensures.lower c.requires.finite,
+      )) in
+          e.had_room (omega (arith, room, same, ap length c.reserve.ensures.items)) ∙ same;
+      loose = loose-join rule T law v.capacity u.capacity w.capacity
+          (loose-ruled rule T law v hint u.capacity reserves.ok) e.loose;
+      ruled = ruled-after rule T law v.capacity u.capacity w.capacity (length w.items) _ e.ruled
+          (λ same. (
+            hint,
+            c.size_hint.ensures.lower,
+            reserves.ok ∙ ap Some (sym same),
+          ));
+    }
 
 pub returns-in-Ok-clause-cost : goal.returns-in-Ok-clause-cost
 returns-in-Ok-clause-cost g c =
@@ -32,39 +47,42 @@ returns-in-Ok-clause-cost g c =
     c.extend_unhinted.ensures.cost
     (loose-le rule T law v.capacity u.capacity
     (loose-ruled rule T law v c.size_hint.result.0 u.capacity c.in-Ok.ensures.reserves.ok))
-    (loose-le rule T law u.capacity w.capacity c.extend_unhinted.ensures.capacity)
+    (loose-le rule T law u.capacity w.capacity c.extend_unhinted.ensures.loose)
     (omega (arith, ap length c.reserve.ensures.items))
 
-pub returns-in-Ok-clause-named : goal.returns-in-Ok-clause-named
-returns-in-Ok-clause-named g c =
-    let rule = g.G.Growth.rule in let T = param 0 g.row.T in let law = g.met.G.Growth.law in
-    let v = c.args.self.now in let u = c.reserve.new.self in let w = c.extend_unhinted.new.self in
-    named-after rule T law v.capacity u.capacity w.capacity (length w.items)
-    _ c.extend_unhinted.ensures.named
-    (λ same. (
-      c.size_hint.result.0,
-      c.size_hint.ensures.lower,
-      c.in-Ok.ensures.reserves.ok ∙ ap Some (sym same),
-    ))
-
-pub returns-in-Err-clause-named : goal.returns-in-Err-clause-named
-returns-in-Err-clause-named g c = inl (inl (ap (λ v. v.capacity) c.in-Err.ensures.err))
+pub returns-in-Err-clause-capacity : goal.returns-in-Err-clause-capacity
+returns-in-Err-clause-capacity g c =
+    let same = ap (λ v. v.capacity) c.in-Err.ensures.err in
+    record {
+      had_room = λ _. same;
+      loose = inl same;
+      ruled = inl (inl same);
+    }
 
 pub returns-in-Err-clause-cause : goal.returns-in-Err-clause-cause
-returns-in-Err-clause-cause g c = λ over. (
-  c.size_hint.result.0,
-  c.size_hint.ensures.lower,
-  ap (λ v. capacity_for g.G.Growth.rule (param 0 g.row.T) v c.size_hint.result.0)
-      c.in-Err.ensures.err ∙ c.in-Err.ensures.reserves.overflow.0 (ap Err over),
-)
-
-pub returns-in-Err-clause-overflow : goal.returns-in-Err-clause-overflow
-returns-in-Err-clause-overflow g c = λ must.
+returns-in-Err-clause-cause g c =
     let hint = c.size_hint.result.0 in let same = c.in-Err.ensures.err in
-    err-same (c.in-Err.ensures.reserves.overflow.1
-    (sym (ap (λ v. capacity_for g.G.Growth.rule (param 0 g.row.T) v hint) same)
-    ∙ must hint c.size_hint.ensures.lower
-    (λ room. false≢true (c.in-Err.ensures.succeeds (subst (λ v. HasRoomFor v hint) same room)))))
+    let overflow = c.in-Err.ensures.reserves.overflow in
+    record {
+      by_push = λ none. absurd (false≢true none);
+      must = λ _ must.
+          err-same (overflow.1
+          (sym (ap (λ v. capacity_for g.G.Growth.rule (param 0 g.row.T) v hint) same)
+          ∙ must hint c.size_hint.ensures.lower
+          (λ room. false≢true
+          (c.in-Err.ensures.succeeds (subst (λ v. HasRoomFor v hint) same room)))));
+      may = λ _ over. (
+        hint,
+        c.size_hint.ensures.lower,
+        ap (λ v. capacity_for g.G.Growth.rule (param 0 g.row.T) v hint) same
+            ∙ overflow.0 (ap Err over),
+      );
+    }
+
+pub returns-in-Ok-clause-in_hand : goal.returns-in-Ok-clause-in_hand
+returns-in-Ok-clause-in_hand g c =
+    full-in-hand _ _ c.extend_unhinted.result c.extend_unhinted.ensures.in_hand
+    c.extend_unhinted.ensures.full
 
 pub returns-in-Ok-clause-runs : goal.returns-in-Ok-clause-runs
 returns-in-Ok-clause-runs g c =
@@ -78,10 +96,11 @@ pub returns-in-Ok-clause-runs_err : goal.returns-in-Ok-clause-runs_err
 returns-in-Ok-clause-runs_err g c =
     let steps = g.I.Iterator.next_gives in let w = c.extend_unhinted.new.self in
     subst (λ old. IfErr c.extend_unhinted.result
-    (λ refused. SomeRun steps c.args.iter
+    (λ error. SomeRun steps c.args.iter
     (λ p. (xs : List g.row.T.Denot) × (w.items ≡ old ++ xs)
-    × (p.items ≡ xs ++ option_to_list refused.in_hand)))) c.reserve.ensures.items
-    (run_given_err steps c.args.iter (λ refused. refused.in_hand) (λ refused. refused.rest)
+    × (p.items ≡ xs ++ option_to_list error.in_hand)))) c.reserve.ensures.items
+    (run_given_err steps c.args.iter g.I.Iterator.can_next g.I.Iterator.remaining
+    (λ error. error.in_hand) (λ error. error.rest)
     (λ xs. w.items ≡ c.reserve.new.self.items ++ xs) c.extend_unhinted.result
     c.extend_unhinted.ensures.placed)
 
@@ -95,35 +114,11 @@ returns-in-Err-clause-runs_err g c =
 pub returns-in-Err-clause-cost : goal.returns-in-Err-clause-cost
 returns-in-Err-clause-cost g c = search (arith, ◌∙◌)
 
-pub returns-in-Err-clause-err : goal.returns-in-Err-clause-err
-returns-in-Err-clause-err g c = search (arith, ◌∙◌)
-
-pub returns-in-Err-clause-full : goal.returns-in-Err-clause-full
-returns-in-Err-clause-full g c = search (arith, ◌∙◌)
-
-pub returns-in-Ok-clause-alloc : goal.returns-in-Ok-clause-alloc
-returns-in-Ok-clause-alloc g c = search (arith, ◌∙◌)
-
 pub returns-in-Ok-clause-cause : goal.returns-in-Ok-clause-cause
 returns-in-Ok-clause-cause g c = search (arith, ◌∙◌)
 
-pub returns-in-Ok-clause-cheap : goal.returns-in-Ok-clause-cheap
-returns-in-Ok-clause-cheap g c = search (arith, ◌∙◌)
-
-pub returns-in-Ok-clause-err : goal.returns-in-Ok-clause-err
-returns-in-Ok-clause-err g c = search (arith, ◌∙◌)
-
-pub returns-in-Ok-clause-full : goal.returns-in-Ok-clause-full
-returns-in-Ok-clause-full g c = search (arith, ◌∙◌)
-
-pub returns-in-Ok-clause-had_room : goal.returns-in-Ok-clause-had_room
-returns-in-Ok-clause-had_room g c = search (arith, ◌∙◌)
-
 pub returns-in-Ok-clause-items : goal.returns-in-Ok-clause-items
 returns-in-Ok-clause-items g c = search (arith, ◌∙◌)
-
-pub returns-in-Ok-clause-overflow : goal.returns-in-Ok-clause-overflow
-returns-in-Ok-clause-overflow g c = search (arith, ◌∙◌)
 
 pub returns-in-Ok-clause-placed : goal.returns-in-Ok-clause-placed
 returns-in-Ok-clause-placed g c = search (arith, ◌∙◌)

@@ -1,4 +1,6 @@
--- The items' type as `reserve` sees it has the same size and alignment.
+-- In the contract of `extend_from_copies`, the item type is a `Copy` type; in that of
+-- `reserve_run`, it is not known to be one. Both types have the same size and alignment, so the two
+-- contracts name the same capacity and the same error.
 use Rattle.std.proofs.Common.{◌+◌, Ok, length, refl}
 use Rattle.thin_block.proofs.CapacityLemmas.{ruled-at}
 use Rattle.thin_vec.proofs.list.ReservesLemmas.{reserves-failed, reserves-then}

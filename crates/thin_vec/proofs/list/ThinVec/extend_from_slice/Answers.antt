@@ -1,4 +1,5 @@
--- A growth, and then clones of the items in its room.
+-- If `reserve` fails, nothing has changed. If it succeeds, the items are the same as before, and
+-- `extend_from_slice_reserved` appends the clones to them.
 use Rattle.std.proofs.Common.{◌∙◌, arith}
 use Rattle.thin_vec.proofs.list.ThinVec.extend_from_slice.Goals as goal
 

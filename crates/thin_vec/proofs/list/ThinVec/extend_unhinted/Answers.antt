@@ -1,13 +1,13 @@
 -- What came in so far, and one item more.
 use Rattle.std.proofs.lemmas.Grind.{common_steps}
-use Rattle.std.proofs.Common.{Err, ◌++◌, ◌∷◌, [], ◌-◌, ◌∙◌, ap, arith, append_assoc, length, length-append, subst, sym, ◌+◌, inr}
+use Rattle.std.proofs.Common.{Err, ◌++◌, ◌∷◌, [], ◌-◌, ◌∙◌, ap, arith, append_assoc, length, length-append, refl, subst, sym, ◌+◌, inr}
 use Rattle.std.proofs.lemmas.List.{length_push}
 use denote.Param.{param}
 use Rattle.thin_vec.specs.List.Extend.{IsLoose}
 use Rattle.thin_vec.specs.ThinVec.{capacity_for}
-use Rattle.thin_vec.proofs.list.ExtendLemmas.{named-more, filled-at, filled-join, filled-spare, loose-join, loose-le, loose-ruled, yields-join, yields-more}
+use Rattle.thin_vec.proofs.list.ExtendLemmas.{ruled-more, filled-at, filled-join, filled-spare, loose-join, loose-le, loose-ruled, yields-join, yields-more}
 use Rattle.thin_vec.proofs.ThinVecLemmas.{cost_at-copied}
-use Rattle.thin_block.proofs.Outcomes.{at-some, err-same}
+use Rattle.thin_block.proofs.Outcomes.{at-some, err-same, none-some}
 use Rattle.thin_vec.proofs.list.ThinVec.extend_unhinted.Goals as goal
 
 pub returns-in_default-clause-items : goal.returns-in_default-clause-items
@@ -44,25 +44,29 @@ returns-in-Err-clause-placed g c =
     drawn in (
       before.0 ++ now.0,
       ap (λ v. v.items) c.in-Err.ensures.err ∙ items,
-      rw c.in-Err.ensures.value_returned gave,
+      (let rest = at-some c.in-Some.is c.extend_reserved-left.ensures.rest in record {
+        gave = rw c.in-Err.ensures.value_returned gave;
+        can_next = rest.0;
+        finite = rest.1;
+      }),
     )
 
-pub returns-in_default-clause-named : goal.returns-in_default-clause-named
-returns-in_default-clause-named g c =
+pub returns-in_default-clause-ruled : goal.returns-in_default-clause-ruled
+returns-in_default-clause-ruled g c =
     let u = c.loop-item.self in let w = c.extend_reserved-left.new.self in
     let now = c.extend_reserved-left.ensures.items in
-    named-more g.G.Growth.rule (param 0 g.row.T) g.met.G.Growth.law c.args.self.now.capacity
+    ruled-more g.G.Growth.rule (param 0 g.row.T) g.met.G.Growth.law c.args.self.now.capacity
     (length u.items) (length w.items) (ap (λ z. z.capacity) c.extend_reserved-left.ensures.changes)
-    (omega (arith, ap length now.1, length-append u.items now.0)) c.loop-item.invariant.named
+    (omega (arith, ap length now.1, length-append u.items now.0)) c.loop-item.invariant.ruled
 
-pub returns-in-Err-clause-named : goal.returns-in-Err-clause-named
-returns-in-Err-clause-named g c =
+pub returns-in-Err-clause-ruled : goal.returns-in-Err-clause-ruled
+returns-in-Err-clause-ruled g c =
     let u = c.loop-item.self in let w = c.extend_reserved-left.new.self in
     let now = c.extend_reserved-left.ensures.items in
     rw c.in-Err.ensures.err
-    (named-more g.G.Growth.rule (param 0 g.row.T) g.met.G.Growth.law c.args.self.now.capacity
+    (ruled-more g.G.Growth.rule (param 0 g.row.T) g.met.G.Growth.law c.args.self.now.capacity
     (length u.items) (length w.items) (ap (λ z. z.capacity) c.extend_reserved-left.ensures.changes)
-    (omega (arith, ap length now.1, length-append u.items now.0)) c.loop-item.invariant.named)
+    (omega (arith, ap length now.1, length-append u.items now.0)) c.loop-item.invariant.ruled)
 
 pub loop-item-preserved : goal.loop-item-preserved
 loop-item-preserved g c =
@@ -94,7 +98,7 @@ loop-item-preserved g c =
     (cost_at-copied rule T law w 1 z.capacity c.extend_reserved-left.ensures.within.1.room
     pushed.reserves.ok) in
     let high = loose-le rule T law w.capacity z.capacity grown in
-    let low = loose-le rule T law v.capacity u.capacity held.capacity in
+    let low = loose-le rule T law v.capacity u.capacity held.loose in
     record {
       can = rest.0;
       finite = rest.1;
@@ -105,7 +109,7 @@ loop-item-preserved g c =
         gave,
       );
       nearer = omega (arith, held.nearer, nearer, long);
-      capacity = loose-join rule T law v.capacity u.capacity z.capacity held.capacity
+      loose = loose-join rule T law v.capacity u.capacity z.capacity held.loose
           (subst (λ n. IsLoose rule T n z.capacity) kept grown);
       never_less = omega (
         arith,
@@ -127,7 +131,7 @@ loop-item-preserved g c =
           (filled-join spare push (omega (arith, kept)) high
           (omega (arith, more)))
           low (omega (arith, high, kept)) (omega (arith, some));
-      named = let full = at-some c.in-Some.is c.extend_reserved-left.ensures.full in
+      ruled = let full = at-some c.in-Some.is c.extend_reserved-left.ensures.full in
           inr (
             w.capacity,
             length w.items + 1,
@@ -145,7 +149,7 @@ returns-in-Err-clause-succeeds g c = λ fit.
     let held = c.loop-item.invariant in
     let nearer = at-some c.in-Some.is c.extend_reserved-left.ensures.nearer in
     let low = loose-le g.G.Growth.rule (param 0 g.row.T) g.met.G.Growth.law c.args.self.now.capacity
-    c.loop-item.self.capacity held.capacity in
+    c.loop-item.self.capacity held.loose in
     c.in-Err.ensures.succeeds
     (omega (
       arith,
@@ -156,12 +160,6 @@ returns-in-Err-clause-succeeds g c = λ fit.
       ap (λ z. z.capacity) c.extend_reserved-left.ensures.changes,
     ))
 
-pub returns-in-Err-clause-overflow : goal.returns-in-Err-clause-overflow
-returns-in-Err-clause-overflow g c =
-    λ none. err-same (c.in-Err.ensures.reserves.overflow.1
-    (ap (λ v. capacity_for g.G.Growth.rule (param 0 g.row.T) v 1) (sym c.in-Err.ensures.err)
-    ∙ none))
-
 pub returns-in-Err-clause-cost : goal.returns-in-Err-clause-cost
 returns-in-Err-clause-cost g c =
     let held = c.loop-item.invariant in
@@ -171,30 +169,58 @@ returns-in-Err-clause-cost g c =
     let more = ap length now.1 ∙ length-append u.items now.0 in
     let some = ap length held.placed.1 ∙ length-append v.items held.placed.0 in
     let low = loose-le g.G.Growth.rule (param 0 g.row.T) g.met.G.Growth.law v.capacity
-    u.capacity held.capacity in
+    u.capacity held.loose in
     let spare = filled-spare u w (length w.items - length u.items)
     c.extend_reserved-left.ensures.changes (omega (arith, more)) in
     let kept = ap (λ z. z.capacity) c.extend_reserved-left.ensures.changes in
     rw c.in-Err.ensures.err
     (filled-join held.cost spare low (omega (arith, kept)) (omega (arith, some)))
 
-pub returns-in-Err-clause-alloc : goal.returns-in-Err-clause-alloc
-returns-in-Err-clause-alloc g c = search (arith, ◌∙◌)
-
-pub returns-in-Err-clause-capacity : goal.returns-in-Err-clause-capacity
-returns-in-Err-clause-capacity g c =
+pub returns-in-Err-clause-loose : goal.returns-in-Err-clause-loose
+returns-in-Err-clause-loose g c =
     let kept = ap (λ z. z.capacity) c.in-Err.ensures.err
     ∙ ap (λ z. z.capacity) c.extend_reserved-left.ensures.changes in
     subst (λ n. IsLoose g.G.Growth.rule (param 0 g.row.T) c.args.self.now.capacity n) (sym kept)
-    c.loop-item.invariant.capacity
+    c.loop-item.invariant.loose
 
 pub returns-in-Err-clause-cause : goal.returns-in-Err-clause-cause
-returns-in-Err-clause-cause g c = λ over.
-    ap (λ v. capacity_for g.G.Growth.rule (param 0 g.row.T) v 1) c.in-Err.ensures.err
-    ∙ c.in-Err.ensures.reserves.overflow.0 (ap Err over)
+returns-in-Err-clause-cause g c =
+    let same = ap (λ v. capacity_for g.G.Growth.rule (param 0 g.row.T) v 1) c.in-Err.ensures.err in
+    let overflow = c.in-Err.ensures.reserves.overflow in
+    record {
+      by_push = λ _. (
+        λ over. same ∙ overflow.0 (ap Err over),
+        λ none. err-same (overflow.1 (sym same ∙ none)),
+      );
+      must = λ none. absurd (none-some none refl);
+      may = λ none. absurd (none-some none refl);
+    }
 
-pub returns-in-Err-clause-cheap : goal.returns-in-Err-clause-cheap
-returns-in-Err-clause-cheap g c = search (arith, ◌∙◌)
+pub returns-in-Err-clause-keeps : goal.returns-in-Err-clause-keeps
+returns-in-Err-clause-keeps g c =
+    let held = c.loop-item.invariant in let pushed = c.in-Err.ensures.keeps in
+    let drawn = c.extend_reserved-left.ensures in
+    record {
+      alloc = pushed.alloc ∙ (ap (λ z. z.alloc) drawn.changes ∙ held.alloc);
+      never_less = omega (
+        arith,
+        held.never_less,
+        ap (λ z. z.capacity) drawn.changes,
+        pushed.never_less,
+      );
+      cheap = λ first. pushed.cheap (drawn.cheap (held.cheap first));
+      within = (c.requires.within, pushed.within.1);
+    }
+
+pub returns-in_default-clause-keeps : goal.returns-in_default-clause-keeps
+returns-in_default-clause-keeps g c =
+    let held = c.loop-item.invariant in let drawn = c.extend_reserved-left.ensures in
+    record {
+      alloc = ap (λ z. z.alloc) drawn.changes ∙ held.alloc;
+      never_less = omega (arith, held.never_less, ap (λ z. z.capacity) drawn.changes);
+      cheap = λ first. drawn.cheap (held.cheap first);
+      within = (c.requires.within, drawn.within.1);
+    }
 
 pub returns-in-Err-clause-full : goal.returns-in-Err-clause-full
 returns-in-Err-clause-full g c = search (arith, ◌∙◌)
@@ -202,14 +228,8 @@ returns-in-Err-clause-full g c = search (arith, ◌∙◌)
 pub returns-in-Err-clause-had_room : goal.returns-in-Err-clause-had_room
 returns-in-Err-clause-had_room g c = search (arith, ◌∙◌)
 
-pub returns-in-Err-clause-rest : goal.returns-in-Err-clause-rest
-returns-in-Err-clause-rest g c = search (arith, ◌∙◌)
-
-pub returns-in_default-clause-alloc : goal.returns-in_default-clause-alloc
-returns-in_default-clause-alloc g c = search (arith, ◌∙◌)
-
-pub returns-in_default-clause-capacity : goal.returns-in_default-clause-capacity
-returns-in_default-clause-capacity g c = grind (arith, common_steps)
+pub returns-in_default-clause-loose : goal.returns-in_default-clause-loose
+returns-in_default-clause-loose g c = grind (arith, common_steps)
 
 pub returns-in_default-clause-cost : goal.returns-in_default-clause-cost
 returns-in_default-clause-cost g c = grind (arith, common_steps)

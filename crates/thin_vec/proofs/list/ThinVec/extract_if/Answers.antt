@@ -1,4 +1,5 @@
--- The items in front of the range stand apart, and those in it are to be asked about.
+-- `extract_if` opens the block of the list. The items before the range are the front, and the items
+-- of the range, which are still to be tested, are the middle run.
 use Rattle.std.proofs.Common.{arith, ◌∙◌}
 use Rattle.thin_vec.proofs.list.ThinVec.extract_if.Goals as goal
 

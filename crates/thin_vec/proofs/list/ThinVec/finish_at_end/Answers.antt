@@ -1,6 +1,8 @@
--- With no item after the gap, the closed list is what is left, and `extend` says the rest.
-use Rattle.std.proofs.Common.{◌≡◌, ◌*◌, ◌++◌, ◌∙◌, ap, arith, length, length-append, subst, sym}
+-- If there is no tail, the closed list is what is left of the block, and the clauses of `extend` give
+-- the rest.
+use Rattle.std.proofs.Common.{◌≡◌, ◌*◌, ◌++◌, ◌∙◌, ap, arith, length, length-append, refl, subst, sym}
 use Rattle.std.specs.Iterator.{size}
+use Rattle.std.specs.Prelude.{MatchOption}
 use denote.Param.{param}
 use Rattle.thin_vec.specs.List.Extend.{IsExtended}
 use Rattle.thin_vec.specs.Edits.Splice.{left_of}
@@ -8,17 +10,18 @@ use Rattle.thin_vec.specs.Edits.Finish.{HasTaken}
 use Rattle.thin_vec.specs.ThinVec.{HasRoomFor}
 use Rattle.thin_vec.proofs.edits.SpliceLemmas.{after-items, closed-left, spliced-extended, stop-at-end, stopped-now}
 use Rattle.thin_vec.proofs.edits.FinishLemmas.{finished-ok}
+use Rattle.thin_vec.specs.declared.errors.SpliceRefused.{SpliceRefused}
 use Rattle.thin_vec.proofs.list.ThinVec.finish_at_end.Goals.{After-extend}
 use Rattle.thin_vec.proofs.list.ThinVec.finish_at_end.Goals as goal
 
--- what is left of the block
+-- the closed list is what is left of the block
 left : (g : _) (c : After-extend g)
     → c.close.new.self ≡ left_of c.args.block c.args.self.now.alloc
 left g c =
     c.close.ensures.changes
     ∙ closed-left c.args.block c.args.self.now c.requires.none c.requires.no_tail
 
--- what became of that
+-- `extend` has taken the items of the iterator into what is left of the block
 taken : (g : _) (c : After-extend g)
     → HasTaken g.G.Growth.rule (param 0 g.row.T) (left_of c.args.block c.args.self.now.alloc)
     c.extend.new.self (2 * length c.args.block.tail) (g.I.Iterator.remaining c.args.iter)
@@ -26,23 +29,23 @@ taken g c =
     let n = 2 * length c.args.block.tail in
     let w = c.extend.new.self in let more = g.I.Iterator.remaining c.args.iter in
     let now : HasTaken g.G.Growth.rule (param 0 g.row.T) c.close.new.self w n more = record {
-      capacity = c.extend.ensures.capacity;
-      had_room = c.extend.ensures.had_room;
+      capacity = c.extend.ensures.capacity.loose;
+      had_room = c.extend.ensures.capacity.had_room;
       cost = spliced-extended c.close.new.self w n c.extend.ensures.cost;
-      alloc = c.extend.ensures.alloc;
-      cheap = c.extend.ensures.cheap;
+      alloc = c.extend.ensures.keeps.alloc;
+      cheap = c.extend.ensures.keeps.cheap;
     } in
     subst (λ z. HasTaken g.G.Growth.rule (param 0 g.row.T) z w n more) (left g c) now
 
--- where its capacity comes from
-named : (g : _) (c : After-extend g)
+-- the capacity is ruled as `extend` states it for what is left of the block
+ruled : (g : _) (c : After-extend g)
     → IsExtended g.G.Growth.rule (param 0 g.row.T) (left_of c.args.block c.args.self.now.alloc)
     c.extend.new.self.capacity (length c.extend.new.self.items)
     (g.I.Iterator.remaining c.args.iter)
-named g c =
+ruled g c =
     let w = c.extend.new.self in
     subst (λ z. IsExtended g.G.Growth.rule (param 0 g.row.T) z w.capacity (length w.items)
-    (g.I.Iterator.remaining c.args.iter)) (left g c) c.extend.ensures.named
+    (g.I.Iterator.remaining c.args.iter)) (left g c) c.extend.ensures.capacity.ruled
 
 pub returns-in-Ok : goal.returns-in-Ok
 returns-in-Ok g c =
@@ -54,15 +57,21 @@ returns-in-Ok g c =
       gave.2 ∙ (ap (λ z. z.items ++ gave.0) (left g at)
           ∙ after-items v gave.0 c.requires.no_tail),
     )
-    (taken g at) (named g at)
+    (taken g at) (ruled g at)
 
 pub returns-in-Err : goal.returns-in-Err
 returns-in-Err g c =
     let v = c.args.block in let refused = c.in-Err.refused in
     let at = (goal.at.returns-in-Err g c).After-extend in
     let is = left g at in
-    let gave = c.in-Err.ensures.placed in
-    let asked = c.in-Err.ensures.rest in
+    let gave = c.in-Err.ensures.placed in let none = c.new-held.ensures.items in
+    let error : SpliceRefused _ _ _ =
+    record {
+      cause = refused.cause;
+      held = c.new-held.result;
+      in_hand = refused.in_hand;
+      rest = refused.rest;
+    } in
     record {
       succeeds = λ few. c.in-Err.ensures.succeeds (omega (
         arith,
@@ -76,21 +85,23 @@ returns-in-Err g c =
           (subst (λ z. HasRoomFor z (size (g.I.Iterator.remaining c.args.iter))) (sym is) fit);
       items = tt;
       taken = taken g at;
-      named = named g at;
+      ruled = ruled g at;
       placed = (
         gave.0,
         gave.1 ∙ (ap (λ z. z.items ++ gave.0) is
             ∙ after-items v gave.0 c.requires.no_tail),
         stopped-now g.I.Iterator.next_gives g.I.Iterator.can_next g.I.Iterator.remaining
-            c.args.iter refused.rest gave.0 c.new-held.result.items refused.in_hand
-            c.new-held.ensures.items gave.2 asked.0 asked.1,
+            c.args.iter gave.0 error none gave.2,
       );
       range = λ some. absurd (omega (arith, some, ap length c.requires.no_tail));
+      at_end = λ _. record {
+        held = none;
+        in_hand = subst (λ z. MatchOption refused.in_hand
+            ((c.extend.new.self ≡ z) × (refused.rest ≡ c.args.iter))
+            (λ _. length c.extend.new.self.items ≡ c.extend.new.self.capacity)) is
+            c.in-Err.ensures.in_hand;
+      };
       cause = stop-at-end g.G.Growth.rule (param 0 g.row.T) c.extend.new.self v.tail
-          c.new-held.result.items refused.in_hand (g.I.Iterator.remaining refused.rest)
-          refused.cause c.requires.no_tail c.new-held.ensures.items c.in-Err.ensures.overflow
+          (g.I.Iterator.remaining refused.rest) error refused c.requires.no_tail none refl refl
           c.in-Err.ensures.cause;
-      held = λ _. c.new-held.ensures.items;
-      full = λ _. c.in-Err.ensures.full;
-      err = λ _ none. let same = c.in-Err.ensures.err none in (same.0 ∙ is, same.1);
     }

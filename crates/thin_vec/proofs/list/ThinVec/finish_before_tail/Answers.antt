@@ -1,12 +1,16 @@
--- The gap is filled, then the room that the hint asked for, and then the held items go in.
-use Rattle.std.proofs.Common.{[], Err, None, Ok, Some, inl, inr, ◌≡◌, ◌+◌, ◌-◌, ◌*◌, ◌++◌, ◌∙◌, ap, arith, length, refl, subst, sym}
+-- The gap is filled, then the room that the size hint asked for, and then the collected items are
+-- inserted: each of the four ways to return gives what `IsFinished` states.
+use Rattle.std.proofs.Common.{[], Err, None, Ok, Some, inl, inr, ◌≡◌, ◌-◌, ◌*◌, ◌∙◌, ap, arith, length, refl, subst, sym}
 use denote.Param.{param}
 use Rattle.thin_vec.specs.Edits.Finish.{HasTaken}
-use Rattle.thin_vec.specs.Edits.Splice.{IsStopCause, Stopped, left_of}
+use Rattle.thin_block.specs.declared.errors.ThinVecError.TheVariants.{CapacityOverflow}
+use Rattle.thin_vec.specs.List.Extend.{MayOverflow, MustOverflow, PausedAfter}
+use Rattle.thin_vec.specs.Edits.Splice.{left_of}
 use Rattle.thin_vec.specs.Put.{Gives}
-use Rattle.thin_vec.proofs.list.ExtendLemmas.{named-after}
+use Rattle.thin_vec.proofs.list.ExtendLemmas.{ruled-after}
 use Rattle.thin_vec.proofs.edits.SpliceLemmas.{if-err, stop-at-hint, stopped-now}
 use Rattle.thin_vec.proofs.edits.FinishLemmas.{filled-drains, filled-reached, filled-taken, finished-from, finished-ok, reached-extended, reached-grown, reached-long, reached-more, reached-taken}
+use Rattle.thin_vec.specs.declared.errors.SpliceRefused.{SpliceRefused}
 use Rattle.thin_vec.proofs.list.ThinVec.finish_before_tail.Goals as goal
 
 pub returns-then-ended : goal.returns-then-ended
@@ -30,14 +34,25 @@ returns-in-Err g c =
     let rejected = c.in-Err.rejected in
     let same = c.in-Err.ensures.err.0 in let rest = c.in-Err.ensures.err.1 in
     let here = reached-grown (filled-reached p c.if-ended.false) w (ap (λ z. z.items) same) in
-    finished-from v a c.args.iter w (Err _) here c.requires.some c.in-Err.ensures.succeeds tt
-    (subst (λ r. Stopped steps can left t [] c.new.result.items None r) (sym rest)
-    (stopped-now steps can left t t [] c.new.result.items None c.new.ensures.items refl
-    here.can_next here.finite))
-    (subst (λ r. IsStopCause rule T w v.tail c.new.result.items None (left r) rejected.cause)
-    (sym rest)
-    (stop-at-hint rule T w v.tail c.new.result.items None (left t) rejected.cause
-    c.requires.some c.new.ensures.items refl c.in-Err.ensures.overflow c.in-Err.ensures.cause))
+    let error : SpliceRefused _ _ _ =
+    record {
+      cause = rejected.cause;
+      held = c.new.result;
+      in_hand = None;
+      rest = rejected.value;
+    } in
+    finished-from v a c.args.iter w (Err error) here c.requires.some c.in-Err.ensures.succeeds tt
+    (stopped-now steps can left t [] error c.new.ensures.items
+    (subst (λ r. PausedAfter steps can left t [] r) (sym rest) (record {
+      gave = refl;
+      can_next = here.can_next;
+      finite = here.finite;
+    })))
+    (stop-at-hint rule T w v.tail (left rejected.value) error c.requires.some c.new.ensures.items refl
+    (subst (λ r. MustOverflow rule T w (left r) → rejected.cause ≡ CapacityOverflow) (sym rest)
+    c.in-Err.ensures.must)
+    (subst (λ r. rejected.cause ≡ CapacityOverflow → MayOverflow rule T w (left r)) (sym rest)
+    c.in-Err.ensures.may))
     refl
     (subst (λ z. HasTaken rule T (left_of v a) z (2 * length v.tail) (left c.args.iter)) (sym same)
     (filled-taken p rule T (2 * length v.tail) (left c.args.iter)
@@ -95,6 +110,6 @@ returns-else-ended-2 g c =
     (c.in-Ok.ensures.taken_full c.if-ended-2.false))
     c.insert_held.ensures.taken)
     (reached-extended first rule T a w.capacity (length w.items) p.1.capacity
-    (named-after rule T law u.capacity y.capacity w.capacity (length w.items) _
-    c.insert_held.ensures.named
+    (ruled-after rule T law u.capacity y.capacity w.capacity (length w.items) _
+    c.insert_held.ensures.ruled
     (λ same. (hint.0, hint.1, hint.2 ∙ ap Some (sym same)))))

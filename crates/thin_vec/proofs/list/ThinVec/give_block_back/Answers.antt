@@ -1,4 +1,5 @@
--- No block has no item and no slot.
+-- `Block::none()` has no slots. So after `give_block_back` the list has no items and the capacity
+-- 0, and satisfies `IsWithin`.
 use Rattle.std.proofs.Common.{ap, length, rules, ◌∙◌}
 use Rattle.thin_block.specs.Slots.{items_in}
 use Rattle.thin_vec.proofs.ListLemmas.{thin_of-becomes}

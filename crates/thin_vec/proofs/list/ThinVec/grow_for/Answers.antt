@@ -1,4 +1,5 @@
--- The capacity is the ruled one, and paid for, or nothing changed.
+-- If the growth rule names a capacity, `grow_to` makes it the capacity, for the cost of one growth,
+-- or fails and changes nothing. If the rule names none, nothing changes.
 use Rattle.std.proofs.Common.{arith, ◌∙◌}
 use Rattle.thin_vec.proofs.list.ThinVec.grow_for.Goals as goal
 

@@ -1,4 +1,5 @@
--- The items lie in front of a larger block, or where the allocator fails, of the old one.
+-- If the growth succeeds, the items lie at the front of a larger block. If the allocator fails,
+-- they lie at the front of the old block.
 use Rattle.std.proofs.Common.{◌≤◌, ap, ◌∙◌, arith, length, refl}
 use denote.Param.{param}
 use Rattle.thin_block.specs.Slots.{items_in}
@@ -8,7 +9,8 @@ use Rattle.thin_vec.proofs.ListLemmas.{Settled, thin_of-becomes}
 use Rattle.thin_vec.proofs.ThinVecLemmas.{within-settled}
 use Rattle.thin_vec.proofs.list.ThinVec.grow_to.Goals as goal
 
--- the items are where they were, in at most so many slots
+-- whether the growth succeeds or fails, the block is that of a list with the same items, and has at
+-- most `cap` slots
 tried : (g : _) (c : goal.After-grow g)
     → Settled c.grow.new.self c.self.inside.alloc
     (items_in c.self.inside.block.slots) (length c.grow.new.self.slots)

@@ -1,4 +1,5 @@
--- A list has a block where its capacity is not 0.
+-- `has_capacity` returns true if and only if the capacity is not 0, that is, if the list owns a
+-- block.
 use Rattle.std.proofs.Common.{arith, ◌∙◌}
 use Rattle.thin_vec.proofs.list.ThinVec.has_capacity.Goals as goal
 

@@ -1,4 +1,5 @@
--- A growth by one place, and then the item among the others.
+-- `reserve` does not change the items, and then `insert_reserved` puts `value` among them. If
+-- `reserve` fails, nothing has changed.
 use Rattle.std.proofs.Common.{◌∙◌, arith}
 use Rattle.thin_vec.proofs.list.ThinVec.insert.Goals as goal
 

@@ -1,4 +1,6 @@
--- Where a clone fails, those before it lie in the list for a while, and go out again.
+-- If a clone fails, `drop_range` removes the clones made before it, so the list has its old items
+-- again. Each item from `at` on is moved at most once by each of `open_wide`, `close` and
+-- `drop_range`.
 use Rattle.std.proofs.Common.{◌≡◌, ◌+◌, ◌-◌, ◌++◌, ◌∙◌, [], ap, arith, drop, eqb, length, length-append, sym, take}
 use Rattle.std.proofs.lemmas.List.{length-drop, length-take-le}
 use Rattle.std.proofs.lemmas.List.Elements.{length_all_zip}
@@ -7,7 +9,7 @@ use Rattle.thin_vec.proofs.list.ClonesLemmas.{not-all}
 use Rattle.thin_vec.proofs.edits.ReplaceRangeLemmas.{at-most-if, at-most-le, at-most-more, if-le, put-and-gone}
 use Rattle.thin_vec.proofs.list.ThinVec.insert_clones_reserved.Goals as goal
 
--- the list with the clones that were made
+-- after `close`, the items of the list are the old ones with the placed clones inserted at `at`
 closed : (g : _) (c : goal.After-drop_range g) → c.close.new.self.items
     ≡ replace_range c.args.self.now.items c.args.at c.args.at
     c.fill_from_clones-placed.ensures.front.0

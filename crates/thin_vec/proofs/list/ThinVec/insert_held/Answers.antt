@@ -1,12 +1,12 @@
 -- What was drawn is held, and then goes in, or is returned with the cause.
-use Rattle.std.proofs.Common.{Err, None, Some, ◌++◌, drop, take, inl, inr, ◌≡◌, ◌+◌, ◌-◌, ◌<◌, ◌∙◌, ap, arith, length, refl, subst, sym}
+use Rattle.std.proofs.Common.{Err, ◌++◌, drop, take, inl, inr, ◌≡◌, ◌+◌, ◌-◌, ◌<◌, ◌∙◌, ap, arith, length, refl, subst, sym}
 use Rattle.std.proofs.lemmas.Bool.{cases_lt, false≢true}
 use Rattle.std.specs.Option.{option_len}
 use Rattle.std.specs.Prelude.{IsSome}
 use denote.Param.{param}
-use Rattle.thin_vec.specs.List.Extend.{IsNamed}
+use Rattle.thin_vec.specs.List.Extend.{IsKeptOrRuled}
 use Rattle.thin_vec.specs.ThinVec.{capacity_for}
-use Rattle.thin_vec.proofs.edits.SpliceLemmas.{drawn-after, inserted-long, named-ruled, stop-at-held, taken-join, taken-none, taken-reserved, taken-spare}
+use Rattle.thin_vec.proofs.edits.SpliceLemmas.{drawn-after, inserted-long, kept-or-ruled, stop-at-held, taken-join, taken-none, taken-reserved, taken-spare}
 use Rattle.thin_block.proofs.Outcomes.{err-same}
 use Rattle.thin_vec.proofs.list.ThinVec.insert_held.Goals.{In-Err}
 use Rattle.thin_vec.proofs.list.ThinVec.insert_held.Goals as goal
@@ -31,7 +31,14 @@ returns-in-Some-in_hand-clause-placed g c =
     c.draw-held.result.held.items c.draw-held.result.in_hand c.in-Some.ensures.steps
     c.draw-held.ensures.gave.1 c.draw-held.ensures.gave.2 in
     let asked = c.draw-held.ensures.asked (subst IsSome (sym c.in-Some-in_hand.is) refl) in
-    inl (rw c.in-Some-in_hand.is at gave, λ none. cc, asked.0, asked.1)
+    inl (
+      record {
+        gave = rw c.in-Some-in_hand.is at gave;
+        can_next = asked.0;
+        finite = asked.1;
+      },
+      λ none. cc,
+    )
 
 pub returns-in-Some-in_hand-clause-succeeds : goal.returns-in-Some-in_hand-clause-succeeds
 returns-in-Some-in_hand-clause-succeeds g c = λ none.
@@ -40,7 +47,6 @@ returns-in-Some-in_hand-clause-succeeds g c = λ none.
 pub returns-in-Some-in_hand-clause-cause : goal.returns-in-Some-in_hand-clause-cause
 returns-in-Some-in_hand-clause-cause g c = λ tail some.
     stop-at-held g.G.Growth.rule (param 0 g.row.T) c.args.self.now tail
-    c.draw-held.result.held.items (Some c.in-Some-in_hand.item)
     (g.I.Iterator.remaining c.draw-held.result.rest) _ some (λ none. cc) (λ none. cc) (λ _. refl)
 
 pub returns-in-Some-in_hand-clause-taken : goal.returns-in-Some-in_hand-clause-taken
@@ -77,8 +83,8 @@ returns-in-Err-clause-cause g c = λ tail some.
     let same : capacity_for rule T c.args.self.now c.len.result
     ≡ capacity_for rule T c.reserve.new.self (length held) =
     λ i. capacity_for rule T (sym c.in-Err.ensures.err i) (count g here i) in
-    stop-at-held rule T c.reserve.new.self tail held None
-    (g.I.Iterator.remaining c.draw-held.result.rest) c.in-Err.cause some (λ _. more g here)
+    stop-at-held rule T c.reserve.new.self tail (g.I.Iterator.remaining c.draw-held.result.rest) _
+    some (λ _. more g here)
     (λ _. (
       λ over. sym same ∙ c.in-Err.ensures.reserves.overflow.0 (ap Err over),
       λ none. err-same (c.in-Err.ensures.reserves.overflow.1 (same ∙ none)),
@@ -93,16 +99,16 @@ returns-in-Err-clause-taken g c =
 pub returns-in-Err-clause-err : goal.returns-in-Err-clause-err
 returns-in-Err-clause-err g c = search (arith, ◌∙◌)
 
-pub returns-clause-named : goal.returns-clause-named
-returns-clause-named g c =
+pub returns-clause-ruled : goal.returns-clause-ruled
+returns-clause-ruled g c =
     let rule = g.G.Growth.rule in let T = param 0 g.row.T in
     let v = c.args.self.now in let u = c.reserve.new.self in let w = c.insert_vec.new.self in
     let kept = c.insert_vec.ensures.changes in
     let long = ap (λ z. length z.items) c.insert_vec.ensures.changes
     ∙ inserted-long c.reserve.new.self.items c.draw-held.result.held.items c.args.at
     (omega (arith, ap length c.reserve.ensures.items, c.requires.in_bounds)) in
-    subst (λ d. IsNamed rule T v.capacity d (length w.items)) (ap (λ z. z.capacity) (sym kept))
-    (named-ruled rule T g.met.G.Growth.law v c.len.result u.capacity (length w.items)
+    subst (λ d. IsKeptOrRuled rule T v.capacity d (length w.items)) (ap (λ z. z.capacity) (sym kept))
+    (kept-or-ruled rule T g.met.G.Growth.law v c.len.result u.capacity (length w.items)
     c.in_default-reserve.ensures.reserves.ok
     (omega (
       arith,

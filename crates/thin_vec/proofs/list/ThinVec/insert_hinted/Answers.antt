@@ -1,5 +1,5 @@
 -- The list is opened for as many items as the hint says, and the gap is filled.
-use Rattle.std.proofs.Common.{Err, Some, ◌≡◌, ◌+◌, ◌-◌, ◌*◌, ◌<◌, ◌≤◌, ◌++◌, ◌∙◌, ap, arith, drop, length, refl, subst, sym, take}
+use Rattle.std.proofs.Common.{Err, Some, ◌≡◌, ◌+◌, ◌-◌, ◌*◌, ◌≤◌, ◌++◌, ◌∙◌, ap, arith, drop, length, refl, subst, sym, take}
 use Rattle.std.proofs.lemmas.Bool.{false≢true}
 use Rattle.std.proofs.lemmas.List.{length-drop, length-take-le}
 use denote.Param.{param}
@@ -111,8 +111,8 @@ returns-in-Err-clause-succeeds g c = λ none.
       c.reserve.ensures.keeps.within.0.room,
     ))
 
-pub returns-in-Err-clause-overflow : goal.returns-in-Err-clause-overflow
-returns-in-Err-clause-overflow g c = λ must.
+pub returns-in-Err-clause-must : goal.returns-in-Err-clause-must
+returns-in-Err-clause-must g c = λ must.
     let hint = c.size_hint-hint.result.0 in
     let same = c.in-Err.ensures.err in
     err-same (c.in-Err.ensures.reserves.overflow.1
@@ -120,8 +120,8 @@ returns-in-Err-clause-overflow g c = λ must.
     ∙ must hint c.size_hint-hint.ensures.lower
     (λ room. false≢true (c.in-Err.ensures.succeeds (subst (λ z. HasRoomFor z hint) same room)))))
 
-pub returns-in-Err-clause-cause : goal.returns-in-Err-clause-cause
-returns-in-Err-clause-cause g c = λ over.
+pub returns-in-Err-clause-may : goal.returns-in-Err-clause-may
+returns-in-Err-clause-may g c = λ over.
     let hint = c.size_hint-hint.result.0 in (
       hint,
       c.size_hint-hint.ensures.lower,

@@ -1,4 +1,6 @@
--- The items from the index on make room, and the value goes in.
+-- `move_run` moves the items from `index` on up by one slot, and `put_and_store` puts `value` into
+-- the slot at `index`, which is then empty. So the new items are `insert` of the old ones, and the
+-- capacity does not change.
 use Rattle.std.proofs.Common.{Some, ◌+◌, ◌-◌, ap, ◌∙◌, length, arith, refl, ◌≡◌}
 use lib.ListN.{set}
 use Rattle.std.specs.Prelude.{insert}

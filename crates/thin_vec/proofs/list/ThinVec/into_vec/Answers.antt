@@ -1,4 +1,5 @@
--- The `Vec` has just enough places.
+-- The vector is made with exactly as many places as the list has items, and `moved_to` does not
+-- change its capacity. If the list is empty, making the vector cannot fail.
 use Rattle.std.proofs.Common.{arith, ◌∙◌}
 use Rattle.thin_vec.proofs.list.ThinVec.into_vec.Goals as goal
 

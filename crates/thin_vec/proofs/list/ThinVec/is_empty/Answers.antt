@@ -1,4 +1,4 @@
--- A list of length 0 has no item.
+-- A list has no items if and only if its length is 0.
 use Rattle.std.proofs.Common.{arith}
 use Rattle.std.proofs.lemmas.Grind.{common_steps}
 use Rattle.thin_vec.proofs.list.ThinVec.is_empty.Goals as goal

@@ -1,4 +1,5 @@
--- The capacity stays, and the items fit it.
+-- The items that `sift` keeps become the items of the list. The capacity does not change, and these
+-- items fit into it.
 use Rattle.std.proofs.Common.{◌≡◌, arith, rules}
 use Rattle.thin_vec.proofs.ThinVecLemmas.{within-like}
 use Rattle.std.proofs.lemmas.Grind.{common_steps}

@@ -1,4 +1,4 @@
--- The length is that of the block.
+-- `len` returns the length that the block stores, which is the number of items.
 use Rattle.std.proofs.Common.{arith, ◌∙◌}
 use Rattle.thin_vec.proofs.list.ThinVec.len.Goals as goal
 

@@ -1,4 +1,5 @@
--- Each item has come over.
+-- The loop moves the items of the list to `vec`, one by one and in order. When the loop ends, `vec`
+-- has all items, and the iterator has none left, as `release` requires.
 use Rattle.std.proofs.Common.{arith}
 use Rattle.std.proofs.lemmas.Grind.{common_steps}
 use Rattle.thin_vec.proofs.list.ThinVec.moved_to.Goals as goal

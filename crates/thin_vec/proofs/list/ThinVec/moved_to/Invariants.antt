@@ -1,4 +1,6 @@
--- What went over and what remains are the list's items, and no room was made.
+-- The items in `vec`, followed by the items left in the iterator, are the items of the list, and
+-- the capacity of `vec` is unchanged. Each turn of the loop reduces the number of items in the
+-- iterator.
 use Rattle.std.proofs.Common.{◌≡◌, ◌+◌, ◌++◌, length, vec_capacity, vec_len}
 use Rattle.thin_vec.proofs.list.ThinVec.moved_to.Given as goal
 

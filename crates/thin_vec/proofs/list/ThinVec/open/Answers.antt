@@ -1,4 +1,5 @@
--- The block is the one that the list had, its items cut into three runs with no slot between.
+-- `open` returns the block of the list. The front, the middle run and the tail of this open block
+-- are the items of the list, split at `start` and `end`, with no empty slot between them.
 use Rattle.std.proofs.Common.{◌≡◌, ◌≤◌, ap, sym, ◌∙◌, subst, arith, drop, length, take, rules}
 use Rattle.std.specs.Prelude.{slice_range}
 use Rattle.thin_block.specs.Slots.{items_in}
@@ -7,7 +8,7 @@ use Rattle.thin_vec.proofs.ListLemmas.{thin_of-becomes}
 use Rattle.thin_vec.proofs.OpenBlockLemmas.{Found, open-step, opened, opened-seen}
 use Rattle.thin_vec.proofs.list.ThinVec.open.Goals as goal
 
--- the block that the list gave up is the one that it had
+-- the block that `replace` returns is the block that the list had, so it satisfies `IsThin`
 was : (g : _) (c : goal.After-replace-block g) → IsThin c.replace-block.result c.self.inside.alloc
 was g c = subst (λ b. IsThin b c.self.inside.alloc)
     (sym c.replace-block.ensures.value) c.self.invariant

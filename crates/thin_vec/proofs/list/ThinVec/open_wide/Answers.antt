@@ -1,4 +1,5 @@
--- The gap is opened, and made wide where it has to be.
+-- `open` splits the items at `at`. If `count` is not 0, `widen` makes a gap of `count` slots before
+-- the item at `at`, and moves each item after the gap once.
 use Rattle.std.proofs.lemmas.Grind.{common_steps}
 use Rattle.std.proofs.Common.{◌∙◌, arith}
 use Rattle.thin_vec.proofs.list.ThinVec.open_wide.Goals as goal

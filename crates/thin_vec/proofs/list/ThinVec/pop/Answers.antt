@@ -1,4 +1,5 @@
--- A list with an item is not empty, and one shorter afterwards.
+-- A list that is not empty has a last item, as `pop_last` requires. So `pop` returns an item, and
+-- the list is one item shorter afterwards.
 use Rattle.std.proofs.Common.{arith}
 use Rattle.std.proofs.lemmas.Grind.{common_steps}
 use Rattle.thin_vec.proofs.list.ThinVec.pop.Goals as goal

@@ -1,4 +1,5 @@
--- The closure was called at the last item, which went, or stays as it was left.
+-- `pop_if` calls the closure with the last item. If the closure returns true, this item is removed
+-- and returned; otherwise the list keeps it. In both cases the item is as the closure left it.
 use Rattle.std.proofs.Common.{◌≡◌, ℕ, ◌-◌, suc, true, false, inr, List, [], ◌∷◌, ◌++◌, length, take, take_all, get_or, Some, refl, sym, ap, subst, ◌∙◌, arith}
 use Rattle.std.proofs.Math.Seq.{take-suc, take-suc-set}
 use Rattle.std.proofs.lemmas.List.{same_from_push}
@@ -6,7 +7,8 @@ use Rattle.std.specs.Fn.{FnOnceReturnsAtMut}
 use lib.ListN.{set, length-set}
 use Rattle.thin_vec.proofs.list.ThinVec.pop_if.Goals as goal
 
--- the last item, as it was and as it was left
+-- if xs has n + 1 items and x is the item at n, then xs is its first n items followed by x, and
+-- writing y over the item at n gives the first n items followed by y
 last : {T : Type 0} (xs : List T) (n : ℕ) (x y : T) → length xs ≡ suc n → x ≡ get_or xs n x
     → (xs ≡ take n xs ++ x ∷ []) × (set xs n y ≡ take n xs ++ y ∷ [])
 last xs n x y all is = (

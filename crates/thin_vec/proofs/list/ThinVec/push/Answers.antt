@@ -1,4 +1,4 @@
--- Where it fails, nothing changed, and the item comes back.
+-- If `reserve` fails, `push` has changed nothing, and returns `value` in the error.
 use Rattle.std.proofs.Common.{arith, ◌∙◌}
 use Rattle.thin_vec.proofs.list.ThinVec.push.Goals as goal
 

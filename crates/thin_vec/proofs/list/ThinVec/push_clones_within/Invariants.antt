@@ -1,4 +1,4 @@
--- So many items of the range were cloned.
+-- The loop of `push_clones_within` appends a clone of each item of the range, in order.
 use Rattle.std.proofs.Common.{◌≡◌, ◌+◌, length, take}
 use Rattle.std.specs.List.{AppendsClones}
 use Rattle.std.specs.Prelude.{slice_range}
@@ -7,7 +7,8 @@ use denote.Param.{param}
 use Rattle.thin_vec.specs.ThinVec.{IsWithin}
 use Rattle.thin_vec.proofs.list.ThinVec.push_clones_within.Given as goal
 
--- clones of the first i items of the range were pushed
+-- when the loop reaches i, clones of the first i items of the range have been appended, and i moves
+-- are counted
 abbrev pub invariant-loop-i : goal.invariant-loop-i
 invariant-loop-i g l =
     record {

@@ -1,4 +1,5 @@
--- The clones lie after the items.
+-- `put_repeated` puts clones of `value` into the slots directly after the items, so they are
+-- appended to the items.
 use Rattle.std.proofs.Common.{◌≡◌, ◌++◌, ap, arith, length, ◌∙◌, refl, rules}
 use Rattle.std.proofs.lemmas.List.{length-replicate}
 use Rattle.thin_block.proofs.BlockLemmas.{slots-are, then-len}

@@ -1,4 +1,5 @@
--- One slot is emptied, and those after it close the gap.
+-- `remove` takes the item at `index` out of its slot and moves the items after it down by one slot.
+-- So the new items are `remove` of the old ones, and the capacity does not change.
 use Rattle.std.proofs.Common.{◌+◌, ◌-◌, ap, ◌∙◌, length, arith, refl, ◌≡◌}
 use Rattle.std.specs.Prelude.{remove}
 use Rattle.thin_vec.proofs.ListLemmas.{Settled, thin-filled, thin-get, kept-filled}

@@ -1,5 +1,7 @@
--- The capacity is that for the items beyond the range's places; the items' type as `reserve` sees it
--- has the same size and alignment.
+-- `replace_range_from_copies` reserves room for the items that do not fit into the places of the
+-- range. In its contract the item type is a `Copy` type, and in that of `reserve` it is not known
+-- to be one; both have the same size and alignment, so the capacity and the error are those of
+-- `reserve`.
 use Rattle.std.proofs.Common.{◌≡◌, ◌+◌, ◌-◌, ◌∙◌, Ok, ap, arith, length, refl}
 use denote.Param.{copied}
 use Rattle.thin_block.proofs.CapacityLemmas.{ruled-at}

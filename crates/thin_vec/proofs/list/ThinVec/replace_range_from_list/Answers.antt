@@ -1,4 +1,5 @@
--- The capacity is that for the items beyond the range's places.
+-- `replace_range_from_list` reserves room for the items that do not fit into the places of the
+-- range. So its capacity and its error are those of `reserve` for their number.
 use Rattle.std.proofs.Common.{◌≡◌, ◌-◌, Ok, ap, arith, length}
 use denote.Param.{param}
 use Rattle.thin_vec.specs.ThinVec.{capacity_for}

@@ -1,4 +1,5 @@
--- The capacity is the ruled one.
+-- If the list has room for `additional` more items, `reserve` changes nothing, and the ruled
+-- capacity is the present capacity.
 use Rattle.std.proofs.Common.{arith}
 use Rattle.std.proofs.Common.{refl}
 use Rattle.thin_vec.proofs.list.ReservesLemmas.{reserves-room}

@@ -1,4 +1,5 @@
--- The block has just as many places as were asked for.
+-- If `reserve_exact` succeeds, the capacity is exactly the one requested. The two answers are for
+-- the calls that fail, about which the clause `capacity` says nothing.
 use Rattle.std.proofs.Common.{arith, ◌∙◌}
 use Rattle.thin_vec.proofs.list.ThinVec.reserve_exact.Goals as goal
 

@@ -1,4 +1,6 @@
--- The list is shorter, or clones and the value lie after the items.
+-- If `len` is at most the old length, `truncate` keeps the first `len` items. Otherwise `reserve`
+-- does not change the items, and `resize_reserved` appends clones of `value` and then `value`
+-- itself.
 use Rattle.std.proofs.lemmas.Grind.{common_steps}
 use Rattle.std.proofs.Common.{◌≡◌, ◌+◌, ◌-◌, ◌++◌, ap, arith, inr, length, replicate, subst, sym, take, take_all, ◌∙◌}
 use Rattle.std.specs.Prelude.{OnOk, Some}

@@ -1,4 +1,5 @@
--- Clones that are equal, and the value, are so many times the value.
+-- If each clone of `value` equals it, the clones and `value` itself are `count` times `value`. If a
+-- clone fails, `truncate` drops the clones made, so the items are the old ones.
 use Rattle.std.proofs.Common.{arith}
 use Rattle.thin_vec.proofs.list.ClonesLemmas.{equal-repeated}
 use Rattle.std.proofs.lemmas.Grind.{common_steps}

@@ -1,4 +1,6 @@
--- The ruled capacity is that for the items that are added.
+-- If the list does not become longer, its capacity does not change. Otherwise `reserve` makes the
+-- capacity the ruled one for the items that are added, and `push_results_reserved` does not change
+-- it.
 use Rattle.std.proofs.Common.{Ok, ◌-◌, ap, arith, subst, sym, ◌∙◌}
 use denote.Param.{param}
 use Rattle.thin_vec.specs.List.Capacity.{Reserves}

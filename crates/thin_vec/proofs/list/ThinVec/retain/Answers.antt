@@ -1,4 +1,6 @@
--- Each question to the test is a look of the closure that it holds.
+-- Each call of the test calls the closure `keep` once, and does not change the item. So what
+-- `keep_those` guarantees for the test holds for the closure, and the items left are those for
+-- which it returns true.
 use Rattle.std.specs.Fn.{CalledAt}
 use Rattle.thin_vec.specs.Edits.Retain.{Looks}
 use Rattle.thin_vec.proofs.RetainLemmas.{few-retained, retained-through, retained_filtered}

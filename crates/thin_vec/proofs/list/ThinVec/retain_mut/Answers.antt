@@ -1,4 +1,5 @@
--- Each question to the test is a call of the closure that it holds.
+-- Each call of the test calls the closure `keep` once. So what `keep_those` guarantees for the test
+-- holds for the closure, and no more items are left than before.
 use Rattle.std.specs.Fn.{CalledAtMut}
 use Rattle.thin_vec.proofs.RetainLemmas.{few-retained, retained-through}
 use Rattle.thin_vec.proofs.list.ThinVec.retain_mut.Goals as goal

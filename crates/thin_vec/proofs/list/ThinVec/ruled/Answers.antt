@@ -1,4 +1,5 @@
--- No block has no item and no slot.
+-- `Block::none()` has no slots. So the list that `ruled` returns has no items and the capacity 0,
+-- and satisfies `IsWithin`.
 use Rattle.std.proofs.Common.{ap, length, arith, ◌∙◌}
 use Rattle.thin_block.specs.Slots.{items_in}
 use Rattle.thin_vec.proofs.ThinVecLemmas.{within-none}

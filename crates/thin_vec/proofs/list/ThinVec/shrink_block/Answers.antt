@@ -1,4 +1,5 @@
--- The items lie in front of a smaller block.
+-- If `shrink` succeeds, the items lie at the front of a smaller block, which has `cap` slots. So
+-- the list has the same items.
 use Rattle.std.proofs.Common.{ap, ◌∙◌, arith, length, refl}
 use Rattle.thin_block.specs.Slots.{items_in}
 use Rattle.thin_vec.proofs.ListLemmas.{Settled, thin_of-becomes}

@@ -1,4 +1,5 @@
--- The range goes out, and what lies after it stays there.
+-- `splice` opens the block of the list. The items of the range are the middle run, and the items
+-- after it are the tail, which stays in its slots.
 use Rattle.std.proofs.Common.{arith, ◌∙◌}
 use Rattle.std.proofs.lemmas.Grind.{common_steps}
 use Rattle.thin_vec.proofs.list.ThinVec.splice.Goals as goal

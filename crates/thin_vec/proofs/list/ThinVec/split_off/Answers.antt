@@ -1,4 +1,5 @@
--- Fewer items than the length fit.
+-- A capacity of `len` fits, so the smaller capacity `len - at` for the items that are split off
+-- fits too. The second list has exactly this capacity.
 use Rattle.std.proofs.Common.{◌-◌, arith, ◌∙◌}
 use denote.Param.{param}
 use Rattle.thin_block.proofs.CapacityLemmas.{fits-less}

@@ -1,4 +1,5 @@
--- The first slots, as an array, are the items; no slot is filled afterwards.
+-- The first N slots, read as an array, are the items of the list. After the call no slot is filled,
+-- so the list is empty.
 use Rattle.std.proofs.Common.{[], ◌∙◌, ap, arith, length, subst}
 use denote.Param.{param}
 use Rattle.thin_block.specs.Capacity.{Fits}

@@ -1,4 +1,5 @@
--- A new block holds no item.
+-- A newly allocated block holds no item, so the list made of it is empty. Its capacity is
+-- `capacity`, which fits.
 use Rattle.std.proofs.Common.{[]}
 use Rattle.thin_vec.proofs.ListLemmas.{Settled}
 use Rattle.thin_vec.proofs.ThinVecLemmas.{within-settled}

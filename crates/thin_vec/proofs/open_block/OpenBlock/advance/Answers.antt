@@ -1,10 +1,11 @@
--- Where there is no gap, the run that stays joins the front without a move.
+-- If there is no gap, the items before the first one to be removed become part of the front without
+-- a move.
 use Rattle.std.proofs.Common.{◌≡◌, ◌<◌, ◌++◌, ◌∙◌, ap, drop, sym, take}
 use Rattle.std.proofs.lemmas.Bool.{false≢true}
 use Rattle.thin_vec.proofs.RetainLemmas.{moving-before}
 use Rattle.thin_vec.proofs.open_block.OpenBlock.advance.Goals as goal
 
--- there is no gap
+-- if there is no gap, `Advances` holds with no move counted
 pub returns-clause-advances : goal.returns-clause-advances
 returns-clause-advances g c =
     let v = c.args.self.now in

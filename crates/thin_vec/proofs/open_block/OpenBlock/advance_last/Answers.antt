@@ -1,4 +1,5 @@
--- There is no item, or it stays and moves, or it goes.
+-- The middle run has at most one item. `Advances` holds in each of three cases: there is no item,
+-- the item stays and is moved to the front, or the item is to be removed.
 use Rattle.std.proofs.Common.{◌++◌, ◌∙◌, ap, arith, drop, rules, sym, take}
 use Rattle.std.proofs.lemmas.List.{append-nil}
 use Rattle.thin_block.specs.Cost.{moving}
@@ -6,7 +7,7 @@ use Rattle.thin_vec.proofs.RetainLemmas.{asked-count, moving-after, moving-none,
 use Rattle.std.proofs.lemmas.Grind.{common_steps}
 use Rattle.thin_vec.proofs.open_block.OpenBlock.advance_last.Goals as goal
 
--- there is no item
+-- if there is no item, nothing changes
 pub returns-then-rest_len-eq0-clause-advances : goal.returns-then-rest_len-eq0-clause-advances
 returns-then-rest_len-eq0-clause-advances g c =
     let R = g.J.Test.tests in
@@ -23,7 +24,7 @@ returns-then-rest_len-eq0-clause-advances g c =
       };
     }
 
--- it stays
+-- if the item stays, it is moved to the front
 pub returns-then-test-clause-advances : goal.returns-then-test-clause-advances
 returns-then-test-clause-advances g c =
     let R = g.J.Test.tests in
@@ -44,7 +45,7 @@ returns-then-test-clause-advances g c =
       });
     }
 
--- it goes
+-- if the item is to be removed, it is left in the middle run, as the test left it
 pub returns-clause-advances : goal.returns-clause-advances
 returns-clause-advances g c =
     let R = g.J.Test.tests in

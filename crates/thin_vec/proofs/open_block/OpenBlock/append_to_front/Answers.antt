@@ -1,4 +1,5 @@
--- The first empty slot takes the value, which then lies after the front.
+-- `append_to_front` puts `value` into the first slot of the gap, which lies directly after the
+-- front. So `value` becomes the last item of the front, for one move.
 use Rattle.std.proofs.Common.{◌≡◌, ◌+◌, ◌-◌, ap, ◌∙◌, arith, rules}
 use Rattle.thin_block.specs.Cost.{moving}
 use Rattle.thin_vec.specs.OpenBlock.{open_of}

@@ -1,4 +1,5 @@
--- So far some first items were asked about, and the gap stays open.
+-- The turns of the loop so far have tested some of the first items of the middle run, and there is
+-- still a gap. Each turn of the loop reduces the number of items left to test.
 use Rattle.std.proofs.Common.{◌<◌, length}
 use Rattle.thin_vec.specs.OpenBlock.Dedup.{Dedups}
 use Rattle.thin_vec.proofs.open_block.OpenBlock.dedup_past_gap.Given as goal

@@ -1,4 +1,5 @@
--- Some first items stay; then none is left, or one goes and rounds ask about those after it.
+-- The items before the first one to be removed become part of the front. Then either no item is
+-- left, or that item is dropped and `dedup_past_gap` tests the items after it.
 use Rattle.std.proofs.Common.{◌≡◌, [], sym, ap, ◌∙◌, arith, rules}
 use Rattle.thin_vec.proofs.edits.DedupLemmas.{deduped-ends, deduped-goes}
 use Rattle.std.proofs.lemmas.List.{nil_from_length}

@@ -1,18 +1,20 @@
--- A round ends at the first item that goes, or where none is left: a case for each such place.
+-- A call of `dedup_two` ends at the first item that is removed, or when no item is left. `Dedups`
+-- holds in each of the four cases below.
 use Rattle.std.proofs.Common.{◌≡◌, ◌∷◌, [], ap, false, refl, sym, ◌∙◌, arith, rules}
 use Rattle.std.proofs.lemmas.List.{append-nil, nil_from_length}
 use Rattle.thin_vec.proofs.edits.DedupLemmas.{run-count, run-ends, run-goes, dedups-goes, dedups-run, dedups-two}
 use Rattle.std.proofs.lemmas.Grind.{common_steps}
 use Rattle.thin_vec.proofs.open_block.OpenBlock.dedup_two.Goals as goal
 
--- the next item goes
+-- if the next item is to be removed, it is dropped
 pub returns-then-test_last-clause-dedups : goal.returns-then-test_last-clause-dedups
 returns-then-test_last-clause-dedups g c =
     dedups-goes g.J.PairTest.tests c.args.self.now c.test_last.new.self
     c.take_first-later.result c.test_last.new.later c.test_last.new.self.front
     (search rules) (search rules) (search rules) (search rules)
 
--- the next item stays, and the one after it goes
+-- if the next item stays and the one after it is to be removed, the former is appended to the
+-- front, and the latter is dropped
 pub returns-then-goes-clause-dedups : goal.returns-then-goes-clause-dedups
 returns-then-goes-clause-dedups g c =
     dedups-two g.J.PairTest.tests c.args.self.now c.take_first.new.self c.args.test.now
@@ -23,7 +25,8 @@ returns-then-goes-clause-dedups g c =
     c.test_next-goes.result c.test_next-goes.ensures.asked (search rules)
     c.if-goes.true c.take_first.result (search rules) (search rules) (search rules)
 
--- the next two items stay, with a run, and the one after the run goes
+-- if the next two items stay, and an item after them is to be removed, all items before that item
+-- are moved to the front, and that item is dropped
 pub returns-then-rest_len-gt0-clause-dedups : goal.returns-then-rest_len-gt0-clause-dedups
 returns-then-rest_len-gt0-clause-dedups g c =
     let R = g.J.PairTest.tests in
@@ -42,7 +45,7 @@ returns-then-rest_len-gt0-clause-dedups g c =
     c.test_pairs-kept.new.self.rest r goes.0 (run-count R _ _ _ _ _ r (false ∷ []) refl goes.1)
     (search rules) (search rules)
 
--- the next two items stay, and so do all others
+-- if all items stay, they are all moved to the front
 pub returns-else-rest_len-gt0-clause-dedups : goal.returns-else-rest_len-gt0-clause-dedups
 returns-else-rest_len-gt0-clause-dedups g c =
     let R = g.J.PairTest.tests in

@@ -1,4 +1,5 @@
--- Each item that was dropped has left an empty slot after the front.
+-- Each turn of the loop drops the first item of the middle run, whose slot becomes part of the gap
+-- after the front. So the middle run becomes shorter at each turn, and nothing else changes.
 use Rattle.std.proofs.Common.{◌≡◌, ◌+◌, length}
 use Rattle.thin_vec.proofs.open_block.OpenBlock.drop_rest.Given as goal
 

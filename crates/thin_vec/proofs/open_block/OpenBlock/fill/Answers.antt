@@ -1,4 +1,5 @@
--- The items that the iterator yielded lie after the front, and the gap has lost as many slots.
+-- `put_iter` puts the items that the iterator yields into the slots directly after the front. So
+-- these items are added to the front, and the gap is shorter by as many slots.
 use Rattle.std.proofs.Common.{◌≡◌, ◌-◌, ◌++◌, ◌≤◌, ◌∙◌, ap, arith, length, sym}
 use Rattle.thin_block.proofs.BlockLemmas.{slots-are}
 use Rattle.thin_block.specs.Block.{seen}

@@ -1,4 +1,5 @@
--- The clones lie after the front.
+-- `put_clones` puts the clones into the slots directly after the front. So the clones are added to
+-- the front, and the gap is shorter by as many slots.
 use Rattle.std.proofs.Common.{◌≡◌, ◌+◌, ◌-◌, ◌++◌, ◌∙◌, ap, arith, length, sym}
 use Rattle.thin_block.specs.Cost.{moving}
 use Rattle.thin_vec.specs.OpenBlock.{open_of}

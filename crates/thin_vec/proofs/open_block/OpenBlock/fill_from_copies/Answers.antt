@@ -1,4 +1,5 @@
--- The copies lie after the front.
+-- `copy_in` puts the copies into the slots directly after the front. So the copies are added to the
+-- front, and the gap is shorter by as many slots.
 use Rattle.thin_block.specs.Cost.{moving}
 use Rattle.std.proofs.Common.{◌≡◌, ◌+◌, ◌-◌, ◌++◌, ◌∙◌, ap, arith, length, refl}
 use Rattle.thin_vec.specs.OpenBlock.{open_of}

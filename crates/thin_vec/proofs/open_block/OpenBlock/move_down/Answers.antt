@@ -1,4 +1,5 @@
--- One item more went to the front, for one move more.
+-- Each turn of the loop moves one more item to the front, for one move. So if the invariant holds
+-- before a turn, it holds after it.
 use Rattle.std.proofs.Common.{◌++◌, drop, take, ap, sym, ◌∙◌, append_assoc}
 use Rattle.std.proofs.Math.Seq.{take-add}
 use Rattle.std.proofs.lemmas.List.{drop-drop}
@@ -6,7 +7,7 @@ use Rattle.thin_block.specs.Cost.{moving}
 use Rattle.thin_vec.proofs.RetainLemmas.{moving-more}
 use Rattle.thin_vec.proofs.open_block.OpenBlock.move_down.Goals as goal
 
--- one item more went to the front
+-- if `done` items have been moved to the front before a turn, `done + 1` have been moved after it
 pub loop-done-preserved : goal.loop-done-preserved
 loop-done-preserved g c =
     let n = c.loop-done.done in

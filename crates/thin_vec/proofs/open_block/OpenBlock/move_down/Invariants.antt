@@ -1,4 +1,5 @@
--- So far as many items went to the front as there were turns.
+-- After `done` turns of the loop, the first `done` items of the middle run have been moved to the
+-- front, and `done` moves are counted.
 use Rattle.std.proofs.Common.{◌≡◌, ◌++◌, drop, take}
 use Rattle.thin_block.specs.Cost.{moving}
 use Rattle.thin_vec.proofs.open_block.OpenBlock.move_down.Given as goal

@@ -1,4 +1,5 @@
--- The last slots of the tail are filled, and their items then lie after the front.
+-- The last `count` slots of the tail are filled. `move_run` moves their items into the slots
+-- directly after the front, so these items belong to the front and no longer to the tail.
 use Rattle.std.proofs.Common.{◌≡◌, ◌-◌, ◌≤◌, ◌++◌, ◌∙◌, ap, arith, drop, length, take}
 use Rattle.thin_block.specs.Cost.{moving}
 use Rattle.thin_vec.specs.OpenBlock.{open_of}

@@ -1,4 +1,5 @@
--- The first slot of the middle run is filled, and its item then lies after the front.
+-- The first slot of the middle run is filled. Its item is moved into the slot directly after the
+-- front, so it belongs to the front and no longer to the middle run.
 use Rattle.thin_block.specs.Block.{Seen}
 use Rattle.std.proofs.Common.{Some, ◌≤◌, ◌++◌, ap, ◌∙◌, arith, length, take, drop, rules, ◌≡◌}
 use lib.ListN.{set}

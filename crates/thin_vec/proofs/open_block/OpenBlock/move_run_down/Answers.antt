@@ -1,4 +1,5 @@
--- The first slots of the middle run are filled, and their items then lie after the front.
+-- The first `k` slots of the middle run are filled. `close_gap` moves their items into the slots
+-- directly after the front, so these items belong to the front and no longer to the middle run.
 use Rattle.thin_block.specs.Block.{seen}
 use Rattle.std.proofs.Common.{◌≡◌, ◌≤◌, ◌+◌, ◌-◌, ◌++◌, ap, sym, subst, ◌∙◌, arith, length, take, drop}
 use Rattle.std.specs.Prelude.{IsSome}

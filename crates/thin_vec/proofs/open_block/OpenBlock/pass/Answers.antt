@@ -1,4 +1,5 @@
--- With no empty slot between, the first items of the middle run lie after the front already.
+-- There is no gap, so the first `k` items of the middle run already lie directly after the front.
+-- They become part of the front without a move.
 use Rattle.std.proofs.Common.{◌≤◌, ◌++◌, ap, ◌∙◌, arith, length, take, drop}
 use Rattle.thin_vec.specs.OpenBlock.{open_of}
 use Rattle.thin_vec.proofs.OpenBlockLemmas.{Found}

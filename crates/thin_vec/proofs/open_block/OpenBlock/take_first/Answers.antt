@@ -1,4 +1,5 @@
--- The first slot of the middle run is filled, and then empty.
+-- The slot at `rest_start` holds the first item of the middle run. `take_first` empties this slot,
+-- which becomes part of the gap after the front.
 use Rattle.std.proofs.Common.{◌≡◌, ◌<◌, ◌+◌, ◌∷◌, List, ap, sym, ◌∙◌, arith, length}
 use Rattle.thin_vec.specs.OpenBlock.{open_of}
 use Rattle.thin_vec.proofs.OpenBlockLemmas.{Found, first-left, first-seen, first-step, rest-filled}
@@ -16,7 +17,7 @@ take-requires g c =
 some : (g : _) (c : goal.After-take g) → 0 < length (open_of c.self.inside).rest
 some g c = omega (arith, c.requires.some, ap (λ v. length v.rest) c.self.view_is)
 
--- the block afterwards, and what was taken
+-- the middle run was the returned item followed by some items ys, and after the call it is ys
 facts : (g : _) (c : goal.After-take g) → (ys : List g.row.T.Denot)
     × ((open_of c.self.inside).rest ≡ c.take.result ∷ ys)
     × Found (first-left c.self.inside c.self.invariant c.take.new.self (some g c))

@@ -1,4 +1,5 @@
--- The last slot of the middle run is filled, and then empty.
+-- The slot before `rest_end` holds the last item of the middle run. `take_last` empties this slot,
+-- which becomes part of the gap after the middle run.
 use Rattle.std.proofs.Common.{◌≡◌, ◌<◌, ◌+◌, ◌∷◌, ◌++◌, ◌-◌, [], List, ap, sym, ◌∙◌, arith, length}
 use Rattle.thin_vec.specs.OpenBlock.{open_of}
 use Rattle.thin_vec.proofs.OpenBlockLemmas.{Found, last-left, last-seen, last-step, rest-filled}
@@ -17,7 +18,7 @@ take-requires g c =
 some : (g : _) (c : goal.After-take g) → 0 < length (open_of c.self.inside).rest
 some g c = omega (arith, c.requires.some, ap (λ v. length v.rest) c.self.view_is)
 
--- the block afterwards, and what was taken
+-- the middle run was some items ys followed by the returned item, and after the call it is ys
 facts : (g : _) (c : goal.After-take g) → (ys : List g.row.T.Denot)
     × ((open_of c.self.inside).rest ≡ ys ++ c.take.result ∷ [])
     × Found (last-left c.self.inside c.self.invariant c.take.new.self (some g c))

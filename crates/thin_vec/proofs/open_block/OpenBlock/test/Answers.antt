@@ -1,4 +1,5 @@
--- The slot of the item is filled, and then holds the item as it was left.
+-- The slot at `rest_start + k` holds the tested item. After the test it holds this item as the test
+-- left it, and nothing else has changed.
 use Rattle.std.proofs.Common.{◌<◌, ◌+◌, refl, ap, sym, ◌∙◌, arith, length}
 use Rattle.thin_block.specs.Lends.{with_item}
 use Rattle.thin_vec.specs.OpenBlock.{open_of}
@@ -18,7 +19,8 @@ slot_mut-requires g c =
 low : (g : _) (c : goal.After-self-1 g) → c.args.k < length (open_of c.self.inside).rest
 low g c = omega (arith, c.requires.in_bounds, ap (λ v. length v.rest) c.self.view_is)
 
--- the item that was asked about, and what the block shows afterwards
+-- after the test, the item at `k` of the middle run is as the test left it, and nothing else has
+-- changed
 facts : (g : _) (c : goal.After-self-1 g) → Written c.self.inside c.self.invariant
     (with_item c.self.inside.block (c.self.inside.rest_start + c.args.k) c.test.new.item)
     c.args.k (low g c) c.slot_mut.result.now c.test.new.item

@@ -1,4 +1,5 @@
--- Both slots are filled, and then hold the two items as they were left.
+-- The slots of the items at `k - 1` and `k` of the middle run are filled. After the test they hold
+-- the two items as the test left them, and nothing else has changed.
 use Rattle.std.proofs.Common.{◌-◌, ap, sym, ◌∙◌, arith, length}
 use Rattle.thin_vec.specs.OpenBlock.{open_of}
 use Rattle.thin_vec.proofs.OpenBlockLemmas.{rest-filled}
@@ -18,7 +19,8 @@ test_neighbours-requires-clause-filled g c = λ j low high.
       ap (λ v. length v.rest) c.self.view_is,
     ))
 
--- what the block shows afterwards
+-- after the test, the items at `k - 1` and `k` of the middle run are as the test left them, and
+-- nothing else has changed
 facts : (g : _) (c : goal.After-test_neighbours g) → WrittenTwo c.self.inside c.self.invariant
     (c.args.k - 1) c.test_neighbours.new.block c.test_neighbours.ensures.asked.kept
     c.test_neighbours.ensures.asked.later c.test_neighbours.ensures.asked.kept_left

@@ -1,4 +1,5 @@
--- Each item so far stays, and nothing else of the block has changed.
+-- The first `kept` items of the middle run stay, and nothing outside the middle run has changed.
+-- Each turn of the loop reduces the number of items left to test.
 use Rattle.std.proofs.Common.{◌≡◌, ◌-◌, length}
 use Rattle.thin_vec.proofs.edits.DedupLemmas.{PairStays}
 use Rattle.thin_vec.proofs.open_block.OpenBlock.test_pairs.Given as goal

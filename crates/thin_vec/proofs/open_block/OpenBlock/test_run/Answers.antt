@@ -1,4 +1,5 @@
--- One item more was asked about and stays, or it goes and ends the run.
+-- Each turn of the loop tests the next item. If this item stays, the run of items that stay is one
+-- item longer; if it is to be removed, the run ends before it.
 use Rattle.std.proofs.Common.{arith, refl, rules}
 use Rattle.thin_vec.proofs.RetainLemmas.{stays-goes, stays-more, stays-start}
 use Rattle.std.proofs.lemmas.Grind.{common_steps}

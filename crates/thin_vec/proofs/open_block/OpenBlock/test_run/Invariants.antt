@@ -1,4 +1,5 @@
--- Each item so far stays, and nothing else of the block has changed.
+-- The items of the middle run from `k` up to `at` were tested and stay, and nothing outside the
+-- middle run has changed. Each turn of the loop reduces the number of items left to test.
 use Rattle.std.proofs.Common.{◌≡◌, ◌-◌, length}
 use Rattle.thin_vec.proofs.RetainLemmas.{Stays}
 use Rattle.thin_vec.proofs.open_block.OpenBlock.test_run.Given as goal

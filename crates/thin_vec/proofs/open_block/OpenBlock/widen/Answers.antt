@@ -1,4 +1,5 @@
--- The tail has room after it, and once it is up, as many more empty slots before it.
+-- There are at least `count` empty slots after the tail, so the tail can be moved up by `count`
+-- slots. The gap before the tail then has `count` more slots.
 use Rattle.std.proofs.Common.{◌≡◌, ℕ, ◌+◌, ◌-◌, ◌≤◌, ◌∙◌, ap, arith, length, subst, sym}
 use Rattle.std.specs.Prelude.{IsSome}
 use Rattle.thin_block.specs.Block.{seen}
@@ -10,7 +11,8 @@ use Rattle.thin_vec.specs.declared.open_block.OpenBlock.TheInside.{Inside}
 use Rattle.thin_vec.proofs.OpenBlockLemmas.{Found, reached, spare-empty, tail-filled, widen-step, widened, widened-seen}
 use Rattle.thin_vec.proofs.open_block.OpenBlock.widen.Goals as goal
 
--- the tail has room after it
+-- if h is seen as v, and v has at least k slots after its tail, then h has at least k slots after
+-- `h.len`
 fits : {T A : Type 0} (h : Inside T A) (v : Open T A) (k : ℕ) → Shows h (open_of h) → open_of h ≡ v
     → reach v + k ≤ v.capacity → h.len + k ≤ (open_of h).capacity
 fits h v k shows is room =

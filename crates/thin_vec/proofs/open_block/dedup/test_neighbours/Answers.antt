@@ -1,4 +1,5 @@
--- Each part of the slice is one item, and the slots hold both as they were left.
+-- The slice of two slots is split into two parts of one item each. After the test the two slots
+-- hold the items as the test left them.
 use Rattle.std.proofs.Common.{arith, rules}
 use Rattle.thin_vec.proofs.open_block.DedupLemmas.{parts-of}
 use Rattle.std.proofs.lemmas.Grind.{common_steps}

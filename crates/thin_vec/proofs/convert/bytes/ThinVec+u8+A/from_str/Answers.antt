@@ -1,4 +1,6 @@
--- The capacity at `u8` is the one at items of its size.
+-- The contract of `from_copies` is generic in the item type, and names the capacity for a type of
+-- the same size and alignment as `u8`. So this is the capacity for items of type `u8`, and both
+-- calls fail with the same error.
 use Rattle.std.proofs.Common.{◌∙◌, ap, length, refl, subst, arith}
 use Rattle.std.specs.Borrow.{u8}
 use Rattle.std.specs.Prelude.{IfErr, Option, ℕ}
@@ -8,11 +10,11 @@ use Rattle.thin_vec.proofs.list.ReservesLemmas.{tells-same}
 use Rattle.thin_vec.proofs.convert.bytes.ThinVec+u8+A.from_str.Goals as goal
 use Rattle.thin_vec.specs.ThinVec.{IsCause}
 
--- the bytes' type as `from_copies` sees it has the same size and alignment, and the text is its
--- bytes
+-- the item type in the contract of `from_copies` has the size and the alignment of `u8`, and the
+-- items passed to it are the bytes of the text
 pub returns-clause-overflow : goal.returns-clause-overflow
 returns-clause-overflow g c =
-    tells-same _ _ (exact-at _ u8 0 (length c.as_bytes.result.now) refl refl
+    tells-same _ _ _ _ (exact-at _ u8 0 (length c.as_bytes.result.now) refl refl
     ∙ ap (λ bytes. exact_capacity u8 0 (length bytes)) c.as_bytes.ensures.value)
     c.from_copies.ensures.overflow
 

@@ -1,4 +1,4 @@
--- Nothing waits to be written.
+-- `flush` changes nothing, because no byte is held back.
 use Rattle.std.proofs.Common.{arith, ◌∙◌}
 use Rattle.thin_vec.proofs.convert.bytes.ThinVecU8Write.flush.Goals as goal
 

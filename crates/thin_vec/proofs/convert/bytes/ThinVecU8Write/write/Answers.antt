@@ -1,4 +1,4 @@
--- All bytes are written.
+-- If `write` succeeds, it has written all bytes of `buf`, and returns their number.
 use Rattle.std.proofs.Common.{arith, ◌∙◌}
 use Rattle.thin_vec.proofs.convert.bytes.ThinVecU8Write.write.Goals as goal
 

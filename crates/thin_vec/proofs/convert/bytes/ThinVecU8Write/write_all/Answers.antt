@@ -1,11 +1,13 @@
--- The capacity at `u8` is the one at items of its size.
+-- The contract of `reserve_run` is generic in the item type, and names the capacity for a type of
+-- the same size and alignment as `u8`. So this is the capacity for items of type `u8`, and if there
+-- is none, the call fails.
 use Rattle.std.proofs.Common.{◌+◌, ◌∙◌, Some, ap, length, refl, sym, arith}
 use Rattle.std.specs.Borrow.{u8}
 use Rattle.thin_block.proofs.CapacityLemmas.{ruled-at}
 use Rattle.thin_block.proofs.Outcomes.{none-some}
 use Rattle.thin_vec.proofs.convert.bytes.ThinVecU8Write.write_all.Goals as goal
 
--- the bytes' type as `reserve` sees it has the same size and alignment
+-- the item type in the contract of `reserve_run` has the size and the alignment of `u8`
 pub returns-clause-capacity : goal.returns-clause-capacity
 returns-clause-capacity g c =
     ruled-at u8 _ c.args.self.now.capacity (length c.args.self.now.items + length c.args.buf.now)

@@ -1,4 +1,6 @@
--- The items' type as `with_capacity` sees it has the same size and alignment.
+-- In the contract of `from_copies`, the item type is a `Copy` type; in that of `with_capacity`, it
+-- is not known to be one. Both types have the same size and alignment, so both calls fail with
+-- `CapacityOverflow` for the same lengths.
 use Rattle.std.proofs.Common.{length, refl}
 use Rattle.thin_block.proofs.CapacityLemmas.{exact-at}
 use Rattle.thin_vec.proofs.list.ReservesLemmas.{tells-made, tells-same}
@@ -6,8 +8,8 @@ use Rattle.thin_vec.proofs.convert.from.ThinVec+T+A.from_copies.Goals as goal
 
 pub returns-in-Ok-clause-overflow : goal.returns-in-Ok-clause-overflow
 returns-in-Ok-clause-overflow g c =
-    tells-made _ _ (exact-at _ _ 0 (length c.args.items.now) refl refl) c.in-Ok.ensures.overflow
+    tells-made _ _ _ _ (exact-at _ _ 0 (length c.args.items.now) refl refl) c.in-Ok.ensures.overflow
 
 pub returns-in-Err-clause-overflow : goal.returns-in-Err-clause-overflow
 returns-in-Err-clause-overflow g c =
-    tells-same _ _ (exact-at _ _ 0 (length c.args.items.now) refl refl) c.in-Err.ensures.overflow
+    tells-same _ _ _ _ (exact-at _ _ 0 (length c.args.items.now) refl refl) c.in-Err.ensures.overflow

@@ -1,4 +1,5 @@
--- Fewer items than the capacity fit.
+-- The number of items not yet yielded is at most the capacity, and the capacity fits. So a capacity
+-- of that number fits too, as `from_fitting_slice` requires.
 use Rattle.std.proofs.Common.{ap, arith, length}
 use denote.Param.{param}
 use Rattle.thin_block.proofs.CapacityLemmas.{fits-less}

@@ -1,4 +1,4 @@
--- Fewer items remain each time.
+-- Each turn of the loop in `drop` reduces the number of items left, so the loop ends.
 use Rattle.std.proofs.Common.{length}
 use Rattle.thin_vec.proofs.convert.into_iter.IntoIter.drop.Given as goal
 

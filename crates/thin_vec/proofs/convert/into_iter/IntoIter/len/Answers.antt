@@ -1,4 +1,5 @@
--- As many items come as are left.
+-- `len` returns the number of slots from `start` up to `end`, which is the number of items not yet
+-- yielded.
 use Rattle.std.proofs.Common.{arith, ◌∙◌}
 use Rattle.thin_vec.proofs.convert.into_iter.IntoIter.len.Goals as goal
 

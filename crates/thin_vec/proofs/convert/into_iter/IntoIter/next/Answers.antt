@@ -1,4 +1,4 @@
--- The first item that is left, if there is one.
+-- If an item is left, `next` yields the first one, and the other items remain.
 use Rattle.std.proofs.Common.{arith, ◌∙◌}
 use Rattle.thin_vec.proofs.convert.into_iter.IntoIter.next.Goals as goal
 

@@ -1,4 +1,4 @@
--- With no item left, each slot is empty.
+-- `release` requires that no item is left. So each slot is empty, and the block may be released.
 use Rattle.std.proofs.Common.{ap, arith, length}
 use Rattle.thin_vec.proofs.convert.IntoIterLemmas.{walked-empty}
 use Rattle.thin_vec.proofs.convert.into_iter.IntoIter.release.Goals as goal

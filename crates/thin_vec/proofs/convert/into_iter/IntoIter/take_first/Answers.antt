@@ -1,4 +1,5 @@
--- The first slot that remains is filled, and then empty.
+-- The first item that is left lies in the slot at `start`. `take_first` empties this slot and
+-- increases `start` by 1, so the other items are left.
 use Rattle.std.proofs.Common.{◌+◌, ◌<◌, ◌∷◌, ap, sym, ◌∙◌, arith, drop, length, refl, rules}
 use Rattle.thin_block.specs.Slots.{items_in}
 use Rattle.thin_vec.proofs.convert.IntoIterLemmas.{Walking, first-item, settle-first, walked-filled}

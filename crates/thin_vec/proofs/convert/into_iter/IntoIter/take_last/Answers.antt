@@ -1,11 +1,12 @@
--- The last item that remains leaves its slot, and the walk ends one slot sooner.
+-- The last item that is left lies in the slot before `end`. `take_last` empties this slot and
+-- decreases `end` by 1, so the other items are left.
 use Rattle.std.proofs.Common.{◌-◌, ◌<◌, ◌≤◌, ◌∷◌, ◌++◌, [], ap, sym, ◌∙◌, arith, length, take, refl, rules}
 use Rattle.thin_block.specs.Slots.{items_in}
 use Rattle.thin_vec.proofs.convert.IntoIterLemmas.{Walking, last-item, settle-last, walked-filled}
 use Rattle.thin_vec.proofs.ListLemmas.{thin_of-keeps}
 use Rattle.thin_vec.proofs.convert.into_iter.IntoIter.take_last.Goals as goal
 
--- an item remains
+-- an item is left, so `start` is less than `end`
 some : (g : _) (c : goal.After-take g) → c.self.inside.start < c.self.inside.end
 some g c = omega (
   arith,
@@ -14,7 +15,7 @@ some g c = omega (
   ap (λ v. length v.items) c.self.view_is,
 )
 
--- the slot before the end is filled
+-- the slot before `end` is filled, as `take` requires
 pub take-requires : goal.take-requires
 take-requires g c =
     let it = c.self.inside in
@@ -27,7 +28,7 @@ take-requires g c =
           c.self.invariant from to;
     }
 
--- the block afterwards: all items but the last, between the same start and an end one slot sooner
+-- after the call, the block holds all items but the last, in the slots from `start` up to `end - 1`
 facts : (g : _) (c : goal.After-take g)
     → let it = c.self.inside in
     let most = take (it.end - 1 - it.start) (items_in it.block.slots) in

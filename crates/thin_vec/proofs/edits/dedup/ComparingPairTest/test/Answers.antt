@@ -1,4 +1,5 @@
--- An item that equals the one that was kept goes.
+-- The test returns whether the later item equals the last item kept, and changes neither item. If
+-- they are equal, the later item is removed.
 use Rattle.std.proofs.Common.{arith, ◌∙◌}
 use Rattle.thin_vec.proofs.edits.dedup.ComparingPairTest.test.Goals as goal
 

@@ -1,4 +1,5 @@
--- The later item is passed first, and then the one that was kept.
+-- The test passes to the closure first the later item and then the last item kept, and returns what
+-- the closure returns.
 use Rattle.std.proofs.Common.{arith, ◌∙◌}
 use Rattle.thin_vec.proofs.edits.dedup.DedupingPairTest.test.Goals as goal
 

@@ -1,4 +1,5 @@
--- The two calls of the closure, and the comparison of their keys, in order.
+-- The test calls the closure first for the later item and then for the last item kept, and returns
+-- whether the two keys are equal.
 use Rattle.std.proofs.Common.{rules}
 use Rattle.thin_vec.proofs.edits.dedup.KeyingPairTest.test.Goals as goal
 

@@ -1,4 +1,4 @@
--- One step of the walk.
+-- A call of the trait's `next` is one call of the method `next` of `ExtractIf`.
 use Rattle.std.proofs.Common.{arith, ◌∙◌}
 use Rattle.thin_vec.proofs.edits.extract_if.ExtractIfIterator.next.Goals as goal
 

@@ -1,4 +1,5 @@
--- Perhaps no item goes.
+-- The lower bound that `size_hint` returns is 0, since perhaps no further item is extracted. So it
+-- does not exceed the number of items that are still to be tested.
 use Rattle.std.proofs.Common.{arith, ◌∙◌}
 use Rattle.thin_vec.proofs.edits.extract_if.ExtractIfIterator.size_hint.Goals as goal
 

@@ -1,4 +1,5 @@
--- Those that stay joined the front, and the next item goes, or none is left.
+-- `advance` tests items up to the first one to be extracted, and adds the tested items before it to
+-- the front. `next_picked` then extracts that item, or returns `None` if no item is left.
 use Rattle.std.proofs.Common.{◌≡◌, ◌∙◌, [], ap, arith, rules, sym, take}
 use Rattle.std.proofs.lemmas.Bool.{false≢true}
 use Rattle.std.specs.Fn.{CalledAtMut}
@@ -6,7 +7,7 @@ use Rattle.thin_vec.proofs.edits.ExtractIfLemmas.{cost-of, picked-count, picked-
 use Rattle.thin_vec.proofs.RetainLemmas.{none-left}
 use Rattle.thin_vec.proofs.edits.extract_if.Extracting.next_picked.Goals as goal
 
--- an item goes
+-- if `advance` returns true, the next item is extracted
 pub returns-then-advance-clause-extracts : goal.returns-then-advance-clause-extracts
 returns-then-advance-clause-extracts g c =
     let R = CalledAtMut g.F.FnMut in
@@ -31,7 +32,7 @@ returns-then-advance-clause-extracts g c =
           (picked-room R (λ s. s.pick) a.count v.picks v.block.rest t a.left a.run));
     }
 
--- no item goes any more
+-- if `advance` returns false, no further item is extracted
 pub returns-else-advance-clause-extracts : goal.returns-else-advance-clause-extracts
 returns-else-advance-clause-extracts g c =
     let R = CalledAtMut g.F.FnMut in

@@ -1,4 +1,5 @@
--- An item stays where the closure says so.
+-- An item stays if and only if the closure returns true, because the test returns the closure's
+-- result. The item itself does not change.
 use Rattle.std.proofs.Common.{arith, ◌∙◌}
 use Rattle.thin_vec.proofs.edits.retain.LookingTest.test.Goals as goal
 

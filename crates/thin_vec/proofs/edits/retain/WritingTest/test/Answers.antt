@@ -1,4 +1,5 @@
--- An item stays where the closure says so, as it left it.
+-- An item stays if and only if the closure returns true, because the test returns the closure's
+-- result. The item is then as the closure left it.
 use Rattle.std.proofs.Common.{arith, ◌∙◌}
 use Rattle.thin_vec.proofs.edits.retain.WritingTest.test.Goals as goal
 

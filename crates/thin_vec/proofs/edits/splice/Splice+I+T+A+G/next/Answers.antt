@@ -1,4 +1,5 @@
--- The first item that is left, if there is one.
+-- If an item of the range is left, `next` yields the first one, and the iterator and the items
+-- outside the range do not change.
 use Rattle.std.proofs.Common.{arith, ◌∙◌}
 use Rattle.thin_vec.proofs.edits.splice.Splice+I+T+A+G.next.Goals as goal
 

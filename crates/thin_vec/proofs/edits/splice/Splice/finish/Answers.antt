@@ -1,9 +1,12 @@
--- What filling the gap says, of the range that was dropped before.
-use Rattle.std.proofs.Common.{[], ◌≡◌, ◌+◌, ◌∙◌, ap, arith, length, length-append, subst}
+-- The clauses follow from what `finish_before_tail` and `finish_at_end` state of the block, from
+-- which the rest of the range was dropped before.
+use Rattle.std.proofs.Common.{[], inl, inr, ◌≡◌, ◌+◌, ◌≤◌, ◌∙◌, ap, arith, length, length-append, subst}
 use denote.Param.{param}
 use Rattle.thin_vec.specs.Edits.Finish.{IsFinished}
+use Rattle.thin_vec.specs.Open.{reach}
 use Rattle.thin_vec.specs.Edits.Splice.{splice_alloc, splice_block, splice_iter, splice_replaced}
 use Rattle.thin_vec.proofs.list.ExtendLemmas.{loose-le, run_of_ok}
+use Rattle.thin_block.proofs.CapacityLemmas.{fits-less}
 use Rattle.thin_vec.proofs.edits.SpliceLemmas.{if-err}
 use Rattle.thin_vec.proofs.edits.splice.Splice.finish.Goals.{else-has_tail, then-has_tail}
 use Rattle.thin_vec.proofs.edits.splice.Splice.finish.Goals as goal
@@ -29,24 +32,41 @@ returns g c =
     (subst
     (λ o. IsFinished steps g.I.Iterator.can_next g.I.Iterator.remaining rule T
     c.drop_rest.new.self o s w r) (ap (λ v. v.alloc) c.clear.ensures.changes) said) in
+    let le = loose-le rule T g.met.G.Growth.law v.capacity w.capacity f.taken.capacity in
+    let within = c.len-len.ensures.within in
     record {
-      succeeds = f.succeeds;
-      succeeds_at_end = f.succeeds_at_end;
       items = f.items;
       runs = run_of_ok steps s (λ xs. w.items ≡ splice_replaced c.args.self xs) r f.items;
-      capacity = f.taken.capacity;
-      named = f.named;
-      had_room = f.taken.had_room;
-      never_less = loose-le rule T g.met.G.Growth.law v.capacity w.capacity f.taken.capacity;
-      cost = f.taken.cost;
-      alloc = f.taken.alloc;
-      cheap = f.taken.cheap;
-      within = c.len-len.ensures.within;
+      succeeds = λ places. elim places [
+        | inl few ↦ f.succeeds few
+        | inr room ↦ f.succeeds_at_end room.0 room.1
+      ];
       placed = f.placed;
-      range = if-err r
-          (λ refused is now some. omega (arith, now some, length-append v.front v.tail)) f.range;
+      before_tail = if-err r
+          (λ error is now some. omega (arith, now some, length-append v.front v.tail)) f.range;
+      at_end = f.at_end;
       cause = f.cause;
-      held = f.held;
-      full = f.full;
-      err = f.err;
+      capacity = record {
+        had_room = f.taken.had_room;
+        loose = f.taken.capacity;
+        ruled = f.ruled;
+      };
+      cost = f.taken.cost;
+      keeps = record {
+        alloc = f.taken.alloc;
+        never_less = le;
+        cheap = f.taken.cheap;
+        within = (
+          record {
+            room = omega (
+              arith,
+              subst (λ b. reach b ≤ b.capacity) dropped c.has_tail.ensures.in_bounds,
+              length-append v.front v.tail,
+            );
+            small = omega (arith, within.small, le);
+            fits = fits-less T v.capacity w.capacity within.fits le;
+          },
+          within,
+        );
+      };
     }

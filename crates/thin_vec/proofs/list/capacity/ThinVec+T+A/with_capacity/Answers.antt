@@ -1,4 +1,4 @@
--- The block has just as many places.
+-- `with_capacity` returns a list whose block has exactly as many slots as were requested.
 use Rattle.std.proofs.Common.{arith, ◌∙◌}
 use Rattle.thin_vec.proofs.list.capacity.ThinVec+T+A.with_capacity.Goals as goal
 

@@ -1,4 +1,5 @@
--- What `clone` says of the list, in the words of the trait.
+-- The contract of the method `clone` implies what the trait `Clone` requires here: `IsClonedList`
+-- holds of the list and its clone.
 use Rattle.std.proofs.Common.{sym, ◌∙◌}
 use Rattle.std.proofs.lemmas.List.Elements.{length_all_zip}
 use Rattle.thin_vec.proofs.list.clones.ThinVecClone.clone.Goals as goal

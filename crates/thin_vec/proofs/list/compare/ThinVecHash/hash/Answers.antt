@@ -1,4 +1,4 @@
--- The hash is that of the slice.
+-- A list is hashed as the slice of its items is.
 use Rattle.std.proofs.Common.{arith, ◌∙◌}
 use Rattle.thin_vec.proofs.list.compare.ThinVecHash.hash.Goals as goal
 

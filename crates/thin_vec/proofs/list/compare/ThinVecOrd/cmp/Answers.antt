@@ -1,4 +1,4 @@
--- The lists compare as their items do.
+-- Two lists compare as the slices of their items do.
 use Rattle.std.proofs.Common.{arith, ◌∙◌}
 use Rattle.thin_vec.proofs.list.compare.ThinVecOrd.cmp.Goals as goal
 

@@ -1,4 +1,4 @@
--- The lists are equal where their items are.
+-- Two lists are equal if and only if the slices of their items are equal.
 use Rattle.std.proofs.Common.{arith, ◌∙◌}
 use Rattle.thin_vec.proofs.list.compare.ThinVecPartialEq.eq.Goals as goal
 

@@ -1,28 +1,114 @@
--- What was taken where it fails, the capacity, and the whole run of the iterator.
+-- The list that the call leaves on success and on failure, the cause of a failure, and the run of
+-- the iterator.
+use Rattle.std.specs.Iterator.{Yields}
 use Rattle.std.specs.Option.{option_to_list}
-use Rattle.std.proofs.Common.{None, [], refl, Some, inl, inr, ◌<◌, ◌++◌, ◌≡◌, ◌∙◌, ap, arith, sym}
+use Rattle.std.proofs.Common.{None, [], refl, Some, inl, inr, ◌<◌, ◌++◌, ◌≡◌, ◌∙◌, ap, arith, length, subst, sym}
 use Rattle.std.proofs.lemmas.Bool.{cases_lt, false≢true}
 use denote.Param.{param}
 use Rattle.thin_block.proofs.Outcomes.{err-same}
 use Rattle.thin_block.specs.Growth.{doubling}
 use Rattle.thin_block.specs.GrowthLaws.{doubling_law}
 use Rattle.thin_block.proofs.CapacityLemmas.{exact-same}
-use Rattle.thin_vec.proofs.list.ExtendLemmas.{collected-after, run_given, run_of}
+use Rattle.thin_vec.proofs.list.ExtendLemmas.{collected-after, hand-empty, match-some, run_given, run_of}
+use Rattle.thin_vec.specs.List.Extend.{IsCollectedList}
+use Rattle.thin_vec.proofs.list.extend.ThinVec+T+A.from_iter.Goals.{After-extend_unhinted}
 use Rattle.thin_vec.proofs.list.extend.ThinVec+T+A.from_iter.Goals as goal
 
-pub returns-in-Err-clause-cause : goal.returns-in-Err-clause-cause
-returns-in-Err-clause-cause g c = λ over.
-    (c.size_hint.result.0, c.size_hint.ensures.lower, c.in-Err.ensures.cause over)
+-- the list that `extend_unhinted` leaves: it began with exactly the hint as capacity
+collected : (g : _) (c : After-extend_unhinted g)
+    → IsCollectedList doubling (param 0 g.row.T) c.args.alloc c.extend_unhinted.new.self
+    (g.I.Iterator.remaining c.args.iter)
+collected g c =
+    let u = c.reserve_first.new.self in let w = c.extend_unhinted.new.self in
+    let e = c.extend_unhinted.ensures in
+    let items = ap (λ v. length v.items) c.reserve_first.ensures.changes
+    ∙ ap length c.new-list.ensures.new.items in
+    record {
+      none = λ none.
+          e.had_room (omega (arith, none, items))
+          ∙ (c.reserve_first.ensures.had_room (omega (
+            arith,
+            none,
+            c.size_hint.ensures.lower c.requires.finite,
+          ))
+          ∙ c.new-list.ensures.new.capacity);
+      ruled = collected-after doubling (param 0 g.row.T) doubling_law _ _ _
+          c.size_hint.ensures.lower c.in-Ok.ensures.capacity e.ruled;
+      moves = search (arith, ◌∙◌);
+      made = record {
+        alloc = search (arith, ◌∙◌);
+        cheap = search (arith, ◌∙◌);
+        within = e.keeps.within.1;
+      };
+    }
 
-pub returns-in-Err-clause-overflow : goal.returns-in-Err-clause-overflow
-returns-in-Err-clause-overflow g c = λ must.
+pub returns-in-Ok-extend_unhinted-clause-list : goal.returns-in-Ok-extend_unhinted-clause-list
+returns-in-Ok-extend_unhinted-clause-list g c =
+    collected g ((goal.at.returns-in-Ok-extend_unhinted-clause-list g c).After-extend_unhinted)
+
+pub returns-in-Err-extend_unhinted-clause-err_list : goal.returns-in-Err-extend_unhinted-clause-err_list
+returns-in-Err-extend_unhinted-clause-err_list g c =
+    collected g ((goal.at.returns-in-Err-extend_unhinted-clause-err_list g c).After-extend_unhinted)
+
+pub returns-in-Err-clause-err_list : goal.returns-in-Err-clause-err_list
+returns-in-Err-clause-err_list g c =
+    let none = ap (λ v. v.capacity) c.in-Err.ensures.err ∙ c.new-list.ensures.new.capacity in
+    let least = exact-same (param 0 g.row.T) 0 0 (omega arith) in
+    record {
+      none = λ _. none;
+      ruled = inr (0, (λ _. omega arith), least ∙ ap Some (sym none));
+      moves = search (arith, ◌∙◌);
+      made = record {
+        alloc = search (arith, ◌∙◌);
+        cheap = search (arith, ◌∙◌);
+        within = c.reserve_first.ensures.within;
+      };
+    }
+
+pub returns-in-Err-clause-cause : goal.returns-in-Err-clause-cause
+returns-in-Err-clause-cause g c =
     let hint = c.size_hint.result.0 in
-    let some : 0 < hint =
-    elim (cases_lt 0 hint) [
-      | inl some ↦ some
-      | inr none ↦ absurd (false≢true (c.in-Err.ensures.succeeds_empty (omega (arith, none))))
-    ] in
-    err-same (c.in-Err.ensures.overflow (must hint c.size_hint.ensures.lower some))
+    record {
+      by_push = λ some. absurd (false≢true some);
+      must = λ _ must.
+          let some : 0 < hint =
+          elim (cases_lt 0 hint) [
+            | inl some ↦ some
+            | inr none ↦
+                absurd (false≢true (c.in-Err.ensures.succeeds_empty (omega (arith, none))))
+          ] in
+          err-same (c.in-Err.ensures.overflow (must hint c.size_hint.ensures.lower some));
+      may = λ _ over. (hint, c.size_hint.ensures.lower, c.in-Err.ensures.cause over);
+    }
+
+pub returns-in-Err-extend_unhinted-clause-cause : goal.returns-in-Err-extend_unhinted-clause-cause
+returns-in-Err-extend_unhinted-clause-cause g c =
+    let cause = c.in-Err-extend_unhinted.ensures.cause in
+    let in_hand = c.in-Err-extend_unhinted.ensures.in_hand in
+    record {
+      by_push = cause.by_push;
+      must = λ none. absurd (hand-empty in_hand none);
+      may = λ none. absurd (hand-empty in_hand none);
+    }
+
+pub returns-in-Err-extend_unhinted-clause-in_hand : goal.returns-in-Err-extend_unhinted-clause-in_hand
+returns-in-Err-extend_unhinted-clause-in_hand g c =
+    match-some _ _ c.in-Err-extend_unhinted.refused.in_hand c.in-Err-extend_unhinted.ensures.in_hand
+    c.in-Err-extend_unhinted.ensures.full
+
+pub returns-in-Err-extend_unhinted-clause-placed : goal.returns-in-Err-extend_unhinted-clause-placed
+returns-in-Err-extend_unhinted-clause-placed g c =
+    let placed = c.in-Err-extend_unhinted.ensures.placed in
+    let paused = placed.2 in
+    let items = placed.1 ∙ ap (λ old. old ++ placed.0)
+    (ap (λ v. v.items) c.reserve_first.ensures.changes ∙ c.new-list.ensures.new.items) in
+    let last = option_to_list c.in-Err-extend_unhinted.refused.in_hand in
+    record {
+      gave = subst (λ l. Yields g.I.Iterator.next_gives c.args.iter (l ++ last)
+          c.in-Err-extend_unhinted.refused.rest) (sym items) paused.gave;
+      can_next = paused.can_next;
+      finite = paused.finite;
+    }
 
 pub returns-in-Ok-extend_unhinted-clause-runs : goal.returns-in-Ok-extend_unhinted-clause-runs
 returns-in-Ok-extend_unhinted-clause-runs g c =
@@ -33,22 +119,6 @@ returns-in-Ok-extend_unhinted-clause-runs g c =
       filled.2 ∙ ap (λ old. old ++ filled.0)
           (ap (λ v. v.items) c.reserve_first.ensures.changes ∙ c.new-list.ensures.new.items),
     )
-
-pub returns-in-Err-clause-err_named : goal.returns-in-Err-clause-err_named
-returns-in-Err-clause-err_named g c =
-    let none = ap (λ v. v.capacity) c.in-Err.ensures.err ∙ c.new-list.ensures.new.capacity in
-    let least = exact-same (param 0 g.row.T) 0 0 (omega arith) in
-    inr (0, (λ _. omega arith), least ∙ ap Some (sym none))
-
-pub returns-in-Ok-extend_unhinted-clause-named : goal.returns-in-Ok-extend_unhinted-clause-named
-returns-in-Ok-extend_unhinted-clause-named g c =
-    collected-after doubling (param 0 g.row.T) doubling_law _ _ _ c.size_hint.ensures.lower
-    c.in-Ok.ensures.capacity c.extend_unhinted.ensures.named
-
-pub returns-in-Err-extend_unhinted-clause-err_named : goal.returns-in-Err-extend_unhinted-clause-err_named
-returns-in-Err-extend_unhinted-clause-err_named g c =
-    collected-after doubling (param 0 g.row.T) doubling_law _ _ _ c.size_hint.ensures.lower
-    c.in-Ok.ensures.capacity c.extend_unhinted.ensures.named
 
 pub returns-in-Err-clause-runs_err : goal.returns-in-Err-clause-runs_err
 returns-in-Err-clause-runs_err g c =
@@ -66,50 +136,5 @@ returns-in-Err-extend_unhinted-clause-runs_err g c =
     let hand = c.in-Err-extend_unhinted.refused.in_hand in
     run_given g.I.Iterator.next_gives c.args.iter placed.0 hand
     c.in-Err-extend_unhinted.refused.rest
-    (λ l. l ≡ c.extend_unhinted.new.self.items ++ option_to_list hand) placed.2
+    (λ l. l ≡ c.extend_unhinted.new.self.items ++ option_to_list hand) placed.2.gave
     (ap (λ l. l ++ option_to_list hand) (sym items))
-
-pub returns-in-Err-clause-err : goal.returns-in-Err-clause-err
-returns-in-Err-clause-err g c = search (arith, ◌∙◌)
-
-pub returns-in-Err-clause-err_alloc : goal.returns-in-Err-clause-err_alloc
-returns-in-Err-clause-err_alloc g c = search (arith, ◌∙◌)
-
-pub returns-in-Err-clause-full : goal.returns-in-Err-clause-full
-returns-in-Err-clause-full g c = search (arith, ◌∙◌)
-
-pub returns-in-Err-extend_unhinted-clause-cause : goal.returns-in-Err-extend_unhinted-clause-cause
-returns-in-Err-extend_unhinted-clause-cause g c = search (arith, ◌∙◌)
-
-pub returns-in-Err-extend_unhinted-clause-err : goal.returns-in-Err-extend_unhinted-clause-err
-returns-in-Err-extend_unhinted-clause-err g c = search (arith, ◌∙◌)
-
-pub returns-in-Err-extend_unhinted-clause-err_alloc : goal.returns-in-Err-extend_unhinted-clause-err_alloc
-returns-in-Err-extend_unhinted-clause-err_alloc g c = search (arith, ◌∙◌)
-
-pub returns-in-Err-extend_unhinted-clause-err_cheap : goal.returns-in-Err-extend_unhinted-clause-err_cheap
-returns-in-Err-extend_unhinted-clause-err_cheap g c = search (arith, ◌∙◌)
-
-pub returns-in-Err-extend_unhinted-clause-err_moves : goal.returns-in-Err-extend_unhinted-clause-err_moves
-returns-in-Err-extend_unhinted-clause-err_moves g c = search (arith, ◌∙◌)
-
-pub returns-in-Err-extend_unhinted-clause-full : goal.returns-in-Err-extend_unhinted-clause-full
-returns-in-Err-extend_unhinted-clause-full g c = search (arith, ◌∙◌)
-
-pub returns-in-Err-extend_unhinted-clause-overflow : goal.returns-in-Err-extend_unhinted-clause-overflow
-returns-in-Err-extend_unhinted-clause-overflow g c = search (arith, ◌∙◌)
-
-pub returns-in-Err-extend_unhinted-clause-placed : goal.returns-in-Err-extend_unhinted-clause-placed
-returns-in-Err-extend_unhinted-clause-placed g c = search (arith, ◌∙◌)
-
-pub returns-in-Ok-extend_unhinted-clause-alloc : goal.returns-in-Ok-extend_unhinted-clause-alloc
-returns-in-Ok-extend_unhinted-clause-alloc g c = search (arith, ◌∙◌)
-
-pub returns-in-Ok-extend_unhinted-clause-capacity : goal.returns-in-Ok-extend_unhinted-clause-capacity
-returns-in-Ok-extend_unhinted-clause-capacity g c = search (arith, ◌∙◌)
-
-pub returns-in-Ok-extend_unhinted-clause-cheap : goal.returns-in-Ok-extend_unhinted-clause-cheap
-returns-in-Ok-extend_unhinted-clause-cheap g c = search (arith, ◌∙◌)
-
-pub returns-in-Ok-extend_unhinted-clause-moves : goal.returns-in-Ok-extend_unhinted-clause-moves
-returns-in-Ok-extend_unhinted-clause-moves g c = search (arith, ◌∙◌)

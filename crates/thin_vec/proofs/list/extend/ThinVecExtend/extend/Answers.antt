@@ -1,5 +1,5 @@
--- What `extend` says of the list, in the words of the trait. Where it fails, what was placed is what
--- the first calls yielded.
+-- The clauses of the inherent `extend` give what the trait's `extend` states. On failure, the placed
+-- items are the ones that the first calls of `next` yielded.
 use Rattle.std.proofs.Common.{arith, ap, length, length-append, ◌∙◌}
 use Rattle.thin_vec.proofs.list.ExtendLemmas.{yields-first}
 use Rattle.thin_vec.proofs.list.extend.ThinVecExtend.extend.Goals as goal
@@ -15,12 +15,12 @@ returns-in-Ok g c =
         (
           e.items.2,
           ap length e.items.2 ∙ length-append old xs,
-          e.never_less,
-          e.capacity,
+          e.keeps.never_less,
+          e.capacity.loose,
           e.cost,
-          e.alloc,
-          e.cheap,
-          e.within.1,
+          e.keeps.alloc,
+          e.keeps.cheap,
+          e.keeps.within.1,
         ),
         e.items.1,
       );
@@ -30,7 +30,7 @@ pub returns-in-Err : goal.returns-in-Err
 returns-in-Err g c =
     let e = c.in-Err.ensures in let placed = e.placed in let old = c.args.self.now.items in
     let steps = g.U.IntoIter.Iterator.next_gives in
-    let first = yields-first steps c.into_iter.result c.in-Err._refused.rest placed.0 _ placed.2 in
+    let first = yields-first steps c.into_iter.result c.in-Err._refused.rest placed.0 _ placed.2.gave in
     record {
       ran = (
         c.into_iter.result,
@@ -39,12 +39,12 @@ returns-in-Err g c =
         (
           placed.1,
           ap length placed.1 ∙ length-append old placed.0,
-          e.never_less,
-          e.capacity,
+          e.keeps.never_less,
+          e.capacity.loose,
           e.cost,
-          e.alloc,
-          e.cheap,
-          e.within.1,
+          e.keeps.alloc,
+          e.keeps.cheap,
+          e.keeps.within.1,
         ),
         first,
       );

@@ -1,4 +1,5 @@
--- The slot of an item is filled, and a list is one again once it is written.
+-- The slot that `index_mut` lends is filled. When the loan ends, the block is again the block of a
+-- list, and this list has at `index` the item that was written.
 use Rattle.std.proofs.Common.{◌<◌, ap, arith, length, refl, sym, ◌∙◌}
 use Rattle.std.specs.List.{slice_get}
 use Rattle.std.proofs.lemmas.Option.{get_or_from_slice_get}

@@ -1,4 +1,4 @@
--- The item is that of the slice.
+-- The item that `index` returns is the item at `index` of the slice of all items.
 use Rattle.std.proofs.Common.{arith}
 use Rattle.std.proofs.lemmas.Grind.{elements}
 use Rattle.thin_vec.proofs.list.index.ThinVecIndexUsize.index.Goals as goal
