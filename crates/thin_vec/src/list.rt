@@ -265,7 +265,7 @@ impl<T, A: Allocator, G: Growth> ThinVec<T, A, G> {
 
 impl<T: Drop, A: Allocator, G: Growth> Drop for ThinVec<T, A, G> {
     // Drops each item, and then frees the block. It does not update the stored length, because the
-    // block is freed anyway. A list without a block makes no call.
+    // block is freed anyway. A list without a block is dropped without a call.
     #[inline(always)]
     fn drop(self) {
         let (block, alloc) = self.into_parts();

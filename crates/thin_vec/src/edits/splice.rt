@@ -177,6 +177,7 @@ impl<
     /// `CapacityOverflow` if there is no ruled capacity for what the list needed, and `OutOfMemory`
     /// if its allocator refused the block. Rust's `Vec` does all this when a `Splice` is dropped;
     /// here it is a call, since it can fail.
+    #[inline(always)]
     pub fn finish(self, alloc: A) -> Result<(), SpliceRefused<T, I, A>>
         requires can_next { I.can_next (splice_iter self) }
         requires finite { IsFinite (I.remaining (splice_iter self)) }
