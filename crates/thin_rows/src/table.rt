@@ -52,15 +52,9 @@ impl<V, A: Allocator + Copy> Rows<V, A> {
         ensures overflow { TellsOverflow
             (exact_capacity (row_type V.row A.row A.Allocator) 0 rows) result }
     {
-        let mut empty_rows = match ThinVec::with_capacity(alloc, rows) {
-            Ok(made) => made,
-            Err(cause) => return Err(cause),
-        };
+        let mut empty_rows = ThinVec::with_capacity(alloc, rows)?;
         for _ in 0..rows {
-            match empty_rows.push(Row::new(alloc)) {
-                Ok(()) => (),
-                Err(_refused) => unreachable!(),
-            }
+            empty_rows.push_reserved(Row::new(alloc));
         }
         Ok(Rows { rows: empty_rows })
     }
