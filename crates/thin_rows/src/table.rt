@@ -3,7 +3,7 @@ ghost use Rattle.std.specs.Prelude.{◌≡◌, ◌↔◌, ◌+◌, ◌-◌, ◌^
 ghost use Rattle.std.specs.FinMap as columns;
 ghost use Rattle.std.specs.List.Sorted.{IsStrictlyIncreasing};
 ghost use Rattle.std.specs.Option.{option_copied};
-ghost use Rattle.thin_rows.specs.Table.{row_of, value_at, with_value, without_value};
+ghost use Rattle.thin_rows.specs.Table.{row_of, value_at, with_empty_row, with_value, without_value};
 
 use crate::row::Row;
 use std::alloc::{Allocator, Global};
@@ -50,15 +50,9 @@ impl<V, A: Allocator + Copy> Rows<V, A> {
         ensures succeeds { rows ≡ 0 → IsOk result }
         ensures overflow { TellsOverflowOf (row_type V.row A.row A.Allocator) rows result }
     {
-        let mut empty_rows = match ThinVec::with_capacity(alloc, rows) {
-            Ok(made) => made,
-            Err(cause) => return Err(cause),
-        };
+        let mut empty_rows = ThinVec::with_capacity(alloc, rows)?;
         for _ in 0..rows {
-            match empty_rows.push(Row::new(alloc)) {
-                Ok(()) => (),
-                Err(_refused) => unreachable!(),
-            }
+            empty_rows.push_reserved(Row::new(alloc));
         }
         Ok(Rows { rows: empty_rows })
     }
@@ -165,6 +159,17 @@ impl<V, A: Allocator> Rows<V, A> {
         ensures value { IsTrue result ↔ (0 < columns.len (row_of self.now row)) }
     {
         self.rows[row].owns_block()
+    }
+}
+
+impl<V: Drop, A: Allocator> Rows<V, A> {
+    /// Removes all entries of a row, and drops their values. It requests no memory, and frees the
+    /// block of the row.
+    pub fn clear_row(&mut self, row: usize)
+        requires in_bounds { row < length self.old }
+        ensures table { self.new ≡ with_empty_row self.old row }
+    {
+        self.rows[row].clear();
     }
 }
 

@@ -12,7 +12,7 @@ use Rattle.thin_runner.specs.commands.Splices.{cut}
 use Rattle.thin_vec.specs.Cheap.{IsCheap}
 use Rattle.thin_vec.specs.List.Extend.{IsLoose}
 use Rattle.thin_vec.specs.Edits.Splice.{splice_alloc, splice_block, splice_iter}
-use Rattle.thin_vec.specs.ThinVec.{HasRoomFor, IsWithin}
+use Rattle.thin_vec.specs.ThinVec.{HasRoomFor}
 use Rattle.thin_runner.proofs.steps.Setting.splice.Goals as goal
 
 pub returns-in-Ok-finish : goal.returns-in-Ok-finish
@@ -54,7 +54,7 @@ returns-in-Ok-finish g c =
             capacity = subst (λ n. IsLoose g.G.Growth.rule _ n now.capacity) is.capacity e.capacity.loose;
             ruled = ruled old start end block alloc is g.G.Growth.rule (param 0 g.row.T)
                 now _ _ count e.capacity.ruled;
-            within = subst (λ list. IsWithin _ list) (sym left) c.capacity-capacity.ensures.within;
+            within = e.keeps.within.1;
             had_room = λ room.
                 e.capacity.had_room (room-left old start end block alloc is _ _ most room) ∙ is.capacity;
             cost = spliced old start end block alloc is _ e.cost;
@@ -114,8 +114,7 @@ returns-in-Err-finish g c =
                   e.capacity.loose;
               ruled = ruled old start end block alloc is g.G.Growth.rule (param 0 g.row.T)
                   now _ _ count e.capacity.ruled;
-              within = subst (λ list. IsWithin _ list) (sym left)
-                  c.capacity-capacity-in-Err-finish.ensures.within;
+              within = e.keeps.within.1;
               had_room = λ room.
                   e.capacity.had_room (room-left old start end block alloc is _ _ most room) ∙ is.capacity;
               cost = spliced old start end block alloc is _ e.cost;
