@@ -9,7 +9,8 @@ pub record Cost : Type 0 where
   -- the items that had to be copied into such an allocation: they are counted also if the block
   -- could stay where it was
   pub grown : ℕ
-  -- the items that were placed or moved otherwise; a clone counts as one
+  -- the items that were placed, or moved within the block. A clone is placed, and counts as one. An
+  -- item that is taken out is not counted
   pub moves : ℕ
 
 -- the code of a cost is the code of its three numbers

@@ -93,7 +93,7 @@ module _ {I T A G H : Type 0} {g : Ghosts G} {h : HoldsGhosts H (Open T A)} wher
   abbrev pub splice_lender : Splice I T A G H g h → GName
   splice_lender s = s.list.ghost_name
 
-  -- the list without the range, as it will be if the iterator yields no item and no item has moved
+  -- the list without the range, with the cost before any item after the range has moved
   abbrev pub splice_left : Splice I T A G H g h → Thin T A
   splice_left s = left_of (splice_block s) (splice_alloc s)
 

@@ -50,7 +50,7 @@ module _ {T A : Type 0} where
     -- on success, the capacity is the ruled one for k further items
     pub ok : OnOk r (capacity_for rule R v k ≡ Some w.capacity)
     -- on failure, the list is unchanged, or it has grown to that capacity and a clone failed then.
-    -- (Calls that make no clone have a clause `err`: their list is unchanged)
+    -- (The clause `err` of each call says when the list is unchanged)
     pub err : OnErr r ((w ≡ v) ⊎ (capacity_for rule R v k ≡ Some w.capacity))
     -- the error is `CapacityOverflow` if and only if there is no such capacity. There are only two
     -- kinds of error, so any other failure is `OutOfMemory`

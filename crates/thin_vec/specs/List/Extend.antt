@@ -25,7 +25,8 @@ pub record PausedAfter {S X : Type 0} (steps : S → Option X → S → Type 0) 
   pub finite : IsFinite (remaining t)
 
 -- the capacity, which was c and is d, stayed, or it grew at least to the capacity that the rule gives
--- if a block of capacity c needs room for w items, where w is some number greater than c
+-- if a block of capacity c needs room for w items, where w is some number greater than c. So it
+-- stayed or at least doubled
 abbrev pub IsLoose : Rule → RattleType → ℕ → ℕ → Type 0
 IsLoose rule R c d =
     (d ≡ c) ⊎ ((w : ℕ) × (n : ℕ) × (c < w) × (ruled_capacity rule R c w ≡ Some n) × (n ≤ d))
@@ -65,7 +66,7 @@ module _ {T A : Type 0} where
     pub ruled : IsExtended rule R v w.capacity (length w.items) left
 
   -- what it has cost to add items to the list v, which became w: one move for each added item, and
-  -- at most n moves of other items
+  -- at most n moves of other items (the two inequalities are sums without subtraction)
   pub record CostsAdding (v w : Thin T A) (n : ℕ) : Type 0 where
     pub least : v.cost.moves + length w.items ≤ w.cost.moves + length v.items
     pub moves : w.cost.moves + length v.items ≤ v.cost.moves + n + length w.items

@@ -23,10 +23,12 @@ impl<T: Clone, A: Allocator, G: Growth> ThinVec<T, A, G> {
     /// that a clone can fail, and the list then has to have its old items. So the old items are
     /// kept until the last clone is made, and the clones are made in other slots.
     ///
-    /// On success, each item after the range moves at most once. If a clone fails, such an item can
-    /// move up to three times. It moves up, to make a gap for the clones. If the gap was not filled,
-    /// it moves down to the clones. Then these clones are dropped, and it moves down to its old
-    /// place.
+    /// Clones for the places of the range are made after the last item of the list, and the others
+    /// in a gap that is made before the items after the range. On success, each item after the range
+    /// moves at most once, and each clone for a place of the range moves there. If a clone fails, an
+    /// item after the range can move up to three times: up, when the gap is made; down to the clones
+    /// in the gap, if the gap was not filled; and down to its old place, once these clones are
+    /// dropped.
     ///
     /// # Errors
     ///

@@ -139,11 +139,11 @@ impl<
     /// If items follow the range, `finish` takes three steps:
     ///
     /// 1. It moves items of the iterator into the places of the range. If the iterator ends before
-    ///    the places are filled, the items after the range move down to close the gap, as one run.
+    ///    the places are filled, the items after the range move down to close the gap, by one copy.
     /// 2. It asks the iterator for its size hint, once, reserves room for the lower bound before the
     ///    items after the range, and fills this room.
     /// 3. It collects all further items in a vector on `alloc`, reserves room for them, and moves
-    ///    them into the list as one run.
+    ///    them into the list by one copy.
     ///
     /// If no item follows the range, `finish` asks for the size hint, reserves room for the lower
     /// bound, fills all spare capacity, and then pushes each further item.
@@ -158,25 +158,25 @@ impl<
     /// # Errors
     ///
     /// `finish` cannot fail if the iterator can yield no more items than the range has places, and
-    /// also, if no item follows the range, if there is room for all items. (Before items after the
-    /// range, room is not enough: the contract of `size_hint` allows a hint that is too low, and
-    /// then step 3 allocates.) On failure, no item is lost: the list keeps the items that were
+    /// also, if no item follows the range, if there is room for all items. (If items follow, room
+    /// alone does not guarantee success: the contract of `size_hint` allows a hint that is too low,
+    /// and then step 3 allocates.) On failure, no item is lost: the list keeps the items that were
     /// placed, and the error has the items that were drawn after them, in `held` and then in
     /// `in_hand`. There are five cases:
     ///
-    /// | What failed | `held` | `in_hand` | `rest` yields | The list |
-    /// |---|---|---|---|---|
-    /// | no items after the range: the hint | empty | `None` | all items | lacks only the range |
-    /// | no items after the range: a push | empty | the next item | the others | is full |
-    /// | step 2: to reserve | empty | `None` | the others | the range is full |
-    /// | step 3: to collect an item | the collected items | the next item | the others | \* |
-    /// | step 3: to reserve | all that were not placed | `None` | it has ended | \* |
+    /// | | What failed | `held` | `in_hand` | `rest` yields | The list |
+    /// |---|---|---|---|---|---|
+    /// | 1 | no items after the range: the hint | empty | `None` | all items | lacks the range |
+    /// | 2 | no items after the range: a push | empty | the next item | the others | is full |
+    /// | 3 | step 2: to reserve | empty | `None` | the others | has a full range |
+    /// | 4 | step 3: to collect an item | collected items | the next item | the others | as 3 |
+    /// | 5 | step 3: to reserve | all collected items | `None` | it has ended | as 3 |
     ///
-    /// (\* The range and the room of step 2 are full.) In the last case, `next` must not be called
-    /// on `rest`. In the last but one, the `cause` is `OutOfMemory`. Otherwise it is
-    /// `CapacityOverflow` if there is no ruled capacity for what the list needed, and `OutOfMemory`
-    /// if its allocator refused the block. Rust's `Vec` does all this when a `Splice` is dropped;
-    /// here it is a call, since it can fail.
+    /// In the cases 1, 2, 3 and 5, the `cause` is `CapacityOverflow` if there is no ruled capacity
+    /// for what the list needed, and `OutOfMemory` if its allocator refused the block. In case 4 it
+    /// is `OutOfMemory`. In case 5, `next` must not be called on `rest`.
+    ///
+    /// Rust's `Vec` does all this when a `Splice` is dropped; here it is a call, since it can fail.
     #[inline(always)]
     pub fn finish(self, alloc: A) -> Result<(), SpliceRefused<T, I, A>>
         requires can_next { I.can_next (splice_iter self) }
