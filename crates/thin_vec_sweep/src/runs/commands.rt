@@ -100,7 +100,7 @@ fn assert_listed<R: Abort>(rt: &R, alloc: Global, replied: &Replied) {
 }
 
 #[test]
-fn each_command_has_each_of_its_replies(rt: HostRuntime) {
+fn random_runs_get_each_reply_of_each_command(rt: HostRuntime) {
     let refusing = Refusing::new(rt.alloc(), 0);
     let mut replies = Vec::new(rt.alloc());
     let mut done = Vec::new(rt.alloc());
@@ -214,14 +214,14 @@ fn assert_worked<'a, T: Numbered<Lender<'a>>, G: Ruled, J: Judge<T>, R: Abort>(
 }
 
 #[test]
-fn a_worked_run(rt: HostRuntime) {
+fn run_reaches_states_computed_by_hand(rt: HostRuntime) {
     let refusing = Refusing::new(rt.alloc(), 0);
     let orders = worked_orders();
     assert_worked::<u64, Doubling, _, _>(&rt, &refusing, &Evens, orders.as_slice(), &WORKED);
 }
 
 #[test]
-fn a_worked_run_under_power_bytes(rt: HostRuntime) {
+fn run_under_power_bytes_reaches_states_computed_by_hand(rt: HostRuntime) {
     let refusing = Refusing::new(rt.alloc(), 0);
     let orders = worked_powers();
     assert_worked::<u32, PowerBytes, _, _>(
@@ -257,7 +257,7 @@ fn one_item<'a, R: Abort>(rt: &R, alloc: Lender<'a>) -> Model<u64, Lender<'a>, D
 }
 
 #[test]
-fn each_difference_from_the_definition_is_found(rt: HostRuntime) {
+fn detects_each_difference_from_the_model(rt: HostRuntime) {
     let refusing = Refusing::new(rt.alloc(), 0);
     let alloc = &refusing;
     let same = form_beside(&rt, alloc, Model::new(alloc), Kind::Reserve);
