@@ -37,21 +37,21 @@ pub fn assert_same_item<T: Sample, R: Abort>(
     item: Option<T>,
     number: Option<u64>,
 ) {
-    let told = match item {
-        Some(item) => Some(item.told()),
+    let found = match item {
+        Some(item) => Some(item.kept_number()),
         None => None,
     };
-    let telling = match number {
-        Some(number) => Some(T::telling(number)),
+    let expected = match number {
+        Some(number) => Some(T::expected_number(number)),
         None => None,
     };
-    assert_same(rt, at, "item", told, telling);
+    assert_same(rt, at, "item", found, expected);
 }
 
 /// Returns whether `item` is the item of this number, or both are `None`.
 pub fn is_item<T: Sample>(item: Option<T>, number: Option<u64>) -> bool {
     match (item, number) {
-        (Some(item), Some(number)) => item.told() == T::telling(number),
+        (Some(item), Some(number)) => item.kept_number() == T::expected_number(number),
         (None, None) => true,
         (Some(_), None) | (None, Some(_)) => false,
     }
@@ -87,7 +87,7 @@ pub fn assert_live<T: Sample, R: Abort>(
 fn first_difference<T: Sample>(items: &[T], numbers: &[u64]) -> Option<usize> {
     let mut index: usize = 0;
     for (item, number) in items.iter().zip(numbers.iter()) {
-        if item.told() != T::telling(*number) {
+        if item.kept_number() != T::expected_number(*number) {
             return Some(index);
         }
         index = index.saturating_add(1);

@@ -61,7 +61,7 @@ impl ClosureCalls {
 
     /// Counts a wrong item if `item` is not the item of this number.
     pub fn check_item<T: Sample>(&self, item: &T, number: u64) {
-        if item.told() != T::telling(number) {
+        if item.kept_number() != T::expected_number(number) {
             count(&self.wrong);
         }
     }

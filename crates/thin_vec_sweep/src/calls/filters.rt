@@ -108,12 +108,12 @@ impl<T: Sample, G: Ruled> Call<T, G> for PopIf {
         let count = case.at.shape.length;
         let goes = argument == 1;
         let closure_calls = ClosureCalls::new();
-        let asked = &closure_calls;
+        let counter = &closure_calls;
         let mut hand = case.item(rt, FRESH);
         case.begin();
         let item = case.list.pop_if(move |last| {
-            let number = asked.next().saturating_add(count);
-            asked.check_item(&*last, number as u64);
+            let number = counter.next().saturating_add(count);
+            counter.check_item(&*last, number as u64);
             mem::swap(last, &mut hand);
             goes
         });
@@ -253,7 +253,7 @@ impl<T: Sample + PartialEq, G: Ruled> Call<T, G> for Dedup {
                 number = number_at(index);
             }
             write(rt, case, index, number);
-            put(rt, &mut numbers, T::telling(number));
+            put(rt, &mut numbers, T::expected_number(number));
         }
         numbers.dedup();
         case.begin();

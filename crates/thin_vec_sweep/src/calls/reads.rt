@@ -68,9 +68,9 @@ impl<T: Sample, G: Ruled> Call<T, G> for Iterate {
 fn difference<T: Sample, G: Ruled>(list: &List<T, G>, numbers: &[u64]) -> Option<usize> {
     let mut index: usize = 0;
     for item in list {
-        let told = Some(item.told());
-        let telling = numbers.get(index).map(|number| T::telling(*number));
-        if told != telling {
+        let found = Some(item.kept_number());
+        let expected = numbers.get(index).map(|number| T::expected_number(*number));
+        if found != expected {
             return Some(index);
         }
         index = index.saturating_add(1);
