@@ -1,4 +1,4 @@
--- The words of the edits.
+-- The definitions that the contracts of the files of `src/edits` use.
 pub mod Dedup
 pub mod Drain
 pub mod ExtractIf

@@ -1,24 +1,30 @@
--- What a contract sees of a block that is open: its items lie in three runs, with empty slots
--- between them, while an edit works on it.
+-- What contracts see of an open block: the items of its three parts, and the numbers of empty slots
+-- between them. The comment of `OpenBlock` in `src/open_block.rt` has a picture of the parts.
 use Rattle.std.specs.Prelude.{ℕ, ◌+◌, ◌-◌, ◌==◌, List, ◌++◌, Option, if◌then◌else◌, length, refl}
 use Rattle.std.specs.Coded.{Coded, code_by, coded×, coded_ℕ, coded_list, coded_option}
 use Rattle.thin_block.specs.Cost.{Cost, cost_code, moving}
 use Rattle.thin_block.specs.Slots.{empty, full}
 
--- the items that stay in front; how many empty slots lie after them; the items of the middle run;
--- how many empty slots lie after those; the items after the range; how many slots there are; the
--- allocator that the memory came from; the cost
+-- an open block as contracts see it
 pub record Open (T A : Type 0) : Type 0 where
+  -- the items of the front
   pub front : List T
+  -- the number of empty slots between the front and the middle run
   pub gap : ℕ
+  -- the items of the middle run
   pub rest : List T
+  -- the number of empty slots between the middle run and the tail
   pub gap_after : ℕ
+  -- the items of the tail
   pub tail : List T
+  -- the number of slots
   pub capacity : ℕ
+  -- the allocator that the memory came from, or `None` if there is no memory
   pub alloc : Option A
+  -- what the block has cost so far
   pub cost : Cost
 
--- an open block is stored as the tuple of its eight parts
+-- the code of an `Open` is the code of the tuple of its eight fields
 abbrev pub open_code : {T A : Type 0} → Coded T → Coded A → Coded (Open T A)
 open_code {T} {A} t a =
     code_by (List T × (ℕ × (List T × (ℕ × (List T × (ℕ × (Option A × Cost)))))))
@@ -40,31 +46,32 @@ open_code {T} {A} t a =
     (λ _. refl)
 
 module _ {T A : Type 0} where
-  -- the slot of the first item of the tail
+  -- the index of the slot where the tail of `v` begins
   abbrev pub tail_start : Open T A → ℕ
   tail_start v = length v.front + v.gap + length v.rest + v.gap_after
 
-  -- how many slots there are up to the last item
+  -- the index of the slot after the tail of `v`
   abbrev pub reach : Open T A → ℕ
   reach v = tail_start v + length v.tail
 
-  -- the slots, in order
+  -- the slots of `v`, in order
   abbrev pub row_of : Open T A → List (Option T)
   row_of v = full v.front
       ++ (empty v.gap
       ++ (full v.rest ++ (empty v.gap_after ++ (full v.tail ++ empty (v.capacity - reach v)))))
 
-  -- the items, in order
+  -- the items of `v`, in order
   abbrev pub items_of : Open T A → List T
   items_of v = v.front ++ (v.rest ++ v.tail)
 
-  -- what it has cost once the empty slots after the front are closed: a move for each item after
-  -- them, where there are any
+  -- The cost of `v` after its gap was closed. If the gap has a slot, each item of the middle run
+  -- and of the tail moves once for this.
   abbrev pub cost_closed : Open T A → Cost
   cost_closed v = if v.gap == 0 then v.cost else moving (length v.rest + length v.tail) v.cost
 
-  -- what it has cost once the middle run is gone and the gap is closed: a move for each item of
-  -- the tail, where there is a gap
+  -- The cost of `v` after the items of the middle run were removed, and the tail was moved down to
+  -- the front. If there is a slot between the front and the tail, each item of the tail moves once
+  -- for this.
   abbrev pub cost_drained : Open T A → Cost
   cost_drained v = if v.gap + length v.rest + v.gap_after == 0 then v.cost else
       moving (length v.tail) v.cost

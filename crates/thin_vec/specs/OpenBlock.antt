@@ -1,4 +1,4 @@
--- How the slots of an open block lie; a contract sees it as an `Open`.
+-- The layout of the slots of an open block, which contracts see as an `Open`.
 pub mod Dedup
 pub mod Sift
 use Rattle.std.specs.Prelude.{◌≡◌, ◌+◌, ◌-◌, ◌≤◌, drop, length, slice_range, take}
@@ -7,7 +7,7 @@ use Rattle.thin_vec.specs.Open.{Open, row_of}
 use Rattle.thin_vec.specs.declared.open_block.OpenBlock.TheInside.{Inside}
 
 module _ {T A : Type 0} where
-  -- an open block as a contract sees it
+  -- the open block `h` as contracts see it
   abbrev pub open_of : Inside T A → Open T A
   open_of h =
       record {
@@ -21,7 +21,8 @@ module _ {T A : Type 0} where
         cost = h.block.cost;
       }
 
-  -- the slots of h are those of v, and its numbers say where each run of items begins and ends
+  -- The slots of `h` are those of `v`. The indices in `h` say where the parts of `v` begin and end.
+  -- The tail ends within the slots.
   pub record Shows (h : Inside T A) (v : Open T A) : Type 0 where
     pub row : h.block.slots ≡ row_of v
     pub front : length v.front ≡ h.front_end
@@ -31,6 +32,7 @@ module _ {T A : Type 0} where
     pub tail : h.tail_start + length v.tail ≡ h.len
     pub room : h.len ≤ v.capacity
 
-  -- no other slot holds an item
+  -- In `h`, the slots of the front, the middle run and the tail hold items, and all other slots are
+  -- empty. This is the invariant of the type `OpenBlock`.
   abbrev pub IsOpen : Inside T A → Type 0
   IsOpen h = Shows h (open_of h)

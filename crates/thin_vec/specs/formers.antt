@@ -1,2 +1,3 @@
--- Types that may hold the type that holds them, by the source that declares them.
+-- Formers: how a type may contain values of a type that contains it. There is one file for each
+-- source file that declares such a type.
 pub mod list

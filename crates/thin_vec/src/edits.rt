@@ -1,5 +1,5 @@
-//! The edits, each of which works on an open block: in one call, or as an iterator that a caller
-//! walks.
+//! The methods that work on an open block, and the edits `Drain`, `ExtractIf` and `Splice`. An edit
+//! keeps the block open until it ends. Methods such as `retain` close the block before they return.
 
 mod dedup;
 mod drain;

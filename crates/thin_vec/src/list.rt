@@ -140,7 +140,7 @@ impl<T, A: Allocator, G: Growth> ThinVec<T, A, G> {
 
     /// Appends `value`, which the list then owns. If there is no spare capacity, the list first
     /// grows to the capacity that the growth rule chooses. A push takes amortised constant time,
-    /// because each growth at least doubles the capacity.
+    /// because each growth at least doubles the capacity, also after `reserve_exact`.
     ///
     /// # Errors
     ///
@@ -154,8 +154,10 @@ impl<T, A: Allocator, G: Growth> ThinVec<T, A, G> {
         ensures items { OnOk result (self.new.items ≡ self.old.items ++ value ∷ []) }
         ensures cost { OnOk result (Costs 1 self.old self.new) }
 
-        // On failure, the list is unchanged.
+        // When it must succeed.
         ensures succeeds { HasRoomFor self.old 1 → IsOk result }
+
+        // On failure, the list is unchanged.
         ensures err { OnErr result (self.new ≡ self.old) }
         ensures value_returned { IfErr result (λ error. error.value ≡ value) }
 

@@ -116,8 +116,10 @@ pub fn repeated<T: Clone, A: Allocator>(
     ensures cost { IfOk result (λ list. list.cost ≡ moving count (cost_new list.capacity)) }
     ensures made { IfOk result (IsMade T.row alloc) }
 
-    // On failure.
+    // When it must succeed.
     ensures succeeds { count ≡ 0 → IsOk result }
+
+    // On failure.
     ensures overflow { TellsOverflow (ruled_capacity doubling T.row 0 count) result }
 {
     let mut list = ThinVec::new(alloc);

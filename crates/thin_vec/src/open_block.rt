@@ -1,4 +1,4 @@
-//! A list's block while an edit works on it, with empty slots between its items.
+//! The open block: the block of a list while an edit, or a call such as `retain`, works on it.
 ghost use Rattle.std.specs.Prelude.{◌≡◌, ◌↔◌, ◌+◌, ◌-◌, ◌==◌, ◌<◌, ◌≤◌, ◌∷◌, ◌++◌, [], IsTrue, drop, if◌then◌else◌, length, slice_range, take};
 ghost use Rattle.thin_block.specs.Cost.{moving, no_cost};
 ghost use Rattle.thin_block.specs.Slots.{front};
@@ -16,18 +16,46 @@ use std::marker::Model;
 use std::mem;
 use thin_block::{Block, Growth};
 
-/// A block that is open: the items in front stay, and after them lie a gap, the items of the middle
-/// run, a gap again, and the items after the range. A contract sees it as an `Open`.
+/// The block of a list while an edit, or a call such as `retain`, works on a range of the list.
+/// There may be empty slots between the items.
 ///
-/// It owns the block and its items, and has no drop: `close` puts the block back into the list.
+/// The slots have six parts, each of which may have length 0. The fields of this struct say in
+/// which slot a part begins. `capacity` is the number of slots.
+///
+/// ```text
+///   0       front_end    rest_start     rest_end    tail_start      len        capacity
+///   |           |            |            |            |            |             |
+///   +-----------+------------+------------+------------+------------+-------------+
+///   |   items   |   empty    |   items    |   empty    |   items    |    empty    |
+///   +-----------+------------+------------+------------+------------+-------------+
+///       front        gap       middle run   gap_after       tail      spare slots
+/// ```
+///
+/// - The *front* has the items before the range, and the items that were kept or inserted so far.
+///   They do not move again while the block is open.
+/// - The *gap* has the empty slots between the front and the middle run.
+/// - The *middle run* has the items of the range that were not yet yielded or tested. In names of
+///   fields and in contracts, it is called `rest`.
+/// - `gap_after` has the empty slots between the middle run and the tail. There are such slots only
+///   after items were removed from the end of the middle run, or the tail was moved up.
+/// - The *tail* has the items after the range.
+/// - The *spare slots* are the empty slots after the tail.
+///
+/// A *test* decides whether an item is kept or removed, and may write to the item. The *verdict* on
+/// an item is this decision, together with the item as the test left it.
+///
+/// An `OpenBlock` owns the block and all items in it. It does not implement `Drop`: `close` puts
+/// the block back into the list. Contracts see an `OpenBlock` as an `Open`, which is defined in
+/// `specs/Open.antt`.
 pub struct OpenBlock<T, A: Allocator> {
+    // The length that is stored in the block is not used while the block is open.
     pub(crate) block: Block<T, A>,
-    // The front lies in the slots up to `front_end`.
+    // The front is in the slots from 0 up to `front_end`.
     pub(crate) front_end: usize,
-    // The middle run lies in the slots from `rest_start` up to `rest_end`.
+    // The middle run is in the slots from `rest_start` up to `rest_end`.
     pub(crate) rest_start: usize,
     pub(crate) rest_end: usize,
-    // The tail lies in the slots from `tail_start` up to `len`.
+    // The tail is in the slots from `tail_start` up to `len`.
     pub(crate) tail_start: usize,
     pub(crate) len: usize,
 }
@@ -47,11 +75,13 @@ impl<T, A: Allocator> Model for OpenBlock<T, A> {
 }
 
 impl<T, A: Allocator, G: Growth> ThinVec<T, A, G> {
-    // The list's block, in which the items from `start` up to `end` are the middle run. The list
-    // is left empty and without a block.
+    // Takes the block out of the list, with the items from `start` up to `end` as the middle run.
+    // The list is left empty, without a block.
     pub(crate) fn open(&mut self, start: usize, end: usize) -> OpenBlock<T, A>
         requires start_le_end { start ≤ end }
         requires in_bounds { end ≤ length self.old.items }
+
+        // The open block.
         ensures front { result.front ≡ take start self.old.items }
         ensures rest { result.rest ≡ slice_range self.old.items start end }
         ensures tail { result.tail ≡ drop end self.old.items }
@@ -60,6 +90,8 @@ impl<T, A: Allocator, G: Growth> ThinVec<T, A, G> {
         ensures other_capacity { result.capacity ≡ self.old.capacity }
         ensures from { IsFrom result.alloc self.old.alloc }
         ensures other_cost { result.cost ≡ self.old.cost }
+
+        // The list.
         ensures changes { self.new ≡ record self.old { items = []; capacity = 0; cost = no_cost } }
     {
         let len = self.block.len();
@@ -74,11 +106,14 @@ impl<T, A: Allocator, G: Growth> ThinVec<T, A, G> {
         }
     }
 
-    // The list's block with `count` empty slots before the item at `at`: the items from there on
-    // move up, as one run. The list is left empty and without a block.
+    // Takes the block out of the list, with a gap of `count` empty slots before the item at `at`.
+    // For this, the item at `at` and all items after it are moved up by `count` slots, as one run.
+    // The list is left empty, without a block.
     pub(crate) fn open_wide(&mut self, at: usize, count: usize) -> OpenBlock<T, A>
         requires in_bounds { at ≤ length self.old.items }
         requires room { HasRoomFor self.old count }
+
+        // The open block.
         ensures front { result.front ≡ take at self.old.items }
         ensures gap { result.gap ≡ count }
         ensures rest { result.rest ≡ [] }
@@ -88,6 +123,8 @@ impl<T, A: Allocator, G: Growth> ThinVec<T, A, G> {
         ensures from { IsFrom result.alloc self.old.alloc }
         ensures other_cost { result.cost ≡ (if count == 0 then self.old.cost else moving
             (length self.old.items - at) self.old.cost) }
+
+        // The list.
         ensures changes { self.new ≡ record self.old { items = []; capacity = 0; cost = no_cost } }
     {
         let mut block = self.open(at, at);
@@ -99,7 +136,8 @@ impl<T, A: Allocator, G: Growth> ThinVec<T, A, G> {
         block
     }
 
-    // Closes the gap by one move of all items after it, and makes the block the list's again.
+    // Puts the block back into the list. If there is a gap, all items after it are moved down
+    // first, as one run. If the list has another block, that block is freed.
     pub(crate) fn close(&mut self, block: OpenBlock<T, A>)
         requires empty { self.old.items ≡ [] }
         requires gap_after { block.gap_after ≡ 0 }
@@ -135,21 +173,20 @@ impl<T, A: Allocator, G: Growth> ThinVec<T, A, G> {
 }
 
 impl<T, A: Allocator> OpenBlock<T, A> {
-    // How many items the middle run has.
+    // Returns the number of items in the middle run.
     pub(crate) fn rest_len(&self) -> usize
         ensures value { result ≡ length self.now.rest }
     {
         self.rest_end - self.rest_start
     }
 
-    // The first item of the middle run leaves.
+    // Removes the first item of the middle run and returns it. Its slot becomes a part of the gap.
     pub(crate) fn take_first(&mut self) -> T
         requires some { 0 < length self.old.rest }
         ensures rest { self.old.rest ≡ result ∷ self.new.rest }
         ensures changes { self.new ≡ record self.old {
           rest = self.new.rest;
-          gap = self.old.gap
-              + 1;
+          gap = self.old.gap + 1;
         } }
     {
         let first = self.rest_start;
@@ -157,28 +194,28 @@ impl<T, A: Allocator> OpenBlock<T, A> {
         self.block.take(first)
     }
 
-    // The last item of the middle run leaves.
+    // Removes the last item of the middle run and returns it. Its slot becomes a part of
+    // `gap_after`.
     pub(crate) fn take_last(&mut self) -> T
         requires some { 0 < length self.old.rest }
         ensures rest { self.old.rest ≡ self.new.rest ++ result ∷ [] }
         ensures changes { self.new ≡ record self.old {
           rest = self.new.rest;
-          gap_after = self.old.gap_after
-              + 1;
+          gap_after = self.old.gap_after + 1;
         } }
     {
         self.rest_end -= 1;
         self.block.take(self.rest_end)
     }
 
-    // The items of the middle run, in order.
+    // Returns the items of the middle run, in order.
     pub(crate) fn rest_slice(&self) -> &[T]
         ensures value { result.now ≡ self.now.rest }
     {
         self.block.slice(self.rest_start, self.rest_end)
     }
 
-    // Whether there is a tail.
+    // Returns whether the tail has an item.
     pub(crate) fn has_tail(&self) -> bool
         ensures value { IsTrue result ↔ (0 < length self.now.tail) }
         ensures in_bounds { reach self.now ≤ self.now.capacity }
@@ -186,14 +223,15 @@ impl<T, A: Allocator> OpenBlock<T, A> {
         self.tail_start < self.len
     }
 
-    // Whether there is a gap after the front.
+    // Returns whether there is an empty slot between the front and the middle run.
     pub(crate) fn has_gap(&self) -> bool
         ensures value { IsTrue result ↔ (0 < self.now.gap) }
     {
         self.front_end < self.rest_start
     }
 
-    // Counts all empty slots as one gap. The middle run is empty.
+    // Makes one gap of all empty slots between the front and the tail. The middle run must be
+    // empty.
     pub(crate) fn join(&mut self)
         requires none { self.old.rest ≡ [] }
         ensures { self.new
@@ -203,7 +241,8 @@ impl<T, A: Allocator> OpenBlock<T, A> {
         self.rest_end = self.tail_start;
     }
 
-    // The block once its items lie in front.
+    // Moves the items after the gap down to the start of the gap, as one run. Stores the number of
+    // items as the length of the block, and returns the block.
     fn into_closed(self) -> Block<T, A>
         requires gap_after { self.gap_after ≡ 0 }
         ensures slots { result.slots ≡ front (items_of self) self.capacity }
@@ -277,7 +316,8 @@ impl<T, A: Allocator> OpenBlock<T, A> {
 }
 
 impl<T: Drop, A: Allocator> OpenBlock<T, A> {
-    // Drops what is left of the middle run, and counts all empty slots as one gap. Nothing moves.
+    // Drops the items of the middle run, and makes one gap of all empty slots between the front and
+    // the tail. No item moves.
     pub(crate) fn drop_rest(&mut self)
         ensures { self.new ≡ record self.old {
           gap = self.old.gap + length self.old.rest + self.old.gap_after;

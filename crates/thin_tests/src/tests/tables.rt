@@ -103,6 +103,16 @@ fn drops_each_value_once(rt: HostRuntime) {
 }
 
 #[test]
+fn a_cleared_row_drops_its_values(rt: HostRuntime) {
+    let drops = Cell::new(0);
+    let mut table = Rows::with_rows(rt.alloc(), 2).expect(&rt, "memory");
+    set_counted(&rt, &mut table, &drops);
+    assert_row(&rt, &table, 0);
+    table.clear_row(0);
+    assert_same(&rt, drops.get(), 4);
+}
+
+#[test]
 fn a_value_may_have_no_size(rt: HostRuntime) {
     let mut table = Rows::with_rows(rt.alloc(), 1).expect(&rt, "memory");
     for column in [2, 1, 2] {
@@ -185,6 +195,23 @@ fn a_full_row_makes_no_request_for_an_entry_that_is_there(rt: HostRuntime) {
     assert_value(&rt, &table, (0, 3), Some(8));
     assert_entries(&rt, &table, 0, &[(1, 7), (2, 7), (3, 8)]);
     assert_same(&rt, table.len(), 3);
+    assert_counts(&rt, refusing, 0, 2);
+}
+
+#[test]
+fn a_cleared_row_frees_its_block_and_makes_no_request(rt: HostRuntime) {
+    let refusing = refusing_nth(&rt, rt.alloc(), 0);
+    let mut table = Rows::with_rows(refusing, 2).expect(&rt, "memory");
+    assert_set(&rt, &mut table, (0, 3), 7, None);
+    assert_set(&rt, &mut table, (0, 5), 7, None);
+    assert_set(&rt, &mut table, (1, 3), 8, None);
+    refusing.refuse(1);
+    for _ in 0..2 {
+        assert_row(&rt, &table, 0);
+        table.clear_row(0);
+        assert_entries(&rt, &table, 0, &[]);
+    }
+    assert_entries(&rt, &table, 1, &[(3, 8)]);
     assert_counts(&rt, refusing, 0, 2);
 }
 

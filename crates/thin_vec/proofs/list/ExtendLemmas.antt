@@ -21,7 +21,7 @@ use Rattle.thin_block.specs.Slots.{full, laid}
 use Rattle.thin_block.proofs.CapacityLemmas.{ruled-grows}
 use Rattle.thin_block.proofs.SlotsLemmas.{laid-one}
 use Rattle.std.specs.Prelude.{◌⊎◌}
-use Rattle.thin_vec.specs.List.Extend.{IsCollected, IsExtendCost, IsKeptOrRuled, IsLoose, PausedAfter}
+use Rattle.thin_vec.specs.List.Extend.{IsCollected, CostsAdding, IsKeptOrRuled, IsLoose, PausedAfter}
 use Rattle.thin_vec.specs.ThinVec.{Thin, capacity_for, cost_at}
 use Rattle.thin_vec.specs.declared.errors.ExtendRefused.{ExtendRefused}
 use Rattle.thin_vec.proofs.RetainLemmas.{moving-more, moving-none}
@@ -196,12 +196,13 @@ module _ (rule : Rule) (R : RattleType) (law : KeepsLaw rule) where
 
 module _ {T A : Type 0} where
   -- if k items were appended to v with k moves, after at most one growth, v and w satisfy
-  -- `IsExtendCost`
+  -- `CostsAdding` with no other move
   pub filled-at : (v w : Thin T A) (k : ℕ) → w.cost ≡ moving k (cost_at v w.capacity)
       → length w.items ≡ length v.items + k
-      → (cost_at v w.capacity).grown + v.capacity ≤ v.cost.grown + w.capacity → IsExtendCost v w
+      → (cost_at v w.capacity).grown + v.capacity ≤ v.cost.grown + w.capacity → CostsAdding v w 0
   filled-at v w k e n few = record {
     copied = omega (arith, ap (λ c. c.grown) e, few);
+    least = omega (arith, ap (λ c. c.moves) e, cost_at-moves v w.capacity, n);
     moves = omega (arith, ap (λ c. c.moves) e, cost_at-moves v w.capacity, n);
     kept = λ same. (
       ap (λ c. c.blocks) (e ∙ ap (λ c. moving k c) (cost_at-same v w.capacity same)),
@@ -211,10 +212,10 @@ module _ {T A : Type 0} where
         (omega (arith, ap (λ c. c.blocks) f), omega (arith, ap (λ c. c.grown) f));
   }
 
-  -- if v only grew, and no item was appended, v and w satisfy `IsExtendCost`
+  -- if v only grew, and no item was appended, v and w satisfy `CostsAdding`
   pub filled-reserved : (v w : Thin T A) → w.cost ≡ cost_at v w.capacity
       → w.items ≡ v.items
-      → (cost_at v w.capacity).grown + v.capacity ≤ v.cost.grown + w.capacity → IsExtendCost v w
+      → (cost_at v w.capacity).grown + v.capacity ≤ v.cost.grown + w.capacity → CostsAdding v w 0
   filled-reserved v w e n few =
       filled-at v w 0 (e
       ∙ (λ i. record {
@@ -227,24 +228,25 @@ module _ {T A : Type 0} where
       })) (omega (arith, ap length n)) few
 
   -- if k items were appended to v with k moves, and the capacity did not change, v and w satisfy
-  -- `IsExtendCost`
+  -- `CostsAdding`
   pub filled-spare : (v w : Thin T A) (k : ℕ)
       → w ≡ record v { items = w.items; cost = moving k v.cost }
-      → length w.items ≡ length v.items + k → IsExtendCost v w
+      → length w.items ≡ length v.items + k → CostsAdding v w 0
   filled-spare v w k e n =
       let same : w.capacity ≡ v.capacity = ap (λ u. u.capacity) e in
       let kept : cost_at v w.capacity ≡ v.cost = cost_at-same v w.capacity same in
       filled-at v w k (ap (λ u. u.cost) e ∙ ap (λ c. moving k c) (sym kept)) n
       (omega (arith, ap (λ c. c.grown) kept, same))
 
-  -- if `IsExtendCost` holds for v and u, and for u and w, it holds for v and w, provided that no
-  -- capacity shrinks and u has at least as many items as v
-  pub filled-join : {v u w : Thin T A} → IsExtendCost v u → IsExtendCost u w
-      → v.capacity ≤ u.capacity → u.capacity ≤ w.capacity → length v.items ≤ length u.items
-      → IsExtendCost v w
-  filled-join {v} {u} {w} p q low high long = record {
+  -- if v and u satisfy `CostsAdding` with m other moves, and u and w with n, then v and w do with k,
+  -- provided that m + n ≤ k, no capacity shrinks, and u has at least as many items as v
+  pub adding-join : {v u w : Thin T A} (m n k : ℕ) → m + n ≤ k → CostsAdding v u m
+      → CostsAdding u w n → v.capacity ≤ u.capacity → u.capacity ≤ w.capacity
+      → length v.items ≤ length u.items → CostsAdding v w k
+  adding-join {v} {u} {w} m n k few p q low high long = record {
     copied = omega (arith, p.copied, q.copied);
-    moves = omega (arith, p.moves, q.moves);
+    least = omega (arith, p.least, q.least);
+    moves = omega (arith, p.moves, q.moves, few);
     kept = λ same. let a : u.capacity ≡ v.capacity = omega arith in
         let b : w.capacity ≡ u.capacity = omega arith in let f = p.kept a in let h = q.kept b in
         (h.0 ∙ f.0, h.1 ∙ f.1);
@@ -258,4 +260,14 @@ module _ {T A : Type 0} where
       | inr still ↦ let f = p.kept (omega arith) in let h = q.grown (omega arith) in
           (omega (arith, f.0, h.0), omega (arith, f.1, h.1, long))
     ];
+  }
+
+  -- if v and w satisfy `CostsAdding` with no other move, they do with n other moves
+  pub adding-more : (v w : Thin T A) (n : ℕ) → CostsAdding v w 0 → CostsAdding v w n
+  adding-more v w n p = record {
+    copied = p.copied;
+    least = p.least;
+    moves = omega (arith, p.moves);
+    kept = p.kept;
+    grown = p.grown;
   }

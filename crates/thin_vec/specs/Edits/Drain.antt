@@ -68,12 +68,12 @@ module _ {T A G : Type 0} {g : Ghosts G} {h : HoldsGhosts (Holder (Open T A)) (O
   DrainKeepsAlong first = (items : List T) (later : Drain T A G (Holder (Open T A)) g h)
       → Yields DrainSteps first items later → DrainKeeps first later
 
-  -- each run of calls of `next` yields the remaining items in order. The argument only fixes the
-  -- type of `Drain`
+  -- whatever state calls of `next` begin in, they yield the items of `drain_rest` in order. This
+  -- holds of all states of this type, so the argument only names the type
   abbrev pub DrainsInOrder : Drain T A G (Holder (Open T A)) g h → Type 0
   DrainsInOrder d = YieldsInOrder DrainSteps drain_rest
 
-  -- each run of calls of `next_back` yields the remaining items in reverse. The argument only fixes
-  -- the type of `Drain`
+  -- whatever state calls of `next_back` begin in, they yield the items of `drain_rest` in reverse.
+  -- This holds of all states of this type, so the argument only names the type
   abbrev pub DrainsInReverse : Drain T A G (Holder (Open T A)) g h → Type 0
   DrainsInReverse d = YieldsInReverse DrainStepsBack drain_rest

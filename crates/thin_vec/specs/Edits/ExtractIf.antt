@@ -1,4 +1,4 @@
--- What a contract sees of an `ExtractIf`, and what a call of `next` does. (std: `Vec::extract_if`)
+-- What contracts see of an `ExtractIf`, and what a call of `next` does. (std: `Vec::extract_if`)
 use Rattle.std.specs.Prelude.{◌≡◌, ◌+◌, ◌==◌, ◌++◌, Bool, List, Option, if◌then◌else◌, length, ℕ}
 use Rattle.std.specs.List.Retain.{ExtractsNext}
 use Rattle.std.specs.Option.{option_to_list}
@@ -10,10 +10,15 @@ use Rattle.thin_vec.specs.declared.edits.extract_if.ExtractIf.{ExtractIf}
 use Rattle.thin_vec.specs.declared.edits.holder.Holder.{Holder}
 use Rattle.thin_vec.specs.declared.edits.holder.Holds.{Ghosts as HoldsGhosts}
 
+-- `R` is the relation of a closure. It relates the closure before a call, the item that is passed
+-- to the closure, whether the closure returns true, the closure after the call, and the item as the
+-- closure left it.
 module _ {T F A : Type 0} (R : F → T → Bool → F → T → Type 0) where
-  -- items were asked about up to the first that goes, which is the item, or up to the end. `kept`
-  -- are those that stay, as they were left: they stand in front, for a move each where there was a
-  -- gap
+  -- A step of the extraction led from `old` to `new`. The closure was called with the items of the
+  -- middle run, in order, until it returned true, or until the middle run ended. `item` is the item
+  -- for which it returned true, or `None` if there is none. This item was removed. `kept` has the
+  -- items for which the closure returned false. They became the last items of the front. If `old`
+  -- has a gap, each of them counts one move. All these items are as the closure left them.
   pub record Extracts (old : Extracting T F A) (item : Option T)
       (new : Extracting T F A) : Type 0 where
     pub kept : List T
@@ -28,15 +33,15 @@ module _ {T F A : Type 0} (R : F → T → Bool → F → T → Type 0) where
     pub cost : new.block.cost ≡ (if old.block.gap == 0 then old.block.cost else moving
         (length kept) old.block.cost)
 
--- All of it speaks of the holder that users get by default.
+-- The definitions in this module are about an `ExtractIf` with the default holder, `Holder`. Users
+-- get no other.
 module _ {T F A G : Type 0} {g : Ghosts G}
     {h : HoldsGhosts (Holder (Extracting T F A)) (Extracting T F A)} where
-  -- the items that stay in front: those before the range, and those that were asked about and stay,
-  -- as the closure left them
+  -- the items before the range, and the tested items that were kept, as the closure left them
   abbrev pub extract_front : ExtractIf T F A G (Holder (Extracting T F A)) g h → List T
   extract_front e = e.holder.value.block.front
 
-  -- the items that are still to be asked about
+  -- the items of the range that were not tested yet
   abbrev pub extract_rest : ExtractIf T F A G (Holder (Extracting T F A)) g h → List T
   extract_rest e = e.holder.value.block.rest
 
@@ -44,19 +49,19 @@ module _ {T F A G : Type 0} {g : Ghosts G}
   abbrev pub extract_tail : ExtractIf T F A G (Holder (Extracting T F A)) g h → List T
   extract_tail e = e.holder.value.block.tail
 
-  -- how many items were yielded
+  -- the number of items that were yielded
   abbrev pub extract_gone : ExtractIf T F A G (Holder (Extracting T F A)) g h → ℕ
   extract_gone e = e.holder.value.block.gap
 
-  -- the closure
+  -- the closure in its present state
   abbrev pub extract_callee : ExtractIf T F A G (Holder (Extracting T F A)) g h → F
   extract_callee e = e.holder.value.picks.pick
 
-  -- what the list's blocks have cost so far
+  -- what the blocks of the list have cost so far
   abbrev pub extract_cost : ExtractIf T F A G (Holder (Extracting T F A)) g h → Cost
   extract_cost e = e.holder.value.block.cost
 
-  -- the capacity of the list once the `ExtractIf` is dropped
+  -- the capacity that the list has after the `ExtractIf` is dropped
   abbrev pub extract_capacity : ExtractIf T F A G (Holder (Extracting T F A)) g h → ℕ
   extract_capacity e = e.holder.value.block.capacity
 
@@ -68,9 +73,11 @@ module _ {T F A G : Type 0} {g : Ghosts G}
   abbrev pub extract_lender : ExtractIf T F A G (Holder (Extracting T F A)) g h → GName
   extract_lender e = e.list.ghost_name
 
-  -- `next` took old to new, and returned the item. It asked about items up to the first that goes,
-  -- which is that item, or up to the end. `kept` are those that stay, as the closure left them:
-  -- they stand in front, for a move each where items were yielded before
+  -- A call of `next` led from `old` to `new`, and returned `item`. The closure was called with the
+  -- items that were not tested yet, in order, until it returned true, or until the range ended.
+  -- `item` is the item for which it returned true, or `None` if there is none. `kept` has the items
+  -- for which the closure returned false. If an item was yielded before this call, each item of
+  -- `kept` counts one move. All these items are as the closure left them.
   pub record ExtractSteps (R : F → T → Bool → F → T → Type 0)
       (old : ExtractIf T F A G (Holder (Extracting T F A)) g h) (item : Option T)
       (new : ExtractIf T F A G (Holder (Extracting T F A)) g h) : Type 0 where

@@ -1,5 +1,5 @@
--- What asking about the items of an open block's middle run, each beside the last one that stays,
--- leaves. (std: `Vec::dedup_by`)
+-- What is left of an open block after each item of its middle run was tested against the last item
+-- kept. (std: `Vec::dedup_by`)
 use Rattle.std.specs.Prelude.{◌≡◌, ◌⊎◌, ℕ, suc, ◌<◌, List, [], ◌∷◌, ◌++◌, Bool, true, false, Option, Some, length, replicate, slice_set}
 use Rattle.thin_block.specs.Cost.{moving}
 use Rattle.thin_block.specs.Slots.{slot}
@@ -7,11 +7,13 @@ use Rattle.thin_vec.specs.Edits.Retain.{moved_down, trues}
 use Rattle.thin_vec.specs.Edits.Dedup.{AskedLast, AskedPairs}
 use Rattle.thin_vec.specs.Open.{Open}
 
--- R relates a state, a later item, the last item kept, whether the later one goes, the state
--- afterwards and both items as they were left
+-- `R` is the relation of a test of two items. It relates the state of the test before a call, the
+-- later item, the last item kept, whether the later item is removed, the state after the call, and
+-- the later and the kept item as the test left them.
 module _ {S T : Type 0} (R : S → T → T → Bool → S → T → T → Type 0) where
-  -- the item at k was asked about beside the one before it, in the state s: b says whether it goes,
-  -- t is the state afterwards, and ys is xs with both as they were left
+  -- The item at index `k` of `xs` was tested against the item before it, in the state `s`. `b` says
+  -- whether the item is removed, and `t` is the state afterwards. `ys` is `xs` with both items as
+  -- the test left them.
   pub record IsPairAskedAt (k : ℕ) (s : S) (xs : List T) (b : Bool) (t : S)
       (ys : List T) : Type 0 where
     pub before : List T
@@ -25,8 +27,9 @@ module _ {S T : Type 0} (R : S → T → T → Bool → S → T → T → Type 0
     pub asked : R s later kept b t later_left kept_left
     pub now : ys ≡ before ++ kept_left ∷ later_left ∷ after
 
-  -- x was asked about beside the last item of xs: it is left as y, and ys is xs with that one as it
-  -- was left
+  -- The item `x` was tested against the last item of `xs`, in the state `s`. `b` says whether `x`
+  -- is removed, and `t` is the state afterwards. The test left `x` as `y`, and `ys` is `xs` with
+  -- its last item as the test left it.
   pub record IsLastAsked (s : S) (x : T) (xs : List T) (b : Bool) (t : S) (y : T)
       (ys : List T) : Type 0 where
     pub before : List T
@@ -36,8 +39,9 @@ module _ {S T : Type 0} (R : S → T → T → Bool → S → T → T → Type 0
     pub asked : R s x kept b t y kept_left
     pub now : ys ≡ before ++ kept_left ∷ []
 
-  -- the first item of xs was asked about beside k: k is left as l, and ys is xs with that one as it
-  -- was left
+  -- The first item of `xs` was tested against the kept item `k`, in the state `s`. `b` says whether
+  -- the first item is removed, and `t` is the state afterwards. The test left `k` as `l`, and `ys`
+  -- is `xs` with its first item as the test left it.
   pub record IsNextAsked (s : S) (k : T) (xs : List T) (b : Bool) (t : S) (l : T)
       (ys : List T) : Type 0 where
     pub later : T
@@ -47,8 +51,9 @@ module _ {S T : Type 0} (R : S → T → T → Bool → S → T → T → Type 0
     pub asked : R s later k b t later_left l
     pub now : ys ≡ later_left ∷ after
 
-  -- the items in the slots i and i + 1 were asked about, the later beside the first: the slots hold
-  -- them as they were left
+  -- The item in the slot `i + 1` was tested against the item in the slot `i`, in the state `s`. `b`
+  -- says whether the item in the slot `i + 1` is removed, and `t` is the state afterwards. `slots'`
+  -- is `slots` with both items as the test left them.
   pub record AreAskedIn (s : S) (i : ℕ) (slots : List (Option T)) (b : Bool) (t : S)
       (slots' : List (Option T)) : Type 0 where
     pub kept : T
@@ -60,9 +65,11 @@ module _ {S T : Type 0} (R : S → T → T → Bool → S → T → T → Type 0
     pub asked : R s later kept b t later_left kept_left
     pub now : slots' ≡ slice_set (slice_set slots i (Some kept_left)) (suc i) (Some later_left)
 
-  -- from the first item of xs on, which stays, each item was asked about beside the last one kept,
-  -- up to one that goes or to the end: m items stay, and ys is xs with all of them as they were
-  -- left
+  -- The first item of `xs` is kept. Starting in the state `s`, each later item was tested against
+  -- the item before it, up to and including the first item that is to be removed, or to the end of
+  -- `xs`. `m` is the number of items kept, and `t` is the final state. `ys` is `xs` with the tested
+  -- items as the test left them: `left` has the items kept, and `over` has the item that is to be
+  -- removed, if there is one.
   pub record PairsAskedUpTo (m : ℕ) (s : S) (xs : List T) (t : S) (ys : List T) : Type 0 where
     pub first : T
     pub done : List T
@@ -79,8 +86,11 @@ module _ {S T : Type 0} (R : S → T → T → Bool → S → T → T → Type 0
     pub stops : ((length over ≡ 1) × (stays ≡ replicate more true ++ false ∷ []))
         ⊎ ((over ≡ []) × ((after ≡ []) × (stays ≡ replicate more true)))
 
-  -- some first items of the middle run of v were asked about beside the last one kept, which was
-  -- the last in front: w is what is open then. Those that stay went to the front, for a move each
+  -- Starting in the state `s`, items from the start of the middle run of `v` were tested, each
+  -- against the last item kept before it. (For the first of them, this is the last item of the
+  -- front.) `t` is the final state, and `w` is the open block afterwards, which has a gap. The
+  -- items kept were moved to the front, and each counts one move. The other tested items were
+  -- removed.
   pub record Dedups {A : Type 0} (s : S) (v : Open T A) (t : S) (w : Open T A) : Type 0 where
     pub before : List T
     pub first : T
@@ -98,8 +108,10 @@ module _ {S T : Type 0} (R : S → T → T → Bool → S → T → T → Type 0
       cost = moving (trues stays) v.cost;
     }
 
-  -- all items of the middle run of v were asked about, and none is left there: a move for each that
-  -- stays and changes its place
+  -- The first item of the middle run of `v` is kept. Starting in the state `s`, each later item of
+  -- the middle run was tested against the last item kept before it. `t` is the final state, and `w`
+  -- is the open block afterwards. The front of `w` has exactly the items kept, and its middle run
+  -- is empty. Each item kept after the first removed item counts one move.
   pub record IsDeduped {A : Type 0} (s : S) (v : Open T A) (t : S) (w : Open T A) : Type 0 where
     pub stays : List Bool
     pub asked : AskedPairs R s v.rest stays w.front t

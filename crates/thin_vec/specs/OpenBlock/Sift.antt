@@ -1,13 +1,15 @@
--- What asking about the items of an open block's middle run leaves. (std: `Vec::retain_mut`,
+-- What is left of an open block after items of its middle run were tested. (std: `Vec::retain_mut`,
 -- `Vec::extract_if`)
 use Rattle.std.specs.Prelude.{◌≡◌, ℕ, ◌+◌, ◌<◌, ◌==◌, List, [], ◌∷◌, ◌++◌, Bool, true, false, drop, if◌then◌else◌, length, take}
 use Rattle.thin_block.specs.Cost.{moving}
 use Rattle.thin_vec.specs.Edits.Retain.{Verdicts, Asked, flags_of, left_at, moved_down, stay, trues}
 use Rattle.thin_vec.specs.Open.{Open}
 
+-- `R` is the relation of a test of one item. It relates the state of the test before a call, the
+-- item, whether the item is kept, the state after the call, and the item as the test left it.
 module _ {S T : Type 0} (R : S → T → Bool → S → T → Type 0) where
-  -- the item at k was asked about, in the state s: b says whether it stays, t is the state
-  -- afterwards, and ys is xs with the item as it was left
+  -- The item at index `k` of `xs` was tested in the state `s`. `b` says whether the item is kept,
+  -- and `t` is the state afterwards. `ys` is `xs` with the item as the test left it.
   pub record IsAskedAt (k : ℕ) (s : S) (xs : List T) (b : Bool) (t : S) (ys : List T) : Type 0 where
     pub before : List T
     pub item : T
@@ -18,13 +20,16 @@ module _ {S T : Type 0} (R : S → T → Bool → S → T → Type 0) where
     pub asked : R s item b t left
     pub now : ys ≡ before ++ left ∷ after
 
-  -- nothing was left to ask about, or the next item was asked about and goes
+  -- The list `xs` is empty, or its first item was tested in the state `s` and is to be removed. `t`
+  -- is the state afterwards, and `ys` is `xs` with the tested item as the test left it.
   abbrev pub Stops : S → List T → S → List T → Type 0
   Stops s [] t ys = (ys ≡ []) × (t ≡ s)
   Stops s (x ∷ xs) t ys = (y : T) × R s x false t y × (ys ≡ y ∷ xs)
 
-  -- the items from k up to m were asked about, and each stays; then nothing was left to ask about,
-  -- or the item at m was asked about and goes. ys is xs with all of them as they were left
+  -- Starting in the state `s`, the items of `xs` from index `k` up to, but not including, `m` were
+  -- tested, and each of them is kept. Then `xs` ended, or the item at index `m` was tested and is
+  -- to be removed. `t` is the final state, and `ys` is `xs` with the tested items as the test left
+  -- them.
   pub record AskedUpTo (k m : ℕ) (s : S) (xs : List T) (t : S) (ys : List T) : Type 0 where
     pub before : List T
     pub run : List T
@@ -39,9 +44,10 @@ module _ {S T : Type 0} (R : S → T → Bool → S → T → Type 0) where
     pub stops : Stops between after t end
     pub now : ys ≡ before ++ (left ++ end)
 
-  -- items of the middle run of v were asked about, from the state s on, up to the first that goes
-  -- or to the end: w is what is open then, and t the state. Those before it joined the front, for a
-  -- move each where there was a gap
+  -- Starting in the state `s`, items of the middle run of `v` were tested, up to and including the
+  -- first that is to be removed, or to the end. `t` is the final state, and `w` is the open block
+  -- afterwards. The items kept became a part of the front. If `v` has a gap, each of them counts
+  -- one move. The item that is to be removed is the first item of the middle run of `w`.
   pub record Advances {A : Type 0} (s : S) (v : Open T A) (t : S) (w : Open T A) : Type 0 where
     pub count : ℕ
     pub left : List T
@@ -52,8 +58,9 @@ module _ {S T : Type 0} (R : S → T → Bool → S → T → Type 0) where
       cost = if v.gap == 0 then v.cost else moving count v.cost;
     }
 
-  -- some first items of the middle run of v were asked about, from the state s on: w is what is
-  -- open then, and t the state. Those that stay went to the front, for a move each
+  -- Starting in the state `s`, items from the start of the middle run of `v` were tested. `t` is
+  -- the final state, and `w` is the open block afterwards, which has a gap. The items kept were
+  -- moved to the front, and each counts one move. The other tested items were removed.
   pub record Sifts {A : Type 0} (s : S) (v : Open T A) (t : S) (w : Open T A) : Type 0 where
     pub done : List T
     pub verdicts : Verdicts T
@@ -67,8 +74,9 @@ module _ {S T : Type 0} (R : S → T → Bool → S → T → Type 0) where
       cost = moving (trues (flags_of verdicts)) v.cost;
     }
 
-  -- all items of the middle run of v were asked about, and none is left there: a move for each that
-  -- stays and changes its place
+  -- Starting in the state `s`, all items of the middle run of `v` were tested. `t` is the final
+  -- state, and `w` is the open block afterwards. The items kept are at the end of its front, and
+  -- its middle run is empty. Each item kept after the first removed item counts one move.
   pub record IsSifted {A : Type 0} (s : S) (v : Open T A) (t : S) (w : Open T A) : Type 0 where
     pub verdicts : Verdicts T
     pub asked : Asked R s v.rest verdicts t

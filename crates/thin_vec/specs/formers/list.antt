@@ -1,2 +1,2 @@
--- What `src/list.rt` declares of them: `ThinVec`.
+-- The former of the type `ThinVec`, which `src/list.rt` declares.
 pub mod ThinVec

@@ -32,8 +32,10 @@ impl<A: Allocator> ThinVec<u8, A> {
             (λ list. list.cost ≡ moving (length text.now) (cost_new (length text.now))) }
         ensures made { IfOk result (IsMade u8 alloc) }
 
-        // On failure.
+        // When it must succeed.
         ensures succeeds_empty { length text.now ≡ 0 → IsOk result }
+
+        // On failure.
         ensures overflow { TellsOverflowOf u8 (length text.now) result }
     {
         ThinVec::from_copies(alloc, text.as_bytes())
@@ -61,8 +63,10 @@ impl<A: Allocator, G: Growth> Write for ThinVec<u8, A, G> {
             (capacity_for G.rule u8 self.old (length buf.now) ≡ Some self.new.capacity) }
         ensures cost { OnOk result (Costs (length buf.now) self.old self.new) }
 
-        // On failure, the list is unchanged.
+        // When it must succeed.
         ensures succeeds { HasRoomFor self.old (length buf.now) → IsOk result }
+
+        // On failure, the list is unchanged.
         ensures overflow { capacity_for G.rule u8 self.old (length buf.now) ≡ None → IsErr result }
         ensures cause { IfErr result (λ error. error_kind error ≡ ErrorKind.OutOfMemory) }
         ensures err { OnErr result (self.new ≡ self.old) }
@@ -91,8 +95,10 @@ impl<A: Allocator, G: Growth> Write for ThinVec<u8, A, G> {
             (capacity_for G.rule u8 self.old (length buf.now) ≡ Some self.new.capacity) }
         ensures cost { OnOk result (Costs (length buf.now) self.old self.new) }
 
-        // On failure, the list is unchanged.
+        // When it must succeed.
         ensures succeeds { HasRoomFor self.old (length buf.now) → IsOk result }
+
+        // On failure, the list is unchanged.
         ensures overflow { capacity_for G.rule u8 self.old (length buf.now) ≡ None → IsErr result }
         ensures cause { IfErr result (λ error. error_kind error ≡ ErrorKind.OutOfMemory) }
         ensures err { OnErr result (self.new ≡ self.old) }

@@ -40,8 +40,10 @@ impl<T, A: Allocator> ThinVec<T, A> {
         ensures cost { IfOk result (λ list. list.cost ≡ moving N (cost_new N)) }
         ensures made { IfOk result (IsMade T.row alloc) }
 
-        // On failure, the error holds the array.
+        // When it must succeed.
         ensures succeeds { N ≡ 0 → IsOk result }
+
+        // On failure, the error holds the array.
         ensures value_returned { IfErr result (λ error. error.value ≡ items) }
         ensures overflow { TellsOverflowOf T.row N (causes result) }
     {
@@ -80,8 +82,10 @@ impl<T, A: Allocator> ThinVec<T, A> {
             (λ list. list.cost ≡ moving (length items.items) (cost_new (length items.items))) }
         ensures made { IfOk result (IsMade T.row alloc) }
 
-        // On failure, the error holds the vector.
+        // When it must succeed.
         ensures succeeds_empty { length items.items ≡ 0 → IsOk result }
+
+        // On failure, the error holds the vector.
         ensures value_returned { IfErr result (λ error. error.value ≡ items) }
         ensures overflow { TellsOverflowOf T.row (length items.items) (causes result) }
     {
@@ -120,8 +124,10 @@ impl<T, A: Allocator> ThinVec<T, A> {
             (cost_new (length (boxed_slice_items items)))) }
         ensures made { IfOk result (IsMade T.row alloc) }
 
-        // On failure, the error holds the boxed slice.
+        // When it must succeed.
         ensures succeeds_empty { length (boxed_slice_items items) ≡ 0 → IsOk result }
+
+        // On failure, the error holds the boxed slice.
         ensures value_returned { IfErr result (λ error. error.value ≡ items) }
         ensures overflow { TellsOverflowOf T.row (length (boxed_slice_items items))
             (causes result) }
@@ -177,8 +183,10 @@ impl<T: Copy, A: Allocator> ThinVec<T, A> {
             (λ list. list.cost ≡ moving (length items.now) (cost_new (length items.now))) }
         ensures made { IfOk result (IsMade T.row alloc) }
 
-        // On failure.
+        // When it must succeed.
         ensures succeeds_empty { length items.now ≡ 0 → IsOk result }
+
+        // On failure.
         ensures overflow { TellsOverflowOf T.row (length items.now) result }
     {
         match ThinVec::with_capacity(alloc, items.len()) {
@@ -213,8 +221,10 @@ impl<T: Clone, A: Allocator> ThinVec<T, A> {
             (λ list. list.cost ≡ moving (length items.now) (cost_new (length items.now))) }
         ensures made { IfOk result (IsMade T.row alloc) }
 
-        // On failure.
+        // When it must succeed.
         ensures succeeds_empty { length items.now ≡ 0 → IsOk result }
+
+        // On failure.
         ensures overflow { TellsOverflowOf T.row (length items.now) result }
     {
         if !fits::<T>(items.len()) {

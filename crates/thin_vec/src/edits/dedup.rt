@@ -1,4 +1,5 @@
-//! `dedup`, in its forms: an item goes that is the same as the last one kept.
+//! The methods `dedup`, `dedup_by` and `dedup_by_key`, which remove each item that is the same as
+//! the last item kept before it.
 ghost use Rattle.std.specs.Prelude.{◌≡◌, ◌+◌, ◌<◌, ◌≤◌, length};
 ghost use Rattle.std.specs.Fn.{CalledAtPairMut, ComparesKeys};
 ghost use Rattle.std.specs.List.{dedup};
@@ -14,12 +15,15 @@ impl<T: Drop, A: Allocator, G: Growth> ThinVec<T, A, G> {
     ghost use Rattle.thin_vec.specs.Edits.Dedup.{IsDedupedBy, IsDedupedTo};
     ghost use Rattle.thin_vec.specs.ThinVec.{IsWithin};
 
-    /// Keeps the first of each run of adjacent items for which `same` returns true, and drops the
-    /// others.
+    /// Compares each item except the first with the last item kept before it, by a call of `same`.
+    /// If `same` returns true, the item is removed and dropped. So of adjacent items that are the
+    /// same, the list keeps the first.
     ///
-    /// `same` is called for each item but the first, with the item and the last one kept before it,
-    /// in this order, and may write to both. It is not called for fewer than two items. What moves
-    /// is as for `retain`.
+    /// The calls are made in order, one for each item except the first. The first argument of
+    /// `same` is the item, and the second is the kept item, as in Rust's `Vec::dedup_by`. `same`
+    /// may write to both items.
+    ///
+    /// Each item that is kept after the first removed item moves once. No other item moves.
     pub fn dedup_by<F: FnMut(&mut T, &mut T) -> bool>(&mut self, same: F)
         requires callable { F.IsAlwaysCallable same }
         ensures deduped { IsDedupedBy (CalledAtPairMut F.FnMut) same self.old self.new }
@@ -32,8 +36,8 @@ impl<T: Drop, A: Allocator, G: Growth> ThinVec<T, A, G> {
         let Deduping { same: _ } = test;
     }
 
-    // Asks about each item but the first, in order, beside the last one kept, and drops those that
-    // go.
+    // Tests each item except the first, in order, against the last item kept, and drops the items
+    // that are removed.
     fn dedup_those<J: PairTest<T>>(&mut self, test: &mut J)
         requires ready { J.ready test.old }
         ensures deduped { IsDedupedTo J.tests test.old self.old self.new test.new }
@@ -52,8 +56,11 @@ impl<T: Drop, A: Allocator, G: Growth> ThinVec<T, A, G> {
         self.close(block);
     }
 
-    /// `dedup_by` for items whose keys are equal. Of each two the key of the later item is taken
-    /// first.
+    /// Removes and drops each item whose key is equal to the key of the last item kept before it.
+    ///
+    /// For each item except the first, in order, `key` is called twice: with the item, and then
+    /// with the last item kept so far. This is the order of Rust's `Vec::dedup_by_key`. `key` may
+    /// write to the items. Items move as in `dedup_by`.
     pub fn dedup_by_key<K: PartialEq + Drop, F: FnMut(&mut T) -> K>(&mut self, key: F)
         requires callable { F.IsAlwaysCallable key }
         ensures deduped { IsDedupedBy (ComparesKeys F.FnMut K.eq) key self.old self.new }
@@ -72,10 +79,10 @@ impl<T: PartialEq + Drop, A: Allocator, G: Growth> ThinVec<T, A, G> {
     ghost use Rattle.thin_vec.specs.Edits.Dedup.{unlike};
     ghost use Rattle.thin_vec.specs.ThinVec.{IsWithin};
 
-    /// Keeps the first of each run of equal items and drops the others: a sorted list keeps each
-    /// value once.
+    /// Removes and drops each item that is equal to the last item kept before it, as Rust's
+    /// `Vec::dedup` does. If the list is sorted, it keeps one item of each value.
     ///
-    /// What moves is as for `retain`.
+    /// Each item except the first is compared once. Items move as in `dedup_by`.
     pub fn dedup(&mut self)
         ensures items { self.new.items ≡ dedup T.eq self.old.items }
         ensures cost { self.new.cost ≡ moving (moved_down (unlike T.eq self.old.items))
@@ -90,17 +97,18 @@ impl<T: PartialEq + Drop, A: Allocator, G: Growth> ThinVec<T, A, G> {
     }
 }
 
-// A closure that says of two items whether the later one goes.
+// The test of `dedup_by`: the later item is removed if the closure `same` returns true.
 struct Deduping<F> {
     same: F,
 }
 
-// A closure that returns the key by which two items are the same.
+// The test of `dedup_by_key`: the later item is removed if the closure `key` returns equal keys for
+// both items.
 struct Keying<F> {
     key: F,
 }
 
-// Two equal items are the same.
+// The test of `dedup`: the later item is removed if the two items are equal.
 struct Comparing {}
 
 impl<T, F: FnMut(&mut T, &mut T) -> bool> PairTest<T> for Deduping<F> {

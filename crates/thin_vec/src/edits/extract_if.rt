@@ -1,9 +1,9 @@
-//! `extract_if`: the items of a range for which a closure returns true go out of a list, one by
-//! one.
+//! The method `extract_if`, and the edit `ExtractIf` that it returns. The edit removes the items of
+//! a range for which a closure returns true, one by one.
 //!
-//! Up to the first item that goes nothing moves. From then on the list has a gap, and the items
-//! that stay wait where they are until the next one goes or the range ends: then they go to the
-//! start of the gap together.
+//! No item moves before the first item is removed. From then on the open block has a gap. Kept
+//! items stay where they are until the next item is removed, or until the range ends. Then they are
+//! moved together to the start of the gap.
 ghost use Rattle.std.specs.Prelude.{◌≡◌, ◌≤◌, IfSome, Some, drop, length, not, slice_range, take};
 ghost use Rattle.std.specs.Fn.{CalledAtMut};
 ghost use Rattle.std.specs.Iterator.{UpTo, at_most};
@@ -18,11 +18,14 @@ use crate::open_block::sift::Test;
 use std::alloc::{Allocator, Global};
 use thin_block::{Doubling, Growth};
 
-/// The items of a range of a list for which a closure returns true, yielded in order, as the
-/// closure left them. When dropped, it stops asking; every item not yet yielded stays.
+/// An iterator that removes the items of a range for which a closure returns true, and yields them
+/// in order, as the closure left them. The method `extract_if` returns it.
 ///
-/// While it lives it owns the list's block, and the list is empty and without one: an `ExtractIf`
-/// that is forgotten leaves such a list.
+/// While an `ExtractIf` lives, it owns the block of the list, and the list is empty and has no
+/// block. When it is dropped, it puts the block back. Then the list has every item that was not
+/// yielded: the closure is not called for the items that it has not tested yet, and they are kept.
+/// If an `ExtractIf` is passed to `mem::forget`, the list remains empty and without a block, and
+/// the items and their block are leaked.
 pub struct ExtractIf<
     'a,
     T,
@@ -33,18 +36,20 @@ pub struct ExtractIf<
 > {
     list: &'a mut ThinVec<T, A, G>,
     holder: H,
+    // The memory of the block came from the allocator of the list.
     ghost from: { IsFrom (H.inner holder).block.alloc list.now.alloc },
 }
 
-/// What an `ExtractIf` owns: the open block, of which the middle run is still to be asked about,
-/// and the closure.
+/// What an `ExtractIf` owns: the open block, whose middle run has the items that were not tested
+/// yet, and the closure.
 pub struct Extracting<T, F, A: Allocator> {
     block: OpenBlock<T, A>,
     picks: Picks<F>,
+    // There is no empty slot between the middle run and the tail.
     ghost adjacent: { block.gap_after ≡ 0 },
 }
 
-/// A closure that returns true for an item that goes.
+/// The test of an `ExtractIf`: an item is removed if the closure `pick` returns true.
 pub struct Picks<F> {
     pick: F,
 }
@@ -56,7 +61,7 @@ impl<T, F: FnMut(&mut T) -> bool> Test<T> for Picks<F> {
 
     ghost ready = { λ s. F.IsAlwaysCallable s.pick };
 
-    // Whether the item stays.
+    // Returns whether the item is kept, which is the opposite of what `pick` returns.
     fn test(&mut self, item: &mut T) -> bool {
         !(self.pick)(item)
     }
@@ -64,7 +69,8 @@ impl<T, F: FnMut(&mut T) -> bool> Test<T> for Picks<F> {
 
 impl<'a, T: Drop, F: Drop, A: Allocator, G: Growth, H: Holds<Inner = Extracting<T, F, A>>> Drop
     for ExtractIf<'a, T, F, A, G, H> {
-    // What was not asked about and what comes after the range close the gap, as one run.
+    // Moves the items that were not tested, and the items after the range, down to the start of the
+    // gap, as one run. Then puts the block back into the list, and drops the closure.
     fn drop(self)
         ensures items { self.exit.0.now.items ≡ items_of (H.inner self.entry.holder).block }
         ensures capacity { self.exit.0.now.capacity ≡ (H.inner self.entry.holder).block.capacity }
@@ -74,7 +80,7 @@ impl<'a, T: Drop, F: Drop, A: Allocator, G: Growth, H: Holds<Inner = Extracting<
         let ExtractIf { list, holder } = self;
         let Extracting { block, picks } = holder.into_inner();
         let Picks { pick } = picks;
-        // The list is empty. This call proves it, and `close` requires it.
+        // The list is empty already. This call tells the prover so: `close` requires an empty list.
         list.clear();
         list.close(block);
         drop(pick);
@@ -84,8 +90,8 @@ impl<'a, T: Drop, F: Drop, A: Allocator, G: Growth, H: Holds<Inner = Extracting<
 impl<T, F: FnMut(&mut T) -> bool, A: Allocator> Extracting<T, F, A> {
     ghost use Rattle.thin_vec.specs.Edits.ExtractIf.{Extracts};
 
-    // Asks about items up to the first that goes, and returns it. Where there is a gap, those
-    // before it move to the front.
+    // Tests items up to the first that is removed, and returns that item, or `None` if every item
+    // of the middle run is kept. If there is a gap, the kept items are moved to the front.
     fn next_picked(&mut self) -> Option<T>
         requires callable { F.IsAlwaysCallable self.old.picks.pick }
         ensures extracts { Extracts (CalledAtMut F.FnMut) self.old result self.new }
@@ -102,12 +108,22 @@ impl<T, F: FnMut(&mut T) -> bool, A: Allocator> Extracting<T, F, A> {
 impl<T: Drop, A: Allocator, G: Growth> ThinVec<T, A, G> {
     ghost use Rattle.thin_vec.specs.Edits.ExtractIf.{extract_alloc, extract_callee, extract_capacity, extract_cost, extract_front, extract_gone, extract_lender, extract_rest, extract_tail};
 
-    /// Takes those items from `start` up to `end` out of the list for which `pick` returns true,
-    /// and yields them, in order, as `pick` left them. `pick` is called for each item of the range
-    /// once, in order, as far as the iterator is walked.
+    /// Returns an iterator that removes the items from index `start` up to, but not including,
+    /// `end` for which `pick` returns true. It yields these items in order, as `pick` left them,
+    /// and the caller owns them.
     ///
-    /// Once it is dropped, the list has all items but those that were yielded, its capacity and its
-    /// allocator. Neither allocates. `bounds` is the test for the range.
+    /// `extract_if` itself does not call `pick`. The calls of `next` do: they call `pick` once for
+    /// each item of the range, in order. `pick` may write to the item.
+    ///
+    /// When the `ExtractIf` is dropped, the list has every item that was not yielded, and its old
+    /// capacity and allocator. If the `ExtractIf` is dropped before `next` has returned `None`, the
+    /// items that were not tested yet are kept, as with Rust's `Vec::extract_if`.
+    ///
+    /// No memory is requested. Once the `ExtractIf` is dropped, each item that follows the first
+    /// removed item and is kept has moved once, including the items after the range. No other item
+    /// moves.
+    ///
+    /// The function `bounds` converts a Rust range into `start` and `end`, and checks them.
     pub fn extract_if<F: FnMut(&mut T) -> bool>(
         &mut self,
         start: usize,
@@ -116,11 +132,15 @@ impl<T: Drop, A: Allocator, G: Growth> ThinVec<T, A, G> {
     ) -> ExtractIf<'_, T, F, A, G>
         requires start_le_end { start ≤ end }
         requires in_bounds { end ≤ length self.old.items }
+
+        // The parts of the `ExtractIf`.
         ensures front { extract_front result ≡ take start self.old.items }
         ensures rest { extract_rest result ≡ slice_range self.old.items start end }
         ensures tail { extract_tail result ≡ drop end self.old.items }
         ensures gone { extract_gone result ≡ 0 }
         ensures callee { extract_callee result ≡ pick }
+
+        // The list that the `ExtractIf` borrows.
         ensures same_reference { extract_lender result ≡ self.entry.ghost_name }
         ensures capacity { extract_capacity result ≡ self.old.capacity }
         ensures alloc { extract_alloc result ≡ self.old.alloc }
@@ -140,7 +160,8 @@ impl<T: Drop, A: Allocator, G: Growth> ThinVec<T, A, G> {
 impl<'a, T, F, A: Allocator, G: Growth> ExtractIf<'a, T, F, A, G> {
     ghost use Rattle.thin_vec.specs.Edits.ExtractIf.{extract_rest};
 
-    /// How many items may come: from none to all that are still to be asked about.
+    /// Returns a lower and an upper bound for the number of items that are still to be yielded: 0,
+    /// and the number of items that were not tested yet.
     pub fn size_hint(&self) -> (usize, Option<usize>)
         ensures value { result ≡ (0, Some (length (extract_rest self.now))) }
     {
@@ -151,8 +172,9 @@ impl<'a, T, F, A: Allocator, G: Growth> ExtractIf<'a, T, F, A, G> {
 impl<'a, T, F: FnMut(&mut T) -> bool, A: Allocator, G: Growth> ExtractIf<'a, T, F, A, G> {
     ghost use Rattle.thin_vec.specs.Edits.ExtractIf.{ExtractSteps, extract_callee};
 
-    /// Asks about items up to the first for which the closure returns true, and returns that one,
-    /// or `None` where the range has no such item any more.
+    /// Calls the closure with the items that were not tested yet, in order, until it returns true.
+    /// Then removes that item and returns it. If the closure returns true for none of them, returns
+    /// `None`, and so does each later call.
     pub fn next(&mut self) -> Option<T>
         requires callable { F.IsAlwaysCallable (extract_callee self.old) }
         ensures steps { ExtractSteps (CalledAtMut F.FnMut) self.old result self.new }

@@ -1,23 +1,26 @@
-//! How an edit holds what it took out of a list.
+//! The trait `Holds`, through which an edit owns the block of a list.
 //!
-//! An edit borrows a list and owns its block. A struct that has a raw pointer in a declared field
-//! beside a `&mut` can't say, in the contract of its drop, what the `&mut` then leads to. So a type
-//! parameter hides what an edit owns.
+//! An edit has a `&mut` to the list, and owns the block, which has a raw pointer. If a struct
+//! declares one field with a raw pointer and another field with a `&mut`, the contract of its
+//! `drop` cannot say what the `&mut` points to afterwards. So the type of the field for the block
+//! is a type parameter, with the bound `Holds`. The parameter hides the raw pointer.
 ghost use Rattle.std.specs.Prelude.{◌≡◌};
 
-/// Something that holds one value, and can be turned into it.
+/// A type that holds one value, and can be converted into it.
 pub trait Holds {
-    /// What it holds.
+    /// The type of the value that is held.
     type Inner;
 
+    /// The value that is held.
     ghost inner: { Self → Self.Inner };
 
-    /// Returns the value.
+    /// Returns the value that is held. The caller owns it.
     fn into_inner(self) -> Self::Inner
         ensures value { result ≡ inner self };
 }
 
-/// The one holder that there is. Users of an edit need not name it.
+/// The only type of this crate that implements `Holds`. It is the default of the parameter `H` of
+/// each edit, so that users of an edit need not name it.
 pub struct Holder<B> {
     pub(crate) value: B,
 }

@@ -1,5 +1,6 @@
-//! `replace_range`: a range of a list's items is replaced by clones of others, all or nothing.
-ghost use Rattle.std.specs.Prelude.{◌≡◌, ◌⊎◌, ◌+◌, ◌-◌, ◌*◌, ◌==◌, ◌<◌, ◌≤◌, ◌++◌, All, IfErr, IsOk, OnErr, OnOk, drop, if◌then◌else◌, length, take};
+//! The method `replace_range`, which replaces the items of a range by clones of other items. If it
+//! fails, the list has its old items.
+ghost use Rattle.std.specs.Prelude.{◌≡◌, ◌+◌, ◌-◌, ◌*◌, ◌==◌, ◌<◌, ◌≤◌, ◌++◌, All, IfErr, IsOk, OnErr, OnOk, drop, if◌then◌else◌, length, take};
 ghost use Rattle.std.specs.List.{replace_range};
 ghost use Rattle.thin_block.specs.Cost.{moving};
 ghost use Rattle.thin_vec.specs.List.Clones.{ClonesEqual};
@@ -12,12 +13,31 @@ use std::alloc::Allocator;
 use thin_block::{Growth, ThinVecError};
 
 impl<T: Clone, A: Allocator, G: Growth> ThinVec<T, A, G> {
-    /// Puts a clone of each of `items`, in order, in the place of the items from `start` up to
-    /// `end`, which are dropped once all clones are made. (own)
+    /// Replaces the items from index `start` up to, but not including, `end` by clones of `items`,
+    /// in order. The old items of the range are dropped after the last clone is made.
     ///
-    /// It makes room for the clones beside the old items. It fails as `reserve` does for that room,
-    /// and then nothing changes. It fails with `OutOfMemory` also where a clone does: the clones
-    /// made until then are dropped, the list has its old items, and the room that was made stays.
+    /// This method is our own: neither Rust's `Vec` nor the Rust crate thin-vec has it.
+    ///
+    /// The call needs room for `items.len()` more items, that is, a capacity of at least
+    /// `self.len() + items.len()`, even if the range has more items than `items`. The reason is
+    /// that a clone can fail, and the list then has to have its old items. So the old items are
+    /// kept until the last clone is made, and the clones are made in other slots.
+    ///
+    /// Clones for the places of the range are made after the last item of the list, and the others
+    /// in a gap that is made before the items after the range. On success, each item after the range
+    /// moves at most once, and each clone for a place of the range moves there. If a clone fails, an
+    /// item after the range can move up to three times: up, when the gap is made; down to the clones
+    /// in the gap, if the gap was not filled; and down to its old place, once these clones are
+    /// dropped.
+    ///
+    /// # Errors
+    ///
+    /// - `CapacityOverflow`: there is no room for `items.len()` more items, and the growth rule
+    ///   chooses no capacity for them. The list is unchanged.
+    /// - `OutOfMemory`: there is no room for `items.len()` more items, and the allocator refused
+    ///   the memory for them. The list is unchanged.
+    /// - `OutOfMemory`: a clone failed. The clones that were already made are dropped, and the list
+    ///   has its old items. It keeps the capacity that was reserved for the clones.
     pub fn replace_range(
         &mut self,
         start: usize,
@@ -31,21 +51,22 @@ impl<T: Clone, A: Allocator, G: Growth> ThinVec<T, A, G> {
         ensures items { OnOk result (ReplacesByClones T.is_clone self.old.items start end items.now
             self.new.items) }
         ensures items_if_clones_equal { OnOk result (ClonesEqual T.is_clone
-            → self.new.items ≡ (take start self.old.items ++ items.now) ++ drop end self.old.items) }
+            → self.new.items ≡ (take start self.old.items ++ items.now)
+            ++ drop end self.old.items) }
         ensures cost { OnOk result
             (Costs (moves_cloning self.old start end (length items.now)) self.old self.new) }
 
-        // It fails if it cannot grow: then nothing changes. It fails also if a clone fails: then the
-        // clones made are dropped, the items are as before, and the new capacity stays.
+        // When it must succeed.
         ensures succeeds { HasRoomFor self.old (length items.now) → All T.is_infallible items.now
             → IsOk result }
+
+        // On failure.
         ensures err_items { OnErr result (self.new.items ≡ self.old.items) }
         ensures err { All T.is_infallible items.now → OnErr result (self.new ≡ self.old) }
-        ensures err_cost { OnErr result ((self.new ≡ self.old) ⊎ CostsAtMost
+        ensures err_cost { OnErr result (CostsAtMost
             (length items.now + 3 * (length self.old.items - end)) self.old self.new) }
 
-        // In any case. The capacity and the cause of a failure are those of `reserve` for all the
-        // clones, which are made beside the old items.
+        // In any case.
         ensures reserves { Reserves G.rule T.row (length items.now) self.old self.new result }
         ensures keeps { Keeps T.row self.old self.new }
     {
@@ -53,9 +74,10 @@ impl<T: Clone, A: Allocator, G: Growth> ThinVec<T, A, G> {
         self.replace_reserved_by_clones(start, end, items)
     }
 
-    // `replace_range` where there is room for the clones beside the old items. Those beyond the
-    // range's places are made after it, and the others after the list, from where they go to its
-    // places once no clone can fail any more.
+    // Does what `replace_range` does after it has reserved room for the clones in addition to the
+    // old items. First, the clones that do not fit into the places of the range are made, in a gap
+    // directly after the range. Then the other clones are made, after the last item of the list.
+    // When no clone can fail any more, these other clones are moved into the places of the range.
     fn replace_reserved_by_clones(
         &mut self,
         start: usize,
@@ -66,19 +88,29 @@ impl<T: Clone, A: Allocator, G: Growth> ThinVec<T, A, G> {
         requires in_bounds { end ≤ length self.old.items }
         requires room { HasRoomFor self.old (length items.now) }
         requires within { IsWithin T.row self.old }
+
+        // If no clone can fail, the call succeeds.
         ensures succeeds { All T.is_infallible items.now → IsOk result }
+
+        // On success.
         ensures items { OnOk result (ReplacesByClones T.is_clone self.old.items start end items.now
             self.new.items) }
         ensures cost { OnOk result (self.new.cost
             ≡ moving (moves_cloning self.old start end (length items.now)) self.old.cost) }
+
+        // In any case, only the items and the cost may change.
         ensures changes { self.new ≡ record self.old {
           items = self.new.items;
           cost = self.new.cost;
         } }
+
+        // On failure, the items are unchanged.
         ensures err_items { OnErr result (self.new.items ≡ self.old.items) }
         ensures refused { OnErr result (MovesAtMost (length items.now + 3 *
             (length self.old.items - end)) self.old.cost self.new.cost) }
         ensures cause { IfErr result (λ cause. cause ≡ ThinVecError.OutOfMemory) }
+
+        // In any case.
         ensures within { IsWithin T.row self.new }
     {
         let (inside, beyond) = items.split_at(items.len().min(end - start));
@@ -91,25 +123,35 @@ impl<T: Clone, A: Allocator, G: Growth> ThinVec<T, A, G> {
         Ok(())
     }
 
-    // Clones of `items` go before the item at `at`, into spare room. Where one fails, those made
-    // before it are dropped.
+    // Inserts clones of `items` before the item at `at`, into spare capacity. If a clone fails,
+    // drops the clones that were already made, and closes the gap.
     fn insert_clones_reserved(&mut self, at: usize, items: &[T]) -> Result<(), ThinVecError>
         requires in_bounds { at ≤ length self.old.items }
         requires room { HasRoomFor self.old (length items.now) }
         requires within { IsWithin T.row self.old }
+
+        // If no clone can fail, the call succeeds.
         ensures succeeds { All T.is_infallible items.now → IsOk result }
+
+        // On success.
         ensures items { OnOk result (ReplacesByClones T.is_clone self.old.items at at items.now
             self.new.items) }
         ensures cost { OnOk result (self.new.cost
             ≡ moving (moves_replacing self.old at at (length items.now)) self.old.cost) }
+
+        // In any case, only the items and the cost may change.
         ensures changes { self.new ≡ record self.old {
           items = self.new.items;
           cost = self.new.cost;
         } }
+
+        // On failure, the items are unchanged.
         ensures err_items { OnErr result (self.new.items ≡ self.old.items) }
         ensures refused { OnErr result (MovesAtMost (length items.now + 3 *
             (length self.old.items - at)) self.old.cost self.new.cost) }
         ensures cause { IfErr result (λ cause. cause ≡ ThinVecError.OutOfMemory) }
+
+        // In any case.
         ensures within { IsWithin T.row self.new }
     {
         let mut block = self.open_wide(at, items.len());
@@ -124,7 +166,7 @@ impl<T: Clone, A: Allocator, G: Growth> ThinVec<T, A, G> {
 }
 
 impl<T: Drop, A: Allocator, G: Growth> ThinVec<T, A, G> {
-    // Drops the items from `start` up to `end`.
+    // Drops the items from `start` up to `end`, and moves the items after them down, as one run.
     fn drop_range(&mut self, start: usize, end: usize)
         requires start_le_end { start ≤ end }
         requires in_bounds { end ≤ length self.old.items }
@@ -140,7 +182,9 @@ impl<T: Drop, A: Allocator, G: Growth> ThinVec<T, A, G> {
         self.close(block);
     }
 
-    // The last `count` items take the place of those from `start` up to `end`, which are dropped.
+    // Drops the items from `start` up to `end`, and moves the last `count` items of the list to the
+    // place of the range, as one run. If `count` is less than the length of the range, the other
+    // items after the range are moved down.
     fn replace_by_last(&mut self, start: usize, end: usize, count: usize)
         requires start_le_end { start ≤ end }
         requires few { count ≤ end - start }

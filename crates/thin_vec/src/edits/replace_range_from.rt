@@ -1,4 +1,6 @@
-//! A range of a list's items is replaced by copies, or by the items of a list, all or nothing.
+//! The methods `replace_range_from_copies` and `replace_range_from_list`, which replace the items
+//! of a range by copies of other items, or by the items of another list. If one of them fails,
+//! nothing changes.
 ghost use Rattle.std.specs.Prelude.{◌≡◌, ◌+◌, ◌-◌, ◌==◌, ◌<◌, ◌≤◌, ◌++◌, [], IsOk, OnErr, OnOk, drop, if◌then◌else◌, length, take};
 ghost use Rattle.std.specs.List.{replace_range};
 ghost use Rattle.thin_block.specs.Cost.{moving, no_cost};
@@ -13,11 +15,23 @@ use std::alloc::Allocator;
 use thin_block::{Growth, ThinVecError};
 
 impl<T: Copy, A: Allocator, G: Growth> ThinVec<T, A, G> {
-    /// Puts copies of `items` in the place of the items from `start` up to `end`, which are
-    /// dropped. (own)
+    /// Replaces the items from index `start` up to, but not including, `end` by copies of `items`,
+    /// in order. The old items of the range are dropped.
     ///
-    /// It fails as `reserve` does for the items that come in beyond the range, and then nothing
-    /// changes.
+    /// This method is our own: neither Rust's `Vec` nor the Rust crate thin-vec has it.
+    ///
+    /// Copying cannot fail. So the old items of the range are dropped before the new ones are
+    /// copied, and the call needs room only for `items.len() - (end - start)` more items. If this
+    /// number is 0 or less, the call cannot fail. Each item after the range moves at most once.
+    ///
+    /// # Errors
+    ///
+    /// In both cases, the list is unchanged.
+    ///
+    /// - `CapacityOverflow`: there is no room for these additional items, and the growth rule
+    ///   chooses no capacity for them.
+    /// - `OutOfMemory`: there is no room for these additional items, and the allocator refused the
+    ///   memory for them.
     pub fn replace_range_from_copies(
         &mut self,
         start: usize,
@@ -33,15 +47,16 @@ impl<T: Copy, A: Allocator, G: Growth> ThinVec<T, A, G> {
         ensures cost { OnOk result (Costs
             (moves_replacing self.old start end (length items.now)) self.old self.new) }
 
-        // On failure nothing changes. A range that gets no longer, or spare capacity, is enough to succeed.
+        // When it must succeed.
         ensures succeeds { HasRoomFor self.old (length items.now - (end - start)) → IsOk result }
         ensures succeeds_shorter { length items.now ≤ end - start → IsOk result }
+
+        // On failure.
         ensures err { OnErr result (self.new ≡ self.old) }
 
-        // In any case. The capacity and the cause of a failure are those of `reserve` for the items
-        // beyond the range's places.
-        ensures reserves { Reserves G.rule T.row (length items.now - (end - start)) self.old self.new
-            result }
+        // In any case.
+        ensures reserves { Reserves G.rule T.row (length items.now - (end - start)) self.old
+            self.new result }
         ensures keeps { Keeps T.row self.old self.new }
     {
         match self.reserve(items.len().saturating_sub(end - start)) {
@@ -52,7 +67,7 @@ impl<T: Copy, A: Allocator, G: Growth> ThinVec<T, A, G> {
         Ok(())
     }
 
-    // `replace_range_from_copies` where there is room.
+    // Does what `replace_range_from_copies` does after it has reserved the room.
     fn replace_reserved_from_copies(&mut self, start: usize, end: usize, items: &[T])
         requires start_le_end { start ≤ end }
         requires in_bounds { end ≤ length self.old.items }
@@ -71,11 +86,24 @@ impl<T: Copy, A: Allocator, G: Growth> ThinVec<T, A, G> {
 }
 
 impl<T: Drop, A: Allocator, G: Growth> ThinVec<T, A, G> {
-    /// Moves all items of `other` to the place of the items from `start` up to `end`, which are
-    /// dropped. `other` is left empty, with its capacity. (own)
+    /// Replaces the items from index `start` up to, but not including, `end` by the items of
+    /// `other`, in order. The old items of the range are dropped. The items of `other` are moved:
+    /// `other` is empty afterwards, and keeps its capacity.
     ///
-    /// It fails as `reserve` does for the items that come in beyond the range, and then neither
-    /// list changes.
+    /// This method is our own: neither Rust's `Vec` nor the Rust crate thin-vec has it.
+    ///
+    /// Moving cannot fail. So the old items of the range are dropped before the new ones are moved,
+    /// and the call needs room only for `other.len() - (end - start)` more items. If this number is
+    /// 0 or less, the call cannot fail. Each item after the range moves at most once.
+    ///
+    /// # Errors
+    ///
+    /// In both cases, both lists are unchanged.
+    ///
+    /// - `CapacityOverflow`: there is no room for these additional items, and the growth rule
+    ///   chooses no capacity for them.
+    /// - `OutOfMemory`: there is no room for these additional items, and the allocator refused the
+    ///   memory for them.
     pub fn replace_range_from_list(
         &mut self,
         start: usize,
@@ -85,23 +113,25 @@ impl<T: Drop, A: Allocator, G: Growth> ThinVec<T, A, G> {
         requires start_le_end { start ≤ end }
         requires in_bounds { end ≤ length self.old.items }
 
-        // On success, `other` is empty, and keeps its capacity.
+        // On success.
         ensures items { OnOk result (self.new.items
             ≡ (take start self.old.items ++ other.old.items) ++ drop end self.old.items) }
         ensures cost { OnOk result (Costs
             (moves_replacing self.old start end (length other.old.items)) self.old self.new) }
         ensures other { OnOk result (other.new ≡ record other.old { items = [] }) }
 
-        // On failure neither list changes. A range that gets no longer, or spare capacity, is enough to succeed.
-        ensures succeeds { HasRoomFor self.old (length other.old.items - (end - start)) → IsOk result }
+        // When it must succeed.
+        ensures succeeds { HasRoomFor self.old (length other.old.items - (end - start))
+            → IsOk result }
         ensures succeeds_shorter { length other.old.items ≤ end - start → IsOk result }
+
+        // On failure.
         ensures err { OnErr result (self.new ≡ self.old) }
         ensures other_err { OnErr result (other.new ≡ other.old) }
 
-        // In any case. The capacity and the cause of a failure are those of `reserve` for the items
-        // beyond the range's places.
-        ensures reserves { Reserves G.rule T.row (length other.old.items - (end - start)) self.old self.new
-            result }
+        // In any case.
+        ensures reserves { Reserves G.rule T.row (length other.old.items - (end - start)) self.old
+            self.new result }
         ensures keeps { Keeps T.row self.old self.new }
         ensures other_within { IsWithin T.row other.old × IsWithin T.row other.new }
     {
@@ -113,18 +143,22 @@ impl<T: Drop, A: Allocator, G: Growth> ThinVec<T, A, G> {
         Ok(())
     }
 
-    // `replace_range_from_list` where there is room.
+    // Does what `replace_range_from_list` does after it has reserved the room.
     fn replace_reserved_from_list(&mut self, start: usize, end: usize, other: &mut ThinVec<T, A, G>)
         requires start_le_end { start ≤ end }
         requires in_bounds { end ≤ length self.old.items }
         requires room { HasRoomFor self.old (length other.old.items - (end - start)) }
         requires within { IsWithin T.row self.old }
         requires other_within { IsWithin T.row other.old }
+
+        // The list.
         ensures changes { self.new ≡ record self.old {
           items = replace_range self.old.items start end other.old.items;
           cost = moving (moves_replacing self.old start end (length other.old.items)) self.old.cost;
         } }
         ensures within { IsWithin T.row self.new }
+
+        // The other list.
         ensures other_changes { other.new ≡ record other.old { items = [] } }
         ensures other_within { IsWithin T.row other.new }
     {
@@ -133,13 +167,16 @@ impl<T: Drop, A: Allocator, G: Growth> ThinVec<T, A, G> {
         self.close(block);
     }
 
-    // Drops the items from `start` up to `end`. Returns the list's block, open where they were,
-    // with room there for `count` items: those after the range move up, as one run, where that is
-    // more. The list is left empty and without a block.
+    // Drops the items from `start` up to `end`, and takes the block out of the list, with a gap in
+    // the place of the range. The gap has at least `count` slots: if the range has fewer than
+    // `count` places, the items after it are moved up, as one run. The list is left empty, without
+    // a block.
     fn open_range(&mut self, start: usize, end: usize, count: usize) -> OpenBlock<T, A>
         requires start_le_end { start ≤ end }
         requires in_bounds { end ≤ length self.old.items }
         requires room { HasRoomFor self.old (count - (end - start)) }
+
+        // The open block.
         ensures front { result.front ≡ take start self.old.items }
         ensures gap { result.gap ≡ end - start + (count - (end - start)) }
         ensures rest { result.rest ≡ [] }
@@ -150,6 +187,8 @@ impl<T: Drop, A: Allocator, G: Growth> ThinVec<T, A, G> {
         ensures other_cost { result.cost ≡ (if count -
             (end - start) == 0 then self.old.cost else moving
             (length self.old.items - end) self.old.cost) }
+
+        // The list.
         ensures changes { self.new ≡ record self.old { items = []; capacity = 0; cost = no_cost } }
     {
         let mut block = self.open(start, end);

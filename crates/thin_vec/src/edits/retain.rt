@@ -1,8 +1,8 @@
-//! `retain`: the items stay of which a closure says so.
+//! The methods `retain` and `retain_mut`, which keep the items for which a closure returns true.
 //!
-//! Up to the first item that goes nothing moves. From then on the list has a gap, and adjacent
-//! items that stay wait where they are until a later one goes or the walk ends: then they go to the
-//! start of the gap together. `dedup` goes the same way.
+//! No item moves before the first item is removed. From then on the open block has a gap. Kept
+//! items stay where they are until the next item is removed, or until all items are tested. Then
+//! they are moved together to the start of the gap. The `dedup` methods work in the same way.
 ghost use Rattle.std.specs.Prelude.{◌≡◌, ◌<◌, ◌≤◌, length};
 ghost use Rattle.std.specs.List.Retain.{IsFiltered};
 ghost use Rattle.std.specs.Fn.{CalledAt, CalledAtMut};
@@ -17,10 +17,11 @@ impl<T: Drop, A: Allocator, G: Growth> ThinVec<T, A, G> {
     ghost use Rattle.thin_vec.specs.Edits.Retain.{IsRetained, IsRetainedTo, Looks};
     ghost use Rattle.thin_vec.specs.ThinVec.{IsWithin};
 
-    /// Keeps the items for which `keep` returns true, and drops the others. It is called for each
-    /// item once, in order.
+    /// Keeps the items for which `keep` returns true, in order, and drops the others, as Rust's
+    /// `Vec::retain` does. `keep` is called once for each item, in order.
     ///
-    /// Each item that stays after the first that goes moves once, and no other. The capacity stays.
+    /// Each item that is kept after the first removed item moves once. No other item moves. The
+    /// capacity does not change.
     pub fn retain<F: FnMut(&T) -> bool>(&mut self, keep: F)
         requires callable { F.IsAlwaysCallable keep }
         ensures retained { IsRetained (Looks (CalledAt F.FnMut)) keep self.old self.new }
@@ -34,8 +35,8 @@ impl<T: Drop, A: Allocator, G: Growth> ThinVec<T, A, G> {
         let Looking { keep: _ } = test;
     }
 
-    /// `retain` with a closure that may write to each item. What it writes stays on those that
-    /// stay.
+    /// Keeps the items for which `keep` returns true, as `retain` does, but `keep` may write to the
+    /// items. The list has the kept items as `keep` left them.
     pub fn retain_mut<F: FnMut(&mut T) -> bool>(&mut self, keep: F)
         requires callable { F.IsAlwaysCallable keep }
         ensures retained { IsRetained (CalledAtMut F.FnMut) keep self.old self.new }
@@ -48,7 +49,7 @@ impl<T: Drop, A: Allocator, G: Growth> ThinVec<T, A, G> {
         let Writing { keep: _ } = test;
     }
 
-    // Asks about each item once, in order, and keeps those that stay.
+    // Tests each item once, in order, and drops the items that are removed.
     fn keep_those<J: Test<T>>(&mut self, test: &mut J)
         requires ready { J.ready test.old }
         ensures retained { IsRetainedTo J.tests test.old self.old self.new test.new }
@@ -65,12 +66,14 @@ impl<T: Drop, A: Allocator, G: Growth> ThinVec<T, A, G> {
     }
 }
 
-// A closure that only looks at the items.
+// The test of `retain`: an item is kept if the closure `keep`, which cannot write to it, returns
+// true.
 struct Looking<F> {
     keep: F,
 }
 
-// A closure that may write to the items.
+// The test of `retain_mut`: an item is kept if the closure `keep`, which may write to it, returns
+// true.
 struct Writing<F> {
     keep: F,
 }

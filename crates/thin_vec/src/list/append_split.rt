@@ -27,8 +27,10 @@ impl<T, A: Allocator, G: Growth> ThinVec<T, A, G> {
         ensures cost { OnOk result (Costs (length other.old.items) self.old self.new) }
         ensures other { OnOk result (other.new ≡ record other.old { items = [] }) }
 
-        // On failure, neither list changes.
+        // When it must succeed.
         ensures succeeds { HasRoomFor self.old (length other.old.items) → IsOk result }
+
+        // On failure, neither list changes.
         ensures err { OnErr result (self.new ≡ self.old) }
         ensures other_err { OnErr result (other.new ≡ other.old) }
 
@@ -64,8 +66,10 @@ impl<T, A: Allocator, G: Growth> ThinVec<T, A, G> {
             (cost_new (length self.old.items - at))) }
         ensures other_made { IfOk result (IsMade T.row alloc) }
 
-        // On failure, the list is unchanged.
+        // When it must succeed.
         ensures succeeds { at ≡ length self.old.items → IsOk result }
+
+        // On failure, the list is unchanged.
         ensures cause { IfErr result (λ cause. cause ≡ ThinVecError.OutOfMemory) }
         ensures err { OnErr result (self.new ≡ self.old) }
 

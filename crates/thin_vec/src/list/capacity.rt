@@ -35,8 +35,10 @@ impl<T, A: Allocator, G: Growth> ThinVec<T, A, G> {
         ensures room { OnOk result (HasRoomFor self.new additional) }
         ensures cost { OnOk result (self.new.cost ≡ cost_at self.old self.new.capacity) }
 
-        // On failure, the list is unchanged.
+        // When it must succeed.
         ensures succeeds { HasRoomFor self.old additional → IsOk result }
+
+        // On failure, the list is unchanged.
         ensures err { OnErr result (self.new ≡ self.old) }
 
         // In any case.
@@ -70,8 +72,10 @@ impl<T, A: Allocator, G: Growth> ThinVec<T, A, G> {
             (exact_for T.row self.old additional ≡ Some self.new.capacity) }
         ensures cost { OnOk result (self.new.cost ≡ cost_at self.old self.new.capacity) }
 
-        // On failure, the list is unchanged.
+        // When it must succeed.
         ensures succeeds { HasRoomFor self.old additional → IsOk result }
+
+        // On failure, the list is unchanged.
         ensures err { OnErr result (self.new ≡ self.old) }
         ensures overflow { TellsOverflow (exact_for T.row self.old additional) result }
 
@@ -135,8 +139,10 @@ impl<T, A: Allocator, G: Growth> ThinVec<T, A, G> {
         ensures room { OnOk result (HasRoomFor self.new additional) }
         ensures cost { OnOk result (self.new.cost ≡ cost_at self.old self.new.capacity) }
 
-        // On failure, the list is unchanged.
+        // When it must succeed.
         ensures succeeds { HasRoomFor self.old additional → IsOk result }
+
+        // On failure, the list is unchanged.
         ensures err { OnErr result (self.new ≡ self.old) }
 
         // In any case.
@@ -248,8 +254,10 @@ impl<T, A: Allocator, G: Growth> ThinVec<T, A, G> {
     ) -> Result<ThinVec<T, A, G>, ThinVecError>
         requires fits { Fits T.row capacity }
 
-        // On failure.
+        // When it must succeed.
         ensures succeeds { capacity ≡ 0 → IsOk result }
+
+        // On failure.
         ensures cause { IfErr result (λ cause. cause ≡ ThinVecError.OutOfMemory) }
 
         // On success.
@@ -294,8 +302,10 @@ impl<T, A: Allocator> ThinVec<T, A> {
         ensures cost { IfOk result (λ list. list.cost ≡ cost_new capacity) }
         ensures made { IfOk result (IsMade T.row alloc) }
 
-        // On failure.
+        // When it must succeed.
         ensures succeeds { capacity ≡ 0 → IsOk result }
+
+        // On failure.
         ensures overflow { TellsOverflowOf T.row capacity result }
     {
         if !fits::<T>(capacity) {

@@ -36,9 +36,11 @@ impl<T: Clone, A: Allocator, G: Growth> ThinVec<T, A, G> {
             → self.new.items ≡ self.old.items ++ items.now) }
         ensures cost { OnOk result (Costs (length items.now) self.old self.new) }
 
-        // On failure, the items are as before.
+        // When it must succeed.
         ensures succeeds { HasRoomFor self.old (length items.now) → All T.is_infallible items.now
             → IsOk result }
+
+        // On failure, the items are as before.
         ensures err_items { OnErr result (self.new.items ≡ self.old.items) }
         ensures err { All T.is_infallible items.now → OnErr result (self.new ≡ self.old) }
         ensures err_cost { OnErr result ((self.new ≡ self.old)
@@ -70,8 +72,10 @@ impl<T: Clone, A: Allocator, G: Growth> ThinVec<T, A, G> {
             (cost_new (length self.now.items))) }
         ensures made { IfOk result (IsMade T.row alloc) }
 
-        // On failure.
+        // When it must succeed.
         ensures succeeds_empty { length self.now.items ≡ 0 → IsOk result }
+
+        // On failure.
         ensures cause { IfErr result (λ cause. cause ≡ ThinVecError.OutOfMemory) }
     {
         // This call is only for the prover: its contract says that the number of items fits into a
@@ -88,8 +92,10 @@ impl<T: Clone, A: Allocator, G: Growth> ThinVec<T, A, G> {
     ) -> Result<ThinVec<T, A, G>, ThinVecError>
         requires fits { Fits T.row (length items.now) }
 
-        // On failure.
+        // When it must succeed.
         ensures succeeds_empty { length items.now ≡ 0 → IsOk result }
+
+        // On failure.
         ensures cause { IfErr result (λ cause. cause ≡ ThinVecError.OutOfMemory) }
 
         // On success.
@@ -129,8 +135,10 @@ impl<T: Clone, A: Allocator, G: Growth> ThinVec<T, A, G> {
             → self.new.items ≡ self.old.items ++ items.now) }
         ensures cost { OnOk result (self.new.cost ≡ moving (length items.now) self.old.cost) }
 
-        // On failure, the items are as before.
+        // When it must succeed.
         ensures succeeds { All T.is_infallible items.now → IsOk result }
+
+        // On failure, the items are as before.
         ensures cause { IfErr result (λ cause. cause ≡ ThinVecError.OutOfMemory) }
         ensures err_items { OnErr result (self.new.items ≡ self.old.items) }
         ensures err_cost { OnErr result (StopsAtClone T.is_infallible items.now self.old.cost
@@ -195,9 +203,11 @@ impl<T: Clone, A: Allocator, G: Growth> ThinVec<T, A, G> {
             → self.new.items ≡ self.old.items ++ slice_range self.old.items start end) }
         ensures cost { OnOk result (Costs (end - start) self.old self.new) }
 
-        // On failure, the items are as before.
+        // When it must succeed.
         ensures succeeds { HasRoomFor self.old (end - start)
             → All T.is_infallible (slice_range self.old.items start end) → IsOk result }
+
+        // On failure, the items are as before.
         ensures err_items { OnErr result (self.new.items ≡ self.old.items) }
         ensures err { All T.is_infallible (slice_range self.old.items start end)
             → OnErr result (self.new ≡ self.old) }

@@ -27,8 +27,10 @@ impl<T: Copy, A: Allocator, G: Growth> ThinVec<T, A, G> {
         ensures items { OnOk result (self.new.items ≡ self.old.items ++ items.now) }
         ensures cost { OnOk result (Costs (length items.now) self.old self.new) }
 
-        // On failure, the list is unchanged.
+        // When it must succeed.
         ensures succeeds { HasRoomFor self.old (length items.now) → IsOk result }
+
+        // On failure, the list is unchanged.
         ensures err { OnErr result (self.new ≡ self.old) }
 
         // In any case. The capacity and the cause of a failure are as for `reserve(items.len())`.
@@ -60,8 +62,10 @@ impl<T: Copy, A: Allocator, G: Growth> ThinVec<T, A, G> {
             (cost_new (length self.now.items))) }
         ensures made { IfOk result (IsMade T.row alloc) }
 
-        // On failure.
+        // When it must succeed.
         ensures succeeds_empty { length self.now.items ≡ 0 → IsOk result }
+
+        // On failure.
         ensures cause { IfErr result (λ cause. cause ≡ ThinVecError.OutOfMemory) }
     {
         let mut list = ThinVec::with_fitting_capacity(alloc, self.len())?;

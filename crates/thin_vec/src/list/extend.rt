@@ -1,5 +1,5 @@
 //! The calls that add the items of an iterator to a list.
-ghost use Rattle.std.specs.Prelude.{◌≡◌, ◌+◌, ◌-◌, ◌<◌, ◌≤◌, List, ◌++◌, ◌↔◌, IfErr, IfOk, IsOk, IsSome, MatchOption, None, OnErr, OnOk, OnSome, length};
+ghost use Rattle.std.specs.Prelude.{◌≡◌, ◌+◌, ◌-◌, ◌<◌, ◌≤◌, List, ◌++◌, IfErr, IfOk, IsOk, IsSome, MatchOption, None, OnErr, OnOk, OnSome, length};
 ghost use Rattle.std.specs.Iterator.Runs.{SomeRun, WholeRun};
 ghost use Rattle.std.specs.Iterator.{Drains, IsFinite, YieldsThen, size};
 ghost use Rattle.std.specs.Option.{option_to_list};
@@ -7,9 +7,9 @@ ghost use Rattle.thin_block.specs.Cost.{moving};
 ghost use Rattle.thin_block.specs.Growth.{doubling};
 ghost use Rattle.thin_vec.specs.Cheap.{IsCheap};
 ghost use Rattle.thin_vec.specs.List.Capacity.{Keeps};
-ghost use Rattle.thin_vec.specs.List.Extend.{Extends, GrowsFor, IsCollectCause, IsCollectedList, IsExtendCause, IsExtendCost, IsKeptOrRuled, IsLoose, IsMadeOf, PausedAfter};
+ghost use Rattle.thin_vec.specs.List.Extend.{Extends, GrowsFor, IsCollectCause, IsCollectedList, IsExtendCause, CostsAdding, IsKeptOrRuled, IsLoose, IsMadeOf, PausedAfter};
 ghost use Rattle.thin_vec.specs.Put.{IsFilledBy};
-ghost use Rattle.thin_vec.specs.ThinVec.{HasRoomFor, IsNew, IsWithin, capacity_for};
+ghost use Rattle.thin_vec.specs.ThinVec.{HasRoomFor, IsNew, IsWithin};
 
 use crate::errors::{CollectRefused, ExtendRefused, Rejected};
 use crate::list::ThinVec;
@@ -67,7 +67,7 @@ impl<T, A: Allocator, G: Growth> ThinVec<T, A, G> {
 
         // In any case.
         ensures capacity { GrowsFor G.rule T.row self.old self.new (I.remaining iter) }
-        ensures cost { IsExtendCost self.old self.new }
+        ensures cost { CostsAdding self.old self.new 0 }
         ensures keeps { Keeps T.row self.old self.new }
     {
         match self.reserve(iter.size_hint().0) {
@@ -112,7 +112,7 @@ impl<T, A: Allocator, G: Growth> ThinVec<T, A, G> {
         ensures loose { IsLoose G.rule T.row self.old.capacity self.new.capacity }
         ensures ruled { IsKeptOrRuled G.rule T.row self.old.capacity self.new.capacity
             (length self.new.items) }
-        ensures cost { IsExtendCost self.old self.new }
+        ensures cost { CostsAdding self.old self.new 0 }
         ensures keeps { Keeps T.row self.old self.new }
     {
         let mut rest = iter;

@@ -33,8 +33,10 @@ impl<T, A: Allocator, G: Growth> ThinVec<T, A, G> {
         ensures items { OnOk result (self.new.items ≡ insert self.old.items index value) }
         ensures cost { OnOk result (Costs (length self.old.items - index + 1) self.old self.new) }
 
-        // On failure, the list is unchanged.
+        // When it must succeed.
         ensures succeeds { HasRoomFor self.old 1 → IsOk result }
+
+        // On failure, the list is unchanged.
         ensures err { OnErr result (self.new ≡ self.old) }
         ensures value_returned { IfErr result (λ error. error.value ≡ value) }
 
@@ -88,8 +90,10 @@ impl<T, A: Allocator, G: Growth> ThinVec<T, A, G> {
             (λ x. self.old.items ++ x ∷ []) 1 result) }
         ensures value { IfOk result (λ item. item.now ≡ value) }
 
-        // On failure.
+        // When it must succeed.
         ensures succeeds { HasRoomFor self.old 1 → IsOk result }
+
+        // On failure.
         ensures value_returned { IfErr result (λ error. error.value ≡ value) }
         ensures overflow { TellsOverflow (capacity_for G.rule T.row self.old 1) (causes result) }
 
@@ -124,8 +128,10 @@ impl<T, A: Allocator, G: Growth> ThinVec<T, A, G> {
             (insert self.old.items index) (length self.old.items - index + 1) result) }
         ensures value { IfOk result (λ item. item.now ≡ value) }
 
-        // On failure.
+        // When it must succeed.
         ensures succeeds { HasRoomFor self.old 1 → IsOk result }
+
+        // On failure.
         ensures value_returned { IfErr result (λ error. error.value ≡ value) }
         ensures overflow { TellsOverflow (capacity_for G.rule T.row self.old 1) (causes result) }
 

@@ -37,11 +37,13 @@ impl<T: Clone, A: Allocator, G: Growth> ThinVec<T, A, G> {
             (len - length self.old.items) value) }
         ensures cost { OnOk result (Costs (len - length self.old.items) self.old self.new) }
 
-        // On failure, the items are as before.
+        // When it must succeed.
         ensures succeeds { len ≤ self.old.capacity → T.is_infallible value → IsOk result }
         ensures succeeds_shorter { len ≤ length self.old.items → IsOk result }
         ensures succeeds_by_one { len ≡ length self.old.items + 1 → HasRoomFor self.old 1
             → IsOk result }
+
+        // On failure, the items are as before.
         ensures err_items { OnErr result (self.new.items ≡ self.old.items) }
         ensures err { T.is_infallible value → OnErr result (self.new ≡ self.old) }
         ensures err_cost { OnErr result ((self.new ≡ self.old) ⊎ CostsUpToClone T.is_infallible
@@ -150,8 +152,10 @@ impl<T: Drop, A: Allocator, G: Growth> ThinVec<T, A, G> {
         ensures len { OnOk result (length self.new.items ≡ len) }
         ensures cost { OnOk result (Costs (len - length self.old.items) self.old self.new) }
 
-        // On failure, the list is unchanged.
+        // When it must succeed.
         ensures succeeds { len ≤ self.old.capacity → IsOk result }
+
+        // On failure, the list is unchanged.
         ensures err { OnErr result (self.new ≡ self.old) }
 
         // In any case. The capacity and the cause of a failure are as for `reserve` with the number

@@ -1,5 +1,5 @@
-//! Steps on a block that is open: each item of its middle run is asked about beside the last one
-//! that stays.
+//! The steps of the `dedup` methods on an open block. They test each item of the middle run against
+//! the last item that was kept, and drop the items that the test removes.
 ghost use Rattle.std.specs.Prelude.{◌≡◌, ◌+◌, ◌-◌, ◌^◌, ◌<◌, ◌≤◌, ◌∷◌, ◌++◌, [], Bool, length};
 ghost use Rattle.thin_block.specs.Block.{seen};
 ghost use Rattle.thin_block.specs.Cost.{moving};
@@ -10,15 +10,16 @@ use crate::open_block::OpenBlock;
 use std::alloc::Allocator;
 use thin_block::Block;
 
-/// What says of two items whether the later one goes, and may write to both.
+/// A test of two items. It decides whether the later item is removed, and may write to both items.
 pub(crate) trait PairTest<T> {
-    /// From one state to the next: a later item, the last one kept, whether the later one goes, and
-    /// both as they are left.
+    /// Relates the state of the test before a call, the later item, the last item kept, whether the
+    /// later item is removed, the state after the call, and both items as the test left them.
     ghost tests: { Self → T → T → Bool → Self → T → T → Type 0 };
 
-    /// It can be asked about any two items, and again after each two.
+    /// Says that a test in this state can be called with any two items. Each call preserves this.
     ghost ready: { Self → Type 0 };
 
+    /// Returns whether `later` is removed. `kept` is the last item kept.
     fn test(&mut self, later: &mut T, kept: &mut T) -> bool
         requires ready { ready self.old }
         ensures asked { tests self.old later.old kept.old result self.new later.new kept.new }
@@ -28,7 +29,8 @@ pub(crate) trait PairTest<T> {
 impl<T, A: Allocator> OpenBlock<T, A> {
     ghost use Rattle.thin_vec.specs.OpenBlock.Dedup.{IsPairAskedAt, IsLastAsked, IsNextAsked};
 
-    // Asks about the item at `k` of the middle run beside the one before it, both in place.
+    // Tests the item at index `k` of the middle run against the item before it. Both stay where
+    // they are.
     pub(crate) fn test_pair<J: PairTest<T>>(&mut self, k: usize, test: &mut J) -> bool
         requires some { 0 < k }
         requires in_bounds { k < length self.old.rest }
@@ -42,7 +44,7 @@ impl<T, A: Allocator> OpenBlock<T, A> {
         test_neighbours(&mut self.block, kept, test)
     }
 
-    // Asks about `later` beside the last item in front, which is in place.
+    // Tests `later` against the last item of the front, which stays where it is.
     pub(crate) fn test_last<J: PairTest<T>>(&mut self, later: &mut T, test: &mut J) -> bool
         requires some { 0 < length self.old.front }
         requires ready { J.ready test.old }
@@ -54,7 +56,7 @@ impl<T, A: Allocator> OpenBlock<T, A> {
         test.test(later, self.block.slot_mut(self.front_end - 1))
     }
 
-    // Asks about the first item of the middle run, in place, beside `kept`.
+    // Tests the first item of the middle run, which stays where it is, against `kept`.
     pub(crate) fn test_next<J: PairTest<T>>(&mut self, kept: &mut T, test: &mut J) -> bool
         requires some { 0 < length self.old.rest }
         requires ready { J.ready test.old }
@@ -66,7 +68,7 @@ impl<T, A: Allocator> OpenBlock<T, A> {
         test.test(self.block.slot_mut(self.rest_start), kept)
     }
 
-    // Puts `value` after the front.
+    // Moves `value` into the first slot of the gap, as the last item of the front.
     pub(crate) fn append_to_front(&mut self, value: T)
         requires gap { 0 < self.old.gap }
         ensures { self.new ≡ record self.old {
@@ -83,8 +85,10 @@ impl<T, A: Allocator> OpenBlock<T, A> {
 impl<T, A: Allocator> OpenBlock<T, A> {
     ghost use Rattle.thin_vec.specs.OpenBlock.Dedup.{PairsAskedUpTo};
 
-    // The first item of the middle run stays. Asks about those after it, in place, up to the first
-    // that goes or to the end, and returns how many stay.
+    // Keeps the first item of the middle run. Tests each later item of the middle run against the
+    // item before it, and stops at the first item that is to be removed, or at the end. Returns the
+    // number of items kept. No item moves, and the caller has to drop the item that is to be
+    // removed.
     fn test_pairs<J: PairTest<T>>(&mut self, test: &mut J) -> usize
         requires some { 0 < length self.old.rest }
         requires ready { J.ready test.old }
@@ -107,8 +111,9 @@ impl<T, A: Allocator> OpenBlock<T, A> {
 impl<T: Drop, A: Allocator> OpenBlock<T, A> {
     ghost use Rattle.thin_vec.specs.OpenBlock.Dedup.{IsDeduped, Dedups};
 
-    // Keeps the first item of the middle run, asks about each other one beside the last one kept,
-    // and drops those that go. None is left in the middle.
+    // Keeps the first item of the middle run. Tests each later item against the last item kept, and
+    // drops the items that are removed. Afterwards the front has all items kept, and the middle run
+    // is empty.
     pub(crate) fn dedup_rest<J: PairTest<T>>(&mut self, test: &mut J)
         requires some { 0 < length self.old.rest }
         requires front { self.old.front ≡ [] }
@@ -124,7 +129,7 @@ impl<T: Drop, A: Allocator> OpenBlock<T, A> {
         }
     }
 
-    // `dedup_rest` of the items after the first that goes: there is a gap.
+    // Continues `dedup_rest` after the first item was removed. There is now a gap.
     fn dedup_past_gap<J: PairTest<T>>(&mut self, test: &mut J)
         requires some { 0 < length self.old.front }
         requires gap { 0 < self.old.gap }
@@ -138,15 +143,18 @@ impl<T: Drop, A: Allocator> OpenBlock<T, A> {
         self.dedup_last(test);
     }
 
-    // Of two items and more, asks about the next one, and where it stays, about those after it up
-    // to the first that goes. The first of them moves by itself: two items with empty slots between
-    // them can't both be lent.
+    // Tests the items of the middle run, of which there are two or more, up to the first that is
+    // removed. Drops that item, and moves the items before it to the front. The first item is taken
+    // out of the block before its test: the block cannot lend it and the last item of the front
+    // together, because there are empty slots between the two.
     fn dedup_two<J: PairTest<T>>(&mut self, test: &mut J)
         requires some { 0 < length self.old.front }
         requires two { 1 < length self.old.rest }
         requires gap { 0 < self.old.gap }
         requires ready { J.ready test.old }
         ensures dedups { Dedups J.tests test.old self.old test.new self.new }
+
+        // The loop of `dedup_past_gap` needs these clauses.
         ensures some { 0 < length self.new.front }
         ensures less { length self.new.rest < length self.old.rest }
         ensures ready { J.ready test.new }
@@ -169,7 +177,8 @@ impl<T: Drop, A: Allocator> OpenBlock<T, A> {
         }
     }
 
-    // Asks about the last item, where there is one.
+    // Tests the last item of the middle run, if there is one, and drops it or moves it to the
+    // front.
     fn dedup_last<J: PairTest<T>>(&mut self, test: &mut J)
         requires some { 0 < length self.old.front }
         requires short { length self.old.rest ≤ 1 }
@@ -190,7 +199,7 @@ impl<T: Drop, A: Allocator> OpenBlock<T, A> {
     }
 }
 
-// Asks about the items in the slots `i` and `i + 1`, in place.
+// Tests the item in the slot `i + 1` against the item in the slot `i`. Both stay where they are.
 fn test_neighbours<T, A: Allocator, J: PairTest<T>>(
     block: &mut Block<T, A>,
     i: usize,

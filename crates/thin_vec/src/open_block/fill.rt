@@ -1,4 +1,5 @@
-//! Steps on a block that is open: what comes in goes after the front, into the gap.
+//! Steps that put items into the gap of an open block. Each item becomes the last item of the
+//! front.
 ghost use Rattle.std.specs.Prelude.{◌≡◌, ◌-◌, ◌<◌, ◌≤◌, [], ◌++◌, HoldsAt, List, drop, length, take};
 ghost use Rattle.std.specs.Iterator.{IsFinite};
 ghost use Rattle.std.specs.List.{AllZip};
@@ -14,12 +15,13 @@ use std::mem;
 use thin_block::{Block, Growth};
 
 impl<T, A: Allocator> OpenBlock<T, A> {
-    // Puts the items that `iter` yields after the front. Stops if the iterator returns `None` or
-    // the gap is full. The `end` of the result is the length of the front.
+    // Moves the items that `iter` yields into the gap. Stops if `iter` returns `None`, or if the
+    // gap is full. The field `end` of the result is the length that the front has afterwards.
     pub(crate) fn fill<I: Iterator<Item = T>>(&mut self, iter: I) -> Filled<I>
         requires can_next { I.can_next iter }
         requires finite { IsFinite (I.remaining iter) }
-        ensures filled { (by : IsFilledBy I.next_gives I.can_next I.remaining self.old.gap iter result)
+        ensures filled { (by : IsFilledBy I.next_gives I.can_next I.remaining self.old.gap iter
+            result)
             × (self.new ≡ record self.old {
               front = self.old.front ++ by.items;
               gap = self.old.gap - length by.items;
@@ -34,7 +36,7 @@ impl<T, A: Allocator> OpenBlock<T, A> {
         filled
     }
 
-    // Puts the items of `items` after the front.
+    // Moves the items of `items` into the gap, in order, and frees the vector.
     pub(crate) fn fill_from_vec<B: Allocator>(&mut self, items: Vec<T, B>)
         requires room { length items.items ≤ self.old.gap }
         ensures { self.new ≡ record self.old {
@@ -48,7 +50,7 @@ impl<T, A: Allocator> OpenBlock<T, A> {
         self.front_end += count;
     }
 
-    // Moves the items of `other` after the front, as one run. `other` is left empty, with its
+    // Moves the items of `other` into the gap, as one run. `other` is left empty, and keeps its
     // block.
     pub(crate) fn fill_from_list<G: Growth>(&mut self, other: &mut ThinVec<T, A, G>)
         requires room { length other.old.items ≤ self.old.gap }
@@ -67,7 +69,7 @@ impl<T, A: Allocator> OpenBlock<T, A> {
         self.front_end += count;
     }
 
-    // The last `count` items of the tail move after the front, as one run.
+    // Moves the last `count` items of the tail into the gap, as one run.
     pub(crate) fn move_last_down(&mut self, count: usize)
         requires room { count ≤ self.old.gap }
         requires in_bounds { count ≤ length self.old.tail }
@@ -85,7 +87,7 @@ impl<T, A: Allocator> OpenBlock<T, A> {
 }
 
 impl<T: Copy, A: Allocator> OpenBlock<T, A> {
-    // Copies `items` after the front, as one run.
+    // Copies `items` into the gap, as one run.
     pub(crate) fn fill_from_copies(&mut self, items: &[T])
         requires room { length items.now ≤ self.old.gap }
         ensures { self.new ≡ record self.old {
@@ -100,8 +102,8 @@ impl<T: Copy, A: Allocator> OpenBlock<T, A> {
 }
 
 impl<T: Clone, A: Allocator> OpenBlock<T, A> {
-    // Puts clones of `items` after the front, and returns how many: it ends before a clone that
-    // fails.
+    // Clones `items` into the gap, in order. Stops at the first clone that fails. Returns the
+    // number of clones made.
     pub(crate) fn fill_from_clones(&mut self, items: &[T]) -> usize
         requires room { length items.now ≤ self.old.gap }
         ensures in_bounds { result ≤ length items.now }

@@ -1,5 +1,5 @@
-//! Steps on a block that is open: its items are asked about in place, and those that stay go to the
-//! front.
+//! The steps of `retain`, `retain_mut` and `extract_if` on an open block. They test the items of
+//! the middle run where they are, and move the items that are kept to the front.
 ghost use Rattle.std.specs.Prelude.{◌≡◌, ◌↔◌, ◌+◌, ◌<◌, ◌≤◌, ◌==◌, ◌++◌, [], Bool, IsTrue, drop, length, take};
 ghost use Rattle.thin_block.specs.Cost.{moving};
 
@@ -8,17 +8,19 @@ use std::alloc::Allocator;
 use std::mem;
 use thin_block::Block;
 
-// So many items, or more, are worth a call that moves them as one run.
+// From this number of items on, moving them as one run is faster than moving them one by one.
 const MANY: usize = 8;
 
-/// What says of one item after another whether it stays, and may write to it.
+/// A test of one item. It decides whether the item is kept, and may write to it.
 pub(crate) trait Test<T> {
-    /// From one state to the next: an item, whether it stays, and the item as it is left.
+    /// Relates the state of the test before a call, the item, whether the item is kept, the state
+    /// after the call, and the item as the test left it.
     ghost tests: { Self → T → Bool → Self → T → Type 0 };
 
-    /// It can be asked about any item, and again after each.
+    /// Says that a test in this state can be called with any item. Each call preserves this.
     ghost ready: { Self → Type 0 };
 
+    /// Returns whether `item` is kept.
     fn test(&mut self, item: &mut T) -> bool
         requires ready { ready self.old }
         ensures asked { tests self.old item.old result self.new item.new }
@@ -28,7 +30,7 @@ pub(crate) trait Test<T> {
 impl<T, A: Allocator> OpenBlock<T, A> {
     ghost use Rattle.thin_vec.specs.OpenBlock.Sift.{IsAskedAt, AskedUpTo};
 
-    // Asks about the item at `k` of the middle run, in place.
+    // Tests the item at index `k` of the middle run. The item stays where it is.
     pub(crate) fn test<J: Test<T>>(&mut self, k: usize, test: &mut J) -> bool
         requires in_bounds { k < length self.old.rest }
         requires ready { J.ready test.old }
@@ -39,23 +41,22 @@ impl<T, A: Allocator> OpenBlock<T, A> {
         test.test(self.block.slot_mut(self.rest_start + k))
     }
 
-    // The first `k` items of the middle run join the front, where they are: no empty slot lies
-    // between.
+    // Makes the first `k` items of the middle run a part of the front. There is no gap, so no item
+    // moves.
     pub(crate) fn pass(&mut self, k: usize)
         requires none { self.old.gap ≡ 0 }
         requires in_bounds { k ≤ length self.old.rest }
         ensures { self.new
             ≡ record self.old {
               front = self.old.front ++ take k self.old.rest;
-              rest = drop k
-                  self.old.rest;
+              rest = drop k self.old.rest;
             } }
     {
         self.front_end += k;
         self.rest_start += k;
     }
 
-    // The first item of the middle run moves to the front.
+    // Moves the first item of the middle run to the front.
     pub(crate) fn move_one_down(&mut self)
         requires some { 0 < length self.old.rest }
         requires gap { 0 < self.old.gap }
@@ -71,8 +72,8 @@ impl<T, A: Allocator> OpenBlock<T, A> {
         self.rest_start += 1;
     }
 
-    // The first `k` items of the middle run move to the front: two with no loop, fewer than `MANY`
-    // one by one, and more as one run.
+    // Moves the first `k` items of the middle run to the front: `MANY` and more as one run, fewer
+    // one by one, and two without a loop.
     #[inline(always)]
     pub(crate) fn move_down(&mut self, k: usize)
         requires in_bounds { k ≤ length self.old.rest }
@@ -97,8 +98,8 @@ impl<T, A: Allocator> OpenBlock<T, A> {
         }
     }
 
-    // The first `k` items of the middle run move to the front as one run. The block is passed by
-    // value for it, so that all that is open can stay in registers.
+    // Moves the first `k` items of the middle run to the front, as one run. The block is passed by
+    // value, so that the other fields of the open block can stay in registers.
     #[inline(always)]
     fn move_run_down(&mut self, k: usize)
         requires in_bounds { k ≤ length self.old.rest }
@@ -112,13 +113,14 @@ impl<T, A: Allocator> OpenBlock<T, A> {
         let block = mem::replace(&mut self.block, Block::none());
         let closed = block.close_gap(self.front_end, self.rest_start - self.front_end, k);
         let none = mem::replace(&mut self.block, closed);
+        // `none` was a placeholder: it has no allocation.
         none.forget_none();
         self.front_end += k;
         self.rest_start += k;
     }
 
-    // Whether the middle run has more than one item, where there is a gap before it. (The last
-    // place of the run stays in a register.)
+    // Returns whether the middle run has two or more items. There is a gap, so `rest_end` is not 0.
+    // The comparison has this form so that `rest_end - 1` stays in a register during a loop.
     pub(crate) fn has_two(&self) -> bool
         requires gap { 0 < self.now.gap }
         ensures value { IsTrue result ↔ (1 < length self.now.rest) }
@@ -126,8 +128,9 @@ impl<T, A: Allocator> OpenBlock<T, A> {
         self.rest_start < self.rest_end - 1
     }
 
-    // Asks about the items of the middle run from `k` on, up to the first that goes or to the end,
-    // and returns where that is.
+    // Tests the items of the middle run from index `k` on. Stops at the first item that is to be
+    // removed, and returns its index, or the length of the middle run if there is no such item. No
+    // item moves.
     pub(crate) fn test_run<J: Test<T>>(&mut self, k: usize, test: &mut J) -> usize
         requires in_bounds { k ≤ length self.old.rest }
         requires ready { J.ready test.old }
@@ -149,8 +152,9 @@ impl<T, A: Allocator> OpenBlock<T, A> {
 impl<T, A: Allocator> OpenBlock<T, A> {
     ghost use Rattle.thin_vec.specs.OpenBlock.Sift.{Advances};
 
-    // Asks about the items of the middle run up to the first that goes, and returns whether there
-    // is one. Those before it join the front: they move there where there is a gap.
+    // Tests the items of the middle run up to the first that is to be removed, and returns whether
+    // there is one. That item is then the first of the middle run. The items before it become a
+    // part of the front. If there is a gap, they are moved down.
     pub(crate) fn advance<J: Test<T>>(&mut self, test: &mut J) -> bool
         requires ready { J.ready test.old }
         ensures advances { Advances J.tests test.old self.old test.new self.new }
@@ -165,7 +169,7 @@ impl<T, A: Allocator> OpenBlock<T, A> {
         self.rest_len() > 0
     }
 
-    // `advance` where there is a gap: the items before the first that goes move to the front.
+    // Does what `advance` does if there is a gap.
     fn advance_past_gap<J: Test<T>>(&mut self, test: &mut J) -> bool
         requires gap { 0 < self.old.gap }
         requires ready { J.ready test.old }
@@ -180,8 +184,9 @@ impl<T, A: Allocator> OpenBlock<T, A> {
         }
     }
 
-    // `advance` of two items and more, where there is a gap. A run of none or of one is found with
-    // nothing counted.
+    // Does what `advance` does if there is a gap, and the middle run has two or more items. The
+    // first two items are tested before the loop, so that a run of fewer than two kept items needs
+    // no counter.
     fn advance_two<J: Test<T>>(&mut self, test: &mut J) -> bool
         requires two { 1 < length self.old.rest }
         requires gap { 0 < self.old.gap }
@@ -202,7 +207,7 @@ impl<T, A: Allocator> OpenBlock<T, A> {
         self.rest_len() > 0
     }
 
-    // `advance` of one item or none, where there is a gap.
+    // Does what `advance` does if there is a gap, and the middle run has at most one item.
     fn advance_last<J: Test<T>>(&mut self, test: &mut J) -> bool
         requires short { length self.old.rest ≤ 1 }
         requires gap { 0 < self.old.gap }
@@ -225,8 +230,8 @@ impl<T, A: Allocator> OpenBlock<T, A> {
 impl<T: Drop, A: Allocator> OpenBlock<T, A> {
     ghost use Rattle.thin_vec.specs.OpenBlock.Sift.{IsSifted, Sifts};
 
-    // Asks about all items of the middle run, keeps those that stay and drops the others. None is
-    // left in the middle.
+    // Tests each item of the middle run, in order. Moves the items that are kept to the front, and
+    // drops the others. Afterwards the middle run is empty.
     pub(crate) fn sift<J: Test<T>>(&mut self, test: &mut J)
         requires none { self.old.gap ≡ 0 }
         requires ready { J.ready test.old }
@@ -240,7 +245,7 @@ impl<T: Drop, A: Allocator> OpenBlock<T, A> {
         }
     }
 
-    // `sift` of the items after the first that goes: there is a gap.
+    // Continues `sift` after the first item was removed. There is now a gap.
     fn sift_past_gap<J: Test<T>>(&mut self, test: &mut J)
         requires gap { 0 < self.old.gap }
         requires ready { J.ready test.old }
@@ -253,7 +258,8 @@ impl<T: Drop, A: Allocator> OpenBlock<T, A> {
         self.sift_last(test);
     }
 
-    // Asks about two items and more up to the first that goes, which is dropped.
+    // Tests the items of the middle run, of which there are two or more, up to the first that is
+    // removed. Drops that item, and moves the items before it to the front.
     fn sift_two<J: Test<T>>(&mut self, test: &mut J)
         requires two { 1 < length self.old.rest }
         requires gap { 0 < self.old.gap }
@@ -267,7 +273,8 @@ impl<T: Drop, A: Allocator> OpenBlock<T, A> {
         }
     }
 
-    // Asks about the last item, where there is one.
+    // Tests the last item of the middle run, if there is one, and moves it to the front or drops
+    // it.
     fn sift_last<J: Test<T>>(&mut self, test: &mut J)
         requires short { length self.old.rest ≤ 1 }
         requires gap { 0 < self.old.gap }

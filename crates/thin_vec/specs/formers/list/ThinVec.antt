@@ -1,5 +1,6 @@
--- `ThinVec` as a type that may hold the type that holds it, by its items. Its rows of slots are
--- told apart by shape alone.
+-- The former of `ThinVec`: how a type may contain lists of itself. A list is determined by its
+-- items, and by values that contain no items. Whether the items lie in the first slots depends only
+-- on which slots are filled, as `specs/Shapes.antt` proves.
 use Rattle.std.specs.Prelude.{◌≡◌, ℕ, ◌-◌, List, [], ◌∷◌, Option, length, map}
 use Rattle.std.specs.declared.option.Option.TheVariants.{Some, None}
 use mathlib.Core.Path.{refl, sym, ap, ◌∙◌}
@@ -39,7 +40,7 @@ the_former g Z Q =
     (λ X p. record { items = p.0; capacity = p.1.0; alloc = p.1.1.0; cost = p.1.1.1 })
     (λ X v. refl) (λ X p. refl)
 
--- a list is as deep as its deepest item
+-- the depth of a list is the depth of its deepest item
 abbrev pub the_weighed : {g : Former {0}} → Weighed g → (Z Q : Type 0) → Weighed (the_former g Z Q)
 the_weighed w Z Q =
     record {
@@ -47,49 +48,49 @@ the_weighed w Z Q =
       puts = λ X μ v. List-puts w X μ v.items;
     }
 
--- a list of no item
+-- the list that has no items and no block
 pub the_empty : (Z Q : Type 0) → Z → Q → Thin ⊥ Z
 the_empty Z Q z q = record { items = []; capacity = 0; alloc = z; cost = no_cost }
 
--- the items of a list
+-- the items of a list, in order
 abbrev pub the_items : (Z Q X : Type 0) → Thin X Z → List X
 the_items Z Q X v = v.items
 
--- the items of a list are those below it
+-- for the former `this`, the values in a list are its items
 pub the_items_listed : (Z Q X : Type 0) (v : Thin X Z)
     → listed _ (children (the_former this Z Q) X v) ≡ the_items Z Q X v
 the_items_listed Z Q X v = list-listed X v.items
 
--- a list by its fields: the block and the allocator
+-- the former of the fields of a list, which are its block and its allocator
 abbrev fields : Type 0 → Type 0 → Former {0}
 fields Z Q =
     via (pair (block.the_former this Z) (const Z)) (λ X. Inside X Z Q) (λ X a. (a.block, a.alloc))
     (λ X v. record { block = v.0; alloc = v.1; growth = record {} }) (λ X a. refl) (λ X v. refl)
 
--- h is applied to each item
+-- `h` is a function that is applied to each item of some slots
 module _ {X Y : Type 0} (h : X → Y) where
-  -- the items are the images
+  -- taking the items of slots commutes with applying `h`
   items_in-map : (s : List (Option X)) → items_in (map (on_slot h) s) ≡ map h (items_in s)
   items_in-map [] = refl
   items_in-map (None ∷ s) = items_in-map s
   items_in-map (Some x ∷ s) = ap (λ l. h x ∷ l) (items_in-map s)
 
-  -- the images fill the slots that the items fill
+  -- applying `h` does not change which slots are filled
   is_some-map : (s : List (Option X)) → map is_some (map (on_slot h) s) ≡ map is_some s
   is_some-map [] = refl
   is_some-map (None ∷ s) = ap (λ l. is_some {T = X} None ∷ l) (is_some-map s)
   is_some-map (Some x ∷ s) = ap (λ l. is_some (Some x) ∷ l) (is_some-map s)
 
-  -- there are as many images as items
+  -- applying `h` does not change the number of items
   count-map : (s : List (Option X)) → length (items_in (map (on_slot h) s)) ≡ length (items_in s)
   count-map s = ap length (items_in-map s) ∙ length-map (items_in s) h
 
-  -- the images leave as many slots empty as the items
+  -- applying `h` does not change the number of empty slots
   left-map : (s : List (Option X)) → length (map (on_slot h) s) - length
       (items_in (map (on_slot h) s)) ≡ length s - length (items_in s)
   left-map s = λ i. length-map s (on_slot h) i - count-map s i
 
-  -- where the items lie in front, so do the images
+  -- if exactly the first `n` slots are filled, the same is true after `h` is applied
   packed_to : (s : List (Option X)) (n : ℕ) → IsPacked s n → IsPacked (map (on_slot h) s) n
   packed_to s n p = record {
     row = from_shape (map (on_slot h) s) _
@@ -97,7 +98,7 @@ module _ {X Y : Type 0} (h : X → Y) where
     len = p.len ∙ sym (count-map s);
   }
 
-  -- where the images lie in front, so do the items
+  -- if exactly the first `n` slots are filled after `h` is applied, the same was true before
   packed_from : (s : List (Option X)) (n : ℕ) → IsPacked (map (on_slot h) s) n → IsPacked s n
   packed_from s n p = record {
     row = from_shape s _
@@ -107,25 +108,27 @@ module _ {X Y : Type 0} (h : X → Y) where
   }
 
   module _ {Z : Type 0} (b : Block X Z) (a : Z) where
+    -- if `b` is the block of a list with the allocator `a`, so is `b` with `h` applied to its items
     thin_to : IsThin b a → IsThin (block.mapped h b) a
     thin_to t = record { packed = packed_to b.slots b.len t.packed; from = t.from }
 
+    -- if `b` with `h` applied to its items is the block of a list with the allocator `a`, so is `b`
     thin_from : IsThin (block.mapped h b) a → IsThin b a
     thin_from t = record { packed = packed_from b.slots b.len t.packed; from = t.from }
 
--- the items below the slots are those that the slots hold
+-- a list of the items in some slots holds the same values as the slots
 items_in-held : (X : Type 0) (s : List (Option X))
     → held (list this) X (items_in s) ≡ held (list (slot this)) X s
 items_in-held X [] = refl
 items_in-held X (None ∷ s) = items_in-held X s
 items_in-held X (Some x ∷ s) = λ i. (one_more (items_in-held X s i).0, (x, (items_in-held X s i).1))
 
--- codes that differ in their first part
+-- if two codes are equal, they are equal as the first part of a pair
 first : {a b c : Gv} → a ≡ b → gcons a c ≡ gcons b c
 first {c = c} e = λ i. gcons (e i) c
 
 module _ (Z Q : RattleType) (G : AllocatorGhosts Z.Denot) (K : GrowthGhosts Q.Denot) where
-  -- which proof of `IsThin` does not matter
+  -- any two proofs of `IsThin` for the same block and allocator are equal
   IsThin-prop : {X : Type 0} (code : Coded X) (b : Block X Z.Denot)
       (a : Z.Denot) → IsProp (IsThin b a)
   IsThin-prop code b a p q = λ i. record {
@@ -137,6 +140,8 @@ module _ (Z Q : RattleType) (G : AllocatorGhosts Z.Denot) (K : GrowthGhosts Q.De
   }
 
   module _ (R S : RattleType) (h : R.Denot → S.Denot) where
+    -- if the memory of items is the same as the memory of their images under `h`, then this is so
+    -- for lists of these items
     pub the_places : Alike R S h → Alike (C.the_row R Z Q G K) (C.the_row S Z Q G K)
         ((the_former this Z.Denot Q.Denot).map R.Denot S.Denot h)
     the_places a = view_places (fields Z.Denot Q.Denot) (the_former this Z.Denot Q.Denot)
@@ -160,6 +165,7 @@ module _ (Z Q : RattleType) (G : AllocatorGhosts Z.Denot) (K : GrowthGhosts Q.De
           ((refl, (λ n. refl, λ n. refl)), ((refl, (λ n. refl, λ n. refl)), tt)),
         ))
 
+    -- if `h` keeps the codes of items, a list has the same code as its image
     pub the_codes_placed : Recodes R S h → Recodes (C.the_row R Z Q G K) (C.the_row S Z Q G K)
         ((the_former this Z.Denot Q.Denot).map R.Denot S.Denot h)
     the_codes_placed e d = first (block.codes_of R.coded.code S.coded.code h e d.items)

@@ -111,22 +111,19 @@ returns-in-Err-clause-succeeds g c = λ none.
       c.reserve.ensures.keeps.within.0.room,
     ))
 
-pub returns-in-Err-clause-must : goal.returns-in-Err-clause-must
-returns-in-Err-clause-must g c = λ must.
-    let hint = c.size_hint-hint.result.0 in
-    let same = c.in-Err.ensures.err in
-    err-same (c.in-Err.ensures.reserves.overflow.1
-    (sym (ap (λ z. capacity_for g.G.Growth.rule (param 0 g.row.T) z hint) same)
-    ∙ must hint c.size_hint-hint.ensures.lower
-    (λ room. false≢true (c.in-Err.ensures.succeeds (subst (λ z. HasRoomFor z hint) same room)))))
-
-pub returns-in-Err-clause-may : goal.returns-in-Err-clause-may
-returns-in-Err-clause-may g c = λ over.
-    let hint = c.size_hint-hint.result.0 in (
+pub returns-in-Err-clause-cause : goal.returns-in-Err-clause-cause
+returns-in-Err-clause-cause g c =
+    let hint = c.size_hint-hint.result.0 in let same = c.in-Err.ensures.err in
+    let overflow = c.in-Err.ensures.reserves.overflow in
+    let named = ap (λ z. capacity_for g.G.Growth.rule (param 0 g.row.T) z hint) same in (
       hint,
       c.size_hint-hint.ensures.lower,
-      ap (λ z. capacity_for g.G.Growth.rule (param 0 g.row.T) z hint) c.in-Err.ensures.err
-          ∙ c.in-Err.ensures.reserves.overflow.0 (ap Err over),
+      (λ room. false≢true
+          (c.in-Err.ensures.succeeds (subst (λ z. HasRoomFor z hint) same room))),
+      (
+        λ over. named ∙ overflow.0 (ap Err over),
+        λ none. err-same (overflow.1 (sym named ∙ none)),
+      ),
     )
 
 pub returns-in-Err-clause-err : goal.returns-in-Err-clause-err
