@@ -49,7 +49,7 @@ impl<'a, T: Drop, A: Allocator, G: Growth, H: Holds<Inner = OpenBlock<T, A>>> Dr
         block.drop_rest();
         // The list is empty already. This call is for the prover: `close` requires an empty list.
         list.clear();
-        list.close_inline(block);
+        list.close(block);
     }
 }
 
