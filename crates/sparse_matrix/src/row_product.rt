@@ -1,6 +1,6 @@
 //! The product of a row of a matrix with a vector.
 ghost use Rattle.std.specs.List.{sum};
-ghost use Rattle.std.specs.Prelude.{◌≡◌, ◌+◌, ◌-◌, ◌*◌, ◌^◌, ◌<◌, ℕ, length, map, min, slice_index, slice_index_or};
+ghost use Rattle.std.specs.Prelude.{◌≡◌, ◌-◌, ◌*◌, ◌^◌, ◌<◌, ℕ, length, map, min, slice_index, slice_index_or};
 
 /// Returns the sum of the products of each number in `entries` with the number of `vector` at its
 /// column. Returns `u64::MAX` if the sum is greater.

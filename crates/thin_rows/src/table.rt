@@ -46,8 +46,13 @@ impl<V, A: Allocator + Copy> Rows<V, A> {
     /// Fails with `CapacityOverflow` if that many rows do not fit into a block, and with
     /// `OutOfMemory` if the allocator fails.
     pub fn with_rows(alloc: A, rows: usize) -> Result<Rows<V, A>, ThinVecError>
+        // On success.
         ensures table { IfOk result (λ table. table ≡ replicate rows columns.empty) }
+
+        // When it must succeed.
         ensures succeeds { rows ≡ 0 → IsOk result }
+
+        // On failure.
         ensures overflow { TellsOverflowOf (row_type V.row A.row A.Allocator) rows result }
     {
         let mut empty_rows = ThinVec::with_capacity(alloc, rows)?;
@@ -115,9 +120,15 @@ impl<V, A: Allocator> Rows<V, A> {
     /// again, and the table is unchanged: a row that owned no block still owns none.
     pub fn set(&mut self, row: usize, column: usize, value: V) -> Result<Option<V>, Rejected<V>>
         requires in_bounds { row < length self.old }
-        ensures succeeds { IsSome (value_at self.old row column) → IsOk result }
+
+        // On success.
         ensures value { IfOk result (λ old. old ≡ value_at self.old row column) }
         ensures table { OnOk result (self.new ≡ with_value self.old row column value) }
+
+        // When it must succeed.
+        ensures succeeds { IsSome (value_at self.old row column) → IsOk result }
+
+        // On failure, the table is unchanged.
         ensures cause { IfErr result
             (λ refused. IsCause
             (ruled_capacity doubling (entry_type V.row) (columns.len (row_of self.old row))

@@ -1,14 +1,13 @@
 -- What the calls that clone items guarantee about the clones, and about a clone that fails.
 -- Throughout, `clones x y` says that y may be a clone of x, and `infallible x` that cloning x
 -- cannot fail. (std: `Clone`)
-use Rattle.std.specs.Prelude.{◌≡◌, ℕ, ◌<◌, ◌≤◌, List, [], ◌∷◌, ◌++◌, All, HoldsAt, Option, Some, length, take}
+use Rattle.std.specs.Prelude.{◌≡◌, ℕ, ◌<◌, ◌≤◌, List, [], ◌∷◌, ◌++◌, All, HoldsAt, Option, length, take}
 use Rattle.std.specs.Borrow.{RattleType}
 use Rattle.std.specs.List.{AllZip}
 use Rattle.thin_block.specs.Cost.{Cost, moving}
-use Rattle.thin_block.specs.Growth.{Rule}
 use Rattle.thin_block.specs.Slots.{full, laid}
 use Rattle.thin_vec.specs.Cheap.{IsCheap}
-use Rattle.thin_vec.specs.ThinVec.{IsWithin, Thin, capacity_for, cost_at, cost_new}
+use Rattle.thin_vec.specs.ThinVec.{IsWithin, Thin, cost_at, cost_new}
 
 module _ {T : Type 0} (clones : T → T → Type 0) where
   -- every clone of x equals x

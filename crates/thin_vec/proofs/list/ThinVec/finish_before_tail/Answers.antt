@@ -1,6 +1,6 @@
 -- The gap is filled, then the room that the size hint asked for, and then the collected items are
 -- inserted: each of the four ways to return gives what `IsFinished` states.
-use Rattle.std.proofs.Common.{[], Err, None, Ok, Some, inl, inr, ◌≡◌, ◌-◌, ◌*◌, ◌∙◌, ap, arith, length, refl, subst, sym}
+use Rattle.std.proofs.Common.{[], Err, None, Ok, Some, inl, inr, ◌-◌, ◌*◌, ◌∙◌, ap, arith, length, refl, subst, sym}
 use denote.Param.{param}
 use Rattle.thin_vec.specs.Edits.Finish.{HasTaken}
 use Rattle.thin_vec.specs.List.Extend.{FailsAtHint, PausedAfter}
