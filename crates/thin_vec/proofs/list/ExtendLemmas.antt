@@ -171,8 +171,8 @@ module _ (rule : Rule) (R : RattleType) (law : KeepsLaw rule) where
   ruled-more c n m same more (inr p) =
       inr (p.0, p.1, p.2, omega (arith, p.3, more), p.4 ∙ ap Some (sym same))
 
-  -- if the capacity e satisfies `IsKeptOrRuled` after d, then it satisfies it after c, or e is d, and
-  -- then P holds
+  -- if the capacity e satisfies `IsKeptOrRuled` after d, then it satisfies it after c, or e is d,
+  -- and then P holds
   pub ruled-after : (c d e n : ℕ) (P : Type 0) → IsKeptOrRuled rule R d e n → (e ≡ d → P)
       → IsKeptOrRuled rule R c e n ⊎ P
   ruled-after c d e n P (inl same) f = inr (f same)
@@ -238,8 +238,8 @@ module _ {T A : Type 0} where
       filled-at v w k (ap (λ u. u.cost) e ∙ ap (λ c. moving k c) (sym kept)) n
       (omega (arith, ap (λ c. c.grown) kept, same))
 
-  -- if v and u satisfy `CostsAdding` with m other moves, and u and w with n, then v and w do with k,
-  -- provided that m + n ≤ k, no capacity shrinks, and u has at least as many items as v
+  -- if v and u satisfy `CostsAdding` with m other moves, and u and w with n, then v and w do with
+  -- k, provided that m + n ≤ k, no capacity shrinks, and u has at least as many items as v
   pub adding-join : {v u w : Thin T A} (m n k : ℕ) → m + n ≤ k → CostsAdding v u m
       → CostsAdding u w n → v.capacity ≤ u.capacity → u.capacity ≤ w.capacity
       → length v.items ≤ length u.items → CostsAdding v w k

@@ -18,8 +18,8 @@ use thin_block::{Doubling, Growth, ThinVecError};
 /// A splice that has begun: it yields the items of a range of a list from either end, and holds an
 /// iterator whose items will take their place.
 ///
-/// It has to be ended by a call of `finish`: a program that drops it does not compile. Until then it
-/// owns the list's block, and the list is empty and has no block.
+/// It has to be ended by a call of `finish`: a program that drops it does not compile. Until then
+/// it owns the list's block, and the list is empty and has no block.
 pub struct Splice<
     'a,
     I,
@@ -37,8 +37,8 @@ pub struct Splice<
 impl<T, A: Allocator, G: Growth> ThinVec<T, A, G> {
     ghost use Rattle.thin_vec.specs.Edits.Splice.{splice_alloc, splice_block, splice_iter, splice_lender, splice_range};
 
-    /// Begins to replace the items with the indices `start..end` by the items of `iter`. The `Splice`
-    /// yields the old items from either end, and its `finish` places the new ones.
+    /// Begins to replace the items with the indices `start..end` by the items of `iter`. The
+    /// `Splice` yields the old items from either end, and its `finish` places the new ones.
     ///
     /// The call allocates nothing, moves no item, and draws no item of `iter`. It cannot fail. The
     /// function `bounds(start, end, len)` of this crate checks a range that may be out of bounds.
@@ -140,8 +140,8 @@ impl<
     ///
     /// 1. It moves items of the iterator into the places of the range. If the iterator ends before
     ///    the places are filled, the items after the range move down to close the gap, by one copy.
-    /// 2. It asks the iterator for its size hint, once, reserves room for the lower bound before the
-    ///    items after the range, and fills this room.
+    /// 2. It asks the iterator for its size hint, once, reserves room for the lower bound before
+    ///    the items after the range, and fills this room.
     /// 3. It collects all further items in a vector on `alloc`, reserves room for them, and moves
     ///    them into the list by one copy.
     ///
