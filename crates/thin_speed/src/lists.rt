@@ -16,6 +16,10 @@ pub use thin::Thin;
 pub trait Family {
     type Numbers: Numbers;
 
+    type Pairs: List<u16>;
+
+    type Sixteens: List<u128>;
+
     type Triples: List<Triple>;
 
     type Wides: List<Wide>;
@@ -32,13 +36,13 @@ pub trait Family {
 
     type Steps: List<Self::Bytes>;
 
-    /// Builds a tree of the depth `depth`, in which each node above the leaves has ten children.
-    /// Returns the sum of the depths of its nodes, where the depth of a leaf is 0.
+    /// Builds a tree of the depth `depth`, in which each node above the leaves has `width`
+    /// children. Returns the sum of the depths of its nodes, where the depth of a leaf is 0.
     ///
     /// # Errors
     ///
     /// Fails if there is no memory.
-    fn tree(alloc: Global, depth: usize) -> Outcome;
+    fn tree(alloc: Global, depth: usize, width: usize) -> Outcome;
 }
 
 /// A list of items of the type `T`.
@@ -91,6 +95,8 @@ pub trait Numbers: List<u64> {
     fn extend_from_copies(&mut self, items: &[u64]) -> Result<(), AllocError>;
 
     fn resize(&mut self, len: usize, value: u64) -> Result<(), AllocError>;
+
+    fn shrink_to_fit(&mut self) -> Result<(), AllocError>;
 
     /// Makes a list of copies of the items.
     fn copy(&self, alloc: Global) -> Result<Self, AllocError>;

@@ -9,6 +9,10 @@ pub struct Kit;
 impl Family for Kit {
     type Numbers = Vec<u64>;
 
+    type Pairs = Vec<u16>;
+
+    type Sixteens = Vec<u128>;
+
     type Triples = Vec<Triple>;
 
     type Wides = Vec<Wide>;
@@ -26,8 +30,8 @@ impl Family for Kit {
     type Steps = Vec<Vec<u8>>;
 
     #[inline(always)]
-    fn tree(alloc: Global, depth: usize) -> Outcome {
-        Ok(depths(&build(alloc, depth)?))
+    fn tree(alloc: Global, depth: usize, width: usize) -> Outcome {
+        Ok(depths(&build(alloc, depth, width)?))
     }
 }
 
@@ -131,6 +135,12 @@ impl Numbers for Vec<u64> {
     }
 
     #[inline(always)]
+    fn shrink_to_fit(&mut self) -> Result<(), AllocError> {
+        Vec::shrink_to_fit(self);
+        Ok(())
+    }
+
+    #[inline(always)]
     fn copy(&self, _alloc: Global) -> Result<Vec<u64>, AllocError> {
         self.clone()
     }
@@ -229,11 +239,12 @@ struct Node {
     children: Vec<Node>,
 }
 
-fn build(alloc: Global, depth: usize) -> Result<Node, AllocError> {
+// Builds a tree of the depth `depth`, in which each node above the leaves has `width` children.
+fn build(alloc: Global, depth: usize, width: usize) -> Result<Node, AllocError> {
     let mut children = Vec::new(alloc);
     if depth > 0 {
-        for _ in 0..10 {
-            children.push(build(alloc, depth - 1)?)?;
+        for _ in 0..width {
+            children.push(build(alloc, depth - 1, width)?)?;
         }
     }
     Ok(Node {

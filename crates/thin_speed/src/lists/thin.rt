@@ -10,6 +10,10 @@ pub struct Thin;
 impl Family for Thin {
     type Numbers = ThinVec<u64>;
 
+    type Pairs = ThinVec<u16>;
+
+    type Sixteens = ThinVec<u128>;
+
     type Triples = ThinVec<Triple>;
 
     type Wides = ThinVec<Wide>;
@@ -27,8 +31,8 @@ impl Family for Thin {
     type Steps = ThinVec<ThinVec<u8>>;
 
     #[inline(always)]
-    fn tree(alloc: Global, depth: usize) -> Outcome {
-        Ok(depths(&build(alloc, depth)?))
+    fn tree(alloc: Global, depth: usize, width: usize) -> Outcome {
+        Ok(depths(&build(alloc, depth, width)?))
     }
 }
 
@@ -132,6 +136,11 @@ impl Numbers for ThinVec<u64> {
     }
 
     #[inline(always)]
+    fn shrink_to_fit(&mut self) -> Result<(), AllocError> {
+        Ok(ThinVec::shrink_to_fit(self)?)
+    }
+
+    #[inline(always)]
     fn copy(&self, alloc: Global) -> Result<ThinVec<u64>, AllocError> {
         Ok(self.clone_copies(alloc)?)
     }
@@ -230,11 +239,12 @@ struct Node {
     children: ThinVec<Node>,
 }
 
-fn build(alloc: Global, depth: usize) -> Result<Node, AllocError> {
+// Builds a tree of the depth `depth`, in which each node above the leaves has `width` children.
+fn build(alloc: Global, depth: usize, width: usize) -> Result<Node, AllocError> {
     let mut children = ThinVec::new(alloc);
     if depth > 0 {
-        for _ in 0..10 {
-            children.push(build(alloc, depth - 1)?)?;
+        for _ in 0..width {
+            children.push(build(alloc, depth - 1, width)?)?;
         }
     }
     Ok(Node {

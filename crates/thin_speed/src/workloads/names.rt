@@ -13,9 +13,13 @@ pub enum Workload {
     Many(Many),
 }
 
-const WORKLOADS: [(&str, Workload); 56] = [
+const WORKLOADS: [(&str, Workload); 63] = [
     ("push", Workload::Growing(Growing::Push)),
     ("push_few", Workload::Growing(Growing::PushFew)),
+    ("push_u8", Workload::Growing(Growing::PushU8)),
+    ("push_u16", Workload::Growing(Growing::PushU16)),
+    ("push_u32", Workload::Growing(Growing::PushU32)),
+    ("push_u128", Workload::Growing(Growing::PushU128)),
     ("push_triples", Workload::Growing(Growing::PushTriples)),
     ("push_wide", Workload::Growing(Growing::PushWide)),
     ("push_strings", Workload::Growing(Growing::PushStrings)),
@@ -56,6 +60,7 @@ const WORKLOADS: [(&str, Workload); 56] = [
         Workload::Editing(Editing::SpliceUnhinted),
     ),
     ("replace_more", Workload::Editing(Editing::ReplaceMore)),
+    ("shrink_push", Workload::Editing(Editing::ShrinkPush)),
     ("retain_half", Workload::Filtering(Filtering::RetainHalf)),
     (
         "retain_random",
@@ -85,6 +90,8 @@ const WORKLOADS: [(&str, Workload); 56] = [
     ("styles", Workload::Many(Many::Styles)),
     ("undo", Workload::Many(Many::Undo)),
     ("tree", Workload::Many(Many::Tree)),
+    ("binary_tree", Workload::Many(Many::BinaryTree)),
+    ("leaves", Workload::Many(Many::Leaves)),
 ];
 
 /// Returns the workload with the name `name`, if there is one.
