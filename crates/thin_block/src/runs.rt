@@ -113,6 +113,27 @@ impl<T, A: Allocator> Block<T, A> {
         block
     }
 
+    /// Moves items down as `close_gap` does, and makes no call if `gap` is one or two.
+    #[inline(always)]
+    pub fn close_small_gap(self, to: usize, gap: usize, k: usize) -> Block<T, A>
+        requires in_bounds { to + gap + k ≤ length self.slots }
+        requires empty { AreEmpty self.slots to gap }
+        requires filled { AreFilled self.slots (to + gap) k }
+        ensures changes { seen result ≡ record (seen self) {
+          slots = moved (to + gap) to k self.slots;
+          cost = moving k self.cost;
+        } }
+        ensures cap { length result.slots ≡ length self.slots }
+    {
+        let mut block = self;
+        match gap {
+            1 => block.move_down(to, gap, k),
+            2 => block.move_down(to, gap, k),
+            _ => block = block.close_gap(to, gap, k),
+        }
+        block
+    }
+
     /// Moves items up as `move_up` does, and returns the block. The block is passed by value, so
     /// that its pointer stays in a register.
     #[inline(never)]

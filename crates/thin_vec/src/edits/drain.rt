@@ -36,6 +36,7 @@ impl<'a, T: Drop, A: Allocator, G: Growth, H: Holds<Inner = OpenBlock<T, A>>> Dr
     for Drain<'a, T, A, G, H> {
     // Drops the items that were not yielded, and moves the items after the range to its start, as
     // one run.
+    #[inline(always)]
     fn drop(self)
         ensures items { self.exit.0.now.items ≡ (H.inner self.entry.holder).front
             ++ (H.inner self.entry.holder).tail }
@@ -48,7 +49,7 @@ impl<'a, T: Drop, A: Allocator, G: Growth, H: Holds<Inner = OpenBlock<T, A>>> Dr
         block.drop_rest();
         // The list is empty already. This call is for the prover: `close` requires an empty list.
         list.clear();
-        list.close(block);
+        list.close_inline(block);
     }
 }
 

@@ -2,6 +2,9 @@
 //! range was removed. First, it fills the gap that the range left (`fill_gap`). Then it makes room
 //! for as many items as the iterator's size hint says, and fills this room (`insert_hinted`). Last,
 //! it collects the remaining items in a vector, and inserts them from there (`insert_held`).
+//!
+//! These steps are inlined into the caller of `finish`, so that the list and the iterator are not
+//! passed through memory from one step to the next.
 ghost use Rattle.std.specs.Prelude.{◌≡◌, ◌+◌, ◌-◌, ◌*◌, ◌<◌, ◌≤◌, [], ◌++◌, ◌∷◌, IfErr, IfOk, IsOk, IsSome, List, MatchOption, None, OnErr, OnOk, OnSome, Some, drop, false, length, take, ℕ};
 ghost use Rattle.std.specs.Iterator.{Drains, IsFinite, Yields, YieldsThen, size};
 ghost use Rattle.std.specs.Iterator.SizeHint.{IsWithinCount};
@@ -44,6 +47,7 @@ impl<T, A: Allocator, G: Growth> ThinVec<T, A, G> {
 
     // Makes room before the item at `at` for as many items as the size hint of `iter` says, and
     // fills this room. If the room cannot be made, nothing changes, and `iter` is returned.
+    #[inline(always)]
     fn insert_hinted<I: Iterator<Item = T>>(
         &mut self,
         at: usize,
@@ -93,6 +97,7 @@ impl<T, A: Allocator, G: Growth> ThinVec<T, A, G> {
 impl<T: Drop, A: Allocator, G: Growth> ThinVec<T, A, G> {
     // Collects the items that `iter` yields in a vector on `alloc`, and moves them before the item
     // at `at`. If `iter` yields none, nothing is allocated.
+    #[inline(always)]
     fn insert_held<I: Iterator<Item = T>>(
         &mut self,
         at: usize,
@@ -170,6 +175,7 @@ impl<T: Drop, A: Allocator, G: Growth> ThinVec<T, A, G> {
 
     // Fills the gap of `block`. Then inserts the remaining items of `iter` before the tail: first
     // as many as the size hint of `iter` says, and then the others.
+    #[inline(always)]
     pub(crate) fn finish_before_tail<I: Iterator<Item = T>>(
         &mut self,
         block: OpenBlock<T, A>,

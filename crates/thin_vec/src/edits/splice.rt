@@ -163,6 +163,7 @@ impl<
     ///   `OutOfMemory`.
     /// - Step 3 cannot reserve room for the collected items. Then `held` has these items, `in_hand`
     ///   is `None`, and the iterator has ended: `next` is not to be called on `rest`.
+    #[inline(always)]
     pub fn finish(self, alloc: A) -> Result<(), SpliceRefused<T, I, A>>
         requires can_next { I.can_next (splice_iter self) }
         requires finite { IsFinite (I.remaining (splice_iter self)) }

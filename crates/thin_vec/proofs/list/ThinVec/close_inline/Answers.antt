@@ -1,0 +1,28 @@
+-- After `into_closed_inline`, all items lie in the first slots of the block. So after
+-- `close_inline`, the items of the list are those of the open block, in order.
+use Rattle.std.proofs.Common.{ap, sym, ◌∙◌, rules}
+use Rattle.thin_vec.specs.Open.{items_of}
+use Rattle.thin_vec.proofs.ListLemmas.{Settled, settled, thin-room, thin_of-becomes}
+use Rattle.thin_vec.proofs.list.ThinVec.close_inline.Goals as goal
+
+facts : (g : _) (c : goal.After-release g) → Settled c.replace-none.new.dest c.self.inside.alloc
+    (items_of c.args.block) c.args.block.capacity
+facts g c =
+    let is = c.replace-none.ensures.after in
+    settled c.replace-none.new.dest c.self.inside.alloc (items_of c.args.block)
+    c.args.block.capacity
+    (ap (λ b. b.slots) is ∙ c.into_closed_inline.ensures.slots)
+    (ap (λ b. b.len) is ∙ c.into_closed_inline.ensures.len) c.into_closed_inline.ensures.in_bounds
+    (λ x e. c.requires.from x (sym c.into_closed_inline.ensures.alloc ∙ (sym (ap (λ b. b.alloc) is) ∙ e))
+    ∙ sym (ap (λ v. v.alloc) c.self.view_is))
+
+pub invariant_of-self : goal.invariant_of-self
+invariant_of-self g c = (facts g c).thin
+
+pub returns-clause-room : goal.returns-clause-room
+returns-clause-room g c = thin-room c.replace-none.new.dest c.self.inside.alloc (facts g c).thin
+
+pub returns-clause-changes : goal.returns-clause-changes
+returns-clause-changes g c =
+    thin_of-becomes c.self.view_is c.replace-none.new.dest (facts g c).cap (facts g c).items
+    (search rules)
