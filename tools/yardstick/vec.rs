@@ -1,5 +1,6 @@
 //! The workloads of `crates/thin_speed` over Rust's `Vec`, or over the list of the Rust crate thin-vec if it is compiled with
 //! `--cfg over_crate`. Runs one workload for each line of the input, and prints the sum that it computes.
+use std::collections::BTreeMap;
 use std::io::{Write, stdin};
 #[cfg(over_crate)]
 use thin_vec::ThinVec as Vec;
@@ -87,6 +88,8 @@ fn named(workload: &str) -> Option<fn(usize, usize) -> u64> {
         "tree" => |depth, times| tree(depth, 10, times),
         "binary_tree" => |depth, times| tree(depth, 2, times),
         "leaves" => |count, times| tree(1, count, times),
+        "table_set" => table_set,
+        "table_get" => table_get,
         _ => return None,
     })
 }
@@ -733,4 +736,32 @@ fn depths(node: &Node) -> u64 {
         sum = sum.wrapping_add(depths(child));
     }
     sum
+}
+
+#[inline(never)]
+fn table_set(size: usize, times: usize) -> u64 {
+    sum_of(times, || filled_table(size).get(&(0, 1)).copied().unwrap_or(0))
+}
+
+#[inline(never)]
+fn table_get(size: usize, times: usize) -> u64 {
+    let table = filled_table(size);
+    let mut sum = 0;
+    for _ in 0..times {
+        for number in 0..size {
+            let place = number.wrapping_mul(104_729) % size;
+            sum = mixed(sum, table.get(&(place / 30, place % 30)).copied().unwrap_or(0));
+        }
+    }
+    sum
+}
+
+#[inline(never)]
+fn filled_table(size: usize) -> BTreeMap<(usize, usize), u64> {
+    let mut table = BTreeMap::new();
+    for number in 0..size {
+        let place = number.wrapping_mul(7919) % size;
+        table.insert((place / 30, place % 30), number as u64);
+    }
+    table
 }

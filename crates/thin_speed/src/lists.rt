@@ -36,6 +36,8 @@ pub trait Family {
 
     type Steps: List<Self::Bytes>;
 
+    type Cells: Table;
+
     /// Builds a tree of the depth `depth`, in which each node above the leaves has `width`
     /// children. Returns the sum of the depths of its nodes, where the depth of a leaf is 0.
     ///
@@ -144,4 +146,16 @@ pub trait Numbers: List<u64> {
     /// Consumes the list by `into_iter`, from the front. Returns `sum` after mixing each item into
     /// it.
     fn walk(self, sum: u64) -> u64;
+}
+
+/// A sparse table of numbers, by row and column: `Rows` of `thin_rows`, or a `BTreeMap`.
+pub trait Table: Drop {
+    /// Makes a table without entries. It has at least `rows` rows.
+    fn with_rows(alloc: Global, rows: usize) -> Result<Self, AllocError>;
+
+    /// Writes `value` at a row and a column. Does nothing if the table has no such row.
+    fn set(&mut self, row: usize, column: usize, value: u64) -> Result<(), AllocError>;
+
+    /// Returns the value at a row and a column, or 0 if there is no entry.
+    fn get(&self, row: usize, column: usize) -> u64;
 }

@@ -1,7 +1,8 @@
 //! Implements the traits of `lists` for the `Vec` of Rattle's library, which the input calls `kit`.
-use crate::lists::{Family, List, Numbers};
+use crate::lists::{Family, List, Numbers, Table};
 use crate::numbers::{Count, Outcome, Pick, Triple, Unhinted, Wide, mixed};
 use std::alloc::{AllocError, Global};
+use std::collections::BTreeMap;
 
 /// The kind of list that is the `Vec` of Rattle's library.
 pub struct Kit;
@@ -28,6 +29,8 @@ impl Family for Kit {
     type Styles = Vec<Vec<u32>>;
 
     type Steps = Vec<Vec<u8>>;
+
+    type Cells = BTreeMap<(usize, usize), u64>;
 
     #[inline(always)]
     fn tree(alloc: Global, depth: usize, width: usize) -> Outcome {
@@ -230,6 +233,29 @@ impl Numbers for Vec<u64> {
             sum = mixed(sum, number);
         }
         sum
+    }
+}
+
+impl Table for BTreeMap<(usize, usize), u64> {
+    #[inline(always)]
+    fn with_rows(alloc: Global, _rows: usize) -> Result<BTreeMap<(usize, usize), u64>, AllocError> {
+        Ok(BTreeMap::new(alloc))
+    }
+
+    #[inline(always)]
+    fn set(&mut self, row: usize, column: usize, value: u64) -> Result<(), AllocError> {
+        match self.insert((row, column), value) {
+            Ok(_old) => Ok(()),
+            Err(_refused) => Err(AllocError),
+        }
+    }
+
+    #[inline(always)]
+    fn get(&self, row: usize, column: usize) -> u64 {
+        match BTreeMap::get(self, &(row, column)) {
+            Some(value) => *value,
+            None => 0,
+        }
     }
 }
 

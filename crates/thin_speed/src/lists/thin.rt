@@ -1,7 +1,8 @@
 //! Implements the traits of `lists` for `ThinVec`, which the input calls `thin`.
-use crate::lists::{Family, List, Numbers};
+use crate::lists::{Family, List, Numbers, Table};
 use crate::numbers::{Count, Outcome, Pick, Triple, Unhinted, Wide, mixed};
 use std::alloc::{AllocError, Global};
+use thin_rows::Rows;
 use thin_vec::ThinVec;
 
 /// The kind of list that is `ThinVec`.
@@ -29,6 +30,8 @@ impl Family for Thin {
     type Styles = ThinVec<ThinVec<u32>>;
 
     type Steps = ThinVec<ThinVec<u8>>;
+
+    type Cells = Rows<u64, Global>;
 
     #[inline(always)]
     fn tree(alloc: Global, depth: usize, width: usize) -> Outcome {
@@ -230,6 +233,32 @@ impl Numbers for ThinVec<u64> {
             sum = mixed(sum, number);
         }
         sum
+    }
+}
+
+impl Table for Rows<u64, Global> {
+    #[inline(always)]
+    fn with_rows(alloc: Global, rows: usize) -> Result<Rows<u64, Global>, AllocError> {
+        Ok(Rows::with_rows(alloc, rows)?)
+    }
+
+    #[inline(always)]
+    fn set(&mut self, row: usize, column: usize, value: u64) -> Result<(), AllocError> {
+        if row < self.rows() {
+            Rows::set(self, row, column, value)?;
+        }
+        Ok(())
+    }
+
+    #[inline(always)]
+    fn get(&self, row: usize, column: usize) -> u64 {
+        if row >= self.rows() {
+            return 0;
+        }
+        match Rows::get(self, row, column) {
+            Some(value) => *value,
+            None => 0,
+        }
     }
 }
 

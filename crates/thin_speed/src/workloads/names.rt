@@ -3,6 +3,7 @@ use crate::workloads::editing::Editing;
 use crate::workloads::filtering::Filtering;
 use crate::workloads::growing::Growing;
 use crate::workloads::many::Many;
+use crate::workloads::tables::Tables;
 
 /// A workload. Each variant is for the workloads that one file defines.
 #[derive(Clone, Copy)]
@@ -11,9 +12,10 @@ pub enum Workload {
     Editing(Editing),
     Filtering(Filtering),
     Many(Many),
+    Tables(Tables),
 }
 
-const WORKLOADS: [(&str, Workload); 63] = [
+const WORKLOADS: [(&str, Workload); 65] = [
     ("push", Workload::Growing(Growing::Push)),
     ("push_few", Workload::Growing(Growing::PushFew)),
     ("push_u8", Workload::Growing(Growing::PushU8)),
@@ -92,6 +94,8 @@ const WORKLOADS: [(&str, Workload); 63] = [
     ("tree", Workload::Many(Many::Tree)),
     ("binary_tree", Workload::Many(Many::BinaryTree)),
     ("leaves", Workload::Many(Many::Leaves)),
+    ("table_set", Workload::Tables(Tables::TableSet)),
+    ("table_get", Workload::Tables(Tables::TableGet)),
 ];
 
 /// Returns the workload with the name `name`, if there is one.
