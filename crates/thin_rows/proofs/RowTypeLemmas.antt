@@ -6,7 +6,7 @@ use Rattle.std.specs.Mem.{type_size}
 use Rattle.std.specs.Align.{type_align}
 use Rattle.std.specs.Result.{IsErrAnd}
 use Rattle.thin_vec.specs.declared.ThinVecError.{ThinVecError}
-use Rattle.thin_vec.specs.List.Capacity.{TellsOverflow}
+use Rattle.thin_vec.specs.List.Capacity.{TellsOverflowOf}
 use Rattle.thin_vec.specs.Growth.{Rule, exact_capacity, ruled_capacity}
 
 -- if two types have the same size and alignment, they have the same exact capacities
@@ -34,8 +34,8 @@ same_cause same = cc
 -- did, for a type of the same size and alignment
 pub error_tells : {X Y : Type 0} (R S : RattleType) (w : ℕ) (cause : ThinVecError)
     (result : Result Y ThinVecError) → type_size S ≡ type_size R → type_align S ≡ type_align R
-    → IsErrAnd result (λ e. e ≡ cause) → TellsOverflow {X = X} (exact_capacity R 0 w) (Err cause)
-    → TellsOverflow (exact_capacity S 0 w) result
+    → IsErrAnd result (λ e. e ≡ cause) → TellsOverflowOf {X = X} R w (Err cause)
+    → TellsOverflowOf S w result
 error_tells R S w cause (Ok y) size align passed told = absurd passed
 error_tells R S w cause (Err e) size align passed told = record {
   overflow = (
@@ -49,7 +49,7 @@ error_tells R S w cause (Err e) size align passed told = record {
 -- size and alignment
 pub made_tells : {X Y : Type 0} (R S : RattleType) (w : ℕ) (x : X) (y : Y)
     → type_size S ≡ type_size R → type_align S ≡ type_align R
-    → TellsOverflow (exact_capacity R 0 w) (Ok x) → TellsOverflow (exact_capacity S 0 w) (Ok y)
+    → TellsOverflowOf R w (Ok x) → TellsOverflowOf S w (Ok y)
 made_tells R S w x y size align told = record {
   overflow = (
     λ over. no_error over,

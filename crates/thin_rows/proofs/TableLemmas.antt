@@ -21,7 +21,7 @@ other_column : (j l : ℕ) → l ≢ j → eq_by_cmp nat_cmp l j ≡ false
 other_column j l other = grind (arith, nat_tests)
 
 module _ {V : Type 0} where
-  -- the pair is an item of the list
+  -- holds if the list `es` has the item e at an index
   abbrev pub IsAmong : List (ℕ × V) → ℕ × V → Type 0
   IsAmong es e = (k : ℕ) × (k < length es) × ((d : ℕ × V) → slice_index_or es k d ≡ e)
 
