@@ -1,5 +1,9 @@
-//! The workloads of `crates/thin_speed` over Rust's `Vec`: one for each line that is read, and a sum printed for each.
+//! The workloads of `crates/thin_speed` over Rust's `Vec`, or over the list of the Rust crate thin-vec if it is compiled with
+//! `--cfg over_crate`. Runs one workload for each line of the input, and prints the sum that it computes.
+use std::collections::BTreeMap;
 use std::io::{Write, stdin};
+#[cfg(over_crate)]
+use thin_vec::ThinVec as Vec;
 
 fn main() {
     for line in stdin().lines() {
@@ -13,7 +17,7 @@ fn main() {
 // Does what a line asks for: which list, which workload, of what size and how often.
 fn asked(line: &str) -> Option<u64> {
     let words: Vec<&str> = line.split_whitespace().collect();
-    let ["rust", workload, size, times] = words[..] else {
+    let ["rust" | "crate", workload, size, times] = words[..] else {
         return None;
     };
     Some(named(workload)?(size.parse().ok()?, times.parse().ok()?))
@@ -23,6 +27,10 @@ fn named(workload: &str) -> Option<fn(usize, usize) -> u64> {
     Some(match workload {
         "push" => |size, times| push(size, times, in_turn),
         "push_few" => |size, times| push(size, times, |number| number as u64 ^ 5),
+        "push_u8" => |size, times| push(size, times, |number| number as u8),
+        "push_u16" => |size, times| push(size, times, |number| number as u16),
+        "push_u32" => |size, times| push(size, times, |number| number as u32),
+        "push_u128" => |size, times| push(size, times, |number| number as u128),
         "push_triples" => |size, times| push(size, times, triple),
         "push_wide" => |size, times| push(size, times, wide),
         "push_strings" => |size, times| push(size, times, |_number| String::from("a word of some length")),
@@ -57,6 +65,7 @@ fn named(workload: &str) -> Option<fn(usize, usize) -> u64> {
         "splice_hinted" => splice_hinted,
         "splice_unhinted" => splice_unhinted,
         "replace_more" => replace_more,
+        "shrink_push" => shrink_push,
         "retain_half" => |size, times| retain(size, times, in_turn, is_even),
         "retain_random" => |size, times| retain(size, times, in_turn, is_random),
         "retain_three" => |size, times| retain(size, times, in_turn, |number| number & 3 != 0),
@@ -76,7 +85,11 @@ fn named(workload: &str) -> Option<fn(usize, usize) -> u64> {
         "sparse_lists" => sparse_lists,
         "styles" => styles,
         "undo" => undo,
-        "tree" => tree,
+        "tree" => |depth, times| tree(depth, 10, times),
+        "binary_tree" => |depth, times| tree(depth, 2, times),
+        "leaves" => |count, times| tree(1, count, times),
+        "table_set" => table_set,
+        "table_get" => table_get,
         _ => return None,
     })
 }
@@ -111,6 +124,30 @@ struct Wide {
 impl Item for u64 {
     fn number(&self) -> u64 {
         *self
+    }
+}
+
+impl Item for u8 {
+    fn number(&self) -> u64 {
+        *self as u64
+    }
+}
+
+impl Item for u16 {
+    fn number(&self) -> u64 {
+        *self as u64
+    }
+}
+
+impl Item for u32 {
+    fn number(&self) -> u64 {
+        *self as u64
+    }
+}
+
+impl Item for u128 {
+    fn number(&self) -> u64 {
+        *self as u64
     }
 }
 
@@ -320,7 +357,7 @@ fn extend_sixteen(size: usize, times: usize) -> u64 {
 fn resize(size: usize, times: usize) -> u64 {
     sum_of(times, || {
         let mut list = Vec::new();
-        list.resize(size, 7);
+        list.resize(size, 7u64);
         seen(&list)
     })
 }
@@ -508,6 +545,20 @@ fn replace(list: &mut Vec<u64>, start: usize, end: usize, items: &[u64]) {
     }
 }
 
+#[inline(never)]
+fn shrink_push(size: usize, times: usize) -> u64 {
+    let mut list = filled(size);
+    let mut sum = 0;
+    for number in 0..times {
+        list.shrink_to_fit();
+        list.push(number as u64);
+        if let Some(last) = list.pop() {
+            sum = mixed(sum, last);
+        }
+    }
+    mixed(sum, seen(&list))
+}
+
 #[inline(always)]
 fn pop_two(list: &mut Vec<u64>, sum: u64) -> u64 {
     let mut sum = sum;
@@ -663,15 +714,16 @@ struct Node {
 }
 
 #[inline(never)]
-fn tree(size: usize, times: usize) -> u64 {
-    sum_of(times, || depths(&build(size)))
+fn tree(depth: usize, width: usize, times: usize) -> u64 {
+    sum_of(times, || depths(&build(depth, width)))
 }
 
-fn build(depth: usize) -> Node {
+// Builds a tree of this depth, in which each node above the leaves has `width` children.
+fn build(depth: usize, width: usize) -> Node {
     let mut children = Vec::new();
     if depth > 0 {
-        for _ in 0..10 {
-            children.push(build(depth - 1));
+        for _ in 0..width {
+            children.push(build(depth - 1, width));
         }
     }
     Node { depth: depth as u64, children }
@@ -684,4 +736,32 @@ fn depths(node: &Node) -> u64 {
         sum = sum.wrapping_add(depths(child));
     }
     sum
+}
+
+#[inline(never)]
+fn table_set(size: usize, times: usize) -> u64 {
+    sum_of(times, || filled_table(size).get(&(0, 1)).copied().unwrap_or(0))
+}
+
+#[inline(never)]
+fn table_get(size: usize, times: usize) -> u64 {
+    let table = filled_table(size);
+    let mut sum = 0;
+    for _ in 0..times {
+        for number in 0..size {
+            let place = number.wrapping_mul(104_729) % size;
+            sum = mixed(sum, table.get(&(place / 30, place % 30)).copied().unwrap_or(0));
+        }
+    }
+    sum
+}
+
+#[inline(never)]
+fn filled_table(size: usize) -> BTreeMap<(usize, usize), u64> {
+    let mut table = BTreeMap::new();
+    for number in 0..size {
+        let place = number.wrapping_mul(7919) % size;
+        table.insert((place / 30, place % 30), number as u64);
+    }
+    table
 }

@@ -125,8 +125,8 @@ impl<A: Allocator> Matrix<A> {
         Ok(())
     }
 
-    // Adds the numbers in a row of `other` to the numbers in the same row of this matrix. On failure,
-    // some of them are added.
+    // Adds the numbers in a row of `other` to the numbers in the same row of this matrix. On
+    // failure, some of them are added.
     fn add_row(&mut self, row: usize, other: &Matrix<A>) -> Result<(), ThinVecError>
         requires row_in_bounds { row < length self.old.numbers }
         requires other_row_in_bounds { row < length other.now.numbers }

@@ -1,4 +1,5 @@
-//! Callers of `retain`, `retain_mut`, `dedup`, `dedup_by` and `dedup_by_key` that promise which items are left.
+//! Callers of `retain`, `retain_mut`, `dedup`, `dedup_by` and `dedup_by_key` that promise which
+//! items are left.
 ghost use Rattle.std.specs.List.{dedup};
 ghost use Rattle.std.specs.List.Sorted.{IsSorted, IsStrictlyIncreasing};
 ghost use Rattle.std.specs.Ordering.{nat_cmp};

@@ -10,6 +10,7 @@ pub mod growing;
 pub mod handed_over;
 pub mod indices;
 pub mod last_digits;
+pub mod loops;
 pub mod moved_range;
 pub mod moves;
 pub mod own_error;

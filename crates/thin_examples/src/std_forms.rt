@@ -1,4 +1,5 @@
-//! Callers of `thin_vec!` in the form of std's `vec!`, and of std's traits `Emptied` and `MadeWith`.
+//! Callers of `thin_vec!` in the form of std's `vec!`, and of std's traits `Emptied` and
+//! `MadeWith`.
 ghost use Rattle.std.specs.Prelude.{◌≡◌, [], ◌∷◌, IfOk, OnErr, OnOk, replicate};
 
 use std::alloc::{AllocError, Allocator};

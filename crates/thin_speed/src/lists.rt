@@ -16,6 +16,10 @@ pub use thin::Thin;
 pub trait Family {
     type Numbers: Numbers;
 
+    type Pairs: List<u16>;
+
+    type Sixteens: List<u128>;
+
     type Triples: List<Triple>;
 
     type Wides: List<Wide>;
@@ -32,13 +36,15 @@ pub trait Family {
 
     type Steps: List<Self::Bytes>;
 
-    /// Builds a tree of the depth `depth`, in which each node above the leaves has ten children.
-    /// Returns the sum of the depths of its nodes, where the depth of a leaf is 0.
+    type Cells: Table;
+
+    /// Builds a tree of the depth `depth`, in which each node above the leaves has `width`
+    /// children. Returns the sum of the depths of its nodes, where the depth of a leaf is 0.
     ///
     /// # Errors
     ///
     /// Fails if there is no memory.
-    fn tree(alloc: Global, depth: usize) -> Outcome;
+    fn tree(alloc: Global, depth: usize, width: usize) -> Outcome;
 }
 
 /// A list of items of the type `T`.
@@ -92,6 +98,8 @@ pub trait Numbers: List<u64> {
 
     fn resize(&mut self, len: usize, value: u64) -> Result<(), AllocError>;
 
+    fn shrink_to_fit(&mut self) -> Result<(), AllocError>;
+
     /// Makes a list of copies of the items.
     fn copy(&self, alloc: Global) -> Result<Self, AllocError>;
 
@@ -138,4 +146,16 @@ pub trait Numbers: List<u64> {
     /// Consumes the list by `into_iter`, from the front. Returns `sum` after mixing each item into
     /// it.
     fn walk(self, sum: u64) -> u64;
+}
+
+/// A sparse table of numbers, by row and column: `Rows` of `thin_rows`, or a `BTreeMap`.
+pub trait Table: Drop {
+    /// Makes a table without entries. It has at least `rows` rows.
+    fn with_rows(alloc: Global, rows: usize) -> Result<Self, AllocError>;
+
+    /// Writes `value` at a row and a column. Does nothing if the table has no such row.
+    fn set(&mut self, row: usize, column: usize, value: u64) -> Result<(), AllocError>;
+
+    /// Returns the value at a row and a column, or 0 if there is no entry.
+    fn get(&self, row: usize, column: usize) -> u64;
 }

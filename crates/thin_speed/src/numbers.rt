@@ -43,6 +43,35 @@ pub struct Wide {
     rest: [u64; 39],
 }
 
+impl Item for u8 {
+    #[inline(always)]
+    fn number(&self) -> u64 {
+        *self as u64
+    }
+}
+
+impl Item for u16 {
+    #[inline(always)]
+    fn number(&self) -> u64 {
+        *self as u64
+    }
+}
+
+impl Item for u32 {
+    #[inline(always)]
+    fn number(&self) -> u64 {
+        *self as u64
+    }
+}
+
+impl Item for u128 {
+    // Returns the low 64 bits.
+    #[inline(always)]
+    fn number(&self) -> u64 {
+        (*self & 0xffff_ffff_ffff_ffff) as u64
+    }
+}
+
 impl Item for u64 {
     #[inline(always)]
     fn number(&self) -> u64 {
@@ -81,8 +110,36 @@ pub trait Source<T: Drop> {
     fn item(alloc: Global, number: usize) -> Result<T, AllocError>;
 }
 
-/// Makes the items 0, 1, 2 and so on.
+/// Makes the items 0, 1, 2 and so on, each without the bits that its type has no room for.
 pub struct InTurn;
+
+impl Source<u8> for InTurn {
+    #[inline(always)]
+    fn item(_alloc: Global, number: usize) -> Result<u8, AllocError> {
+        Ok((number & 0xff) as u8)
+    }
+}
+
+impl Source<u16> for InTurn {
+    #[inline(always)]
+    fn item(_alloc: Global, number: usize) -> Result<u16, AllocError> {
+        Ok((number & 0xffff) as u16)
+    }
+}
+
+impl Source<u32> for InTurn {
+    #[inline(always)]
+    fn item(_alloc: Global, number: usize) -> Result<u32, AllocError> {
+        Ok((number & 0xffff_ffff) as u32)
+    }
+}
+
+impl Source<u128> for InTurn {
+    #[inline(always)]
+    fn item(_alloc: Global, number: usize) -> Result<u128, AllocError> {
+        Ok(number as u128)
+    }
+}
 
 impl Source<u64> for InTurn {
     #[inline(always)]

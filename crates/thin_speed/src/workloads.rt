@@ -5,6 +5,7 @@ mod growing;
 mod many;
 mod names;
 mod shapes;
+mod tables;
 
 use crate::lists::Family;
 use crate::numbers::Outcome;
@@ -14,6 +15,7 @@ use crate::workloads::growing::run_growing;
 use crate::workloads::many::run_many;
 use crate::workloads::names::Workload;
 pub use crate::workloads::names::named;
+use crate::workloads::tables::run_tables;
 use std::alloc::Global;
 
 /// Runs `workload` on lists of the kind `F`. `size` is the number of items of a list, or the depth
@@ -28,5 +30,6 @@ pub fn run<F: Family>(alloc: Global, workload: Workload, size: usize, times: usi
         Workload::Editing(editing) => run_editing::<F>(alloc, editing, size, times),
         Workload::Filtering(filtering) => run_filtering::<F>(alloc, filtering, size, times),
         Workload::Many(many) => run_many::<F>(alloc, many, size, times),
+        Workload::Tables(tables) => run_tables::<F>(alloc, tables, size, times),
     }
 }

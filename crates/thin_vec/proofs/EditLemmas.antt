@@ -25,15 +25,21 @@ module _ {S T : Type 0} (R : S → T → T → Bool → S → T → T → Type 0
   dedups_from : (xs : List T) (s : S) (k : T) (stays : List Bool) (ys : List T) (t : S)
       → AskedLast R s k xs stays ys t → DedupsFrom R s k xs ys
   dedups_from [] s k stays ys t h = h.1
-  dedups_from (x ∷ xs) s k stays ys t h =
-      (h.0, h.3, h.1, h.2, h.5, (elim h.0 as (λ b.
+  dedups_from (x ∷ xs) s k stays ys t h = (
+    h.0,
+    h.3,
+    h.1,
+    h.2,
+    h.5,
+    (elim h.0 as (λ b.
         MatchBool b (AskedLast R h.3 h.2 xs h.4 ys t)
         ((zs : List T) × AskedLast R h.3 h.1 xs h.4 zs t × (ys ≡ h.2 ∷ zs))
         → MatchBool b (DedupsFrom R h.3 h.2 xs ys)
         ((zs : List T) × DedupsFrom R h.3 h.1 xs zs × (ys ≡ h.2 ∷ zs))) [
-        | true ↦ λ m. dedups_from xs h.3 h.2 h.4 ys t m
-        | false ↦ λ m. (m.0, dedups_from xs h.3 h.1 h.4 m.0 t m.1, m.2)
-      ]) h.7)
+          | true ↦ λ m. dedups_from xs h.3 h.2 h.4 ys t m
+          | false ↦ λ m. (m.0, dedups_from xs h.3 h.1 h.4 m.0 t m.1, m.2)
+        ]) h.7,
+  )
 
   -- `dedups_from` for all items, of which the first stays
   dedups_all : (xs : List T) (s : S) (stays : List Bool) (ys : List T) (t : S)
@@ -171,8 +177,9 @@ module _ {T F A G : Type 0} {g : Ghosts G}
           );
         }
 
-    -- if a loop is in this state, and `next` yields `None`, then exactly the items of the range that
-    -- pass the test were appended, and the list has all other items once the `ExtractIf` is dropped
+    -- if a loop is in this state, and `next` yields `None`, then exactly the items of the range
+    -- that pass the test were appended, and the list has all other items once the `ExtractIf` is
+    -- dropped
     pub extract_end : {start now new : ExtractIf T F A G (Holder (Extracting T F A)) g h}
         {old held : List T} {item : Option T} → IsExtracting start now old held
         → ExtractSteps R now item new → item ≡ None

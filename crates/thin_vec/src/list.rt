@@ -141,7 +141,7 @@ impl<T, A: Allocator, G: Growth> ThinVec<T, A, G> {
 
     /// Appends `value`, which the list then owns. If there is no spare capacity, the list first
     /// grows to the capacity that the growth rule chooses. A push takes amortised constant time,
-    /// because each growth at least doubles the capacity, also after `reserve_exact`.
+    /// because each growth at least doubles the capacity, even after `reserve_exact`.
     ///
     /// # Errors
     ///

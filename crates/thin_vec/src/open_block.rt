@@ -137,8 +137,8 @@ impl<T, A: Allocator, G: Growth> ThinVec<T, A, G> {
     }
 
     // Puts the block back into the list. If there is a gap, all items after it are moved down
-    // first, as one run; a gap of one or two slots is closed without a call. If the list has another
-    // block, that block is freed.
+    // first, as one run; a gap of one or two slots is closed without a call. If the list has
+    // another block, that block is freed.
     #[inline(always)]
     pub(crate) fn close(&mut self, block: OpenBlock<T, A>)
         requires empty { self.old.items ≡ [] }

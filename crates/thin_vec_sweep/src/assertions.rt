@@ -48,7 +48,7 @@ pub fn assert_same_item<T: Sample, R: Abort>(
     assert_same(rt, at, "item", found, expected);
 }
 
-/// Returns whether `item` is the item of this number, or both are `None`.
+/// Returns whether `item` is the item that is made from `number`, or both are `None`.
 pub fn is_item<T: Sample>(item: Option<T>, number: Option<u64>) -> bool {
     match (item, number) {
         (Some(item), Some(number)) => item.kept_number() == T::expected_number(number),

@@ -228,7 +228,13 @@ impl<T: Sample, G: Ruled> Case<T, G> {
 
     /// Asserts that an item that a call returned is the item of this number.
     pub fn assert_item<R: Abort>(&self, rt: &R, item: &T, number: u64) {
-        assert_same(rt, &self.at, "item", item.kept_number(), T::expected_number(number));
+        assert_same(
+            rt,
+            &self.at,
+            "item",
+            item.kept_number(),
+            T::expected_number(number),
+        );
     }
 
     /// Asserts that a call returned the item of this number, or none if `number` is `None`.

@@ -1,13 +1,18 @@
 //! Implements the traits of `lists` for the `Vec` of Rattle's library, which the input calls `kit`.
-use crate::lists::{Family, List, Numbers};
+use crate::lists::{Family, List, Numbers, Table};
 use crate::numbers::{Count, Outcome, Pick, Triple, Unhinted, Wide, mixed};
 use std::alloc::{AllocError, Global};
+use std::collections::BTreeMap;
 
 /// The kind of list that is the `Vec` of Rattle's library.
 pub struct Kit;
 
 impl Family for Kit {
     type Numbers = Vec<u64>;
+
+    type Pairs = Vec<u16>;
+
+    type Sixteens = Vec<u128>;
 
     type Triples = Vec<Triple>;
 
@@ -25,9 +30,11 @@ impl Family for Kit {
 
     type Steps = Vec<Vec<u8>>;
 
+    type Cells = BTreeMap<(usize, usize), u64>;
+
     #[inline(always)]
-    fn tree(alloc: Global, depth: usize) -> Outcome {
-        Ok(depths(&build(alloc, depth)?))
+    fn tree(alloc: Global, depth: usize, width: usize) -> Outcome {
+        Ok(depths(&build(alloc, depth, width)?))
     }
 }
 
@@ -131,6 +138,12 @@ impl Numbers for Vec<u64> {
     }
 
     #[inline(always)]
+    fn shrink_to_fit(&mut self) -> Result<(), AllocError> {
+        Vec::shrink_to_fit(self);
+        Ok(())
+    }
+
+    #[inline(always)]
     fn copy(&self, _alloc: Global) -> Result<Vec<u64>, AllocError> {
         self.clone()
     }
@@ -223,17 +236,41 @@ impl Numbers for Vec<u64> {
     }
 }
 
+impl Table for BTreeMap<(usize, usize), u64> {
+    #[inline(always)]
+    fn with_rows(alloc: Global, _rows: usize) -> Result<BTreeMap<(usize, usize), u64>, AllocError> {
+        Ok(BTreeMap::new(alloc))
+    }
+
+    #[inline(always)]
+    fn set(&mut self, row: usize, column: usize, value: u64) -> Result<(), AllocError> {
+        match self.insert((row, column), value) {
+            Ok(_old) => Ok(()),
+            Err(_refused) => Err(AllocError),
+        }
+    }
+
+    #[inline(always)]
+    fn get(&self, row: usize, column: usize) -> u64 {
+        match BTreeMap::get(self, &(row, column)) {
+            Some(value) => *value,
+            None => 0,
+        }
+    }
+}
+
 #[derive(Drop)]
 struct Node {
     depth: u64,
     children: Vec<Node>,
 }
 
-fn build(alloc: Global, depth: usize) -> Result<Node, AllocError> {
+// Builds a tree of the depth `depth`, in which each node above the leaves has `width` children.
+fn build(alloc: Global, depth: usize, width: usize) -> Result<Node, AllocError> {
     let mut children = Vec::new(alloc);
     if depth > 0 {
-        for _ in 0..10 {
-            children.push(build(alloc, depth - 1)?)?;
+        for _ in 0..width {
+            children.push(build(alloc, depth - 1, width)?)?;
         }
     }
     Ok(Node {

@@ -1,7 +1,8 @@
 //! Implements the traits of `lists` for `ThinVec`, which the input calls `thin`.
-use crate::lists::{Family, List, Numbers};
+use crate::lists::{Family, List, Numbers, Table};
 use crate::numbers::{Count, Outcome, Pick, Triple, Unhinted, Wide, mixed};
 use std::alloc::{AllocError, Global};
+use thin_rows::Rows;
 use thin_vec::ThinVec;
 
 /// The kind of list that is `ThinVec`.
@@ -9,6 +10,10 @@ pub struct Thin;
 
 impl Family for Thin {
     type Numbers = ThinVec<u64>;
+
+    type Pairs = ThinVec<u16>;
+
+    type Sixteens = ThinVec<u128>;
 
     type Triples = ThinVec<Triple>;
 
@@ -26,9 +31,11 @@ impl Family for Thin {
 
     type Steps = ThinVec<ThinVec<u8>>;
 
+    type Cells = Rows<u64, Global>;
+
     #[inline(always)]
-    fn tree(alloc: Global, depth: usize) -> Outcome {
-        Ok(depths(&build(alloc, depth)?))
+    fn tree(alloc: Global, depth: usize, width: usize) -> Outcome {
+        Ok(depths(&build(alloc, depth, width)?))
     }
 }
 
@@ -132,6 +139,11 @@ impl Numbers for ThinVec<u64> {
     }
 
     #[inline(always)]
+    fn shrink_to_fit(&mut self) -> Result<(), AllocError> {
+        Ok(ThinVec::shrink_to_fit(self)?)
+    }
+
+    #[inline(always)]
     fn copy(&self, alloc: Global) -> Result<ThinVec<u64>, AllocError> {
         Ok(self.clone_copies(alloc)?)
     }
@@ -224,17 +236,44 @@ impl Numbers for ThinVec<u64> {
     }
 }
 
+impl Table for Rows<u64, Global> {
+    #[inline(always)]
+    fn with_rows(alloc: Global, rows: usize) -> Result<Rows<u64, Global>, AllocError> {
+        Ok(Rows::with_rows(alloc, rows)?)
+    }
+
+    #[inline(always)]
+    fn set(&mut self, row: usize, column: usize, value: u64) -> Result<(), AllocError> {
+        if row < self.rows() {
+            Rows::set(self, row, column, value)?;
+        }
+        Ok(())
+    }
+
+    #[inline(always)]
+    fn get(&self, row: usize, column: usize) -> u64 {
+        if row >= self.rows() {
+            return 0;
+        }
+        match Rows::get(self, row, column) {
+            Some(value) => *value,
+            None => 0,
+        }
+    }
+}
+
 #[derive(Drop)]
 struct Node {
     depth: u64,
     children: ThinVec<Node>,
 }
 
-fn build(alloc: Global, depth: usize) -> Result<Node, AllocError> {
+// Builds a tree of the depth `depth`, in which each node above the leaves has `width` children.
+fn build(alloc: Global, depth: usize, width: usize) -> Result<Node, AllocError> {
     let mut children = ThinVec::new(alloc);
     if depth > 0 {
-        for _ in 0..10 {
-            children.push(build(alloc, depth - 1)?)?;
+        for _ in 0..width {
+            children.push(build(alloc, depth - 1, width)?)?;
         }
     }
     Ok(Node {

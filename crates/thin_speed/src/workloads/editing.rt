@@ -23,6 +23,7 @@ pub enum Editing {
     SpliceHinted,
     SpliceUnhinted,
     ReplaceMore,
+    ShrinkPush,
 }
 
 /// Runs `workload` on lists of the kind `F`.
@@ -56,6 +57,7 @@ pub fn run_editing<F: Family>(
             refilled::<F::Numbers, _, InTurn, SpliceUnhinted>(alloc, size, times)
         }
         Editing::ReplaceMore => repeated::<F::Numbers, ReplaceMore>(alloc, size, times),
+        Editing::ShrinkPush => repeated::<F::Numbers, ShrinkPush>(alloc, size, times),
     }
 }
 
@@ -192,6 +194,22 @@ impl<L: Numbers> Work<L, u64> for ReplaceMore {
         let start = 5 + (number & 1);
         list.replace(start, start + 2, &FOUR)?;
         Ok(pop_two(list, sum))
+    }
+}
+
+/// Shrinks the capacity to the length, pushes a number, for which the list has to grow, and pops
+/// the number again.
+pub struct ShrinkPush;
+
+impl<L: Numbers> Work<L, u64> for ShrinkPush {
+    #[inline(always)]
+    fn work(list: &mut L, _alloc: Global, number: usize, sum: u64) -> Outcome {
+        list.shrink_to_fit()?;
+        list.push(number as u64)?;
+        match list.pop() {
+            Some(last) => Ok(mixed(sum, last)),
+            None => Ok(sum),
+        }
     }
 }
 

@@ -12,6 +12,10 @@ use std::io::Write;
 pub enum Growing {
     Push,
     PushFew,
+    PushU8,
+    PushU16,
+    PushU32,
+    PushU128,
     PushTriples,
     PushWide,
     PushStrings,
@@ -47,6 +51,10 @@ pub fn run_growing<F: Family>(
     match workload {
         Growing::Push => push::<F::Numbers, _, InTurn>(alloc, size, times),
         Growing::PushFew => push::<F::Numbers, _, Turned>(alloc, size, times),
+        Growing::PushU8 => push::<F::Bytes, _, InTurn>(alloc, size, times),
+        Growing::PushU16 => push::<F::Pairs, _, InTurn>(alloc, size, times),
+        Growing::PushU32 => push::<F::Style, _, InTurn>(alloc, size, times),
+        Growing::PushU128 => push::<F::Sixteens, _, InTurn>(alloc, size, times),
         Growing::PushTriples => push::<F::Triples, _, Triples>(alloc, size, times),
         Growing::PushWide => push::<F::Wides, _, Wides>(alloc, size, times),
         Growing::PushStrings => push::<F::Strings, _, Words>(alloc, size, times),

@@ -11,6 +11,8 @@ pub enum Many {
     Styles,
     Undo,
     Tree,
+    BinaryTree,
+    Leaves,
 }
 
 /// Runs `workload` on lists of the kind `F`.
@@ -24,7 +26,9 @@ pub fn run_many<F: Family>(alloc: Global, workload: Many, size: usize, times: us
         Many::SparseLists => sparse_lists::<F::Lists, F::Numbers>(alloc, size, times),
         Many::Styles => styles::<F::Styles, F::Style>(alloc, size, times),
         Many::Undo => undo::<F::Steps, F::Bytes>(alloc, size, times),
-        Many::Tree => tree::<F>(alloc, size, times),
+        Many::Tree => tree::<F>(alloc, size, 10, times),
+        Many::BinaryTree => tree::<F>(alloc, size, 2, times),
+        Many::Leaves => tree::<F>(alloc, 1, size, times),
     }
 }
 
@@ -152,16 +156,17 @@ pub fn undo<L: List<B>, B: List<u8>>(alloc: Global, size: usize, times: usize) -
     Ok(sum)
 }
 
-/// Builds a tree of the depth `size`, and visits all its nodes, `times` times.
+/// Builds a tree of the depth `depth`, in which each node above the leaves has `width` children,
+/// and visits all its nodes, `times` times.
 ///
 /// # Errors
 ///
 /// Fails if there is no memory.
 #[inline(never)]
-pub fn tree<F: Family>(alloc: Global, size: usize, times: usize) -> Outcome {
+pub fn tree<F: Family>(alloc: Global, depth: usize, width: usize, times: usize) -> Outcome {
     let mut sum = 0;
     for _ in 0..times {
-        sum = mixed(sum, F::tree(alloc, size)?);
+        sum = mixed(sum, F::tree(alloc, depth, width)?);
     }
     Ok(sum)
 }

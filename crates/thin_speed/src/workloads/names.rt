@@ -3,6 +3,7 @@ use crate::workloads::editing::Editing;
 use crate::workloads::filtering::Filtering;
 use crate::workloads::growing::Growing;
 use crate::workloads::many::Many;
+use crate::workloads::tables::Tables;
 
 /// A workload. Each variant is for the workloads that one file defines.
 #[derive(Clone, Copy)]
@@ -11,11 +12,16 @@ pub enum Workload {
     Editing(Editing),
     Filtering(Filtering),
     Many(Many),
+    Tables(Tables),
 }
 
-const WORKLOADS: [(&str, Workload); 56] = [
+const WORKLOADS: [(&str, Workload); 65] = [
     ("push", Workload::Growing(Growing::Push)),
     ("push_few", Workload::Growing(Growing::PushFew)),
+    ("push_u8", Workload::Growing(Growing::PushU8)),
+    ("push_u16", Workload::Growing(Growing::PushU16)),
+    ("push_u32", Workload::Growing(Growing::PushU32)),
+    ("push_u128", Workload::Growing(Growing::PushU128)),
     ("push_triples", Workload::Growing(Growing::PushTriples)),
     ("push_wide", Workload::Growing(Growing::PushWide)),
     ("push_strings", Workload::Growing(Growing::PushStrings)),
@@ -56,6 +62,7 @@ const WORKLOADS: [(&str, Workload); 56] = [
         Workload::Editing(Editing::SpliceUnhinted),
     ),
     ("replace_more", Workload::Editing(Editing::ReplaceMore)),
+    ("shrink_push", Workload::Editing(Editing::ShrinkPush)),
     ("retain_half", Workload::Filtering(Filtering::RetainHalf)),
     (
         "retain_random",
@@ -85,6 +92,10 @@ const WORKLOADS: [(&str, Workload); 56] = [
     ("styles", Workload::Many(Many::Styles)),
     ("undo", Workload::Many(Many::Undo)),
     ("tree", Workload::Many(Many::Tree)),
+    ("binary_tree", Workload::Many(Many::BinaryTree)),
+    ("leaves", Workload::Many(Many::Leaves)),
+    ("table_set", Workload::Tables(Tables::TableSet)),
+    ("table_get", Workload::Tables(Tables::TableGet)),
 ];
 
 /// Returns the workload with the name `name`, if there is one.

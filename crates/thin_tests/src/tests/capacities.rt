@@ -32,7 +32,7 @@ fn assert_pushed(rt: &impl Abort, list: &mut ThinVec<i32>, items: Range<i32>, ca
     assert_same(rt, list.capacity(), capacity);
 }
 
-// Reserves room for `additional` items, and asserts that the list then has this capacity.
+// Reserves room for `additional` items, and asserts that the capacity is then `capacity`.
 fn assert_reserved(rt: &impl Abort, list: &mut ThinVec<i32>, additional: usize, capacity: usize) {
     list.reserve(additional).expect(rt, "memory");
     assert_same(rt, list.capacity(), capacity);

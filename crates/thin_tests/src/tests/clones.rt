@@ -1,4 +1,4 @@
-//! Tests of the calls that clone items, also if a clone fails.
+//! Tests of the calls that clone items, including when a clone fails.
 use crate::tests::support::assertions::{assert_len, assert_list, assert_same};
 use crate::tests::support::items::{boxes_of, push_all};
 use crate::tests::support::scarce::Scarce;

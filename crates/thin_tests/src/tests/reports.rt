@@ -189,8 +189,16 @@ fn checks_of_one_value(right: bool) -> Checks {
 #[test]
 fn write_row_fails_a_row_that_overflows_or_compares_nothing(rt: HostRuntime) {
     for (outcome, line, status) in [
-        (Ok(checks_of_one_value(true)), "row 7 ok\n", Status::EveryRowOk),
-        (Ok(checks_of_one_value(false)), "row 7 failed\n", Status::RowFailed),
+        (
+            Ok(checks_of_one_value(true)),
+            "row 7 ok\n",
+            Status::EveryRowOk,
+        ),
+        (
+            Ok(checks_of_one_value(false)),
+            "row 7 failed\n",
+            Status::RowFailed,
+        ),
         (Ok(Checks::new()), "row 7 failed\n", Status::RowFailed),
         (
             Err(ThinVecError::CapacityOverflow),

@@ -2,6 +2,7 @@
 use crate::tests::support::assertions::{assert_items, assert_len, assert_same};
 use crate::tests::support::items::{list_of, push, refusing_nth};
 use std::alloc::Global;
+use std::collections::HashMap;
 use std::io::ErrorKind;
 use std::process::Abort;
 use thin_examples::moved_range::move_range;
@@ -10,6 +11,9 @@ use thin_examples::refused_push::push_or_return;
 use thin_examples::reserved_room::push_both;
 use thin_examples::sorting::sort;
 use thin_examples::sparse_counts::{add, halve, is_row_empty, take};
+use thin_examples::filtering::{keep_last_digits, keep_tens};
+use thin_examples::handed_over::divide;
+use thin_examples::std_forms::{append_to, made, one_two, take_list, zeros};
 use thin_examples::std_errors::{doubled, with_numbers, write_line};
 use thin_examples::style_lists::{same_style, style_hash};
 use thin_examples::syntax_tree::Node;
@@ -141,4 +145,55 @@ fn example_edits_leave_expected_items(rt: HostRuntime) {
     assert_same(&rt, extracted_first(&mut six), Some(2));
     assert_items(&rt, six.as_slice(), &[1, 3, 4, 5, 6]);
     assert_spliced(&rt, rt.alloc());
+}
+
+#[test]
+fn lists_are_made_in_the_form_of_vec(rt: HostRuntime) {
+    let alloc = rt.alloc();
+    let list = one_two(alloc).expect(&rt, "memory");
+    assert_items(&rt, &list, &[1, 2]);
+    let list = zeros(alloc, 3).expect(&rt, "memory");
+    assert_items(&rt, &list, &[0, 0, 0]);
+    let list: ThinVec<u32> = made(alloc);
+    assert_same(&rt, (list.len(), list.has_capacity()), (0, false));
+}
+
+#[test]
+fn a_list_is_taken_and_an_empty_one_left(rt: HostRuntime) {
+    let mut list = one_two(rt.alloc()).expect(&rt, "memory");
+    let taken = take_list(&mut list).expect(&rt, "a clone of the allocator");
+    assert_items(&rt, &taken, &[1, 2]);
+    assert_same(&rt, (list.len(), list.has_capacity()), (0, false));
+}
+
+#[test]
+fn a_map_makes_the_list_of_a_new_key(rt: HostRuntime) {
+    let mut lists = HashMap::new(rt.alloc());
+    for (key, number) in [(1, 10), (2, 20), (1, 11)] {
+        append_to(&mut lists, key, number).expect(&rt, "memory");
+    }
+    let list = lists.get(&1).expect(&rt, "a list for 1");
+    assert_items(&rt, list, &[10, 11]);
+    let list = lists.get(&2).expect(&rt, "a list for 2");
+    assert_items(&rt, list, &[20]);
+}
+
+#[test]
+fn repeated_keys_are_removed(rt: HostRuntime) {
+    let alloc = rt.alloc();
+    let mut list = list_of(&rt, alloc, &[12, 17, 21, 31, 19]);
+    keep_tens(&mut list);
+    assert_items(&rt, &list, &[12, 21, 31, 19]);
+    keep_last_digits(&mut list);
+    assert_items(&rt, &list, &[12, 21, 19]);
+}
+
+#[test]
+fn numbers_are_divided(rt: HostRuntime) {
+    let alloc = rt.alloc();
+    let (mut odd, mut even) = (ThinVec::new(alloc), ThinVec::new(alloc));
+    let list = list_of(&rt, alloc, &[1, 2, 3, 4, 5]);
+    divide(list, &mut odd, &mut even).expect(&rt, "memory");
+    assert_items(&rt, &odd, &[1, 3, 5]);
+    assert_items(&rt, &even, &[2, 4]);
 }

@@ -204,8 +204,8 @@ module _ {S X A : Type 0} (steps : S → Option X → S → Type 0) (can : S →
         λ _. none,
       )
 
--- the cause of a `finish` that failed with the error `error`, where v is the list after the failure,
--- and `left` bounds the rest of the iterator
+-- the cause of a `finish` that failed with the error `error`, where v is the list after the
+-- failure, and `left` bounds the rest of the iterator
 module _ {S T A : Type 0} (rule : Rule) (R : RattleType) (v : Thin T A) (tail : List T)
     (left : Count) (error : SpliceRefused T S A) where
   -- if there is a tail, no item is held and none is in hand, the cause follows from the hint

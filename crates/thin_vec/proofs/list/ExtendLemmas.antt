@@ -85,7 +85,7 @@ module _ {S X : Type 0} (steps : S → Option X → S → Type 0) (s : S) where
       (λ l. (xs : List X) × P xs × (l ≡ xs ++ option_to_list (hand e)))
       all.2.gave (all.0, all.1, refl)
 
--- if o has a value and P holds, then the cases of o hold, the second of which is P
+-- if o has a value, and P holds, then `MatchOption o Q (λ _. P)` holds
 pub match-some : {X : Type 0} (P Q : Type 0) (o : Option X) → IsSome o → P
     → MatchOption o Q (λ _. P)
 match-some P Q (Some x) some p = p
@@ -95,8 +95,8 @@ match-some P Q None some p = absurd (false≢true some)
 pub hand-empty : {X : Type 0} {o : Option X} → IsSome o → o ≡ None → ⊥
 hand-empty some none = false≢true (subst IsSome none some)
 
--- if a failed call always has an item in hand, and then P holds, then for each error the cases of
--- the item in hand hold, the second of which is P
+-- if each error of a result has an item in hand, and P holds if the result is an error, then
+-- `MatchOption error.in_hand (Q error) (λ _. P)` holds of the error
 pub full-in-hand : {T S : Type 0} (P : Type 0) (Q : ExtendRefused T S → Type 0)
     (r : Result (Unit {0}) (ExtendRefused T S)) → IfErr r (λ error. IsSome error.in_hand)
     → OnErr r P → IfErr r (λ error. MatchOption error.in_hand (Q error) (λ _. P))
@@ -171,8 +171,8 @@ module _ (rule : Rule) (R : RattleType) (law : KeepsLaw rule) where
   ruled-more c n m same more (inr p) =
       inr (p.0, p.1, p.2, omega (arith, p.3, more), p.4 ∙ ap Some (sym same))
 
-  -- if the capacity e satisfies `IsKeptOrRuled` after d, then it satisfies it after c, or e is d, and
-  -- then P holds
+  -- if the capacity e satisfies `IsKeptOrRuled` after d, then it satisfies it after c, or e is d,
+  -- and then P holds
   pub ruled-after : (c d e n : ℕ) (P : Type 0) → IsKeptOrRuled rule R d e n → (e ≡ d → P)
       → IsKeptOrRuled rule R c e n ⊎ P
   ruled-after c d e n P (inl same) f = inr (f same)
@@ -238,8 +238,8 @@ module _ {T A : Type 0} where
       filled-at v w k (ap (λ u. u.cost) e ∙ ap (λ c. moving k c) (sym kept)) n
       (omega (arith, ap (λ c. c.grown) kept, same))
 
-  -- if v and u satisfy `CostsAdding` with m other moves, and u and w with n, then v and w do with k,
-  -- provided that m + n ≤ k, no capacity shrinks, and u has at least as many items as v
+  -- if v and u satisfy `CostsAdding` with m other moves, and u and w with n, then v and w do with
+  -- k, provided that m + n ≤ k, no capacity shrinks, and u has at least as many items as v
   pub adding-join : {v u w : Thin T A} (m n k : ℕ) → m + n ≤ k → CostsAdding v u m
       → CostsAdding u w n → v.capacity ≤ u.capacity → u.capacity ≤ w.capacity
       → length v.items ≤ length u.items → CostsAdding v w k

@@ -46,8 +46,8 @@ module _ {T A G : Type 0} {g : Ghosts G} {h : HoldsGhosts (Holder (Open T A)) (O
     pub alloc : drain_alloc new ≡ drain_alloc old
     pub cost : drain_cost new ≡ drain_cost old
 
-  -- a call of `next` on `old` returned `item` and led to `new`: it yields the first item, or returns
-  -- `None` if no item is left
+  -- a call of `next` on `old` returned `item` and led to `new`: it yields the first item, or
+  -- returns `None` if no item is left
   pub record DrainSteps (old : Drain T A G (Holder (Open T A)) g h) (item : Option T)
       (new : Drain T A G (Holder (Open T A)) g h) : Type 0 where
     pub gave : MatchOption item ((drain_rest old ≡ []) × (drain_rest new ≡ []))

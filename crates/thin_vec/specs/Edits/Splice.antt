@@ -124,8 +124,8 @@ module _ {I T A G H : Type 0} {g : Ghosts G} {h : HoldsGhosts H (Open T A)} wher
     pub alloc : splice_alloc new ≡ splice_alloc old
     pub cost : (splice_block new).cost ≡ (splice_block old).cost
 
-  -- a call of `next` on `old` returned `item` and led to `new`: it yields the first item, or returns
-  -- `None` if no item is left
+  -- a call of `next` on `old` returned `item` and led to `new`: it yields the first item, or
+  -- returns `None` if no item is left
   pub record SpliceSteps (old : Splice I T A G H g h) (item : Option T)
       (new : Splice I T A G H g h) : Type 0 where
     pub gave : MatchOption item

@@ -1,5 +1,5 @@
--- What the calls that may grow a list state of its capacity, its cost and their error. Throughout, v
--- is the list before the call, w the list after it, k the number of further items for which the
+-- What the calls that may grow a list state of its capacity, its cost and their error. Throughout,
+-- v is the list before the call, w the list after it, k the number of further items for which the
 -- call needs room, R the type of the items, and r the result of the call. (std: `Vec::reserve`)
 --
 -- The ruled capacity for k further items is `capacity_for rule R v k`. It is the old capacity if v

@@ -1,6 +1,6 @@
--- What the calls that draw items from an iterator leave: the items, the capacity, the cost, the rest
--- of the iterator, and the error. Throughout, v is the list before the call, w the list after it, R
--- the type of the items, and `left` bounds how many items the iterator may still yield. (std:
+-- What the calls that draw items from an iterator leave: the items, the capacity, the cost, the
+-- rest of the iterator, and the error. Throughout, v is the list before the call, w the list after
+-- it, R the type of the items, and `left` bounds how many items the iterator may still yield. (std:
 -- `Vec::extend`)
 use Rattle.std.specs.Prelude.{◌≡◌, ◌↔◌, ◌⊎◌, ℕ, ◌+◌, ◌<◌, ◌≤◌, IsSome, List, ◌++◌, Option, length}
 use Rattle.std.specs.Iterator.{Count, IsFinite, Yields, size}
@@ -24,9 +24,9 @@ pub record PausedAfter {S X : Type 0} (steps : S → Option X → S → Type 0) 
   pub can_next : can t
   pub finite : IsFinite (remaining t)
 
--- the capacity, which was c and is d, stayed, or it grew at least to the capacity that the rule gives
--- if a block of capacity c needs room for w items, where w is some number greater than c. So it
--- stayed or at least doubled
+-- the capacity, which was c and is d, stayed, or it grew at least to the capacity that the rule
+-- gives if a block of capacity c needs room for w items, where w is some number greater than c. So
+-- it stayed or at least doubled
 abbrev pub IsLoose : Rule → RattleType → ℕ → ℕ → Type 0
 IsLoose rule R c d =
     (d ≡ c) ⊎ ((w : ℕ) × (n : ℕ) × (c < w) × (ruled_capacity rule R c w ≡ Some n) × (n ≤ d))

@@ -24,11 +24,11 @@ impl<T: Clone, A: Allocator, G: Growth> ThinVec<T, A, G> {
     /// kept until the last clone is made, and the clones are made in other slots.
     ///
     /// Clones for the places of the range are made after the last item of the list, and the others
-    /// in a gap that is made before the items after the range. On success, each item after the range
-    /// moves at most once, and each clone for a place of the range moves there. If a clone fails, an
-    /// item after the range can move up to three times: up, when the gap is made; down to the clones
-    /// in the gap, if the gap was not filled; and down to its old place, once these clones are
-    /// dropped.
+    /// in a gap that is made before the items after the range. On success, each item after the
+    /// range moves at most once, and each clone for a place of the range moves there. If a clone
+    /// fails, an item after the range can move up to three times: up, when the gap is made; down to
+    /// the clones in the gap, if the gap was not filled; and down to its old place, once these
+    /// clones are dropped.
     ///
     /// # Errors
     ///

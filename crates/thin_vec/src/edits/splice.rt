@@ -18,8 +18,8 @@ use thin_block::{Doubling, Growth, ThinVecError};
 /// A splice that has begun: it yields the items of a range of a list from either end, and holds an
 /// iterator whose items will take their place.
 ///
-/// It has to be ended by a call of `finish`: a program that drops it does not compile. Until then it
-/// owns the list's block, and the list is empty and has no block.
+/// It has to be ended by a call of `finish`: a program that drops it does not compile. Until then
+/// it owns the list's block, and the list is empty and has no block.
 pub struct Splice<
     'a,
     I,
@@ -37,8 +37,8 @@ pub struct Splice<
 impl<T, A: Allocator, G: Growth> ThinVec<T, A, G> {
     ghost use Rattle.thin_vec.specs.Edits.Splice.{splice_alloc, splice_block, splice_iter, splice_lender, splice_range};
 
-    /// Begins to replace the items with the indices `start..end` by the items of `iter`. The `Splice`
-    /// yields the old items from either end, and its `finish` places the new ones.
+    /// Begins to replace the items with the indices `start..end` by the items of `iter`. The
+    /// `Splice` yields the old items from either end, and its `finish` places the new ones.
     ///
     /// The call allocates nothing, moves no item, and draws no item of `iter`. It cannot fail. The
     /// function `bounds(start, end, len)` of this crate checks a range that may be out of bounds.
@@ -132,18 +132,19 @@ impl<
     ghost use Rattle.thin_vec.specs.Edits.Splice.{FailsAsExtend, HasPlacesFor, IsStopCause, Stopped, splice_block, splice_iter, splice_left, splice_range, splice_replaced};
 
     /// Drops the items of the range that were not yielded, and puts the items of the iterator in
-    /// the place of the range. The iterator is asked until its first `None`, and not again after
-    /// that, so it must not be endless. Afterwards, the list has the items before the range, the
-    /// items of the iterator, and the items after the range.
+    /// the place of the range. It calls `next` until it first returns `None`, and not again after
+    /// that, so the iterator must not be endless. Afterwards, the list has the items before the
+    /// range, the items of the iterator, and the items after the range.
     ///
     /// If items follow the range, `finish` takes three steps:
     ///
     /// 1. It moves items of the iterator into the places of the range. If the iterator ends before
-    ///    the places are filled, the items after the range move down to close the gap, by one copy.
-    /// 2. It asks the iterator for its size hint, once, reserves room for the lower bound before the
-    ///    items after the range, and fills this room.
+    ///    the places are filled, the items after the range move down to close the gap, in a single
+    ///    copy.
+    /// 2. It asks the iterator for its size hint, once, reserves room for the lower bound before
+    ///    the items after the range, and fills this room.
     /// 3. It collects all further items in a vector on `alloc`, reserves room for them, and moves
-    ///    them into the list by one copy.
+    ///    them into the list in a single copy.
     ///
     /// If no item follows the range, `finish` asks for the size hint, reserves room for the lower
     /// bound, fills all spare capacity, and then pushes each further item.
@@ -151,30 +152,31 @@ impl<
     /// # Cost
     ///
     /// Each item of the iterator moves into the list once, and each item after the range at most
-    /// twice. The steps 2 and 3 grow the list at most once each, and a growth copies the items of
-    /// the list, as always. What the vector of step 3 costs is not counted. If the iterator can
+    /// twice. Steps 2 and 3 each grow the list at most once, and each growth copies the items of
+    /// the list, as usual. What the vector of step 3 costs is not counted. If the iterator can
     /// yield no more items than the range has places, `finish` allocates nothing.
     ///
     /// # Errors
     ///
-    /// `finish` cannot fail if the iterator can yield no more items than the range has places, and
-    /// also, if no item follows the range, if there is room for all items. (If items follow, room
-    /// alone does not guarantee success: the contract of `size_hint` allows a hint that is too low,
-    /// and then step 3 allocates.) On failure, no item is lost: the list keeps the items that were
-    /// placed, and the error has the items that were drawn after them, in `held` and then in
-    /// `in_hand`. There are five cases:
+    /// `finish` cannot fail in two situations: the iterator can yield no more items than the range
+    /// has places; or no item follows the range, and there is room for all items. (If items follow
+    /// the range, room alone does not guarantee success: the contract of `size_hint` allows a hint
+    /// that is too low, and then step 3 allocates.)
+    ///
+    /// On failure, no item is lost: the list keeps the items that were placed, and the error has
+    /// the items that were drawn after them, in `held` and then in `in_hand`. There are five cases:
     ///
     /// | | What failed | `held` | `in_hand` | `rest` yields | The list |
     /// |---|---|---|---|---|---|
-    /// | 1 | no items after the range: the hint | empty | `None` | all items | lacks the range |
+    /// | 1 | no items after the range: reserving | empty | `None` | all items | lost the range |
     /// | 2 | no items after the range: a push | empty | the next item | the others | is full |
-    /// | 3 | step 2: to reserve | empty | `None` | the others | has a full range |
-    /// | 4 | step 3: to collect an item | collected items | the next item | the others | as 3 |
-    /// | 5 | step 3: to reserve | all collected items | `None` | it has ended | as 3 |
+    /// | 3 | step 2: reserving | empty | `None` | the others | has the range filled |
+    /// | 4 | step 3: collecting an item | collected items | the next item | the others | as in 3 |
+    /// | 5 | step 3: reserving | all collected items | `None` | it has ended | as in 3 |
     ///
-    /// In the cases 1, 2, 3 and 5, the `cause` is `CapacityOverflow` if there is no ruled capacity
-    /// for what the list needed, and `OutOfMemory` if its allocator refused the block. In case 4 it
-    /// is `OutOfMemory`. In case 5, `next` must not be called on `rest`.
+    /// In cases 1, 2, 3 and 5, the `cause` is `CapacityOverflow` if the growth rule gives no
+    /// capacity for the length that the list needed, and `OutOfMemory` if the allocator of the list
+    /// failed. In case 4, it is `OutOfMemory`. In case 5, `next` must not be called on `rest`.
     ///
     /// Rust's `Vec` does all this when a `Splice` is dropped; here it is a call, since it can fail.
     #[inline(always)]

@@ -20,18 +20,18 @@ use std::mem;
 use thin_block::{Block, Growth, ThinVecError};
 
 impl<T, A: Allocator, G: Growth> ThinVec<T, A, G> {
-    /// Appends the items that `iter` yields before its first `None`, after which the iterator is not
-    /// asked again.
+    /// Appends the items that `iter` yields before its first `None`, after which the iterator is
+    /// not asked again.
     ///
-    /// First, it asks `iter` for its size hint, once, and reserves room for the lower bound. Then it
-    /// moves items into the spare capacity, and pushes each further one. So it cannot fail if there
-    /// is room for as many items as the iterator may yield.
+    /// First, it asks `iter` for its size hint, once, and reserves room for the lower bound. Then
+    /// it moves items into the spare capacity, and pushes each further one. So it cannot fail if
+    /// there is room for as many items as the iterator may yield.
     ///
     /// # Errors
     ///
-    /// The cause is `CapacityOverflow` if there is no ruled capacity for what was needed (the rule G
-    /// gives a larger capacity than a block can have, or none), and `OutOfMemory` if the allocator
-    /// refuses a block. There are two cases:
+    /// The cause is `CapacityOverflow` if there is no ruled capacity for what was needed (the rule
+    /// G gives a larger capacity than a block can have, or none), and `OutOfMemory` if the
+    /// allocator refuses a block. There are two cases:
     ///
     /// - The room for the lower bound cannot be reserved. Then the list is unchanged, `in_hand` is
     ///   `None`, and `rest` is the whole iterator.
@@ -136,8 +136,8 @@ impl<T, A: Allocator, G: Growth> ThinVec<T, A, G> {
         }
     }
 
-    // Moves the items that `iter` yields into the spare capacity, and then draws one item more if the
-    // iterator has not ended. Returns the iterator and that item.
+    // Moves the items that `iter` yields into the spare capacity, and then draws one item more if
+    // the iterator has not ended. Returns the iterator and that item.
     fn extend_reserved<I: Iterator<Item = T>>(&mut self, iter: I) -> (I, Option<T>)
         requires can_next { I.can_next iter }
         requires finite { IsFinite (I.remaining iter) }
@@ -204,8 +204,8 @@ impl<T, A: Allocator> ThinVec<T, A> {
     /// the iterator is not asked again.
     ///
     /// First, it asks `iter` for its size hint, once, and makes a block with exactly as many places
-    /// as the lower bound says. Then it moves items into the places, and pushes each further one. So
-    /// it cannot fail if the iterator yields no item.
+    /// as the lower bound says. Then it moves items into the places, and pushes each further one.
+    /// So it cannot fail if the iterator yields no item.
     ///
     /// # Errors
     ///
@@ -214,8 +214,8 @@ impl<T, A: Allocator> ThinVec<T, A> {
     ///
     /// - The first block cannot be made. Then `list` is a new list, `in_hand` is `None`, and `rest`
     ///   is the whole iterator.
-    /// - A further item cannot be pushed. Then `list` has the items that were placed, and it is full;
-    ///   `in_hand` is the item without room, and `rest` yields the items after it.
+    /// - A further item cannot be pushed. Then `list` has the items that were placed, and it is
+    ///   full; `in_hand` is the item without room, and `rest` yields the items after it.
     pub fn from_iter<I: Iterator<Item = T>>(
         alloc: A,
         iter: I,

@@ -11,10 +11,10 @@ impl<T, A: Allocator, G: Growth> ThinVec<T, A, G> {
     ghost use Rattle.thin_vec.specs.ThinVec.{IsWithin, cost_shrunk, cost_shrunk_to};
 
     /// Shrinks the capacity to `min_capacity`, or to the length if the length is greater. If the
-    /// capacity is not greater than that, nothing changes. If the new capacity is 0, the block is
+    /// capacity is already that small, nothing changes. If the new capacity is 0, the block is
     /// freed, and the cost that contracts see becomes 0.
     ///
-    /// Rust's `Vec` has a method of this name, and the Rust crate thin-vec has none.
+    /// Rust's `Vec` has a method of this name, but the Rust crate thin-vec does not.
     ///
     /// # Errors
     ///

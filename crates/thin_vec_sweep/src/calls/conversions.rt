@@ -5,7 +5,7 @@ use crate::samples::Sample;
 use crate::shapes::Shape;
 use crate::sweep::Call;
 use std::alloc::Global;
-use std::default::MadeWith;
+use std::default::{Emptied, MadeWith};
 use std::mem;
 use std::process::Abort;
 use thin_testing::{Refusing, Ruled};
@@ -247,14 +247,16 @@ impl<T: Sample> Call<T, Doubling> for Repeated {
     }
 }
 
-/// Calls `new`, `default_in`, `made_with`, `thin_vec![alloc =>]` and `thin_vec![in alloc]`.
+/// Calls `new`, `default_in`, `made_with`, `emptied`, `thin_vec![alloc =>]` and
+/// `thin_vec![in alloc]`.
 pub struct New {}
 
 impl<T: Sample> Call<T, Doubling> for New {
-    const NAME: &'static str = "new, default_in, made_with, thin_vec![a =>], thin_vec![in a]";
+    const NAME: &'static str =
+        "new, default_in, made_with, emptied, thin_vec![a =>], thin_vec![in a]";
 
     fn arguments(shape: Shape) -> usize {
-        if shape.length == 0 { 5 } else { 0 }
+        if shape.length == 0 { 6 } else { 0 }
     }
 
     fn run<R: Abort>(rt: &R, case: &mut Case<T, Doubling>, argument: usize) {
@@ -264,7 +266,9 @@ impl<T: Sample> Call<T, Doubling> for New {
             0 => Ok(ThinVec::new(&case.ledger.alloc)),
             1 => Ok(ThinVec::default_in(&case.ledger.alloc)),
             2 => Ok(MadeWith::made_with(&case.ledger.alloc)),
-            3 => thin_vec![in &case.ledger.alloc],
+            3 => Emptied::emptied(&List::<T, Doubling>::new(&case.ledger.alloc))
+                .map_err(|_refused| ThinVecError::OutOfMemory),
+            4 => thin_vec![in &case.ledger.alloc],
             _ => thin_vec![&case.ledger.alloc =>],
         };
         made(rt, case, list, Verdict::Done);

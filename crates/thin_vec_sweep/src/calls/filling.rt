@@ -86,7 +86,7 @@ impl Ending {
     }
 }
 
-/// Returns how a call must end that appends `count` items, and updates the reference. The call
+/// Returns how a call that appends `count` items must end, and updates the reference list. The call
 /// first grows the list once, for the size hint, to the capacity `hinted`. Then the list grows
 /// whenever there is no room for an item.
 pub fn fill<T: Sample, G: Ruled, R: Abort>(

@@ -196,8 +196,8 @@ fn extract<T: Sample, A: Allocator, G: Growth, R: Abort>(
     let start = range.start;
     let mut asked: usize = 0;
     let mut extract = list.extract_if(range.start, range.end, move |item: &mut T| {
-        let is_due =
-            item.kept_number() == T::expected_number(number_at(start.saturating_add(asked)));
+        let is_due = item.kept_number()
+            == T::expected_number(number_at(start.saturating_add(asked)));
         let goes = is_due && !stays(width, pattern, asked);
         asked = asked.saturating_add(1);
         goes

@@ -69,7 +69,7 @@ fn difference<T: Sample, G: Ruled>(list: &List<T, G>, numbers: &[u64]) -> Option
     let mut index: usize = 0;
     for item in list {
         let found = Some(item.kept_number());
-        let expected = numbers.get(index).map(|number| T::expected_number(*number));
+        let expected = numbers.get(index).map(|nth| T::expected_number(*nth));
         if found != expected {
             return Some(index);
         }

@@ -1,5 +1,5 @@
--- `keep_last_digits`: the closure of `dedup_by` is stateless and changes no number, so the numbers left are
--- `dedup` of the old ones.
+-- `keep_last_digits`: the closure of `dedup_by` is stateless and changes no number, so the numbers
+-- left are `dedup` of the old ones.
 use Rattle.std.proofs.Common.{rules}
 use Rattle.thin_vec.proofs.EditLemmas.{deduped_dedup}
 use Rattle.thin_examples.proofs.filtering.keep_last_digits.Goals as goal

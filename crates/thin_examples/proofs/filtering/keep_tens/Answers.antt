@@ -1,5 +1,5 @@
--- `keep_tens`: the closure of `dedup_by_key` is stateless and changes no number, so the numbers left are
--- `dedup` of the old ones.
+-- `keep_tens`: the closure of `dedup_by_key` is stateless and changes no number, so the numbers
+-- left are `dedup` of the old ones.
 use Rattle.std.proofs.Common.{rules}
 use Rattle.thin_vec.proofs.EditLemmas.{deduped_dedup}
 use Rattle.thin_examples.proofs.filtering.keep_tens.Goals as goal

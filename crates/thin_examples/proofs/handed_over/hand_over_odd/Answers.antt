@@ -25,7 +25,7 @@ loop-number-init g c = (
     c.in_ok-reserve.ensures.room,
     c.len-len.ensures.value,
     ap length (c.extract_if-odd.ensures.rest
-    ∙ whole c.args.list.now.items _ c.len-len.ensures.value),
+        ∙ whole c.args.list.now.items _ c.len-len.ensures.value),
   ),
 )
 

@@ -1,4 +1,5 @@
--- One growth for the hint, and those of the rest: capacity, cost and cause of both.
+-- The capacity, the cost and the cause of a failure follow from the growth for the hint and from
+-- what `extend_unhinted` states of the rest.
 use Rattle.std.proofs.lemmas.Grind.{common_steps}
 use Rattle.std.proofs.Common.{◌≡◌, ◌++◌, ◌∙◌, Err, ap, arith, length, subst}
 use Rattle.std.proofs.lemmas.List.{append-nil}

@@ -1,4 +1,5 @@
--- The list holds what the iterator has given, and is full after each turn or has grown.
+-- The list holds its old items, followed by the items that the iterator has yielded. Its capacity
+-- is the old one or a ruled one.
 use Rattle.std.proofs.Common.{◌≡◌, ◌+◌, ◌≤◌, List, ◌++◌, length}
 use Rattle.std.specs.Iterator.{IsFinite, Yields, size}
 use denote.Param.{param}

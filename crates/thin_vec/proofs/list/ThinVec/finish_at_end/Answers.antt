@@ -1,5 +1,5 @@
--- If there is no tail, the closed list is what is left of the block, and the clauses of `extend` give
--- the rest.
+-- If there is no tail, the closed list is what is left of the block, and the clauses of `extend`
+-- give the rest.
 use Rattle.std.proofs.Common.{◌≡◌, ◌*◌, ◌++◌, ◌∙◌, ap, arith, length, length-append, refl, subst, sym}
 use Rattle.std.specs.Iterator.{size}
 use Rattle.std.specs.Prelude.{MatchOption}

@@ -11,7 +11,7 @@ use Rattle.thin_vec.proofs.edits.FinishLemmas.{IsWide, wide-taken}
 use Rattle.thin_vec.proofs.list.ThinVec.insert_hinted.Goals.{After-fill_gap}
 use Rattle.thin_vec.proofs.list.ThinVec.insert_hinted.Goals as goal
 
--- how the list was opened
+-- the list was opened at `at`, with a gap as wide as the hint
 wide : (g : _) (c : After-fill_gap g)
     → IsWide c.open_wide-block.result c.reserve.new.self c.args.at c.size_hint-hint.result.0
 wide g c = record {
@@ -22,7 +22,7 @@ wide g c = record {
   cost = c.open_wide-block.ensures.other_cost;
 }
 
--- what was taken with at most n moves of the items after `at`
+-- the items were taken into the list with at most n moves of the items from `at` on
 taken : (g : _) (c : After-fill_gap g) (n : _)
     → c.fill_gap.ensures.filled.1.cost.0 + (length c.reserve.new.self.items - c.args.at) ≤ n
     → HasTaken g.G.Growth.rule (param 0 g.row.T) c.args.self.now c.fill_gap.new.self n
@@ -42,7 +42,7 @@ taken g c n few =
     (wide-taken c.fill_gap.ensures.filled rule T n left u c.args.at hint (wide g c)
     (ap (λ z. z.alloc) c.open_wide-block.ensures.changes) few)
 
--- the tail has the items after `at`
+-- the tail has as many items as the list has from `at` on
 tail : (g : _) (c : After-fill_gap g) → length c.open_wide-block.result.tail
     ≡ length c.args.self.now.items - c.args.at
 tail g c = omega (

@@ -1,4 +1,5 @@
--- The items after the range close up to those in front of it.
+-- `drop_rest` drops the items that are left, and makes all empty slots one gap, which `close`
+-- closes. So the list has the items before the range, followed by those after it.
 use Rattle.std.proofs.Common.{arith, ◌∙◌}
 use Rattle.thin_vec.proofs.edits.drain.Drain.drop.Goals as goal
 

@@ -1,0 +1,74 @@
+//! Workloads that write and read the entries of a table with thirty columns.
+use crate::lists::{Family, Table};
+use crate::numbers::{Outcome, mixed};
+use std::alloc::{AllocError, Global};
+
+/// The workloads that this file defines.
+#[derive(Clone, Copy)]
+pub enum Tables {
+    TableSet,
+    TableGet,
+}
+
+/// Runs `workload` on tables of the kind `F`.
+///
+/// # Errors
+///
+/// Fails if there is no memory.
+pub fn run_tables<F: Family>(
+    alloc: Global,
+    workload: Tables,
+    size: usize,
+    times: usize,
+) -> Outcome {
+    match workload {
+        Tables::TableSet => set_all::<F::Cells>(alloc, size, times),
+        Tables::TableGet => get_all::<F::Cells>(alloc, size, times),
+    }
+}
+
+/// Makes a table with `size` entries, and reads one of them, `times` times.
+///
+/// # Errors
+///
+/// Fails if there is no memory.
+#[inline(never)]
+pub fn set_all<C: Table>(alloc: Global, size: usize, times: usize) -> Outcome {
+    let mut sum = 0;
+    for _ in 0..times {
+        let table: C = filled_table(alloc, size)?;
+        sum = mixed(sum, table.get(0, 1));
+    }
+    Ok(sum)
+}
+
+/// Makes a table with `size` entries, and reads all of them, in an order that is neither that of
+/// the rows nor that of the writes, `times` times.
+///
+/// # Errors
+///
+/// Fails if there is no memory.
+#[inline(never)]
+pub fn get_all<C: Table>(alloc: Global, size: usize, times: usize) -> Outcome {
+    let table: C = filled_table(alloc, size)?;
+    let mut sum = 0;
+    for _ in 0..times {
+        for number in 0..size {
+            let place = number.wrapping_mul(104_729) % size;
+            sum = mixed(sum, table.get(place / 30, place % 30));
+        }
+    }
+    Ok(sum)
+}
+
+// Makes a table with an entry at each of the first `size` places, row by row, if `size` is not a
+// multiple of 7919. The entries are not written in the order of the places.
+#[inline(never)]
+fn filled_table<C: Table>(alloc: Global, size: usize) -> Result<C, AllocError> {
+    let mut table = C::with_rows(alloc, size / 30 + 1)?;
+    for number in 0..size {
+        let place = number.wrapping_mul(7919) % size;
+        table.set(place / 30, place % 30, number as u64)?;
+    }
+    Ok(table)
+}
