@@ -12,7 +12,7 @@ pub enum EditError {
     /// The range of the command is not within the text.
     #[error("not a range of the text")]
     OutOfBounds,
-    /// There is no edit to undo: no edit was made, or each edit is undone or forgotten.
+    /// There is no edit to undo: none was made, or every edit has been undone or forgotten.
     #[error("nothing to undo")]
     NothingToUndo,
     /// There is no edit to redo: after the last new edit no edit was undone, or all undone edits

@@ -214,7 +214,8 @@ module _ (E : El) (Y : Al) where
   abbrev pub t : Y.row.Denot → Ty → Ptr → Fml
   t = Y.g.dealloc_token
 
-  -- the header of the block x: its two words, and the backing
+  -- the header of the block x: its two words, and the allocation or the static header that they
+  -- are in
   abbrev pub Header : Br.Denot → ℕ → ℕ → Fml
   Header x b o = header t (R E) x.len (length x.slots) x.alloc b o
 

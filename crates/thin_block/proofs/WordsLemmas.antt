@@ -29,7 +29,7 @@ word_align a = max a (max 8 1)
 abbrev pub word_size : ℕ → ℕ → ℕ → ℕ
 word_size s a m = up (word_align a) (up 8 (up a 0 + m * s) + 0 * 8)
 
--- how many words of m items there are for c items
+-- for every c: the number of words that c items need, if a word holds m items
 pub record Counts (m : ℕ) : Type 0 where
   pub some : 0 < m
   pub covers : (c : ℕ) → c ≤ div_ceil c m * m

@@ -2,11 +2,15 @@
 use Rattle.std.specs.Prelude.{ℕ, ◌+◌, refl}
 use Rattle.std.specs.Coded.{Coded, code_by, coded×, coded_ℕ}
 
--- how many allocations were granted, how many items these allocations copied, and how many items
--- other calls moved
+-- three counts of what was done to a block since it was new
 pub record Cost : Type 0 where
+  -- the allocations that were granted, also those that changed the size of the block
   pub blocks : ℕ
+  -- the items that had to be copied into such an allocation: they are counted also if the block
+  -- could stay where it was
   pub grown : ℕ
+  -- the items that were placed, or moved within the block. A clone is placed, and counts as one. An
+  -- item that is taken out is not counted
   pub moves : ℕ
 
 -- the code of a cost is the code of its three numbers

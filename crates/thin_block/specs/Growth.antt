@@ -56,7 +56,8 @@ unfoldable pub power_bytes : Rule
 power_bytes s a c w = if s == 0 then doubling s a c w else fitting s a
     ((least_power (items_offset a + max w (2 * c) * s) - items_offset a) / s)
 
--- some power of two has room for the header and c items, and no room for one more item
+-- a block whose number of bytes is some power of two has room for the header and c items, but not
+-- for one more item
 pub record FillsPower (s a c : ℕ) : Type 0 where
   pub power : ℕ
   pub is_power : IsPowerOfTwo power

@@ -26,12 +26,16 @@ impl<T, A: Allocator> Block<T, A> {
     pub fn allocate(alloc: &A, cap: usize) -> Result<Block<T, A>, ThinVecError>
         requires some { 0 < cap }
         requires fits { Fits T.row cap }
+
+        // On success.
         ensures ok { IfOk result (λ block. seen block ≡ record {
           slots = empty cap;
           len = 0;
           alloc = Some alloc.now;
           cost = growing 0 no_cost;
         }) }
+
+        // On failure.
         ensures cause { IfErr result (λ cause. cause ≡ ThinVecError.OutOfMemory) }
     {
         match Block::allocate_block(alloc, cap, bytes_of_block::<T>(cap), align_of_block::<T>()) {
@@ -51,11 +55,15 @@ impl<T, A: Allocator> Block<T, A> {
         requires larger { length self.old.slots < cap }
         requires fits { Fits T.row cap }
         requires packed { IsPacked self.old.slots self.old.len }
+
+        // On success.
         ensures ok { OnOk result (seen self.new ≡ record (seen self.old) {
           slots = self.old.slots ++ empty (cap - length self.old.slots);
           alloc = Some alloc.now;
           cost = growing self.old.len self.old.cost;
         }) }
+
+        // On failure.
         ensures err { OnErr result (self.new ≡ self.old) }
         ensures cause { IfErr result (λ cause. cause ≡ ThinVecError.OutOfMemory) }
     {

@@ -1,7 +1,9 @@
-//! Callers of `retain`, `retain_mut` and `dedup` that promise which items are left.
+//! Callers of `retain`, `retain_mut`, `dedup`, `dedup_by` and `dedup_by_key` that promise which
+//! items are left.
+ghost use Rattle.std.specs.List.{dedup};
 ghost use Rattle.std.specs.List.Sorted.{IsSorted, IsStrictlyIncreasing};
 ghost use Rattle.std.specs.Ordering.{nat_cmp};
-ghost use Rattle.std.specs.Prelude.{◌≡◌, ◌%◌, ◌==◌, Bool, filter, true};
+ghost use Rattle.std.specs.Prelude.{◌≡◌, ◌%◌, ◌/◌, ◌==◌, Bool, filter, true};
 ghost use Rattle.thin_vec.specs.Edits.Retain.{left_at};
 ghost use Rattle.thin_examples.specs.Keepers.{asked_by};
 
@@ -23,6 +25,22 @@ pub fn keep_distinct<A: Allocator, G: Growth>(list: &mut ThinVec<u32, A, G>)
     ensures capacity { list.new.capacity ≡ list.old.capacity }
 {
     list.dedup();
+}
+
+/// Removes each number that has the same tens as the number kept before it, as 17 has after 12.
+pub fn keep_tens<A: Allocator, G: Growth>(list: &mut ThinVec<u32, A, G>)
+    ensures items { list.new.items ≡ dedup (λ later kept. later / 10 == kept / 10) list.old.items }
+    ensures capacity { list.new.capacity ≡ list.old.capacity }
+{
+    list.dedup_by_key(|number: &mut u32| *number / 10);
+}
+
+/// Removes each number that has the same last digit as the number kept before it.
+pub fn keep_last_digits<A: Allocator, G: Growth>(list: &mut ThinVec<u32, A, G>)
+    ensures items { list.new.items ≡ dedup (λ later kept. later % 10 == kept % 10) list.old.items }
+    ensures capacity { list.new.capacity ≡ list.old.capacity }
+{
+    list.dedup_by(|later: &mut u32, kept: &mut u32| *later % 10 == *kept % 10);
 }
 
 /// Decides for each item whether it stays in a list. A keeper has a state, which each decision may

@@ -90,6 +90,36 @@ pub fn hand_over_odd<A: Allocator, G: Growth>(
     Ok(())
 }
 
+/// Moves the odd numbers of `list` to the end of `odd`, and the others to the end of `even`. If the
+/// call fails, it drops `list`, and appends nothing.
+///
+/// # Errors
+///
+/// Fails if `odd` or `even` cannot reserve room for as many numbers as `list` has.
+pub fn divide<A: Allocator, G: Growth>(
+    list: ThinVec<u32, A, G>,
+    odd: &mut ThinVec<u32, A, G>,
+    even: &mut ThinVec<u32, A, G>,
+) -> Result<(), ThinVecError>
+    ensures odd_items { OnOk result (odd.new.items
+        ≡ odd.old.items ++ filter (λ number. number % 2 == 1) list.items) }
+    ensures even_items { OnOk result (even.new.items
+        ≡ even.old.items ++ filter (λ number. not (number % 2 == 1)) list.items) }
+    ensures err { OnErr result
+        ((odd.new.items ≡ odd.old.items) × (even.new.items ≡ even.old.items)) }
+{
+    odd.reserve(list.len())?;
+    even.reserve(list.len())?;
+    for number in list {
+        if number % 2 == 1 {
+            odd.push_reserved(number);
+        } else {
+            even.push_reserved(number);
+        }
+    }
+    Ok(())
+}
+
 /// Appends twice each number, or appends nothing. It requests memory at most once.
 ///
 /// # Errors

@@ -62,8 +62,8 @@ pub fn kept_all<T: Drop, A: Allocator, G: Growth>(list: &mut ThinVec<T, A, G>)
     list.retain(|_item: &T| true);
 }
 
-/// Extracts the first even number among the items at the indices 1 to 4, and tests no item after
-/// it. This moves the four items after the extracted one.
+/// Extracts the first even number among the items at indices 1 to 4, and tests no item after it.
+/// The list has six numbers, and the second is even, so the four items after it are moved.
 pub fn extracted_first<A: Allocator, G: Growth>(list: &mut ThinVec<u32, A, G>) -> Option<u32>
     requires to_six { list.old.items ≡ 1 ∷ 2 ∷ 3 ∷ 4 ∷ 5 ∷ 6 ∷ [] }
     ensures value { result ≡ Some 2 }

@@ -1,4 +1,4 @@
-//! The parsers of the single words of a line.
+//! Parsers for the individual words of a line.
 ghost use Rattle.std.specs.Prelude.{IfOk};
 ghost use Rattle.std.specs.Str.Parse.{ParsesUnsigned};
 ghost use Rattle.thin_replay.specs.Words.{IsStep, SpellAll, SpellsSteps};

@@ -1,9 +1,12 @@
 -- Lemmas on capacities, which depend only on the size and the alignment of a type, and on errors
 -- that are passed on.
-use Rattle.std.proofs.Common.{◌≡◌, ℕ, IsErrOf, Ok, Err, ap, refl}
+use Rattle.std.proofs.Common.{◌≡◌, ℕ, IsErrOf, Result, Ok, Err, ap, refl, sym, ◌∙◌}
 use Rattle.std.specs.Borrow.{RattleType}
 use Rattle.std.specs.Mem.{type_size}
 use Rattle.std.specs.Align.{type_align}
+use Rattle.std.specs.Result.{IsErrAnd}
+use Rattle.thin_vec.specs.declared.ThinVecError.{ThinVecError}
+use Rattle.thin_vec.specs.List.Capacity.{TellsOverflowOf}
 use Rattle.thin_vec.specs.Growth.{Rule, exact_capacity, ruled_capacity}
 
 -- if two types have the same size and alignment, they have the same exact capacities
@@ -19,21 +22,37 @@ pub ruled_of_same : (rule : Rule) (R S : RattleType) (c d v w : ℕ) → type_si
 unfolding ruled_capacity
 ruled_of_same rule R S c d v w size align capacity want = rw (size, align, capacity, want) refl
 
--- if a call fails with the error e, a call that passes its error on fails with e too, whatever type
--- it returns on success
-pub error_passes : {X Y E : Type 0} (cause e : E) → IsErrOf {T = X} (Err cause) e
-    → IsErrOf {T = Y} (Err cause) e
-error_passes cause e same = let equal : cause ≡ e = cc in ap Err equal
-
--- no `Ok` is the error e, so from the statement that one `Ok` is e, the same follows for any other
--- `Ok`
-pub ok_passes : {X Y E : Type 0} (x : X) (y : Y) (e : E) → IsErrOf (Ok x) e → IsErrOf (Ok y) e
-ok_passes x y e same = cc
+-- no `Ok` is an error
+no_error : {X E P : Type 0} {x : X} {e : E} → IsErrOf (Ok x) e → P
+no_error same = cc
 
 -- equal errors have equal causes
 pub same_cause : {X E : Type 0} {d e : E} → IsErrOf {T = X} (Err d) e → d ≡ e
 same_cause same = cc
 
--- no `Ok` is an error
-pub made_no_error : {X E P : Type 0} (x : X) (e : E) → IsErrOf (Ok x) e → P
-made_no_error x e same = cc
+-- if a call fails and its error is passed on by `?`, then the result tells an overflow as the call
+-- did, for a type of the same size and alignment
+pub error_tells : {X Y : Type 0} (R S : RattleType) (w : ℕ) (cause : ThinVecError)
+    (result : Result Y ThinVecError) → type_size S ≡ type_size R → type_align S ≡ type_align R
+    → IsErrAnd result (λ e. e ≡ cause) → TellsOverflowOf {X = X} R w (Err cause)
+    → TellsOverflowOf S w result
+error_tells R S w cause (Ok y) size align passed told = absurd passed
+error_tells R S w cause (Err e) size align passed told = record {
+  overflow = (
+    λ over. exact_of_same S R 0 w size align ∙ told.overflow.0 (ap Err (sym passed ∙ same_cause over)),
+    λ none. ap Err (passed ∙ same_cause (told.overflow.1
+        (sym (exact_of_same S R 0 w size align) ∙ none))),
+  );
+}
+
+-- if a call succeeds, a later success tells an overflow as the call did, for a type of the same
+-- size and alignment
+pub made_tells : {X Y : Type 0} (R S : RattleType) (w : ℕ) (x : X) (y : Y)
+    → type_size S ≡ type_size R → type_align S ≡ type_align R
+    → TellsOverflowOf R w (Ok x) → TellsOverflowOf S w (Ok y)
+made_tells R S w x y size align told = record {
+  overflow = (
+    λ over. no_error over,
+    λ none. no_error (told.overflow.1 (sym (exact_of_same S R 0 w size align) ∙ none)),
+  );
+}

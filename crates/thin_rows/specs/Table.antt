@@ -28,3 +28,7 @@ module _ {V : Type 0} where
   -- the table without an entry at row i and column j, and otherwise unchanged
   abbrev pub without_value : Table V → ℕ → ℕ → Table V
   without_value table i j = slice_set table i (map.remove (row_of table i) j)
+
+  -- the table without entries in row i, and otherwise unchanged
+  abbrev pub with_empty_row : Table V → ℕ → Table V
+  with_empty_row table i = slice_set table i map.empty

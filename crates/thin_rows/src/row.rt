@@ -151,6 +151,16 @@ impl<V, A: Allocator> Row<V, A> {
     }
 }
 
+impl<V: Drop, A: Allocator> Row<V, A> {
+    // Removes all entries, drops their values, and frees the block.
+    pub(crate) fn clear(&mut self)
+        ensures columns { self.new ≡ map.empty }
+    {
+        self.entries.clear();
+        give_block_back(&mut self.entries);
+    }
+}
+
 impl<V: fmt::Debug, A: Allocator> fmt::Debug for Row<V, A> {
     // Prints the row as std prints a map.
     fn fmt<W: fmt::Write>(&self, f: &mut fmt::Formatter<W>) -> fmt::Result {

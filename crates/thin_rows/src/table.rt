@@ -3,7 +3,7 @@ ghost use Rattle.std.specs.Prelude.{◌≡◌, ◌↔◌, ◌+◌, ◌-◌, ◌^
 ghost use Rattle.std.specs.FinMap as columns;
 ghost use Rattle.std.specs.List.Sorted.{IsStrictlyIncreasing};
 ghost use Rattle.std.specs.Option.{option_copied};
-ghost use Rattle.thin_rows.specs.Table.{row_of, value_at, with_value, without_value};
+ghost use Rattle.thin_rows.specs.Table.{row_of, value_at, with_empty_row, with_value, without_value};
 
 use crate::row::Row;
 use std::alloc::{Allocator, Global};
@@ -46,19 +46,18 @@ impl<V, A: Allocator + Copy> Rows<V, A> {
     /// Fails with `CapacityOverflow` if that many rows do not fit into a block, and with
     /// `OutOfMemory` if the allocator fails.
     pub fn with_rows(alloc: A, rows: usize) -> Result<Rows<V, A>, ThinVecError>
+        // On success.
         ensures table { IfOk result (λ table. table ≡ replicate rows columns.empty) }
+
+        // When it must succeed.
         ensures succeeds { rows ≡ 0 → IsOk result }
+
+        // On failure.
         ensures overflow { TellsOverflowOf (row_type V.row A.row A.Allocator) rows result }
     {
-        let mut empty_rows = match ThinVec::with_capacity(alloc, rows) {
-            Ok(made) => made,
-            Err(cause) => return Err(cause),
-        };
+        let mut empty_rows = ThinVec::with_capacity(alloc, rows)?;
         for _ in 0..rows {
-            match empty_rows.push(Row::new(alloc)) {
-                Ok(()) => (),
-                Err(_refused) => unreachable!(),
-            }
+            empty_rows.push_reserved(Row::new(alloc));
         }
         Ok(Rows { rows: empty_rows })
     }
@@ -121,9 +120,15 @@ impl<V, A: Allocator> Rows<V, A> {
     /// again, and the table is unchanged: a row that owned no block still owns none.
     pub fn set(&mut self, row: usize, column: usize, value: V) -> Result<Option<V>, Rejected<V>>
         requires in_bounds { row < length self.old }
-        ensures succeeds { IsSome (value_at self.old row column) → IsOk result }
+
+        // On success.
         ensures value { IfOk result (λ old. old ≡ value_at self.old row column) }
         ensures table { OnOk result (self.new ≡ with_value self.old row column value) }
+
+        // When it must succeed.
+        ensures succeeds { IsSome (value_at self.old row column) → IsOk result }
+
+        // On failure, the table is unchanged.
         ensures cause { IfErr result
             (λ refused. IsCause
             (ruled_capacity doubling (entry_type V.row) (columns.len (row_of self.old row))
@@ -165,6 +170,17 @@ impl<V, A: Allocator> Rows<V, A> {
         ensures value { IsTrue result ↔ (0 < columns.len (row_of self.now row)) }
     {
         self.rows[row].owns_block()
+    }
+}
+
+impl<V: Drop, A: Allocator> Rows<V, A> {
+    /// Removes all entries of a row, and drops their values. It requests no memory, and frees the
+    /// block of the row.
+    pub fn clear_row(&mut self, row: usize)
+        requires in_bounds { row < length self.old }
+        ensures table { self.new ≡ with_empty_row self.old row }
+    {
+        self.rows[row].clear();
     }
 }
 

@@ -184,8 +184,8 @@ module _ {T A G J : Type 0} (here : Setting T A J) (equal : ClonesEqual here.clo
       λ j. (yields (d.0 j), d.1.items j)
   does-granted v w command reply ok d = absurd d
 
-  -- if each clone equals its source, `plain_step` computes the reply to each command that does not
-  -- fail, and the items after it
+  -- if each clone equals its source, `plain_step` computes, for each command that does not fail,
+  -- the reply and the resulting items of the list
   step-plain : (v w : Thin T A) (command : Command T A G) (reply : Reply T A G)
       → IsGranted reply → Steps here v command reply w
       → (seen reply, w.items) ≡ plain_step here v.items command

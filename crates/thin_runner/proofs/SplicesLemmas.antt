@@ -10,8 +10,8 @@ use Rattle.std.specs.declared.iter.Iterator.{can_next-default}
 use Rattle.std.specs.Option.{option_to_list}
 use Rattle.std.specs.Prelude.{IsSome, MatchOption}
 use Rattle.thin_vec.specs.Cheap.{IsCheap}
-use Rattle.thin_vec.specs.List.Extend.{IsExtendCost, IsExtended, IsLoose}
-use Rattle.thin_vec.specs.Edits.Splice.{IsSpliced, Stopped, left_of}
+use Rattle.thin_vec.specs.List.Extend.{CostsAdding, IsExtended, IsLoose}
+use Rattle.thin_vec.specs.Edits.Splice.{Stopped, left_of}
 use Rattle.thin_vec.specs.declared.SpliceRefused.{SpliceRefused}
 use Rattle.thin_vec.specs.Growth.{Rule}
 use Rattle.thin_vec.specs.Open.{Open}
@@ -111,11 +111,11 @@ module _ {T A : Type 0} (old : Thin T A) (a b : ℕ) where
     pub no-tail : b ≡ length old.items → block.tail ≡ []
     no-tail all = no-items block.tail (omega (arith, tail-count, all))
 
-    pub spliced : (new : Thin T A) → IsSpliced (left_of block alloc) new (2 * length block.tail)
-        → IsSpliced (cut old a b) new (2 * (length old.items - b))
+    pub spliced : (new : Thin T A) → CostsAdding (left_of block alloc) new (2 * length block.tail)
+        → CostsAdding (cut old a b) new (2 * (length old.items - b))
     spliced new cost =
-        subst (λ (v : Thin T A). IsSpliced v new (2 * (length old.items - b))) left-is
-        (subst (λ (n : ℕ). IsSpliced (left_of block alloc) new (2 * n)) tail-count cost)
+        subst (λ (v : Thin T A). CostsAdding v new (2 * (length old.items - b))) left-is
+        (subst (λ (n : ℕ). CostsAdding (left_of block alloc) new (2 * n)) tail-count cost)
 
     -- if the limit of the iterator is `most`, then what `IsExtended` states for the list without
     -- the range and this limit holds for `cut old a b` and `most`
@@ -182,7 +182,7 @@ module _ {T A : Type 0} (rule : Rule) (R : RattleType) (old new : Thin T A) wher
     pub ruled : IsExtended rule R old new.capacity (length new.items) (at_most most)
     pub within : IsWithin R new
     pub had_room : HasRoomFor old most → new.capacity ≡ old.capacity
-    pub cost : IsExtendCost old new
+    pub cost : CostsAdding old new 0
     pub cheap : IsCheap old → IsCheap new
     pub alloc : new.alloc ≡ old.alloc
 
@@ -192,9 +192,9 @@ module _ {T A : Type 0} (rule : Rule) (R : RattleType) (old new : Thin T A) wher
       → Replaces rule R old (length old.items) (length old.items) placed most new
   replaces-end {placed} {most} f =
       let end = length old.items in
-      let same : IsSpliced old new (2 * (end - end)) =
+      let same : CostsAdding old new (2 * (end - end)) =
       record {
-        least = omega (arith, f.cost.moves);
+        least = f.cost.least;
         moves = omega (arith, f.cost.moves);
         kept = f.cost.kept;
         grown = f.cost.grown;
@@ -210,7 +210,7 @@ module _ {T A : Type 0} (rule : Rule) (R : RattleType) (old new : Thin T A) wher
             (at_most most)) (sym (cut-end old)) f.ruled;
         within = f.within;
         had_room = λ fits. f.had_room (room-end old most fits);
-        cost = subst (λ (v : Thin T A). IsSpliced v new (2 * (end - end))) (sym (cut-end old)) same;
+        cost = subst (λ (v : Thin T A). CostsAdding v new (2 * (end - end))) (sym (cut-end old)) same;
         cheap = f.cheap;
         alloc = f.alloc;
       }

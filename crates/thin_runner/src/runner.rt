@@ -103,11 +103,16 @@ pub fn run<T: Clone + Eq, A: Allocator + Copy, G: Growth, J: Judge<T>>(
     replies: &mut Vec<Reply<T, A, G>, A>,
     judge: &J,
 ) -> Result<(), ThinVecError>
-    ensures succeeds { vec_len replies.old + vec_len commands ≤ vec_capacity replies.old
-        → IsOk result }
+    // On success.
     ensures ok { OnOk result
         (Headline (setting T.is_clone T.is_infallible T.eq J.judging G.rule T.row alloc judge.now)
         list.old commands.items replies.old.items replies.new.items list.new) }
+
+    // When it must succeed.
+    ensures succeeds { vec_len replies.old + vec_len commands ≤ vec_capacity replies.old
+        → IsOk result }
+
+    // On failure, nothing changed.
     ensures err { OnErr result ((list.new ≡ list.old) × (replies.new.items ≡ replies.old.items)
         × (vec_capacity replies.new ≡ vec_capacity replies.old)) }
     ensures cause { IfErr result (λ cause. cause ≡ ThinVecError.OutOfMemory) }

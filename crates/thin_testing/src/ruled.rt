@@ -7,11 +7,11 @@ use thin_vec::{Doubling, Growth, PowerBytes};
 pub trait Ruled: Growth {
     /// Returns the capacity to which a list of capacity `capacity` grows if it needs room for
     /// `want` items of `size` bytes each. `want` is greater than `capacity`.
-    fn named(size: usize, capacity: usize, want: usize) -> usize;
+    fn expected_capacity(size: usize, capacity: usize, want: usize) -> usize;
 }
 
 impl Ruled for Doubling {
-    fn named(_size: usize, capacity: usize, want: usize) -> usize {
+    fn expected_capacity(_size: usize, capacity: usize, want: usize) -> usize {
         if capacity == 0 {
             want.max(4)
         } else {
@@ -24,9 +24,9 @@ impl Ruled for PowerBytes {
     // Returns the capacity that fills a block whose number of bytes is a power of two. The first 16
     // bytes of the block hold the capacity and the length. Items that take no bytes follow
     // `Doubling`.
-    fn named(size: usize, capacity: usize, want: usize) -> usize {
+    fn expected_capacity(size: usize, capacity: usize, want: usize) -> usize {
         if size == 0 {
-            return Doubling::named(size, capacity, want);
+            return Doubling::expected_capacity(size, capacity, want);
         }
         let items = want.max(capacity.saturating_mul(2));
         let bytes = items.saturating_mul(size).saturating_add(16);
@@ -41,13 +41,13 @@ impl Ruled for PowerBytes {
 }
 
 impl Ruled for Threefold {
-    fn named(_size: usize, capacity: usize, want: usize) -> usize {
+    fn expected_capacity(_size: usize, capacity: usize, want: usize) -> usize {
         want.max(capacity.saturating_mul(3))
     }
 }
 
 impl Ruled for Fourfold {
-    fn named(_size: usize, capacity: usize, want: usize) -> usize {
+    fn expected_capacity(_size: usize, capacity: usize, want: usize) -> usize {
         want.max(capacity.saturating_mul(4))
     }
 }

@@ -715,7 +715,7 @@ module _ {T A : Type 0} where
         (ap (λ (k : ℕ). empty k) (sym all)
         ∙ sym (replicate-append-replicate count (v.capacity - reach v - count) None))
 
-    -- if the tail is moved up by `count`, the slots after the old end are empty
+    -- the `count` slots after the tail are empty
     pub spare-empty : (j : ℕ) → h.len ≤ j → j < h.len + count → slot h.block.slots j ≡ None
     spare-empty j low high =
         let v : Open T A = open_of h in

@@ -50,8 +50,9 @@ module _ {T : Type 0} where
       ∙ (set_at (take i s) (get_or s i None) (ys ++ rest) y i (length-take-le i s (omega arith))
       ∙ ap (λ (n : ℕ). take i s ++ (y ∷ (ys ++ drop n s))) past))
 
-  -- s is the row r after the last items of xs were moved into it, where all of xs are to fill the
-  -- slots from `start` on; `left` are the first items of xs, which were not yet moved
+  -- the items xs are being moved, from the last to the first, into the slots of the row r from
+  -- `start` on: `left` are the first items of xs, which have not been moved yet, and s is r with
+  -- the others in their slots
   pub record IsMoving (xs left : List T) (start : ℕ) (r s : List (Option T)) : Type 0 where
     pub rest : List T
     pub parts : xs ≡ left ++ rest

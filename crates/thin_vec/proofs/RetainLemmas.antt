@@ -68,7 +68,8 @@ module _ {T : Type 0} where
   left_at-append ((true, x) ∷ a) b = ap (λ (l : List T). x ∷ l) (left_at-append a b)
   left_at-append ((false, x) ∷ a) b = left_at-append a b
 
-  -- the number of items that stay of two runs together is the sum of the numbers for each run
+  -- the number of items that stay in two runs joined together is the sum of the numbers for each
+  -- run
   pub trues-append : (a b : Verdicts T) → trues (flags_of (a ++ b)) ≡ trues
       (flags_of a) + trues (flags_of b)
   trues-append [] b = omega arith

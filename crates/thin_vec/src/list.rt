@@ -1,6 +1,6 @@
 //! The type `ThinVec`, what contracts see of a list, and the methods that most callers use. The
 //! other methods are in the folder `list`, and in `convert` and `edits`.
-ghost use Rattle.std.specs.Prelude.{◌≡◌, ◌↔◌, ◌+◌, ◌-◌, ◌<◌, [], ◌∷◌, ◌++◌, IfErr, IsOk, IsSome, IsTrue, None, OnErr, OnOk, Some, length};
+ghost use Rattle.std.specs.Prelude.{◌≡◌, ◌↔◌, ◌+◌, ◌-◌, ◌<◌, ◌==◌, [], ◌∷◌, ◌++◌, IfErr, IsOk, IsSome, IsTrue, None, OnErr, OnOk, Some, length, slice_index_or, take};
 ghost use Rattle.std.specs.Option.{option_to_list};
 ghost use Rattle.thin_block.specs.Block.{IsFrom};
 ghost use Rattle.thin_block.specs.Capacity.{Fits};
@@ -116,6 +116,7 @@ impl<T, A: Allocator, G: Growth> ThinVec<T, A, G> {
     /// Returns whether the list has no items.
     pub fn is_empty(&self) -> bool
         ensures value { IsTrue result ↔ (self.now.items ≡ []) }
+        ensures test { result ≡ (length self.now.items == 0) }
         ensures within { IsWithin T.row self.now }
     {
         self.len() == 0
@@ -140,7 +141,7 @@ impl<T, A: Allocator, G: Growth> ThinVec<T, A, G> {
 
     /// Appends `value`, which the list then owns. If there is no spare capacity, the list first
     /// grows to the capacity that the growth rule chooses. A push takes amortised constant time,
-    /// because each growth at least doubles the capacity.
+    /// because each growth at least doubles the capacity, even after `reserve_exact`.
     ///
     /// # Errors
     ///
@@ -211,7 +212,10 @@ impl<T, A: Allocator, G: Growth> ThinVec<T, A, G> {
     /// does not change.
     pub fn pop(&mut self) -> Option<T>
         ensures variant { IsSome result ↔ (0 < length self.old.items) }
+        ensures value { (d : T) → 0 < length self.old.items
+            → result ≡ Some (slice_index_or self.old.items (length self.old.items - 1) d) }
         ensures items { self.old.items ≡ self.new.items ++ option_to_list result }
+        ensures rest { self.new.items ≡ take (length self.old.items - 1) self.old.items }
         ensures changes { self.new ≡ record self.old { items = self.new.items } }
         ensures within { IsWithin T.row self.old × IsWithin T.row self.new }
     {
@@ -265,7 +269,7 @@ impl<T, A: Allocator, G: Growth> ThinVec<T, A, G> {
 
 impl<T: Drop, A: Allocator, G: Growth> Drop for ThinVec<T, A, G> {
     // Drops each item, and then frees the block. It does not update the stored length, because the
-    // block is freed anyway. A list without a block makes no call.
+    // block is freed anyway. A list without a block is dropped without a call.
     #[inline(always)]
     fn drop(self) {
         let (block, alloc) = self.into_parts();

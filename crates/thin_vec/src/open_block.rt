@@ -137,7 +137,9 @@ impl<T, A: Allocator, G: Growth> ThinVec<T, A, G> {
     }
 
     // Puts the block back into the list. If there is a gap, all items after it are moved down
-    // first, as one run. If the list has another block, that block is freed.
+    // first, as one run; a gap of one or two slots is closed without a call. If the list has
+    // another block, that block is freed.
+    #[inline(always)]
     pub(crate) fn close(&mut self, block: OpenBlock<T, A>)
         requires empty { self.old.items ≡ [] }
         requires gap_after { block.gap_after ≡ 0 }
@@ -150,24 +152,6 @@ impl<T, A: Allocator, G: Growth> ThinVec<T, A, G> {
         ensures room { length self.new.items ≤ self.new.capacity }
     {
         let none = mem::replace(&mut self.block, block.into_closed());
-        none.release(&self.alloc);
-    }
-
-    // Makes the block of the list again as `close` does, and makes no call to close a gap of one or
-    // two slots.
-    #[inline(always)]
-    pub(crate) fn close_inline(&mut self, block: OpenBlock<T, A>)
-        requires empty { self.old.items ≡ [] }
-        requires gap_after { block.gap_after ≡ 0 }
-        requires from { IsFrom block.alloc self.old.alloc }
-        ensures changes { self.new ≡ record self.old {
-          items = items_of block;
-          capacity = block.capacity;
-          cost = cost_closed block;
-        } }
-        ensures room { length self.new.items ≤ self.new.capacity }
-    {
-        let none = mem::replace(&mut self.block, block.into_closed_inline());
         none.release(&self.alloc);
     }
 }
@@ -243,34 +227,8 @@ impl<T, A: Allocator> OpenBlock<T, A> {
 
     // Moves the items after the gap down to the start of the gap, as one run. Stores the number of
     // items as the length of the block, and returns the block.
-    fn into_closed(self) -> Block<T, A>
-        requires gap_after { self.gap_after ≡ 0 }
-        ensures slots { result.slots ≡ front (items_of self) self.capacity }
-        ensures len { result.len ≡ length (items_of self) }
-        ensures in_bounds { length (items_of self) ≤ self.capacity }
-        ensures alloc { result.alloc ≡ self.alloc }
-        ensures cost { result.cost ≡ cost_closed self }
-    {
-        let OpenBlock {
-            mut block,
-            front_end,
-            rest_start,
-            rest_end: _,
-            tail_start: _,
-            len,
-        } = self;
-        if front_end == rest_start {
-            block.set_len(len);
-            return block;
-        }
-        let mut closed = block.close_gap(front_end, rest_start - front_end, len - rest_start);
-        closed.store_len(len - (rest_start - front_end));
-        closed
-    }
-
-    // Returns the block as `into_closed` does, and makes no call to close a gap of one or two slots.
     #[inline(always)]
-    fn into_closed_inline(self) -> Block<T, A>
+    fn into_closed(self) -> Block<T, A>
         requires gap_after { self.gap_after ≡ 0 }
         ensures slots { result.slots ≡ front (items_of self) self.capacity }
         ensures len { result.len ≡ length (items_of self) }

@@ -19,7 +19,7 @@ pub struct At {
 }
 
 /// Asserts that the two values are equal, and counts the comparison.
-pub fn same<T: PartialEq + Debug + Drop, R: Abort>(
+pub fn assert_same<T: PartialEq + Debug + Drop, R: Abort>(
     rt: &R,
     at: &At,
     what: &'static str,
@@ -31,37 +31,42 @@ pub fn same<T: PartialEq + Debug + Drop, R: Abort>(
 }
 
 /// Asserts that `item` is the item of this number, or that both are `None`.
-pub fn same_item<T: Sample, R: Abort>(rt: &R, at: &At, item: Option<T>, number: Option<u64>) {
-    let told = match item {
-        Some(item) => Some(item.told()),
+pub fn assert_same_item<T: Sample, R: Abort>(
+    rt: &R,
+    at: &At,
+    item: Option<T>,
+    number: Option<u64>,
+) {
+    let found = match item {
+        Some(item) => Some(item.kept_number()),
         None => None,
     };
-    let telling = match number {
-        Some(number) => Some(T::telling(number)),
+    let expected = match number {
+        Some(number) => Some(T::expected_number(number)),
         None => None,
     };
-    same(rt, at, "item", told, telling);
+    assert_same(rt, at, "item", found, expected);
 }
 
-/// Returns whether `item` is the item of this number, or both are `None`.
+/// Returns whether `item` is the item that is made from `number`, or both are `None`.
 pub fn is_item<T: Sample>(item: Option<T>, number: Option<u64>) -> bool {
     match (item, number) {
-        (Some(item), Some(number)) => item.told() == T::telling(number),
+        (Some(item), Some(number)) => item.kept_number() == T::expected_number(number),
         (None, None) => true,
         (Some(_), None) | (None, Some(_)) => false,
     }
 }
 
 /// Asserts that `items` are the items of these numbers.
-pub fn same_items<T: Sample, R: Abort>(rt: &R, at: &At, items: &[T], numbers: &[u64]) {
-    same(rt, at, "length", items.len(), numbers.len());
+pub fn assert_same_items<T: Sample, R: Abort>(rt: &R, at: &At, items: &[T], numbers: &[u64]) {
+    assert_same(rt, at, "length", items.len(), numbers.len());
     let difference = first_difference(items, numbers);
-    same(rt, at, "first item that differs", difference, None);
+    assert_same(rt, at, "first item that differs", difference, None);
 }
 
 /// Asserts that `items` items are not yet dropped, and that the allocated blocks are theirs, if
 /// each owns one, and the list's, if its capacity is not 0.
-pub fn assert_out<T: Sample, R: Abort>(
+pub fn assert_live<T: Sample, R: Abort>(
     rt: &R,
     at: &At,
     ledger: &Ledger,
@@ -71,18 +76,18 @@ pub fn assert_out<T: Sample, R: Abort>(
     let items = items as u64;
     let counted = if T::IS_COUNTED { items } else { 0 };
     let standing = ledger.standing.get();
-    same(rt, at, "items that are not dropped", standing, counted);
+    assert_same(rt, at, "items that are not dropped", standing, counted);
     let owned = if T::OWNS_BLOCK { items } else { 0 };
     let blocks = owned.saturating_add(u64::from(capacity != 0));
     let out = ledger.alloc.blocks();
-    same(rt, at, "blocks that are out", out, blocks);
+    assert_same(rt, at, "blocks that are not freed", out, blocks);
 }
 
 // Returns the first index at which an item is not the item of its number.
 fn first_difference<T: Sample>(items: &[T], numbers: &[u64]) -> Option<usize> {
     let mut index: usize = 0;
     for (item, number) in items.iter().zip(numbers.iter()) {
-        if item.told() != T::telling(*number) {
+        if item.kept_number() != T::expected_number(*number) {
             return Some(index);
         }
         index = index.saturating_add(1);

@@ -1,6 +1,6 @@
 //! One case of a sweep: a list of some shape, and its reference, which is made of a `Vec` and a
 //! number.
-use crate::assertions::{At, assert_out, same, same_item, same_items};
+use crate::assertions::{At, assert_live, assert_same, assert_same_item, assert_same_items};
 use crate::ledger::Ledger;
 use crate::samples::Sample;
 use crate::shapes::Shape;
@@ -91,7 +91,7 @@ impl<T: Sample, G: Ruled> Case<T, G> {
         if want <= self.capacity {
             return Some(self.capacity);
         }
-        fitting::<T>(G::named(T::SIZE, self.capacity, want))
+        fitting::<T>(G::expected_capacity(T::SIZE, self.capacity, want))
     }
 
     /// Returns the capacity that has room for exactly `additional` more items, or `None` if it
@@ -193,8 +193,13 @@ impl<T: Sample, G: Ruled> Case<T, G> {
     }
 
     /// Asserts that the call returned what it must return.
-    pub fn answered<R: Abort>(&self, rt: &R, answer: Result<(), ThinVecError>, verdict: Verdict) {
-        same(rt, &self.at, "answer", answer, verdict.answer());
+    pub fn assert_answer<R: Abort>(
+        &self,
+        rt: &R,
+        answer: Result<(), ThinVecError>,
+        verdict: Verdict,
+    ) {
+        assert_same(rt, &self.at, "answer", answer, verdict.answer());
     }
 
     /// Checks a call that puts an item at `index`: either the item is in the list, or the call
@@ -209,26 +214,32 @@ impl<T: Sample, G: Ruled> Case<T, G> {
     ) {
         match answer {
             Ok(()) => {
-                self.answered(rt, Ok(()), verdict);
+                self.assert_answer(rt, Ok(()), verdict);
                 if index <= self.items.len() {
                     self.items.insert(index, number).ok().expect(rt, "memory");
                 }
             }
             Err(refused) => {
-                self.answered(rt, Err(refused.cause), verdict);
-                self.handed(rt, &refused.value, number);
+                self.assert_answer(rt, Err(refused.cause), verdict);
+                self.assert_item(rt, &refused.value, number);
             }
         }
     }
 
     /// Asserts that an item that a call returned is the item of this number.
-    pub fn handed<R: Abort>(&self, rt: &R, item: &T, number: u64) {
-        same(rt, &self.at, "item", item.told(), T::telling(number));
+    pub fn assert_item<R: Abort>(&self, rt: &R, item: &T, number: u64) {
+        assert_same(
+            rt,
+            &self.at,
+            "item",
+            item.kept_number(),
+            T::expected_number(number),
+        );
     }
 
     /// Asserts that a call returned the item of this number, or none if `number` is `None`.
-    pub fn handed_or_none<R: Abort>(&self, rt: &R, item: Option<T>, number: Option<u64>) {
-        same_item(rt, &self.at, item, number);
+    pub fn assert_item_or_none<R: Abort>(&self, rt: &R, item: Option<T>, number: Option<u64>) {
+        assert_same_item(rt, &self.at, item, number);
     }
 
     /// Appends `count` numbers from `first` on to those of the list's items, if the call did not
@@ -241,20 +252,20 @@ impl<T: Sample, G: Ruled> Case<T, G> {
     }
 
     /// Asserts that `items` are the items of these numbers.
-    pub fn holds<R: Abort>(&self, rt: &R, items: &[T], numbers: &[u64]) {
-        same_items(rt, &self.at, items, numbers);
+    pub fn assert_items<R: Abort>(&self, rt: &R, items: &[T], numbers: &[u64]) {
+        assert_same_items(rt, &self.at, items, numbers);
     }
 
     /// Asserts that a list has the items of these numbers, and this capacity.
-    pub fn stands<H: Growth, R: Abort>(
+    pub fn assert_list<H: Growth, R: Abort>(
         &self,
         rt: &R,
         list: &List<T, H>,
         numbers: &[u64],
         capacity: usize,
     ) {
-        self.holds(rt, list.as_slice(), numbers);
-        same(
+        self.assert_items(rt, list.as_slice(), numbers);
+        assert_same(
             rt,
             &self.at,
             "capacity of the list that was made",
@@ -266,7 +277,7 @@ impl<T: Sample, G: Ruled> Case<T, G> {
     /// Checks a list whose items the call moved to another list. Asserts that it is empty now, or
     /// unchanged if the call failed, and that it still has its block. The list had this shape, and
     /// its items were numbered from `first` on.
-    pub fn gave<R: Abort>(
+    pub fn assert_moved_from<R: Abort>(
         &self,
         rt: &R,
         list: &List<T, G>,
@@ -280,12 +291,12 @@ impl<T: Sample, G: Ruled> Case<T, G> {
         };
         let numbers = numbers(rt, self.ledger, first, left);
         let capacity = shape.length.saturating_add(shape.spare);
-        self.stands(rt, list, numbers.as_slice(), capacity);
+        self.assert_list(rt, list, numbers.as_slice(), capacity);
     }
 
     /// Checks a call that makes a second list. Asserts that the second list has the items of these
     /// numbers, and this capacity.
-    pub fn second<H: Growth, R: Abort>(
+    pub fn assert_second_list<H: Growth, R: Abort>(
         &self,
         rt: &R,
         answer: Result<List<T, H>, ThinVecError>,
@@ -295,10 +306,10 @@ impl<T: Sample, G: Ruled> Case<T, G> {
     ) {
         match answer {
             Ok(list) => {
-                self.answered(rt, Ok(()), verdict);
-                self.stands(rt, &list, numbers, capacity);
+                self.assert_answer(rt, Ok(()), verdict);
+                self.assert_list(rt, &list, numbers, capacity);
             }
-            Err(cause) => self.answered(rt, Err(cause), verdict),
+            Err(cause) => self.assert_answer(rt, Err(cause), verdict),
         }
     }
 
@@ -323,13 +334,13 @@ impl<T: Sample, G: Ruled> Case<T, G> {
     /// the requests and clones that it must make, and that no other item or block is left.
     pub fn check<R: Abort>(&self, rt: &R) {
         let requests = self.ledger.alloc.requests();
-        same(rt, &self.at, "requests", requests, self.requests);
+        assert_same(rt, &self.at, "requests", requests, self.requests);
         let clones = self.ledger.clones.get();
-        same(rt, &self.at, "clones", clones, self.clones);
-        self.holds(rt, self.list.as_slice(), self.items.as_slice());
+        assert_same(rt, &self.at, "clones", clones, self.clones);
+        self.assert_items(rt, self.list.as_slice(), self.items.as_slice());
         let capacity = self.list.capacity();
-        same(rt, &self.at, "capacity", capacity, self.capacity);
-        assert_out::<T, R>(rt, &self.at, self.ledger, self.items.len(), self.capacity);
+        assert_same(rt, &self.at, "capacity", capacity, self.capacity);
+        assert_live::<T, R>(rt, &self.at, self.ledger, self.items.len(), self.capacity);
     }
 
     /// Ends the case, and counts it. Asserts that all its items are dropped and all its blocks are
@@ -339,7 +350,7 @@ impl<T: Sample, G: Ruled> Case<T, G> {
         let ledger = self.ledger;
         ledger.count_case(at.refused, self.requests);
         drop(self);
-        assert_out::<T, R>(rt, &at, ledger, 0, 0);
+        assert_live::<T, R>(rt, &at, ledger, 0, 0);
     }
 }
 

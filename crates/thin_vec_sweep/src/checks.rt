@@ -3,13 +3,13 @@
 use crate::assertions::At;
 use crate::calls::arrays::every_array;
 use crate::calls::clones::Resize;
-use crate::calls::filling::{Ending, asked};
+use crate::calls::filling::{Ending, assert_iterator_calls};
 use crate::calls::{
     every_bound, every_call_of_bytes, every_comparing, every_copying, every_edit, every_filter,
     every_growth, every_making, every_reading, every_replacing, every_replacing_by_copies,
 };
 use crate::case::{Case, List, Verdict, filled};
-use crate::closures::Questions;
+use crate::closures::ClosureCalls;
 use crate::ledger::Ledger;
 use crate::samples::{Counted, Inner};
 use crate::shapes::Shape;
@@ -27,7 +27,7 @@ use thin_vec::Doubling;
 // item makes no request: 123 cases, with 110 refusals. Each case makes ten comparisons: one of the
 // answer, seven by `check`, and two by `end`.
 #[test]
-fn a_small_sweep_makes_each_case(rt: HostRuntime) {
+fn small_sweep_runs_each_case(rt: HostRuntime) {
     let ledger = Ledger::new(&rt, rt.alloc());
     let scope = Scope {
         ledger,
@@ -75,7 +75,7 @@ const COUNTS: [(u64, u64, u64); 12] = [
 ];
 
 #[test]
-fn each_call_makes_its_comparisons(rt: HostRuntime) {
+fn each_call_makes_expected_number_of_comparisons(rt: HostRuntime) {
     let alloc = rt.alloc();
     let growths = few(&rt, alloc);
     every_growth::<i32, Doubling, _>(&rt, &growths);
@@ -145,7 +145,7 @@ fn block<R: Abort>(rt: &R, case: &Case<Counted, Doubling>) -> List<Counted, Doub
 }
 
 #[test]
-fn a_case_without_a_call_passes(rt: HostRuntime) {
+fn case_without_a_call_passes(rt: HostRuntime) {
     let case = two_items(&rt, rt.alloc());
     let ledger = case.ledger;
     case.check(&rt);
@@ -155,7 +155,7 @@ fn a_case_without_a_call_passes(rt: HostRuntime) {
 
 #[test]
 #[should_panic(expected = "failed: first item that differs, At")]
-fn another_item_is_seen(rt: HostRuntime) {
+fn detects_a_wrong_item(rt: HostRuntime) {
     let mut case = two_items(&rt, rt.alloc());
     if let Some(last) = case.items.last_mut() {
         *last = 7;
@@ -165,7 +165,7 @@ fn another_item_is_seen(rt: HostRuntime) {
 
 #[test]
 #[should_panic(expected = "failed: length, At")]
-fn an_item_less_is_seen(rt: HostRuntime) {
+fn detects_a_wrong_length(rt: HostRuntime) {
     let mut case = two_items(&rt, rt.alloc());
     let _last = case.items.pop();
     case.check(&rt);
@@ -173,7 +173,7 @@ fn an_item_less_is_seen(rt: HostRuntime) {
 
 #[test]
 #[should_panic(expected = "failed: capacity, At")]
-fn another_capacity_is_seen(rt: HostRuntime) {
+fn detects_a_wrong_capacity(rt: HostRuntime) {
     let mut case = two_items(&rt, rt.alloc());
     case.capacity = 4;
     case.check(&rt);
@@ -181,7 +181,7 @@ fn another_capacity_is_seen(rt: HostRuntime) {
 
 #[test]
 #[should_panic(expected = "failed: requests, At")]
-fn a_request_less_is_seen(rt: HostRuntime) {
+fn detects_a_missing_request(rt: HostRuntime) {
     let mut case = two_items(&rt, rt.alloc());
     case.requests = 1;
     case.check(&rt);
@@ -189,7 +189,7 @@ fn a_request_less_is_seen(rt: HostRuntime) {
 
 #[test]
 #[should_panic(expected = "failed: clones, At")]
-fn a_clone_less_is_seen(rt: HostRuntime) {
+fn detects_a_missing_clone(rt: HostRuntime) {
     let mut case = two_items(&rt, rt.alloc());
     case.clones = 1;
     case.check(&rt);
@@ -197,7 +197,7 @@ fn a_clone_less_is_seen(rt: HostRuntime) {
 
 #[test]
 #[should_panic(expected = "failed: items that are not dropped, At")]
-fn an_item_more_is_seen(rt: HostRuntime) {
+fn detects_an_undropped_item_after_the_call(rt: HostRuntime) {
     let case = two_items(&rt, rt.alloc());
     let item = case.item(&rt, 7);
     case.check(&rt);
@@ -205,8 +205,8 @@ fn an_item_more_is_seen(rt: HostRuntime) {
 }
 
 #[test]
-#[should_panic(expected = "failed: blocks that are out, At")]
-fn a_block_more_is_seen(rt: HostRuntime) {
+#[should_panic(expected = "failed: blocks that are not freed, At")]
+fn detects_an_unfreed_block_after_the_call(rt: HostRuntime) {
     let case = two_items(&rt, rt.alloc());
     let block = block(&rt, &case);
     case.begin();
@@ -216,7 +216,7 @@ fn a_block_more_is_seen(rt: HostRuntime) {
 
 #[test]
 #[should_panic(expected = "failed: items that are not dropped, At")]
-fn an_item_that_is_left_is_seen(rt: HostRuntime) {
+fn detects_an_undropped_item_at_the_end(rt: HostRuntime) {
     let case = two_items(&rt, rt.alloc());
     let item = case.item(&rt, 7);
     case.end(&rt);
@@ -224,8 +224,8 @@ fn an_item_that_is_left_is_seen(rt: HostRuntime) {
 }
 
 #[test]
-#[should_panic(expected = "failed: blocks that are out, At")]
-fn a_block_that_is_left_is_seen(rt: HostRuntime) {
+#[should_panic(expected = "failed: blocks that are not freed, At")]
+fn detects_an_unfreed_block_at_the_end(rt: HostRuntime) {
     let case = two_items(&rt, rt.alloc());
     let block = block(&rt, &case);
     case.end(&rt);
@@ -234,36 +234,36 @@ fn a_block_that_is_left_is_seen(rt: HostRuntime) {
 
 #[test]
 #[should_panic(expected = "failed: answer, At")]
-fn another_answer_is_seen(rt: HostRuntime) {
+fn detects_a_wrong_answer(rt: HostRuntime) {
     let case = two_items(&rt, rt.alloc());
-    case.answered(&rt, Ok(()), Verdict::NoRoom);
+    case.assert_answer(&rt, Ok(()), Verdict::NoRoom);
 }
 
 #[test]
 #[should_panic(expected = "failed: item, At")]
-fn another_item_that_is_returned_is_seen(rt: HostRuntime) {
+fn detects_a_wrong_returned_item(rt: HostRuntime) {
     let case = two_items(&rt, rt.alloc());
     let item = case.item(&rt, 7);
-    case.handed(&rt, &item, 8);
+    case.assert_item(&rt, &item, 8);
 }
 
 #[test]
 #[should_panic(expected = "failed: item, At")]
-fn no_item_for_one_is_seen(rt: HostRuntime) {
+fn detects_none_for_an_item(rt: HostRuntime) {
     let case = two_items(&rt, rt.alloc());
-    case.handed_or_none(&rt, None, Some(7));
+    case.assert_item_or_none(&rt, None, Some(7));
 }
 
 #[test]
-#[should_panic(expected = "failed: questions, At")]
-fn a_question_less_is_seen(rt: HostRuntime) {
+#[should_panic(expected = "failed: closure calls, At")]
+fn detects_a_missing_closure_call(rt: HostRuntime) {
     let case = two_items(&rt, rt.alloc());
-    Questions::new().end(&rt, &case.at, 1);
+    ClosureCalls::new().end(&rt, &case.at, 1);
 }
 
 #[test]
 #[should_panic(expected = "failed: calls of next and size_hint, At")]
-fn a_call_of_an_iterator_less_is_seen(rt: HostRuntime) {
+fn detects_a_missing_iterator_call(rt: HostRuntime) {
     let case = two_items(&rt, rt.alloc());
-    asked(&rt, &case, &Ending::done(1));
+    assert_iterator_calls(&rt, &case, &Ending::done(1));
 }

@@ -1,5 +1,5 @@
 //! What the closure that is passed to a call returns, and which items it was called with.
-use crate::assertions::{At, same};
+use crate::assertions::{At, assert_same};
 use crate::ledger::count;
 use crate::samples::Sample;
 use crate::shapes::Cases;
@@ -38,15 +38,15 @@ pub fn number_at(index: usize) -> u64 {
 
 /// How often a closure was called, and how often with another item than the one it had to be called
 /// with.
-pub struct Questions {
+pub struct ClosureCalls {
     asked: Cell<usize>,
     wrong: Cell<u64>,
 }
 
-impl Questions {
+impl ClosureCalls {
     /// Returns the counts of a closure that was not called yet.
-    pub fn new() -> Questions {
-        Questions {
+    pub fn new() -> ClosureCalls {
+        ClosureCalls {
             asked: Cell::new(0),
             wrong: Cell::new(0),
         }
@@ -60,16 +60,16 @@ impl Questions {
     }
 
     /// Counts a wrong item if `item` is not the item of this number.
-    pub fn about<T: Sample>(&self, item: &T, number: u64) {
-        if item.told() != T::telling(number) {
+    pub fn check_item<T: Sample>(&self, item: &T, number: u64) {
+        if item.kept_number() != T::expected_number(number) {
             count(&self.wrong);
         }
     }
 
     /// Asserts that the closure was called `due` times, each time with the right item.
     pub fn end<R: Abort>(self, rt: &R, at: &At, due: usize) {
-        let Questions { asked, wrong } = self;
-        same(rt, at, "questions", asked.get(), due);
-        same(rt, at, "questions about another item", wrong.get(), 0);
+        let ClosureCalls { asked, wrong } = self;
+        assert_same(rt, at, "closure calls", asked.get(), due);
+        assert_same(rt, at, "closure calls with a wrong item", wrong.get(), 0);
     }
 }

@@ -18,13 +18,13 @@
 //! change, `fresh` if the call makes another list, `further_growth` and `granted` once for each
 //! request if it makes several, and nothing if it takes no memory; (3) call `begin`, which resets
 //! the counts, and from then on refuses the request of the case; (4) test the preconditions of the
-//! call, and make the call; (5) call `answered`, and make the same edit of `case.items`. A call
-//! that appends the items of a slice has an impl of `AppendsSlice` (`calls/slices.rt`) in place of
-//! `run`, and a call that makes a second list has an impl of `MakesSecond` (`calls/seconds.rt`).
-//! What a closure returns is in `closures.rt`, and steps from both ends are in `walks.rt`: on lists
-//! and ranges of up to 6 items, all patterns of results and all sequences of steps are tried. An
-//! iterator that is passed to a call is a `Claims` (`claims.rt`), which counts the calls of its
-//! methods. A new call changes one line of the counts in `checks.rt`.
+//! call, and make the call; (5) call `assert_answer`, and make the same edit of `case.items`. A
+//! call that appends the items of a slice has an impl of `AppendsSlice` (`calls/slices.rt`) in
+//! place of `run`, and a call that makes a second list has an impl of `MakesSecond`
+//! (`calls/seconds.rt`). What a closure returns is in `closures.rt`, and steps from both ends are
+//! in `walks.rt`: on lists and ranges of up to 6 items, all patterns of results and all sequences
+//! of steps are tried. An iterator that is passed to a call is a `Claims` (`claims.rt`), which
+//! counts the calls of its methods. A new call changes one line of the counts in `checks.rt`.
 //!
 //! To add a growth rule, add an impl of `Ruled` (`thin_testing`) and a test. To add an item type,
 //! add an impl of `Sample` (`samples.rt`) and tests. A `Scope` (`sweep.rt`) names the shapes that a

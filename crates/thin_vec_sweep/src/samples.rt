@@ -31,10 +31,10 @@ pub trait Sample: Clone + Drop + PartialEq {
     fn nth<R: Abort>(rt: &R, ledger: &'static Ledger, number: u64) -> Self;
 
     /// Returns the number that the item was made from, or what the type keeps of it.
-    fn told(&self) -> u64;
+    fn kept_number(&self) -> u64;
 
-    /// Returns what `told` must return for the item of this number.
-    fn telling(number: u64) -> u64;
+    /// Returns what `kept_number` must return for the item of this number.
+    fn expected_number(number: u64) -> u64;
 }
 
 impl Sample for () {
@@ -48,11 +48,11 @@ impl Sample for () {
 
     fn nth<R: Abort>(_rt: &R, _ledger: &'static Ledger, _number: u64) {}
 
-    fn told(&self) -> u64 {
+    fn kept_number(&self) -> u64 {
         0
     }
 
-    fn telling(_number: u64) -> u64 {
+    fn expected_number(_number: u64) -> u64 {
         0
     }
 }
@@ -70,11 +70,11 @@ impl Sample for u8 {
         (number % 251) as u8
     }
 
-    fn told(&self) -> u64 {
+    fn kept_number(&self) -> u64 {
         u64::from(*self)
     }
 
-    fn telling(number: u64) -> u64 {
+    fn expected_number(number: u64) -> u64 {
         number % 251
     }
 }
@@ -98,11 +98,11 @@ impl Sample for i32 {
         }
     }
 
-    fn told(&self) -> u64 {
+    fn kept_number(&self) -> u64 {
         u64::from(self.unsigned_abs())
     }
 
-    fn telling(number: u64) -> u64 {
+    fn expected_number(number: u64) -> u64 {
         number % 2_147_483_647
     }
 }
@@ -120,11 +120,11 @@ impl Sample for u64 {
         number
     }
 
-    fn told(&self) -> u64 {
+    fn kept_number(&self) -> u64 {
         *self
     }
 
-    fn telling(number: u64) -> u64 {
+    fn expected_number(number: u64) -> u64 {
         number
     }
 }
@@ -142,11 +142,11 @@ impl Sample for u128 {
         u128::from(number) << 64
     }
 
-    fn told(&self) -> u64 {
+    fn kept_number(&self) -> u64 {
         (*self >> 64) as u64
     }
 
-    fn telling(number: u64) -> u64 {
+    fn expected_number(number: u64) -> u64 {
         number
     }
 }
@@ -168,7 +168,7 @@ impl Sample for [u64; 64] {
     }
 
     // The first and the last word must be equal.
-    fn told(&self) -> u64 {
+    fn kept_number(&self) -> u64 {
         if self[0] == self[63] {
             self[0]
         } else {
@@ -176,7 +176,7 @@ impl Sample for [u64; 64] {
         }
     }
 
-    fn telling(number: u64) -> u64 {
+    fn expected_number(number: u64) -> u64 {
         number
     }
 }
@@ -232,11 +232,11 @@ impl Sample for Counted {
         Counted::new(ledger, number)
     }
 
-    fn told(&self) -> u64 {
+    fn kept_number(&self) -> u64 {
         self.number
     }
 
-    fn telling(number: u64) -> u64 {
+    fn expected_number(number: u64) -> u64 {
         number
     }
 }
@@ -259,14 +259,14 @@ impl Sample for Inner {
         list
     }
 
-    fn told(&self) -> u64 {
+    fn kept_number(&self) -> u64 {
         match self.as_slice() {
             [number] => *number,
             _ => u64::MAX,
         }
     }
 
-    fn telling(number: u64) -> u64 {
+    fn expected_number(number: u64) -> u64 {
         number
     }
 }

@@ -104,7 +104,7 @@ fn ends(scope: &Scope) -> (usize, usize) {
 }
 
 #[test]
-fn each_scope_has_its_shapes(rt: HostRuntime) {
+fn each_scope_has_expected_shapes(rt: HostRuntime) {
     let alloc = rt.alloc();
     assert_eq!(rt; ends(&all::<u8, _>(&rt, alloc)), (0, 110));
     assert_eq!(rt; ends(&all::<Inner, _>(&rt, alloc)), (0, 107));
@@ -123,7 +123,7 @@ fn sweeps_edits_of_units(rt: HostRuntime) {
 }
 
 #[test]
-fn sweeps_readings_and_makings_of_units(rt: HostRuntime) {
+fn sweeps_reads_and_constructions_of_units(rt: HostRuntime) {
     readings_and_copies::<(), _>(&rt, rt.alloc());
 }
 
@@ -138,7 +138,7 @@ fn sweeps_edits_of_u8(rt: HostRuntime) {
 }
 
 #[test]
-fn sweeps_readings_and_makings_of_u8(rt: HostRuntime) {
+fn sweeps_reads_and_constructions_of_u8(rt: HostRuntime) {
     readings_and_copies::<u8, _>(&rt, rt.alloc());
 }
 
@@ -153,7 +153,7 @@ fn sweeps_edits_of_i32(rt: HostRuntime) {
 }
 
 #[test]
-fn sweeps_readings_and_makings_of_i32(rt: HostRuntime) {
+fn sweeps_reads_and_constructions_of_i32(rt: HostRuntime) {
     readings_and_copies::<i32, _>(&rt, rt.alloc());
 }
 
@@ -168,7 +168,7 @@ fn sweeps_edits_of_u64(rt: HostRuntime) {
 }
 
 #[test]
-fn sweeps_readings_and_makings_of_u64(rt: HostRuntime) {
+fn sweeps_reads_and_constructions_of_u64(rt: HostRuntime) {
     readings_and_copies::<u64, _>(&rt, rt.alloc());
 }
 
@@ -183,7 +183,7 @@ fn sweeps_edits_of_u128(rt: HostRuntime) {
 }
 
 #[test]
-fn sweeps_readings_and_makings_of_u128(rt: HostRuntime) {
+fn sweeps_reads_and_constructions_of_u128(rt: HostRuntime) {
     readings_and_copies::<u128, _>(&rt, rt.alloc());
 }
 
@@ -198,7 +198,7 @@ fn sweeps_edits_of_items_of_512_bytes(rt: HostRuntime) {
 }
 
 #[test]
-fn sweeps_readings_and_makings_of_items_of_512_bytes(rt: HostRuntime) {
+fn sweeps_reads_and_constructions_of_items_of_512_bytes(rt: HostRuntime) {
     readings_and_copies::<[u64; 64], _>(&rt, rt.alloc());
 }
 
@@ -213,7 +213,7 @@ fn sweeps_edits_of_counted_items(rt: HostRuntime) {
 }
 
 #[test]
-fn sweeps_readings_and_makings_of_counted_items(rt: HostRuntime) {
+fn sweeps_reads_and_constructions_of_counted_items(rt: HostRuntime) {
     readings::<Counted, _>(&rt, rt.alloc());
 }
 
@@ -228,42 +228,42 @@ fn sweeps_edits_of_lists_of_lists(rt: HostRuntime) {
 }
 
 #[test]
-fn sweeps_readings_and_makings_of_lists_of_lists(rt: HostRuntime) {
+fn sweeps_reads_and_constructions_of_lists_of_lists(rt: HostRuntime) {
     readings::<Inner, _>(&rt, rt.alloc());
 }
 
 #[test]
-fn sweeps_growths_of_u8_by_powers(rt: HostRuntime) {
+fn sweeps_growths_of_u8_under_power_bytes(rt: HostRuntime) {
     growths::<u8, PowerBytes, _>(&rt, rt.alloc());
 }
 
 #[test]
-fn sweeps_growths_of_i32_by_powers(rt: HostRuntime) {
+fn sweeps_growths_of_i32_under_power_bytes(rt: HostRuntime) {
     growths::<i32, PowerBytes, _>(&rt, rt.alloc());
 }
 
 #[test]
-fn sweeps_growths_of_items_of_512_bytes_by_powers(rt: HostRuntime) {
+fn sweeps_growths_of_items_of_512_bytes_under_power_bytes(rt: HostRuntime) {
     growths::<[u64; 64], PowerBytes, _>(&rt, rt.alloc());
 }
 
 #[test]
-fn sweeps_growths_of_i32_by_threes(rt: HostRuntime) {
+fn sweeps_growths_of_i32_under_threefold(rt: HostRuntime) {
     growths::<i32, Threefold, _>(&rt, rt.alloc());
 }
 
 #[test]
-fn sweeps_growths_of_i32_by_fours(rt: HostRuntime) {
+fn sweeps_growths_of_i32_under_fourfold(rt: HostRuntime) {
     growths::<i32, Fourfold, _>(&rt, rt.alloc());
 }
 
 #[test]
-fn sweeps_edits_of_i32_by_powers(rt: HostRuntime) {
+fn sweeps_edits_of_i32_under_power_bytes(rt: HostRuntime) {
     edits::<i32, PowerBytes, _>(&rt, rt.alloc());
 }
 
 #[test]
-fn sweeps_readings_of_i32_by_powers(rt: HostRuntime) {
+fn sweeps_reads_of_i32_under_power_bytes(rt: HostRuntime) {
     let scope = all::<i32, _>(&rt, rt.alloc());
     every_reading::<i32, PowerBytes, _>(&rt, &scope);
     assert_swept(&rt, &scope, 4_000, 500);
@@ -343,7 +343,7 @@ fn sweeps_filters_of_a_long_list(rt: HostRuntime) {
 }
 
 #[test]
-fn sweeps_readings_and_makings_of_a_long_list(rt: HostRuntime) {
+fn sweeps_reads_and_constructions_of_a_long_list(rt: HostRuntime) {
     let scope = longest(&rt, rt.alloc());
     every_reading::<Counted, Doubling, _>(&rt, &scope);
     every_making::<Counted, _>(&rt, &scope);

@@ -7,8 +7,7 @@ use Rattle.std.specs.List.{remove_range}
 use Rattle.std.specs.Option.{option_to_list}
 use Rattle.std.specs.Vec.Iter.{into_iter_items}
 use Rattle.thin_vec.specs.Cheap.{IsCheap}
-use Rattle.thin_vec.specs.List.Extend.{IsExtended, IsLoose, MayOverflow, MustOverflow}
-use Rattle.thin_vec.specs.Edits.Splice.{IsSpliced}
+use Rattle.thin_vec.specs.List.Extend.{CostsAdding, IsExtended, IsLoose, FailsAtHint}
 use Rattle.thin_vec.specs.Growth.{Rule}
 use Rattle.thin_vec.specs.ThinVec.{HasRoomFor, IsWithin, Thin, capacity_for}
 use Rattle.thin_vec.specs.declared.ThinVecError.{ThinVecError}
@@ -36,7 +35,7 @@ module _ {T A : Type 0} (rule : Rule) (R : RattleType) (old : Thin T A) (a b : �
     pub ruled : IsExtended rule R (cut old a b) new.capacity (length new.items) (at_most most)
     pub within : IsWithin R new
     pub had_room : HasRoomFor (cut old a b) most → new.capacity ≡ old.capacity
-    pub cost : IsSpliced (cut old a b) new (2 * (length old.items - b))
+    pub cost : CostsAdding (cut old a b) new (2 * (length old.items - b))
     pub cheap : IsCheap old → IsCheap new
     pub alloc : new.alloc ≡ old.alloc
 
@@ -52,13 +51,9 @@ module _ {T A : Type 0} (rule : Rule) (R : RattleType) (old : Thin T A) (a b : �
     pub claim : rest.lower ≡ lower
     pub filled : Replaces placed (lower + length xs) new
     pub no_room : ¬ (HasPlacesFor old a b (lower + length xs))
-    -- without an item held or in hand, the cause is an overflow if each allowed hint overflows, and
-    -- only if some allowed hint does
+    -- without an item held or in hand, room for a hint could not be reserved
     pub by_hint : held ≡ [] → in_hand ≡ None
-        → (MustOverflow rule R new (at_most (rest.lower + length (into_iter_items rest.items)))
-        → cause ≡ CapacityOverflow)
-        × (cause ≡ CapacityOverflow
-        → MayOverflow rule R new (at_most (rest.lower + length (into_iter_items rest.items))))
+        → FailsAtHint rule R new (at_most (rest.lower + length (into_iter_items rest.items))) cause
     -- with items held and none in hand, it is one if and only if no capacity is ruled for the items
     pub by_held : 0 < length held → in_hand ≡ None
         → (cause ≡ CapacityOverflow) ↔ (capacity_for rule R new (length held) ≡ None)

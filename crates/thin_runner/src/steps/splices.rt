@@ -39,14 +39,8 @@ impl<T: Clone + Eq, A: Allocator + Copy, G: Growth, J: Judge<T>> Setting<T, A, G
         let mut splice = list.splice(start, end, Hinted::new(items, lower));
         walk(&mut splice, steps, &mut answers);
         match splice.finish(self.alloc) {
-            Ok(()) => {
-                // This call tells the prover that the items are within the capacity, which fits.
-                let _capacity = list.capacity();
-                Reply::Answers(answers)
-            }
+            Ok(()) => Reply::Answers(answers),
             Err(refused) => {
-                // This call tells the prover that the items are within the capacity, which fits.
-                let _capacity = list.capacity();
                 let SpliceRefused {
                     cause,
                     held,

@@ -156,8 +156,8 @@ pub fn undo<L: List<B>, B: List<u8>>(alloc: Global, size: usize, times: usize) -
     Ok(sum)
 }
 
-/// Builds a tree of the depth `depth`, in which each node above the leaves has `width` children, and
-/// visits all its nodes, `times` times.
+/// Builds a tree of the depth `depth`, in which each node above the leaves has `width` children,
+/// and visits all its nodes, `times` times.
 ///
 /// # Errors
 ///

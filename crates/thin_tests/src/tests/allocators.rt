@@ -10,55 +10,68 @@ use thin_testing::Refusing;
 use thin_vec::ThinVec;
 
 // Pushes an item to a `Vec` of `len` items, and asserts that it then has one item more.
-fn pushed<A: Allocator>(rt: &impl Abort, mut vec: Vec<i32, A>, len: usize) -> Vec<i32, A> {
+fn push_one_more<A: Allocator>(rt: &impl Abort, mut vec: Vec<i32, A>, len: usize) -> Vec<i32, A> {
     vec.push(9).ok().expect(rt, "memory");
     assert_same(rt, vec.len(), len.saturating_add(1));
     vec
 }
 
 // Moves the items of the list into a `Vec` on `alloc`, and pushes one more item.
-fn in_vec<A: Allocator>(rt: &impl Abort, list: ThinVec<i32, A>, alloc: A) -> Vec<i32, A> {
+fn move_into_vec<A: Allocator>(rt: &impl Abort, list: ThinVec<i32, A>, alloc: A) -> Vec<i32, A> {
     let len = list.len();
     let vec = list.into_vec(alloc).ok().expect(rt, "memory");
-    pushed(rt, vec, len)
+    push_one_more(rt, vec, len)
 }
 
-// Does the same as `in_vec`, but converts the list to a boxed slice first.
-fn in_boxed_slice<A: Allocator>(rt: &impl Abort, list: ThinVec<i32, A>, alloc: A) -> Vec<i32, A> {
+// Does the same as `move_into_vec`, but converts the list to a boxed slice first.
+fn move_into_boxed_slice<A: Allocator>(
+    rt: &impl Abort,
+    list: ThinVec<i32, A>,
+    alloc: A,
+) -> Vec<i32, A> {
     let len = list.len();
     let boxed = list.into_boxed_slice(alloc).ok().expect(rt, "memory");
-    pushed(rt, boxed.into_vec(), len)
+    push_one_more(rt, boxed.into_vec(), len)
 }
 
-// Splits off the whole list as a second list on `alloc`, and then does the same as `in_vec` with
-// the second list.
-fn in_split_list<A: Allocator + Copy>(
+// Splits off the whole list as a second list on `alloc`, and then does the same as `move_into_vec`
+// with the second list.
+fn split_off_into_vec<A: Allocator + Copy>(
     rt: &impl Abort,
     mut list: ThinVec<i32, A>,
     alloc: A,
 ) -> Vec<i32, A> {
     let tail = list.split_off(alloc, 0).expect(rt, "memory");
     drop(list);
-    in_vec(rt, tail, alloc)
+    move_into_vec(rt, tail, alloc)
 }
 
-// Clones the list on `alloc`, and then does the same as `in_vec` with the clone.
-fn in_clone<A: Allocator + Copy>(rt: &impl Abort, list: ThinVec<i32, A>, alloc: A) -> Vec<i32, A> {
+// Clones the list on `alloc`, and then does the same as `move_into_vec` with the clone.
+fn clone_into_vec<A: Allocator + Copy>(
+    rt: &impl Abort,
+    list: ThinVec<i32, A>,
+    alloc: A,
+) -> Vec<i32, A> {
     let clone = list.clone(alloc).expect(rt, "memory");
     drop(list);
-    in_vec(rt, clone, alloc)
+    move_into_vec(rt, clone, alloc)
 }
 
-// Copies the list by `clone_copies` on `alloc`, and then does the same as `in_vec` with the copy.
-fn in_copy<A: Allocator + Copy>(rt: &impl Abort, list: ThinVec<i32, A>, alloc: A) -> Vec<i32, A> {
+// Copies the list by `clone_copies` on `alloc`, and then does the same as `move_into_vec` with the
+// copy.
+fn copy_into_vec<A: Allocator + Copy>(
+    rt: &impl Abort,
+    list: ThinVec<i32, A>,
+    alloc: A,
+) -> Vec<i32, A> {
     let copy = list.clone_copies(alloc).expect(rt, "memory");
     drop(list);
-    in_vec(rt, copy, alloc)
+    move_into_vec(rt, copy, alloc)
 }
 
 // Converts the list to an iterator, clones the iterator on `alloc`, and extends a new list by this
-// clone. Then does the same as `in_vec` with the new list.
-fn in_second_iter<A: Allocator + Copy>(
+// clone. Then does the same as `move_into_vec` with the new list.
+fn clone_iter_into_vec<A: Allocator + Copy>(
     rt: &impl Abort,
     list: ThinVec<i32, A>,
     alloc: A,
@@ -68,34 +81,34 @@ fn in_second_iter<A: Allocator + Copy>(
     drop(items);
     let mut list = ThinVec::new(alloc);
     list.extend(clone).ok().expect(rt, "memory");
-    in_vec(rt, list, alloc)
+    move_into_vec(rt, list, alloc)
 }
 
 // Moves the items of `list` into a `Vec` on `other`, by one of the six functions above: the one
 // with the number `way`.
-fn moved(
+fn move_by_way(
     rt: &impl Abort,
     way: u32,
     list: ThinVec<i32, &'static Refusing<Global>>,
     other: &'static Refusing<Global>,
 ) -> Vec<i32, &'static Refusing<Global>> {
     match way {
-        0 => in_vec(rt, list, other),
-        1 => in_boxed_slice(rt, list, other),
-        2 => in_split_list(rt, list, other),
-        3 => in_clone(rt, list, other),
-        4 => in_copy(rt, list, other),
-        _ => in_second_iter(rt, list, other),
+        0 => move_into_vec(rt, list, other),
+        1 => move_into_boxed_slice(rt, list, other),
+        2 => split_off_into_vec(rt, list, other),
+        3 => clone_into_vec(rt, list, other),
+        4 => copy_into_vec(rt, list, other),
+        _ => clone_iter_into_vec(rt, list, other),
     }
 }
 
 // Moves a list of these items to another allocator by each of the six functions above. Asserts each
 // time that the list's own allocator has no block left, and that the other allocator has one block.
-fn assert_moved(rt: &impl Abort, alloc: Global, items: &[i32]) {
+fn assert_each_way_moves_the_block(rt: &impl Abort, alloc: Global, items: &[i32]) {
     let own = refusing_nth(rt, alloc, 0);
     let other = refusing_nth(rt, alloc, 0);
     for way in 0..6 {
-        let made = moved(rt, way, list_of(rt, own, items), other);
+        let made = move_by_way(rt, way, list_of(rt, own, items), other);
         assert_same(rt, (way, own.blocks(), other.blocks()), (way, 0, 1));
         drop(made);
     }
@@ -103,13 +116,13 @@ fn assert_moved(rt: &impl Abort, alloc: Global, items: &[i32]) {
 }
 
 #[test]
-fn what_a_call_makes_is_on_the_allocator_passed(rt: HostRuntime) {
-    assert_moved(&rt, rt.alloc(), &[]);
-    assert_moved(&rt, rt.alloc(), &[1, 2, 3]);
+fn calls_allocate_results_on_the_allocator_passed(rt: HostRuntime) {
+    assert_each_way_moves_the_block(&rt, rt.alloc(), &[]);
+    assert_each_way_moves_the_block(&rt, rt.alloc(), &[1, 2, 3]);
 }
 
 #[test]
-fn a_splice_holds_on_the_allocator_passed(rt: HostRuntime) {
+fn finish_holds_items_back_on_the_allocator_passed(rt: HostRuntime) {
     let own = refusing_nth(&rt, rt.alloc(), 0);
     let other = refusing_nth(&rt, rt.alloc(), 0);
     let mut list = list_of(&rt, own, &[1, 2, 3]);

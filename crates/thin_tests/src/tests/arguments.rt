@@ -5,37 +5,37 @@ use std::cell::Cell;
 use std::process::Abort;
 use thin_vec::thin_vec;
 
-// Returns `value`, and appends `digit` to the decimal digits of the number in `evaluated`.
-fn told<V>(evaluated: &Cell<u32>, digit: u32, value: V) -> V {
-    evaluated.set(evaluated.get().wrapping_mul(10).wrapping_add(digit));
+// Returns `value`, and appends `digit` to the decimal digits of the number in `order`.
+fn note<V>(order: &Cell<u32>, digit: u32, value: V) -> V {
+    order.set(order.get().wrapping_mul(10).wrapping_add(digit));
     value
 }
 
 // Tests the form that lists its items: `thin_vec![alloc => x, y]`.
-fn of_items(rt: &impl Abort, alloc: Global, told_of: &Cell<u32>) {
-    let list = thin_vec![told(told_of, 1, alloc) => told(told_of, 2, 7), told(told_of, 3, 8),];
+fn assert_order_with_listed_items(rt: &impl Abort, alloc: Global, order: &Cell<u32>) {
+    let list = thin_vec![note(order, 1, alloc) => note(order, 2, 7), note(order, 3, 8),];
     assert_list(rt, &list.expect(rt, "memory"), &[7, 8], 2);
-    assert_same(rt, told_of.take(), 123);
+    assert_same(rt, order.take(), 123);
 }
 
 // Tests the form that repeats one item: `thin_vec![alloc => x; n]`.
-fn of_a_number(rt: &impl Abort, alloc: Global, told_of: &Cell<u32>) {
-    let list = thin_vec![told(told_of, 1, alloc) => told(told_of, 2, 7); told(told_of, 3, 2)];
+fn assert_order_with_repeated_item(rt: &impl Abort, alloc: Global, order: &Cell<u32>) {
+    let list = thin_vec![note(order, 1, alloc) => note(order, 2, 7); note(order, 3, 2)];
     assert_list(rt, &list.expect(rt, "memory"), &[7, 7], 4);
-    assert_same(rt, told_of.take(), 123);
+    assert_same(rt, order.take(), 123);
 }
 
 // Tests the form without items: `thin_vec![alloc =>]`.
-fn of_nothing(rt: &impl Abort, alloc: Global, told_of: &Cell<u32>) {
-    let list = thin_vec![told(told_of, 1, alloc) =>];
+fn assert_order_without_items(rt: &impl Abort, alloc: Global, order: &Cell<u32>) {
+    let list = thin_vec![note(order, 1, alloc) =>];
     assert_list(rt, &list.expect(rt, "memory"), &[], 0);
-    assert_same(rt, told_of.take(), 1);
+    assert_same(rt, order.take(), 1);
 }
 
 #[test]
 fn evaluates_each_argument_once_and_in_order(rt: HostRuntime) {
-    let told_of = Cell::new(0);
-    of_items(&rt, rt.alloc(), &told_of);
-    of_a_number(&rt, rt.alloc(), &told_of);
-    of_nothing(&rt, rt.alloc(), &told_of);
+    let order = Cell::new(0);
+    assert_order_with_listed_items(&rt, rt.alloc(), &order);
+    assert_order_with_repeated_item(&rt, rt.alloc(), &order);
+    assert_order_without_items(&rt, rt.alloc(), &order);
 }

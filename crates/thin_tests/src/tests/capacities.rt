@@ -14,7 +14,7 @@ fn assert_cleared(rt: &impl Abort, list: &mut ThinVec<i32>, capacity: usize) {
 }
 
 #[test]
-fn test_clear(rt: HostRuntime) {
+fn clear_keeps_the_capacity(rt: HostRuntime) {
     let mut list = ThinVec::new(rt.alloc());
     assert_cleared(&rt, &mut list, 0);
     push_all(&rt, &mut list, 1..3);
@@ -32,7 +32,7 @@ fn assert_pushed(rt: &impl Abort, list: &mut ThinVec<i32>, items: Range<i32>, ca
     assert_same(rt, list.capacity(), capacity);
 }
 
-// Reserves room for `additional` items, and asserts that the list then has this capacity.
+// Reserves room for `additional` items, and asserts that the capacity is then `capacity`.
 fn assert_reserved(rt: &impl Abort, list: &mut ThinVec<i32>, additional: usize, capacity: usize) {
     list.reserve(additional).expect(rt, "memory");
     assert_same(rt, list.capacity(), capacity);
@@ -50,7 +50,7 @@ fn assert_reserved_exact(
 }
 
 #[test]
-fn test_reserve(rt: HostRuntime) {
+fn reserve_follows_doubling(rt: HostRuntime) {
     let mut list = ThinVec::new(rt.alloc());
     assert_reserved(&rt, &mut list, 2, 4);
     assert_pushed(&rt, &mut list, 0..16, 16);
@@ -60,7 +60,7 @@ fn test_reserve(rt: HostRuntime) {
 }
 
 #[test]
-fn test_reserve_exact(rt: HostRuntime) {
+fn reserve_exact_reserves_no_more_than_needed(rt: HostRuntime) {
     let mut list = ThinVec::new(rt.alloc());
     assert_reserved_exact(&rt, &mut list, 2, 2);
     assert_pushed(&rt, &mut list, 0..16, 16);
@@ -79,7 +79,7 @@ fn assert_overflows<T: Drop>(rt: &impl Abort, alloc: &'static Refusing<Global>, 
 // Capacities that are too large are refused with `CapacityOverflow`, and each overflow is detected
 // before any memory is requested.
 #[test]
-fn test_capacity_overflow(rt: HostRuntime) {
+fn with_capacity_detects_overflow_before_any_request(rt: HostRuntime) {
     let refusing = refusing_nth(&rt, rt.alloc(), 0);
     let most = isize::MAX as usize;
     for capacity in [most - 16, most - 2, most, most + 1] {

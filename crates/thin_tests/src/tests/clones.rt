@@ -1,4 +1,4 @@
-//! Tests of the calls that clone items, also if a clone fails.
+//! Tests of the calls that clone items, including when a clone fails.
 use crate::tests::support::assertions::{assert_len, assert_list, assert_same};
 use crate::tests::support::items::{boxes_of, push_all};
 use crate::tests::support::scarce::Scarce;
@@ -16,7 +16,7 @@ fn assert_cloned(rt: &impl Abort, alloc: Global, items: &[i32]) {
 }
 
 #[test]
-fn test_clone(rt: HostRuntime) {
+fn clone_has_no_spare_capacity(rt: HostRuntime) {
     let alloc = rt.alloc();
     assert_cloned(&rt, alloc, &[]);
     assert_cloned(&rt, alloc, &[1, 2, 3]);
@@ -30,7 +30,7 @@ fn test_clone(rt: HostRuntime) {
 }
 
 #[test]
-fn test_clone_from(rt: HostRuntime) {
+fn clone_clones_boxed_items(rt: HostRuntime) {
     let alloc = rt.alloc();
     let three = boxes_of(alloc, &[1, 2, 3]).expect(&rt, "memory");
     let two = boxes_of(alloc, &[4, 5]).expect(&rt, "memory");
@@ -43,7 +43,7 @@ fn test_clone_from(rt: HostRuntime) {
 
 // Appends clones of `items`, and asserts that the call returns `answer`, and that the list then has
 // `len` items and the capacity 4.
-fn extend_scarcely<'a>(
+fn assert_extended<'a>(
     rt: &impl Abort,
     list: &mut ThinVec<Scarce<'a>, Global>,
     items: &[Scarce<'a>],
@@ -56,28 +56,38 @@ fn extend_scarcely<'a>(
 
 // Appends clones of three items to a list of one item, twice. The first time, only one clone
 // succeeds, so that the call fails and drops this clone. The second time, all three clones succeed.
-fn extend_twice(rt: &impl Abort, alloc: Global, drops: &Cell<u32>, granted: &Cell<u32>) {
+fn assert_extended_at_second_try(
+    rt: &impl Abort,
+    alloc: Global,
+    drops: &Cell<u32>,
+    granted: &Cell<u32>,
+) {
     let item = || Scarce::new(drops, granted);
     let three = [item(), item(), item()];
     let mut list = thin_vec![alloc => item()].expect(rt, "memory");
-    extend_scarcely(rt, &mut list, &three, Err(ThinVecError::OutOfMemory), 1);
+    assert_extended(rt, &mut list, &three, Err(ThinVecError::OutOfMemory), 1);
     assert_same(rt, drops.get(), 1);
     granted.set(3);
-    extend_scarcely(rt, &mut list, &three, Ok(()), 4);
+    assert_extended(rt, &mut list, &three, Ok(()), 4);
     assert_same(rt, drops.get(), 1);
 }
 
 #[test]
-fn row_37_clone_refused(rt: HostRuntime) {
+fn row_37_extend_from_slice_drops_its_clones_if_one_fails(rt: HostRuntime) {
     let drops = Cell::new(0);
     let granted = Cell::new(1);
-    extend_twice(&rt, rt.alloc(), &drops, &granted);
+    assert_extended_at_second_try(&rt, rt.alloc(), &drops, &granted);
     assert_same(&rt, drops.get(), 8);
 }
 
 // Replaces the first of two items by clones of three items. Only `granted` of the clones succeed,
 // which are fewer than three: asserts that the call fails and drops the clones that it made.
-fn replace_scarcely(rt: &impl Abort, alloc: Global, drops: &Cell<u32>, granted: &Cell<u32>) {
+fn assert_replace_range_fails(
+    rt: &impl Abort,
+    alloc: Global,
+    drops: &Cell<u32>,
+    granted: &Cell<u32>,
+) {
     let item = || Scarce::new(drops, granted);
     let three = [item(), item(), item()];
     let mut list = thin_vec![alloc => item(), item()].expect(rt, "memory");
@@ -93,11 +103,11 @@ fn replace_scarcely(rt: &impl Abort, alloc: Global, drops: &Cell<u32>, granted: 
 }
 
 #[test]
-fn a_refused_replace_range_drops_its_clones(rt: HostRuntime) {
+fn replace_range_drops_its_clones_if_one_fails(rt: HostRuntime) {
     for count in 0..3 {
         let drops = Cell::new(0);
         let granted = Cell::new(count);
-        replace_scarcely(&rt, rt.alloc(), &drops, &granted);
+        assert_replace_range_fails(&rt, rt.alloc(), &drops, &granted);
         assert_same(&rt, drops.get(), count.saturating_add(5));
     }
 }

@@ -3,7 +3,7 @@ use crate::tests::support::assertions::assert_same;
 use crate::tests::support::items::list_of;
 
 #[test]
-fn test_partial_eq(rt: HostRuntime) {
+fn compares_lists_by_their_items(rt: HostRuntime) {
     let alloc = rt.alloc();
     let (zero, one) = (list_of(&rt, alloc, &[0]), list_of(&rt, alloc, &[1]));
     assert_same(&rt, zero == list_of(&rt, alloc, &[0]), true);

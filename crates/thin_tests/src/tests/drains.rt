@@ -14,7 +14,7 @@ use thin_vec::{Drain, Growth, ThinVec, ThinVecError, bounds};
 
 /// Removes the items from `start` up to `end` from the list, and returns the greatest of them, or
 /// `least` if that is greater.
-pub fn greatest_out(list: &mut ThinVec<u32, Global>, start: usize, end: usize, least: u32) -> u32
+pub fn drain_greatest(list: &mut ThinVec<u32, Global>, start: usize, end: usize, least: u32) -> u32
     requires start_le_end { start ≤ end }
     requires in_bounds { end ≤ length list.old.items }
     ensures value { result ≡ fold max least (slice_range list.old.items start end) }
@@ -30,7 +30,7 @@ pub fn greatest_out(list: &mut ThinVec<u32, Global>, start: usize, end: usize, l
 
 /// Removes the items from `start` up to `end`, and returns the first of them, if any. The `Drain`
 /// is dropped after this one item; the items before and after the range stay in the list.
-pub fn without<T: Drop, A: Allocator, G: Growth>(
+pub fn drain_first<T: Drop, A: Allocator, G: Growth>(
     list: &mut ThinVec<T, A, G>,
     start: usize,
     end: usize,
@@ -65,7 +65,7 @@ pub fn extend_by_range(
 }
 
 /// Removes the items from `start` up to `end`, and returns them in a `Vec`.
-pub fn collected(
+pub fn drain_into_vec(
     list: &mut ThinVec<u32, Global>,
     start: usize,
     end: usize,
@@ -79,7 +79,7 @@ pub fn collected(
 }
 
 /// Removes the items from `start` up to `end`, and returns them in a `Vec`, in reverse order.
-pub fn reversed(
+pub fn drain_reversed(
     list: &mut ThinVec<u32, Global>,
     start: usize,
     end: usize,
@@ -107,36 +107,36 @@ pub fn drain_between<T: Drop, A: Allocator, G: Growth>(
 }
 
 // Drains the range, from the front or from the back. Asserts that the drain yields the items in
-// `given`, that the list then has the items in `left`, and that its capacity does not change.
+// `wanted`, that the list then has the items in `left`, and that its capacity does not change.
 fn assert_drained<T: PartialEq + std::fmt::Debug + Drop, A: Allocator>(
     rt: &impl Abort,
     mut list: ThinVec<T, A>,
     range: (Bound<usize>, Bound<usize>),
     is_reverse: bool,
-    given: &[T],
+    wanted: &[T],
     left: &[T],
 ) {
     let capacity = list.capacity();
     {
         let mut drain = drain_between(&mut list, range.0, range.1).expect(rt, "a range");
-        assert_given(rt, &mut drain, is_reverse, given);
+        assert_yields(rt, &mut drain, is_reverse, wanted);
     }
     assert_items(rt, list.as_slice(), left);
     assert_same(rt, list.capacity(), capacity);
 }
 
-// Asserts that the drain yields the items in `given`, from the front or from the back, and then
+// Asserts that the drain yields the items in `wanted`, from the front or from the back, and then
 // `None` from both ends.
-fn assert_given<T: PartialEq + std::fmt::Debug + Drop, A: Allocator>(
+fn assert_yields<T: PartialEq + std::fmt::Debug + Drop, A: Allocator>(
     rt: &impl Abort,
     drain: &mut Drain<'_, T, A>,
     is_reverse: bool,
-    given: &[T],
+    wanted: &[T],
 ) {
-    assert_items(rt, drain.as_slice(), given);
-    assert_same(rt, drain.size_hint(), (given.len(), Some(given.len())));
-    let mut items = given.iter();
-    for _ in 0..given.len() {
+    assert_items(rt, drain.as_slice(), wanted);
+    assert_same(rt, drain.size_hint(), (wanted.len(), Some(wanted.len())));
+    let mut items = wanted.iter();
+    for _ in 0..wanted.len() {
         if is_reverse {
             assert_same(rt, drain.next_back().as_ref(), items.next_back());
         } else {
@@ -150,25 +150,25 @@ fn assert_given<T: PartialEq + std::fmt::Debug + Drop, A: Allocator>(
 const ALL: (Bound<usize>, Bound<usize>) = (Bound::Unbounded, Bound::Unbounded);
 
 #[test]
-fn test_drain_items(rt: HostRuntime) {
+fn drain_yields_all_items(rt: HostRuntime) {
     let list = list_of(&rt, rt.alloc(), &[1, 2, 3]);
     assert_drained(&rt, list, ALL, false, &[1, 2, 3], &[]);
 }
 
 #[test]
-fn test_drain_items_reverse(rt: HostRuntime) {
+fn drain_yields_all_items_from_the_back(rt: HostRuntime) {
     let list = list_of(&rt, rt.alloc(), &[1, 2, 3]);
     assert_drained(&rt, list, ALL, true, &[1, 2, 3], &[]);
 }
 
 #[test]
-fn test_drain_items_zero_sized(rt: HostRuntime) {
+fn drain_yields_zero_sized_items(rt: HostRuntime) {
     let list = list_of(&rt, rt.alloc(), &[(), (), ()]);
     assert_drained(&rt, list, ALL, false, &[(), (), ()], &[]);
 }
 
 #[test]
-fn test_drain_range(rt: HostRuntime) {
+fn drain_yields_the_last_item(rt: HostRuntime) {
     let from_four = (Bound::Included(4), Bound::Unbounded);
     let numbers = list_of(&rt, rt.alloc(), &[1, 2, 3, 4, 5]);
     assert_drained(&rt, numbers, from_four, false, &[5], &[1, 2, 3, 4]);
@@ -177,32 +177,32 @@ fn test_drain_range(rt: HostRuntime) {
 const INNER: (Bound<usize>, Bound<usize>) = (Bound::Included(1), Bound::Excluded(4));
 
 #[test]
-fn test_drain_range_of_texts(rt: HostRuntime) {
+fn drain_yields_an_inner_range(rt: HostRuntime) {
     let texts = list_of(&rt, rt.alloc(), &["1", "2", "3", "4", "5"]);
     assert_drained(&rt, texts, INNER, false, &["2", "3", "4"], &["1", "5"]);
 }
 
 #[test]
-fn test_drain_range_of_texts_reverse(rt: HostRuntime) {
+fn drain_yields_an_inner_range_from_the_back(rt: HostRuntime) {
     let texts = list_of(&rt, rt.alloc(), &["1", "2", "3", "4", "5"]);
     assert_drained(&rt, texts, INNER, true, &["2", "3", "4"], &["1", "5"]);
 }
 
 #[test]
-fn test_drain_range_zero_sized(rt: HostRuntime) {
+fn drain_yields_an_inner_range_of_zero_sized_items(rt: HostRuntime) {
     let units = list_of(&rt, rt.alloc(), &[(), (), (), (), ()]);
     assert_drained(&rt, units, INNER, false, &[(), (), ()], &[(), ()]);
 }
 
 #[test]
-fn test_drain_inclusive_range(rt: HostRuntime) {
+fn drain_yields_an_inclusive_range(rt: HostRuntime) {
     let letters = list_of(&rt, rt.alloc(), &['a', 'b', 'c', 'd', 'e']);
     let inner = (Bound::Included(1), Bound::Included(3));
     assert_drained(&rt, letters, inner, false, &['b', 'c', 'd'], &['a', 'e']);
 }
 
 #[test]
-fn test_drain_inclusive_range_to_the_first(rt: HostRuntime) {
+fn drain_yields_an_inclusive_range_of_the_first_item(rt: HostRuntime) {
     let texts = list_of(&rt, rt.alloc(), &["0", "1"]);
     let first = (Bound::Unbounded, Bound::Included(0));
     assert_drained(&rt, texts, first, false, &["0"], &["1"]);
@@ -214,12 +214,12 @@ fn assert_texts_drained<R: Abort>(
     rt: &R,
     alloc: Global,
     (first, last): (usize, usize),
-    given: &[&'static str],
+    wanted: &[&'static str],
     left: &[&'static str],
 ) {
     let texts = ThinVec::from_slice(alloc, &["0", "1", "2", "3", "4", "5"]).expect(rt, "memory");
     let range = (Bound::Included(first), Bound::Included(last));
-    assert_drained(rt, texts, range, false, given, left);
+    assert_drained(rt, texts, range, false, wanted, left);
 }
 
 // The first and the last index of a range, the texts that its drain yields, and the texts that are
@@ -237,14 +237,14 @@ const DRAINED: [Drained; 3] = [
 ];
 
 #[test]
-fn test_drain_inclusive_range_of_texts(rt: HostRuntime) {
-    for (range, given, left) in &DRAINED {
-        assert_texts_drained(&rt, rt.alloc(), *range, given, left);
+fn drain_yields_inclusive_ranges_at_each_end(rt: HostRuntime) {
+    for (range, wanted, left) in &DRAINED {
+        assert_texts_drained(&rt, rt.alloc(), *range, wanted, left);
     }
 }
 
 #[test]
-fn what_an_extend_by_a_drain_leaves(rt: HostRuntime) {
+fn extend_by_drain_moves_the_range(rt: HostRuntime) {
     let mut list = list_of(&rt, rt.alloc(), &[1, 2, 3, 4]);
     let mut other = list_of(&rt, rt.alloc(), &[9]);
     assert_len(&rt, &list, 4);
@@ -254,21 +254,21 @@ fn what_an_extend_by_a_drain_leaves(rt: HostRuntime) {
 }
 
 #[test]
-fn collects_what_it_drains(rt: HostRuntime) {
+fn collect_gathers_drained_items(rt: HostRuntime) {
     let alloc = rt.alloc();
     let mut list = list_of(&rt, alloc, &[1u32, 2, 3, 4, 5, 6]);
     assert_len(&rt, &list, 6);
-    let front = collected(&mut list, 1, 3, alloc).expect(&rt, "memory");
+    let front = drain_into_vec(&mut list, 1, 3, alloc).expect(&rt, "memory");
     assert_items(&rt, front.as_slice(), &[2, 3]);
     assert_items(&rt, list.as_slice(), &[1, 4, 5, 6]);
     assert_len(&rt, &list, 4);
-    let back = reversed(&mut list, 0, 2, alloc).expect(&rt, "memory");
+    let back = drain_reversed(&mut list, 0, 2, alloc).expect(&rt, "memory");
     assert_items(&rt, back.as_slice(), &[4, 1]);
     assert_items(&rt, list.as_slice(), &[5, 6]);
 }
 
 #[test]
-fn a_forgotten_drain_leaves_a_list(rt: HostRuntime) {
+fn list_is_usable_if_its_drain_is_forgotten(rt: HostRuntime) {
     let mut list = list_of(&rt, rt.alloc(), &[1, 2, 3]);
     assert_len(&rt, &list, 3);
     mem::forget(list.drain(1, 2));

@@ -8,7 +8,7 @@ use std::cell::Cell;
 use thin_vec::ThinVec;
 
 #[test]
-fn test_vec_truncate_drop(rt: HostRuntime) {
+fn truncate_drops_each_removed_item_once(rt: HostRuntime) {
     let drops = Cell::new(0);
     {
         let mut list = counted_list(&rt, rt.alloc(), &drops, 5);
@@ -27,7 +27,7 @@ struct TwoLists<'a> {
 }
 
 #[test]
-fn test_double_drop(rt: HostRuntime) {
+fn dropping_a_moved_list_drops_its_item_once(rt: HostRuntime) {
     let early_drops = Cell::new(0);
     let late_drops = Cell::new(0);
     {
@@ -44,7 +44,7 @@ fn test_double_drop(rt: HostRuntime) {
 }
 
 #[test]
-fn test_drop_empty(rt: HostRuntime) {
+fn dropping_an_empty_list_makes_no_request(rt: HostRuntime) {
     let refusing = refusing_nth(&rt, rt.alloc(), 1);
     {
         let _list = ThinVec::<u64, _>::new(refusing);

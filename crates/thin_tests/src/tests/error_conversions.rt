@@ -9,21 +9,21 @@ use std::process::Abort;
 use thin_vec::{CollectRefused, ExtendRefused, Rejected, SpliceRefused, ThinVecError};
 
 // Converts the error `refused` by `?`, and returns the result.
-fn passed_on<R, E: From<R>>(refused: R) -> Result<(), E> {
+fn convert<R, E: From<R>>(refused: R) -> Result<(), E> {
     Err(refused)?;
     Ok(())
 }
 
 // Converts `refused`, which holds `held` counted values, by `?`. Asserts that all of these values
 // are then dropped.
-fn assert_let_go<E: From<R> + Drop, R: Drop>(
+fn assert_conversion_drops<E: From<R> + Drop, R: Drop>(
     rt: &impl Abort,
     drops: &Cell<u32>,
     refused: R,
     held: u32,
 ) {
     assert_same(rt, drops.take(), 0);
-    assert_same(rt, passed_on::<R, E>(refused).is_err(), true);
+    assert_same(rt, convert::<R, E>(refused).is_err(), true);
     assert_same(rt, drops.take(), held);
 }
 
@@ -31,7 +31,7 @@ const CAUSE: ThinVecError = ThinVecError::OutOfMemory;
 
 // Asserts that the errors of a failed `push` and of a failed `extend` drop the values that they
 // hold. The iterator that the error of `extend` holds counts its drop too.
-fn let_one_go<'a, E>(rt: &impl Abort, drops: &'a Cell<u32>)
+fn assert_push_and_extend_errors_dropped<'a, E>(rt: &impl Abort, drops: &'a Cell<u32>)
 where
     E: From<Rejected<Counted<'a>>> + From<ExtendRefused<Counted<'a>, Counted<'a>>> + Drop,
 {
@@ -40,18 +40,22 @@ where
         value,
         cause: CAUSE,
     };
-    assert_let_go::<E, _>(rt, drops, rejected, 1);
+    assert_conversion_drops::<E, _>(rt, drops, rejected, 1);
     let extend = ExtendRefused {
         cause: CAUSE,
         in_hand: Some(Counted::new(drops)),
         rest: Counted::new(drops),
     };
-    assert_let_go::<E, _>(rt, drops, extend, 2);
+    assert_conversion_drops::<E, _>(rt, drops, extend, 2);
 }
 
 // Asserts that the errors of a failed `from_iter` and of a failed `finish` drop the values that
 // they hold.
-fn let_many_go<'a, E>(rt: &impl Abort, alloc: Global, drops: &'a Cell<u32>)
+fn assert_from_iter_and_finish_errors_dropped<'a, E>(
+    rt: &impl Abort,
+    alloc: Global,
+    drops: &'a Cell<u32>,
+)
 where
     E: From<CollectRefused<Counted<'a>, Counted<'a>>>
         + From<SpliceRefused<Counted<'a>, Counted<'a>>>
@@ -63,7 +67,7 @@ where
         in_hand: Some(Counted::new(drops)),
         rest: Counted::new(drops),
     };
-    assert_let_go::<E, _>(rt, drops, collect, 5);
+    assert_conversion_drops::<E, _>(rt, drops, collect, 5);
     let held = counted_list(rt, alloc, drops, 4).into_vec(alloc);
     let splice = SpliceRefused {
         cause: CAUSE,
@@ -71,26 +75,26 @@ where
         in_hand: Some(Counted::new(drops)),
         rest: Counted::new(drops),
     };
-    assert_let_go::<E, _>(rt, drops, splice, 6);
+    assert_conversion_drops::<E, _>(rt, drops, splice, 6);
 }
 
 #[test]
-fn a_cause_keeps_nothing_of_a_refusal(rt: HostRuntime) {
+fn converting_to_thin_vec_error_drops_the_refusal(rt: HostRuntime) {
     let drops = Cell::new(0);
-    let_one_go::<ThinVecError>(&rt, &drops);
-    let_many_go::<ThinVecError>(&rt, rt.alloc(), &drops);
+    assert_push_and_extend_errors_dropped::<ThinVecError>(&rt, &drops);
+    assert_from_iter_and_finish_errors_dropped::<ThinVecError>(&rt, rt.alloc(), &drops);
 }
 
 #[test]
-fn an_alloc_error_keeps_nothing_of_a_refusal(rt: HostRuntime) {
+fn converting_to_alloc_error_drops_the_refusal(rt: HostRuntime) {
     let drops = Cell::new(0);
-    let_one_go::<AllocError>(&rt, &drops);
-    let_many_go::<AllocError>(&rt, rt.alloc(), &drops);
+    assert_push_and_extend_errors_dropped::<AllocError>(&rt, &drops);
+    assert_from_iter_and_finish_errors_dropped::<AllocError>(&rt, rt.alloc(), &drops);
 }
 
 #[test]
-fn an_io_error_keeps_nothing_of_a_refusal(rt: HostRuntime) {
+fn converting_to_io_error_drops_the_refusal(rt: HostRuntime) {
     let drops = Cell::new(0);
-    let_one_go::<io::Error>(&rt, &drops);
-    let_many_go::<io::Error>(&rt, rt.alloc(), &drops);
+    assert_push_and_extend_errors_dropped::<io::Error>(&rt, &drops);
+    assert_from_iter_and_finish_errors_dropped::<io::Error>(&rt, rt.alloc(), &drops);
 }

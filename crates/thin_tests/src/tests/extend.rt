@@ -41,7 +41,7 @@ fn extend_by_clone(rt: &impl Abort, list: &mut ThinVec<i32>, alloc: Global) {
 }
 
 #[test]
-fn test_extend(rt: HostRuntime) {
+fn extend_appends_all_items(rt: HostRuntime) {
     let alloc = rt.alloc();
     let mut list = ThinVec::new(alloc);
     extend_by(&rt, &mut list, 0..0);
@@ -53,7 +53,7 @@ fn test_extend(rt: HostRuntime) {
 }
 
 #[test]
-fn test_extend_drops(rt: HostRuntime) {
+fn extend_moves_items_without_dropping_them(rt: HostRuntime) {
     let drops = Cell::new(0);
     extend_counted(&rt, rt.alloc(), &drops);
     assert_same(&rt, drops.get(), 1);
@@ -61,7 +61,7 @@ fn test_extend_drops(rt: HostRuntime) {
 }
 
 #[test]
-fn test_collect_capacity(rt: HostRuntime) {
+fn from_iter_has_no_spare_capacity_if_the_hint_is_exact(rt: HostRuntime) {
     for count in 0..20 {
         let list = ThinVec::from_iter(rt.alloc(), 0..count)
             .ok()
@@ -71,7 +71,7 @@ fn test_collect_capacity(rt: HostRuntime) {
 }
 
 #[test]
-fn row_26_extend_refused(rt: HostRuntime) {
+fn row_26_refused_extend_returns_the_item_in_hand(rt: HostRuntime) {
     let refusing = refusing_nth(&rt, rt.alloc(), 2);
     let mut list = ThinVec::new(refusing);
     let refused = list
@@ -94,7 +94,7 @@ fn row_26_extend_refused(rt: HostRuntime) {
 
 // Extends a list of three items by `count` numbers, through an iterator whose size hint has the
 // lower bound 0.
-fn extended_blindly(rt: &impl Abort, alloc: Global, count: i32) -> ThinVec<i32> {
+fn extended_without_hint(rt: &impl Abort, alloc: Global, count: i32) -> ThinVec<i32> {
     let mut list = list_of(rt, alloc, &[1, 2, 3]);
     let more = (0..count).filter(|_| true);
     list.extend(more).ok().expect(rt, "memory");
@@ -102,9 +102,9 @@ fn extended_blindly(rt: &impl Abort, alloc: Global, count: i32) -> ThinVec<i32> 
 }
 
 #[test]
-fn a_long_extend_is_not_refused(rt: HostRuntime) {
+fn extend_appends_hundreds_of_items_without_a_hint(rt: HostRuntime) {
     for count in 0..301 {
-        let list = extended_blindly(&rt, rt.alloc(), count);
+        let list = extended_without_hint(&rt, rt.alloc(), count);
         let len = usize::try_from(count).unwrap_or(0).saturating_add(3);
         let last = (0..count).last().unwrap_or(3);
         assert_same(&rt, (list.len(), list.last()), (len, Some(&last)));

@@ -7,7 +7,7 @@ use thin_vec::{Growth, ThinVec};
 
 #[tactic(auto, using(std::proofs::lemmas::List::Edits::split_between))]
 /// Starts an extraction, and drops it before any item is tested. The list is unchanged.
-pub fn untouched<T: Drop, A: Allocator, G: Growth>(
+pub fn extract_nothing<T: Drop, A: Allocator, G: Growth>(
     list: &mut ThinVec<T, A, G>,
     start: usize,
     end: usize,

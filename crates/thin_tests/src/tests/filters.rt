@@ -7,7 +7,7 @@ use std::process::Abort;
 use thin_vec::ThinVec;
 
 #[test]
-fn test_retain(rt: HostRuntime) {
+fn retain_keeps_the_items_tested_true(rt: HostRuntime) {
     let mut list = list_of(&rt, rt.alloc(), &[1, 2, 3, 4]);
     list.retain(|item| item % 2 == 0);
     assert_list(&rt, &list, &[2, 4], 4);
@@ -15,7 +15,7 @@ fn test_retain(rt: HostRuntime) {
 
 // `retain_mut` keeps what the closure writes to the items that stay.
 #[test]
-fn test_retain_mut(rt: HostRuntime) {
+fn retain_mut_keeps_what_its_closure_writes(rt: HostRuntime) {
     let mut list = list_of(&rt, rt.alloc(), &[9, 9, 9, 9]);
     let mut number: i32 = 0;
     list.retain_mut(|item| {
@@ -26,27 +26,27 @@ fn test_retain_mut(rt: HostRuntime) {
     assert_list(&rt, &list, &[1, 2, 3], 4);
 }
 
-fn deduped(rt: &impl Abort, alloc: Global, items: &[i32], wanted: &[i32]) {
+fn assert_deduped(rt: &impl Abort, alloc: Global, items: &[i32], wanted: &[i32]) {
     let mut list = ThinVec::from_slice(alloc, items).expect(rt, "memory");
     list.dedup();
     assert_list(rt, &list, wanted, items.len());
 }
 
 #[test]
-fn test_dedup(rt: HostRuntime) {
+fn dedup_removes_equal_neighbours(rt: HostRuntime) {
     let alloc = rt.alloc();
-    deduped(&rt, alloc, &[], &[]);
-    deduped(&rt, alloc, &[1], &[1]);
-    deduped(&rt, alloc, &[1, 1], &[1]);
-    deduped(&rt, alloc, &[1, 2, 3], &[1, 2, 3]);
-    deduped(&rt, alloc, &[1, 1, 2, 3], &[1, 2, 3]);
-    deduped(&rt, alloc, &[1, 2, 2, 3], &[1, 2, 3]);
-    deduped(&rt, alloc, &[1, 2, 3, 3], &[1, 2, 3]);
-    deduped(&rt, alloc, &[1, 1, 2, 2, 2, 3, 3], &[1, 2, 3]);
-    deduped(&rt, alloc, &[1, 2, 2, 3, 2], &[1, 2, 3, 2]);
+    assert_deduped(&rt, alloc, &[], &[]);
+    assert_deduped(&rt, alloc, &[1], &[1]);
+    assert_deduped(&rt, alloc, &[1, 1], &[1]);
+    assert_deduped(&rt, alloc, &[1, 2, 3], &[1, 2, 3]);
+    assert_deduped(&rt, alloc, &[1, 1, 2, 3], &[1, 2, 3]);
+    assert_deduped(&rt, alloc, &[1, 2, 2, 3], &[1, 2, 3]);
+    assert_deduped(&rt, alloc, &[1, 2, 3, 3], &[1, 2, 3]);
+    assert_deduped(&rt, alloc, &[1, 1, 2, 2, 2, 3, 3], &[1, 2, 3]);
+    assert_deduped(&rt, alloc, &[1, 2, 2, 3, 2], &[1, 2, 3, 2]);
 }
 
-fn deduped_boxes(rt: &impl Abort, alloc: Global, items: &[i32]) {
+fn assert_boxes_deduped(rt: &impl Abort, alloc: Global, items: &[i32]) {
     let mut list = boxes_of(alloc, items).expect(rt, "memory");
     list.dedup();
     assert_same(rt, list.len(), 3);
@@ -56,36 +56,36 @@ fn deduped_boxes(rt: &impl Abort, alloc: Global, items: &[i32]) {
 }
 
 #[test]
-fn test_dedup_unique(rt: HostRuntime) {
+fn dedup_compares_boxes_by_their_values(rt: HostRuntime) {
     let alloc = rt.alloc();
-    deduped_boxes(&rt, alloc, &[1, 2, 3]);
-    deduped_boxes(&rt, alloc, &[1, 1, 2, 3]);
-    deduped_boxes(&rt, alloc, &[1, 2, 2, 3]);
-    deduped_boxes(&rt, alloc, &[1, 2, 3, 3]);
-    deduped_boxes(&rt, alloc, &[1, 1, 2, 2, 2, 3, 3]);
+    assert_boxes_deduped(&rt, alloc, &[1, 2, 3]);
+    assert_boxes_deduped(&rt, alloc, &[1, 1, 2, 3]);
+    assert_boxes_deduped(&rt, alloc, &[1, 2, 2, 3]);
+    assert_boxes_deduped(&rt, alloc, &[1, 2, 3, 3]);
+    assert_boxes_deduped(&rt, alloc, &[1, 1, 2, 2, 2, 3, 3]);
 }
 
-fn deduped_by_tens(rt: &impl Abort, alloc: Global, items: &[i32], wanted: &[i32]) {
+fn assert_deduped_by_tens(rt: &impl Abort, alloc: Global, items: &[i32], wanted: &[i32]) {
     let mut list = ThinVec::from_slice(alloc, items).expect(rt, "memory");
     list.dedup_by_key(|item| *item / 10);
     assert_list(rt, &list, wanted, items.len());
 }
 
 #[test]
-fn test_dedup_by_key(rt: HostRuntime) {
+fn dedup_by_key_removes_neighbours_with_equal_keys(rt: HostRuntime) {
     let alloc = rt.alloc();
-    deduped_by_tens(&rt, alloc, &[], &[]);
-    deduped_by_tens(&rt, alloc, &[10], &[10]);
-    deduped_by_tens(&rt, alloc, &[10, 11], &[10]);
-    deduped_by_tens(&rt, alloc, &[10, 20, 30], &[10, 20, 30]);
-    deduped_by_tens(&rt, alloc, &[10, 11, 20, 30], &[10, 20, 30]);
-    deduped_by_tens(&rt, alloc, &[10, 20, 21, 30], &[10, 20, 30]);
-    deduped_by_tens(&rt, alloc, &[10, 20, 30, 31], &[10, 20, 30]);
-    deduped_by_tens(&rt, alloc, &[10, 11, 20, 21, 22, 30, 31], &[10, 20, 30]);
+    assert_deduped_by_tens(&rt, alloc, &[], &[]);
+    assert_deduped_by_tens(&rt, alloc, &[10], &[10]);
+    assert_deduped_by_tens(&rt, alloc, &[10, 11], &[10]);
+    assert_deduped_by_tens(&rt, alloc, &[10, 20, 30], &[10, 20, 30]);
+    assert_deduped_by_tens(&rt, alloc, &[10, 11, 20, 30], &[10, 20, 30]);
+    assert_deduped_by_tens(&rt, alloc, &[10, 20, 21, 30], &[10, 20, 30]);
+    assert_deduped_by_tens(&rt, alloc, &[10, 20, 30, 31], &[10, 20, 30]);
+    assert_deduped_by_tens(&rt, alloc, &[10, 11, 20, 21, 22, 30, 31], &[10, 20, 30]);
 }
 
 #[test]
-fn test_dedup_by(rt: HostRuntime) {
+fn dedup_by_removes_neighbours_that_its_closure_equates(rt: HostRuntime) {
     let mut list = list_of(&rt, rt.alloc(), &["foo", "bar", "Bar", "baz", "bar"]);
     list.dedup_by(|later, kept| later.eq_ignore_ascii_case(*kept));
     assert_items(&rt, list.as_slice(), &["foo", "bar", "baz", "bar"]);

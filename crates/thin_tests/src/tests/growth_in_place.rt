@@ -95,7 +95,7 @@ fn assert_grows<T: Numbered, B: Allocator, G: Ruled>(
     assert_same(rt, list.push(T::numbered(full)).is_ok(), false);
     assert_numbered(rt, list, full, full);
     push(rt, list, T::numbered(full));
-    assert_numbered(rt, list, longer, G::named(size, full, longer));
+    assert_numbered(rt, list, longer, G::expected_capacity(size, full, longer));
     assert_same(rt, refusing.requests(), 2);
 }
 
@@ -218,7 +218,7 @@ fn a_list_of_pairs_of_words_grows_and_shrinks_in_place(rt: HostRuntime) {
     assert_type::<u128>(&rt, rt.alloc(), 16);
 }
 
-// Pushes 3,000 items. Before each growth, another list allocates the memory behind the list's
+// Pushes 3,000 items. Before each growth, another list allocates the memory after the list's
 // block, so that the block cannot grow in place.
 fn assert_pushes_beside_neighbours<T: Numbered>(rt: &impl Abort, alloc: Global) {
     let mut neighbours = ThinVec::<ThinVec<u8>>::new(alloc);

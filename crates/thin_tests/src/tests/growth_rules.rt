@@ -18,7 +18,7 @@ fn assert_grows<T: Copy + Drop>(rt: &impl Abort, alloc: Global, item: T, capacit
 }
 
 #[test]
-fn blocks_fill_powers_of_two(rt: HostRuntime) {
+fn power_bytes_fills_blocks_of_power_of_two_sizes(rt: HostRuntime) {
     let alloc = rt.alloc();
     assert_grows(&rt, alloc, 7_u64, &[2, 6, 14]);
     assert_grows(&rt, alloc, [7_u64, 8, 9], &[2, 4, 10]);

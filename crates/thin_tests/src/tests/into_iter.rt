@@ -8,7 +8,7 @@ use thin_examples::walks::{carried_over, collected, count, least, reversed, reve
 use thin_vec::{IntoIter, ThinVec};
 
 #[test]
-fn test_into_iter_as_slice(rt: HostRuntime) {
+fn into_iter_as_slice_returns_the_remaining_items(rt: HostRuntime) {
     let mut items = list_of(&rt, rt.alloc(), &['a', 'b', 'c']).into_iter();
     assert_items(&rt, items.as_slice(), &['a', 'b', 'c']);
     assert_same(&rt, items.next(), Some('a'));
@@ -21,7 +21,7 @@ fn test_into_iter_as_slice(rt: HostRuntime) {
 }
 
 #[test]
-fn test_into_iter_as_mut_slice(rt: HostRuntime) {
+fn into_iter_yields_items_written_through_its_slice(rt: HostRuntime) {
     let mut items = list_of(&rt, rt.alloc(), &['a', 'b', 'c']).into_iter();
     assert_eq!(rt; items.len(), 3);
     items.as_mut_slice()[0] = 'x';
@@ -31,7 +31,7 @@ fn test_into_iter_as_mut_slice(rt: HostRuntime) {
 }
 
 #[test]
-fn test_into_iter_count(rt: HostRuntime) {
+fn into_iter_counts_its_items(rt: HostRuntime) {
     let items = list_of(&rt, rt.alloc(), &[1, 2, 3]).into_iter();
     assert_same(&rt, items.count(), 3);
 }
@@ -61,7 +61,7 @@ fn clone_between_steps<A: Allocator + Copy>(
 }
 
 #[test]
-fn test_into_iter_clone(rt: HostRuntime) {
+fn into_iter_clone_has_the_remaining_items(rt: HostRuntime) {
     let refusing = refusing_nth(&rt, rt.alloc(), 2);
     let mut items = list_of(&rt, refusing, &[1, 2, 3]).into_iter();
     assert_same(&rt, items.clone(refusing).is_err(), true);
@@ -86,27 +86,27 @@ fn moved_twice<T: Copy + Drop>(rt: &impl Abort, alloc: Global, items: &[T]) -> T
 }
 
 #[test]
-fn test_move_items(rt: HostRuntime) {
+fn extend_moves_the_items_of_an_into_iter(rt: HostRuntime) {
     let moved = moved_twice(&rt, rt.alloc(), &[1, 2, 3]);
     assert_list(&rt, &moved, &[1, 2, 3, 3, 2, 1], 8);
     let units = moved_twice(&rt, rt.alloc(), &[(), (), ()]);
     assert_same(&rt, units.len(), 6);
 }
 
-fn three(rt: &impl Abort, alloc: Global) -> ThinVec<u32, Global> {
+fn list_of_three(rt: &impl Abort, alloc: Global) -> ThinVec<u32, Global> {
     list_of(rt, alloc, &[4, 3, 5])
 }
 
 #[test]
-fn walks_by_value(rt: HostRuntime) {
+fn example_walks_return_expected_values(rt: HostRuntime) {
     let alloc = rt.alloc();
-    assert_same(&rt, count(three(&rt, alloc)), 3);
-    assert_same(&rt, least(three(&rt, alloc), 9), 3);
+    assert_same(&rt, count(list_of_three(&rt, alloc)), 3);
+    assert_same(&rt, least(list_of_three(&rt, alloc), 9), 3);
     for (walked, wanted) in [
-        (collected(three(&rt, alloc), alloc), [4, 3, 5]),
-        (reversed(three(&rt, alloc), alloc), [5, 3, 4]),
-        (reversed_singly(three(&rt, alloc), alloc), [5, 3, 4]),
-        (carried_over(three(&rt, alloc), alloc), [4, 3, 5]),
+        (collected(list_of_three(&rt, alloc), alloc), [4, 3, 5]),
+        (reversed(list_of_three(&rt, alloc), alloc), [5, 3, 4]),
+        (reversed_singly(list_of_three(&rt, alloc), alloc), [5, 3, 4]),
+        (carried_over(list_of_three(&rt, alloc), alloc), [4, 3, 5]),
     ] {
         assert_items(&rt, walked.expect(&rt, "memory").as_slice(), &wanted);
     }

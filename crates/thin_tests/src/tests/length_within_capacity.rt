@@ -20,7 +20,7 @@ pub fn replace_last<T: Drop, A: Allocator, G: Growth>(list: &mut ThinVec<T, A, G
 
 /// Replaces all items by `value`, and returns whether that succeeded. It allocates no memory if the
 /// list had an item.
-pub fn only<T: Drop, A: Allocator, G: Growth>(list: &mut ThinVec<T, A, G>, value: T) -> bool
+pub fn replace_all<T: Drop, A: Allocator, G: Growth>(list: &mut ThinVec<T, A, G>, value: T) -> bool
     ensures succeeds { 0 < length list.old.items → IsTrue result }
 {
     list.clear();
@@ -29,7 +29,7 @@ pub fn only<T: Drop, A: Allocator, G: Growth>(list: &mut ThinVec<T, A, G>, value
 
 /// Truncates the list to `at` items, and returns `at + count`. The list has at least that many
 /// items, so the sum does not overflow.
-pub fn cut_to<T: Drop, A: Allocator, G: Growth>(
+pub fn truncate_and_add<T: Drop, A: Allocator, G: Growth>(
     list: &mut ThinVec<T, A, G>,
     at: usize,
     count: usize,

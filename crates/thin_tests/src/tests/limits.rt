@@ -9,7 +9,7 @@ use thin_block::{Growth, PowerBytes, first_capacity, fits, next_capacity};
 use thin_vec::ThinVecError;
 
 #[test]
-fn the_greatest_capacity_that_fits(rt: HostRuntime) {
+fn fits_accepts_capacities_up_to_the_greatest(rt: HostRuntime) {
     for &(fitting, past) in &[
         (fits::<u8>((1 << 63) - 24), fits::<u8>((1 << 63) - 23)),
         (fits::<u16>((1 << 62) - 12), fits::<u16>((1 << 62) - 11)),
@@ -22,7 +22,7 @@ fn the_greatest_capacity_that_fits(rt: HostRuntime) {
 }
 
 #[test]
-fn the_next_capacity(rt: HostRuntime) {
+fn next_capacity_follows_doubling(rt: HostRuntime) {
     assert_same(&rt, first_capacity::<u8>(), 4);
     for &(cap, want, next) in &[(0, 1, 4), (3, 4, 6), (3, 13, 13), (4, 4, 4)] {
         let answer = (cap, want, next_capacity::<i32>(cap, want));
@@ -42,7 +42,7 @@ fn the_next_capacity(rt: HostRuntime) {
 // A block of 2 ^ 62 bytes has room for `last` items of one byte, and not for one item more. For
 // that many, `PowerBytes` has no capacity, but `Doubling` has one.
 #[test]
-fn the_last_power_of_two(rt: HostRuntime) {
+fn power_bytes_has_no_capacity_past_2_to_62_bytes(rt: HostRuntime) {
     let last = (1 << 62) - 16;
     for &(want, of_powers, doubled) in &[
         (last, Some(last), Some(last)),
@@ -55,7 +55,7 @@ fn the_last_power_of_two(rt: HostRuntime) {
 }
 
 #[test]
-fn the_errors(rt: HostRuntime) {
+fn errors_print_their_texts(rt: HostRuntime) {
     for &(error, wanted) in &[
         (ThinVecError::CapacityOverflow, "capacity overflow"),
         (ThinVecError::OutOfMemory, "out of memory"),
@@ -70,7 +70,7 @@ fn the_errors(rt: HostRuntime) {
 // No type of Rattle has an alignment above 16, so that no test can run into these limits. They are
 // proved.
 #[tactic(auto, unfolding(thin_block::specs::Capacity::fits))]
-fn the_limits_at_greater_alignments()
+fn states_limits_at_greater_alignments()
     ensures byte_items { items_offset 1 ≡ 16 }
     ensures items_at_32 { items_offset 32 ≡ 32 }
     ensures items_at_256 { items_offset 256 ≡ 256 }

@@ -6,7 +6,7 @@ use thin_testing::Refusing;
 use thin_vec::{ThinVec, ThinVecError, thin_vec};
 
 #[test]
-fn a_refused_list_written_out_makes_no_item(rt: HostRuntime) {
+fn thin_vec_evaluates_no_item_if_refused(rt: HostRuntime) {
     let refusing = Refusing::new(rt.alloc(), 1);
     let drops = Cell::new(0);
     let refused = thin_vec![&refusing => Counted::new(&drops), Counted::new(&drops)].err();
@@ -16,7 +16,7 @@ fn a_refused_list_written_out_makes_no_item(rt: HostRuntime) {
 }
 
 #[test]
-fn a_long_array_becomes_a_list(rt: HostRuntime) {
+fn from_array_moves_thousands_of_items(rt: HostRuntime) {
     let list = ThinVec::from_array(rt.alloc(), [7; 5000]);
     let list = list.ok().expect(&rt, "memory");
     assert_same(&rt, (list.len(), list.capacity()), (5000, 5000));

@@ -13,7 +13,7 @@ use thin_vec::{
 };
 
 // Compiles only if a list of bytes has these traits.
-fn is_a_list<L>(_list: &L)
+fn assert_list_traits<L>(_list: &L)
 where
     L: Clone + Eq + Ord + Hash + Debug + Drop,
     L: AsSlice<u8> + DerefSlice<Elem = u8> + DerefSliceMut,
@@ -22,37 +22,37 @@ where
 
 // Compiles only if an iterator over bytes has these traits. The tests pass an `IntoIter` and a
 // `Drain`.
-fn is_an_iterator<I>(_items: &I)
+fn assert_iterator_traits<I>(_items: &I)
 where
     I: DoubleEndedIterator + ExactSizeIterator + FusedIterator + Iterator<Item = u8> + Debug + Drop,
 {}
 
 // Compiles only if an error type has these traits. The test passes `ThinVecError`.
-fn is_a_cause<E>(_cause: &E)
+fn assert_error_traits<E>(_cause: &E)
 where
     E: Error + Copy + Eq + From<AllocError> + From<Rejected<u8>>,
 {}
 
-fn is_an_extraction<F>(_items: &ExtractIf<'_, u8, F>) {}
+fn assert_is_extract_if<F>(_items: &ExtractIf<'_, u8, F>) {}
 
-fn of_a_rule<G: Growth, A: Allocator>(list: &ThinVec<u8, A, G>) -> usize {
+fn capacity_under_rule<G: Growth, A: Allocator>(list: &ThinVec<u8, A, G>) -> usize {
     list.capacity()
 }
 
 #[test]
-fn names_and_traits_are_there(rt: HostRuntime) {
+fn public_names_and_traits_exist(rt: HostRuntime) {
     let list: ThinVec<u8, Global, Doubling> = thin_vec![rt.alloc() => 1, 2].expect(&rt, "memory");
-    is_a_list(&list);
-    assert_same(&rt, of_a_rule::<Doubling, Global>(&list), 2);
-    is_a_cause(&ThinVecError::OutOfMemory);
+    assert_list_traits(&list);
+    assert_same(&rt, capacity_under_rule::<Doubling, Global>(&list), 2);
+    assert_error_traits(&ThinVecError::OutOfMemory);
     assert_same(&rt, fits::<u8>(3), true);
 }
 
 #[test]
-fn iterators_and_their_traits_are_there(rt: HostRuntime) {
+fn public_iterators_and_their_traits_exist(rt: HostRuntime) {
     let mut bytes = ThinVec::new(rt.alloc());
-    is_an_iterator(&bytes.drain(0, 0));
-    is_an_extraction(&bytes.extract_if(0, 0, |_item: &mut u8| true));
+    assert_iterator_traits(&bytes.drain(0, 0));
+    assert_is_extract_if(&bytes.extract_if(0, 0, |_item: &mut u8| true));
     let items: IntoIter<u8, Global, Doubling> = bytes.into_iter();
-    is_an_iterator(&items);
+    assert_iterator_traits(&items);
 }

@@ -14,7 +14,7 @@ fn assert_push_refused<A: Allocator>(rt: &impl Abort, list: &mut ThinVec<i32, A>
 }
 
 #[test]
-fn row_16_push_refused(rt: HostRuntime) {
+fn row_16_refused_push_returns_its_value(rt: HostRuntime) {
     let refusing = refusing_nth(&rt, rt.alloc(), 2);
     let mut list = ThinVec::new(refusing);
     push_all(&rt, &mut list, 1..5);

@@ -87,7 +87,7 @@ fn assert_written_until<R: Abort>(rt: &R, alloc: Global, failing: usize) {
 }
 
 #[test]
-fn reports_until_a_line_is_refused(rt: HostRuntime) {
+fn report_stops_at_a_failed_write(rt: HostRuntime) {
     let alloc = rt.alloc();
     let mut whole = String::new(alloc);
     let calls = report_into(&rt, alloc, &mut whole, 0, EVERY_ROW_OK);
@@ -112,7 +112,7 @@ fn assert_reported_until<R: Abort>(rt: &R, alloc: Global, nth: u64) {
 }
 
 #[test]
-fn reports_memory_refused_at_any_request(rt: HostRuntime) {
+fn report_ends_with_out_of_memory_at_any_refused_request(rt: HostRuntime) {
     let granted = Refusing::new(rt.alloc(), 0);
     let mut whole = String::new(rt.alloc());
     let _calls = report_into(&rt, &granted, &mut whole, 0, EVERY_ROW_OK);
@@ -125,7 +125,7 @@ fn reports_memory_refused_at_any_request(rt: HostRuntime) {
 
 // Reports these rows. Asserts that `wanted` is written, and that the report ends with the exit code
 // `end`.
-fn reported(rt: &impl Abort, alloc: Global, rows: &[u32], wanted: &str, end: &str) {
+fn assert_report_of_rows(rt: &impl Abort, alloc: Global, rows: &[u32], wanted: &str, end: &str) {
     let mut text = String::new(alloc);
     {
         let mut out = Failing {
@@ -139,7 +139,7 @@ fn reported(rt: &impl Abort, alloc: Global, rows: &[u32], wanted: &str, end: &st
 }
 
 #[test]
-fn a_report_of_a_row_that_failed_counts_it_and_ends_with_1(rt: HostRuntime) {
+fn report_counts_failed_rows_and_exits_with_1(rt: HostRuntime) {
     // No row has the number 0, so that row 0 fails.
     for (rows, text) in [
         ([0, 1].as_slice(), "row 0 failed\nrow 1 ok\n1 rows failed\n"),
@@ -152,9 +152,9 @@ fn a_report_of_a_row_that_failed_counts_it_and_ends_with_1(rt: HostRuntime) {
             "row 0 failed\nrow 1 ok\nrow 0 failed\n2 rows failed\n",
         ),
     ] {
-        reported(&rt, rt.alloc(), rows, text, ROW_FAILED);
+        assert_report_of_rows(&rt, rt.alloc(), rows, text, ROW_FAILED);
     }
-    reported(
+    assert_report_of_rows(
         &rt,
         rt.alloc(),
         &[1, 6],
@@ -173,24 +173,32 @@ fn assert_row<R: Abort>(rt: &R, alloc: Global, outcome: Outcome, line: &str, sta
             calls: 0,
             failing: 0,
         };
-        let told = write_row(7, outcome, &mut out);
-        assert!(rt; told.ok() == Some(status), "{line}");
+        let status_of_row = write_row(7, outcome, &mut out);
+        assert!(rt; status_of_row.ok() == Some(status), "{line}");
     }
     assert!(rt; text.as_str() == line, "not {line}");
 }
 
 // Returns the checks of a row that compared one value, which was right or wrong.
-fn compared(right: bool) -> Checks {
+fn checks_of_one_value(right: bool) -> Checks {
     let mut checks = Checks::new();
     checks.is(right);
     checks
 }
 
 #[test]
-fn a_row_that_overflows_or_compares_nothing_has_failed(rt: HostRuntime) {
+fn write_row_fails_a_row_that_overflows_or_compares_nothing(rt: HostRuntime) {
     for (outcome, line, status) in [
-        (Ok(compared(true)), "row 7 ok\n", Status::EveryRowOk),
-        (Ok(compared(false)), "row 7 failed\n", Status::RowFailed),
+        (
+            Ok(checks_of_one_value(true)),
+            "row 7 ok\n",
+            Status::EveryRowOk,
+        ),
+        (
+            Ok(checks_of_one_value(false)),
+            "row 7 failed\n",
+            Status::RowFailed,
+        ),
         (Ok(Checks::new()), "row 7 failed\n", Status::RowFailed),
         (
             Err(ThinVecError::CapacityOverflow),

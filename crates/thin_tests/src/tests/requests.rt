@@ -31,7 +31,7 @@ fn assert_blocks_by_pushes(rt: &impl Abort, refusing: &Refusing<Global>) {
 }
 
 #[test]
-fn counts_the_blocks_that_are_out(rt: HostRuntime) {
+fn counts_live_blocks(rt: HostRuntime) {
     let refusing = refusing_nth(&rt, rt.alloc(), 0);
     {
         let mut one = Vec::new(refusing);
@@ -48,7 +48,7 @@ fn counts_the_blocks_that_are_out(rt: HostRuntime) {
 }
 
 #[test]
-fn each_number_refuses_its_own_request(rt: HostRuntime) {
+fn refuses_only_the_nth_request(rt: HostRuntime) {
     for refused in 1..9 {
         let refusing = refusing_nth(&rt, rt.alloc(), refused);
         let mut kept = Vec::new(rt.alloc());

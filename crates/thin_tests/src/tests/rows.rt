@@ -49,7 +49,7 @@ const COUNTS: &str = "\
 
 // Runs a row. Asserts that it is ok and that all its blocks are freed. Returns how many values it
 // compares, and how many requests it makes.
-fn counts<R: Abort>(rt: &R, alloc: Global, number: u32) -> (u32, u64) {
+fn run_and_count<R: Abort>(rt: &R, alloc: Global, number: u32) -> (u32, u64) {
     let refusing = Refusing::new(alloc, 0);
     let checks = row(&refusing, number).ok().expect(rt, "no refusal");
     assert!(rt; checks.is_ok() && refusing.blocks() == 0, "row {number}");
@@ -58,17 +58,17 @@ fn counts<R: Abort>(rt: &R, alloc: Global, number: u32) -> (u32, u64) {
 }
 
 // Appends the line of a row to `lines`.
-fn put_counts<R: Abort>(rt: &R, alloc: Global, number: u32, lines: &mut String) {
-    let (values, requests) = counts(rt, alloc, number);
+fn append_counts<R: Abort>(rt: &R, alloc: Global, number: u32, lines: &mut String) {
+    let (values, requests) = run_and_count(rt, alloc, number);
     let line = format!(in alloc; "{number}: {values}, {requests}\n").expect(rt, "memory");
     lines.push_str(line.as_str()).ok().expect(rt, "memory");
 }
 
 #[test]
-fn each_row_compares_its_values_and_makes_its_requests(rt: HostRuntime) {
+fn rows_make_expected_numbers_of_comparisons_and_requests(rt: HostRuntime) {
     let mut lines = String::new(rt.alloc());
     for number in &ROWS {
-        put_counts(&rt, rt.alloc(), *number, &mut lines);
+        append_counts(&rt, rt.alloc(), *number, &mut lines);
     }
     assert_eq!(rt; lines.as_str(), COUNTS);
 }
@@ -79,7 +79,7 @@ fn assert_wrong(rt: &impl Abort, checks: Checks, values: u32) {
 }
 
 // Returns the result of comparing the list 1, 2 with these items and this capacity.
-fn held(rt: &impl Abort, alloc: Global, items: &[u32], capacity: usize) -> Checks {
+fn checks_of_holds(rt: &impl Abort, alloc: Global, items: &[u32], capacity: usize) -> Checks {
     let list = thin_vec![alloc => 1, 2].expect(rt, "memory");
     let mut checks = Checks::new();
     checks.holds(&list, items, capacity);
@@ -87,13 +87,13 @@ fn held(rt: &impl Abort, alloc: Global, items: &[u32], capacity: usize) -> Check
 }
 
 #[test]
-fn each_comparison_sees_a_wrong_value(rt: HostRuntime) {
+fn each_comparison_detects_a_wrong_value(rt: HostRuntime) {
     let alloc = rt.alloc();
-    assert!(rt; held(&rt, alloc, &[1, 2], 2).is_ok());
-    assert_wrong(&rt, held(&rt, alloc, &[1, 3], 2), 4);
-    assert_wrong(&rt, held(&rt, alloc, &[1, 2, 3], 2), 4);
-    assert_wrong(&rt, held(&rt, alloc, &[1], 2), 3);
-    assert_wrong(&rt, held(&rt, alloc, &[1, 2], 3), 4);
+    assert!(rt; checks_of_holds(&rt, alloc, &[1, 2], 2).is_ok());
+    assert_wrong(&rt, checks_of_holds(&rt, alloc, &[1, 3], 2), 4);
+    assert_wrong(&rt, checks_of_holds(&rt, alloc, &[1, 2, 3], 2), 4);
+    assert_wrong(&rt, checks_of_holds(&rt, alloc, &[1], 2), 3);
+    assert_wrong(&rt, checks_of_holds(&rt, alloc, &[1, 2], 3), 4);
     let twelve = ThinVec::from_copies(alloc, &[7; 12]).expect(&rt, "memory");
     for (item, capacity) in [(8, 12), (7, 13)] {
         let mut checks = Checks::new();

@@ -8,7 +8,7 @@ use thin_testing::Refusing;
 use thin_vec::ThinVec;
 
 #[test]
-fn a_run_of_no_command_makes_no_request(rt: HostRuntime) {
+fn run_makes_no_request_without_commands(rt: HostRuntime) {
     let refusing = refusing_nth(&rt, rt.alloc(), 1);
     let mut list = ThinVec::<i32, &'static Refusing<Global>>::new(refusing);
     let mut replies = Vec::new(refusing);

@@ -12,7 +12,7 @@ fn assert_owns_block<T>(rt: &impl Abort, list: &ThinVec<T>, owns_block: bool) {
 
 // `has_capacity` is true exactly while the list has a block.
 #[test]
-fn test_alloc(rt: HostRuntime) {
+fn has_capacity_tells_whether_a_list_owns_a_block(rt: HostRuntime) {
     let alloc = rt.alloc();
     let mut list = ThinVec::new(alloc);
     assert_owns_block(&rt, &list, false);
@@ -34,7 +34,7 @@ fn test_alloc(rt: HostRuntime) {
 // `u128` has the largest alignment of all types of Rattle. A list of one `u128` keeps its item if
 // the capacity grows and shrinks again.
 #[test]
-fn overaligned_allocations(rt: HostRuntime) {
+fn reallocation_keeps_an_item_of_the_largest_alignment(rt: HostRuntime) {
     let mut list = ThinVec::new(rt.alloc());
     push(&rt, &mut list, 273u128);
     for i in 0..4096 {

@@ -13,7 +13,7 @@ fn a_list_is_one_pointer_wide(rt: HostRuntime) {
 }
 
 #[test]
-fn zero_sized_values(rt: HostRuntime) {
+fn pushes_pops_and_clears_zero_sized_items(rt: HostRuntime) {
     let mut list = ThinVec::new(rt.alloc());
     for _ in 0..2 {
         push(&rt, &mut list, ());

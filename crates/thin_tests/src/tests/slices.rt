@@ -10,21 +10,21 @@ fn add(amount: i32, items: &mut [i32]) {
 }
 
 #[test]
-fn test_slice_from_mut(rt: HostRuntime) {
+fn writes_through_a_slice_of_the_last_items(rt: HostRuntime) {
     let mut list = list_of(&rt, rt.alloc(), &[1, 2, 3, 4, 5]);
     add(2, &mut list.as_mut_slice()[2..]);
     assert_items(&rt, list.as_slice(), &[1, 2, 5, 6, 7]);
 }
 
 #[test]
-fn test_slice_to_mut(rt: HostRuntime) {
+fn writes_through_a_slice_of_the_first_items(rt: HostRuntime) {
     let mut list = list_of(&rt, rt.alloc(), &[1, 2, 3, 4, 5]);
     add(1, &mut list.as_mut_slice()[..2]);
     assert_items(&rt, list.as_slice(), &[2, 3, 3, 4, 5]);
 }
 
 #[test]
-fn test_split_at_mut(rt: HostRuntime) {
+fn writes_through_both_parts_of_split_at_mut(rt: HostRuntime) {
     let mut list = list_of(&rt, rt.alloc(), &[1, 2, 3, 4, 5]);
     let (left, right) = list.as_mut_slice().split_at_mut(2);
     add(1, left);
@@ -33,13 +33,13 @@ fn test_split_at_mut(rt: HostRuntime) {
 }
 
 #[test]
-fn test_index(rt: HostRuntime) {
+fn index_reads_an_item(rt: HostRuntime) {
     let list = list_of(&rt, rt.alloc(), &[1, 2, 3]);
     assert_same(&rt, list[1], 2);
 }
 
 #[test]
-fn test_index_mut(rt: HostRuntime) {
+fn index_mut_writes_an_item(rt: HostRuntime) {
     let mut list = list_of(&rt, rt.alloc(), &[1, 2, 3]);
     list[1] = 22;
     assert_items(&rt, list.as_slice(), &[1, 22, 3]);

@@ -52,7 +52,7 @@ pub fn replace_and_undo<A: Allocator + Copy, G: Growth>(
 }
 
 #[test]
-fn a_splice_is_undone(rt: HostRuntime) {
+fn second_splice_undoes_the_first(rt: HostRuntime) {
     for &(numbers, capacity) in &[(&[][..], 3), (&[7][..], 3), (&[7, 8, 9][..], 6)] {
         let mut list = list_of(&rt, rt.alloc(), &[1, 2, 3]);
         assert_len(&rt, &list, 3);
@@ -111,7 +111,7 @@ fn assert_range_refused<A: Allocator + Copy>(
 }
 
 #[test]
-fn row_12_splice_refused(rt: HostRuntime) {
+fn row_12_refused_finish_returns_the_item_in_hand(rt: HostRuntime) {
     let refusing = refusing_nth(&rt, rt.alloc(), 2);
     let iter = Claims::new(&[10, 11, 12], 0);
     let left = (&[1, 2, 10, 11, 5][..], 5);
@@ -120,7 +120,7 @@ fn row_12_splice_refused(rt: HostRuntime) {
 }
 
 #[test]
-fn row_39_splice_refused(rt: HostRuntime) {
+fn row_39_refused_finish_returns_the_held_items(rt: HostRuntime) {
     // The requests are for the list's first block, for the vector of the items held back, and for
     // the growth of the list. The last one is refused.
     let refusing = refusing_nth(&rt, rt.alloc(), 3);
@@ -132,7 +132,7 @@ fn row_39_splice_refused(rt: HostRuntime) {
 
 // Replaces the second item by `count` numbers, through an iterator whose size hint has the lower
 // bound 0.
-fn splice_long(rt: &impl Abort, list: &mut ThinVec<i32>, count: i32, alloc: Global)
+fn splice_without_hint(rt: &impl Abort, list: &mut ThinVec<i32>, count: i32, alloc: Global)
     requires in_bounds { 2 ≤ length list.old.items }
 {
     list.splice(1, 2, (0..count).filter(|_| true))
@@ -142,12 +142,12 @@ fn splice_long(rt: &impl Abort, list: &mut ThinVec<i32>, count: i32, alloc: Glob
 }
 
 #[test]
-fn a_long_splice_is_not_refused(rt: HostRuntime) {
+fn finish_inserts_hundreds_of_items_without_a_hint(rt: HostRuntime) {
     let alloc = rt.alloc();
     for count in 0..301 {
         let mut list = list_of(&rt, alloc, &[-1, -2, -3]);
         assert_len(&rt, &list, 3);
-        splice_long(&rt, &mut list, count, alloc);
+        splice_without_hint(&rt, &mut list, count, alloc);
         let len = usize::try_from(count).unwrap_or(0);
         assert_same(&rt, list.len(), len.saturating_add(2));
         assert_same(&rt, (list.first(), list.last()), (Some(&-1), Some(&-3)));
@@ -155,7 +155,7 @@ fn a_long_splice_is_not_refused(rt: HostRuntime) {
 }
 
 #[test]
-fn test_splice_items_zero_sized(rt: HostRuntime) {
+fn splice_yields_zero_sized_items(rt: HostRuntime) {
     let alloc = rt.alloc();
     let mut list = list_of(&rt, alloc, &[(), (), ()]);
     assert_len(&rt, &list, 3);

@@ -6,7 +6,7 @@ use thin_examples::walks::count;
 use thin_vec::ThinVec;
 
 #[test]
-fn a_walk_by_value_makes_no_request(rt: HostRuntime) {
+fn iteration_by_value_makes_no_request(rt: HostRuntime) {
     let refusing = refusing_nth(&rt, rt.alloc(), 0);
     let mut list = ThinVec::new(refusing);
     push_all(&rt, &mut list, 0..3);
@@ -16,17 +16,17 @@ fn a_walk_by_value_makes_no_request(rt: HostRuntime) {
 }
 
 // Returns the length of `items` as a slice.
-fn seen_as_slice<S: AsSlice<i32>>(items: &S) -> usize {
+fn len_as_slice<S: AsSlice<i32>>(items: &S) -> usize {
     items.as_slice().len()
 }
 
 #[test]
-fn a_slice_call_makes_no_request(rt: HostRuntime) {
+fn slice_methods_make_no_request(rt: HostRuntime) {
     let refusing = refusing_nth(&rt, rt.alloc(), 0);
     let mut list = ThinVec::new(refusing);
     push_all(&rt, &mut list, 0..3);
     refusing.refuse(1);
-    assert_same(&rt, (list.first(), seen_as_slice(&list)), (Some(&0), 3));
+    assert_same(&rt, (list.first(), len_as_slice(&list)), (Some(&0), 3));
     list.reverse();
     assert_same(&rt, list.last(), Some(&0));
     let mut items = list.into_iter();

@@ -68,7 +68,7 @@ fn assert_value<A: Allocator>(
 }
 
 #[test]
-fn a_refused_table_is_none(rt: HostRuntime) {
+fn with_rows_returns_the_cause(rt: HostRuntime) {
     let refusing = refusing_nth(&rt, rt.alloc(), 1);
     let refused = Rows::<u32, &Refusing<Global>>::with_rows(refusing, 3).err();
     assert_same(&rt, refused, Some(ThinVecError::OutOfMemory));
@@ -103,7 +103,17 @@ fn drops_each_value_once(rt: HostRuntime) {
 }
 
 #[test]
-fn a_value_may_have_no_size(rt: HostRuntime) {
+fn clear_row_drops_the_values(rt: HostRuntime) {
+    let drops = Cell::new(0);
+    let mut table = Rows::with_rows(rt.alloc(), 2).expect(&rt, "memory");
+    set_counted(&rt, &mut table, &drops);
+    assert_row(&rt, &table, 0);
+    table.clear_row(0);
+    assert_same(&rt, drops.get(), 4);
+}
+
+#[test]
+fn stores_zero_sized_values(rt: HostRuntime) {
     let mut table = Rows::with_rows(rt.alloc(), 1).expect(&rt, "memory");
     for column in [2, 1, 2] {
         assert_row(&rt, &table, 0);
@@ -155,7 +165,7 @@ fn fill_columns<A: Allocator>(rt: &impl Abort, table: &mut Rows<u32, A>, columns
 // grows through all capacities from 4 to 4096, which are 11 requests. With the request for the
 // table's own block, that makes 23.
 #[test]
-fn a_row_takes_thousands_of_columns(rt: HostRuntime) {
+fn set_adds_thousands_of_columns_to_a_row(rt: HostRuntime) {
     let refusing = refusing_nth(&rt, rt.alloc(), 0);
     let mut table = Rows::with_rows(refusing, 1000).expect(&rt, "memory");
     fill_columns(&rt, &mut table, 4000);
@@ -165,7 +175,7 @@ fn a_row_takes_thousands_of_columns(rt: HostRuntime) {
 }
 
 #[test]
-fn a_full_row_makes_no_request_for_an_entry_that_is_there(rt: HostRuntime) {
+fn replacing_and_removing_entries_makes_no_request(rt: HostRuntime) {
     let refusing = refusing_nth(&rt, rt.alloc(), 0);
     let mut table = Rows::with_rows(refusing, 2).expect(&rt, "memory");
     for column in (0..4).rev() {
@@ -188,6 +198,23 @@ fn a_full_row_makes_no_request_for_an_entry_that_is_there(rt: HostRuntime) {
     assert_counts(&rt, refusing, 0, 2);
 }
 
+#[test]
+fn a_cleared_row_frees_its_block_and_makes_no_request(rt: HostRuntime) {
+    let refusing = refusing_nth(&rt, rt.alloc(), 0);
+    let mut table = Rows::with_rows(refusing, 2).expect(&rt, "memory");
+    assert_set(&rt, &mut table, (0, 3), 7, None);
+    assert_set(&rt, &mut table, (0, 5), 7, None);
+    assert_set(&rt, &mut table, (1, 3), 8, None);
+    refusing.refuse(1);
+    for _ in 0..2 {
+        assert_row(&rt, &table, 0);
+        table.clear_row(0);
+        assert_entries(&rt, &table, 0, &[]);
+    }
+    assert_entries(&rt, &table, 1, &[(3, 8)]);
+    assert_counts(&rt, refusing, 0, 2);
+}
+
 // Makes a row of `columns` entries, and sets each of them again. Asserts that this makes no request
 // for memory.
 fn assert_set_again(rt: &impl Abort, refusing: &Refusing<Global>, columns: usize) {
@@ -203,7 +230,7 @@ fn assert_set_again(rt: &impl Abort, refusing: &Refusing<Global>, columns: usize
 }
 
 #[test]
-fn a_row_of_any_length_makes_no_request_for_an_entry_that_is_there(rt: HostRuntime) {
+fn replacing_entries_makes_no_request_in_a_row_of_any_length(rt: HostRuntime) {
     for columns in 1..20 {
         let refusing = Refusing::new(rt.alloc(), 0);
         assert_set_again(&rt, &refusing, columns);
@@ -325,7 +352,7 @@ fn run_both(
 }
 
 #[test]
-fn holds_it_where_any_request_is_refused(rt: HostRuntime) {
+fn matches_reference_if_any_request_is_refused(rt: HostRuntime) {
     let refusing = refusing_nth(&rt, rt.alloc(), 0);
     for rows in 0..6 {
         for nth in 1..40 {

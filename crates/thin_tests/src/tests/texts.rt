@@ -29,7 +29,7 @@ fn prints_a_list_in_each_form(rt: HostRuntime) {
 }
 
 #[test]
-fn test_into_iter_debug(rt: HostRuntime) {
+fn prints_an_into_iter_in_each_form(rt: HostRuntime) {
     let alloc = rt.alloc();
     let letters = list_of(&rt, alloc, &['a', 'b', 'c']).into_iter();
     assert_text(&rt, alloc, &letters, "IntoIter(['a', 'b', 'c'])");
@@ -42,7 +42,7 @@ fn test_into_iter_debug(rt: HostRuntime) {
 }
 
 #[test]
-fn test_drain_debug(rt: HostRuntime) {
+fn prints_a_drain_in_each_form(rt: HostRuntime) {
     let alloc = rt.alloc();
     let mut list = list_of(&rt, alloc, &[1, 2, 3]);
     assert_len(&rt, &list, 3);
@@ -68,7 +68,7 @@ fn prints_a_drain_of_many_items(rt: HostRuntime) {
 
 // Asserts that `{:?}`, `{:#?}` and `{:04?}` print the error with its name and its cause, and that
 // `{}` prints only its cause.
-fn assert_told<E: Debug + Display>(
+fn assert_prints_cause<E: Debug + Display>(
     rt: &impl Abort,
     alloc: Global,
     refused: &E,
@@ -90,36 +90,36 @@ fn assert_told<E: Debug + Display>(
     assert_same(rt, told.as_str(), wanted.as_str());
 }
 
-// Asserts the same as `assert_told` for each error type that holds values, with this cause.
-fn assert_all_told(rt: &impl Abort, alloc: Global, cause: ThinVecError) {
+// Asserts the same as `assert_prints_cause` for each error type that holds values, with this cause.
+fn assert_all_print_cause(rt: &impl Abort, alloc: Global, cause: ThinVecError) {
     let (value, in_hand, rest) = (1, Some(1), 2);
     let rejected = Rejected { value, cause };
-    assert_told(rt, alloc, &rejected, "Rejected", cause);
+    assert_prints_cause(rt, alloc, &rejected, "Rejected", cause);
     let extend = ExtendRefused {
         cause,
         in_hand,
         rest,
     };
-    assert_told(rt, alloc, &extend, "ExtendRefused", cause);
+    assert_prints_cause(rt, alloc, &extend, "ExtendRefused", cause);
     let collect = CollectRefused {
         list: list_of(rt, alloc, &[1]),
         cause,
         in_hand,
         rest,
     };
-    assert_told(rt, alloc, &collect, "CollectRefused", cause);
+    assert_prints_cause(rt, alloc, &collect, "CollectRefused", cause);
     let splice = SpliceRefused {
         cause,
         held: Vec::new(alloc),
         in_hand,
         rest,
     };
-    assert_told(rt, alloc, &splice, "SpliceRefused", cause);
+    assert_prints_cause(rt, alloc, &splice, "SpliceRefused", cause);
 }
 
 #[test]
-fn a_refusal_tells_its_cause(rt: HostRuntime) {
+fn prints_errors_with_their_causes(rt: HostRuntime) {
     for cause in [ThinVecError::OutOfMemory, ThinVecError::CapacityOverflow] {
-        assert_all_told(&rt, rt.alloc(), cause);
+        assert_all_print_cause(&rt, rt.alloc(), cause);
     }
 }

@@ -4,7 +4,7 @@ use crate::tests::support::items::{list_of, refusing_nth};
 use thin_vec::ThinVecError;
 
 #[test]
-fn test_append(rt: HostRuntime) {
+fn append_moves_all_items(rt: HostRuntime) {
     let mut list = list_of(&rt, rt.alloc(), &[1, 2, 3]);
     let mut other = list_of(&rt, rt.alloc(), &[4, 5, 6]);
     list.append(&mut other).expect(&rt, "memory");
@@ -13,7 +13,7 @@ fn test_append(rt: HostRuntime) {
 }
 
 #[test]
-fn test_split_off(rt: HostRuntime) {
+fn split_off_moves_the_tail(rt: HostRuntime) {
     let mut list = list_of(&rt, rt.alloc(), &[1, 2, 3, 4, 5, 6]);
     let tail = list.split_off(rt.alloc(), 4).expect(&rt, "memory");
     assert_list(&rt, &list, &[1, 2, 3, 4], 6);
@@ -21,7 +21,7 @@ fn test_split_off(rt: HostRuntime) {
 }
 
 #[test]
-fn row_38_append_refused(rt: HostRuntime) {
+fn row_38_refused_append_changes_neither_list(rt: HostRuntime) {
     let refusing = refusing_nth(&rt, rt.alloc(), 3);
     let mut list = list_of(&rt, refusing, &[1, 2]);
     let mut other = list_of(&rt, refusing, &[3]);

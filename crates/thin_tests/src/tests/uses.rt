@@ -52,7 +52,7 @@ fn styles_are_compared_and_hashed_by_their_rules(rt: HostRuntime) {
 }
 
 #[test]
-fn reserved_room_takes_both(rt: HostRuntime) {
+fn push_both_requests_memory_once(rt: HostRuntime) {
     let refusing = refusing_nth(&rt, rt.alloc(), 2);
     let mut list = ThinVec::new(refusing);
     push_both(&mut list, 1, 2).expect(&rt, "memory");
@@ -68,7 +68,7 @@ fn sorts_in_place(rt: HostRuntime) {
 }
 
 #[test]
-fn a_refused_push_hands_its_value_back(rt: HostRuntime) {
+fn push_or_return_returns_a_refused_value(rt: HostRuntime) {
     let refusing = refusing_nth(&rt, rt.alloc(), 1);
     let mut list = ThinVec::new(refusing);
     for returned in [Some(7), None] {
@@ -106,7 +106,7 @@ fn std_traits_fill_a_list(rt: HostRuntime) {
 }
 
 #[test]
-fn a_refusal_is_an_error_of_std(rt: HostRuntime) {
+fn std_traits_return_std_errors_if_refused(rt: HostRuntime) {
     let refusing = refusing_nth(&rt, rt.alloc(), 2);
     let mut bytes = list_of(&rt, refusing, &[7]);
     let refused = write_line(&mut bytes, &[8]);
@@ -117,7 +117,7 @@ fn a_refusal_is_an_error_of_std(rt: HostRuntime) {
 }
 
 #[test]
-fn a_range_moves_to_another_list(rt: HostRuntime) {
+fn move_range_moves_a_range_to_another_list(rt: HostRuntime) {
     let mut list = list_of(&rt, rt.alloc(), &[1, 2, 3, 4, 5]);
     let mut other = list_of(&rt, rt.alloc(), &[9]);
     assert_len(&rt, &list, 5);
@@ -134,7 +134,7 @@ fn assert_spliced(rt: &impl Abort, alloc: Global) {
 }
 
 #[test]
-fn edits_leave_what_they_promise(rt: HostRuntime) {
+fn example_edits_leave_expected_items(rt: HostRuntime) {
     let edited = edited(rt.alloc()).expect(&rt, "memory");
     assert_items(&rt, edited.as_slice(), &[1, 9]);
     let mut six = thin_vec![rt.alloc() => 1, 2, 3, 4, 5, 6].expect(&rt, "memory");

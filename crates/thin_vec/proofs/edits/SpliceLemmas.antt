@@ -8,19 +8,19 @@ use Rattle.std.specs.declared.result.Result.{Result}
 use Rattle.std.specs.declared.result.Result.TheVariants.{Ok, Err}
 use Rattle.std.specs.Iterator.{Count, Drains, Yields, YieldsThen, size}
 use Rattle.thin_vec.specs.Cheap.{IsCheap}
-use Rattle.thin_vec.specs.List.Extend.{IsExtendCause, IsExtendCost, IsKeptOrRuled, MayOverflow, MustOverflow, PausedAfter}
+use Rattle.thin_vec.specs.List.Extend.{IsExtendCause, CostsAdding, IsKeptOrRuled, FailsAtHint, PausedAfter}
 use Rattle.std.proofs.lemmas.Bool.Decides.{nat_tests}
 use Rattle.thin_block.specs.declared.errors.ThinVecError.TheVariants.{CapacityOverflow, OutOfMemory}
 use Rattle.thin_block.specs.Cost.{Cost, moving}
 use Rattle.thin_block.specs.Growth.{KeepsLaw, Rule}
 use Rattle.std.proofs.lemmas.Bool.{cases_lt, false≢true}
 use Rattle.thin_vec.specs.Open.{Open, cost_closed, items_of}
-use Rattle.thin_vec.specs.Edits.Splice.{IsSpliced, IsStopCause, Stopped, left_of, with_between}
+use Rattle.thin_vec.specs.Edits.Splice.{IsStopCause, Stopped, left_of, with_between}
 use Rattle.thin_vec.specs.Edits.Finish.{HasTaken}
 use Rattle.thin_vec.specs.ThinVec.{HasRoomFor, Thin, capacity_for, cost_at}
 use Rattle.thin_vec.specs.declared.errors.ExtendRefused.{ExtendRefused}
 use Rattle.thin_vec.specs.declared.errors.SpliceRefused.{SpliceRefused}
-use Rattle.thin_vec.proofs.list.ExtendLemmas.{filled-reserved, loose-join, loose-le, loose-ruled, yields-join, yields-more}
+use Rattle.thin_vec.proofs.list.ExtendLemmas.{adding-join, filled-reserved, loose-join, loose-le, loose-ruled, yields-join, yields-more}
 use Rattle.thin_vec.proofs.ThinVecLemmas.{cap-kept, cost_at-copied}
 
 -- adding b moves to a cost, and then `a` moves, adds b + a moves
@@ -120,54 +120,16 @@ module _ {S X : Type 0} (steps : S → Option X → S → Type 0) where
       subst (λ l. Yields steps s l u) (sym parts) (t, one, now)
 
 module _ {T A : Type 0} where
-  -- a growth alone moves no items: v and w satisfy `IsSpliced` with 0 further moves
-  pub spliced-reserved : (v w : Thin T A) → w.cost ≡ cost_at v w.capacity
-      → w.items ≡ v.items
-      → (cost_at v w.capacity).grown + v.capacity ≤ v.cost.grown + w.capacity → IsSpliced v w 0
-  spliced-reserved v w e n few =
-      let f = filled-reserved v w e n few in
-      record {
-        copied = f.copied;
-        least = omega (arith, f.moves);
-        moves = omega (arith, f.moves);
-        kept = f.kept;
-        grown = f.grown;
-      }
-
   -- if k items were placed into spare capacity, with k + m moves, and m ≤ n, then v and w satisfy
-  -- `IsSpliced` with n further moves
-  pub spliced-run : (v w : Thin T A) (k m n : ℕ) → w.cost ≡ moving (k + m) v.cost
-      → w.capacity ≡ v.capacity → length w.items ≡ length v.items + k → m ≤ n → IsSpliced v w n
-  spliced-run v w k m n e same long few = record {
+  -- `CostsAdding` with n further moves
+  pub adding-run : (v w : Thin T A) (k m n : ℕ) → w.cost ≡ moving (k + m) v.cost
+      → w.capacity ≡ v.capacity → length w.items ≡ length v.items + k → m ≤ n → CostsAdding v w n
+  adding-run v w k m n e same long few = record {
     copied = omega (arith, ap (λ c. c.grown) e, same);
     least = omega (arith, ap (λ c. c.moves) e, long);
     moves = omega (arith, ap (λ c. c.moves) e, long, few);
     kept = λ _. (ap (λ c. c.blocks) e, ap (λ c. c.grown) e);
     grown = λ more. absurd (omega (arith, more, same));
-  }
-
-  -- if v and u satisfy `IsSpliced` with m further moves, u and w satisfy it with n, and m + n ≤ k,
-  -- then v and w satisfy it with k
-  pub spliced-join : (v u w : Thin T A) (m n k : ℕ) → m + n ≤ k → v.capacity ≤ u.capacity
-      → u.capacity ≤ w.capacity → length v.items ≤ length u.items → IsSpliced v u m
-      → IsSpliced u w n → IsSpliced v w k
-  spliced-join v u w m n k few low high long p q = record {
-    copied = omega (arith, p.copied, q.copied);
-    least = omega (arith, p.least, q.least);
-    moves = omega (arith, p.moves, q.moves, few);
-    kept = λ same. let a : u.capacity ≡ v.capacity = omega arith in
-        let b : w.capacity ≡ u.capacity = omega arith in let f = p.kept a in let h = q.kept b in
-        (h.0 ∙ f.0, h.1 ∙ f.1);
-    grown = λ more. elim (cases_lt v.capacity u.capacity) [
-      | inl first ↦ elim (cases_lt u.capacity w.capacity) [
-        | inl again ↦ let f = p.grown first in let h = q.grown again in
-            (omega (arith, f.0, h.0), omega (arith, f.1, h.1))
-        | inr still ↦ let f = p.grown first in let h = q.kept (omega arith) in
-            (omega (arith, f.0, h.0), omega (arith, f.1, h.1))
-      ]
-      | inr still ↦ let f = p.kept (omega arith) in let h = q.grown (omega arith) in
-          (omega (arith, f.0, h.0), omega (arith, f.1, h.1, long))
-    ];
   }
 
 -- if P holds for the error of a result, and Q follows from P, then Q holds for the error
@@ -242,17 +204,15 @@ module _ {S X A : Type 0} (steps : S → Option X → S → Type 0) (can : S →
         λ _. none,
       )
 
--- the cause of a `finish` that failed with the error `error`, where v is the list after the failure,
--- and `left` bounds the rest of the iterator
+-- the cause of a `finish` that failed with the error `error`, where v is the list after the
+-- failure, and `left` bounds the rest of the iterator
 module _ {S T A : Type 0} (rule : Rule) (R : RattleType) (v : Thin T A) (tail : List T)
     (left : Count) (error : SpliceRefused T S A) where
   -- if there is a tail, no item is held and none is in hand, the cause follows from the hint
   pub stop-at-hint : 0 < length tail → error.held.items ≡ [] → error.in_hand ≡ None
-      → (MustOverflow rule R v left → error.cause ≡ CapacityOverflow)
-      → (error.cause ≡ CapacityOverflow → MayOverflow rule R v left)
-      → IsStopCause rule R v tail left error
-  stop-at-hint some none empty over why = record {
-    by_hint = λ _ _. (over, why);
+      → FailsAtHint rule R v left error.cause → IsStopCause rule R v tail left error
+  stop-at-hint some none empty fails = record {
+    by_hint = λ _ _. fails;
     by_held = λ more _. absurd (omega (arith, more, ap length none));
     by_in_hand = λ _ is. absurd (false≢true (subst IsSome empty is));
     by_push = λ no_tail. absurd (omega (arith, some, ap length no_tail));
@@ -277,10 +237,9 @@ module _ {S T A : Type 0} (rule : Rule) (R : RattleType) (v : Thin T A) (tail : 
       → error.cause ≡ e.cause → error.in_hand ≡ e.in_hand → IsExtendCause rule R v left e
       → IsStopCause rule R v tail left error
   stop-at-end e no_tail none same hand by = record {
-    by_hint = λ _ empty. let gone : e.in_hand ≡ None = sym hand ∙ empty in (
-      λ must. same ∙ by.must gone must,
-      λ is. by.may gone (sym same ∙ is),
-    );
+    by_hint = λ _ empty.
+        subst (λ cause. FailsAtHint rule R v left cause) (sym same)
+        (by.by_hint (sym hand ∙ empty));
     by_held = λ more _. absurd (omega (arith, more, ap length none));
     by_in_hand = λ some _. absurd (omega (arith, some, ap length no_tail));
     by_push = λ _ some. let push = by.by_push (subst IsSome hand some) in (
@@ -348,17 +307,6 @@ module _ {T A : Type 0} where
       ∙ (ap (λ l. l ++ xs) (append-nil v.front)
       ∙ (sym (append-nil (v.front ++ xs)) ∙ (λ i. (v.front ++ xs) ++ sym none i)))
 
-  -- if v and w satisfy `IsExtendCost`, they satisfy `IsSpliced`
-  pub spliced-extended : (v w : Thin T A) (n : ℕ) → IsExtendCost v w → IsSpliced v w n
-  spliced-extended v w n p =
-      record {
-        copied = p.copied;
-        least = omega (arith, p.moves);
-        moves = omega (arith, p.moves);
-        kept = p.kept;
-        grown = p.grown;
-      }
-
 -- what a step of `finish` does to a list
 module _ (rule : Rule) (R : RattleType) {T A : Type 0} where
   -- if k items were placed into spare capacity, with k + m moves, and m ≤ n, then v and w satisfy
@@ -369,7 +317,7 @@ module _ (rule : Rule) (R : RattleType) {T A : Type 0} where
   taken-spare v w k m n left paid same long few from = record {
     capacity = inl same;
     had_room = λ _. same;
-    cost = spliced-run v w k m n paid same long few;
+    cost = adding-run v w k m n paid same long few;
     alloc = from;
     cheap = λ p. record {
       none = λ z. let f = p.none (omega (arith, z, same)) in
@@ -403,7 +351,7 @@ module _ (rule : Rule) (R : RattleType) {T A : Type 0} where
     taken-reserved v w h left named same from paid cheap allowed room = record {
       capacity = loose-ruled rule R law v h w.capacity named;
       had_room = λ fit. cap-kept rule R law v h w.capacity (omega (arith, fit, allowed)) named;
-      cost = spliced-reserved v w paid same
+      cost = filled-reserved v w paid same
           (cost_at-copied rule R law v h w.capacity room named);
       alloc = from;
       cheap = cheap;
@@ -418,8 +366,9 @@ module _ (rule : Rule) (R : RattleType) {T A : Type 0} where
     taken-join v u w m n k left more few long room p q = record {
       capacity = loose-join rule R law v.capacity u.capacity w.capacity p.capacity q.capacity;
       had_room = λ fit. let same = p.had_room fit in q.had_room (room fit same) ∙ same;
-      cost = spliced-join v u w m n k few (loose-le rule R law v.capacity u.capacity p.capacity)
-          (loose-le rule R law u.capacity w.capacity q.capacity) long p.cost q.cost;
+      cost = adding-join m n k few p.cost q.cost
+          (loose-le rule R law v.capacity u.capacity p.capacity)
+          (loose-le rule R law u.capacity w.capacity q.capacity) long;
       alloc = q.alloc ∙ p.alloc;
       cheap = λ c. q.cheap (p.cheap c);
     }

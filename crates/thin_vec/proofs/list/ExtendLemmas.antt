@@ -21,7 +21,7 @@ use Rattle.thin_block.specs.Slots.{full, laid}
 use Rattle.thin_block.proofs.CapacityLemmas.{ruled-grows}
 use Rattle.thin_block.proofs.SlotsLemmas.{laid-one}
 use Rattle.std.specs.Prelude.{◌⊎◌}
-use Rattle.thin_vec.specs.List.Extend.{IsCollected, IsExtendCost, IsKeptOrRuled, IsLoose, PausedAfter}
+use Rattle.thin_vec.specs.List.Extend.{IsCollected, CostsAdding, IsKeptOrRuled, IsLoose, PausedAfter}
 use Rattle.thin_vec.specs.ThinVec.{Thin, capacity_for, cost_at}
 use Rattle.thin_vec.specs.declared.errors.ExtendRefused.{ExtendRefused}
 use Rattle.thin_vec.proofs.RetainLemmas.{moving-more, moving-none}
@@ -85,7 +85,7 @@ module _ {S X : Type 0} (steps : S → Option X → S → Type 0) (s : S) where
       (λ l. (xs : List X) × P xs × (l ≡ xs ++ option_to_list (hand e)))
       all.2.gave (all.0, all.1, refl)
 
--- if o has a value and P holds, then the cases of o hold, the second of which is P
+-- if o has a value, and P holds, then `MatchOption o Q (λ _. P)` holds
 pub match-some : {X : Type 0} (P Q : Type 0) (o : Option X) → IsSome o → P
     → MatchOption o Q (λ _. P)
 match-some P Q (Some x) some p = p
@@ -95,8 +95,8 @@ match-some P Q None some p = absurd (false≢true some)
 pub hand-empty : {X : Type 0} {o : Option X} → IsSome o → o ≡ None → ⊥
 hand-empty some none = false≢true (subst IsSome none some)
 
--- if a failed call always has an item in hand, and then P holds, then for each error the cases of
--- the item in hand hold, the second of which is P
+-- if each error of a result has an item in hand, and P holds if the result is an error, then
+-- `MatchOption error.in_hand (Q error) (λ _. P)` holds of the error
 pub full-in-hand : {T S : Type 0} (P : Type 0) (Q : ExtendRefused T S → Type 0)
     (r : Result (Unit {0}) (ExtendRefused T S)) → IfErr r (λ error. IsSome error.in_hand)
     → OnErr r P → IfErr r (λ error. MatchOption error.in_hand (Q error) (λ _. P))
@@ -171,8 +171,8 @@ module _ (rule : Rule) (R : RattleType) (law : KeepsLaw rule) where
   ruled-more c n m same more (inr p) =
       inr (p.0, p.1, p.2, omega (arith, p.3, more), p.4 ∙ ap Some (sym same))
 
-  -- if the capacity e satisfies `IsKeptOrRuled` after d, then it satisfies it after c, or e is d, and
-  -- then P holds
+  -- if the capacity e satisfies `IsKeptOrRuled` after d, then it satisfies it after c, or e is d,
+  -- and then P holds
   pub ruled-after : (c d e n : ℕ) (P : Type 0) → IsKeptOrRuled rule R d e n → (e ≡ d → P)
       → IsKeptOrRuled rule R c e n ⊎ P
   ruled-after c d e n P (inl same) f = inr (f same)
@@ -196,12 +196,13 @@ module _ (rule : Rule) (R : RattleType) (law : KeepsLaw rule) where
 
 module _ {T A : Type 0} where
   -- if k items were appended to v with k moves, after at most one growth, v and w satisfy
-  -- `IsExtendCost`
+  -- `CostsAdding` with no other move
   pub filled-at : (v w : Thin T A) (k : ℕ) → w.cost ≡ moving k (cost_at v w.capacity)
       → length w.items ≡ length v.items + k
-      → (cost_at v w.capacity).grown + v.capacity ≤ v.cost.grown + w.capacity → IsExtendCost v w
+      → (cost_at v w.capacity).grown + v.capacity ≤ v.cost.grown + w.capacity → CostsAdding v w 0
   filled-at v w k e n few = record {
     copied = omega (arith, ap (λ c. c.grown) e, few);
+    least = omega (arith, ap (λ c. c.moves) e, cost_at-moves v w.capacity, n);
     moves = omega (arith, ap (λ c. c.moves) e, cost_at-moves v w.capacity, n);
     kept = λ same. (
       ap (λ c. c.blocks) (e ∙ ap (λ c. moving k c) (cost_at-same v w.capacity same)),
@@ -211,10 +212,10 @@ module _ {T A : Type 0} where
         (omega (arith, ap (λ c. c.blocks) f), omega (arith, ap (λ c. c.grown) f));
   }
 
-  -- if v only grew, and no item was appended, v and w satisfy `IsExtendCost`
+  -- if v only grew, and no item was appended, v and w satisfy `CostsAdding`
   pub filled-reserved : (v w : Thin T A) → w.cost ≡ cost_at v w.capacity
       → w.items ≡ v.items
-      → (cost_at v w.capacity).grown + v.capacity ≤ v.cost.grown + w.capacity → IsExtendCost v w
+      → (cost_at v w.capacity).grown + v.capacity ≤ v.cost.grown + w.capacity → CostsAdding v w 0
   filled-reserved v w e n few =
       filled-at v w 0 (e
       ∙ (λ i. record {
@@ -227,24 +228,25 @@ module _ {T A : Type 0} where
       })) (omega (arith, ap length n)) few
 
   -- if k items were appended to v with k moves, and the capacity did not change, v and w satisfy
-  -- `IsExtendCost`
+  -- `CostsAdding`
   pub filled-spare : (v w : Thin T A) (k : ℕ)
       → w ≡ record v { items = w.items; cost = moving k v.cost }
-      → length w.items ≡ length v.items + k → IsExtendCost v w
+      → length w.items ≡ length v.items + k → CostsAdding v w 0
   filled-spare v w k e n =
       let same : w.capacity ≡ v.capacity = ap (λ u. u.capacity) e in
       let kept : cost_at v w.capacity ≡ v.cost = cost_at-same v w.capacity same in
       filled-at v w k (ap (λ u. u.cost) e ∙ ap (λ c. moving k c) (sym kept)) n
       (omega (arith, ap (λ c. c.grown) kept, same))
 
-  -- if `IsExtendCost` holds for v and u, and for u and w, it holds for v and w, provided that no
-  -- capacity shrinks and u has at least as many items as v
-  pub filled-join : {v u w : Thin T A} → IsExtendCost v u → IsExtendCost u w
-      → v.capacity ≤ u.capacity → u.capacity ≤ w.capacity → length v.items ≤ length u.items
-      → IsExtendCost v w
-  filled-join {v} {u} {w} p q low high long = record {
+  -- if v and u satisfy `CostsAdding` with m other moves, and u and w with n, then v and w do with
+  -- k, provided that m + n ≤ k, no capacity shrinks, and u has at least as many items as v
+  pub adding-join : {v u w : Thin T A} (m n k : ℕ) → m + n ≤ k → CostsAdding v u m
+      → CostsAdding u w n → v.capacity ≤ u.capacity → u.capacity ≤ w.capacity
+      → length v.items ≤ length u.items → CostsAdding v w k
+  adding-join {v} {u} {w} m n k few p q low high long = record {
     copied = omega (arith, p.copied, q.copied);
-    moves = omega (arith, p.moves, q.moves);
+    least = omega (arith, p.least, q.least);
+    moves = omega (arith, p.moves, q.moves, few);
     kept = λ same. let a : u.capacity ≡ v.capacity = omega arith in
         let b : w.capacity ≡ u.capacity = omega arith in let f = p.kept a in let h = q.kept b in
         (h.0 ∙ f.0, h.1 ∙ f.1);
@@ -258,4 +260,14 @@ module _ {T A : Type 0} where
       | inr still ↦ let f = p.kept (omega arith) in let h = q.grown (omega arith) in
           (omega (arith, f.0, h.0), omega (arith, f.1, h.1, long))
     ];
+  }
+
+  -- if v and w satisfy `CostsAdding` with no other move, they do with n other moves
+  pub adding-more : (v w : Thin T A) (n : ℕ) → CostsAdding v w 0 → CostsAdding v w n
+  adding-more v w n p = record {
+    copied = p.copied;
+    least = p.least;
+    moves = omega (arith, p.moves);
+    kept = p.kept;
+    grown = p.grown;
   }

@@ -18,8 +18,9 @@ tells-ok x named n is = record {
   overflow = (λ e. ok-err x CapacityOverflow e, λ none. absurd (none-some none is));
 }
 
--- if m items of R and n items of S have the same exact capacity, and a call that made a list for the
--- former succeeded, then a result `Ok` of a call that makes one for the latter tells no overflow
+-- if m items of R and n items of S have the same exact capacity, and a call that made a list for
+-- the former succeeded, then a result `Ok` of a call that makes one for the latter tells no
+-- overflow
 pub tells-made : {X : Type 0} {x y : X} (R S : RattleType) (m n : ℕ)
     → exact_capacity R 0 m ≡ exact_capacity S 0 n
     → TellsOverflowOf R m (let r : Result X ThinVecError = Ok x in r)
@@ -31,8 +32,8 @@ tells-made {x = x} {y} R S m n e told = record {
   );
 }
 
--- if m items of R and n items of S have the same exact capacity, a result that tells an overflow for
--- the former tells it for the latter
+-- if m items of R and n items of S have the same exact capacity, a result that tells an overflow
+-- for the former tells it for the latter
 pub tells-same : {X : Type 0} {r : Result X ThinVecError} (R S : RattleType) (m n : ℕ)
     → exact_capacity R 0 m ≡ exact_capacity S 0 n → TellsOverflowOf R m r → TellsOverflowOf S n r
 tells-same R S m n e told = record {

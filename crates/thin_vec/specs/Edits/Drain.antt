@@ -46,8 +46,8 @@ module _ {T A G : Type 0} {g : Ghosts G} {h : HoldsGhosts (Holder (Open T A)) (O
     pub alloc : drain_alloc new ≡ drain_alloc old
     pub cost : drain_cost new ≡ drain_cost old
 
-  -- a call of `next` on `old` returned `item` and led to `new`: it yields the first item, or returns
-  -- `None` if no item is left
+  -- a call of `next` on `old` returned `item` and led to `new`: it yields the first item, or
+  -- returns `None` if no item is left
   pub record DrainSteps (old : Drain T A G (Holder (Open T A)) g h) (item : Option T)
       (new : Drain T A G (Holder (Open T A)) g h) : Type 0 where
     pub gave : MatchOption item ((drain_rest old ≡ []) × (drain_rest new ≡ []))
@@ -68,12 +68,12 @@ module _ {T A G : Type 0} {g : Ghosts G} {h : HoldsGhosts (Holder (Open T A)) (O
   DrainKeepsAlong first = (items : List T) (later : Drain T A G (Holder (Open T A)) g h)
       → Yields DrainSteps first items later → DrainKeeps first later
 
-  -- each run of calls of `next` yields the remaining items in order. The argument only fixes the
-  -- type of `Drain`
+  -- whatever state calls of `next` begin in, they yield the items of `drain_rest` in order. This
+  -- holds of all states of this type, so the argument only names the type
   abbrev pub DrainsInOrder : Drain T A G (Holder (Open T A)) g h → Type 0
   DrainsInOrder d = YieldsInOrder DrainSteps drain_rest
 
-  -- each run of calls of `next_back` yields the remaining items in reverse. The argument only fixes
-  -- the type of `Drain`
+  -- whatever state calls of `next_back` begin in, they yield the items of `drain_rest` in reverse.
+  -- This holds of all states of this type, so the argument only names the type
   abbrev pub DrainsInReverse : Drain T A G (Holder (Open T A)) g h → Type 0
   DrainsInReverse d = YieldsInReverse DrainStepsBack drain_rest

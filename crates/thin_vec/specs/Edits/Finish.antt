@@ -7,8 +7,8 @@ use Rattle.std.specs.Borrow.{RattleType}
 use Rattle.thin_block.specs.Cost.{moving}
 use Rattle.thin_block.specs.Growth.{Rule}
 use Rattle.thin_vec.specs.Cheap.{IsCheap}
-use Rattle.thin_vec.specs.List.Extend.{IsExtended, IsLoose}
-use Rattle.thin_vec.specs.Edits.Splice.{FailsAsExtend, IsSpliced, IsStopCause, Stopped, left_of, with_between}
+use Rattle.thin_vec.specs.List.Extend.{CostsAdding, IsExtended, IsLoose}
+use Rattle.thin_vec.specs.Edits.Splice.{FailsAsExtend, IsStopCause, Stopped, left_of, with_between}
 use Rattle.thin_vec.specs.Open.{Open}
 use Rattle.thin_vec.specs.ThinVec.{HasRoomFor, Thin}
 use Rattle.thin_vec.specs.declared.errors.SpliceRefused.{SpliceRefused}
@@ -20,7 +20,7 @@ module _ {T A : Type 0} where
       (left : Count) : Type 0 where
     pub capacity : IsLoose rule R v.capacity w.capacity
     pub had_room : HasRoomFor v (size left) → w.capacity ≡ v.capacity
-    pub cost : IsSpliced v w n
+    pub cost : CostsAdding v w n
     pub alloc : w.alloc ≡ v.alloc
     pub cheap : IsCheap v → IsCheap w
 

@@ -1,11 +1,9 @@
 -- Which items a list has after a range of it was replaced, and how many moves this takes. (std:
 -- `Vec::splice`)
-use Rattle.std.specs.Prelude.{◌≡◌, ℕ, ◌+◌, ◌-◌, ◌*◌, ◌==◌, ◌≤◌, List, Some, if◌then◌else◌, length, min}
-use Rattle.std.specs.Borrow.{RattleType}
+use Rattle.std.specs.Prelude.{◌≡◌, ℕ, ◌+◌, ◌-◌, ◌==◌, ◌≤◌, List, if◌then◌else◌, length, min}
 use Rattle.std.specs.List.{AllZip, replace_range}
 use Rattle.thin_block.specs.Cost.{Cost, moving}
-use Rattle.thin_block.specs.Growth.{Rule}
-use Rattle.thin_vec.specs.ThinVec.{Thin, capacity_for, cost_at}
+use Rattle.thin_vec.specs.ThinVec.{Thin, cost_at}
 
 module _ {T A : Type 0} where
   -- The number of moves if `k` new items replace the items of `v` from index `i` up to `j`. There
@@ -14,9 +12,9 @@ module _ {T A : Type 0} where
   abbrev pub moves_replacing : Thin T A → ℕ → ℕ → ℕ → ℕ
   moves_replacing v i j k = k + (if k == j - i then 0 else length v.items - j)
 
-  -- The number of moves if `k` clones replace the items of `v` from index `i` up to `j`, and are
-  -- made while the old items are still in the list. These are the moves of `moves_replacing`, and
-  -- one more move for each clone that is moved into a place of the range.
+  -- The number of moves if `k` clones, which are made while the old items are still in the list,
+  -- replace the items of `v` with the indices from `i` up to, but not including, `j`. These are the
+  -- moves of `moves_replacing`, and one more move for each clone that is moved into the range.
   abbrev pub moves_cloning : Thin T A → ℕ → ℕ → ℕ → ℕ
   moves_cloning v i j k = moves_replacing v i j k + min k (j - i)
 

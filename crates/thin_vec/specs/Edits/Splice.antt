@@ -8,7 +8,7 @@ use Rattle.std.specs.Borrow.{GName, RattleType}
 use Rattle.thin_block.specs.declared.errors.ThinVecError.TheVariants.{CapacityOverflow, OutOfMemory}
 use Rattle.thin_block.specs.Growth.{Rule}
 use Rattle.thin_block.specs.declared.growth.Growth.{Ghosts}
-use Rattle.thin_vec.specs.List.Extend.{MayOverflow, MustOverflow, PausedAfter}
+use Rattle.thin_vec.specs.List.Extend.{FailsAtHint, PausedAfter}
 use Rattle.thin_vec.specs.Open.{Open}
 use Rattle.thin_vec.specs.ThinVec.{HasRoomFor, Thin, capacity_for}
 use Rattle.thin_vec.specs.declared.errors.SpliceRefused.{SpliceRefused}
@@ -29,47 +29,32 @@ module _ {S T A : Type 0} (steps : S → Option T → S → Type 0) where
       × YieldsThen steps s (placed ++ error.held.items) None error.rest)
 
 module _ {T A : Type 0} where
-  -- what the list w, which was v before items were inserted into it, has cost
-  pub record IsSpliced (v w : Thin T A) (n : ℕ) : Type 0 where
-    -- one move for each inserted item, and at most n moves of other items
-    pub least : v.cost.moves + length w.items ≤ w.cost.moves + length v.items
-    pub moves : w.cost.moves + length v.items ≤ v.cost.moves + n + length w.items
-    -- if the capacity stayed, no block and no copied item was added
-    pub kept : w.capacity ≡ v.capacity → (w.cost.blocks ≡ v.cost.blocks)
-        × (w.cost.grown ≡ v.cost.grown)
-    -- if the capacity grew, there is at least one block more, and at least the items of v were
-    -- copied
-    pub grown : v.capacity < w.capacity → (v.cost.blocks < w.cost.blocks)
-        × (v.cost.grown + length v.items ≤ w.cost.grown)
-    -- growth has copied at most as many items as the capacity has grown by
-    pub copied : w.cost.grown + v.capacity ≤ v.cost.grown + w.capacity
-
   -- why `finish` failed, which left the list w; `tail` is the items after the range, and `left`
   -- bounds the rest of the iterator
   pub record IsStopCause {S : Type 0} (rule : Rule) (R : RattleType) (w : Thin T A) (tail : List T)
       (left : Count) (error : SpliceRefused T S A) : Type 0 where
-    -- with no item held or in hand, the cause is `CapacityOverflow` if each allowed hint overflows,
-    -- and only if some allowed hint does
+    -- with no item held or in hand, room for the hint could not be reserved
     pub by_hint : error.held.items ≡ [] → error.in_hand ≡ None
-        → (MustOverflow rule R w left → error.cause ≡ CapacityOverflow)
-        × (error.cause ≡ CapacityOverflow → MayOverflow rule R w left)
-    -- with items held and none in hand, it is so if and only if no capacity is ruled for them
+        → FailsAtHint rule R w left error.cause
+    -- with items held and none in hand, the cause is `CapacityOverflow` if and only if there is no
+    -- ruled capacity for them
     pub by_held : 0 < length error.held.items → error.in_hand ≡ None
         → (error.cause ≡ CapacityOverflow)
         ↔ (capacity_for rule R w (length error.held.items) ≡ None)
     -- with an item in hand before a tail, there was no memory to hold it
     pub by_in_hand : 0 < length tail → IsSome error.in_hand → error.cause ≡ OutOfMemory
-    -- with an item in hand and no tail, it is so if and only if no capacity is ruled for one item
-    -- more
+    -- with an item in hand and no tail, the cause is `CapacityOverflow` if and only if there is no
+    -- ruled capacity for one item more
     pub by_push : tail ≡ [] → IsSome error.in_hand
         → (error.cause ≡ CapacityOverflow) ↔ (capacity_for rule R w 1 ≡ None)
 
-  -- `finish` failed with no item after the range, and the list v without the range became w: the
-  -- call fails as `extend` does with the iterator `s`
+  -- `finish` failed with no item after the range. The list v without the range became w, and `s` is
+  -- the iterator
   pub record FailsAsExtend {S : Type 0} (v w : Thin T A) (s : S) (error : SpliceRefused T S A)
       : Type 0 where
     pub held : error.held.items ≡ []
-    -- if no item is in hand, nothing was drawn; if one is, the list is full
+    -- if no item is in hand, nothing was drawn and the list lacks only the range; if an item is in
+    -- hand, the list is full
     pub in_hand : MatchOption error.in_hand ((w ≡ v) × (error.rest ≡ s))
         (λ _. length w.items ≡ w.capacity)
 
@@ -108,7 +93,7 @@ module _ {I T A G H : Type 0} {g : Ghosts G} {h : HoldsGhosts H (Open T A)} wher
   abbrev pub splice_lender : Splice I T A G H g h → GName
   splice_lender s = s.list.ghost_name
 
-  -- the list without the range, as it will be if the iterator yields no item and no item has moved
+  -- the list without the range, with the cost before any item after the range has moved
   abbrev pub splice_left : Splice I T A G H g h → Thin T A
   splice_left s = left_of (splice_block s) (splice_alloc s)
 
@@ -139,8 +124,8 @@ module _ {I T A G H : Type 0} {g : Ghosts G} {h : HoldsGhosts H (Open T A)} wher
     pub alloc : splice_alloc new ≡ splice_alloc old
     pub cost : (splice_block new).cost ≡ (splice_block old).cost
 
-  -- a call of `next` on `old` returned `item` and led to `new`: it yields the first item, or returns
-  -- `None` if no item is left
+  -- a call of `next` on `old` returned `item` and led to `new`: it yields the first item, or
+  -- returns `None` if no item is left
   pub record SpliceSteps (old : Splice I T A G H g h) (item : Option T)
       (new : Splice I T A G H g h) : Type 0 where
     pub gave : MatchOption item

@@ -1,10 +1,11 @@
--- What the calls that may grow a list state of its capacity, its cost and their error. Throughout, v
--- is the list before the call, w the list after it, k the number of further items for which the
+-- What the calls that may grow a list state of its capacity, its cost and their error. Throughout,
+-- v is the list before the call, w the list after it, k the number of further items for which the
 -- call needs room, R the type of the items, and r the result of the call. (std: `Vec::reserve`)
 --
 -- The ruled capacity for k further items is `capacity_for rule R v k`. It is the old capacity if v
 -- has room for them. Otherwise it is what the growth rule of the list gives: by default, twice the
--- old capacity (4 if the old one is 0), or the number of items if that is more. It is `None` if it
+-- old capacity (4 if the old one is 0), or the number of items if that is more. Every rule gives at
+-- least twice the old capacity and at least the number of items (`KeepsLaw`). It is `None` if it
 -- would be too large for a block.
 use Rattle.std.specs.Prelude.{◌≡◌, ◌↔◌, ◌⊎◌, ℕ, ◌≤◌, IsErrOf, OnErr, OnOk, Option, Result}
 use Rattle.std.specs.declared.option.Option.TheVariants.{None, Some}
@@ -37,7 +38,7 @@ pub record TellsOverflowOf {X : Type 0} (R : RattleType) (n : ℕ) (r : Result X
 
 module _ {T A : Type 0} where
   -- the call has cost n moves; if the capacity changed, it has also cost one block, into which the
-  -- items of v were copied. (A `Cost` has three counts: blocks, items copied by growth, and moves)
+  -- items of v were copied
   abbrev pub Costs : ℕ → Thin T A → Thin T A → Type 0
   Costs n v w = w.cost ≡ moving n (cost_at v w.capacity)
 
@@ -49,14 +50,14 @@ module _ {T A : Type 0} where
     -- on success, the capacity is the ruled one for k further items
     pub ok : OnOk r (capacity_for rule R v k ≡ Some w.capacity)
     -- on failure, the list is unchanged, or it has grown to that capacity and a clone failed then.
-    -- (Calls that make no clone have a clause `err`: their list is unchanged)
+    -- (The clause `err` of each call says when the list is unchanged)
     pub err : OnErr r ((w ≡ v) ⊎ (capacity_for rule R v k ≡ Some w.capacity))
-    -- the error is `CapacityOverflow` if and only if there is no such capacity, so any other failure
-    -- is `OutOfMemory`
+    -- the error is `CapacityOverflow` if and only if there is no such capacity. There are only two
+    -- kinds of error, so any other failure is `OutOfMemory`
     pub overflow : IsErrOf r CapacityOverflow ↔ (capacity_for rule R v k ≡ None)
 
-  -- what no call that may grow a list breaks: the allocator stays, the capacity does not shrink, a
-  -- cheap list stays cheap, and the items are within the capacity (`IsWithin`) before and after
+  -- what each call that may grow a list preserves: the allocator stays, the capacity does not
+  -- shrink, a cheap list stays cheap, and the items are within the capacity before and after
   pub record Keeps (R : RattleType) (v w : Thin T A) : Type 0 where
     pub alloc : w.alloc ≡ v.alloc
     pub never_less : v.capacity ≤ w.capacity

@@ -1,14 +1,13 @@
 -- What the calls that clone items guarantee about the clones, and about a clone that fails.
 -- Throughout, `clones x y` says that y may be a clone of x, and `infallible x` that cloning x
 -- cannot fail. (std: `Clone`)
-use Rattle.std.specs.Prelude.{◌≡◌, ℕ, ◌<◌, ◌≤◌, List, [], ◌∷◌, ◌++◌, All, HoldsAt, Option, Some, length, take}
+use Rattle.std.specs.Prelude.{◌≡◌, ℕ, ◌<◌, ◌≤◌, List, [], ◌∷◌, ◌++◌, All, HoldsAt, Option, length, take}
 use Rattle.std.specs.Borrow.{RattleType}
 use Rattle.std.specs.List.{AllZip}
 use Rattle.thin_block.specs.Cost.{Cost, moving}
-use Rattle.thin_block.specs.Growth.{Rule}
 use Rattle.thin_block.specs.Slots.{full, laid}
 use Rattle.thin_vec.specs.Cheap.{IsCheap}
-use Rattle.thin_vec.specs.ThinVec.{IsWithin, Thin, capacity_for, cost_at, cost_new}
+use Rattle.thin_vec.specs.ThinVec.{IsWithin, Thin, cost_at, cost_new}
 
 module _ {T : Type 0} (clones : T → T → Type 0) where
   -- every clone of x equals x
@@ -50,8 +49,8 @@ pub record IsResized {T : Type 0} (clones : T → T → Type 0) (xs : List T) (n
       × (ys ≡ xs ++ (copies ++ x ∷ []))
   pub len : length ys ≡ n
 
--- `at` is the index of a source whose clone can fail, and the cost is `before` plus one move for
--- each source before `at`
+-- a clone failed: `at` is the index of its source, whose clone can fail. The clones of the sources
+-- before it were made, so the cost `after` is `before` plus one move for each of them
 pub record StopsAtClone {T : Type 0} (infallible : T → Type 0) (sources : List T)
     (before after : Cost) : Type 0 where
   pub at : ℕ

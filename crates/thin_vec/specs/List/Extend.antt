@@ -1,12 +1,13 @@
--- What the calls that draw items from an iterator leave: the items, the capacity, the cost, the rest
--- of the iterator, and the error. Throughout, v is the list before the call, w the list after it, R
--- the type of the items, and `left` bounds how many items the iterator may still yield. (std:
+-- What the calls that draw items from an iterator leave: the items, the capacity, the cost, the
+-- rest of the iterator, and the error. Throughout, v is the list before the call, w the list after
+-- it, R the type of the items, and `left` bounds how many items the iterator may still yield. (std:
 -- `Vec::extend`)
 use Rattle.std.specs.Prelude.{◌≡◌, ◌↔◌, ◌⊎◌, ℕ, ◌+◌, ◌<◌, ◌≤◌, IsSome, List, ◌++◌, Option, length}
 use Rattle.std.specs.Iterator.{Count, IsFinite, Yields, size}
 use Rattle.std.specs.Iterator.SizeHint.{IsWithinCount}
 use Rattle.std.specs.declared.option.Option.TheVariants.{None, Some}
 use Rattle.std.specs.Borrow.{RattleType}
+use Rattle.thin_block.specs.declared.errors.ThinVecError.{ThinVecError}
 use Rattle.thin_block.specs.declared.errors.ThinVecError.TheVariants.{CapacityOverflow}
 use Rattle.thin_block.specs.Growth.{Rule, exact_capacity, ruled_capacity}
 use Rattle.thin_vec.specs.Cheap.{IsCheap}
@@ -23,30 +24,32 @@ pub record PausedAfter {S X : Type 0} (steps : S → Option X → S → Type 0) 
   pub can_next : can t
   pub finite : IsFinite (remaining t)
 
--- the capacity d, which was c, stayed, or it is at least the capacity that the rule gives to some
--- want w greater than c
+-- the capacity, which was c and is d, stayed, or it grew at least to the capacity that the rule
+-- gives if a block of capacity c needs room for w items, where w is some number greater than c. So
+-- it stayed or at least doubled
 abbrev pub IsLoose : Rule → RattleType → ℕ → ℕ → Type 0
 IsLoose rule R c d =
     (d ≡ c) ⊎ ((w : ℕ) × (n : ℕ) × (c < w) × (ruled_capacity rule R c w ≡ Some n) × (n ≤ d))
 
--- d is the capacity that the rule gives to some want w of at most n items, after some capacity e
--- less than w
+-- the last growth was to the capacity d: it is what the rule gives if a block of some capacity e
+-- needs room for w items, where w is some number greater than e and at most n. (By `Doubling`, d is
+-- then at most 4 or 2 * n)
 abbrev pub IsRuled : Rule → RattleType → ℕ → ℕ → Type 0
 IsRuled rule R d n = (e w : ℕ) × (e < w) × (w ≤ n) × (ruled_capacity rule R e w ≡ Some d)
 
--- the capacity d, which was c, stayed, or it is a ruled one for at most n items
+-- the capacity, which was c and is d, stayed, or its last growth was for at most n items
 abbrev pub IsKeptOrRuled : Rule → RattleType → ℕ → ℕ → ℕ → Type 0
 IsKeptOrRuled rule R c d n = (d ≡ c) ⊎ IsRuled rule R d n
 
--- d is the capacity of the list v after n items are in it: v's capacity, or a ruled one for at most
--- n items, or the ruled one for as many further items as some allowed hint of the iterator
+-- the capacity of the list v became d, and the list then has n items: the capacity stayed, or its
+-- last growth was for at most n items, or it grew once, for an allowed hint of the iterator
 abbrev pub IsExtended : {T A : Type 0} → Rule → RattleType → Thin T A → ℕ → ℕ → Count → Type 0
 IsExtended rule R v d n left =
     IsKeptOrRuled rule R v.capacity d n
     ⊎ ((h : ℕ) × IsWithinCount h left × (capacity_for rule R v h ≡ Some d))
 
--- d is the capacity of a new list of n items: a ruled one for at most n items, or exactly some
--- allowed hint of the iterator
+-- d is the capacity of a new list of n items: its last growth was for at most n items, or it is
+-- exactly an allowed hint of the iterator
 abbrev pub IsCollected : Rule → RattleType → ℕ → ℕ → Count → Type 0
 IsCollected rule R d n left =
     IsRuled rule R d n ⊎ ((h : ℕ) × IsWithinCount h left × (exact_capacity R 0 h ≡ Some d))
@@ -56,16 +59,17 @@ module _ {T A : Type 0} where
   pub record GrowsFor (rule : Rule) (R : RattleType) (v w : Thin T A) (left : Count) : Type 0 where
     -- if v has room for as many items as the iterator may yield, the capacity stays
     pub had_room : HasRoomFor v (size left) → w.capacity ≡ v.capacity
-    -- the capacity stays, or it is at least a ruled one for a want greater than it
+    -- the capacity stays, or it grows at least as far as the rule says
     pub loose : IsLoose rule R v.capacity w.capacity
-    -- the capacity stays, or it is a ruled one for at most the final number of items, or for an
+    -- the capacity stays, or its last growth was for at most the final number of items, or for an
     -- allowed hint
     pub ruled : IsExtended rule R v w.capacity (length w.items) left
 
-  -- what the list w, which was v before items were added after its own, has cost
-  pub record IsExtendCost (v w : Thin T A) : Type 0 where
-    -- one move for each item
-    pub moves : w.cost.moves + length v.items ≡ v.cost.moves + length w.items
+  -- what it has cost to add items to the list v, which became w: one move for each added item, and
+  -- at most n moves of other items (the two inequalities are sums without subtraction)
+  pub record CostsAdding (v w : Thin T A) (n : ℕ) : Type 0 where
+    pub least : v.cost.moves + length w.items ≤ w.cost.moves + length v.items
+    pub moves : w.cost.moves + length v.items ≤ v.cost.moves + n + length w.items
     -- if the capacity stayed, no block and no copied item was added
     pub kept : w.capacity ≡ v.capacity → (w.cost.blocks ≡ v.cost.blocks)
         × (w.cost.grown ≡ v.cost.grown)
@@ -81,7 +85,8 @@ module _ {T A : Type 0} where
       : Type 0 where
     -- without an item to yield, the list has no capacity
     pub none : size left ≡ 0 → w.capacity ≡ 0
-    -- the capacity is a ruled one for at most the number of items, or exactly an allowed hint
+    -- the last growth was for at most the final number of items, or the capacity is exactly an
+    -- allowed hint
     pub ruled : IsCollected rule R w.capacity (length w.items) left
     -- each item was moved once
     pub moves : w.cost.moves ≡ length w.items
@@ -93,7 +98,7 @@ module _ {T A : Type 0} where
   abbrev pub Extends : Rule → RattleType → Thin T A → List T → Thin T A → Type 0
   Extends rule R v xs w =
       (w.items ≡ v.items ++ xs) × (length w.items ≡ length v.items + length xs)
-      × (v.capacity ≤ w.capacity) × IsLoose rule R v.capacity w.capacity × IsExtendCost v w
+      × (v.capacity ≤ w.capacity) × IsLoose rule R v.capacity w.capacity × CostsAdding v w 0
       × (w.alloc ≡ v.alloc) × (IsCheap v → IsCheap w) × IsWithin R w
 
   -- what std's `FromIterator` states of the list v that was made of the items xs
@@ -102,14 +107,13 @@ module _ {T A : Type 0} where
       (v.items ≡ xs) × (length v.items ≡ length xs) × (v.cost.moves ≡ length xs) × IsCheap v
       × IsWithin R v
 
-  -- for some allowed hint of the iterator there is no ruled capacity
-  abbrev pub MayOverflow : Rule → RattleType → Thin T A → Count → Type 0
-  MayOverflow rule R v left = (h : ℕ) × IsWithinCount h left × (capacity_for rule R v h ≡ None)
-
-  -- for each allowed hint of the iterator for which v lacks room there is no ruled capacity
-  abbrev pub MustOverflow : Rule → RattleType → Thin T A → Count → Type 0
-  MustOverflow rule R v left =
-      (h : ℕ) → IsWithinCount h left → ¬ (HasRoomFor v h) → capacity_for rule R v h ≡ None
+  -- a call failed since it could not reserve room for the hint h of its iterator. The list w has no
+  -- room for h items, and the cause is `CapacityOverflow` if and only if there is no ruled capacity
+  -- for them. (h is the lower bound that `size_hint` returned; `left` bounds the iterator)
+  abbrev pub FailsAtHint : Rule → RattleType → Thin T A → Count → ThinVecError → Type 0
+  FailsAtHint rule R w left cause =
+      (h : ℕ) × IsWithinCount h left × ¬ (HasRoomFor w h)
+      × ((cause ≡ CapacityOverflow) ↔ (capacity_for rule R w h ≡ None))
 
   -- why `extend` failed and left the list w: `left` bounds the rest of the iterator
   pub record IsExtendCause {S : Type 0} (rule : Rule) (R : RattleType) (w : Thin T A)
@@ -118,10 +122,8 @@ module _ {T A : Type 0} where
     -- capacity for one item more
     pub by_push : IsSome error.in_hand
         → (error.cause ≡ CapacityOverflow) ↔ (capacity_for rule R w 1 ≡ None)
-    -- with no item in hand, the cause is `CapacityOverflow` if each allowed hint overflows, and
-    -- only if some allowed hint does
-    pub must : error.in_hand ≡ None → MustOverflow rule R w left → error.cause ≡ CapacityOverflow
-    pub may : error.in_hand ≡ None → error.cause ≡ CapacityOverflow → MayOverflow rule R w left
+    -- with no item in hand, room for the hint could not be reserved
+    pub by_hint : error.in_hand ≡ None → FailsAtHint rule R w left error.cause
 
   -- why `from_iter` failed: `left` bounds the rest of the iterator
   pub record IsCollectCause {S : Type 0} (rule : Rule) (R : RattleType) (left : Count)
@@ -130,10 +132,8 @@ module _ {T A : Type 0} where
     -- capacity for one item more
     pub by_push : IsSome error.in_hand
         → (error.cause ≡ CapacityOverflow) ↔ (capacity_for rule R error.list 1 ≡ None)
-    -- with no item in hand, the cause is `CapacityOverflow` if no allowed hint but 0 fits as a
-    -- capacity, and only if some allowed hint does not
-    pub must : error.in_hand ≡ None
-        → ((h : ℕ) → IsWithinCount h left → 0 < h → exact_capacity R 0 h ≡ None)
-        → error.cause ≡ CapacityOverflow
-    pub may : error.in_hand ≡ None → error.cause ≡ CapacityOverflow
-        → (h : ℕ) × IsWithinCount h left × (exact_capacity R 0 h ≡ None)
+    -- with no item in hand, a block for exactly the hint h could not be made: h is not 0, and the
+    -- cause is `CapacityOverflow` if and only if h is too large as a capacity
+    pub by_hint : error.in_hand ≡ None
+        → (h : ℕ) × IsWithinCount h left × (0 < h)
+        × ((error.cause ≡ CapacityOverflow) ↔ (exact_capacity R 0 h ≡ None))

@@ -18,11 +18,16 @@ impl<T, A: Allocator, G: Growth> ThinVec<T, A, G> {
     /// Fails with `OutOfMemory` if `alloc` fails. Then the error holds the list, unchanged, which
     /// the caller owns again, and `alloc` is dropped.
     pub fn into_vec(self, alloc: A) -> Result<Vec<T, A>, Rejected<ThinVec<T, A, G>>>
-        ensures succeeds_empty { length self.items ≡ 0 → IsOk result }
-        ensures cause { IfErr result (λ refused. refused.cause ≡ ThinVecError.OutOfMemory) }
+        // On success.
         ensures items { IfOk result (λ vec. vec.items ≡ self.items) }
         ensures len { IfOk result (λ vec. vec_len vec ≡ length self.items) }
         ensures capacity { IfOk result (λ vec. vec_capacity vec ≡ length self.items) }
+
+        // When it must succeed.
+        ensures succeeds_empty { length self.items ≡ 0 → IsOk result }
+
+        // On failure, the list is returned unchanged.
+        ensures cause { IfErr result (λ refused. refused.cause ≡ ThinVecError.OutOfMemory) }
         ensures value_returned { IfErr result (λ refused. refused.value ≡ self) }
         ensures err_within { IfErr result (λ refused. IsWithin T.row refused.value) }
     {
@@ -60,10 +65,15 @@ impl<T, A: Allocator, G: Growth> ThinVec<T, A, G> {
     /// Fails with `OutOfMemory` if `alloc` fails. Then the error holds the list, unchanged, which
     /// the caller owns again, and `alloc` is dropped.
     pub fn into_boxed_slice(self, alloc: A) -> Result<BoxedSlice<T, A>, Rejected<ThinVec<T, A, G>>>
-        ensures succeeds_empty { length self.items ≡ 0 → IsOk result }
-        ensures cause { IfErr result (λ refused. refused.cause ≡ ThinVecError.OutOfMemory) }
+        // On success.
         ensures items { IfOk result (λ boxed. boxed_slice_items boxed ≡ self.items) }
         ensures len { IfOk result (λ boxed. boxed_slice_len boxed ≡ length self.items) }
+
+        // When it must succeed.
+        ensures succeeds_empty { length self.items ≡ 0 → IsOk result }
+
+        // On failure, the list is returned unchanged.
+        ensures cause { IfErr result (λ refused. refused.cause ≡ ThinVecError.OutOfMemory) }
         ensures value_returned { IfErr result (λ refused. refused.value ≡ self) }
         ensures err_within { IfErr result (λ refused. IsWithin T.row refused.value) }
     {
@@ -83,8 +93,13 @@ impl<T, A: Allocator, G: Growth> ThinVec<T, A, G> {
     /// Fails if the number of items is not `N`. The error is the list, unchanged, which the caller
     /// owns again.
     pub fn into_array<const N: usize>(mut self) -> Result<[T; N], ThinVec<T, A, G>>
-        ensures variant { IsOk result ↔ (length self.items ≡ N) }
+        // On success.
         ensures items { IfOk result (λ items. items ≡ self.items) }
+
+        // When it succeeds.
+        ensures variant { IsOk result ↔ (length self.items ≡ N) }
+
+        // On failure, the list is returned unchanged.
         ensures value_returned { IfErr result (λ list. list ≡ self) }
         ensures err_within { IfErr result (λ list. IsWithin T.row list) }
     {

@@ -187,12 +187,6 @@ impl<T: Clone, A: Allocator, G: Growth> IntoIter<T, A, G> {
     /// Fails with `OutOfMemory` if `alloc` or a clone fails. Then no iterator is made, and the
     /// clones already made and `alloc` are dropped.
     pub fn clone(&self, alloc: A) -> Result<IntoIter<T, A, G>, ThinVecError>
-        // When it must succeed.
-        ensures succeeds_empty { length self.now.items ≡ 0 → IsOk result }
-
-        // On failure.
-        ensures cause { IfErr result (λ cause. cause ≡ ThinVecError.OutOfMemory) }
-
         // On success.
         ensures items { IfOk result (λ it. AllZip T.is_clone self.now.items it.items) }
         ensures items_if_clones_equal { IfOk result (λ it. ClonesEqual T.is_clone
@@ -202,6 +196,12 @@ impl<T: Clone, A: Allocator, G: Growth> IntoIter<T, A, G> {
         ensures cost { IfOk result (λ it. it.cost ≡ moving (length self.now.items)
             (cost_new (length self.now.items))) }
         ensures cheap { IfOk result (λ it. IsCheap it) }
+
+        // When it must succeed.
+        ensures succeeds_empty { length self.now.items ≡ 0 → IsOk result }
+
+        // On failure.
+        ensures cause { IfErr result (λ cause. cause ≡ ThinVecError.OutOfMemory) }
     {
         // This call is only for the prover: its contract says that the capacity fits into a block,
         // and so the number of items does, too.

@@ -17,9 +17,10 @@ use thin_block::{Doubling, Growth};
 
 /// An iterator over the items of a range of a list, which yields them from either end.
 ///
-/// When it is dropped, it drops the items that were not yielded, and the list keeps the items before
-/// and after the range. Until then it owns the list's block, and the list is empty and has no block.
-/// So a `Drain` that is leaked leaves an empty list, and the items of the old list are leaked.
+/// When it is dropped, it drops the items that were not yielded, and the list keeps the items
+/// before and after the range. Until then it owns the list's block, and the list is empty and has
+/// no block. So a `Drain` that is leaked leaves an empty list, and the items of the old list are
+/// leaked.
 pub struct Drain<
     'a,
     T,
@@ -49,7 +50,7 @@ impl<'a, T: Drop, A: Allocator, G: Growth, H: Holds<Inner = OpenBlock<T, A>>> Dr
         block.drop_rest();
         // The list is empty already. This call is for the prover: `close` requires an empty list.
         list.clear();
-        list.close_inline(block);
+        list.close(block);
     }
 }
 
@@ -59,20 +60,23 @@ impl<T: Drop, A: Allocator, G: Growth> ThinVec<T, A, G> {
     /// Removes the items with the indices `start..end` from the list, and returns an iterator that
     /// yields them from either end. The list is borrowed until the iterator is dropped.
     ///
-    /// Once the iterator is dropped, the list has the items before and after the range, whichever
-    /// items were yielded. Neither the call nor the drop allocates memory, and neither can fail. The
-    /// call moves no item; the drop moves each item after the range once. The function `bounds`
-    /// checks a range that is not known to be within bounds.
+    /// When the iterator is dropped, it drops the items that were not yielded. Then the list has
+    /// the items before and after the range, whichever items were yielded. Until then, the list is
+    /// empty and has no block; so it stays empty if the iterator is leaked.
+    ///
+    /// Neither the call nor the drop allocates memory, and neither can fail. The call moves no
+    /// item. The drop moves each item after the range once, or none if the range is empty. The
+    /// function `bounds(start, end, len)` of this crate checks a range that may be out of bounds.
     pub fn drain(&mut self, start: usize, end: usize) -> Drain<'_, T, A, G>
         requires start_le_end { start ≤ end }
         requires in_bounds { end ≤ length self.old.items }
 
-        // What it yields: the items of the range, in order from the front, in reverse from the back.
+        // What it yields: the items of the range, by `next` in order, by `next_back` in reverse.
         ensures rest { drain_rest result ≡ slice_range self.old.items start end }
         ensures runs { DrainsInOrder result }
         ensures runs_back { DrainsInReverse result }
 
-        // What the list is once the `Drain` is dropped.
+        // What the list is once the `Drain` is dropped, by the contract of its `drop`.
         ensures kept { drain_kept result ≡ remove_range self.old.items start end }
         ensures capacity { drain_capacity result ≡ self.old.capacity }
         ensures alloc { drain_alloc result ≡ self.old.alloc }

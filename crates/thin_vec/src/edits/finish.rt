@@ -10,7 +10,7 @@ ghost use Rattle.std.specs.Iterator.{Drains, IsFinite, Yields, YieldsThen, size}
 ghost use Rattle.std.specs.Iterator.SizeHint.{IsWithinCount};
 ghost use Rattle.std.specs.Option.{option_len, option_to_list};
 ghost use Rattle.thin_block.specs.Cost.{moving};
-ghost use Rattle.thin_vec.specs.List.Extend.{IsKeptOrRuled, MayOverflow, MustOverflow};
+ghost use Rattle.thin_vec.specs.List.Extend.{FailsAtHint, IsKeptOrRuled};
 ghost use Rattle.thin_block.specs.Block.{IsFrom};
 ghost use Rattle.thin_vec.specs.Open.{reach};
 ghost use Rattle.thin_vec.specs.Edits.Splice.{IsStopCause, Stopped};
@@ -71,12 +71,8 @@ impl<T, A: Allocator, G: Growth> ThinVec<T, A, G> {
         // On failure, nothing changed.
         ensures err { IfErr result (λ rejected. (self.new ≡ self.old)
             × (rejected.value ≡ iter)) }
-        ensures must { IfErr result
-            (λ rejected. MustOverflow G.rule T.row self.new (I.remaining iter)
-            → rejected.cause ≡ ThinVecError.CapacityOverflow) }
-        ensures may { IfErr result
-            (λ rejected. rejected.cause ≡ ThinVecError.CapacityOverflow
-            → MayOverflow G.rule T.row self.new (I.remaining iter)) }
+        ensures cause { IfErr result
+            (λ rejected. FailsAtHint G.rule T.row self.new (I.remaining iter) rejected.cause) }
 
         // In any case. Each item from `at` on moves at most twice, and once if the room is full.
         ensures taken { HasTaken G.rule T.row self.old self.new

@@ -1,6 +1,6 @@
 //! The method `replace_range`, which replaces the items of a range by clones of other items. If it
 //! fails, the list has its old items.
-ghost use Rattle.std.specs.Prelude.{◌≡◌, ◌⊎◌, ◌+◌, ◌-◌, ◌*◌, ◌==◌, ◌<◌, ◌≤◌, ◌++◌, All, IfErr, IsOk, OnErr, OnOk, drop, if◌then◌else◌, length, take};
+ghost use Rattle.std.specs.Prelude.{◌≡◌, ◌+◌, ◌-◌, ◌*◌, ◌==◌, ◌<◌, ◌≤◌, ◌++◌, All, IfErr, IsOk, OnErr, OnOk, drop, if◌then◌else◌, length, take};
 ghost use Rattle.std.specs.List.{replace_range};
 ghost use Rattle.thin_block.specs.Cost.{moving};
 ghost use Rattle.thin_vec.specs.List.Clones.{ClonesEqual};
@@ -23,9 +23,12 @@ impl<T: Clone, A: Allocator, G: Growth> ThinVec<T, A, G> {
     /// that a clone can fail, and the list then has to have its old items. So the old items are
     /// kept until the last clone is made, and the clones are made in other slots.
     ///
-    /// On success, each item after the range moves at most once. If a clone fails, such an item can
-    /// move up to three times: up, to make a gap for clones; down, to close the part of the gap
-    /// that was not filled; and down again, after the clones in the gap were dropped.
+    /// Clones for the places of the range are made after the last item of the list, and the others
+    /// in a gap that is made before the items after the range. On success, each item after the
+    /// range moves at most once, and each clone for a place of the range moves there. If a clone
+    /// fails, an item after the range can move up to three times: up, when the gap is made; down to
+    /// the clones in the gap, if the gap was not filled; and down to its old place, once these
+    /// clones are dropped.
     ///
     /// # Errors
     ///
@@ -60,7 +63,7 @@ impl<T: Clone, A: Allocator, G: Growth> ThinVec<T, A, G> {
         // On failure.
         ensures err_items { OnErr result (self.new.items ≡ self.old.items) }
         ensures err { All T.is_infallible items.now → OnErr result (self.new ≡ self.old) }
-        ensures err_cost { OnErr result ((self.new ≡ self.old) ⊎ CostsAtMost
+        ensures err_cost { OnErr result (CostsAtMost
             (length items.now + 3 * (length self.old.items - end)) self.old self.new) }
 
         // In any case.

@@ -4,7 +4,7 @@ ghost use Rattle.std.specs.Prelude.{◌≡◌, ◌+◌, ◌-◌, ◌*◌, ◌<�
 ghost use Rattle.std.specs.Iterator.{Drains, IsFinite, size};
 ghost use Rattle.std.specs.Iterator.Runs.{WholeRun};
 ghost use Rattle.thin_vec.specs.List.Capacity.{Keeps};
-ghost use Rattle.thin_vec.specs.List.Extend.{GrowsFor};
+ghost use Rattle.thin_vec.specs.List.Extend.{CostsAdding, GrowsFor};
 ghost use Rattle.thin_block.specs.Block.{IsFrom};
 
 use crate::edits::holder::{Holder, Holds};
@@ -18,8 +18,8 @@ use thin_block::{Doubling, Growth, ThinVecError};
 /// A splice that has begun: it yields the items of a range of a list from either end, and holds an
 /// iterator whose items will take their place.
 ///
-/// It has to be ended by a call of `finish`: a program that drops it does not compile. Until then it
-/// owns the list's block, and the list is empty and has no block.
+/// It has to be ended by a call of `finish`: a program that drops it does not compile. Until then
+/// it owns the list's block, and the list is empty and has no block.
 pub struct Splice<
     'a,
     I,
@@ -37,11 +37,11 @@ pub struct Splice<
 impl<T, A: Allocator, G: Growth> ThinVec<T, A, G> {
     ghost use Rattle.thin_vec.specs.Edits.Splice.{splice_alloc, splice_block, splice_iter, splice_lender, splice_range};
 
-    /// Begins to replace the items with the indices `start..end` by the items of `iter`. The `Splice`
-    /// yields the old items from either end, and its `finish` places the new ones.
+    /// Begins to replace the items with the indices `start..end` by the items of `iter`. The
+    /// `Splice` yields the old items from either end, and its `finish` places the new ones.
     ///
     /// The call allocates nothing, moves no item, and draws no item of `iter`. It cannot fail. The
-    /// function `bounds` checks a range that is not known to be within bounds.
+    /// function `bounds(start, end, len)` of this crate checks a range that may be out of bounds.
     pub fn splice<I: Iterator<Item = T>>(
         &mut self,
         start: usize,
@@ -129,46 +129,63 @@ impl<
     G: Growth,
     H: Holds<Inner = OpenBlock<T, A>>,
 > Splice<'a, I, T, A, G, H> {
-    ghost use Rattle.thin_vec.specs.Edits.Splice.{FailsAsExtend, HasPlacesFor, IsSpliced, IsStopCause, Stopped, splice_block, splice_iter, splice_left, splice_range, splice_replaced};
+    ghost use Rattle.thin_vec.specs.Edits.Splice.{FailsAsExtend, HasPlacesFor, IsStopCause, Stopped, splice_block, splice_iter, splice_left, splice_range, splice_replaced};
 
     /// Drops the items of the range that were not yielded, and puts the items of the iterator in
-    /// their place. The iterator is asked until its first `None`, and not again after that.
+    /// the place of the range. It calls `next` until it first returns `None`, and not again after
+    /// that, so the iterator must not be endless. Afterwards, the list has the items before the
+    /// range, the items of the iterator, and the items after the range.
     ///
-    /// If no item follows the range, `finish` works as `extend` does. Otherwise it takes three
-    /// steps:
+    /// If items follow the range, `finish` takes three steps:
     ///
-    /// 1. It moves items of the iterator into the places of the range. If the iterator ends here,
-    ///    the items after the range move back to it, as one run.
-    /// 2. It asks the iterator for its size hint, once, reserves room for the lower bound before the
-    ///    items after the range, and fills this room.
-    /// 3. It collects all further items in a vector on `alloc`, reserves room for them, and inserts
-    ///    them as one run.
+    /// 1. It moves items of the iterator into the places of the range. If the iterator ends before
+    ///    the places are filled, the items after the range move down to close the gap, in a single
+    ///    copy.
+    /// 2. It asks the iterator for its size hint, once, reserves room for the lower bound before
+    ///    the items after the range, and fills this room.
+    /// 3. It collects all further items in a vector on `alloc`, reserves room for them, and moves
+    ///    them into the list in a single copy.
     ///
-    /// So it moves each item of the iterator once and each item after the range at most twice
-    /// (growth copies count apart). If the iterator can yield no more items than the range has
-    /// places, it allocates nothing, and cannot fail. Rust's `Vec` does all this when a `Splice` is
-    /// dropped. `finish` is a call of its own since it can fail.
+    /// If no item follows the range, `finish` asks for the size hint, reserves room for the lower
+    /// bound, fills all spare capacity, and then pushes each further item.
+    ///
+    /// # Cost
+    ///
+    /// Each item of the iterator moves into the list once, and each item after the range at most
+    /// twice. Steps 2 and 3 each grow the list at most once, and each growth copies the items of
+    /// the list, as usual. What the vector of step 3 costs is not counted. If the iterator can
+    /// yield no more items than the range has places, `finish` allocates nothing.
     ///
     /// # Errors
     ///
-    /// The list keeps the items that were placed. No item is lost: the error has the others. There
-    /// are four cases, and `cause` is `CapacityOverflow` if there is no ruled capacity for what was
-    /// needed, and `OutOfMemory` if an allocator refused a block:
+    /// `finish` cannot fail in two situations: the iterator can yield no more items than the range
+    /// has places; or no item follows the range, and there is room for all items. (If items follow
+    /// the range, room alone does not guarantee success: the contract of `size_hint` allows a hint
+    /// that is too low, and then step 3 allocates.)
     ///
-    /// - No item follows the range. Then `finish` fails as `extend` does, and `held` is empty.
-    /// - Step 2 cannot reserve room. Then the places of the range are filled, `held` is empty,
-    ///   `in_hand` is `None`, and `rest` yields the further items.
-    /// - Step 3 gets no memory to collect an item. Then `held` has the items that were collected,
-    ///   `in_hand` is the item without memory, `rest` yields the items after it, and `cause` is
-    ///   `OutOfMemory`.
-    /// - Step 3 cannot reserve room for the collected items. Then `held` has these items, `in_hand`
-    ///   is `None`, and the iterator has ended: `next` is not to be called on `rest`.
+    /// On failure, no item is lost: the list keeps the items that were placed, and the error has
+    /// the items that were drawn after them, in `held` and then in `in_hand`. There are five cases:
+    ///
+    /// | | What failed | `held` | `in_hand` | `rest` yields | The list |
+    /// |---|---|---|---|---|---|
+    /// | 1 | no items after the range: reserving | empty | `None` | all items | lost the range |
+    /// | 2 | no items after the range: a push | empty | the next item | the others | is full |
+    /// | 3 | step 2: reserving | empty | `None` | the others | has the range filled |
+    /// | 4 | step 3: collecting an item | collected items | the next item | the others | as in 3 |
+    /// | 5 | step 3: reserving | all collected items | `None` | it has ended | as in 3 |
+    ///
+    /// In cases 1, 2, 3 and 5, the `cause` is `CapacityOverflow` if the growth rule gives no
+    /// capacity for the length that the list needed, and `OutOfMemory` if the allocator of the list
+    /// failed. In case 4, it is `OutOfMemory`. In case 5, `next` must not be called on `rest`.
+    ///
+    /// Rust's `Vec` does all this when a `Splice` is dropped; here it is a call, since it can fail.
     #[inline(always)]
     pub fn finish(self, alloc: A) -> Result<(), SpliceRefused<T, I, A>>
         requires can_next { I.can_next (splice_iter self) }
         requires finite { IsFinite (I.remaining (splice_iter self)) }
 
-        // The list after the call is `self.exit.0.now`. On success.
+        // On success. (`self.exit.0.now` is the list after the call: the one that the first field
+        // of the splice borrows.)
         ensures items { OnOk result ((xs : List T) × Drains I.next_gives (splice_iter self.entry) xs
             × (self.exit.0.now.items ≡ splice_replaced self.entry xs)) }
         ensures runs { OnOk result (WholeRun I.next_gives (splice_iter self.entry)
@@ -178,14 +195,15 @@ impl<
         ensures succeeds { HasPlacesFor self.entry (size (I.remaining (splice_iter self.entry)))
             → IsOk result }
 
-        // On failure, no item is lost. If items follow the range, its places are filled.
+        // On failure, no item is lost. With a tail (items after the range), the range is full;
+        // without one, the list lacks only the range, or is full.
         ensures placed { IfErr result (λ error. (xs : List T)
             × (self.exit.0.now.items ≡ splice_replaced self.entry xs)
             × Stopped I.next_gives I.can_next I.remaining (splice_iter self.entry) xs error) }
         ensures before_tail { OnErr result (0 < length (splice_block self.entry).tail
             → length (splice_left self.entry).items + splice_range self.entry
             ≤ length self.exit.0.now.items) }
-        ensures at_end { IfErr result (λ error. (splice_block self.entry).tail ≡ []
+        ensures without_tail { IfErr result (λ error. (splice_block self.entry).tail ≡ []
             → FailsAsExtend (splice_left self.entry) self.exit.0.now (splice_iter self.entry)
             error) }
         ensures cause { IfErr result (λ error. IsStopCause G.rule T.row self.exit.0.now
@@ -194,7 +212,7 @@ impl<
         // In any case.
         ensures capacity { GrowsFor G.rule T.row (splice_left self.entry) self.exit.0.now
             (I.remaining (splice_iter self.entry)) }
-        ensures cost { IsSpliced (splice_left self.entry) self.exit.0.now
+        ensures cost { CostsAdding (splice_left self.entry) self.exit.0.now
             (2 * length (splice_block self.entry).tail) }
         ensures keeps { Keeps T.row (splice_left self.entry) self.exit.0.now }
     {

@@ -1,5 +1,5 @@
 //! The calls that add the items of an iterator to a list.
-ghost use Rattle.std.specs.Prelude.{◌≡◌, ◌+◌, ◌-◌, ◌<◌, ◌≤◌, List, ◌++◌, ◌↔◌, IfErr, IfOk, IsOk, IsSome, MatchOption, None, OnErr, OnOk, OnSome, length};
+ghost use Rattle.std.specs.Prelude.{◌≡◌, ◌+◌, ◌-◌, ◌<◌, ◌≤◌, List, ◌++◌, IfErr, IfOk, IsOk, IsSome, MatchOption, None, OnErr, OnOk, OnSome, length};
 ghost use Rattle.std.specs.Iterator.Runs.{SomeRun, WholeRun};
 ghost use Rattle.std.specs.Iterator.{Drains, IsFinite, YieldsThen, size};
 ghost use Rattle.std.specs.Option.{option_to_list};
@@ -7,9 +7,9 @@ ghost use Rattle.thin_block.specs.Cost.{moving};
 ghost use Rattle.thin_block.specs.Growth.{doubling};
 ghost use Rattle.thin_vec.specs.Cheap.{IsCheap};
 ghost use Rattle.thin_vec.specs.List.Capacity.{Keeps};
-ghost use Rattle.thin_vec.specs.List.Extend.{Extends, GrowsFor, IsCollectCause, IsCollectedList, IsExtendCause, IsExtendCost, IsKeptOrRuled, IsLoose, IsMadeOf, PausedAfter};
+ghost use Rattle.thin_vec.specs.List.Extend.{Extends, GrowsFor, IsCollectCause, IsCollectedList, IsExtendCause, CostsAdding, IsKeptOrRuled, IsLoose, IsMadeOf, PausedAfter};
 ghost use Rattle.thin_vec.specs.Put.{IsFilledBy};
-ghost use Rattle.thin_vec.specs.ThinVec.{HasRoomFor, IsNew, IsWithin, capacity_for};
+ghost use Rattle.thin_vec.specs.ThinVec.{HasRoomFor, IsNew, IsWithin};
 
 use crate::errors::{CollectRefused, ExtendRefused, Rejected};
 use crate::list::ThinVec;
@@ -20,18 +20,18 @@ use std::mem;
 use thin_block::{Block, Growth, ThinVecError};
 
 impl<T, A: Allocator, G: Growth> ThinVec<T, A, G> {
-    /// Appends the items that `iter` yields before its first `None`, after which the iterator is not
-    /// asked again.
+    /// Appends the items that `iter` yields before its first `None`, after which the iterator is
+    /// not asked again.
     ///
-    /// First, it asks `iter` for its size hint, once, and reserves room for the lower bound. Then it
-    /// moves items into the spare capacity, and pushes each further one. So it cannot fail if there
-    /// is room for as many items as the iterator may yield.
+    /// First, it asks `iter` for its size hint, once, and reserves room for the lower bound. Then
+    /// it moves items into the spare capacity, and pushes each further one. So it cannot fail if
+    /// there is room for as many items as the iterator may yield.
     ///
     /// # Errors
     ///
-    /// The cause is `CapacityOverflow` if there is no ruled capacity for what was needed (the rule G
-    /// gives a larger capacity than a block can have, or none), and `OutOfMemory` if the allocator
-    /// refuses a block. There are two cases:
+    /// The cause is `CapacityOverflow` if there is no ruled capacity for what was needed (the rule
+    /// G gives a larger capacity than a block can have, or none), and `OutOfMemory` if the
+    /// allocator refuses a block. There are two cases:
     ///
     /// - The room for the lower bound cannot be reserved. Then the list is unchanged, `in_hand` is
     ///   `None`, and `rest` is the whole iterator.
@@ -67,7 +67,7 @@ impl<T, A: Allocator, G: Growth> ThinVec<T, A, G> {
 
         // In any case.
         ensures capacity { GrowsFor G.rule T.row self.old self.new (I.remaining iter) }
-        ensures cost { IsExtendCost self.old self.new }
+        ensures cost { CostsAdding self.old self.new 0 }
         ensures keeps { Keeps T.row self.old self.new }
     {
         match self.reserve(iter.size_hint().0) {
@@ -112,7 +112,7 @@ impl<T, A: Allocator, G: Growth> ThinVec<T, A, G> {
         ensures loose { IsLoose G.rule T.row self.old.capacity self.new.capacity }
         ensures ruled { IsKeptOrRuled G.rule T.row self.old.capacity self.new.capacity
             (length self.new.items) }
-        ensures cost { IsExtendCost self.old self.new }
+        ensures cost { CostsAdding self.old self.new 0 }
         ensures keeps { Keeps T.row self.old self.new }
     {
         let mut rest = iter;
@@ -136,8 +136,8 @@ impl<T, A: Allocator, G: Growth> ThinVec<T, A, G> {
         }
     }
 
-    // Moves the items that `iter` yields into the spare capacity, and then draws one item more if the
-    // iterator has not ended. Returns the iterator and that item.
+    // Moves the items that `iter` yields into the spare capacity, and then draws one item more if
+    // the iterator has not ended. Returns the iterator and that item.
     fn extend_reserved<I: Iterator<Item = T>>(&mut self, iter: I) -> (I, Option<T>)
         requires can_next { I.can_next iter }
         requires finite { IsFinite (I.remaining iter) }
@@ -204,8 +204,8 @@ impl<T, A: Allocator> ThinVec<T, A> {
     /// the iterator is not asked again.
     ///
     /// First, it asks `iter` for its size hint, once, and makes a block with exactly as many places
-    /// as the lower bound says. Then it moves items into the places, and pushes each further one. So
-    /// it cannot fail if the iterator yields no item.
+    /// as the lower bound says. Then it moves items into the places, and pushes each further one.
+    /// So it cannot fail if the iterator yields no item.
     ///
     /// # Errors
     ///
@@ -214,8 +214,8 @@ impl<T, A: Allocator> ThinVec<T, A> {
     ///
     /// - The first block cannot be made. Then `list` is a new list, `in_hand` is `None`, and `rest`
     ///   is the whole iterator.
-    /// - A further item cannot be pushed. Then `list` has the items that were placed, and it is full;
-    ///   `in_hand` is the item without room, and `rest` yields the items after it.
+    /// - A further item cannot be pushed. Then `list` has the items that were placed, and it is
+    ///   full; `in_hand` is the item without room, and `rest` yields the items after it.
     pub fn from_iter<I: Iterator<Item = T>>(
         alloc: A,
         iter: I,

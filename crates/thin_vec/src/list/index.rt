@@ -56,8 +56,8 @@ impl<T, A: Allocator, G: Growth> Index<usize> for ThinVec<T, A, G> {
 
     fn index(&self, index: usize) -> &T
         requires { index < length self.now.items }
-        ensures value { slice_get self.now.items index ≡ Some result.now }
-        ensures item { result.now ≡ slice_index_or self.now.items index result.now }
+        ensures value { result.now ≡ slice_index_or self.now.items index result.now }
+        ensures found { slice_get self.now.items index ≡ Some result.now }
         ensures within { IsWithin T.row self.now }
     {
         &self.as_slice()[index]
@@ -71,8 +71,8 @@ impl<T, A: Allocator, G: Growth> IndexMut<usize> for ThinVec<T, A, G> {
         requires { index < length self.old.items }
         ensures* writes_back { sem 𝓛
             (LendsItem T.row A.row G.row A.Allocator G.Growth self.entry index result) }
-        ensures value { slice_get self.old.items index ≡ Some result.now }
-        ensures item { result.now ≡ slice_index_or self.old.items index result.now }
+        ensures value { result.now ≡ slice_index_or self.old.items index result.now }
+        ensures found { slice_get self.old.items index ≡ Some result.now }
         ensures within { IsWithin T.row self.old }
     {
         // This call is only for the prover: its contract gives the bounds that the clause `within`

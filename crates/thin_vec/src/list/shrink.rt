@@ -11,33 +11,33 @@ impl<T, A: Allocator, G: Growth> ThinVec<T, A, G> {
     ghost use Rattle.thin_vec.specs.ThinVec.{IsWithin, cost_shrunk, cost_shrunk_to};
 
     /// Shrinks the capacity to `min_capacity`, or to the length if the length is greater. If the
-    /// capacity is not greater than that, nothing changes. If the new capacity is 0, the block is
+    /// capacity is already that small, nothing changes. If the new capacity is 0, the block is
     /// freed, and the cost that contracts see becomes 0.
     ///
-    /// Rust's `Vec` has a method of this name, and the Rust crate thin-vec has none.
+    /// Rust's `Vec` has a method of this name, but the Rust crate thin-vec does not.
     ///
     /// # Errors
     ///
     /// Fails only with `OutOfMemory`, if the allocator fails. Then the list is unchanged. An empty
     /// list that is shrunk to 0 frees its block, which cannot fail.
     pub fn shrink_to(&mut self, min_capacity: usize) -> Result<(), ThinVecError>
-        // Cases in which the call succeeds.
+        // On success.
+        ensures capacity { OnOk result (self.new.capacity
+            ≡ min self.old.capacity (max min_capacity (length self.old.items))) }
+        ensures cost { OnOk result (self.new.cost ≡ cost_shrunk_to self.old self.new.capacity) }
+
+        // When it must succeed.
         ensures succeeds { self.old.capacity ≤ max min_capacity (length self.old.items)
             → IsOk result }
         ensures succeeds_empty { length self.old.items ≡ 0 → min_capacity ≡ 0 → IsOk result }
-
-        // The items and the allocator do not change. On success, the capacity may change.
-        ensures items { self.new.items ≡ self.old.items }
-        ensures capacity { OnOk result (self.new.capacity
-            ≡ min self.old.capacity (max min_capacity (length self.old.items))) }
-        ensures alloc { self.new.alloc ≡ self.old.alloc }
-        ensures cost { OnOk result (self.new.cost ≡ cost_shrunk_to self.old self.new.capacity) }
 
         // On failure, the list is unchanged.
         ensures err { OnErr result (self.new ≡ self.old) }
         ensures cause { IfErr result (λ cause. cause ≡ ThinVecError.OutOfMemory) }
 
         // In any case.
+        ensures items { self.new.items ≡ self.old.items }
+        ensures alloc { self.new.alloc ≡ self.old.alloc }
         ensures within { IsWithin T.row self.old × IsWithin T.row self.new }
     {
         let wanted = min_capacity.max(self.len());
@@ -59,21 +59,21 @@ impl<T, A: Allocator, G: Growth> ThinVec<T, A, G> {
     /// Fails only with `OutOfMemory`, if the allocator fails. Then the list is unchanged. An empty
     /// list frees its block, which cannot fail.
     pub fn shrink_to_fit(&mut self) -> Result<(), ThinVecError>
-        // Cases in which the call succeeds.
+        // On success.
+        ensures capacity { OnOk result (self.new.capacity ≡ length self.old.items) }
+        ensures cost { OnOk result (self.new.cost ≡ cost_shrunk self.old) }
+
+        // When it must succeed.
         ensures succeeds_empty { length self.old.items ≡ 0 → IsOk result }
         ensures succeeds_full { length self.old.items ≡ self.old.capacity → IsOk result }
-
-        // The items and the allocator do not change. On success, the capacity may change.
-        ensures items { self.new.items ≡ self.old.items }
-        ensures capacity { OnOk result (self.new.capacity ≡ length self.old.items) }
-        ensures alloc { self.new.alloc ≡ self.old.alloc }
-        ensures cost { OnOk result (self.new.cost ≡ cost_shrunk self.old) }
 
         // On failure, the list is unchanged.
         ensures err { OnErr result (self.new ≡ self.old) }
         ensures cause { IfErr result (λ cause. cause ≡ ThinVecError.OutOfMemory) }
 
         // In any case.
+        ensures items { self.new.items ≡ self.old.items }
+        ensures alloc { self.new.alloc ≡ self.old.alloc }
         ensures within { IsWithin T.row self.old × IsWithin T.row self.new }
     {
         self.shrink_to(0)

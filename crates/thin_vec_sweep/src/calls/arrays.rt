@@ -2,7 +2,7 @@
 ghost use Rattle.std.specs.Mem.{type_size};
 ghost use Rattle.std.specs.Prelude.{◌*◌, ◌<◌, ◌^◌};
 
-use crate::assertions::{At, same, same_items};
+use crate::assertions::{At, assert_same, assert_same_items};
 use crate::calls::conversions::made;
 use crate::case::{Case, List, Verdict, numbers};
 use crate::ledger::Ledger;
@@ -136,8 +136,8 @@ fn become_array<T: Sample, const N: usize, R: Abort>(rt: &R, case: &mut Case<T, 
         &case.ledger.alloc,
         numbers.as_slice(),
     );
-    same(rt, &case.at, "becomes an array", became, is_whole);
-    case.answered(rt, answer, verdict);
+    assert_same(rt, &case.at, "becomes an array", became, is_whole);
+    case.assert_answer(rt, answer, verdict);
     if let Some(list) = back {
         case.set(list, numbers, left);
     }
@@ -158,7 +158,7 @@ fn there_and_back<T: Sample, A: Allocator, const N: usize, R: Abort>(
         Ok(items) => match ThinVec::from_array(alloc, items) {
             Ok(list) => (Some(list), true, Ok(())),
             Err(refused) => {
-                same_items(rt, at, &refused.value, numbers);
+                assert_same_items(rt, at, &refused.value, numbers);
                 (None, true, Err(refused.cause))
             }
         },

@@ -1,6 +1,6 @@
 //! Sweeps of `extend_from_within` and `resize`, which clone an item, and of `resize_with`.
 use crate::case::{Case, List, Verdict, numbers, source};
-use crate::closures::{Questions, number_at};
+use crate::closures::{ClosureCalls, number_at};
 use crate::samples::Sample;
 use crate::shapes::{Cases, Shape};
 use crate::sweep::Call;
@@ -29,7 +29,7 @@ impl<T: Sample, G: Ruled> Call<T, G> for Resize {
         let verdict = case.growth(capacity, more.saturating_sub(1));
         case.begin();
         let answer = case.list.resize(len, value);
-        case.answered(rt, answer, verdict);
+        case.assert_answer(rt, answer, verdict);
         if verdict == Verdict::Done {
             case.items.resize(len, FRESH).expect(rt, "memory");
         }
@@ -62,14 +62,14 @@ impl<T: Sample, G: Ruled> Call<T, G> for ResizeWith {
     fn run<R: Abort>(rt: &R, case: &mut Case<T, G>, argument: usize) {
         let (len, more) = length(case.at.shape, argument);
         let made: Vec<T> = source(rt, case.ledger, FRESH - 1, more.saturating_add(1));
-        let questions = Questions::new();
+        let closure_calls = ClosureCalls::new();
         let capacity = case.ruled(more);
         let verdict = case.growth(capacity, 0);
         case.begin();
-        let answer = resize_with(rt, &mut case.list, len, made, &questions);
-        case.answered(rt, answer, verdict);
+        let answer = resize_with(rt, &mut case.list, len, made, &closure_calls);
+        case.assert_answer(rt, answer, verdict);
         let due = if verdict == Verdict::Done { more } else { 0 };
-        questions.end(rt, &case.at, due);
+        closure_calls.end(rt, &case.at, due);
         if verdict == Verdict::Done {
             case.items.truncate(len);
             add_from_last(rt, case, more);
@@ -78,16 +78,16 @@ impl<T: Sample, G: Ruled> Call<T, G> for ResizeWith {
 }
 
 // Calls `resize_with`. The closure returns the items of `made` in reverse order, and counts each of
-// its calls in `asked`.
+// its calls in `closure_calls`.
 fn resize_with<T: Sample, G: Ruled, R: Abort>(
     rt: &R,
     list: &mut List<T, G>,
     len: usize,
     mut made: Vec<T>,
-    asked: &Questions,
+    closure_calls: &ClosureCalls,
 ) -> Result<(), ThinVecError> {
     list.resize_with(len, move || {
-        let _number = asked.next();
+        let _number = closure_calls.next();
         made.pop().expect(rt, "an item")
     })
 }
@@ -127,7 +127,7 @@ impl<T: Sample, G: Ruled> Call<T, G> for ExtendFromWithin {
             return;
         }
         let answer = case.list.extend_from_within(range.start, range.end);
-        case.answered(rt, answer, verdict);
+        case.assert_answer(rt, answer, verdict);
         case.add(rt, number_at(range.start), count, verdict);
     }
 }

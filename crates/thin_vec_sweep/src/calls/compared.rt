@@ -1,6 +1,6 @@
 //! Sweeps of comparing, hashing and printing a list. Each result must be that of the slice of the
 //! items.
-use crate::assertions::{At, same};
+use crate::assertions::{At, assert_same};
 use crate::case::{Case, List, filled};
 use crate::samples::Sample;
 use crate::shapes::Shape;
@@ -28,7 +28,7 @@ impl<T: Sample + Ord + Hash + Debug, G: Ruled> Call<T, G> for Compare {
         case.begin();
         same_order(rt, &case.at, &case.list, &other);
         let hashes = (hash(&case.list), hash(&case.list.as_slice()));
-        same(rt, &case.at, "hash", hashes.0, hashes.1);
+        assert_same(rt, &case.at, "hash", hashes.0, hashes.1);
     }
 }
 
@@ -57,9 +57,9 @@ fn same_order<T: Sample + Ord, G: Ruled, R: Abort>(
     other: &List<T, G>,
 ) {
     let (items, others) = (list.as_slice(), other.as_slice());
-    same(rt, at, "==", *list == *other, items == others);
+    assert_same(rt, at, "==", *list == *other, items == others);
     let wanted = (items.partial_cmp(&others), items.cmp(&others));
-    same(
+    assert_same(
         rt,
         at,
         "order",
@@ -88,7 +88,7 @@ impl<T: Sample + Debug, G: Ruled> Call<T, G> for Print {
         case.begin();
         let printed = text(rt, case.ledger.global, &case.list);
         let wanted = text(rt, case.ledger.global, &case.list.as_slice());
-        same(
+        assert_same(
             rt,
             &case.at,
             "text",
@@ -99,7 +99,7 @@ impl<T: Sample + Debug, G: Ruled> Call<T, G> for Print {
         let global = case.ledger.global;
         let wanted = iter_text(rt, global, &list.as_slice());
         let printed = text(rt, global, &list.into_iter());
-        same(
+        assert_same(
             rt,
             &case.at,
             "text of the iterator",

@@ -34,11 +34,11 @@ impl<T: Sample, G: Ruled> Call<T, G> for IntoOthers {
         case.begin();
         match into_other(list, &case.ledger.alloc, argument) {
             Ok(vec) => {
-                case.answered(rt, Ok(()), verdict);
-                case.holds(rt, vec.as_slice(), items.as_slice());
+                case.assert_answer(rt, Ok(()), verdict);
+                case.assert_items(rt, vec.as_slice(), items.as_slice());
             }
             Err(refused) => {
-                case.answered(rt, Err(refused.cause), verdict);
+                case.assert_answer(rt, Err(refused.cause), verdict);
                 case.set(refused.value, items, capacity);
             }
         }
@@ -74,7 +74,7 @@ impl<T: Sample, G: Ruled> Call<T, G> for TryTake {
             Ok(list) => Ok(list),
             Err(_refused) => Err(ThinVecError::OutOfMemory),
         };
-        case.second(rt, taken, Verdict::Done, items.as_slice(), capacity);
+        case.assert_second_list(rt, taken, Verdict::Done, items.as_slice(), capacity);
     }
 }
 
@@ -109,12 +109,12 @@ impl<T: Sample> Call<T, Doubling> for FromOthers {
         case.begin();
         match from_other(items, &case.ledger.alloc, argument) {
             Ok(list) => {
-                case.answered(rt, Ok(()), verdict);
+                case.assert_answer(rt, Ok(()), verdict);
                 case.set(list, numbers, shape.length);
             }
             Err(refused) => {
-                case.answered(rt, Err(refused.cause), verdict);
-                case.holds(rt, refused.value.as_slice(), numbers.as_slice());
+                case.assert_answer(rt, Err(refused.cause), verdict);
+                case.assert_items(rt, refused.value.as_slice(), numbers.as_slice());
             }
         }
     }
@@ -156,7 +156,7 @@ impl Call<u8, Doubling> for FromStr {
         let verdict = case.fresh(Some(bytes.len()), 0);
         case.begin();
         let answer = ThinVec::from_str(&case.ledger.alloc, text.as_str());
-        case.second(rt, answer, verdict, bytes.as_slice(), bytes.len());
+        case.assert_second_list(rt, answer, verdict, bytes.as_slice(), bytes.len());
     }
 }
 
@@ -281,9 +281,9 @@ pub fn made<T: Sample, R: Abort>(
 ) {
     match answer {
         Ok(list) => {
-            case.answered(rt, Ok(()), verdict);
+            case.assert_answer(rt, Ok(()), verdict);
             case.list = list;
         }
-        Err(cause) => case.answered(rt, Err(cause), verdict),
+        Err(cause) => case.assert_answer(rt, Err(cause), verdict),
     }
 }

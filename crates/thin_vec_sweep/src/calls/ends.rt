@@ -66,7 +66,7 @@ fn lent<T: Sample, G: Ruled, R: Abort>(
 ) {
     match answer {
         Ok(()) => {
-            case.handed(rt, hand, PASSED);
+            case.assert_item(rt, hand, PASSED);
             case.put(rt, index, FRESH, verdict, Ok(()));
         }
         Err(refused) => case.put(rt, index, PASSED, verdict, Err(refused)),
@@ -178,7 +178,7 @@ impl<T: Sample, G: Ruled> Call<T, G> for Pop {
         case.begin();
         let item = case.list.pop();
         let number = case.items.pop();
-        case.handed_or_none(rt, item, number);
+        case.assert_item_or_none(rt, item, number);
     }
 }
 
@@ -199,7 +199,7 @@ impl<T: Sample, G: Ruled> Call<T, G> for Remove {
             let item = case.list.remove(index);
             if index < case.items.len() {
                 let number = case.items.remove(index);
-                case.handed(rt, &item, number);
+                case.assert_item(rt, &item, number);
             }
         }
     }
@@ -222,7 +222,7 @@ impl<T: Sample, G: Ruled> Call<T, G> for SwapRemove {
             let item = case.list.swap_remove(index);
             if index < case.items.len() {
                 let number = case.items.swap_remove(index);
-                case.handed(rt, &item, number);
+                case.assert_item(rt, &item, number);
             }
         }
     }

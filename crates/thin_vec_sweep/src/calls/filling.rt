@@ -1,6 +1,6 @@
 //! Sweeps of `extend` and `from_iter`. The size hint of the iterator is too small, exact, too
 //! great, or greater than every capacity.
-use crate::assertions::same;
+use crate::assertions::assert_same;
 use crate::case::{Case, Verdict, numbers, put, source};
 use crate::claims::Claims;
 use crate::ledger::Ledger;
@@ -86,7 +86,7 @@ impl Ending {
     }
 }
 
-/// Returns how a call must end that appends `count` items, and updates the reference. The call
+/// Returns how a call that appends `count` items must end, and updates the reference list. The call
 /// first grows the list once, for the size hint, to the capacity `hinted`. Then the list grows
 /// whenever there is no room for an item.
 pub fn fill<T: Sample, G: Ruled, R: Abort>(
@@ -129,10 +129,14 @@ pub fn coming<R: Abort>(
 }
 
 /// Asserts that `next` and `size_hint` of the iterator were called as often as they must be.
-pub fn asked<T: Sample, G: Ruled, R: Abort>(rt: &R, case: &Case<T, G>, ending: &Ending) {
+pub fn assert_iterator_calls<T: Sample, G: Ruled, R: Abort>(
+    rt: &R,
+    case: &Case<T, G>,
+    ending: &Ending,
+) {
     let asked = (ending.drawn().saturating_add(ending.ends)) as u64;
     let counts = (case.ledger.asked.get(), case.ledger.hinted.get());
-    same(
+    assert_same(
         rt,
         &case.at,
         "calls of next and size_hint",
@@ -154,12 +158,12 @@ pub fn back<T: Sample, G: Ruled, R: Abort>(
     let before = ending.placed.saturating_add(ending.held);
     let numbers_in_hand = coming(rt, case.ledger, before, ending.in_hand);
     let number = numbers_in_hand.as_slice().first().copied();
-    case.handed_or_none(rt, in_hand, number);
+    case.assert_item_or_none(rt, in_hand, number);
     let left = count.saturating_sub(ending.drawn());
     let last = FRESH.saturating_sub(count as u64).saturating_add(1);
     let numbers = numbers(rt, case.ledger, last, left);
     let items = rest.into_items();
-    case.holds(rt, items.as_slice(), numbers.as_slice());
+    case.assert_items(rt, items.as_slice(), numbers.as_slice());
 }
 
 /// Returns an iterator over `count` items, whose numbers descend from `FRESH`, and whose size hint
@@ -191,11 +195,11 @@ impl<T: Sample, G: Ruled> Call<T, G> for Extend {
         };
         case.begin();
         let answer = case.list.extend(claims);
-        asked(rt, case, &ending);
+        assert_iterator_calls(rt, case, &ending);
         match answer {
-            Ok(()) => case.answered(rt, Ok(()), ending.verdict),
+            Ok(()) => case.assert_answer(rt, Ok(()), ending.verdict),
             Err(refused) => {
-                case.answered(rt, Err(refused.cause), ending.verdict);
+                case.assert_answer(rt, Err(refused.cause), ending.verdict);
                 back(rt, case, &ending, count, refused.in_hand, refused.rest);
             }
         }
@@ -218,14 +222,14 @@ impl<T: Sample, G: Ruled> Call<T, G> for ExtendAsTrait {
         };
         case.begin();
         let answer = iter::Extend::extend(&mut case.list, claims);
-        asked(rt, case, &ending);
+        assert_iterator_calls(rt, case, &ending);
         done(rt, case, &ending, answer.is_ok());
     }
 }
 
 // Asserts that a call of a trait of `std` succeeded exactly if it had to.
 fn done<T: Sample, G: Ruled, R: Abort>(rt: &R, case: &Case<T, G>, ending: &Ending, is_done: bool) {
-    same(
+    assert_same(
         rt,
         &case.at,
         "success",
@@ -270,13 +274,13 @@ impl<T: Sample> Call<T, Doubling> for FromIter {
         case.begin();
         match ThinVec::from_iter(&case.ledger.alloc, claims) {
             Ok(list) => {
-                asked(rt, case, &ending);
-                case.answered(rt, Ok(()), ending.verdict);
+                assert_iterator_calls(rt, case, &ending);
+                case.assert_answer(rt, Ok(()), ending.verdict);
                 case.list = list;
             }
             Err(refused) => {
-                asked(rt, case, &ending);
-                case.answered(rt, Err(refused.cause), ending.verdict);
+                assert_iterator_calls(rt, case, &ending);
+                case.assert_answer(rt, Err(refused.cause), ending.verdict);
                 let count = case.at.shape.length;
                 back(rt, case, &ending, count, refused.in_hand, refused.rest);
                 case.list = refused.list;
@@ -303,12 +307,12 @@ impl<T: Sample> Call<T, Doubling> for Collect {
         case.begin();
         match claims.collect(&case.ledger.alloc) {
             Ok(list) => {
-                asked(rt, case, &ending);
+                assert_iterator_calls(rt, case, &ending);
                 done(rt, case, &ending, true);
                 case.list = list;
             }
             Err(_refused) => {
-                asked(rt, case, &ending);
+                assert_iterator_calls(rt, case, &ending);
                 done(rt, case, &ending, false);
                 drop(case.take());
             }

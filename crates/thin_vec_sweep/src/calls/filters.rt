@@ -1,7 +1,7 @@
 //! Sweeps of the calls that keep the items for which a closure says so. The closure is called once
 //! for each item, in order, and may overwrite it.
 use crate::case::{Case, put};
-use crate::closures::{PATTERNS, Questions, number_at, stays};
+use crate::closures::{ClosureCalls, PATTERNS, number_at, stays};
 use crate::samples::{Counted, Sample};
 use crate::shapes::Shape;
 use crate::sweep::Call;
@@ -26,14 +26,14 @@ impl<T: Sample, G: Ruled> Call<T, G> for Retain {
 
     fn run<R: Abort>(rt: &R, case: &mut Case<T, G>, argument: usize) {
         let count = case.at.shape.length;
-        let questions = Questions::new();
+        let closure_calls = ClosureCalls::new();
         case.begin();
         case.list.retain(|item| {
-            let index = questions.next();
-            questions.about(item, number_at(index));
+            let index = closure_calls.next();
+            closure_calls.check_item(item, number_at(index));
             stays(count, argument, index)
         });
-        questions.end(rt, &case.at, count);
+        closure_calls.end(rt, &case.at, count);
         case.items = kept(rt, case.ledger.global, count, argument);
     }
 }
@@ -62,19 +62,19 @@ impl<T: Sample, G: Ruled> Call<T, G> for RetainMut {
 
     fn run<R: Abort>(rt: &R, case: &mut Case<T, G>, argument: usize) {
         let count = case.at.shape.length;
-        let questions = Questions::new();
+        let closure_calls = ClosureCalls::new();
         let mut hand = case.item(rt, FRESH);
         case.begin();
         case.list.retain_mut(|item| {
-            let index = questions.next();
-            questions.about(&*item, number_at(index));
+            let index = closure_calls.next();
+            closure_calls.check_item(&*item, number_at(index));
             mem::swap(item, &mut hand);
             stays(count, argument, index)
         });
-        questions.end(rt, &case.at, count);
+        closure_calls.end(rt, &case.at, count);
         case.items = moved_up(rt, case.ledger.global, count, argument);
         let last = count.checked_sub(1).map_or(FRESH, |index| number_at(index));
-        case.handed(rt, &hand, last);
+        case.assert_item(rt, &hand, last);
     }
 }
 
@@ -107,19 +107,19 @@ impl<T: Sample, G: Ruled> Call<T, G> for PopIf {
     fn run<R: Abort>(rt: &R, case: &mut Case<T, G>, argument: usize) {
         let count = case.at.shape.length;
         let goes = argument == 1;
-        let questions = Questions::new();
-        let asked = &questions;
+        let closure_calls = ClosureCalls::new();
+        let counter = &closure_calls;
         let mut hand = case.item(rt, FRESH);
         case.begin();
         let item = case.list.pop_if(move |last| {
-            let number = asked.next().saturating_add(count);
-            asked.about(&*last, number as u64);
+            let number = counter.next().saturating_add(count);
+            counter.check_item(&*last, number as u64);
             mem::swap(last, &mut hand);
             goes
         });
-        questions.end(rt, &case.at, count.min(1));
+        closure_calls.end(rt, &case.at, count.min(1));
         let number = popped(rt, &mut case.items, goes);
-        case.handed_or_none(rt, item, number);
+        case.assert_item_or_none(rt, item, number);
     }
 }
 
@@ -146,13 +146,13 @@ impl<T: Sample, G: Ruled> Call<T, G> for DedupBy {
 
     fn run<R: Abort>(rt: &R, case: &mut Case<T, G>, argument: usize) {
         let count = case.at.shape.length;
-        let questions = Questions::new();
+        let closure_calls = ClosureCalls::new();
         let last = Cell::new(number_at(0));
         case.begin();
         case.list.dedup_by(|later, kept| {
-            let index = questions.next().saturating_add(1);
-            questions.about(&*later, number_at(index));
-            questions.about(&*kept, last.get());
+            let index = closure_calls.next().saturating_add(1);
+            closure_calls.check_item(&*later, number_at(index));
+            closure_calls.check_item(&*kept, last.get());
             mem::swap(later, kept);
             let is_kept = stays(count, argument, index);
             if !is_kept {
@@ -160,7 +160,7 @@ impl<T: Sample, G: Ruled> Call<T, G> for DedupBy {
             }
             !is_kept
         });
-        questions.end(rt, &case.at, count.saturating_sub(1));
+        closure_calls.end(rt, &case.at, count.saturating_sub(1));
         case.items = exchanged(rt, case.ledger.global, count, argument);
     }
 }
@@ -198,18 +198,18 @@ impl<T: Sample, G: Ruled> Call<T, G> for DedupByKey {
 
     fn run<R: Abort>(rt: &R, case: &mut Case<T, G>, argument: usize) {
         let count = case.at.shape.length;
-        let questions = Questions::new();
+        let closure_calls = ClosureCalls::new();
         let last = Cell::new(number_at(0));
         let ledger = case.ledger;
         case.begin();
         case.list.dedup_by_key(|item| {
-            let question = questions.next();
-            let index = (question / 2).saturating_add(1);
-            if question % 2 == 0 {
-                questions.about(&*item, number_at(index));
+            let call = closure_calls.next();
+            let index = (call / 2).saturating_add(1);
+            if call % 2 == 0 {
+                closure_calls.check_item(&*item, number_at(index));
                 return Counted::new(ledger, 1);
             }
-            questions.about(&*item, last.get());
+            closure_calls.check_item(&*item, last.get());
             if stays(count, argument, index) {
                 last.set(number_at(index));
                 return Counted::new(ledger, 0);
@@ -217,7 +217,7 @@ impl<T: Sample, G: Ruled> Call<T, G> for DedupByKey {
             Counted::new(ledger, 1)
         });
         let due = count.saturating_sub(1).saturating_mul(2);
-        questions.end(rt, &case.at, due);
+        closure_calls.end(rt, &case.at, due);
         case.items = first_kept(rt, case.ledger.global, count, argument);
     }
 }
@@ -253,7 +253,7 @@ impl<T: Sample + PartialEq, G: Ruled> Call<T, G> for Dedup {
                 number = number_at(index);
             }
             write(rt, case, index, number);
-            put(rt, &mut numbers, T::telling(number));
+            put(rt, &mut numbers, T::expected_number(number));
         }
         numbers.dedup();
         case.begin();

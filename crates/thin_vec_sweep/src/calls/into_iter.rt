@@ -1,5 +1,5 @@
 //! Sweeps of the iterator that a list becomes, with steps from both ends.
-use crate::assertions::{At, same, same_item, same_items};
+use crate::assertions::{At, assert_same, assert_same_item, assert_same_items};
 use crate::case::Case;
 use crate::samples::Sample;
 use crate::shapes::Shape;
@@ -54,7 +54,7 @@ impl<T: Sample, G: Ruled> Call<T, G> for IntoIter {
         } else {
             Some(FRESH)
         };
-        case.handed_or_none(rt, rest.next(), next);
+        case.assert_item_or_none(rt, rest.next(), next);
     }
 }
 
@@ -67,8 +67,8 @@ fn remains<T: Sample, A: Allocator, G: Growth, R: Abort>(
 ) {
     let count = numbers.len();
     let hint = (rest.len(), rest.size_hint());
-    same(rt, at, "hint", hint, (count, (count, Some(count))));
-    same_items(rt, at, rest.as_slice(), numbers);
+    assert_same(rt, at, "hint", hint, (count, (count, Some(count))));
+    assert_same_items(rt, at, rest.as_slice(), numbers);
 }
 
 // Takes the steps, and returns the numbers of the items that remain.
@@ -87,7 +87,7 @@ fn step_through<'a, T: Sample, A: Allocator, G: Growth, R: Abort>(
         } else {
             items.next()
         };
-        same_item(rt, at, item, remaining.take(is_back, numbers));
+        assert_same_item(rt, at, item, remaining.take(is_back, numbers));
     }
     remaining.of(numbers)
 }
@@ -114,11 +114,11 @@ impl<T: Sample, G: Ruled> Call<T, G> for IntoIterClone {
         case.begin();
         match rest.clone(&case.ledger.alloc) {
             Ok(clone) => {
-                case.answered(rt, Ok(()), verdict);
-                case.holds(rt, clone.as_slice(), numbers);
+                case.assert_answer(rt, Ok(()), verdict);
+                case.assert_items(rt, clone.as_slice(), numbers);
             }
-            Err(cause) => case.answered(rt, Err(cause), verdict),
+            Err(cause) => case.assert_answer(rt, Err(cause), verdict),
         }
-        case.holds(rt, rest.as_slice(), numbers);
+        case.assert_items(rt, rest.as_slice(), numbers);
     }
 }

@@ -28,9 +28,9 @@ impl<T: Sample, G: Ruled> Call<T, G> for Append {
         let verdict = case.growth(capacity, 0);
         case.begin();
         let answer = case.list.append(&mut other);
-        case.answered(rt, answer, verdict);
+        case.assert_answer(rt, answer, verdict);
         case.add(rt, FRESH, length, verdict);
-        case.gave(rt, &other, shape, FRESH, verdict);
+        case.assert_moved_from(rt, &other, shape, FRESH, verdict);
     }
 }
 
@@ -54,7 +54,7 @@ impl<T: Sample, G: Ruled> Call<T, G> for AppendReserved {
         if other.len() <= spare {
             case.list.append_reserved(&mut other);
         }
-        case.stands(rt, &other, &[], length);
+        case.assert_list(rt, &other, &[], length);
     }
 }
 
@@ -77,7 +77,7 @@ impl<T: Sample, G: Ruled> Call<T, G> for SplitOff {
             return;
         }
         let tail = case.list.split_off(&case.ledger.alloc, at);
-        case.second(rt, tail, verdict, &case.items[at..], count);
+        case.assert_second_list(rt, tail, verdict, &case.items[at..], count);
         if verdict == Verdict::Done {
             case.items.truncate(at);
         }

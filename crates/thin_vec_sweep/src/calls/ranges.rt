@@ -1,6 +1,6 @@
 //! Sweeps of the calls that remove the items of a range, each dropped after some steps, and of the
 //! function `bounds`.
-use crate::assertions::{At, same, same_item, same_items};
+use crate::assertions::{At, assert_same, assert_same_item, assert_same_items};
 use crate::case::{Case, put};
 use crate::closures::{number_at, stays};
 use crate::samples::Sample;
@@ -70,8 +70,8 @@ fn remains<T: Sample, A: Allocator, G: Growth, R: Abort>(
 ) {
     let count = numbers.len();
     let hint = (drain.len(), drain.size_hint());
-    same(rt, at, "hint", hint, (count, (count, Some(count))));
-    same_items(rt, at, drain.as_slice(), numbers);
+    assert_same(rt, at, "hint", hint, (count, (count, Some(count))));
+    assert_same_items(rt, at, drain.as_slice(), numbers);
 }
 
 // Takes the steps, and returns the numbers of the items that remain.
@@ -90,7 +90,7 @@ fn step_through<'a, T: Sample, A: Allocator, G: Growth, R: Abort>(
         } else {
             drain.next()
         };
-        same_item(rt, at, item, remaining.take(is_back, numbers));
+        assert_same_item(rt, at, item, remaining.take(is_back, numbers));
     }
     remaining.of(numbers)
 }
@@ -196,17 +196,18 @@ fn extract<T: Sample, A: Allocator, G: Growth, R: Abort>(
     let start = range.start;
     let mut asked: usize = 0;
     let mut extract = list.extract_if(range.start, range.end, move |item: &mut T| {
-        let is_due = item.told() == T::telling(number_at(start.saturating_add(asked)));
+        let is_due = item.kept_number()
+            == T::expected_number(number_at(start.saturating_add(asked)));
         let goes = is_due && !stays(width, pattern, asked);
         asked = asked.saturating_add(1);
         goes
     });
     for call in 0..wanted.calls {
         let number = wanted.given.as_slice().get(call).copied();
-        same_item(rt, at, extract.next(), number);
+        assert_same_item(rt, at, extract.next(), number);
     }
     let left = width.saturating_sub(wanted.asked);
-    same(rt, at, "hint", extract.size_hint(), (0, Some(left)));
+    assert_same(rt, at, "hint", extract.size_hint(), (0, Some(left)));
 }
 
 // How many bounds are tried: `Unbounded`, and 9 places, each as `Included` and as `Excluded`.
@@ -232,7 +233,7 @@ impl<T: Sample, G: Ruled> Call<T, G> for Bounds {
         let end = bound(argument / BOUNDS, length);
         case.begin();
         let range = bounds(start, end, case.list.len());
-        same(rt, &case.at, "range", range, between(start, end, length));
+        assert_same(rt, &case.at, "range", range, between(start, end, length));
     }
 }
 

@@ -1,6 +1,6 @@
 //! Sweeps of the calls that read a list, or that write through a `&mut` to an item. None of them
 //! makes a request.
-use crate::assertions::same;
+use crate::assertions::assert_same;
 use crate::case::{Case, List};
 use crate::samples::Sample;
 use crate::shapes::Shape;
@@ -24,9 +24,9 @@ impl<T: Sample, G: Ruled> Call<T, G> for Read {
         let read = (list.len(), list.is_empty(), list.has_capacity());
         let length = case.items.len();
         let wanted = (length, length == 0, case.capacity != 0);
-        same(rt, &case.at, "what was read", read, wanted);
+        assert_same(rt, &case.at, "what was read", read, wanted);
         let requests = list.allocator().requests();
-        same(rt, &case.at, "requests of the allocator", requests, 0);
+        assert_same(rt, &case.at, "requests of the allocator", requests, 0);
     }
 }
 
@@ -45,7 +45,7 @@ impl<T: Sample, G: Ruled> Call<T, G> for Index {
         case.begin();
         if index < case.list.len() && index < case.items.len() {
             let number = case.items[index];
-            case.handed(rt, &case.list[index], number);
+            case.assert_item(rt, &case.list[index], number);
         }
     }
 }
@@ -59,7 +59,7 @@ impl<T: Sample, G: Ruled> Call<T, G> for Iterate {
     fn run<R: Abort>(rt: &R, case: &mut Case<T, G>, _argument: usize) {
         case.begin();
         let difference = difference(&case.list, case.items.as_slice());
-        same(rt, &case.at, "first item that differs", difference, None);
+        assert_same(rt, &case.at, "first item that differs", difference, None);
     }
 }
 
@@ -68,9 +68,9 @@ impl<T: Sample, G: Ruled> Call<T, G> for Iterate {
 fn difference<T: Sample, G: Ruled>(list: &List<T, G>, numbers: &[u64]) -> Option<usize> {
     let mut index: usize = 0;
     for item in list {
-        let told = Some(item.told());
-        let telling = numbers.get(index).map(|number| T::telling(*number));
-        if told != telling {
+        let found = Some(item.kept_number());
+        let expected = numbers.get(index).map(|nth| T::expected_number(*nth));
+        if found != expected {
             return Some(index);
         }
         index = index.saturating_add(1);
@@ -101,7 +101,7 @@ impl<T: Sample, G: Ruled> Call<T, G> for AsMutSlice {
         }
         if index < case.items.len() {
             let number = mem::replace(&mut case.items[index], FRESH);
-            case.handed(rt, &item, number);
+            case.assert_item(rt, &item, number);
         }
     }
 }
@@ -155,10 +155,10 @@ impl<T: Sample, G: Ruled> Call<T, G> for GetMut {
             is_there = true;
         }
         let length = case.items.len();
-        same(rt, &case.at, "is there", is_there, index < length);
+        assert_same(rt, &case.at, "is there", is_there, index < length);
         if index < length {
             let number = mem::replace(&mut case.items[index], FRESH);
-            case.handed(rt, &item, number);
+            case.assert_item(rt, &item, number);
         }
     }
 }
@@ -177,6 +177,6 @@ impl<T: Sample, G: Ruled> Call<T, G> for IterateMut {
         }
         case.items.insert(0, FRESH).ok().expect(rt, "memory");
         let last = case.items.pop();
-        case.handed_or_none(rt, Some(hand), last);
+        case.assert_item_or_none(rt, Some(hand), last);
     }
 }

@@ -78,7 +78,7 @@ impl<T: Sample, G: Ruled> Call<T, G> for ReplaceRange {
         let answer = case
             .list
             .replace_range(range.start, range.end, new.as_slice());
-        case.answered(rt, answer, verdict);
+        case.assert_answer(rt, answer, verdict);
         replaced(rt, case, range, count, verdict);
     }
 }
@@ -106,7 +106,7 @@ impl<T: Sample + Copy, G: Ruled> Call<T, G> for ReplaceRangeFromCopies {
         let answer = case
             .list
             .replace_range_from_copies(range.start, range.end, new.as_slice());
-        case.answered(rt, answer, verdict);
+        case.assert_answer(rt, answer, verdict);
         replaced(rt, case, range, count, verdict);
     }
 }
@@ -135,9 +135,9 @@ impl<T: Sample, G: Ruled> Call<T, G> for ReplaceRangeFromList {
         let answer = case
             .list
             .replace_range_from_list(range.start, range.end, &mut other);
-        case.answered(rt, answer, verdict);
+        case.assert_answer(rt, answer, verdict);
         replaced(rt, case, range, length, verdict);
 
-        case.gave(rt, &other, shape, FRESH, verdict);
+        case.assert_moved_from(rt, &other, shape, FRESH, verdict);
     }
 }

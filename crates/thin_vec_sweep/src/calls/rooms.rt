@@ -27,7 +27,7 @@ impl<T: Sample, G: Ruled> Call<T, G> for Reserve {
         let verdict = case.growth(capacity, 0);
         case.begin();
         let answer = case.list.reserve(additional);
-        case.answered(rt, answer, verdict);
+        case.assert_answer(rt, answer, verdict);
     }
 }
 
@@ -50,7 +50,7 @@ impl<T: Sample, G: Ruled> Call<T, G> for ReserveExact {
         let verdict = case.growth(capacity, 0);
         case.begin();
         let answer = case.list.reserve_exact(additional);
-        case.answered(rt, answer, verdict);
+        case.assert_answer(rt, answer, verdict);
     }
 }
 
@@ -77,7 +77,7 @@ impl<T: Sample, G: Ruled> Call<T, G> for ShrinkTo {
         let verdict = case.growth(Some(capacity), 0);
         case.begin();
         let answer = case.list.shrink_to(least);
-        case.answered(rt, answer, verdict);
+        case.assert_answer(rt, answer, verdict);
     }
 }
 
@@ -92,7 +92,7 @@ impl<T: Sample, G: Ruled> Call<T, G> for ShrinkToFit {
         let verdict = case.growth(Some(length), 0);
         case.begin();
         let answer = case.list.shrink_to_fit();
-        case.answered(rt, answer, verdict);
+        case.assert_answer(rt, answer, verdict);
     }
 }
 

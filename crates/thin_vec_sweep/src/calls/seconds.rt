@@ -37,7 +37,7 @@ impl<T: Sample, G: Ruled, C: MakesSecond<T, G>> Call<T, G> for MakeSecond<C> {
         let verdict = case.fresh(Some(length), if C::CLONES { length } else { 0 });
         case.begin();
         let answer = C::second(&case.list, &case.ledger.alloc);
-        case.second(rt, answer, verdict, case.items.as_slice(), length);
+        case.assert_second_list(rt, answer, verdict, case.items.as_slice(), length);
     }
 }
 

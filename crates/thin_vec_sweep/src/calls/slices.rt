@@ -1,6 +1,6 @@
 //! Sweeps of the calls that append the items of a slice: as clones, as copies, as bytes that are
 //! written, and to spare room.
-use crate::assertions::{At, same};
+use crate::assertions::{At, assert_same};
 use crate::case::{Case, List, source};
 use crate::samples::Sample;
 use crate::shapes::Shape;
@@ -62,7 +62,7 @@ impl<T: Sample, G: Ruled, C: AppendsSlice<T, G>> Call<T, G> for AppendSlice<C> {
         let verdict = case.growth(capacity, if C::CLONES { count } else { 0 });
         case.begin();
         let answer = C::append(rt, &case.at, &mut case.list, new.as_slice());
-        case.answered(rt, answer, verdict);
+        case.assert_answer(rt, answer, verdict);
         case.add(rt, FRESH, count, verdict);
     }
 }
@@ -161,7 +161,7 @@ impl<G: Ruled> AppendsSlice<u8, G> for WriteSome {
     ) -> Result<(), ThinVecError> {
         match list.write(items) {
             Ok(written) => {
-                same(rt, at, "bytes that were written", written, items.len());
+                assert_same(rt, at, "bytes that were written", written, items.len());
                 Ok(())
             }
             Err(error) => Err(cause(rt, at, &error)),
@@ -182,7 +182,7 @@ impl<G: Ruled> AppendsSlice<u8, G> for WriteAll {
         items: &[u8],
     ) -> Result<(), ThinVecError> {
         let answer = list.write_all(items);
-        same(rt, at, "flush", list.flush().is_ok(), true);
+        assert_same(rt, at, "flush", list.flush().is_ok(), true);
         match answer {
             Ok(()) => Ok(()),
             Err(error) => Err(cause(rt, at, &error)),
@@ -194,6 +194,6 @@ impl<G: Ruled> AppendsSlice<u8, G> for WriteAll {
 // An `io::Error` has this kind for both causes, `OutOfMemory` and `CapacityOverflow`.
 fn cause<R: Abort>(rt: &R, at: &At, error: &Error) -> ThinVecError {
     let kind = error.kind() == ErrorKind::OutOfMemory;
-    same(rt, at, "the error's kind is OutOfMemory", kind, true);
+    assert_same(rt, at, "the error's kind is OutOfMemory", kind, true);
     ThinVecError::OutOfMemory
 }

@@ -4,8 +4,8 @@ ghost use Rattle.std.specs.Iterator.{IsFinite};
 ghost use Rattle.std.specs.Prelude.{◌≤◌, length};
 ghost use Rattle.thin_vec.specs.Edits.Splice.{SpliceKeeps};
 
-use crate::assertions::{is_item, same};
-use crate::calls::filling::{Ending, asked, back, claims, coming, fill};
+use crate::assertions::{assert_same, is_item};
+use crate::calls::filling::{Ending, assert_iterator_calls, back, claims, coming, fill};
 use crate::case::{Case, Verdict, numbers};
 use crate::claims::Claims;
 use crate::closures::number_at;
@@ -210,10 +210,10 @@ impl<T: Sample, G: Ruled> Call<T, G> for Spliced {
             return;
         }
         let (walked, answer) = splice(&mut case.list, &plan, claims, &case.ledger.alloc);
-        same(rt, &at, "steps", walked, Walked::due(&plan));
-        asked(rt, case, &ending);
+        assert_same(rt, &at, "steps", walked, Walked::due(&plan));
+        assert_iterator_calls(rt, case, &ending);
         match answer {
-            Ok(()) => case.answered(rt, Ok(()), ending.verdict),
+            Ok(()) => case.assert_answer(rt, Ok(()), ending.verdict),
             Err(refused) => given_back(rt, case, &ending, plan.count, refused),
         }
     }
@@ -299,8 +299,8 @@ fn given_back<T: Sample, A: Allocator, G: Ruled, R: Abort>(
         in_hand,
         rest,
     } = refused;
-    case.answered(rt, Err(cause), ending.verdict);
+    case.assert_answer(rt, Err(cause), ending.verdict);
     let numbers = coming(rt, case.ledger, ending.placed, ending.held);
-    case.holds(rt, held.as_slice(), numbers.as_slice());
+    case.assert_items(rt, held.as_slice(), numbers.as_slice());
     back(rt, case, ending, count, in_hand, rest);
 }

@@ -100,7 +100,7 @@ fn assert_listed<R: Abort>(rt: &R, alloc: Global, replied: &Replied) {
 }
 
 #[test]
-fn each_command_has_each_of_its_replies(rt: HostRuntime) {
+fn random_runs_get_each_reply_of_each_command(rt: HostRuntime) {
     let refusing = Refusing::new(rt.alloc(), 0);
     let mut replies = Vec::new(rt.alloc());
     let mut done = Vec::new(rt.alloc());
@@ -214,14 +214,14 @@ fn assert_worked<'a, T: Numbered<Lender<'a>>, G: Ruled, J: Judge<T>, R: Abort>(
 }
 
 #[test]
-fn a_worked_run(rt: HostRuntime) {
+fn run_reaches_states_computed_by_hand(rt: HostRuntime) {
     let refusing = Refusing::new(rt.alloc(), 0);
     let orders = worked_orders();
     assert_worked::<u64, Doubling, _, _>(&rt, &refusing, &Evens, orders.as_slice(), &WORKED);
 }
 
 #[test]
-fn a_worked_run_under_power_bytes(rt: HostRuntime) {
+fn run_under_power_bytes_reaches_states_computed_by_hand(rt: HostRuntime) {
     let refusing = Refusing::new(rt.alloc(), 0);
     let orders = worked_powers();
     assert_worked::<u32, PowerBytes, _, _>(
@@ -235,7 +235,7 @@ fn a_worked_run_under_power_bytes(rt: HostRuntime) {
 
 // Runs a command of this kind on an empty list and on `model`. Returns the reply, or `Never` if the
 // two differ.
-fn form_beside<'a, R: Abort>(
+fn form_against_model<'a, R: Abort>(
     rt: &R,
     alloc: Lender<'a>,
     model: Model<u64, Lender<'a>, Doubling>,
@@ -257,21 +257,21 @@ fn one_item<'a, R: Abort>(rt: &R, alloc: Lender<'a>) -> Model<u64, Lender<'a>, D
 }
 
 #[test]
-fn each_difference_from_the_definition_is_found(rt: HostRuntime) {
+fn detects_each_difference_from_the_model(rt: HostRuntime) {
     let refusing = Refusing::new(rt.alloc(), 0);
     let alloc = &refusing;
-    let same = form_beside(&rt, alloc, Model::new(alloc), Kind::Reserve);
+    let same = form_against_model(&rt, alloc, Model::new(alloc), Kind::Reserve);
     assert_eq!(rt; same, Form::Done);
-    let other_items = form_beside(&rt, alloc, one_item(&rt, alloc), Kind::Dedup);
+    let other_items = form_against_model(&rt, alloc, one_item(&rt, alloc), Kind::Dedup);
     assert_eq!(rt; other_items, Form::Never);
-    let other_reply = form_beside(&rt, alloc, one_item(&rt, alloc), Kind::Pop);
+    let other_reply = form_against_model(&rt, alloc, one_item(&rt, alloc), Kind::Pop);
     assert_eq!(rt; other_reply, Form::Never);
     let mut model = Model::new(alloc);
     model.capacity = 1;
-    let other_capacity = form_beside(&rt, alloc, model, Kind::Reserve);
+    let other_capacity = form_against_model(&rt, alloc, model, Kind::Reserve);
     assert_eq!(rt; other_capacity, Form::Never);
     let block = Box::new(alloc, 1u64).ok().expect(&rt, "memory");
-    let block_more = form_beside(&rt, alloc, Model::new(alloc), Kind::Reserve);
+    let block_more = form_against_model(&rt, alloc, Model::new(alloc), Kind::Reserve);
     assert_eq!(rt; block_more, Form::Never);
     drop(block);
 }

@@ -59,8 +59,8 @@ pub fn both<'a, T: Numbered<Lender<'a>>, G: Ruled, J: Judge<T>>(
     let (given, refused) = shown_by_runner(alloc, list, order, judge, nth)?;
     let (form, cause) = model.follow(alloc, order, judge, &given, nth)?;
     drop(given);
-    let told = cause == Some(ThinVecError::OutOfMemory);
-    if told == refused && model.is(list) && has_its_blocks(alloc, list, model) {
+    let is_refused = cause == Some(ThinVecError::OutOfMemory);
+    if is_refused == refused && model.is(list) && has_its_blocks(alloc, list, model) {
         Ok((form, cause))
     } else {
         Ok((Form::Never, cause))

@@ -93,7 +93,7 @@ fn long_commands<R: Abort>(rt: &R, alloc: Global) -> Vec<Command<u32, Global>, G
 }
 
 #[test]
-fn commands_by_thousands_are_not_refused(rt: HostRuntime) {
+fn runs_commands_on_thousands_of_items(rt: HostRuntime) {
     let alloc = rt.alloc();
     let commands = long_commands(&rt, alloc);
     let mut list: ThinVec<u32, Global> = ThinVec::new(alloc);
@@ -159,7 +159,7 @@ fn assert_refused<'a, R: Abort>(rt: &R, alloc: Lender<'a>) {
 }
 
 #[test]
-fn a_refused_run_drops_its_commands(rt: HostRuntime) {
+fn refused_run_drops_its_commands(rt: HostRuntime) {
     let refusing = Refusing::new(rt.alloc(), 0);
     assert_refused(&rt, &refusing);
     assert_eq!(rt; refusing.blocks(), 0);

@@ -173,7 +173,7 @@ impl<T: Numbered<A>, A: Allocator + Copy, G: Ruled> Model<T, A, G> {
     // Makes room for `want` items in total. Returns whether that succeeded.
     fn make_room(&mut self, want: usize) -> bool {
         if want > self.capacity {
-            let capacity = G::named(T::SIZE, self.capacity, want);
+            let capacity = G::expected_capacity(T::SIZE, self.capacity, want);
             if capacity > LIMIT {
                 return false;
             }

@@ -115,7 +115,7 @@ fn listed<T: Numbered<A>, A: Allocator + Copy, G: Growth>(
     }
 }
 
-// Returns the command of an order whose command has one item.
+// Returns the command that `order` describes, which must be one with a single item, `item`.
 fn with_item<T: Drop, A: Allocator, G: Growth>(order: Order, item: T) -> Command<T, A, G> {
     match order.kind {
         Kind::Insert => Command::Insert(order.at, item),

@@ -237,7 +237,7 @@ const NO_COMMANDS: u64 = 52;
 const COMMANDS: [usize; 12] = [7, 24, 9, 24, 10, 26, 10, 27, 12, 27, 12, 29];
 
 #[test]
-fn each_seed_has_its_own_run(rt: HostRuntime) {
+fn each_seed_makes_its_own_run(rt: HostRuntime) {
     let refusing = Refusing::new(rt.alloc(), 0);
     let mut done = Vec::new(rt.alloc());
     let mut tally = Tally::new();
@@ -256,7 +256,7 @@ fn block<'a, R: Abort>(rt: &R, alloc: Lender<'a>) -> Box<u64, Lender<'a>> {
 }
 
 #[test]
-fn a_run_finds_a_difference(rt: HostRuntime) {
+fn random_run_detects_a_difference(rt: HostRuntime) {
     let refusing = Refusing::new(rt.alloc(), 0);
     let mut done = Vec::new(rt.alloc());
     let mut dice = Dice { state: 1 };
@@ -270,7 +270,7 @@ fn a_run_finds_a_difference(rt: HostRuntime) {
 
 #[test]
 #[should_panic(expected = "seed 1, done")]
-fn a_difference_ends_a_test(rt: HostRuntime) {
+fn assert_alike_panics_on_a_difference(rt: HostRuntime) {
     let refusing = Refusing::new(rt.alloc(), 0);
     let mut done = Vec::new(rt.alloc());
     let block = block(&rt, &refusing);
@@ -279,51 +279,51 @@ fn a_difference_ends_a_test(rt: HostRuntime) {
 }
 
 #[test]
-fn random_runs_at_u8(rt: HostRuntime) {
+fn random_runs_of_u8_match_the_model(rt: HostRuntime) {
     let refusing = Refusing::new(rt.alloc(), 0);
     assert_all_alike::<u8, _>(&rt, &refusing, rt.alloc());
 }
 
 #[test]
-fn random_runs_at_u16(rt: HostRuntime) {
+fn random_runs_of_u16_match_the_model(rt: HostRuntime) {
     let refusing = Refusing::new(rt.alloc(), 0);
     assert_all_alike::<u16, _>(&rt, &refusing, rt.alloc());
 }
 
 #[test]
-fn random_runs_at_u32(rt: HostRuntime) {
+fn random_runs_of_u32_match_the_model(rt: HostRuntime) {
     let refusing = Refusing::new(rt.alloc(), 0);
     assert_all_alike::<u32, _>(&rt, &refusing, rt.alloc());
     assert_alike_by_other_rules::<u32, _>(&rt, &refusing, rt.alloc());
 }
 
 #[test]
-fn random_runs_at_u64(rt: HostRuntime) {
+fn random_runs_of_u64_match_the_model(rt: HostRuntime) {
     let refusing = Refusing::new(rt.alloc(), 0);
     assert_all_alike::<u64, _>(&rt, &refusing, rt.alloc());
 }
 
 #[test]
-fn random_runs_at_nothing(rt: HostRuntime) {
+fn random_runs_of_unit_match_the_model(rt: HostRuntime) {
     let refusing = Refusing::new(rt.alloc(), 0);
     assert_all_alike::<(), _>(&rt, &refusing, rt.alloc());
 }
 
 #[test]
-fn random_runs_at_pairs(rt: HostRuntime) {
+fn random_runs_of_pairs_match_the_model(rt: HostRuntime) {
     let refusing = Refusing::new(rt.alloc(), 0);
     assert_all_alike::<(u8, u64), _>(&rt, &refusing, rt.alloc());
 }
 
 #[test]
-fn random_runs_at_boxes(rt: HostRuntime) {
+fn random_runs_of_boxes_match_the_model(rt: HostRuntime) {
     let refusing = Refusing::new(rt.alloc(), 0);
     assert_all_alike::<Box<u64, Lender<'_>>, _>(&rt, &refusing, rt.alloc());
     assert_alike_by_other_rules::<Box<u64, Lender<'_>>, _>(&rt, &refusing, rt.alloc());
 }
 
 #[test]
-fn random_runs_at_vectors(rt: HostRuntime) {
+fn random_runs_of_vectors_match_the_model(rt: HostRuntime) {
     let refusing = Refusing::new(rt.alloc(), 0);
     assert_all_alike::<Vec<u64, Lender<'_>>, _>(&rt, &refusing, rt.alloc());
 }

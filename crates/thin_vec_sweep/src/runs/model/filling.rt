@@ -99,8 +99,8 @@ impl<T: Numbered<A>, A: Allocator + Copy, G: Ruled> Model<T, A, G> {
             && (given.in_hand || given.number == 0 || has_ended)
     }
 
-    // Makes the room for the size hint that the command made before it drew items. It did so if an
-    // item that it returned was drawn.
+    // Makes the room that the command reserved for the size hint before it drew any item. If the
+    // command returned an item that it had drawn, it must have reserved this room.
     fn make_first_rooms(&mut self, order: Order, placed: usize, given: &Shown<T, A>) {
         if given.number > 0 || given.in_hand {
             let first = Order {

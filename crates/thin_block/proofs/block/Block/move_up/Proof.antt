@@ -1,5 +1,5 @@
--- `move_up` takes a run and the gap after it out of the row, calls `slide` to move the items up into
--- the gap, and puts both back. Assumes `Logic`.
+-- `move_up` takes a run and the gap after it out of the row, calls `slide` to move the items up
+-- into the gap, and puts both back. Assumes `Logic`.
 use Rattle.std.proofs.Common.{◌≡◌, ℕ, Some, ◌+◌, ◌*◌, ◌^◌, ◌<◌, ◌≤◌, List, ◌∷◌, [], ◌++◌, length, refl, sym, ap, subst, ◌∙◌, arith, w64}
 use lib.ListN.{length-map}
 use lib.Dec.{T as Holds}

@@ -431,9 +431,9 @@ resize_words_spec 𝓤 𝓛 𝓜 𝓡 wired T A m k LT LA fits_m fits_k g d dd m
     let good' = (((array_at_laws 3 Rw (param_laws 0 W.row W.laws) k).lawful 𝓛).typed ys (u₂ ∷ [])
     is_u₂).0 in
     move ! (1 ∷ []) $
-    -- context: [the bytes of the last words in the place of the header; what the last words own;
-    -- the memory after the other words; the empty words; the right to free; the other words; the
-    -- tokens]
+    -- context: [the bytes of the last words, which are where the header was; what the last words
+    -- own; the memory after the other words; the empty words; the right to free; the other words;
+    -- the tokens]
     sets ! (of_opd ! (load ! (through ! refl (stop !)) (look ! 0 refl))) refl good' $
     assigns ! (of_opd ! (get ! refl)) (through ! refl (stop !)) (init ! 2 refl good') $
     use1 𝓛 (‵ (froom (ty_array ω k) b' o')) (𝓛.laws.at_room (ty_array ω k) b' o' u₂) $
@@ -458,9 +458,9 @@ resize_words_spec 𝓤 𝓛 𝓜 𝓡 wired T A m k LT LA fits_m fits_k g d dd m
     exec ! C Λ En (after 2 fn.body) (at_ret En Post) $
     sets ! (of_opd ! (get ! refl)) refl (tt, (record { fits = lit< tt }, (words, tt))) $
     returns ! (look_at ! 0 refl) $ free_all ! refl $
-    -- context: [the two words of the header; the way back from the header to words; what the last
-    -- words own; their bytes after the other words; the empty words; the right to free; the other
-    -- words; the tokens]
+    -- context: [the two words of the header; the conversion of the header back to words; what the
+    -- last words own; their bytes after the other words; the empty words; the right to free; the
+    -- other words; the tokens]
     rewrite ! 1 (λ (n : ℕ). ‵ (fat full_share (ty_int w64) b' n (vint w64 len)))
     (let turned : 8 + o' ≡ o' + 8 = omega arith in turned) refl $
     use1 𝓛 (‵ (lies_at usize full_share (block_ptr b' o') cap))
@@ -510,9 +510,9 @@ resize_words_spec 𝓤 𝓛 𝓜 𝓡 wired T A m k LT LA fits_m fits_k g d dd m
     let good' = (((array_at_laws 3 Rw (param_laws 0 W.row W.laws) k).lawful 𝓛).typed ys (u₂ ∷ [])
     is_u₂).0 in
     move ! (1 ∷ []) $
-    -- context: [the bytes of the last words in the place of the header; what the last words own;
-    -- the memory after the other words; the empty words; the right to free; the other words; the
-    -- tokens]
+    -- context: [the bytes of the last words, which are where the header was; what the last words
+    -- own; the memory after the other words; the empty words; the right to free; the other words;
+    -- the tokens]
     sets ! (of_opd ! (load ! (through ! refl (stop !)) (look ! 0 refl))) refl good' $
     assigns ! (of_opd ! (get ! refl)) (through ! refl (stop !)) (init ! 2 refl good') $
     use1 𝓛 (‵ (froom (ty_array ω k) b o)) (𝓛.laws.at_room (ty_array ω k) b o u₂) $
@@ -536,9 +536,9 @@ resize_words_spec 𝓤 𝓛 𝓜 𝓡 wired T A m k LT LA fits_m fits_k g d dd m
     exec ! C Λ En (after 2 fn.body) (at_ret En Post) $
     sets ! (of_opd ! (get ! refl)) refl (tt, (record { fits = lit< tt }, (words, tt))) $
     returns ! (look_at ! 0 refl) $ free_all ! refl $
-    -- context: [the two words of the header; the way back from the header to words; what the last
-    -- words own; their bytes after the other words; the empty words; the right to free; the other
-    -- words; the tokens]
+    -- context: [the two words of the header; the conversion of the header back to words; what the
+    -- last words own; their bytes after the other words; the empty words; the right to free; the
+    -- other words; the tokens]
     rewrite ! 1 (λ (n : ℕ). ‵ (fat full_share (ty_int w64) b n (vint w64 len)))
     (let turned : 8 + o ≡ o + 8 = omega arith in turned) refl $
     use1 𝓛 (‵ (lies_at usize full_share (block_ptr b o) old)) (uint_in 𝓛 full_share w64 old b o) $

@@ -27,7 +27,7 @@ returns-in-Ok-clause-value g c =
     let row = c.self.inside.entries in
     let place = rw c.as_slice.ensures.value at c.in-Ok.ensures.found in
     let read = get_or_from_slice_get row.items c.in-Ok.at _ c.index_mut.result.now
-    c.index_mut.ensures.value in
+    c.index_mut.ensures.found in
     let found = get_at row.items c.self.invariant.rising c.args.column c.in-Ok.at place
     c.index_mut.result.now in
     rw (← c.self.view_is, c.replace-column.ensures.value)

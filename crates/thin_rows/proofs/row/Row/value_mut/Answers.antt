@@ -23,7 +23,7 @@ invariant_of-self-lent g c w =
       entries-from_sorted nat_cmp row.items c.self.invariant.rising,
     ) at c.requires.place in
     let read = get_or_from_slice_get row.items c.args.at _ c.index_mut.result.now
-    c.index_mut.ensures.value in
+    c.index_mut.ensures.found in
     let column : c.index_mut.result.now.0 ≡ c.args.column = sym (ap (λ entry. entry.0) read)
     ∙ place.same c.index_mut.result.now in
     record {
@@ -41,7 +41,7 @@ returns g c =
       entries-from_sorted nat_cmp row.items c.self.invariant.rising,
     ) at c.requires.place in
     let read = get_or_from_slice_get row.items c.args.at _ c.index_mut.result.now
-    c.index_mut.ensures.value in
+    c.index_mut.ensures.found in
     let column : c.index_mut.result.now.0 ≡ c.args.column = sym (ap (λ entry. entry.0) read)
     ∙ place.same c.index_mut.result.now in
     let found = get_at row.items c.self.invariant.rising c.args.column c.args.at place

@@ -16,7 +16,7 @@ returns g c =
     let rows = c.self.inside.rows.items in
     let row = c.index_mut.result.now in
     let same : slice_index_or rows c.args.row map.empty ≡ row =
-    get_or_from_slice_get rows c.args.row row map.empty c.index_mut.ensures.value in
+    get_or_from_slice_get rows c.args.row row map.empty c.index_mut.ensures.found in
     let stays : slice_set rows c.args.row row ≡ rows = ap (slice_set rows c.args.row) (sym same)
     ∙ set-get_or rows c.args.row map.empty in (
       rw (← c.self.view_is) (λ i. read_of (ghost_name_of c.get_mut.result)

@@ -25,14 +25,14 @@ pub returns-clause-err : goal.returns-clause-err
 returns-clause-err g c =
     rw (← c.self.view_is)
     (left c.set.result c.self.inside.rows.items c.args.row c.index_mut.result.now
-    c.set.new.self c.index_mut.ensures.value c.set.ensures.err)
+    c.set.new.self c.index_mut.ensures.found c.set.ensures.err)
 
 pub returns-clause-cause : goal.returns-clause-cause
 returns-clause-cause g c =
     let table = c.self.inside.rows.items in
     let there : row_of table c.args.row ≡ c.index_mut.result.now =
     get_or_from_slice_get table c.args.row c.index_mut.result.now map.empty
-    c.index_mut.ensures.value in
+    c.index_mut.ensures.found in
     rw (← c.self.view_is)
     (subst (λ row. IfErr c.set.result (λ refused. IsCause (ruled_capacity doubling
     (entry_type (param 0 g.row.V)) (map.len row) (map.len row + 1)) refused.cause))
@@ -43,7 +43,7 @@ returns-clause-overflow g c =
     let table = c.self.inside.rows.items in
     let there : row_of table c.args.row ≡ c.index_mut.result.now =
     get_or_from_slice_get table c.args.row c.index_mut.result.now map.empty
-    c.index_mut.ensures.value in
+    c.index_mut.ensures.found in
     rw (← c.self.view_is)
     (subst (λ row. IfErr c.set.result (λ refused. ruled_capacity doubling
     (entry_type (param 0 g.row.V)) (map.len row) (map.len row + 1) ≡ None

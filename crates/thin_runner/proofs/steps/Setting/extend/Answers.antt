@@ -78,7 +78,7 @@ returns-in-Err g c =
             no_room = places-end old ⊥ may
                 (λ nothing. false≢true
                 (e.succeeds (omega (arith, nothing, most, e.keeps.within.0.room)))) full;
-            by_hint = λ _ empty. (e.cause.must empty, e.cause.may empty);
+            by_hint = λ _ empty. e.cause.by_hint empty;
             by_held = λ some _. absurd (omega (arith, ap length none, some));
             by_in_hand = λ more. absurd (omega (arith, more));
             by_push = λ _ some. e.cause.by_push some;

@@ -12,7 +12,7 @@ use Rattle.thin_runner.specs.commands.Splices.{cut}
 use Rattle.thin_vec.specs.Cheap.{IsCheap}
 use Rattle.thin_vec.specs.List.Extend.{IsLoose}
 use Rattle.thin_vec.specs.Edits.Splice.{splice_alloc, splice_block, splice_iter}
-use Rattle.thin_vec.specs.ThinVec.{HasRoomFor, IsWithin}
+use Rattle.thin_vec.specs.ThinVec.{HasRoomFor}
 use Rattle.thin_runner.proofs.steps.Setting.splice.Goals as goal
 
 pub returns-in-Ok-finish : goal.returns-in-Ok-finish
@@ -54,7 +54,7 @@ returns-in-Ok-finish g c =
             capacity = subst (λ n. IsLoose g.G.Growth.rule _ n now.capacity) is.capacity e.capacity.loose;
             ruled = ruled old start end block alloc is g.G.Growth.rule (param 0 g.row.T)
                 now _ _ count e.capacity.ruled;
-            within = subst (λ list. IsWithin _ list) (sym left) c.capacity-capacity.ensures.within;
+            within = e.keeps.within.1;
             had_room = λ room.
                 e.capacity.had_room (room-left old start end block alloc is _ _ most room) ∙ is.capacity;
             cost = spliced old start end block alloc is _ e.cost;
@@ -114,8 +114,7 @@ returns-in-Err-finish g c =
                   e.capacity.loose;
               ruled = ruled old start end block alloc is g.G.Growth.rule (param 0 g.row.T)
                   now _ _ count e.capacity.ruled;
-              within = subst (λ list. IsWithin _ list) (sym left)
-                  c.capacity-capacity-in-Err-finish.ensures.within;
+              within = e.keeps.within.1;
               had_room = λ room.
                   e.capacity.had_room (room-left old start end block alloc is _ _ most room) ∙ is.capacity;
               cost = spliced old start end block alloc is _ e.cost;
@@ -146,10 +145,10 @@ returns-in-Err-finish g c =
               length-append block.front placed,
               length-append block.front block.tail,
             );
-            at_end = λ full. let fails = e.at_end (no-tail old start end block alloc is full) in
+            at_end = λ full. let fails = e.without_tail (no-tail old start end block alloc is full) in
                 (fails.held, at-some-in-hand _ _ refused.in_hand fails.in_hand);
             unchanged = λ full none.
-                let fails = e.at_end (no-tail old start end block alloc is full) in
+                let fails = e.without_tail (no-tail old start end block alloc is full) in
                 (at-no-in-hand _ _ refused.in_hand fails.in_hand none).0
                 ∙ left-is old start end block alloc is;
           }),

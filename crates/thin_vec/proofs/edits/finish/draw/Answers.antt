@@ -1,4 +1,5 @@
--- The items that found room go after the held ones, and the item that found none is the next.
+-- The items for which there was room are pushed after the held ones. The item for which there was
+-- no room is the next one.
 use Rattle.std.proofs.Common.{[], ◌++◌, ◌∷◌, ◌∙◌, ap, arith, length, refl, subst}
 use Rattle.std.proofs.lemmas.List.{append-nil, length_push}
 use Rattle.std.specs.Iterator.{YieldsThen}

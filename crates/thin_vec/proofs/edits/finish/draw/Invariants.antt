@@ -1,4 +1,5 @@
--- The vector and the next item are the first item and those that the iterator has yielded.
+-- The items of the vector and the next item are the first item and the items that the iterator has
+-- yielded, in order.
 use Rattle.std.proofs.Common.{[], ◌≡◌, ◌+◌, ◌≤◌, List, ◌++◌, ◌∷◌, length}
 use Rattle.std.specs.Iterator.{IsFinite, Yields, size}
 use Rattle.thin_vec.proofs.edits.finish.draw.Given as goal

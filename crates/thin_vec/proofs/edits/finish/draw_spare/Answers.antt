@@ -1,4 +1,4 @@
--- One item more goes after those that were drawn.
+-- The next item is pushed after the items that were drawn before.
 use Rattle.std.proofs.Common.{◌∷◌, ◌++◌, [], ◌∙◌, ap, append_assoc, arith, length}
 use Rattle.std.proofs.lemmas.List.{length_push}
 use Rattle.thin_vec.proofs.list.ExtendLemmas.{yields-more}

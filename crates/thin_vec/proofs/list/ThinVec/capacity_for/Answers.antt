@@ -1,5 +1,5 @@
 -- If the growth rule names a capacity, this capacity satisfies `Grows`, because every growth rule
--- keeps the law `KeepsLaw`.
+-- satisfies `KeepsLaw`.
 use Rattle.std.proofs.Common.{arith}
 use denote.Param.{param}
 use Rattle.thin_vec.proofs.list.CapacityLemmas.{grows-rule}

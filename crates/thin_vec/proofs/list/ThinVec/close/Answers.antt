@@ -1,5 +1,5 @@
--- After `into_closed`, all items lie in the first slots of the block. So after `close`, the items
--- of the list are those of the open block, in order.
+-- After `into_closed`, all items lie in the first slots of the block. So after
+-- `close`, the items of the list are those of the open block, in order.
 use Rattle.std.proofs.Common.{ap, sym, ◌∙◌, rules}
 use Rattle.thin_vec.specs.Open.{items_of}
 use Rattle.thin_vec.proofs.ListLemmas.{Settled, settled, thin-room, thin_of-becomes}

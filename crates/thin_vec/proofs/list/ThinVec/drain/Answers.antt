@@ -1,4 +1,5 @@
--- What calls from either end give, and that each `next` leaves as it is what the list will have.
+-- The calls of `next` yield the range in order, the calls of `next_back` yield it in reverse, and
+-- no call changes what the list will be.
 use Rattle.std.proofs.Common.{arith, ◌∙◌}
 use Rattle.thin_vec.proofs.edits.DrainLemmas.{drain_keeps_along, drains_in_order, drains_in_reverse}
 use Rattle.thin_vec.proofs.list.ThinVec.drain.Goals as goal

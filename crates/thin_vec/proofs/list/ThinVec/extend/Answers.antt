@@ -1,4 +1,5 @@
--- One growth for the hint, and those of the rest: capacity, cost and cause of both.
+-- The capacity, the cost and the cause of a failure follow from the growth for the hint and from
+-- what `extend_unhinted` states of the rest.
 use Rattle.std.proofs.lemmas.Grind.{common_steps}
 use Rattle.std.proofs.Common.{◌≡◌, ◌++◌, ◌∙◌, Err, ap, arith, length, subst}
 use Rattle.std.proofs.lemmas.List.{append-nil}
@@ -11,7 +12,7 @@ use Rattle.std.proofs.lemmas.Bool.{false≢true}
 use Rattle.thin_block.proofs.Outcomes.{err-same}
 use Rattle.thin_vec.specs.ThinVec.{HasRoomFor, capacity_for}
 use Rattle.std.proofs.Common.{inl, sym, Some, List, None, [], refl}
-use Rattle.thin_vec.proofs.list.ExtendLemmas.{full-in-hand, ruled-after, run_of_ok, filled-join, filled-reserved, loose-join, loose-le, loose-ruled, run_given, run_given_err}
+use Rattle.thin_vec.proofs.list.ExtendLemmas.{full-in-hand, ruled-after, run_of_ok, adding-join, filled-reserved, loose-join, loose-le, loose-ruled, run_given, run_given_err}
 use Rattle.thin_vec.proofs.list.ThinVec.extend.Goals as goal
 
 pub returns-in-Ok-clause-capacity : goal.returns-in-Ok-clause-capacity
@@ -41,7 +42,7 @@ pub returns-in-Ok-clause-cost : goal.returns-in-Ok-clause-cost
 returns-in-Ok-clause-cost g c =
     let rule = g.G.Growth.rule in let T = param 0 g.row.T in let law = g.met.G.Growth.law in
     let v = c.args.self.now in let u = c.reserve.new.self in let w = c.extend_unhinted.new.self in
-    filled-join (filled-reserved v u c.in-Ok.ensures.cost c.reserve.ensures.items
+    adding-join 0 0 0 (omega arith) (filled-reserved v u c.in-Ok.ensures.cost c.reserve.ensures.items
     (cost_at-copied rule T law v c.size_hint.result.0 u.capacity c.reserve.ensures.keeps.within.0.room
     c.in-Ok.ensures.reserves.ok))
     c.extend_unhinted.ensures.cost
@@ -63,19 +64,18 @@ pub returns-in-Err-clause-cause : goal.returns-in-Err-clause-cause
 returns-in-Err-clause-cause g c =
     let hint = c.size_hint.result.0 in let same = c.in-Err.ensures.err in
     let overflow = c.in-Err.ensures.reserves.overflow in
+    let named = ap (λ v. capacity_for g.G.Growth.rule (param 0 g.row.T) v hint) same in
     record {
       by_push = λ none. absurd (false≢true none);
-      must = λ _ must.
-          err-same (overflow.1
-          (sym (ap (λ v. capacity_for g.G.Growth.rule (param 0 g.row.T) v hint) same)
-          ∙ must hint c.size_hint.ensures.lower
-          (λ room. false≢true
-          (c.in-Err.ensures.succeeds (subst (λ v. HasRoomFor v hint) same room)))));
-      may = λ _ over. (
+      by_hint = λ _. (
         hint,
         c.size_hint.ensures.lower,
-        ap (λ v. capacity_for g.G.Growth.rule (param 0 g.row.T) v hint) same
-            ∙ overflow.0 (ap Err over),
+        (λ room. false≢true
+            (c.in-Err.ensures.succeeds (subst (λ v. HasRoomFor v hint) same room))),
+        (
+          λ over. named ∙ overflow.0 (ap Err over),
+          λ none. err-same (overflow.1 (sym named ∙ none)),
+        ),
       );
     }
 

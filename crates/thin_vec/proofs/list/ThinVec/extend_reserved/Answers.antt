@@ -1,6 +1,5 @@
 -- The iterator has ended, or it yields one item more, for which there is no room.
-use Rattle.std.proofs.Common.{◌++◌, ◌-◌, ◌≡◌, ◌∙◌, ap, arith, length, length-append, subst, sym}
-use Rattle.thin_block.specs.Cost.{moving}
+use Rattle.std.proofs.Common.{◌-◌, ◌≡◌, ◌∙◌, ap, arith, length, length-append, subst}
 use Rattle.thin_vec.specs.Put.{Gives}
 use Rattle.thin_vec.proofs.list.ExtendLemmas.{spare-kept}
 use Rattle.thin_vec.proofs.list.ThinVec.extend_reserved.Goals as goal

@@ -1,11 +1,11 @@
--- What came in so far, and one item more.
+-- A turn of the loop appends the items that fill the spare capacity, and pushes one item more.
 use Rattle.std.proofs.lemmas.Grind.{common_steps}
 use Rattle.std.proofs.Common.{Err, ◌++◌, ◌∷◌, [], ◌-◌, ◌∙◌, ap, arith, append_assoc, length, length-append, refl, subst, sym, ◌+◌, inr}
 use Rattle.std.proofs.lemmas.List.{length_push}
 use denote.Param.{param}
 use Rattle.thin_vec.specs.List.Extend.{IsLoose}
 use Rattle.thin_vec.specs.ThinVec.{capacity_for}
-use Rattle.thin_vec.proofs.list.ExtendLemmas.{ruled-more, filled-at, filled-join, filled-spare, loose-join, loose-le, loose-ruled, yields-join, yields-more}
+use Rattle.thin_vec.proofs.list.ExtendLemmas.{ruled-more, filled-at, adding-join, filled-spare, loose-join, loose-le, loose-ruled, yields-join, yields-more}
 use Rattle.thin_vec.proofs.ThinVecLemmas.{cost_at-copied}
 use Rattle.thin_block.proofs.Outcomes.{at-some, err-same, none-some}
 use Rattle.thin_vec.proofs.list.ThinVec.extend_unhinted.Goals as goal
@@ -127,8 +127,8 @@ loop-item-preserved g c =
             kept,
           ))
           ∙ (kept ∙ same);
-      cost = filled-join held.cost
-          (filled-join spare push (omega (arith, kept)) high
+      cost = adding-join 0 0 0 (omega arith) held.cost
+          (adding-join 0 0 0 (omega arith) spare push (omega (arith, kept)) high
           (omega (arith, more)))
           low (omega (arith, high, kept)) (omega (arith, some));
       ruled = let full = at-some c.in-Some.is c.extend_reserved-left.ensures.full in
@@ -174,7 +174,7 @@ returns-in-Err-clause-cost g c =
     c.extend_reserved-left.ensures.changes (omega (arith, more)) in
     let kept = ap (λ z. z.capacity) c.extend_reserved-left.ensures.changes in
     rw c.in-Err.ensures.err
-    (filled-join held.cost spare low (omega (arith, kept)) (omega (arith, some)))
+    (adding-join 0 0 0 (omega arith) held.cost spare low (omega (arith, kept)) (omega (arith, some)))
 
 pub returns-in-Err-clause-loose : goal.returns-in-Err-clause-loose
 returns-in-Err-clause-loose g c =
@@ -192,8 +192,7 @@ returns-in-Err-clause-cause g c =
         λ over. same ∙ overflow.0 (ap Err over),
         λ none. err-same (overflow.1 (sym same ∙ none)),
       );
-      must = λ none. absurd (none-some none refl);
-      may = λ none. absurd (none-some none refl);
+      by_hint = λ none. absurd (none-some none refl);
     }
 
 pub returns-in-Err-clause-keeps : goal.returns-in-Err-clause-keeps

@@ -1,9 +1,10 @@
--- The list holds what the iterator has given, and is full after each turn or has grown.
+-- The list holds its old items, followed by the items that the iterator has yielded. Its capacity
+-- is the old one or a ruled one.
 use Rattle.std.proofs.Common.{◌≡◌, ◌+◌, ◌≤◌, List, ◌++◌, length}
 use Rattle.std.specs.Iterator.{IsFinite, Yields, size}
 use denote.Param.{param}
 use Rattle.thin_vec.specs.Cheap.{IsCheap}
-use Rattle.thin_vec.specs.List.Extend.{IsExtendCost, IsLoose, IsKeptOrRuled}
+use Rattle.thin_vec.specs.List.Extend.{CostsAdding, IsLoose, IsKeptOrRuled}
 use Rattle.thin_vec.proofs.list.ThinVec.extend_unhinted.Given as goal
 
 abbrev pub invariant-loop-item : goal.invariant-loop-item
@@ -18,7 +19,7 @@ invariant-loop-item g l = record {
   never_less : l.fn.self.capacity ≤ l.self.capacity;
   had_room : length l.fn.self.items + size (g.I.Iterator.remaining l.fn.iter) ≤ l.fn.self.capacity
       → l.self.capacity ≡ l.fn.self.capacity;
-  cost : IsExtendCost l.fn.self l.self;
+  cost : CostsAdding l.fn.self l.self 0;
   ruled : IsKeptOrRuled g.G.Growth.rule (param 0 g.row.T) l.fn.self.capacity
       l.self.capacity (length l.self.items);
   alloc : l.self.alloc ≡ l.fn.self.alloc;

@@ -45,7 +45,7 @@ facts g c =
     put.2
     (then-len c.set_len.ensures.changes (stored g c))
 
--- where the items end
+-- the end that the loop returns is the number of items
 ends : (g : _) (c : goal.After-set_len g) → c.put_iter-block.result.1.end
     ≡ length (items_in c.set_len.new.self.slots)
 ends g c =

@@ -1,5 +1,5 @@
--- If there is no tail, the closed list is what is left of the block, and the clauses of `extend` give
--- the rest.
+-- If there is no tail, the closed list is what is left of the block, and the clauses of `extend`
+-- give the rest.
 use Rattle.std.proofs.Common.{◌≡◌, ◌*◌, ◌++◌, ◌∙◌, ap, arith, length, length-append, refl, subst, sym}
 use Rattle.std.specs.Iterator.{size}
 use Rattle.std.specs.Prelude.{MatchOption}
@@ -8,7 +8,8 @@ use Rattle.thin_vec.specs.List.Extend.{IsExtended}
 use Rattle.thin_vec.specs.Edits.Splice.{left_of}
 use Rattle.thin_vec.specs.Edits.Finish.{HasTaken}
 use Rattle.thin_vec.specs.ThinVec.{HasRoomFor}
-use Rattle.thin_vec.proofs.edits.SpliceLemmas.{after-items, closed-left, spliced-extended, stop-at-end, stopped-now}
+use Rattle.thin_vec.proofs.edits.SpliceLemmas.{after-items, closed-left, stop-at-end, stopped-now}
+use Rattle.thin_vec.proofs.list.ExtendLemmas.{adding-more}
 use Rattle.thin_vec.proofs.edits.FinishLemmas.{finished-ok}
 use Rattle.thin_vec.specs.declared.errors.SpliceRefused.{SpliceRefused}
 use Rattle.thin_vec.proofs.list.ThinVec.finish_at_end.Goals.{After-extend}
@@ -31,7 +32,7 @@ taken g c =
     let now : HasTaken g.G.Growth.rule (param 0 g.row.T) c.close.new.self w n more = record {
       capacity = c.extend.ensures.capacity.loose;
       had_room = c.extend.ensures.capacity.had_room;
-      cost = spliced-extended c.close.new.self w n c.extend.ensures.cost;
+      cost = adding-more c.close.new.self w n c.extend.ensures.cost;
       alloc = c.extend.ensures.keeps.alloc;
       cheap = c.extend.ensures.keeps.cheap;
     } in

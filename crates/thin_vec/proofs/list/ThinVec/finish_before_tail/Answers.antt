@@ -1,10 +1,9 @@
 -- The gap is filled, then the room that the size hint asked for, and then the collected items are
 -- inserted: each of the four ways to return gives what `IsFinished` states.
-use Rattle.std.proofs.Common.{[], Err, None, Ok, Some, inl, inr, ◌≡◌, ◌-◌, ◌*◌, ◌∙◌, ap, arith, length, refl, subst, sym}
+use Rattle.std.proofs.Common.{[], Err, None, Ok, Some, inl, inr, ◌-◌, ◌*◌, ◌∙◌, ap, arith, length, refl, subst, sym}
 use denote.Param.{param}
 use Rattle.thin_vec.specs.Edits.Finish.{HasTaken}
-use Rattle.thin_block.specs.declared.errors.ThinVecError.TheVariants.{CapacityOverflow}
-use Rattle.thin_vec.specs.List.Extend.{MayOverflow, MustOverflow, PausedAfter}
+use Rattle.thin_vec.specs.List.Extend.{FailsAtHint, PausedAfter}
 use Rattle.thin_vec.specs.Edits.Splice.{left_of}
 use Rattle.thin_vec.specs.Put.{Gives}
 use Rattle.thin_vec.proofs.list.ExtendLemmas.{ruled-after}
@@ -49,10 +48,7 @@ returns-in-Err g c =
       finite = here.finite;
     })))
     (stop-at-hint rule T w v.tail (left rejected.value) error c.requires.some c.new.ensures.items refl
-    (subst (λ r. MustOverflow rule T w (left r) → rejected.cause ≡ CapacityOverflow) (sym rest)
-    c.in-Err.ensures.must)
-    (subst (λ r. rejected.cause ≡ CapacityOverflow → MayOverflow rule T w (left r)) (sym rest)
-    c.in-Err.ensures.may))
+    (subst (λ r. FailsAtHint rule T w (left r) rejected.cause) (sym rest) c.in-Err.ensures.cause))
     refl
     (subst (λ z. HasTaken rule T (left_of v a) z (2 * length v.tail) (left c.args.iter)) (sym same)
     (filled-taken p rule T (2 * length v.tail) (left c.args.iter)

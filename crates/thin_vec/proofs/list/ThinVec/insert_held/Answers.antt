@@ -1,4 +1,4 @@
--- What was drawn is held, and then goes in, or is returned with the cause.
+-- The items that were drawn are held, and are then inserted, or are returned with the cause.
 use Rattle.std.proofs.Common.{Err, ◌++◌, drop, take, inl, inr, ◌≡◌, ◌+◌, ◌-◌, ◌<◌, ◌∙◌, ap, arith, length, refl, subst, sym}
 use Rattle.std.proofs.lemmas.Bool.{cases_lt, false≢true}
 use Rattle.std.specs.Option.{option_len}
@@ -11,11 +11,11 @@ use Rattle.thin_block.proofs.Outcomes.{err-same}
 use Rattle.thin_vec.proofs.list.ThinVec.insert_held.Goals.{In-Err}
 use Rattle.thin_vec.proofs.list.ThinVec.insert_held.Goals as goal
 
--- how many were asked for
+-- room is reserved for as many items as are held
 count : (g : _) (c : In-Err g) → c.len.result ≡ length c.draw-held.result.held.items
 count g c = c.len.ensures ∙ c.draw-held.result.held.ok.0
 
--- making room fails for some items alone: for none it succeeds
+-- if room cannot be reserved, some item is held: for none, `reserve` succeeds
 more : (g : _) (c : In-Err g) → 0 < length c.draw-held.result.held.items
 more g c = elim (cases_lt 0 (length c.draw-held.result.held.items)) [
   | inl some ↦ some

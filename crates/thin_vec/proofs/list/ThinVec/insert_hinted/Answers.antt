@@ -11,7 +11,7 @@ use Rattle.thin_vec.proofs.edits.FinishLemmas.{IsWide, wide-taken}
 use Rattle.thin_vec.proofs.list.ThinVec.insert_hinted.Goals.{After-fill_gap}
 use Rattle.thin_vec.proofs.list.ThinVec.insert_hinted.Goals as goal
 
--- how the list was opened
+-- the list was opened at `at`, with a gap as wide as the hint
 wide : (g : _) (c : After-fill_gap g)
     → IsWide c.open_wide-block.result c.reserve.new.self c.args.at c.size_hint-hint.result.0
 wide g c = record {
@@ -22,7 +22,7 @@ wide g c = record {
   cost = c.open_wide-block.ensures.other_cost;
 }
 
--- what was taken with at most n moves of the items after `at`
+-- the items were taken into the list with at most n moves of the items from `at` on
 taken : (g : _) (c : After-fill_gap g) (n : _)
     → c.fill_gap.ensures.filled.1.cost.0 + (length c.reserve.new.self.items - c.args.at) ≤ n
     → HasTaken g.G.Growth.rule (param 0 g.row.T) c.args.self.now c.fill_gap.new.self n
@@ -42,7 +42,7 @@ taken g c n few =
     (wide-taken c.fill_gap.ensures.filled rule T n left u c.args.at hint (wide g c)
     (ap (λ z. z.alloc) c.open_wide-block.ensures.changes) few)
 
--- the tail has the items after `at`
+-- the tail has as many items as the list has from `at` on
 tail : (g : _) (c : After-fill_gap g) → length c.open_wide-block.result.tail
     ≡ length c.args.self.now.items - c.args.at
 tail g c = omega (
@@ -111,22 +111,19 @@ returns-in-Err-clause-succeeds g c = λ none.
       c.reserve.ensures.keeps.within.0.room,
     ))
 
-pub returns-in-Err-clause-must : goal.returns-in-Err-clause-must
-returns-in-Err-clause-must g c = λ must.
-    let hint = c.size_hint-hint.result.0 in
-    let same = c.in-Err.ensures.err in
-    err-same (c.in-Err.ensures.reserves.overflow.1
-    (sym (ap (λ z. capacity_for g.G.Growth.rule (param 0 g.row.T) z hint) same)
-    ∙ must hint c.size_hint-hint.ensures.lower
-    (λ room. false≢true (c.in-Err.ensures.succeeds (subst (λ z. HasRoomFor z hint) same room)))))
-
-pub returns-in-Err-clause-may : goal.returns-in-Err-clause-may
-returns-in-Err-clause-may g c = λ over.
-    let hint = c.size_hint-hint.result.0 in (
+pub returns-in-Err-clause-cause : goal.returns-in-Err-clause-cause
+returns-in-Err-clause-cause g c =
+    let hint = c.size_hint-hint.result.0 in let same = c.in-Err.ensures.err in
+    let overflow = c.in-Err.ensures.reserves.overflow in
+    let named = ap (λ z. capacity_for g.G.Growth.rule (param 0 g.row.T) z hint) same in (
       hint,
       c.size_hint-hint.ensures.lower,
-      ap (λ z. capacity_for g.G.Growth.rule (param 0 g.row.T) z hint) c.in-Err.ensures.err
-          ∙ c.in-Err.ensures.reserves.overflow.0 (ap Err over),
+      (λ room. false≢true
+          (c.in-Err.ensures.succeeds (subst (λ z. HasRoomFor z hint) same room))),
+      (
+        λ over. named ∙ overflow.0 (ap Err over),
+        λ none. err-same (overflow.1 (sym named ∙ none)),
+      ),
     )
 
 pub returns-in-Err-clause-err : goal.returns-in-Err-clause-err

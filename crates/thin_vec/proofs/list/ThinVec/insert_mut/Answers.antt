@@ -32,7 +32,7 @@ returns g c =
       ),
       record {
         writes_back = tt;
-        value = c.index_mut.ensures.item
+        value = c.index_mut.ensures.value
             ∙ (ap (λ l. get_or l i y) put ∙ get_or_at (take i xs) v (drop i xs) y i at);
         succeeds = λ _. refl;
         overflow = tells-ok _ _ _ c.in_ok-insert.ensures.reserves.ok;

@@ -1,4 +1,4 @@
--- The moves of the items after the place, and of those that went in.
+-- The inserted items move once each, and the items from `at` on move at most once each.
 use Rattle.std.proofs.Common.{◌≡◌, ◌-◌, ◌∙◌, ap, arith, length}
 use Rattle.thin_block.specs.Cost.{moving}
 use Rattle.thin_vec.proofs.edits.SpliceLemmas.{closed-moves, run-moves}

@@ -12,3 +12,9 @@ returns-clause-variant g c = grind (arith, common_steps)
 
 pub returns-clause-within : goal.returns-clause-within
 returns-clause-within g c = grind (arith, common_steps)
+
+pub returns-clause-value : goal.returns-clause-value
+returns-clause-value g c = λ d some. grind (arith, common_steps)
+
+pub returns-clause-rest : goal.returns-clause-rest
+returns-clause-rest g c = grind (arith, common_steps)

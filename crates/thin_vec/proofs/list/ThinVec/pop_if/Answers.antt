@@ -25,7 +25,7 @@ returns-then-predicate-clause-popped g c =
     let x = c.index_mut.result.now in
     let y = c.predicate.new.arg2 in
     let parts = last xs n x y
-    (omega (arith, c.len-len.ensures.value, c.if-len-eq0.false)) c.index_mut.ensures.item in
+    (omega (arith, c.len-len.ensures.value, c.if-len-eq0.false)) c.index_mut.ensures.value in
     let gave : FnOnceReturnsAtMut g.P.FnOnce c.args.predicate x c.predicate.result y =
     record { shown = _; shows = refl; left = _; met = c.predicate.ensures; leaves = refl } in
     let same = same_from_push c.pop_last.new.self.items (take n xs) c.pop_last.result y
@@ -48,7 +48,7 @@ returns-clause-popped g c =
     let x = c.index_mut.result.now in
     let y = c.predicate.new.arg2 in
     let parts = last xs n x y
-    (omega (arith, c.len-len.ensures.value, c.if-len-eq0.false)) c.index_mut.ensures.item in
+    (omega (arith, c.len-len.ensures.value, c.if-len-eq0.false)) c.index_mut.ensures.value in
     let gave : FnOnceReturnsAtMut g.P.FnOnce c.args.predicate x c.predicate.result y =
     record { shown = _; shows = refl; left = _; met = c.predicate.ensures; leaves = refl } in
     inr (

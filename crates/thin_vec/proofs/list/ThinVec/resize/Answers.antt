@@ -2,13 +2,11 @@
 -- does not change the items, and `resize_reserved` appends clones of `value` and then `value`
 -- itself.
 use Rattle.std.proofs.lemmas.Grind.{common_steps}
-use Rattle.std.proofs.Common.{◌≡◌, ◌+◌, ◌-◌, ◌++◌, ap, arith, inr, length, replicate, subst, sym, take, take_all, ◌∙◌}
-use Rattle.std.specs.Prelude.{OnOk, Some}
+use Rattle.std.proofs.Common.{◌≡◌, ◌+◌, ◌-◌, ◌++◌, ap, arith, length, replicate, subst, sym, take, take_all, ◌∙◌}
+use Rattle.std.specs.Prelude.{OnOk}
 use denote.Param.{param}
-use Rattle.thin_vec.specs.List.Clones.{CloneEquals, IsResized, StopsAtClone}
-use Rattle.thin_vec.specs.ThinVec.{capacity_for, cost_at}
-use Rattle.thin_block.proofs.Outcomes.{on-err, none-some}
-use Rattle.thin_block.proofs.CapacityLemmas.{ruled}
+use Rattle.thin_vec.specs.List.Clones.{CloneEquals, IsResized}
+use Rattle.thin_vec.specs.ThinVec.{capacity_for}
 use Rattle.thin_vec.specs.List.Capacity.{Reserves}
 use Rattle.thin_vec.proofs.list.ReservesLemmas.{reserves-room, reserves-then}
 use Rattle.thin_vec.proofs.list.ThinVec.resize.Goals as goal

@@ -8,13 +8,13 @@ use Rattle.thin_vec.proofs.OpenBlockLemmas.{before-empty, after-filled, close-ro
 use Rattle.std.proofs.lemmas.Grind.{common_steps}
 use Rattle.thin_vec.proofs.open_block.OpenBlock.into_closed.Goals as goal
 
-pub close_gap-closed-requires-clause-empty : goal.close_gap-closed-requires-clause-empty
-close_gap-closed-requires-clause-empty g c = λ j low high.
+pub close_small_gap-closed-requires-clause-empty : goal.close_small_gap-closed-requires-clause-empty
+close_small_gap-closed-requires-clause-empty g c = λ j low high.
     let o = c.self.invariant in
     before-empty c.self.inside (open_of c.self.inside) o j low (omega (arith, high, o.gap))
 
-pub close_gap-closed-requires-clause-filled : goal.close_gap-closed-requires-clause-filled
-close_gap-closed-requires-clause-filled g c = λ j low high.
+pub close_small_gap-closed-requires-clause-filled : goal.close_small_gap-closed-requires-clause-filled
+close_small_gap-closed-requires-clause-filled g c = λ j low high.
     let o = c.self.invariant in
     after-filled c.self.inside o (ap (λ v. v.gap_after) c.self.view_is ∙ c.requires.gap_after) j
     (omega (arith, low, o.gap)) (omega (arith, high, o.gap))
@@ -33,12 +33,12 @@ returns-clause-slots g c =
     let none = ap (λ v. v.gap_after) c.self.view_is ∙ c.requires.gap_after in
     let same : h.front_end + (h.rest_start - h.front_end) ≡ h.rest_start = omega (arith, o.gap) in
     ap (λ v. v.slots) c.store_len.ensures.changes
-    ∙ (ap (λ v. v.slots) c.close_gap-closed.ensures.changes
+    ∙ (ap (λ v. v.slots) c.close_small_gap-closed.ensures.changes
     ∙ (ap (λ n. moved n h.front_end (h.len - h.rest_start) h.block.slots) same
     ∙ (close-row h o none ∙ ap (λ v. front (items_of v) v.capacity) c.self.view_is)))
 
-pub close_gap-closed-requires-clause-in_bounds : goal.close_gap-closed-requires-clause-in_bounds
-close_gap-closed-requires-clause-in_bounds g c = grind (arith, common_steps)
+pub close_small_gap-closed-requires-clause-in_bounds : goal.close_small_gap-closed-requires-clause-in_bounds
+close_small_gap-closed-requires-clause-in_bounds g c = grind (arith, common_steps)
 
 pub returns-clause-len : goal.returns-clause-len
 returns-clause-len g c = grind (arith, common_steps)

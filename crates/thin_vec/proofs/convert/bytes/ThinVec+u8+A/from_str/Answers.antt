@@ -1,14 +1,12 @@
 -- The contract of `from_copies` is generic in the item type, and names the capacity for a type of
 -- the same size and alignment as `u8`. So this is the capacity for items of type `u8`, and both
 -- calls fail with the same error.
-use Rattle.std.proofs.Common.{◌∙◌, ap, length, refl, subst, arith}
+use Rattle.std.proofs.Common.{◌∙◌, ap, length, refl, arith}
 use Rattle.std.specs.Borrow.{u8}
-use Rattle.std.specs.Prelude.{IfErr, Option, ℕ}
 use Rattle.thin_block.proofs.CapacityLemmas.{exact-at}
 use Rattle.thin_block.specs.Growth.{exact_capacity}
 use Rattle.thin_vec.proofs.list.ReservesLemmas.{tells-same}
 use Rattle.thin_vec.proofs.convert.bytes.ThinVec+u8+A.from_str.Goals as goal
-use Rattle.thin_vec.specs.ThinVec.{IsCause}
 
 -- the item type in the contract of `from_copies` has the size and the alignment of `u8`, and the
 -- items passed to it are the bytes of the text

@@ -1,7 +1,7 @@
 -- The contract of `reserve_run` is generic in the item type, and names the capacity for a type of
 -- the same size and alignment as `u8`. So this is the capacity for items of type `u8`, and if there
 -- is none, the call fails.
-use Rattle.std.proofs.Common.{◌+◌, ◌∙◌, Some, ap, length, refl, sym, arith}
+use Rattle.std.proofs.Common.{◌+◌, ◌∙◌, Some, ap, length, refl, sym}
 use Rattle.std.specs.Borrow.{u8}
 use Rattle.thin_block.proofs.CapacityLemmas.{ruled-at}
 use Rattle.thin_block.proofs.Outcomes.{none-some}

@@ -1,4 +1,4 @@
--- As many items come as are left.
+-- Both bounds that `size_hint` returns are the number of items not yet yielded.
 use Rattle.std.proofs.Common.{arith, ◌∙◌}
 use Rattle.thin_vec.proofs.edits.drain.Drain+T+A+G.size_hint.Goals as goal
 

@@ -1,4 +1,5 @@
--- As many items come as are left.
+-- The trait's `len` returns the number of items not yet yielded, as the method `len` of `Drain`
+-- does.
 use Rattle.std.proofs.Common.{arith, ◌∙◌}
 use Rattle.thin_vec.proofs.edits.drain.DrainExactSizeIterator.len.Goals as goal
 

@@ -1,4 +1,4 @@
--- One step from the front.
+-- A call of the trait's `next` is one call of the method `next` of `Drain`.
 use Rattle.std.proofs.Common.{arith, ◌∙◌}
 use Rattle.thin_vec.proofs.edits.drain.DrainIterator.next.Goals as goal
 

@@ -44,7 +44,7 @@ returns g c =
       placed = f.placed;
       before_tail = if-err r
           (λ error is now some. omega (arith, now some, length-append v.front v.tail)) f.range;
-      at_end = f.at_end;
+      without_tail = f.at_end;
       cause = f.cause;
       capacity = record {
         had_room = f.taken.had_room;

@@ -2,7 +2,7 @@
 -- the iterator.
 use Rattle.std.specs.Iterator.{Yields}
 use Rattle.std.specs.Option.{option_to_list}
-use Rattle.std.proofs.Common.{None, [], refl, Some, inl, inr, ◌<◌, ◌++◌, ◌≡◌, ◌∙◌, ap, arith, length, subst, sym}
+use Rattle.std.proofs.Common.{None, [], refl, Some, inl, inr, ◌++◌, ◌≡◌, ◌∙◌, ap, arith, length, subst, sym}
 use Rattle.std.proofs.lemmas.Bool.{cases_lt, false≢true}
 use denote.Param.{param}
 use Rattle.thin_block.proofs.Outcomes.{err-same}
@@ -70,15 +70,16 @@ returns-in-Err-clause-cause g c =
     let hint = c.size_hint.result.0 in
     record {
       by_push = λ some. absurd (false≢true some);
-      must = λ _ must.
-          let some : 0 < hint =
-          elim (cases_lt 0 hint) [
-            | inl some ↦ some
-            | inr none ↦
-                absurd (false≢true (c.in-Err.ensures.succeeds_empty (omega (arith, none))))
-          ] in
-          err-same (c.in-Err.ensures.overflow (must hint c.size_hint.ensures.lower some));
-      may = λ _ over. (hint, c.size_hint.ensures.lower, c.in-Err.ensures.cause over);
+      by_hint = λ _. (
+        hint,
+        c.size_hint.ensures.lower,
+        elim (cases_lt 0 hint) [
+          | inl some ↦ some
+          | inr none ↦
+              absurd (false≢true (c.in-Err.ensures.succeeds_empty (omega (arith, none))))
+        ],
+        (λ over. c.in-Err.ensures.cause over, λ none. err-same (c.in-Err.ensures.overflow none)),
+      );
     }
 
 pub returns-in-Err-extend_unhinted-clause-cause : goal.returns-in-Err-extend_unhinted-clause-cause
@@ -87,8 +88,7 @@ returns-in-Err-extend_unhinted-clause-cause g c =
     let in_hand = c.in-Err-extend_unhinted.ensures.in_hand in
     record {
       by_push = cause.by_push;
-      must = λ none. absurd (hand-empty in_hand none);
-      may = λ none. absurd (hand-empty in_hand none);
+      by_hint = λ none. absurd (hand-empty in_hand none);
     }
 
 pub returns-in-Err-extend_unhinted-clause-in_hand : goal.returns-in-Err-extend_unhinted-clause-in_hand

@@ -1,4 +1,4 @@
--- The items are those that the iterator yields from its start.
+-- The items of the list are all items that the iterator yields.
 use Rattle.std.proofs.Common.{arith, refl, ◌∙◌}
 use Rattle.thin_vec.proofs.list.extend.ThinVecFromIterator.from_iter.Goals as goal
 

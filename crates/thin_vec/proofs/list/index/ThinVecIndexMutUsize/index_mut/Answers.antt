@@ -41,9 +41,9 @@ returns g c =
       ),
       record {
         writes_back = tt;
-        value = item;
-        item = sym (get_or_from_slice_get c.args.self.now.items c.args.index c.slot_mut.result.now
+        value = sym (get_or_from_slice_get c.args.self.now.items c.args.index c.slot_mut.result.now
             c.slot_mut.result.now item);
+        found = item;
         within = within-of _ _ _ _ c.self.invariant c.self.view_is c.len-len.ensures.slots_fit;
       },
     )

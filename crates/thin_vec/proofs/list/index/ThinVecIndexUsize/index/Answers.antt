@@ -6,5 +6,5 @@ use Rattle.thin_vec.proofs.list.index.ThinVecIndexUsize.index.Goals as goal
 pub returns-clause-value : goal.returns-clause-value
 returns-clause-value g c = grind (arith, elements)
 
-pub returns-clause-item : goal.returns-clause-item
-returns-clause-item g c = grind (arith, elements)
+pub returns-clause-found : goal.returns-clause-found
+returns-clause-found g c = grind (arith, elements)

@@ -1,7 +1,7 @@
 -- `greatest` is the maximum of `least` and all items that were yielded so far.
 use Rattle.std.proofs.Common.{◌≡◌, max}
 use Rattle.std.specs.List.{fold}
-use Rattle.thin_tests.proofs.tests.drains.greatest_out.Given as goal
+use Rattle.thin_tests.proofs.tests.drains.drain_greatest.Given as goal
 
 abbrev pub invariant-loop-item : goal.invariant-loop-item
 invariant-loop-item l = l.greatest ≡ fold max l.least l.yielded

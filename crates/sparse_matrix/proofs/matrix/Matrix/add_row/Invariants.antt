@@ -1,0 +1,16 @@
+-- The entries of the row of `other` so far are added, and nothing else has changed.
+use Rattle.std.proofs.Common.{◌≡◌, ◌≢◌, ℕ, length}
+use Rattle.thin_rows.specs.Table.{row_of}
+use Rattle.sparse_matrix.specs.Numbers.{added, number_at}
+use Rattle.sparse_matrix.proofs.WritesLemmas.{IsWritten}
+use Rattle.sparse_matrix.proofs.matrix.Matrix.add_row.Given as goal
+
+abbrev pub invariant-loop-column : goal.invariant-loop-column
+invariant-loop-column g l = record {
+  written : IsWritten added (row_of l.other.numbers l.row) (number_at l.fn.self.numbers l.row)
+      l.column-index (number_at l.self.numbers l.row);
+  others : (i j : ℕ) → i ≢ l.row
+      → number_at l.self.numbers i j ≡ number_at l.fn.self.numbers i j;
+  rows : length l.self.numbers ≡ length l.fn.self.numbers;
+  columns : l.self.columns ≡ l.fn.self.columns;
+}

@@ -1,0 +1,21 @@
+-- After the loop, all columns are written. This matrix has no further rows, and the transposed
+-- matrix has zeros in the columns after them.
+use Rattle.std.proofs.Common.{◌≡◌, arith, inl, inr, length, sym, ◌∙◌}
+use Rattle.std.proofs.lemmas.Bool.{cases_lt}
+use Rattle.sparse_matrix.proofs.NumberLemmas.{no_row}
+use Rattle.sparse_matrix.proofs.matrix.Matrix.transposed.Goals as goal
+
+pub returns-clause-numbers : goal.returns-clause-numbers
+returns-clause-numbers g c =
+    let numbers = c.args.self.now.numbers in
+    let all : c.loop-row.row ≡ length numbers = omega (
+      arith,
+      c.loop-row-test.false,
+      c.loop-row.auto.row-end,
+      c.rows-row-end.ensures.value,
+    ) in
+    λ i j. elim (cases_lt j (length numbers)) [
+      | inl less ↦ c.loop-row.invariant.done i j (omega (arith, less, all))
+      | inr past ↦ c.loop-row.invariant.rest i j (omega (arith, past, all))
+          ∙ sym (no_row numbers j i past)
+    ]

@@ -1,0 +1,2 @@
+-- The numbers of a matrix.
+pub mod Numbers

@@ -1,0 +1,9 @@
+-- `keep_tens`: the closure of `dedup_by_key` is stateless and changes no number, so the numbers
+-- left are `dedup` of the old ones.
+use Rattle.std.proofs.Common.{rules}
+use Rattle.thin_vec.proofs.EditLemmas.{deduped_dedup}
+use Rattle.thin_examples.proofs.filtering.keep_tens.Goals as goal
+
+pub returns-clause-items : goal.returns-clause-items
+returns-clause-items g c = deduped_dedup _ _
+    (λ x y b t x' y' k. search rules) c.dedup_by_key.ensures.deduped

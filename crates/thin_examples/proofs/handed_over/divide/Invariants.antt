@@ -1,0 +1,12 @@
+-- `divide`, in this order: `odd` has the odd numbers yielded so far, and `even` has the even ones.
+-- Both have room for all numbers that remain.
+use Rattle.std.proofs.Common.{◌≡◌, ◌+◌, ◌%◌, ◌==◌, ◌++◌, ◌≤◌, length}
+use Rattle.std.specs.Prelude.{filter, not}
+use Rattle.thin_examples.proofs.handed_over.divide.Given as goal
+
+abbrev pub invariant-loop-number : goal.invariant-loop-number
+invariant-loop-number g l =
+    (l.odd.items ≡ l.fn.odd.items ++ filter (λ number. number % 2 == 1) l.yielded)
+    × (l.even.items ≡ l.fn.even.items ++ filter (λ number. not (number % 2 == 1)) l.yielded)
+    × (length l.odd.items + length l.number-iterator.items ≤ l.odd.capacity)
+    × (length l.even.items + length l.number-iterator.items ≤ l.even.capacity)

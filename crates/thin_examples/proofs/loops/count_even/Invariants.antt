@@ -1,0 +1,9 @@
+-- `count_even`: `count` is the number of even numbers before the present one.
+use Rattle.std.proofs.Common.{◌≡◌, ◌%◌, ◌==◌, ◌≤◌, length, take}
+use Rattle.std.specs.Prelude.{filter}
+use Rattle.thin_examples.proofs.loops.count_even.Given as goal
+
+abbrev pub invariant-loop-number : goal.invariant-loop-number
+invariant-loop-number g l =
+    (l.count ≡ length (filter (λ number. number % 2 == 0) (take l.number-index l.list.items)))
+    × (l.count ≤ l.number-index)

@@ -1,0 +1,72 @@
+//! Callers of `thin_vec!` in the form of std's `vec!`, and of std's traits `Emptied` and
+//! `MadeWith`.
+ghost use Rattle.std.specs.Prelude.{◌≡◌, [], ◌∷◌, IfOk, OnErr, OnOk, replicate};
+
+use std::alloc::{AllocError, Allocator};
+use std::collections::HashMap;
+use std::default::MadeWith;
+use std::mem;
+use thin_vec::{Growth, ThinVec, ThinVecError, thin_vec};
+
+/// Makes the list 1, 2.
+///
+/// # Errors
+///
+/// Fails if the allocator does.
+pub fn one_two<A: Allocator>(alloc: A) -> Result<ThinVec<u32, A>, ThinVecError>
+    ensures items { IfOk result (λ list. list.items ≡ 1 ∷ 2 ∷ []) }
+    ensures capacity { IfOk result (λ list. list.capacity ≡ 2) }
+{
+    thin_vec![in alloc; 1, 2]
+}
+
+/// Makes a list of `count` zeros.
+///
+/// # Errors
+///
+/// Fails if the allocator does, or if the capacity would be too large.
+pub fn zeros<A: Allocator>(alloc: A, count: usize) -> Result<ThinVec<u32, A>, ThinVecError>
+    ensures items { IfOk result (λ list. list.items ≡ replicate count 0) }
+{
+    thin_vec![in alloc; 0; count]
+}
+
+/// Moves the list out of `list`, and leaves an empty list there.
+///
+/// # Errors
+///
+/// Fails if the allocator cannot be cloned. Then the list does not change.
+pub fn take_list<T, A: Allocator + Clone, G: Growth>(
+    list: &mut ThinVec<T, A, G>,
+) -> Result<ThinVec<T, A, G>, AllocError>
+    ensures taken { IfOk result (λ taken. taken ≡ list.old) }
+    ensures left { OnOk result (list.new.items ≡ []) }
+    ensures err { OnErr result (list.new ≡ list.old) }
+{
+    mem::try_take(list)
+}
+
+/// Makes an empty list by the trait that `or_default` of std's maps uses.
+pub fn made<A: Allocator, G: Growth>(alloc: A) -> ThinVec<u32, A, G>
+    ensures items { result.items ≡ [] }
+{
+    MadeWith::made_with(alloc)
+}
+
+/// Appends `number` to the list that `lists` has for `key`. If `lists` has none, a new list is
+/// inserted first.
+///
+/// # Errors
+///
+/// Fails if the allocator does.
+pub fn append_to(
+    lists: &mut HashMap<u32, ThinVec<u32>>,
+    key: u32,
+    number: u32,
+) -> Result<(), ThinVecError> {
+    let Ok(entry) = lists.entry(key) else {
+        return Err(ThinVecError::OutOfMemory);
+    };
+    entry.or_default().push(number)?;
+    Ok(())
+}

@@ -1,0 +1,204 @@
+-- Lemmas for callers of `dedup_by`, `dedup_by_key` and `extract_if` whose closure is stateless, and
+-- changes no item.
+use Rattle.std.proofs.Common.{◌≡◌, ◌+◌, ◌≤◌, Bool, true, false, List, [], ◌∷◌, ◌++◌, Option, None, Some, ap, append_assoc, arith, length, refl, sym, ◌∙◌}
+use Rattle.std.proofs.lemmas.Fn.{dedup_same}
+use Rattle.std.proofs.lemmas.List.{append-nil, length-append}
+use Rattle.std.specs.List.{dedup}
+use Rattle.std.specs.List.Retain.{DedupsFrom, DedupsAll, ExtractsNext, IsDeduped}
+use Rattle.std.specs.Option.{option_to_list}
+use Rattle.std.specs.Prelude.{MatchBool, cond, filter, not}
+use Rattle.thin_block.specs.declared.growth.Growth.{Ghosts}
+use Rattle.thin_vec.specs.Edits.Dedup.{AskedLast, AskedPairs, IsDedupedBy}
+use Rattle.thin_vec.specs.Edits.ExtractIf.{ExtractSteps, extract_front, extract_lender, extract_rest, extract_tail}
+use Rattle.thin_vec.specs.ThinVec.{Thin}
+use Rattle.thin_vec.specs.declared.edits.extract_if.ExtractIf.{ExtractIf}
+use Rattle.thin_vec.specs.declared.edits.extract_if.Extracting.{Extracting}
+use Rattle.thin_vec.specs.declared.edits.holder.Holder.{Holder}
+use Rattle.thin_vec.specs.declared.edits.holder.Holds.{Ghosts as HoldsGhosts}
+
+-- ---- `dedup_by` and `dedup_by_key`
+
+-- R is the relation of the closure, as in specs/Edits/Dedup
+module _ {S T : Type 0} (R : S → T → T → Bool → S → T → T → Type 0) where
+  -- if each later item was compared with the last item kept before it, ys is what std's
+  -- `DedupsFrom` says that the comparisons keep
+  dedups_from : (xs : List T) (s : S) (k : T) (stays : List Bool) (ys : List T) (t : S)
+      → AskedLast R s k xs stays ys t → DedupsFrom R s k xs ys
+  dedups_from [] s k stays ys t h = h.1
+  dedups_from (x ∷ xs) s k stays ys t h = (
+    h.0,
+    h.3,
+    h.1,
+    h.2,
+    h.5,
+    (elim h.0 as (λ b.
+        MatchBool b (AskedLast R h.3 h.2 xs h.4 ys t)
+        ((zs : List T) × AskedLast R h.3 h.1 xs h.4 zs t × (ys ≡ h.2 ∷ zs))
+        → MatchBool b (DedupsFrom R h.3 h.2 xs ys)
+        ((zs : List T) × DedupsFrom R h.3 h.1 xs zs × (ys ≡ h.2 ∷ zs))) [
+          | true ↦ λ m. dedups_from xs h.3 h.2 h.4 ys t m
+          | false ↦ λ m. (m.0, dedups_from xs h.3 h.1 h.4 m.0 t m.1, m.2)
+        ]) h.7,
+  )
+
+  -- `dedups_from` for all items, of which the first stays
+  dedups_all : (xs : List T) (s : S) (stays : List Bool) (ys : List T) (t : S)
+      → AskedPairs R s xs stays ys t → DedupsAll R s xs ys
+  dedups_all [] s stays ys t h = h.1
+  dedups_all (x ∷ xs) s stays ys t h = dedups_from xs s x stays ys t h
+
+  -- if `dedup_by` or `dedup_by_key` reduced v to w, the items satisfy `IsDeduped` of std, about
+  -- which the kit's `lemmas/Fn` has lemmas
+  pub deduped_deduped : {A : Type 0} (s : S) (v w : Thin T A) → IsDedupedBy R s v w
+      → IsDeduped R s v.items w.items
+  deduped_deduped s v w h =
+      record { told = dedups_all v.items s h.1.stays w.items h.0 h.1.asked }
+
+  -- if the closure is stateless, changes no item, and returns `same x y` for a later item x and the
+  -- last item y kept before it, the items kept are `dedup same` of the old ones
+  pub deduped_dedup : {A : Type 0} (same : T → T → Bool) {s : S} {v w : Thin T A}
+      → ((x y : T) (b : Bool) (t : S) (x' y' : T) → R s x y b t x' y'
+      → (b ≡ same x y) × (t ≡ s) × (x' ≡ x) × (y' ≡ y))
+      → IsDedupedBy R s v w → w.items ≡ dedup same v.items
+  deduped_dedup same {s} {v} {w} says h =
+      dedup_same R same s says v.items w.items (deduped_deduped s v w h)
+
+-- ---- `extract_if`
+
+module _ {T : Type 0} (test : T → Bool) where
+  -- the items for which the test is false
+  abbrev pub others : List T → List T
+  others xs = filter (λ x. not (test x)) xs
+
+  -- how one call of `next` divides the items xs that were not tested before: it extracts `item`,
+  -- which is `None` at the end, keeps the items `kept` in the list, and does not test the items
+  -- `rest`
+  pub record Parts (xs : List T) (item : Option T) (kept rest : List T) : Type 0 where
+    pub gone : filter test xs ≡ option_to_list item ++ filter test rest
+    pub stay : others xs ≡ kept ++ others rest
+    pub ended : item ≡ None → rest ≡ []
+
+  -- `None` is not equal to `Some x`
+  none-some : {x : T} → None ≡ Some x → ⊥
+  none-some e = cc
+
+  module _ {S : Type 0} (R : S → T → Bool → S → T → Type 0)
+      (says : (s : S) (x : T) (b : Bool) (t : S) (y : T) → R s x b t y
+      → (b ≡ test x) × (y ≡ x)) where
+    -- if one call of `next` tests the item x first, and what it does with the items xs after x is
+    -- as `Parts` says, then what it does with x and xs is as `Parts` says
+    part : (x : T) (xs : List T) (item : Option T) (t u : S) (y : T) (kept rest : List T)
+        (b : Bool) → b ≡ test x → y ≡ x
+        → ((ks : List T) → ExtractsNext R u xs item t ks rest → Parts xs item ks rest)
+        → MatchBool b ((item ≡ Some y) × (t ≡ u) × (kept ≡ []) × (rest ≡ xs))
+        ((ks : List T) × ExtractsNext R u xs item t ks rest × (kept ≡ y ∷ ks))
+        → Parts (x ∷ xs) item kept rest
+    part x xs item t u y kept rest true p q more m = record {
+      gone = ap (λ b. cond b (x ∷ filter test xs) (filter test xs)) (sym p)
+          ∙ (ap (λ z. z ∷ filter test xs) (sym q)
+          ∙ sym (λ i. option_to_list (m.0 i) ++ filter test (m.3 i)));
+      stay = ap (λ b. cond (not b) (x ∷ others xs) (others xs)) (sym p)
+          ∙ sym (λ i. m.2 i ++ others (m.3 i));
+      ended = λ n. absurd (none-some (sym n ∙ m.0));
+    }
+    part x xs item t u y kept rest false p q more m =
+        let then = more m.0 m.1 in
+        record {
+          gone = ap (λ b. cond b (x ∷ filter test xs) (filter test xs)) (sym p) ∙ then.gone;
+          stay = ap (λ b. cond (not b) (x ∷ others xs) (others xs)) (sym p)
+              ∙ (ap (λ l. x ∷ l) then.stay
+              ∙ (ap (λ z. z ∷ (m.0 ++ others rest)) (sym q)
+              ∙ sym (ap (λ l. l ++ others rest) m.2)));
+          ended = then.ended;
+        }
+
+    -- if the closure returns the result of the test and changes no item, one call of `next` divides
+    -- the items that were not tested before as `Parts` says
+    pub parts : (s : S) (xs : List T) (item : Option T) (t : S) (kept rest : List T)
+        → ExtractsNext R s xs item t kept rest → Parts xs item kept rest
+    parts s [] item t kept rest e = record {
+      gone = sym (λ i. option_to_list (e.0 i) ++ filter test (e.3 i));
+      stay = sym (λ i. e.2 i ++ others (e.3 i));
+      ended = λ _. e.3;
+    }
+    parts s (x ∷ xs) item t kept rest e =
+        let answer = says s x e.0 e.1 e.2 e.3 in
+        part x xs item t e.1 e.2 kept rest e.0 answer.0 answer.1
+        (λ ks n. parts e.1 xs item t ks rest n) e.4
+
+-- `extract_if` with the default holder
+module _ {T F A G : Type 0} {g : Ghosts G}
+    {h : HoldsGhosts (Holder (Extracting T F A)) (Extracting T F A)} (test : T → Bool) where
+  -- the state of a loop that takes each item out of `now`, which was `start` when the loop began,
+  -- and appends it to a sequence, which was `old` when the loop began and is `held` now
+  pub record IsExtracting (start now : ExtractIf T F A G (Holder (Extracting T F A)) g h)
+      (old held : List T) : Type 0 where
+    pub gone : held ++ filter test (extract_rest now) ≡ old ++ filter test (extract_rest start)
+    pub stay : extract_front now ++ others test (extract_rest now)
+        ≡ extract_front start ++ others test (extract_rest start)
+    pub tail : extract_tail now ≡ extract_tail start
+    pub lender : extract_lender now ≡ extract_lender start
+    pub count : length held + length (extract_rest now)
+        ≤ length old + length (extract_rest start)
+
+  -- a loop is in this state when it begins
+  pub extract_start : (e : ExtractIf T F A G (Holder (Extracting T F A)) g h) (old : List T)
+      → IsExtracting e e old old
+  extract_start e old =
+      record { gone = refl; stay = refl; tail = refl; lender = refl; count = omega arith }
+
+  module _ (R : F → T → Bool → F → T → Type 0)
+      (says : (s : F) (x : T) (b : Bool) (t : F) (y : T) → R s x b t y
+      → (b ≡ test x) × (y ≡ x)) where
+    -- if a loop is in this state, and `next` yields x, the loop is in this state after x was
+    -- appended
+    pub extract_step : {start now new : ExtractIf T F A G (Holder (Extracting T F A)) g h}
+        {old held more : List T} {item : Option T} {x : T} → IsExtracting start now old held
+        → ExtractSteps R now item new → item ≡ Some x → more ≡ held ++ x ∷ []
+        → IsExtracting start new old more
+    extract_step {start} {now} {new} {old} {held} {more} {item} {x} was step is put =
+        let part = parts test R says _ _ _ _ _ _ step.asked in record {
+          gone = ap (λ l. l ++ filter test (extract_rest new)) put
+              ∙ (append_assoc held (x ∷ []) (filter test (extract_rest new))
+              ∙ (ap (λ r. held ++ (option_to_list r ++ filter test (extract_rest new))) (sym is)
+              ∙ (ap (λ l. held ++ l) (sym part.gone) ∙ was.gone)));
+          stay = ap (λ l. l ++ others test (extract_rest new)) step.front
+              ∙ (append_assoc (extract_front now) step.kept (others test (extract_rest new))
+              ∙ (ap (λ l. extract_front now ++ l) (sym part.stay) ∙ was.stay));
+          tail = step.tail ∙ was.tail;
+          lender = step.lender ∙ was.lender;
+          count = omega (
+            arith,
+            was.count,
+            step.count,
+            ap (λ r. length (option_to_list r)) is,
+            ap length put,
+            length-append held (x ∷ []),
+          );
+        }
+
+    -- if a loop is in this state, and `next` yields `None`, then exactly the items of the range
+    -- that pass the test were appended, and the list has all other items once the `ExtractIf` is
+    -- dropped
+    pub extract_end : {start now new : ExtractIf T F A G (Holder (Extracting T F A)) g h}
+        {old held : List T} {item : Option T} → IsExtracting start now old held
+        → ExtractSteps R now item new → item ≡ None
+        → (held ≡ old ++ filter test (extract_rest start))
+        × (extract_front new ++ (extract_rest new ++ extract_tail new)
+        ≡ extract_front start ++ (others test (extract_rest start) ++ extract_tail start))
+    extract_end {start} {now} {new} {old} {held} {item} was step none =
+        let part = parts test R says _ _ _ _ _ _ step.asked in
+        let ended = part.ended none in
+        let front = extract_front new in
+        let tail = extract_tail start in (
+          sym (append-nil held)
+              ∙ (sym (λ i. held ++ (option_to_list (none i) ++ filter test (ended i)))
+              ∙ (ap (λ l. held ++ l) (sym part.gone) ∙ was.gone)),
+          (λ i. front ++ (ended i ++ (step.tail ∙ was.tail) i))
+              ∙ (ap (λ l. l ++ tail) (sym (append-nil front)
+              ∙ (ap (λ l. front ++ others test l) (sym ended)
+              ∙ (ap (λ l. l ++ others test (extract_rest new)) step.front
+              ∙ (append_assoc (extract_front now) step.kept (others test (extract_rest new))
+              ∙ (ap (λ l. extract_front now ++ l) (sym part.stay) ∙ was.stay)))))
+              ∙ append_assoc (extract_front start) (others test (extract_rest start)) tail),
+        )

@@ -1,0 +1,18 @@
+-- Lemmas for callers, about a list that was written to through a slice of all its items.
+use Rattle.std.proofs.Common.{◌≡◌, List, ◌++◌, ap, drop, length, sym, take, ◌∙◌}
+use Rattle.std.proofs.Math.Seq.{take-append_seam}
+use Rattle.std.specs.List.{refill}
+use Rattle.thin_vec.specs.Lends.{with_items}
+use Rattle.thin_vec.specs.ThinVec.{Thin}
+
+-- if ws is as long as xs, writing ws over xs leaves ws
+pub refill_all : {T : Type 0} (xs ws : List T) → length ws ≡ length xs
+    → refill (length xs) xs ws ≡ ws
+refill_all xs ws same =
+    ap (λ n. take n (ws ++ drop (length ws) xs)) (sym same) ∙ take-append_seam ws _
+
+-- if ws is as long as the list v, then v with ws written over its items has the items ws
+-- (std: `with_items_is`)
+pub with_items_is : {T A : Type 0} (v : Thin T A) (ws : List T) → length ws ≡ length v.items
+    → (with_items v ws).items ≡ ws
+with_items_is v ws same = refill_all v.items ws same

@@ -1,0 +1,20 @@
+-- Lemmas for callers, about the items that an `IntoIter` has yielded.
+use Rattle.std.proofs.Common.{◌≡◌, List, [], ◌∷◌, ◌++◌, ap, sym, ◌∙◌}
+use Rattle.std.proofs.lemmas.List.{append-nil}
+use Rattle.std.specs.Iterator.{Drains, Yields, YieldsFirst}
+use Rattle.thin_vec.specs.Convert.IntoIter.{rest}
+use Rattle.thin_vec.specs.ThinVec.{Thin}
+
+module _ {T A : Type 0} where
+  -- if calls of `next` have yielded xs, the items that remained before are xs and then those that
+  -- remain now
+  pub taken_front : (s : Thin T A) (xs : List T) (t : Thin T A) → Yields (YieldsFirst rest) s xs t
+      → s.items ≡ xs ++ t.items
+  taken_front s [] t y = ap (λ v. v.items) y
+  taken_front s (x ∷ xs) t y = y.1 ∙ ap (λ ys. x ∷ ys) (taken_front y.0 xs t y.2)
+
+  -- if calls of `next` have yielded xs and then `None`, xs are the items that remained before
+  -- (std: `All-taken`)
+  pub all_taken : (s : Thin T A) (xs : List T) → Drains (YieldsFirst rest) s xs → xs ≡ s.items
+  all_taken s xs d = sym (taken_front s xs d.1.0 d.1.1
+      ∙ (ap (λ ys. xs ++ ys) d.1.2.0 ∙ append-nil xs))
