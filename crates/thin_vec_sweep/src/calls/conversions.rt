@@ -266,8 +266,9 @@ impl<T: Sample> Call<T, Doubling> for New {
             0 => Ok(ThinVec::new(&case.ledger.alloc)),
             1 => Ok(ThinVec::default_in(&case.ledger.alloc)),
             2 => Ok(MadeWith::made_with(&case.ledger.alloc)),
-            3 => Emptied::emptied(&List::<T, Doubling>::new(&case.ledger.alloc))
-                .map_err(|_refused| ThinVecError::OutOfMemory),
+            3 => Emptied::emptied(&List::<T, Doubling>::new(&case.ledger.alloc)).map_err(
+                |_refused| ThinVecError::OutOfMemory,
+            ),
             4 => thin_vec![in &case.ledger.alloc],
             _ => thin_vec![&case.ledger.alloc =>],
         };
