@@ -2,7 +2,7 @@
 -- to free its memory may be. What it owns, and what a `&` to it shows, names no thread: this is the
 -- word `Keyless` of the logic. `Common` says it of a `&` for every lifetime.
 --     block_send, block_sync    a block may be sent, and shared
-use Rattle.std.specs.Prelude.{ℕ, zero, suc, ◌+◌, ◌-◌, ◌*◌, List, [], ◌∷◌, length, Option}
+use Rattle.std.specs.Prelude.{ℕ, zero, suc, ◌+◌, List, [], ◌∷◌, length, Option}
 use Rattle.std.specs.declared.option.Option.TheVariants.{Some, None}
 use Rattle.std.specs.Int.{div_ceil}
 use Rattle.std.specs.Mem.{type_size}
@@ -11,16 +11,16 @@ use base.Shift.{Keyless}
 use prog.Memory.{size}
 use denote.RattleType.{RattleType}
 use denote.RawPtr.{Ptr, block_ptr, null_ptr}
-use denote.Builtin.{RawPtr, usize}
+use denote.Builtin.{usize}
 use denote.Struct.Struct.{exits_of}
 use denote.Struct.Owning.{shape, fields, to}
 use denote.Param.Send.{IsSend, IsSync, Common, AllSend, AllSync, Frees, owning_send, struct_send, struct_sync, sendable}
 use Rattle.core.specs.declared.alloc.Allocator.{Ghosts}
 use Rattle.std_alloc.proofs.SendSync.{quiet, lies, seen}
-use Rattle.thin_block.specs.Ownership.{bare, word_of, words_of, place, places, ways, way_back, frame, block_owns, place_lent, places_lent, frame_lent, block_lent}
+use Rattle.thin_block.specs.Ownership.{bare, word_of, words_of, place, places, ways, way_back, block_owns, place_lent, places_lent, block_lent}
 use Rattle.thin_block.specs.contracts.block.Block as C
 
--- numbers and pointers may be sent
+-- numbers may be sent
 number_send : IsSend usize
 number_send = search sendable
 
@@ -64,20 +64,28 @@ module _ (R : RattleType) where
       (place_Common y x (block_ptr b o) κ, places_Common y xs b (o + type_size R) κ)
 
   module _ (Z : RattleType) (g : Ghosts Z.Denot) where
-    -- if items may be sent, and the right to free memory names no thread, what a block owns names no
-    -- thread
+    -- if items may be sent, and the right to free memory names no thread, then what a block owns
+    -- names no thread
     block_Keyless : IsSend R → Frees g g.dealloc_token → (p : Ptr) (n : ℕ)
         (xs : List (Option R.Denot)) (a : Option Z.Denot)
         → Keyless (block_owns g.dealloc_token R p n xs a)
     block_Keyless s f null_ptr n xs a = tt
-    block_Keyless s f (block_ptr b o) n xs None =
-        (seen usize number_sync (block_ptr b o) 0 [], seen usize number_sync (block_ptr b (o + 8)) 0 [])
+    block_Keyless s f (block_ptr b o) n xs None = (
+      seen usize number_sync (block_ptr b o) 0 [],
+      seen usize number_sync (block_ptr b (o + 8)) 0 [],
+    )
     block_Keyless s f (block_ptr b o) n xs (Some a) = (
       (
         lies usize number_send (block_ptr b o) (length xs),
         (
           lies usize number_send (block_ptr b (o + 8)) n,
-          (tt, (way_back_Keyless (words_of R) (bare R) (length xs) b o, f.frees a _ (block_ptr b o))),
+          (
+            tt,
+            (
+              way_back_Keyless (words_of R) (bare R) (length xs) b o,
+              f.frees a _ (block_ptr b o),
+            ),
+          ),
         ),
       ),
       places_Keyless s xs b (o + 16),
@@ -104,7 +112,8 @@ module _ (R : RattleType) where
     pub block_send : IsSend R → IsSend Z → Frees g g.dealloc_token → IsSend (C.the_row R Z g)
     block_send s z f =
         let O = C.the_type R Z g in
-        let all : AllSend (fields O) = (search sendable, (search sendable, (search sendable, tt))) in
+        let all : AllSend (fields O) =
+        (search sendable, (search sendable, (search sendable, tt))) in
         owning_send O all (λ d. block_Keyless s f d.at d.len d.slots d.alloc)
         (λ k. quiet (to O) (exits_of k (fields O)) ((struct_send (shape O) all).leaving k))
 
@@ -112,7 +121,8 @@ module _ (R : RattleType) where
     pub block_sync : IsSync R → IsSync Z → IsSync (C.the_row R Z g)
     block_sync y z =
         let O = C.the_type R Z g in
-        let all : AllSync (fields O) = (search sendable, (search sendable, (search sendable, tt))) in
+        let all : AllSync (fields O) =
+        (search sendable, (search sendable, (search sendable, tt))) in
         record {
           shared = λ d b o κ. (
             (struct_sync (shape O) all).shared (to O d) b o κ,
