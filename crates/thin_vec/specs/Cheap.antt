@@ -1,5 +1,5 @@
--- What the growth of a list may have cost: the amortised cost of growth. (std: `Vec::push`, "Time
--- complexity")
+-- An upper bound on what the growth of a list has cost. By this bound, a push takes amortised
+-- constant time. (std: `Vec::push`, "Time complexity")
 use Rattle.std.specs.Prelude.{◌≡◌, ℕ, ◌*◌, ◌^◌, ◌<◌, ◌≤◌}
 use Rattle.thin_block.specs.Cost.{Cost}
 use Rattle.thin_vec.specs.ThinVec.{Thin}
