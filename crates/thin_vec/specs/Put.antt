@@ -4,7 +4,8 @@ use Rattle.std.specs.Iterator.{Count, IsFinite, Yields, YieldsThen, size}
 use Rattle.std.specs.declared.option.Option.TheVariants.{None}
 use Rattle.thin_vec.specs.declared.put.Filled.{Filled}
 
--- calls of `next` from s yielded xs and led to t; if `ended` is true, one more call returned `None`
+-- calls of `next` from the state s yielded the items xs and led to the state t; if `ended` is true,
+-- one more call returned `None`
 abbrev pub Gives : {S X : Type 0} → (S → Option X → S → Type 0) → S → List X → Bool → S → Type 0
 Gives steps s xs true t = YieldsThen steps s xs None t
 Gives steps s xs false t = Yields steps s xs t

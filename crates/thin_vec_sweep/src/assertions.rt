@@ -64,8 +64,8 @@ pub fn assert_same_items<T: Sample, R: Abort>(rt: &R, at: &At, items: &[T], numb
     assert_same(rt, at, "first item that differs", difference, None);
 }
 
-/// Asserts that `items` items are not yet dropped, and that the allocated blocks are theirs, if
-/// each owns one, and the list's, if its capacity is not 0.
+/// Asserts that `items` items are not yet dropped, and how many blocks are allocated: one for each
+/// of these items, if each owns one, and one for the list, if its capacity is not 0.
 pub fn assert_live<T: Sample, R: Abort>(
     rt: &R,
     at: &At,

@@ -1,5 +1,5 @@
-//! Tests of lists that grow and shrink in place once they are long: those whose items have 1, 2, 4,
-//! 8 or 16 bytes. Each change of the capacity is refused first, and then made.
+//! Tests of lists that grow and shrink in place once they are long. Lists whose items have 1, 2, 4,
+//! 8 or 16 bytes do so. Each change of the capacity is refused first, and then made.
 use crate::tests::support::assertions::assert_same;
 use crate::tests::support::items::push;
 use std::alloc::{Allocator, Global};

@@ -1,5 +1,5 @@
 //! Sends lists, and what is made of lists, through functions whose bounds are `Send` and `Sync`. No
-//! thread is started: that these functions compile and are proved is the test.
+//! thread is started: the test is that these functions compile and are proved.
 ghost use Rattle.std.specs.Prelude.{◌≡◌};
 
 use crate::tests::support::assertions::assert_same;

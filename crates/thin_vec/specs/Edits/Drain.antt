@@ -46,15 +46,15 @@ module _ {T A G : Type 0} {g : Ghosts G} {h : HoldsGhosts (Holder (Open T A)) (O
     pub alloc : drain_alloc new ≡ drain_alloc old
     pub cost : drain_cost new ≡ drain_cost old
 
-  -- a call of `next` on `old` returned `item` and led to `new`: it yields the first item, or
-  -- returns `None` if no item is left
+  -- a call of `next` on `old` returned `item` and led to `new`: `item` is the first item that was
+  -- not yet yielded, or `None` if there was none
   pub record DrainSteps (old : Drain T A G (Holder (Open T A)) g h) (item : Option T)
       (new : Drain T A G (Holder (Open T A)) g h) : Type 0 where
     pub gave : YieldsFirst drain_rest old item new
     pub keeps : DrainKeeps old new
 
-  -- a call of `next_back` on `old` returned `item` and led to `new`: it yields the last item, or
-  -- returns `None` if no item is left
+  -- a call of `next_back` on `old` returned `item` and led to `new`: `item` is the last item that
+  -- was not yet yielded, or `None` if there was none
   pub record DrainStepsBack (old : Drain T A G (Holder (Open T A)) g h) (item : Option T)
       (new : Drain T A G (Holder (Open T A)) g h) : Type 0 where
     pub gave : YieldsLast drain_rest old item new

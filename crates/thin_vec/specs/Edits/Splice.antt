@@ -124,15 +124,15 @@ module _ {I T A G H : Type 0} {g : Ghosts G} {h : HoldsGhosts H (Open T A)} wher
     pub alloc : splice_alloc new ≡ splice_alloc old
     pub cost : (splice_block new).cost ≡ (splice_block old).cost
 
-  -- a call of `next` on `old` returned `item` and led to `new`: it yields the first item, or
-  -- returns `None` if no item is left
+  -- a call of `next` on `old` returned `item` and led to `new`: `item` is the first item that was
+  -- not yet yielded, or `None` if there was none
   pub record SpliceSteps (old : Splice I T A G H g h) (item : Option T)
       (new : Splice I T A G H g h) : Type 0 where
     pub gave : YieldsFirst splice_rest old item new
     pub keeps : SpliceKeeps old new
 
-  -- a call of `next_back` on `old` returned `item` and led to `new`: it yields the last item, or
-  -- returns `None` if no item is left
+  -- a call of `next_back` on `old` returned `item` and led to `new`: `item` is the last item that
+  -- was not yet yielded, or `None` if there was none
   pub record SpliceStepsBack (old : Splice I T A G H g h) (item : Option T)
       (new : Splice I T A G H g h) : Type 0 where
     pub gave : YieldsLast splice_rest old item new

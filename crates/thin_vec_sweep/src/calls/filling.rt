@@ -227,7 +227,7 @@ impl<T: Sample, G: Ruled> Call<T, G> for ExtendAsTrait {
     }
 }
 
-// Asserts that a call of a trait of `std` succeeded exactly if it had to.
+// Asserts that a call of a trait of `std` succeeded if and only if it had to.
 fn done<T: Sample, G: Ruled, R: Abort>(rt: &R, case: &Case<T, G>, ending: &Ending, is_done: bool) {
     assert_same(
         rt,

@@ -1,5 +1,5 @@
-//! Sweeps of the calls that keep the items for which a closure says so. The closure is called once
-//! for each item, in order, and may overwrite it.
+//! Sweeps of the calls in which a closure decides which items stay. The closure is called once for
+//! each item, in order, and may overwrite it.
 use crate::case::{Case, put};
 use crate::closures::{ClosureCalls, PATTERNS, number_at, stays};
 use crate::samples::{Counted, Sample};

@@ -185,7 +185,7 @@ fn show_list<T: Drop, A: Allocator + Copy, G: Growth>(
     }
 }
 
-// Returns what a reply shows if its call stopped half way.
+// Returns what a reply shows if its call stopped before all items were placed.
 fn show_stopped<T: Drop, A: Allocator + Copy>(
     answers: Vec<Option<T>, A>,
     cause: ThinVecError,
