@@ -53,9 +53,9 @@ impl Ranged {
 }
 
 impl Shape {
-    /// Returns the shape of this number. The shapes are, in order: 0 to 4 items with 0 to 4 empty
-    /// slots, 0 to 40 items with 0 and 1 empty slots, some thousand items, and the longest with 1
-    /// and 0 empty slots.
+    /// Returns the shape with the number `number`. The shapes are, in order: 0 to 4 items with 0 to
+    /// 4 empty slots, 0 to 40 items with 0 and 1 empty slots, some thousand items, and the longest
+    /// with 1 and 0 empty slots.
     pub fn nth(number: usize) -> Shape {
         if number < 25 {
             return Shape {

@@ -18,8 +18,9 @@ pub struct Walk {
 }
 
 impl Walk {
-    /// Returns the walk of this number over `count` items. Over at most 6 items, each walk of up to
-    /// `count + 1` steps has a number: its binary digits after the first one are the steps.
+    /// Returns the walk with the number `number` over `count` items. Over at most 6 items, each
+    /// walk of up to `count + 1` steps has a number: its binary digits after the first one are the
+    /// steps.
     pub fn nth(count: usize, number: usize) -> Walk {
         if count >= WALKS.len() {
             return Walk {
@@ -45,7 +46,7 @@ impl Walk {
         }
     }
 
-    /// Returns whether the step of this number is from the back.
+    /// Returns whether the step with the number `step` is from the back.
     pub fn is_back(self, step: usize) -> bool {
         self.ends >> (step % 64) & 1 == 1
     }

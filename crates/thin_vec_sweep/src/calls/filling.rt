@@ -19,8 +19,8 @@ const FRESH: u64 = 800_000;
 // How many size hints are tried.
 const HINTS: usize = 10;
 
-// Returns the size hint of this number, for an iterator over `count` items and a list of `length`
-// items.
+// Returns the size hint with the number `number`, for an iterator over `count` items and a list of
+// `length` items.
 fn hint<T: Sample>(number: usize, count: usize, length: usize) -> usize {
     match number {
         0 => 0,
@@ -178,8 +178,8 @@ pub fn claims<T: Sample, G: Ruled, R: Abort>(
     Claims::new(source(rt, case.ledger, last, count), lower, case.ledger)
 }
 
-/// Calls `extend` with each count of items and each size hint. A failed call must return the items
-/// that are not in the list.
+/// Calls `extend` with each tried number of items and each size hint. A failed call must return the
+/// items that are not in the list.
 pub struct Extend {}
 
 impl<T: Sample, G: Ruled> Call<T, G> for Extend {

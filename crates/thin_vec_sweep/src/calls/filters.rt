@@ -262,7 +262,7 @@ impl<T: Sample + PartialEq, G: Ruled> Call<T, G> for Dedup {
     }
 }
 
-// Replaces the item at `index` by the item of this number.
+// Replaces the item at `index` by the item that is made from `number`.
 fn write<T: Sample, G: Ruled, R: Abort>(rt: &R, case: &mut Case<T, G>, index: usize, number: u64) {
     if index < case.list.len() {
         case.list[index] = case.item(rt, number);

@@ -108,8 +108,8 @@ fn many(width: usize, number: usize) -> usize {
     }
 }
 
-// Returns the lower bound of this number. When `finish` reads it, `left` of `all` items are not yet
-// yielded.
+// Returns the size hint with the number `number`. When `finish` reads it, `left` of `all` items are
+// not yet yielded.
 fn hint(number: usize, left: usize, all: usize) -> usize {
     match number {
         0 => 0,
@@ -189,7 +189,8 @@ fn hold<T: Sample, G: Ruled>(case: &mut Case<T, G>, count: usize) -> usize {
     count
 }
 
-/// Calls `splice` on each range, with each count of new items and each size hint, after some steps.
+/// Calls `splice` on each range, with each tried number of new items and each size hint, after some
+/// steps.
 pub struct Spliced {}
 
 impl<T: Sample, G: Ruled> Call<T, G> for Spliced {
