@@ -36,8 +36,7 @@ pub fn number_at(index: usize) -> u64 {
     (index as u64).saturating_add(1)
 }
 
-/// How often a closure was called, and how often with another item than the one it had to be called
-/// with.
+/// How often a closure was called, and how often it was called with a wrong item.
 pub struct ClosureCalls {
     asked: Cell<usize>,
     wrong: Cell<u64>,

@@ -52,7 +52,8 @@ impl Walk {
     }
 }
 
-/// Returns how many steps a walk over more than 6 items has, by a number from 0 to 4.
+/// Returns how many steps a walk over more than 6 items has. There are five such lengths, with the
+/// numbers from 0 to 4.
 pub fn some_steps(count: usize, number: usize) -> usize {
     match number {
         0 => count / 2,

@@ -131,8 +131,8 @@ fn make_capacity<T: Drop, A: Allocator, G: Growth>(
     }
 }
 
-// Changes the capacity of the list to `capacity`, twice. Asserts that the first request is refused
-// and leaves the list unchanged, and that the second one succeeds.
+// Tries twice to change the capacity of the list to `capacity`. Asserts that the first request is
+// refused and leaves the list unchanged, and that the second one succeeds.
 fn assert_capacity_made<T: Numbered, B: Allocator>(
     rt: &impl Abort,
     refusing: &Refusing<B>,

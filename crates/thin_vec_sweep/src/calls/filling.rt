@@ -13,7 +13,7 @@ use std::process::Abort;
 use thin_testing::Ruled;
 use thin_vec::{Doubling, ThinVec};
 
-// The number of the first new item. The next ones have the numbers below, in descending order.
+// The number of the first new item. Each further new item has the next lower number.
 const FRESH: u64 = 800_000;
 
 // How many size hints are tried.
@@ -42,7 +42,7 @@ pub struct Ending {
     pub verdict: Verdict,
     /// How many items are moved into the list.
     pub placed: usize,
-    /// How many items are held back in a vector after those.
+    /// How many items are held back in a vector, after the items that are moved into the list.
     pub held: usize,
     /// How many items are in hand after the items that are held back: 0 or 1.
     pub in_hand: usize,
@@ -146,7 +146,7 @@ pub fn assert_iterator_calls<T: Sample, G: Ruled, R: Abort>(
 }
 
 /// Asserts that an error returns the item in hand, and the items that were not taken from the
-/// iterator. Together with the other items, they are all `count` items.
+/// iterator. Together with the items that were placed or held back, they are all `count` items.
 pub fn back<T: Sample, G: Ruled, R: Abort>(
     rt: &R,
     case: &Case<T, G>,

@@ -93,8 +93,8 @@ fn moved_up<R: Abort>(rt: &R, global: Global, count: usize, pattern: usize) -> V
 }
 
 /// Calls `pop_if`. The closure owns a new item, and swaps it with the last item of the list. The
-/// closure then owns the old last item, and drops it with itself. The closure returns whether the
-/// new item is removed from the list.
+/// closure then owns the old last item, which is dropped with the closure. The closure returns
+/// whether the new item is removed from the list.
 pub struct PopIf {}
 
 impl<T: Sample, G: Ruled> Call<T, G> for PopIf {

@@ -34,7 +34,7 @@ const SHORT_WALKS: usize = 3;
 // cases take a step.
 const AFTER_STEPS: Cases = [33, 94, 102, 118, 150, 214, 342];
 
-// Each filling is tried, without a step before.
+// Each filling is tried, without a step before it.
 const AT_ONCE: Cases = [FILLS; 7];
 
 // Returns how many cases of each range are tried. Spare room matters only to the filling, so that
@@ -173,8 +173,9 @@ fn fill_between<T: Sample, G: Ruled>(case: &mut Case<T, G>, width: usize, plan: 
     ending
 }
 
-// Returns how many of `count` items a `Vec` can hold that is empty at first. It first requests 4
-// places, or 8 if an item has at most one byte, and then twice as many as it has.
+// Returns how many of `count` items a `Vec` that is empty at first can hold. The `Vec` first
+// requests 4 places, or 8 if an item has at most one byte, and then each time twice as many as it
+// has.
 fn hold<T: Sample, G: Ruled>(case: &mut Case<T, G>, count: usize) -> usize {
     let first = if T::SIZE <= 1 { 8 } else { 4 };
     let mut room: usize = 0;

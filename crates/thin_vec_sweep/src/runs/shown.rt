@@ -75,7 +75,8 @@ pub struct Shown<T, A: Allocator> {
     pub items: Vec<T, A>,
     /// The capacity of a list, or how many items were held back.
     pub number: usize,
-    /// Whether an item was in hand. It is the first one after those that were held back.
+    /// Whether an item was in hand. In `items`, this item is the first one after the items that
+    /// were held back.
     pub in_hand: bool,
     /// The place of a command that was returned because it is out of range.
     pub place: Place,
