@@ -57,7 +57,8 @@ const OUT_OF_MEMORY: &str = "ExitCode(unix_exit_status(2))";
 const NOT_WRITTEN: &str = "ExitCode(unix_exit_status(3))";
 
 // Writes the report to `text`. The call of `write` with the number `failing` fails, or none if that
-// is 0. Asserts that the report ends with the exit code `end`, and returns how many calls it made.
+// is 0. Asserts that the report ends with the exit code `end`, and returns how many calls of
+// `write` were made.
 fn report_into<A: Allocator + Copy, R: Abort>(
     rt: &R,
     alloc: A,

@@ -37,8 +37,8 @@ const AFTER_STEPS: Cases = [33, 94, 102, 118, 150, 214, 342];
 // Each filling is tried, without a step before it.
 const AT_ONCE: Cases = [FILLS; 7];
 
-// Returns how many cases of each range are tried. Spare room matters only to the filling, so that
-// lists with spare room are tried without steps.
+// Returns how many cases of each range are tried. Spare room matters only to the filling, so lists
+// with spare room are tried without steps.
 fn cases(shape: Shape) -> Cases {
     if shape.spare == 0 {
         AFTER_STEPS
