@@ -13,7 +13,7 @@ trait Numbered: Copy + PartialEq + Debug + Drop {
     fn numbered(number: usize) -> Self;
 }
 
-// The modulus is odd, so that bytes in neighbouring words differ.
+// The modulus is odd, so bytes in neighbouring words differ.
 impl Numbered for u8 {
     fn numbered(number: usize) -> u8 {
         (number % 251) as u8
@@ -174,7 +174,7 @@ fn assert_capacities<T: Numbered, B: Allocator>(
 }
 
 // Runs `assert_pushes` and `assert_capacities` for one type of item, of `size` bytes. The shortest
-// block that can stay in place has 32 words (256 bytes) of items, so that the lists have about this
+// block that can stay in place has 32 words (256 bytes) of items, so the lists have about this
 // many bytes. Their capacities are up to 18 items greater. If an item is smaller than a word, some
 // of these capacities fill a whole number of words, and others do not.
 fn assert_type<T: Numbered>(rt: &impl Abort, alloc: Global, size: usize) {

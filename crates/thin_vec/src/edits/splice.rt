@@ -218,7 +218,7 @@ impl<
         } else {
             list.finish_at_end(block, iter, alloc)
         };
-        // This call is for the prover: it yields that the list is within bounds.
+        // This call is only for the prover: its contract says that the list is within bounds.
         let _len = list.len();
         answer
     }

@@ -254,7 +254,7 @@ fn bound(number: usize, length: usize) -> Bound<usize> {
     }
 }
 
-// Returns the range that `bounds` must return. No list has `usize::MAX` items, so that a sum may
+// Returns the range that `bounds` must return. No list has `usize::MAX` items, so a sum may
 // saturate there.
 fn between(start: Bound<usize>, end: Bound<usize>, length: usize) -> Option<(usize, usize)> {
     let first = match start {
