@@ -1,6 +1,7 @@
--- A block may be sent to another thread, and shared between threads, if its items may and the right
--- to free its memory may be. What it owns, and what a `&` to it shows, names no thread: this is the
--- word `Keyless` of the logic. `Common` says it of a `&` for every lifetime.
+-- A block may be sent to another thread, and shared between threads, if its items may be, and if
+-- the right to free its memory may be. The lemmas prove that what a block owns, and what a `&` to
+-- it shows, names no thread. The logic calls this `Keyless`, and `Common` if it is true for every
+-- lifetime of a `&`.
 --     block_send, block_sync    a block may be sent, and shared
 use Rattle.std.specs.Prelude.{ℕ, zero, suc, ◌+◌, List, [], ◌∷◌, length, Option}
 use Rattle.std.specs.declared.option.Option.TheVariants.{Some, None}

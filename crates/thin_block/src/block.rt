@@ -34,8 +34,8 @@ struct Header {
 /// memory. Contracts see the slots, the stored length, the allocator that the memory came from, and
 /// three counters. Only the slots and the length take memory.
 pub struct Block<T, A: Allocator> {
-    // Points to the capacity, which the length and then the slots follow. Without an allocation, it
-    // points to `NO_BLOCK`.
+    // Points to the capacity, which is followed by the length and then by the slots. Without an
+    // allocation, it points to `NO_BLOCK`.
     pub(crate) at: *mut usize,
     pub(crate) item: PhantomData<T>,
     pub(crate) handle: PhantomData<A>,

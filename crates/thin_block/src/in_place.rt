@@ -48,9 +48,9 @@ unsafe fn resized<T, A: Allocator>(
 impl<T, A: Allocator> Block<T, A> {
     ghost use Rattle.thin_block.specs.Block.{IsFrom, seen};
 
-    // Resizes the block to `cap` slots, as `remake` does, but the items may stay where they are.
-    // `M` items make a word, the header takes as many bytes as `K` words, and the items make at
-    // least `K` words. The call fails only if the allocator does, and then nothing changes.
+    // Resizes the block to `cap` slots, and may leave the items at their address. `M` items make a
+    // word, the header takes as many bytes as `K` words, and the items make at least `K` words. The
+    // call fails only if the allocator does, and then nothing changes.
     #[cold]
     pub(crate) fn remake_in_place<const M: usize, const K: usize>(
         &mut self,

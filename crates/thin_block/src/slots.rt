@@ -153,8 +153,8 @@ impl<T: Copy, A: Allocator> Block<T, A> {
 
 // Returns `row` filled with copies of `items`.
 //
-// `Slots::copy_in` is one call, which first tests whether the two runs overlap. For a few items,
-// call and test would cost more than the copy.
+// A few items are copied one by one: a call of `Slots::copy_in`, which first tests whether the two
+// runs overlap, would cost more than the copy.
 fn copied<T: Copy>(mut row: Slots<T>, items: &[T]) -> Slots<T>
     requires room { slots_len row ≡ length items.now }
     ensures cap { SamePlaces row result }
