@@ -149,7 +149,7 @@ module _ {M : Type 1} {𝓤 : Ura M} (𝓛 : Logic 𝓤) (R : RattleType) where
       move ! (2 ∷ 4 ∷ []) $ join ! $ move ! (2 ∷ 0 ∷ []) $ join ! $ move ! (1 ∷ 0 ∷ []) $ join ! $
       by ! (apply∗ 𝓤 rooms (H.room (whole R c) b o))
 
--- ---- a block, with its slots apart.
+-- ---- a block, apart from its slots.
 -- What a block of c slots owns without these slots: the frame if it has an allocator; otherwise its
 -- share of the static header.
 abbrev pub header : {D : Type 0} → (D → Ty → Ptr → Fml) → RattleType → ℕ → ℕ
@@ -203,15 +203,15 @@ module _ {D : Type 0} (t : D → Ty → Ptr → Fml) (R : RattleType) {M : Type 
   header_fits k n (x ∷ xs) None b o is next = absurd (clash is)
 
 module _ (E : El) (Y : Al) where
-  -- the type arguments of the block's functions: the item type and the allocator type
+  -- the type arguments of the functions of a block: the item type and the allocator type
   abbrev pub args : Args
   args = bounded (a_type ∷ a_type ∷ []) (E.row, (Y.row, tt)) (dcons Y.d (dcons Y.drops dnil))
 
-  -- the type of blocks, as proofs see types
+  -- the type of blocks that have the item type and the allocator type of this module
   abbrev pub Br : RattleType
   Br = block.the_row (param 0 E.row) (param 1 Y.row) Y.g
 
-  -- the right to free memory of an allocator
+  -- the right to free memory that the given allocator has allocated
   abbrev pub t : Y.row.Denot → Ty → Ptr → Fml
   t = Y.g.dealloc_token
 

@@ -45,8 +45,8 @@ module _ (R : RattleType) (c w size : ℕ) (is : size ≡ capped (type_size R))
   abbrev a : ℕ
   a = type_align R
 
-  -- the number of items for which the code makes sure that there is room; a product that exceeds
-  -- `usize::MAX` counts as `usize::MAX`
+  -- the greater of w and 2 * c, as the code computes it: a product that exceeds `usize::MAX` counts
+  -- as `usize::MAX`
   abbrev items : ℕ
   items = max w (min (c * 2) (2 ^ 64 - 1))
 

@@ -90,7 +90,7 @@ rounded_at a x is = subst (λ (k : ℕ). Rounded k x) (sym is.1) (rounded_to is.
 pub rounded : (R : RattleType) (x : ℕ) → Rounded (type_align R) x
 rounded R x = rounded_at (type_align R) x (align_known R)
 
--- ---- sizes that exceed `usize::MAX`, which the code sees as `usize::MAX`
+-- ---- sizes that exceed `usize::MAX`, which the code replaces by `usize::MAX`
 
 -- if the product of c and the capped number s is less than 2 ^ 63, it is the product of c and s
 pub whole_product : (c s : ℕ) → c * capped s < 2 ^ 63 → c * s ≡ c * capped s

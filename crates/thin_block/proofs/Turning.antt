@@ -5,8 +5,8 @@
 --     turn_out, turn_back         split the last k words from the others, and join them
 --     turn_up, turn_down          make the array that an allocator can grow, and split it again
 --     units_out                   memory for the words in the header, as memory for its two words
---     header_apart, header_whole  split a block without its slots into memory for words, and join it
---                                 again
+--     header_apart, header_whole  split a block without its slots into memory for words, and join
+--                                 it again
 use Rattle.std.proofs.Common.{◌≡◌, true, ℕ, Some, None, ◌+◌, ◌-◌, ◌*◌, List, [], ◌∷◌, ◌++◌, length, refl, sym, ap, ◌∙◌, arith, w64, append_assoc}
 use Rattle.std.proofs.lemmas.List.{length-map, length-append, length-replicate, map-append, replicate-append-replicate}
 use Rattle.std.specs.Prelude.{Bool}
@@ -45,7 +45,7 @@ use Rattle.thin_block.proofs.SlotMemory.{cut, glue, to_items, of_items, to_raw, 
 use Rattle.thin_block.proofs.WordsLemmas.{InWords, word_align, word_size, words_told, nameless}
 use Rattle.thin_block.proofs.WordsMemory.{word_el, header_out, header_in, block_out, block_in}
 
--- half of the header: the capacity, or the length
+-- the type of half of the header: of the capacity, or of the length
 abbrev half : Ty
 half = ty_int w64
 
@@ -311,14 +311,16 @@ module _ {M : Type 1} {𝓤 : Ura M} (𝓛 : Logic 𝓤) (T : RattleType) (L : L
   hd : InWords (size (bare (R Item))) (align (bare (R Item))) m k
   hd = nameless (elτ Item) m k (words_told (R Item) m k is)
 
-  -- uninitialized memory for k words is uninitialized memory for the two words of the header
+  -- splits uninitialized memory for k words into uninitialized memory for the two words of the
+  -- header, and the way back
   pub units_out : ent 𝓤 (H.room units b o)
       (sep 𝓤 (H.room half b o)
       (sep 𝓤 (H.room half b (o + 8)) (sem 𝓛 (header_way (bare (R Item)) m k b o))))
   units_out = via 𝓤 (H.room (array_of (R W) k) b o) (𝓛.laws.room-raw units b o)
       (header_out 𝓛 (bare (R Item)) m k b hd o)
 
-  -- uninitialized memory for the two words of the header is uninitialized memory for k words
+  -- joins uninitialized memory for the two words of the header and the way back into uninitialized
+  -- memory for k words
   pub units_in : ent 𝓤 (sep 𝓤 (H.room half b o) (sep 𝓤 (H.room half b (o + 8))
       (sem 𝓛 (header_way (bare (R Item)) m k b o)))) (H.room units b o)
   units_in = via 𝓤 (H.room (array_of (R W) k) b o) (header_in 𝓛 (bare (R Item)) m k b hd o)
@@ -357,7 +359,8 @@ module _ {M : Type 1} {𝓤 : Ura M} (𝓛 : Logic 𝓤) (T : RattleType) (L : L
         rewrite ! 0 (λ (j : ℕ). ‵ (t (array_of (R W) j) (block_ptr b o))) (sym total) refl $
         move ! (1 ∷ 2 ∷ 0 ∷ []) $ done !
 
-    -- joins the capacity, the length, the ways back and the right to free into a header
+    -- joins the capacity, the length, the ways back and the right to free into a block without its
+    -- slots
     pub header_whole : fits_block (R Item) c ≡ true
         → ent 𝓤 (sep 𝓤 (sem 𝓛 (lies_at usize full_share (block_ptr b o) c))
         (sep 𝓤 (sem 𝓛 (lies_at usize full_share (block_ptr b (o + 8)) n))

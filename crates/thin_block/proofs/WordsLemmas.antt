@@ -21,11 +21,11 @@ use denote.RattleType.{RattleType}
 use Rattle.thin_block.specs.Capacity.{in_words, block_align, block_bytes}
 use Rattle.std.specs.Option.{is_some}
 
--- the alignment of a word of items with the alignment a
+-- the alignment of a word whose items have the given alignment
 abbrev pub word_align : ℕ → ℕ
 word_align a = max a (max 8 1)
 
--- the size in bytes of a word of m items of s bytes
+-- `word_size s a m` is the size in bytes of a word of m items of s bytes with the alignment a
 abbrev pub word_size : ℕ → ℕ → ℕ → ℕ
 word_size s a m = up (word_align a) (up 8 (up a 0 + m * s) + 0 * 8)
 

@@ -1,4 +1,5 @@
--- What contracts see of a block, and what it means that its memory came from a given allocator.
+-- What contracts see of a block, and what it means that the memory of a block came from a given
+-- allocator.
 use Rattle.std.specs.Prelude.{◌≡◌, ℕ, List, Option}
 use Rattle.std.specs.declared.option.Option.TheVariants.{Some}
 use Rattle.thin_block.specs.Cost.{Cost}

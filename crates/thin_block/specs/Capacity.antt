@@ -22,13 +22,13 @@ items_offset a = max 16 a
 abbrev pub block_align : ℕ → ℕ
 block_align a = max 8 a
 
--- `block_bytes s a c` is the size in bytes of a block for c items, rounded up to the alignment of
--- the block
+-- `block_bytes s a c` is the size in bytes of a block for c items of size s and alignment a,
+-- rounded up to the alignment of the block
 abbrev pub block_bytes : ℕ → ℕ → ℕ → ℕ
 block_bytes s a c = next_multiple_of (items_offset a + c * s) (block_align a)
 
--- `is_small s a c` is true if the capacity c and the size in bytes of its block are both at most
--- `isize::MAX` (std: `Layout::from_size_align`)
+-- `is_small s a c` is true if the capacity c, and the size in bytes of a block for c items of size
+-- s and alignment a, are both at most `isize::MAX` (std: `Layout::from_size_align`)
 abbrev pub is_small : ℕ → ℕ → ℕ → Bool
 is_small s a c = nat_lt c (2 ^ 63) && nat_lt (block_bytes s a c) (2 ^ 63)
 

@@ -7,7 +7,7 @@ pub record Cost : Type 0 where
   -- the number of granted requests for memory, both for a new allocation and for a change of its
   -- size
   pub blocks : ℕ
-  -- the number of items that such requests had to copy. If the block stays at its address, its
+  -- the number of items that reallocations have copied. If the block stays at its address, its
   -- items are counted as copied too
   pub grown : ℕ
   -- the number of items that were put into the block, or moved within it. A clone that is put into

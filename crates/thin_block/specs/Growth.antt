@@ -8,8 +8,8 @@ use denote.RattleType.{RattleType}
 use Rattle.std.specs.Int.{IsPowerOfTwo}
 use Rattle.thin_block.specs.Capacity.{fits, first, items_offset}
 
--- a growth rule: from the size and the alignment of an item, a capacity, and a number of items that
--- exceeds it, it computes the next capacity, or None if that overflows
+-- a growth rule: a function that takes the size and the alignment of an item, the old capacity, and
+-- a greater number of items that need room. It returns the new capacity, or None if that overflows.
 abbrev pub Rule : Type 0
 Rule = ℕ → ℕ → ℕ → ℕ → Option ℕ
 

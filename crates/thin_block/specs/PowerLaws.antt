@@ -80,7 +80,7 @@ powers_of_some s a c w some = let test : (s == 0) ≡ false = grind (arith, nat_
 
 -- what `power_bytes` chooses for items of at least one byte: assume that it chooses the capacity n
 module _ (s a c w n : ℕ) (some : 0 < s) (e : power_bytes s a c w ≡ Some n) where
-  -- the number of bytes that the items take for which there must be room
+  -- the size in bytes of w items or of 2 * c items, whichever is greater
   abbrev wanted : ℕ
   wanted = max w (2 * c) * s
 

@@ -52,11 +52,12 @@ impl<T, A: Allocator> Model for Block<T, A> {
     ghost also_shares = { λ b _ κ. block_lent T.row b.at b.len b.slots b.alloc κ };
 }
 
-// A block owns its allocation alone, or shares the static header, which nothing writes. So it may
-// be sent to another thread if its items and its allocator may.
+// A block owns its allocation alone, or shares the static header, which nothing writes. So a block
+// may be sent to another thread if its items and its allocator may be.
 unsafe impl<T: Send, A: Allocator + Send> Send for Block<T, A> {}
 
-// A `&` to a block only reads its header and its items. So it may be shared if they may.
+// A `&` to a block only reads its header and its items. So a block may be shared between threads if
+// its items and its allocator may be.
 unsafe impl<T: Sync, A: Allocator + Sync> Sync for Block<T, A> {}
 
 impl<T, A: Allocator> Block<T, A> {
