@@ -19,8 +19,8 @@ use std::alloc::{AllocError, Allocator};
 use std::marker::PhantomData;
 use std::mem::{ManuallyDrop, replace};
 
-// If its items make at least this many words of 8 bytes, a block is resized by the allocator, which
-// may leave the items where they are. For fewer words, a new block is cheaper.
+// If the items of a block make at least this many words of 8 bytes, the allocator resizes the
+// block, and may leave the items where they are. For fewer words, a new block is cheaper.
 pub(crate) const LONG: usize = 32;
 
 // Calls `grow` of the allocator if `wanted` is greater than `held`, and `shrink` otherwise.

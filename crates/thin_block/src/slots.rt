@@ -48,8 +48,8 @@ impl<T, A: Allocator> Block<T, A> {
         }
     }
 
-    /// Moves the item out of the slot `i` to the caller. The slot is empty afterwards. An item that
-    /// is moved out does not count as moved.
+    /// Moves the item out of the slot `i` to the caller. The slot is empty afterwards. Moving an
+    /// item out is not counted as a move.
     pub fn take(&mut self, i: usize) -> T
         requires filled { IsSome (slot self.old.slots i) }
         ensures value { slot self.old.slots i ≡ Some result }
@@ -82,8 +82,7 @@ impl<T, A: Allocator> Block<T, A> {
     }
 
     /// Moves the item out of the slot `i` to the caller, and then moves the item of the slot `j`
-    /// into the slot `i`. The two may be the same slot: then the slot is empty afterwards, and no
-    /// move is counted.
+    /// into the slot `i`. If `i` equals `j`, the slot is empty afterwards, and no move is counted.
     pub fn take_replacing(&mut self, i: usize, j: usize) -> T
         requires first { IsSome (slot self.old.slots i) }
         requires second { IsSome (slot self.old.slots j) }

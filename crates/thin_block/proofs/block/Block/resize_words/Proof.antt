@@ -80,7 +80,7 @@ resize_words_spec 𝓤 𝓛 𝓜 𝓡 wired T A m k LT LA fits_m fits_k g d dd m
     let H = 𝓛.H in
     let E : El = record { row = T; laws = LT } in
     let W : El = word_el T LT m in
-    -- the type of words in a call, which is given by the layout of a word
+    -- the type of words as the type argument of a call, made from the layout of a word
     let X : RattleType = arg (word_of (layout T) m) yes W.row in
     let EX : El = record {
       row = X;
