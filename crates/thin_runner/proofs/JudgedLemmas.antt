@@ -100,7 +100,7 @@ module _ {F T A J : Type 0} (g : Mut F (MutBor T × Unit {0}) (ℕ × (MutBor T 
     (told : (f : F) (x : T) (k : ℕ) (f' : F) (x' : T) → CalledAtMut g f x k f' x'
     → (k, x', judge_of f') ≡ key (judge_of f) x) where
   -- if `dedup_by_key`, with a closure that asks the judge, turns v into w, then w is v with only
-  -- the items that the judge keeps (`sifted`); of two items, the key of the later one is taken
+  -- the items that the judge keeps (`sifted`); of two items, the key of the later one is computed
   -- first
   pub deduped-by-keys : (f : F) (v w : Thin T A)
       → IsDedupedBy (ComparesKeys g (λ a b. a == b)) f v w → w.capacity ≡ v.capacity
@@ -158,7 +158,7 @@ module _ {T J : Type 0} where
   few-asked ask j xs = omega (arith, few-left (asked ask j xs), asked-length ask j xs)
 
   -- if each item of xs is compared with the last item kept before it, there is one answer for each
-  -- item; the same holds if the first item is kept without a comparison
+  -- item; `pairs-length` states the same if the first item is kept without a comparison
   last-length : (same : J → T → T → Bool × T × T × J) (j : J) (k : T) (xs : List T)
       → length (asked_last same j k xs).1 ≡ length xs
   last-length same j k [] = refl

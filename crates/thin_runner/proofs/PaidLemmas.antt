@@ -66,7 +66,7 @@ module _ {T A : Type 0} (v w : Thin T A) (room : length v.items ≤ v.capacity) 
   same-paid e = subst (IsPaid v) (sym e) (none-paid v room)
 
   -- if the capacity, the blocks and the copied items are those of v, and no item is added, the
-  -- change is paid for
+  -- change from v to w is paid for
   kept-paid : (u : Thin T A) → w ≡ u → u.capacity ≡ v.capacity
       → u.cost.blocks ≡ v.cost.blocks → u.cost.grown ≡ v.cost.grown
       → length u.items ≤ length v.items → IsPaid v w
@@ -81,8 +81,8 @@ module _ {T A : Type 0} (v w : Thin T A) (room : length v.items ≤ v.capacity) 
 
 module _ {T A J : Type 0} (here : Setting T A J) (law : KeepsLaw here.rule) (v w : Thin T A)
     (room : length v.items ≤ v.capacity) where
-  -- if the capacity of w is the ruled one for n more items, w has the cost of this growth, and at
-  -- most n items are added, then the change is paid for
+  -- if the growth rule requires the capacity of w for n more items, w has the cost of this growth,
+  -- and at most n items are added, then the change from v to w is paid for
   ruled-paid : (u : Thin T A) (n : ℕ) → capacity_for here.rule here.R v n ≡ Some w.capacity
       → w ≡ u → u.cost.blocks ≡ (cost_at v w.capacity).blocks
       → u.cost.grown ≡ (cost_at v w.capacity).grown
@@ -106,7 +106,7 @@ module _ {T A J : Type 0} (here : Setting T A J) (law : KeepsLaw here.rule) (v w
       }
 
   -- if a call that clones fails, for lack of room for n more items or because of a clone, then the
-  -- change is paid for
+  -- change from v to w is paid for
   refused-paid : (n : ℕ) (sources : List T) (cause : ThinVecError)
       → RefusesClone here v n sources cause w → IsPaid v w
   refused-paid n sources cause r = stopped r.2

@@ -27,11 +27,11 @@ use Rattle.thin_runner.proofs.JudgedLemmas.{dedup-pairs}
 use Rattle.thin_runner.proofs.WalkLemmas.{last-of}
 use Rattle.thin_runner.proofs.WeakerClonesLemmas.{zip-weaker}
 
--- since `Some x` is not `None`, a reply with a cause is not granted
+-- `Some x ≡ None` implies any B; so a reply with a cause is not granted
 refused : {X B : Type 0} (x : X) → Some x ≡ None → B
 refused x e = cc
 
--- the test of a range is true if and only if the range is in bounds for n items
+-- the test of a range is true if and only if the range from a up to b is in bounds for n items
 range-decides : (a b n : ℕ) → Decides (nat_le a b && nat_le b n) ((a ≤ b) × (b ≤ n))
 range-decides a b n = (
   (λ e. let both = and_parts (nat_le a b) (nat_le b n) e in

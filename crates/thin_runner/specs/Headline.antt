@@ -13,8 +13,8 @@ use Rattle.thin_runner.specs.declared.command.Command.{Command}
 use Rattle.thin_runner.specs.declared.command.Reply.{Reply}
 
 module _ {T A G J : Type 0} (here : Setting T A J) where
-  -- the statements about a run of these commands, which turned the list `old` into `new`, and the
-  -- replies `before` into `after`
+  -- what the main theorem states about a run of `commands` that turned the list `old` into `new`,
+  -- and the replies `before` into `after`
   pub record Headline (old : Thin T A) (commands : List (Command T A G))
       (before after : List (Reply T A G)) (new : Thin T A) : Type 0 where
     -- the run appended its replies to the replies that were there before
