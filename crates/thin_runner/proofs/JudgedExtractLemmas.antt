@@ -57,8 +57,8 @@ module _ {T : Type 0} where
   few-goes None = refl
   few-goes (Some x) = refl
 
-  -- the moves for the answers a followed by the answers b are the moves for a, plus those for b; if
-  -- a removes an item, these are the moves of all items that b keeps
+  -- the moves for the answers a followed by the answers b are the moves for a, plus those for b,
+  -- or, if a removes an item, plus one for each item that b keeps
   pub moves-append : (a b : Verdicts T) → moved_down (flags_of (a ++ b))
       ≡ moved_down (flags_of a) + (if length (left_at false a) == 0 then moved_down
       (flags_of b) else trues (flags_of b))
@@ -245,9 +245,9 @@ module _ {T : Type 0} (asked : Verdicts T) (start : List T) (before : Cost) wher
 -- let w be the list after an extraction from the list v, of the range from index a up to b, with
 -- the answers `asked`
 module _ {T A : Type 0} (v w : Thin T A) (a b : ℕ) (asked : Verdicts T) where
-  -- w is v with the items at the front, then those of the range that were not tested (`rest`), and
-  -- then those after the range (`tail`). The items of `rest` and `tail` count a move each if an
-  -- item was yielded
+  -- w is v with these items: those at the front, those of the range that were not tested (`rest`),
+  -- and those after the range (`tail`). If an item was yielded, each item of `rest` and `tail`
+  -- counts one move
   pub record IsLeft (at : Stand T) (rest tail : List T) : Type 0 where
     pub items : w.items ≡ at.front ++ (rest ++ tail)
     pub cost : w.cost ≡ (if at.out == 0 then at.paid else moving (length rest
@@ -307,8 +307,8 @@ module _ {T J : Type 0} (ask : J → T → Bool × T × J) where
   extracting-length j (suc k) (x ∷ xs) =
       ap suc (extracting-length (ask j x).2 (if (ask j x).0 then k else suc k) xs)
 
-  -- if k calls extract items from xs, the number of items that are kept is at most the number of
-  -- items of xs
+  -- if k calls extract items from index a up to b of xs, the number of items that are kept is at
+  -- most the number of items of xs
   pub few-extracted : (j : J) (k : ℕ) (xs : List T) (a b : ℕ) → a ≤ b → b ≤ length xs
       → length (left_at true (around xs a b (extracting ask j k (slice_range xs a b)))) ≤ length xs
   few-extracted j k xs a b order within =

@@ -43,8 +43,8 @@ module _ {S T J : Type 0} (R : S → T → Bool → S → T → Type 0) (judge_o
 
 -- a definition for lists whose items are compared, each with the last item kept before it
 module _ {T : Type 0} where
-  -- ys are the items that are kept by the results b, beginning with the first item, and the flags
-  -- say for each later item whether it is kept
+  -- let b hold the first item, which is kept, and the answers for the later items: ys are all the
+  -- kept items, and `flags` say for each later item whether it is kept
   abbrev pub Leaves : List Bool → List T → T × Verdicts T → Type 0
   Leaves flags ys b = (flags ≡ flags_of b.1) × (ys ≡ b.0 ∷ left_at true b.1)
 
@@ -178,7 +178,7 @@ module _ {T J : Type 0} where
       → length (left_at true (asked_pairs same j xs)) ≤ length xs
   few-pairs same j xs = omega (arith, few-left (asked_pairs same j xs), pairs-length same j xs)
 
--- if the test E is stateless, the items that `dedup` leaves are those that are kept by the test
+-- the items that `dedup` leaves by the stateless test E are those that the test keeps
 module _ {T J : Type 0} (E : T → T → Bool) (j : J) where
   -- the test E as a function of the judge's state: it returns what E says, and changes neither the
   -- items nor the state
