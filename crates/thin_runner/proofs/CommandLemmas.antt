@@ -1,4 +1,4 @@
--- Lemmas that lead from the clauses of the list's methods to the definitions of `specs/Steps`.
+-- Lemmas that derive the cases of `specs/Steps` from the contracts of the list's methods.
 use Rattle.std.proofs.Common.{◌≡◌, ℕ, ◌<◌, ◌⊎◌, List, [], ◌∷◌, Some, refl, length, inl, inr, arith}
 use Rattle.std.specs.Borrow.{RattleType}
 use Rattle.std.specs.Prelude.{HoldsAt}

@@ -126,7 +126,7 @@ module _ {T J : Type 0} (look : J → T → Bool × J) where
   pub looked : (j u : J) (x y : T) (b : Bool) → (b, u) ≡ look j x → y ≡ x → (b, y, u) ≡ looks j x
   looked j u x y b told same = ap (λ z. (b, z, u)) same ∙ ap (λ a. (a.0, x, a.1)) told
 
--- at most as many items are kept as there were
+-- a filter keeps at most as many items as there were before it
 module _ {T : Type 0} where
   -- the number of kept items is at most the number of answers
   pub few-left : (verdicts : Verdicts T) → length (left_at true verdicts) ≤ length verdicts
@@ -186,7 +186,7 @@ module _ {T J : Type 0} (E : T → T → Bool) (j : J) where
   tells j later kept = (E later kept, later, kept, j)
 
   -- if k is the item kept before xs, `dedup_from` returns the items that are kept by the test E,
-  -- and `unlike_from` returns the flags
+  -- and `unlike_from` returns a flag for each item of xs, which says whether it is kept
   dedup-last : (k : T) (xs : List T) → Leaves (unlike_from E k xs) (dedup_from E k xs)
       (asked_last tells j k xs)
   dedup-last k [] = (refl, refl)

@@ -1,5 +1,5 @@
--- Lemmas that lead from the clauses of `finish` and `extend` to the definitions of
--- `specs/commands/Splices`.
+-- Lemmas that derive the definitions of `specs/commands/Splices` from the contracts of `finish` and
+-- `extend`.
 use Rattle.std.proofs.Common.{◌≡◌, ℕ, ◌-◌, ◌*◌, ◌<◌, List, [], ◌∷◌, ◌++◌, None, Option, Some, ap, append_assoc, arith, drop, inl, inr, length, refl, subst, sym, take, ◌∙◌}
 use Rattle.std.proofs.lemmas.Bool.{false≢true}
 use Rattle.std.proofs.Math.Seq.{drop-length, take-length}
@@ -175,7 +175,7 @@ module _ {T A : Type 0} (old : Thin T A) where
 -- items that are added after those of a list replace the empty range at its end
 module _ {T A : Type 0} (rule : Rule) (R : RattleType) (old new : Thin T A) where
   -- what the contract of `extend` says of the list `new`, to which the items `placed` were added,
-  -- if the iterator might yield up to `most` items
+  -- if the iterator could yield at most `most` items
   pub record IsFilled (placed : List T) (most : ℕ) : Type 0 where
     pub items : new.items ≡ old.items ++ placed
     pub capacity : IsLoose rule R old.capacity new.capacity
