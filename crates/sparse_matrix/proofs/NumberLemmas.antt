@@ -12,8 +12,8 @@ if_true x y e = ap (λ (b : Bool). if b then x else y) e
 if_false : {b : Bool} (x y : ℕ) → b ≡ false → (if b then x else y) ≡ y
 if_false x y e = ap (λ (b : Bool). if b then x else y) e
 
--- if f has the number v at row i and column j, and elsewhere the numbers of g, then each number of
--- f is the one that a test of its row and column selects
+-- if f has the number v at row i and column j, and elsewhere the numbers of g, then `f k l` is
+-- `if k == i && l == j then v else g k l`
 pub at_place : (f g : ℕ → ℕ → ℕ) (i j v : ℕ) → f i j ≡ v → ((k l : ℕ) → l ≢ j → f k l ≡ g k l)
     → ((k l : ℕ) → k ≢ i → f k l ≡ g k l)
     → (k l : ℕ) → f k l ≡ (if k == i && l == j then v else g k l)
@@ -42,8 +42,8 @@ module _ (f g : ℕ → ℕ → ℕ) (i j v : ℕ)
   other_rows k l other =
       told k l ∙ if_false v (g k l) (and_left (k == i) (l == j) (ne_eqb k i other))
 
--- if f has in row i the numbers of h, and in the other rows those of g, then each number of f is
--- the one that a test of its row selects
+-- if f has in row i the numbers of h, and in the other rows those of g, then `f k l` is
+-- `if k == i then h k l else g k l`
 pub at_row : (f g h : ℕ → ℕ → ℕ) (i : ℕ) → ((l : ℕ) → f i l ≡ h i l)
     → ((k l : ℕ) → k ≢ i → f k l ≡ g k l)
     → (k l : ℕ) → f k l ≡ (if k == i then h k l else g k l)

@@ -202,7 +202,8 @@ module _ {T A G J : Type 0} (here : Setting T A J) (equal : ClonesEqual here.clo
       (says (OutOfRange command), v.items) inside)
 
   -- if each clone equals its source, and no call of a run fails, then its items are the fold of
-  -- `items_after` over the commands, and its replies are the scan with `reply_to`
+  -- `items_after` over the commands, and its replies, as `seen` shows them, are the scan with
+  -- `reply_to`
   pub run-plain : (v w : Thin T A) (commands : List (Command T A G)) (replies : List (Reply T A G))
       → All IsGranted replies → Runs here v commands replies w
       → (w.items ≡ fold (items_after here) v.items commands)

@@ -21,8 +21,8 @@ module _ {T A G J : Type 0} (here : Setting T A J) where
     pub replies : List (Reply T A G)
     pub appended : after ≡ before ++ replies
     -- if each clone equals its source, and no call failed, then the items are the fold of
-    -- `items_after` over the commands, and the replies are the scan with `reply_to`: two functions
-    -- on sequences, with one equation for each command
+    -- `items_after` over the commands, and the replies, as `seen` shows them, are the scan with
+    -- `reply_to`: two functions on sequences, with one equation for each command
     pub plain : ClonesEqual here.clones → All IsGranted replies
         → (new.items ≡ fold (items_after here) old.items commands)
         × (map seen replies ≡ scan (items_after here) (reply_to here) old.items commands)
