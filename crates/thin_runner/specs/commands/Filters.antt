@@ -24,8 +24,8 @@ module _ {T J : Type 0} (ask : J → T → Bool × T × J) where
   asked j (x ∷ xs) = let a = ask j x in (a.0, a.1) ∷ asked a.2 xs
 
   -- the result of k calls of `next` on an `ExtractIf`, starting with the judge's state j: for each
-  -- item, whether it is kept, and the item as it is left. Items after the last yielded one are not
-  -- tested, and are kept
+  -- item, whether it is kept, and the item as it is left. Once k items are extracted, the items
+  -- after them are not tested, and are kept
   abbrev pub extracting : J → ℕ → List T → Verdicts T
   extracting j zero xs = stay xs
   extracting j (suc k) [] = []
