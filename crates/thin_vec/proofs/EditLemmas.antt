@@ -20,8 +20,8 @@ use Rattle.thin_vec.specs.declared.edits.holder.Holds.{Ghosts as HoldsGhosts}
 
 -- R is the relation of the closure, as in specs/Edits/Dedup
 module _ {S T : Type 0} (R : S → T → T → Bool → S → T → T → Type 0) where
-  -- if each later item was compared with the last item kept before it, ys is what std's
-  -- `DedupsFrom` says that the comparisons keep
+  -- if each later item was compared with the last item kept before it, then ys are the kept items,
+  -- as std's `DedupsFrom` defines them
   dedups_from : (xs : List T) (s : S) (k : T) (stays : List Bool) (ys : List T) (t : S)
       → AskedLast R s k xs stays ys t → DedupsFrom R s k xs ys
   dedups_from [] s k stays ys t h = h.1
@@ -41,7 +41,8 @@ module _ {S T : Type 0} (R : S → T → T → Bool → S → T → T → Type 0
         ]) h.7,
   )
 
-  -- `dedups_from` for all items, of which the first stays
+  -- if each item of xs except the first was compared with the last item kept before it, then ys are
+  -- the kept items, as std's `DedupsAll` defines them
   dedups_all : (xs : List T) (s : S) (stays : List Bool) (ys : List T) (t : S)
       → AskedPairs R s xs stays ys t → DedupsAll R s xs ys
   dedups_all [] s stays ys t h = h.1
@@ -85,8 +86,8 @@ module _ {T : Type 0} (test : T → Bool) where
   module _ {S : Type 0} (R : S → T → Bool → S → T → Type 0)
       (says : (s : S) (x : T) (b : Bool) (t : S) (y : T) → R s x b t y
       → (b ≡ test x) × (y ≡ x)) where
-    -- if one call of `next` tests the item x first, and what it does with the items xs after x is
-    -- as `Parts` says, then what it does with x and xs is as `Parts` says
+    -- if one call of `next` tests the item x first, and divides the items xs after x as `Parts`
+    -- says, then it divides x followed by xs as `Parts` says
     part : (x : T) (xs : List T) (item : Option T) (t u : S) (y : T) (kept rest : List T)
         (b : Bool) → b ≡ test x → y ≡ x
         → ((ks : List T) → ExtractsNext R u xs item t ks rest → Parts xs item ks rest)
@@ -129,8 +130,9 @@ module _ {T : Type 0} (test : T → Bool) where
 -- `extract_if` with the default holder
 module _ {T F A G : Type 0} {g : Ghosts G}
     {h : HoldsGhosts (Holder (Extracting T F A)) (Extracting T F A)} (test : T → Bool) where
-  -- the state of a loop that takes each item out of `now`, which was `start` when the loop began,
-  -- and appends it to a sequence, which was `old` when the loop began and is `held` now
+  -- the state of a loop that moves each item that an `ExtractIf` yields to the end of a sequence:
+  -- when the loop began, the `ExtractIf` was `start` and the sequence was `old`; now they are `now`
+  -- and `held`
   pub record IsExtracting (start now : ExtractIf T F A G (Holder (Extracting T F A)) g h)
       (old held : List T) : Type 0 where
     pub gone : held ++ filter test (extract_rest now) ≡ old ++ filter test (extract_rest start)
@@ -141,7 +143,7 @@ module _ {T F A G : Type 0} {g : Ghosts G}
     pub count : length held + length (extract_rest now)
         ≤ length old + length (extract_rest start)
 
-  -- a loop is in this state when it begins
+  -- `IsExtracting` holds when the loop begins
   pub extract_start : (e : ExtractIf T F A G (Holder (Extracting T F A)) g h) (old : List T)
       → IsExtracting e e old old
   extract_start e old =
@@ -150,8 +152,8 @@ module _ {T F A G : Type 0} {g : Ghosts G}
   module _ (R : F → T → Bool → F → T → Type 0)
       (says : (s : F) (x : T) (b : Bool) (t : F) (y : T) → R s x b t y
       → (b ≡ test x) × (y ≡ x)) where
-    -- if a loop is in this state, and `next` yields x, the loop is in this state after x was
-    -- appended
+    -- if `IsExtracting` holds, and `next` yields x, then `IsExtracting` holds again after x was
+    -- appended to the sequence
     pub extract_step : {start now new : ExtractIf T F A G (Holder (Extracting T F A)) g h}
         {old held more : List T} {item : Option T} {x : T} → IsExtracting start now old held
         → ExtractSteps R now item new → item ≡ Some x → more ≡ held ++ x ∷ []
@@ -177,9 +179,8 @@ module _ {T F A G : Type 0} {g : Ghosts G}
           );
         }
 
-    -- if a loop is in this state, and `next` yields `None`, then exactly the items of the range
-    -- that pass the test were appended, and the list has all other items once the `ExtractIf` is
-    -- dropped
+    -- if `IsExtracting` holds, and `next` yields `None`, then exactly the items of the range that
+    -- pass the test were appended, and the list has all other items once the `ExtractIf` is dropped
     pub extract_end : {start now new : ExtractIf T F A G (Holder (Extracting T F A)) g h}
         {old held : List T} {item : Option T} → IsExtracting start now old held
         → ExtractSteps R now item new → item ≡ None

@@ -97,8 +97,8 @@ first_most : (s : ℕ) → first s ≤ 4
 unfolding first
 first_most s = either_most (nat_lt (2 ^ 61 - 1) s)
 
--- if w exceeds the capacity c, then twice c, or the first capacity, is at most the larger of 4 and
--- 2 * w
+-- if w exceeds the capacity c, then neither twice c nor the first capacity that doubling chooses
+-- exceeds the larger of 4 and 2 * w
 twice-most : (b : Bool) (s c w : ℕ) → c < w → (if b then first s else 2 * c) ≤ max 4 (2 * w)
 twice-most true s c w more = omega (arith, first_most s)
 twice-most false s c w more = omega (arith, more)

@@ -21,7 +21,8 @@ module _ {T : Type 0} where
   items-empty zero = refl
   items-empty (suc k) = items-empty k
 
-  -- the items in the slots of xs followed by the slots s are xs followed by the items in s
+  -- in a row that begins with the items xs, the items are xs, followed by the items in the other
+  -- slots s
   pub items-full : (xs : List T) (s : List (Option T)) → items_in (full xs ++ s) ≡ xs ++ items_in s
   items-full [] s = refl
   items-full (x ∷ xs) s = ap (λ (ys : List T). x ∷ ys) (items-full xs s)
@@ -36,7 +37,7 @@ module _ {T : Type 0} where
   items-front xs c = items-full xs (replicate (c - length xs) None)
       ∙ (ap (λ (ys : List T). xs ++ ys) (items-empty (c - length xs)) ∙ append-nil xs)
 
-  -- the filled slots of xs are as many as the items of xs
+  -- the row `full xs` has as many slots as xs has items
   pub length-full : (xs : List T) → length (full xs) ≡ length xs
   length-full xs = length-map xs (λ (x : T). Some x)
 
@@ -51,7 +52,7 @@ module _ {T : Type 0} where
         length-replicate {A = Option T} (c - length xs) None,
       )
 
-  -- if the filled slots of xs equal those of ys, then xs equals ys
+  -- if the rows `full xs` and `full ys` are equal, the lists xs and ys are equal
   pub full-same : (xs ys : List T) → full xs ≡ full ys → xs ≡ ys
   full-same xs ys e = sym (items-full-alone xs) ∙ (ap items_in e ∙ items-full-alone ys)
 
@@ -113,7 +114,7 @@ module _ {T : Type 0} where
       (replicate-append-replicate (c - length xs) (d - c) None
       ∙ ap (λ (q : ℕ). replicate q None) m)
 
-  -- in a row that begins with the items xs, reading the slot i is reading xs at index i, if i is
+  -- in a row that begins with the items xs, the slot i holds the item of xs at index i, if i is
   -- less than the length of xs
   pub slot-get : (xs : List T) (s : List (Option T)) (i : ℕ) → i < length xs
       → slot (full xs ++ s) i ≡ slice_get xs i
@@ -121,7 +122,7 @@ module _ {T : Type 0} where
   slot-get (x ∷ xs) s zero h = refl
   slot-get (x ∷ xs) s (suc i) h = slot-get xs s i (omega arith)
 
-  -- there is an item at each index that is less than the length
+  -- a list xs has an item at each index i that is less than its length
   pub get-some : (xs : List T) (i : ℕ) → i < length xs → IsSome (slice_get xs i)
   get-some [] i h = absurd (omega arith)
   get-some (x ∷ xs) zero h = refl
@@ -154,8 +155,8 @@ module _ {T A : Type 0} where
         cap = l;
       }
 
-  -- if b' has c slots, the items xs and the cost k, contracts see it as the old list v with the
-  -- items xs, the capacity c and the cost k
+  -- if the block b' has c slots, the items xs and the cost k, contracts see b' as the list v with
+  -- this capacity, these items and this cost
   pub thin_of-becomes : {w v : Thin T A} → w ≡ v → (b' : Block T A) {xs : List T} {c : ℕ} {k : Cost}
       → length b'.slots ≡ c → items_in b'.slots ≡ xs → b'.cost ≡ k
       → thin_of b' w.alloc ≡ record v { items = xs; capacity = c; cost = k }
@@ -166,8 +167,8 @@ module _ {T A : Type 0} where
     cost = cost i;
   }
 
-  -- if b' has as many slots as before, the items xs and the cost k, contracts see it as the old
-  -- list v with the items xs and the cost k
+  -- if the number of slots of the block b' is the capacity of the old list, contracts see b' as the
+  -- old list with the items xs and the cost k of b'
   pub thin_of-keeps : {w v : Thin T A} → w ≡ v → (b' : Block T A) {xs : List T} {k : Cost}
       → length b'.slots ≡ w.capacity → items_in b'.slots ≡ xs → b'.cost ≡ k
       → thin_of b' w.alloc ≡ record v { items = xs; cost = k }
@@ -191,7 +192,8 @@ module _ {T A : Type 0} where
       → IsFrom b'.alloc a
   from-same b b' a f e = λ x h. f x (sym e ∙ h)
 
-  -- b' is b with the slots s, the stored length n and the cost k
+  -- the second block is the first block with the given slots, the given stored length and the given
+  -- cost
   abbrev pub IsWritten : Block T A → Block T A → List (Option T) → ℕ → Cost → Type 0
   IsWritten b b' s n k = seen b' ≡ record (seen b) { slots = s; len = n; cost = k }
 
@@ -219,7 +221,8 @@ module _ {T A : Type 0} where
       ∙ front-push xs c v l))
       (omega (arith, t.packed.len, length_push xs v)) (omega (arith, length_push xs v))
 
-  -- if the last filled slot, at j, holds v, the items are the first j items and then v
+  -- if the last filled slot is the slot j, and it holds v, the items are the first j items,
+  -- followed by v
   pub last-item : (b : Block T A) (a : A) (v : T) (j : ℕ) → IsThin b a → j + 1 ≡ b.len
       → slot b.slots j ≡ Some v → items_in b.slots ≡ take j (items_in b.slots) ++ v ∷ []
   last-item b a v j t o w =
@@ -257,8 +260,8 @@ module _ {T A : Type 0} where
       ∙ (ap (λ (q : ℕ). set (front (ys ++ v ∷ []) c) q None) (sym m) ∙ front-pop ys c v k))
       (sym m) (omega (arith, length_push ys v))
 
-  -- in the block of a list, reading the slot i is reading the items at index i, if i is less than
-  -- their number
+  -- in the block of a list, the slot i holds the item at index i, if i is less than the number of
+  -- items
   thin-slot : (b : Block T A) (a : A) (i : ℕ) → IsThin b a → i < length (items_in b.slots)
       → slot b.slots i ≡ slice_get (items_in b.slots) i
   thin-slot b a i t h =

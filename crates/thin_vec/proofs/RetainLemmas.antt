@@ -61,15 +61,15 @@ none-left [] none = refl
 none-left (x ∷ xs) none = absurd (none (omega arith))
 
 module _ {T : Type 0} where
-  -- the items that stay of two runs together are those of the first run, followed by those of the
-  -- second
+  -- if the verdicts on two runs are joined, the items that stay are those of the first run,
+  -- followed by those of the second run
   pub left_at-append : (a b : Verdicts T) → left_at true (a ++ b) ≡ left_at true a ++ left_at true b
   left_at-append [] b = refl
   left_at-append ((true, x) ∷ a) b = ap (λ (l : List T). x ∷ l) (left_at-append a b)
   left_at-append ((false, x) ∷ a) b = left_at-append a b
 
-  -- the number of items that stay in two runs joined together is the sum of the numbers for each
-  -- run
+  -- if the verdicts on two runs are joined, the number of items that stay is the sum of the numbers
+  -- for the two runs
   pub trues-append : (a b : Verdicts T) → trues (flags_of (a ++ b)) ≡ trues
       (flags_of a) + trues (flags_of b)
   trues-append [] b = omega arith
@@ -86,16 +86,19 @@ module _ {T : Type 0} where
   trues-stay [] = refl
   trues-stay (x ∷ xs) = ap suc (trues-stay xs)
 
-  -- items that stay at the beginning do not move, and do not make later items move
+  -- if all items of xs stay, they do not move, and they do not change how many of the later items
+  -- move
   pub moved_down-stay : (xs : List T) (a : Verdicts T) → moved_down (flags_of (stay xs ++ a))
       ≡ moved_down (flags_of a)
   moved_down-stay [] a = refl
   moved_down-stay (x ∷ xs) a = moved_down-stay xs a
 
 module _ {S T : Type 0} (R : S → T → Bool → S → T → Type 0) where
-  -- the items ys were tested, from the state t to the state u
+  -- context: the items ys were tested, starting in the state t and ending in the state u, with the
+  -- verdicts b
   module _ (t u : S) (ys : List T) (b : Verdicts T) (k : Asked R t ys b u) where
-    -- if xs were tested from the state s to t, then xs followed by ys were tested from s to u
+    -- if the items xs were tested from the state s to the state t, and then other items from t on,
+    -- then xs followed by the other items were tested from s on
     asked-append : (xs : List T) (s : S) (a : Verdicts T) → Asked R s xs a t
         → Asked R s (xs ++ ys) (a ++ b) u
     asked-append [] s a h = subst (λ (c : Verdicts T). Asked R s ys (c ++ b) u) (sym h.0)
@@ -110,7 +113,7 @@ module _ {S T : Type 0} (R : S → T → Bool → S → T → Type 0) where
       ap (λ (c : Verdicts T). c ++ b) h.6,
     )
 
-  -- a test of one item x is a test of the list of x alone, with one verdict
+  -- if one item x was tested, then the list with the single item x was tested, with one verdict
   pub asked-one : (s t : S) (x y : T) (b : Bool) → R s x b t y → Asked R s (x ∷ []) ((b, y) ∷ []) t
   asked-one s t x y b h = (b, y, t, [], h, (refl, refl), refl)
 
@@ -129,7 +132,8 @@ module _ {S T : Type 0} (R : S → T → Bool → S → T → Type 0) where
     pub asked : Asked R s run (stay left) t
     pub now : ys ≡ before ++ (left ++ more)
 
-  -- before the first test, nothing has changed
+  -- before the first test, `Stays` holds from k up to k, and neither the state s nor the items xs
+  -- have changed
   pub stays-start : (k : ℕ) (s : S) (xs : List T) → k ≤ length xs → Stays k k s xs s xs
   stays-start k s xs low =
       record {
@@ -145,7 +149,7 @@ module _ {S T : Type 0} (R : S → T → Bool → S → T → Type 0) where
       }
 
   module _ (k m : ℕ) (s : S) (xs : List T) (t : S) (ys : List T) (h : Stays k m s xs t ys) where
-    -- the items up to m, as the tests left them
+    -- the items before the index m, as the tests left them
     abbrev asked-part : List T
     asked-part = h.before ++ h.left
 
@@ -174,8 +178,7 @@ module _ {S T : Type 0} (R : S → T → Bool → S → T → Type 0) where
     next-now b u zs a = a.now ∙ (ap (λ (l : List T). l ++ a.left ∷ a.after) (next-parts b u zs a).0
         ∙ append_assoc h.before h.left (a.left ∷ a.after))
 
-    -- if the item at m is tested and stays, the items from k up to m + 1 were tested, and each of
-    -- them stays
+    -- if the item at index m is tested and stays, `Stays` holds up to m + 1
     pub stays-more : (u : S) (zs : List T) → IsAskedAt R m t ys true u zs
         → Stays k (m + 1) s xs u zs
     stays-more u zs a =
@@ -198,7 +201,7 @@ module _ {S T : Type 0} (R : S → T → Bool → S → T → Type 0) where
               (sym (append_assoc h.left (a.left ∷ []) a.after));
         }
 
-    -- if the item at m is tested and does not stay, the tests from k on stopped at m (`AskedUpTo`)
+    -- if the item at index m is tested and does not stay, the tests stopped at m (`AskedUpTo`)
     pub stays-goes : (u : S) (zs : List T) → IsAskedAt R m t ys false u zs
         → AskedUpTo R k m s xs u zs
     stays-goes u zs a =
@@ -217,7 +220,7 @@ module _ {S T : Type 0} (R : S → T → Bool → S → T → Type 0) where
           now = next-now false u zs a;
         }
 
-    -- if there is no item at m, the tests from k on stopped at m (`AskedUpTo`)
+    -- if there is no item at index m, the tests stopped at m (`AskedUpTo`)
     pub stays-end : length ys ≤ m → AskedUpTo R k m s xs t ys
     stays-end short =
         let none : h.more ≡ [] =
@@ -292,8 +295,8 @@ module _ {S T : Type 0} (R : S → T → Bool → S → T → Type 0) where
   two-stay s xs t ys u zs a b = stays-more 0 1 s xs t ys (one-stays s xs t ys a) u zs b
 
   module _ (m n : ℕ) where
-    -- if the items up to m were tested and all stay, and the tests from m on stopped at n, then the
-    -- tests from 0 on stopped at n
+    -- if the items before an index m were tested and all stay, and the tests from m on stopped at
+    -- an index n, then the tests from 0 on stopped at n
     pub runs-join : (s : S) (xs : List T) (t : S) (ys : List T) (u : S) (zs : List T)
         → Stays 0 m s xs t ys → AskedUpTo R m n t ys u zs → AskedUpTo R 0 n s xs u zs
     runs-join s xs t ys u zs h r =
@@ -445,8 +448,8 @@ module _ {S T : Type 0} (R : S → T → Bool → S → T → Type 0) where
           });
         }
 
-  -- the items of the middle run of v were tested up to the first that does not stay, or to the end,
-  -- and there is a gap before them
+  -- context: the items of the middle run of v were tested up to the first that does not stay, or to
+  -- the end, and there is a gap before the middle run
   module _ {A : Type 0} (s t : S) (v w : Open T A) (gap : 0 < v.gap)
       (h : Advances R s v t w) where
     -- the tested items that stay, as the tests left them
@@ -486,7 +489,7 @@ module _ {S T : Type 0} (R : S → T → Bool → S → T → Type 0) where
       runs-count 0 h.count s v.rest t h.left h.run,
     )
 
-  -- before the first test, v and v itself satisfy `Sifts`
+  -- before the first test, an open block v that has a gap satisfies `Sifts` with itself
   pub sifts-start : {A : Type 0} (s : S) (v : Open T A) → 0 < v.gap → Sifts R s v s v
   sifts-start s v gap =
       record {
@@ -529,8 +532,8 @@ module _ {S T : Type 0} (R : S → T → Bool → S → T → Type 0) where
 
   module _ {A : Type 0} (v w : Open T A) (m : ℕ) (s t : S) (ys : List T)
       (run : AskedUpTo R 0 m s v.rest t ys) where
-    -- w is v with the first m items of ys appended to the front, for no move. The gap and the
-    -- middle run of w may be any.
+    -- w is v with the first m items of ys appended to the front, which costs no move. The gap and
+    -- the middle run of w may differ from those of v.
     abbrev Passed : Type 0
     Passed = w ≡ record v
         { front = v.front ++ take m ys; gap = w.gap; rest = w.rest }
@@ -607,7 +610,8 @@ module _ {J S T : Type 0} (R : S → T → Bool → S → T → Type 0) (inside 
   asked-through (x ∷ xs) s t a h =
       (h.0, h.1, inside h.2, h.3, h.4, asked-through xs h.2 t h.3 h.5, h.6)
 
-  -- if the test reduced v to w, then its closure did
+  -- if the list v was reduced to w by the results of the test, it was reduced to w by the results
+  -- of the closure
   pub retained-through : {A : Type 0} (s : J) (v w : Thin T A) (t : J)
       → IsRetainedTo through s v w t → IsRetained R (inside s) v w
   retained-through s v w t h = (
@@ -641,7 +645,8 @@ module _ {S T : Type 0} (R : S → T → Bool → S → Type 0) where
       let left : y ≡ x = ap (λ (p : Bool × T). p.1) same ∙ h.4.1 in
       (ap suc rest.0, (h.2, answer, rest.1), first b y x a xs left rest.2)
     where
-      -- the third part of `told`, for one more item that its test left unchanged
+      -- if the items left of xs are those whose flag is true, then this holds also for x followed
+      -- by xs, if the test left x unchanged
       first : (b : Bool) (y x : T) (a : Verdicts T) (xs : List T) → y ≡ x
           → left_at true a ≡ items_where_true (flags_of a) xs
           → left_at true ((b, y) ∷ a) ≡ items_where_true (b ∷ flags_of a) (x ∷ xs)
