@@ -153,7 +153,8 @@ module _ {T A : Type 0} where
       low ∙ slot-get xs after (i - start) within))
       (get-some xs (i - start) within)
 
-  -- if ys fill exactly the slots from `start` up to `end`, then ys are the items of the iterator
+  -- if the slots from `start` up to `end` hold exactly the items ys, then ys are the items of the
+  -- iterator
   pub walked-run : (b : Block T A) (a : A) (start end : ℕ) (ys : List T) → IsWalked b a start end
       → full ys ≡ slice_range b.slots start end → ys ≡ items_in b.slots
   walked-run b a start end ys t run =
@@ -191,7 +192,8 @@ module _ {T A : Type 0} where
         let same : y ≡ v = cc in
         (ap (λ (x : T). x ∷ ys) same, set-first start k y ys)
 
-    -- `first-of` for the slots of b
+    -- if the slot `start` of b holds v, then v is the first item, and emptying this slot leaves one
+    -- more empty slot before the other items
     first : slot b.slots start ≡ Some v → (xs ≡ v ∷ drop 1 xs)
         × (set b.slots start None ≡ empty (start + 1) ++ (full (drop 1 xs) ++ empty gap))
     first e =
@@ -217,7 +219,7 @@ module _ {T A : Type 0} where
     abbrev most : List T
     most = take (end - 1 - start) xs
 
-    -- the items are `most` and then the last item
+    -- the items are `most`, followed by the last item
     whole : xs ≡ most ++ get_or xs (end - 1 - start) v ∷ []
     whole = split-last xs (end - 1 - start) v (omega (arith, t.len))
 
@@ -225,7 +227,8 @@ module _ {T A : Type 0} where
     place : start + length most ≡ end - 1
     place = omega (arith, t.len, length-take-le (end - 1 - start) xs (omega (arith, t.len)))
 
-    -- the slots of b, with the last item written apart from `most`
+    -- the slots of b are the empty slots before the items, `most`, the last item, and the empty
+    -- slots after it
     row : b.slots ≡ empty start ++ (full (most ++ get_or xs (end - 1 - start) v ∷ []) ++ empty gap)
     row = t.row ∙ ap (λ (ys : List T). empty start ++ (full ys ++ empty gap)) whole
 
@@ -252,8 +255,8 @@ module _ {T A : Type 0} where
         place (omega (arith, walked-room b a start end t))
         (from-same b b' a t.from (ap (λ v. v.alloc) w))
 
-  -- if ws was written over the slots from `start` on, the block is that of an iterator of the same
-  -- length, with ws in place of its first items
+  -- if ws was written over the slots from `start` on, the new block b' is that of an iterator of
+  -- the same length, with ws in place of its first items
   pub settle-written : (b b' : Block T A) (a : A) (start end : ℕ) (ws : List T)
       → IsWalked b a start end → seen b' ≡ record (seen b) { slots = over b.slots start ws }
       → Walking b' a (refill (length (items_in b.slots)) (items_in b.slots) ws)
@@ -268,7 +271,7 @@ module _ {T A : Type 0} where
       (omega (arith, t.len, length_refill (length xs) xs ws refl)) (walked-room b a start end t)
       (from-same b b' a t.from (ap (λ v. v.alloc) w))
 
-  -- writing ws over the slots from `start` on writes it over the items of the iterator that
+  -- writing ws over the slots from `start` on writes ws over the items of the iterator that
   -- contracts see
   pub view-written : (b : Block T A) (a : A) (start end : ℕ) (ws : List T) → IsWalked b a start end
       → thin_of (block_with_items b start ws) a ≡ with_items (thin_of b a) ws
@@ -288,7 +291,7 @@ module _ {T A : Type 0} where
       ∙ (replicate-append-replicate start (length b.slots - end) None
       ∙ ap (λ (n : ℕ). empty n) all))
 
--- what repeated calls of `next` and of `next_back` yield
+-- context: the item type T and the allocator type A of an `IntoIter`
 module _ (T A : Type 0) where
   -- repeated calls of `next` yield the items not yet yielded, in order
   pub rest_in_order : RestInOrder T A

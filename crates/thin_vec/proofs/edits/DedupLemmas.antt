@@ -33,18 +33,20 @@ last-same (z ∷ a) (q ∷ b) x y e =
 abbrev pub all-stay : ℕ → List Bool
 all-stay n = replicate n true
 
--- the number of true flags in two lists of flags is the sum of the numbers for each list
+-- if two lists of flags are joined, the number of true flags is the sum of the numbers for the two
+-- lists
 trues-join : (a b : List Bool) → trues (a ++ b) ≡ trues a + trues b
 trues-join [] b = omega arith
 trues-join (true ∷ a) b = let e = trues-join a b in omega arith
 trues-join (false ∷ a) b = trues-join a b
 
--- n flags that are all true have n true flags
+-- a list of n flags that are all true contains n true flags
 trues-all : (n : ℕ) → trues (replicate n true) ≡ n
 trues-all zero = refl
 trues-all (suc n) = ap suc (trues-all n)
 
--- items that all stay at the beginning do not move, and do not make later items move
+-- if the first n items stay, they do not move, and they do not change how many of the later items
+-- move
 moved-all : (n : ℕ) (b : List Bool) → moved_down (replicate n true ++ b) ≡ moved_down b
 moved-all zero b = refl
 moved-all (suc n) b = moved-all n b
@@ -68,7 +70,7 @@ after-first [] zs k l e some = let n = ap length e in absurd (omega (arith, n, s
 after-first (a ∷ p) zs k l e some = (p, sym (cons-tail e), ap (λ z. z ∷ p) (cons-head e))
 
 module _ {S T : Type 0} (R : OnPairs S T) where
-  -- at least one item is kept
+  -- if the items xs were tested after the kept item k, at least one item is kept
   pub last-some : (xs : List T) (s t : S) (k : T) (stays : List Bool) (ys : List T)
       → AskedLast R s k xs stays ys t → 0 < length ys
   last-some [] s t k stays ys h = omega (arith, ap length h.1)
@@ -86,11 +88,11 @@ module _ {S T : Type 0} (R : OnPairs S T) where
       → AskedLast R s k (x ∷ []) (true ∷ []) (k' ∷ x' ∷ []) t
   last-stays s t k x x' k' h = (false, x', k', t, [], h, refl, (x' ∷ [], (refl, refl, refl), refl))
 
-  -- the items zs were tested, from the state t to the state u, with l as the last item kept before
-  -- them
+  -- context: the items zs were tested, starting in the state t and ending in the state u, and l was
+  -- the last item kept before them
   module _ (t u : S) (l : T) (g : List Bool) (ws zs : List T) (m : AskedLast R t l zs g ws u) where
-    -- if xs were tested from the state s to t, and l was the last item kept then, then xs followed
-    -- by zs were tested from s to u
+    -- if the items xs were tested from the state s on, and further items were then tested against
+    -- the last item kept, then xs followed by these items were tested from s on
     last-append : (xs : List T) (s : S) (k : T) (f : List Bool) (pre : List T)
         → AskedLast R s k xs f (pre ++ l ∷ []) t → AskedLast R s k (xs ++ zs) (f ++ g) (pre ++ ws) u
     last-append [] s k f pre h =
@@ -256,12 +258,12 @@ module _ {S T : Type 0} (R : OnPairs S T) where
     pub run-left : take m ys ≡ r.left
     run-left = ap (take m) r.now ∙ take_at r.left (r.over ++ r.after) m r.long
 
-    -- the items of ys from m on are the item to be removed, if there is one, and those not yet
-    -- tested
+    -- the items of ys from m on are the item to be removed, if there is one, followed by the items
+    -- not yet tested
     pub run-over : drop m ys ≡ r.over ++ r.after
     run-over = ap (drop m) r.now ∙ drop_at r.left (r.over ++ r.after) m r.long
 
-    -- if there is an item after those kept, it is the one to be removed, and the items after it
+    -- if there is an item after the kept ones, it is the item to be removed, and the items after it
     -- were not yet tested
     pub run-goes : (value : T) (rest : List T) → drop m ys ≡ value ∷ rest → (r.after ≡ rest)
         × (r.stays ≡ all-stay r.more ++ false ∷ [])
@@ -272,7 +274,7 @@ module _ {S T : Type 0} (R : OnPairs S T) where
           | inr q ↦ absurd (cons-not-nil (sym k ∙ (run-over ∙ (λ i. q.0 i ++ q.1.0 i))))
         ]
 
-    -- if there is no item after those kept, all items were tested, and all are kept
+    -- if there is no item after the kept ones, all items were tested, and all are kept
     pub run-ends : drop m ys ≡ [] → (r.after ≡ []) × (r.stays ≡ all-stay r.more)
     run-ends k =
         elim r.stops [
@@ -282,7 +284,7 @@ module _ {S T : Type 0} (R : OnPairs S T) where
           | inr q ↦ (q.1.0, q.1.1)
         ]
 
-    -- the first item and the later items that stay are m items
+    -- the first item and the later items that stay are together m items
     pub run-count : (f : List Bool) → trues f ≡ 0 → r.stays ≡ all-stay r.more ++ f
         → suc (trues r.stays) ≡ m
     run-count f none e =
@@ -291,7 +293,7 @@ module _ {S T : Type 0} (R : OnPairs S T) where
   -- ---- open blocks
 
   module _ {A : Type 0} (v w : Open T A) where
-    -- w is v with another front, gap, middle run and cost
+    -- w is v with the given front, the given cost, and any gap and middle run
     abbrev Moved : List T → Cost → Type 0
     Moved front cost = w ≡ record v
         { front = front; gap = w.gap; rest = w.rest; cost = cost }
@@ -347,8 +349,8 @@ module _ {S T : Type 0} (R : OnPairs S T) where
         (a : IsLastAsked R s x v.front false t y front) (b : Bool)
         (n : IsNextAsked R t y ys b u z zs) (whole : v.rest ≡ x ∷ ys) where
       -- if the next item stays, and the item after it was tested too, the front then ends with the
-      -- last item kept before, as the first test left it, and the next item, as the second test
-      -- left it
+      -- item kept before these two, as the first test left it, and the next item, as the second
+      -- test left it
       two-front : (front ++ z ∷ [] ≡ a.before ++ a.kept_left ∷ z ∷ [])
       two-front = ap (λ (l : List T). l ++ z ∷ []) a.now
           ∙ append_assoc a.before (a.kept_left ∷ []) (z ∷ [])
@@ -397,7 +399,8 @@ module _ {S T : Type 0} (R : OnPairs S T) where
           ∙ append_assoc a.before (a.kept_left ∷ z ∷ []) r.left)
           (moving-more m 1 v.cost ∙ ap (λ (k : ℕ). moving k v.cost) paid))
 
-  -- before the first test, v and v itself satisfy `Dedups`
+  -- before the first test, an open block v that has a gap and a non-empty front satisfies `Dedups`
+  -- with itself
   pub dedups-start : {A : Type 0} (s : S) (v : Open T A) → 0 < length v.front
       → 0 < v.gap → Dedups R s v s v
   dedups-start s v some gap =
@@ -453,8 +456,8 @@ module _ {S T : Type 0} (R : OnPairs S T) where
 
   module _ {A : Type 0} (v w : Open T A) (m : ℕ) (s t : S) (ys : List T)
       (r : PairsAskedUpTo R m s v.rest t ys) where
-    -- w is v with the first m items of ys as its front, for no move. The gap and the middle run of
-    -- w may be any.
+    -- w is v with the first m items of ys as its front, which costs no move. The gap and the middle
+    -- run of w may differ from those of v.
     abbrev RunPassed : Type 0
     RunPassed = Moved v w (take m ys) v.cost
 
@@ -543,7 +546,8 @@ module _ {J S T : Type 0} (R : OnPairs S T) (inside : J → S) where
   pairs-through [] s t f ys h = (h.0, h.1, ap inside h.2)
   pairs-through (x ∷ xs) s t f ys h = last-through xs s t x f ys h
 
-  -- if the test reduced v to w, then its closure did
+  -- if the list v was reduced to w by the results of the test, it was reduced to w by the results
+  -- of the closure
   pub deduped-through : {A : Type 0} (s : J) (v w : Thin T A) (t : J) → IsDedupedTo through s v w t
       → IsDedupedBy R (inside s) v w
   deduped-through s v w t h = (
@@ -559,8 +563,8 @@ module _ {J S T : Type 0} (R : OnPairs S T) (inside : J → S) where
 -- if a stateless test E decides, the items that stay and the items that move are functions of the
 -- items
 module _ {S T : Type 0} (E : T → T → Bool) where
-  -- after the kept item k, the flags are `unlike_from E k` of the items, and the items kept are
-  -- `dedup_from E k` of them
+  -- if the items xs were tested after the kept item k, the flags are `unlike_from E k xs`, and the
+  -- items kept are `dedup_from E k xs`
   last-compares : (xs : List T) (s t : S) (k : T) (f : List Bool) (ys : List T)
       → AskedLast (Compares E) s k xs f ys t → (f ≡ unlike_from E k xs) × (ys ≡ dedup_from E k xs)
   last-compares [] s t k f ys h = (h.0, h.1)
@@ -586,14 +590,15 @@ module _ {S T : Type 0} (E : T → T → Bool) where
       ]
       h.5.0 h.6 h.7
 
-  -- the flags are `unlike E` of the items, and the items kept are `dedup E` of them
+  -- if the items xs were tested, the flags are `unlike E xs`, and the items kept are `dedup E xs`
   pub pairs-compare : (xs : List T) (s t : S) (f : List Bool) (ys : List T)
       → AskedPairs (Compares E) s xs f ys t → (f ≡ unlike E xs) × (ys ≡ dedup E xs)
   pairs-compare [] s t f ys h = (h.0, h.1)
   pairs-compare (x ∷ xs) s t f ys h = last-compares xs s t x f ys h
 
 module _ {S T : Type 0} (R : OnPairs S T) where
-  -- at most as many items are kept as k and the items after it
+  -- if the items xs were tested after the kept item k, at most `1 + length xs` items are kept, k
+  -- included
   few-last : (xs : List T) (s t : S) (k : T) (stays : List Bool) (ys : List T)
       → AskedLast R s k xs stays ys t → length ys ≤ suc (length xs)
   few-last [] s t k stays ys h = omega (arith, ap length h.1)
@@ -608,7 +613,7 @@ module _ {S T : Type 0} (R : OnPairs S T) where
       one true m few = let f = few h.2 ys m in omega (arith, f)
       one false m few = let f = few h.1 m.0 m.1 in omega (arith, f, ap length m.2)
 
-  -- at most as many items are kept as there were
+  -- at most as many items are kept as xs has
   few-pairs : (xs : List T) (s t : S) (stays : List Bool) (ys : List T)
       → AskedPairs R s xs stays ys t → length ys ≤ length xs
   few-pairs [] s t stays ys h = omega (arith, ap length h.1)

@@ -16,8 +16,8 @@ not-not true = refl
 not-not false = refl
 
 module _ {F T : Type 0} (R : F → T → Bool → F → T → Type 0) where
-  -- the number of items is that of the kept ones, plus 1 if an item was extracted, plus that of the
-  -- items not yet tested
+  -- the number of items in xs is the number of kept items, plus 1 if an item was extracted, plus
+  -- the number of items not yet tested
   pub picked-count : (s : F) (xs : List T) (item : Option T) (t : F) (kept rest : List T)
       → ExtractsNext R s xs item t kept rest → length xs ≡ length kept + length
       (option_to_list item) + length rest
@@ -29,7 +29,8 @@ module _ {F T : Type 0} (R : F → T → Bool → F → T → Type 0) where
   picked-count s (x ∷ xs) item t kept rest e =
       answered e.0 (λ ks m. picked-count e.1 xs item t ks rest m) e.4
     where
-      -- `picked-count` for one more item, by the answer b of the closure for it
+      -- if `picked-count` holds for the items xs, it holds for x followed by xs, whatever the
+      -- closure returned for x
       answered : (b : Bool)
           → ((ks : List T) → ExtractsNext R e.1 xs item t ks rest
           → length xs ≡ length ks + length (option_to_list item) + length rest)
@@ -47,12 +48,12 @@ module _ {F T : Type 0} (R : F → T → Bool → F → T → Type 0) where
     abbrev J : S → T → Bool → S → T → Type 0
     J s x b t y = R (of s) x (not b) (of t) y
 
-    -- from the state `between` on, the closure keeps none of the items `after`: it extracts the
-    -- first of them, `item`, or there are none
+    -- context: the closure, from the state `between` on, keeps none of the items `after`: either it
+    -- extracts the first of these items, or there are none
     module _ (between : S) (after : List T) (item : Option T) (t : F) (rest : List T)
         (e : ExtractsNext R (of between) after item t [] rest) where
       -- if a run of items was tested before, and all of them stay, the closure kept this run, and
-      -- then extracted `item`, if there is one
+      -- then extracted the first item after it, if there is one
       picked-after : (s : S) (run left : List T) → Asked J s run (stay left) between
           → ExtractsNext R (of s) (run ++ after) item t left rest
       picked-after s [] [] a =

@@ -20,8 +20,8 @@ use Rattle.thin_vec.proofs.list.ExtendLemmas.{yields-join}
 use Rattle.thin_vec.proofs.edits.SpliceLemmas.{between-length, between-more, drains-more, run-moves, stopped-more, taken-join, taken-spare}
 
 module _ {T A : Type 0} where
-  -- the open block b is the list u, opened before the item at index `at`: the items from there on
-  -- were moved up for a gap of `count` slots, unless `count` is 0
+  -- the open block b is the list u, opened before the item at index `at`: the items from this index
+  -- on were moved up for a gap of `count` slots, unless `count` is 0
   pub record IsWide (b : Open T A) (u : Thin T A) (at count : ℕ) : Type 0 where
     pub in_bounds : at ≤ length u.items
     pub front : b.front ≡ take at u.items
@@ -31,9 +31,9 @@ module _ {T A : Type 0} where
 
 module _ {S T A : Type 0} (steps : S → Option T → S → Type 0) (can : S → Type 0)
     (remaining : S → Count) where
-  -- the gap of the block v was filled from the iterator s, and v became the block of the list w
-  -- with the allocator `a`. f says where filling ended: at which slot, whether the iterator has
-  -- ended, and what is left of it.
+  -- `FillsGap v a s w f`: the gap of the open block v was filled from the iterator s, and v became
+  -- the block of the list w with the allocator `a`. f tells at which slot the filling ended,
+  -- whether the iterator has ended, and what is left of the iterator.
   abbrev pub FillsGap : Open T A → A → S → Thin T A → Filled S → Type 0
   FillsGap v a s w f =
       (by : IsFilledBy steps can remaining v.gap s f) × IsClosedWith v by.items a w
@@ -55,7 +55,7 @@ module _ {S T A : Type 0} {steps : S → Option T → S → Type 0} {can : S →
     {remaining : S → Count} where
   module _ {v : Open T A} {a : A} {s : S} {w : Thin T A} {f : Filled S}
       (p : FillsGap steps can remaining v a s w f) where
-    -- after the gap was filled, there are as many items as in the front, the tail and the placed
+    -- after the gap was filled, the list has as many items as the front, the tail and the placed
     -- items together
     pub filled-long : length w.items ≡ length v.front + length v.tail + length p.0.items
     filled-long = omega (arith, ap length p.1.items, between-length v p.0.items)
@@ -73,7 +73,7 @@ module _ {S T A : Type 0} {steps : S → Option T → S → Type 0} {can : S →
       nearer = p.0.nearer more;
     }
 
-    -- if the iterator has ended, the placed items are all that it yields
+    -- if the iterator has ended, the placed items are all items that it yields
     pub filled-drains : f.ended ≡ true → Drains steps s p.0.items
     filled-drains done = (f.rest, subst (λ b. Gives steps s p.0.items b f.rest) done p.0.gave)
 
@@ -124,8 +124,8 @@ module _ {S T A : Type 0} {steps : S → Option T → S → Type 0} {can : S →
       nearer = p.nearer;
     }
 
-    -- if the steps up to u satisfy `HasTaken` with m further moves, those from u on satisfy it with
-    -- n, and m + n ≤ k, then all steps satisfy it with k
+    -- if the steps up to u satisfy `HasTaken` with m further moves, the steps from u on satisfy it
+    -- with n further moves, and m + n ≤ k, then all steps together satisfy it with k further moves
     pub reached-taken : (rule : Rule) (R : RattleType) → KeepsLaw rule → (a : A) (w : Thin T A)
         (m n k : ℕ) → m + n ≤ k → HasTaken rule R (left_of v a) u m (remaining s)
         → HasTaken rule R u w n (remaining t) → HasTaken rule R (left_of v a) w k (remaining s)

@@ -217,8 +217,8 @@ module _ {T A : Type 0} (h : Inside T A) (o : IsOpen h) (b : Block T A) (k : ℕ
         room = omega (arith, o.room);
       }) refl refl
 
--- if clones of the sources were inserted into xs, the length is that of xs plus the number of
--- sources
+-- if clones of the sources were inserted into xs, the new length is the length of xs plus the
+-- number of sources
 pub replaced-length : {T : Type 0} (clones : T → T → Type 0) (xs : List T) (i : ℕ)
     (sources ys : List T) → i ≤ length xs → ReplacesByClones clones xs i i sources ys
     → length ys ≡ length xs + length sources
@@ -244,7 +244,8 @@ at-most-more {n} {m} {k} {c} {d} {e} h few is = record {
   cost = is ∙ (ap (λ q. moving m q) h.cost ∙ moving-add m h.moves c);
 }
 
--- if at most n moves lead from one cost to another, and n ≤ m, then at most m moves do
+-- if at most n moves lead from one cost to another, and n ≤ m, then at most m moves lead from the
+-- one to the other
 pub at-most-le : {n m : ℕ} {c d : Cost} → MovesAtMost n c d → n ≤ m → MovesAtMost m c d
 at-most-le {n} {m} {c} {d} h le = record {
   moves = h.moves;
@@ -258,7 +259,7 @@ pub at-most-if : (b : Bool) (n : ℕ) (c d : Cost) → d ≡ (if b then c else m
 at-most-if true n c d is = record { moves = 0; few = omega arith; cost = is ∙ moving-zero c }
 at-most-if false n c d is = record { moves = n; few = omega arith; cost = is }
 
--- k moves, and n more in one of two cases, are at most k + n moves
+-- k plus either 0 or n is at most k + n
 pub if-le : (b : Bool) (k n : ℕ) → k + (if b then 0 else n) ≤ k + n
 if-le true k n = omega arith
 if-le false k n = omega arith
@@ -271,9 +272,9 @@ pub record IsParted (k r k1 k2 : ℕ) : Type 0 where
   -- each clone is one of the k1 or of the k2
   pub all : k1 + k2 ≡ k
 
--- the number of moves if the k2 clones are inserted after the range, and the k1 clones are appended
--- to the list and then moved into the range, where t items follow the range: it is the number of
--- moves of a replacement, plus one for each of the k1 clones
+-- if the k2 clones are inserted after the range, the k1 clones are appended to the list and then
+-- moved into the range, and t items follow the range, then the number of moves is that of a
+-- replacement, plus one for each of the k1 clones
 pub cloning-moves : {k r k1 k2 : ℕ} → IsParted k r k1 k2 → (t : ℕ) {z u : ℕ} → z ≡ 0 → u ≡ t + k2
     → ((k2 + (if eqb k2 z then 0 else t)) + k1) + (k1 + (if eqb k1 r then 0 else u))
     ≡ (k + (if eqb k r then 0 else t)) + min k r

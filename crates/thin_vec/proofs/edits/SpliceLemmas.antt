@@ -105,8 +105,9 @@ module _ {S X : Type 0} (steps : S → Option X → S → Type 0) where
   yields-drawn s u xs o x is all =
       yields-more steps s all.0 u xs x all.1 (subst (λ r. steps all.0 r u) is all.2)
 
-  -- if one call of `next` yielded x and later calls xs, where x and xs are the items `held` and
-  -- then o, all calls yielded `held` and then o. If o is None, a last call returned `None`.
+  -- Let x followed by xs be the items `held`, followed by the item in o if there is one. If one
+  -- call of `next` yielded x, and later calls yielded xs, then all these calls yielded `held` and
+  -- then the item in o. If o is `None`, the last call returned `None`.
   pub drawn-after : (s t u : S) (x : X) (xs held : List X) (o : Option X) → steps s (Some x) t
       → held ++ option_to_list o ≡ x ∷ xs
       → MatchOption o (YieldsThen steps t xs None u) (λ _. Yields steps t xs u)
@@ -204,11 +205,12 @@ module _ {S X A : Type 0} (steps : S → Option X → S → Type 0) (can : S →
         λ _. none,
       )
 
--- the cause of a `finish` that failed with the error `error`, where v is the list after the
--- failure, and `left` bounds the rest of the iterator
+-- context: a `finish` that failed with the error `error`; v is the list after the failure, and
+-- `left` bounds the rest of the iterator
 module _ {S T A : Type 0} (rule : Rule) (R : RattleType) (v : Thin T A) (tail : List T)
     (left : Count) (error : SpliceRefused T S A) where
-  -- if there is a tail, no item is held and none is in hand, the cause follows from the hint
+  -- if there is a tail, and no item is held or in hand, the cause of the failure follows from the
+  -- hint
   pub stop-at-hint : 0 < length tail → error.held.items ≡ [] → error.in_hand ≡ None
       → FailsAtHint rule R v left error.cause → IsStopCause rule R v tail left error
   stop-at-hint some none empty fails = record {
@@ -218,7 +220,8 @@ module _ {S T A : Type 0} (rule : Rule) (R : RattleType) (v : Thin T A) (tail : 
     by_push = λ no_tail. absurd (omega (arith, some, ap length no_tail));
   }
 
-  -- if there is a tail, and items are held or one is in hand, the cause follows from these items
+  -- if there is a tail, and items are held or an item is in hand, the cause of the failure follows
+  -- from these items
   pub stop-at-held : 0 < length tail → (error.in_hand ≡ None → 0 < length error.held.items)
       → (error.in_hand ≡ None → (error.cause ≡ CapacityOverflow)
       ↔ (capacity_for rule R v (length error.held.items) ≡ None))
@@ -231,8 +234,8 @@ module _ {S T A : Type 0} (rule : Rule) (R : RattleType) (v : Thin T A) (tail : 
     by_push = λ no_tail. absurd (omega (arith, some, ap length no_tail));
   }
 
-  -- if there is no tail, and `extend` failed with the same cause, item in hand and rest, the cause
-  -- of the splice is as that of `extend`
+  -- if there is no tail, no item is held, and `extend` failed with the same cause and the same item
+  -- in hand, then what holds for the cause of `extend` holds for the cause of `error`
   pub stop-at-end : (e : ExtendRefused T S) → tail ≡ [] → error.held.items ≡ []
       → error.cause ≡ e.cause → error.in_hand ≡ e.in_hand → IsExtendCause rule R v left e
       → IsStopCause rule R v tail left error
@@ -260,7 +263,7 @@ module _ (rule : Rule) (R : RattleType) where
         | inr spare ↦ inl (cap-kept rule R law v k d spare e)
       ]
 
--- if n is 0, a cost is the same with n more moves as without them
+-- if n is 0, adding n moves to a cost does not change the cost
 unmoved : (b : Bool) (c : Cost) (n : ℕ) → n ≡ 0 → (if b then c else moving n c) ≡ c
 unmoved true c n none = refl
 unmoved false c n none = ap (λ k. moving k c) none ∙ sym (moving-zero c)
@@ -307,7 +310,7 @@ module _ {T A : Type 0} where
       ∙ (ap (λ l. l ++ xs) (append-nil v.front)
       ∙ (sym (append-nil (v.front ++ xs)) ∙ (λ i. (v.front ++ xs) ++ sym none i)))
 
--- what a step of `finish` does to a list
+-- context: the growth rule and the item type, for the steps of `finish`
 module _ (rule : Rule) (R : RattleType) {T A : Type 0} where
   -- if k items were placed into spare capacity, with k + m moves, and m ≤ n, then v and w satisfy
   -- `HasTaken` with n further moves
@@ -357,8 +360,8 @@ module _ (rule : Rule) (R : RattleType) {T A : Type 0} where
       cheap = cheap;
     }
 
-    -- if v and u satisfy `HasTaken` with m further moves, u and w satisfy it with n, and m + n ≤ k,
-    -- then v and w satisfy it with k
+    -- if v and u satisfy `HasTaken` with m further moves, u and w satisfy it with n further moves,
+    -- and m + n ≤ k, then v and w satisfy it with k further moves
     pub taken-join : (v u w : Thin T A) (m n k : ℕ) (left more : Count) → m + n ≤ k
         → length v.items ≤ length u.items
         → (HasRoomFor v (size left) → u.capacity ≡ v.capacity → HasRoomFor u (size more))

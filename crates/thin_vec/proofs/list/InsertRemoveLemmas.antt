@@ -1,4 +1,4 @@
--- What a block contains while items are removed from it, or moved within it, and afterwards.
+-- What a block contains while items are removed from it or moved within it, and afterwards.
 use Rattle.thin_vec.proofs.list.CapacityLemmas.{front-none}
 use Rattle.std.proofs.Common.{◌≡◌, ◌≢◌, ℕ, zero, suc, ◌+◌, ◌-◌, ◌<◌, ◌≤◌, List, [], ◌∷◌, ◌++◌, length, take, drop, Option, Some, None, refl, sym, ap, ◌∙◌, subst, arith, get_or, length-append, append_assoc}
 use Rattle.std.proofs.Math.Seq.{drop-length, take-append_seam}
@@ -41,14 +41,14 @@ module _ {T : Type 0} where
       (replicate-append-replicate 1 (c - length xs) None
       ∙ ap (λ (z : ℕ). replicate z None) m))))
 
-  -- the items of xs from i on move up one slot, to make room for one item at i
+  -- context: the items of xs from index i on move up by one slot, to make room for one item at i
   module _ (xs : List T) (c i : ℕ) {j k : ℕ} (h : i ≤ length xs) (l : length xs < c) (e : j ≡ i + 1)
       (n : k ≡ length xs - i) where
-    -- the slots after the room for the item
+    -- the slots after the empty slot i, once the items from index i on have moved up
     after : List (Option T)
     after = full (drop i xs) ++ replicate (c - length xs - 1) None
 
-    -- there are i slots before the room for the item
+    -- the items before index i fill i slots
     before : i ≡ length (full (take i xs))
     before = omega (arith, length-full (take i xs), length-take i xs)
 
@@ -70,7 +70,8 @@ module _ {T : Type 0} where
         ap (λ (ys : List (Option T)). moved i j k ys) s
         ∙ moved_right i j k 1 (full a) (full b) r before e q
 
-    -- if v is then written into the slot i, the slots are those of the list with v inserted at i
+    -- if v is written into the slot i after the items from index i on have moved up, the slots are
+    -- those of the list with v inserted at i
     pub front-insert : (v : T)
         → set (moved i j k (front xs c)) i (Some v) ≡ front (insert xs i v) c
     unfolding after
@@ -84,7 +85,7 @@ module _ {T : Type 0} where
         ∙ (ap (λ (ys : List (Option T)). ys ++ r) (sym (map-append (λ (y : T). Some y) a (v ∷ b)))
         ∙ ap (λ (z : ℕ). full (insert xs i v) ++ replicate z None) m)))
 
-    -- before the item is written, its slot i is empty
+    -- after the items from index i on have moved up, the slot i is empty
     front-gap : slot (moved i j k (front xs c)) i ≡ None
     front-gap =
         ap (λ (ys : List (Option T)). slot ys i) apart
@@ -130,12 +131,13 @@ module _ {T A : Type 0} {b : Block T A} {a : A} (t : IsThin b a) where
 -- ---- removal of items
 
 module _ {T : Type 0} where
-  -- c slots that held xs, after the slots from k up to i were emptied
+  -- `emptying xs k i c` is the row of c slots that held xs, after the slots from k up to i were
+  -- emptied
   abbrev pub emptying : List T → ℕ → ℕ → ℕ → List (Option T)
   emptying xs k i c =
       full (take k xs) ++ (empty (i - k) ++ (full (drop i xs) ++ empty (c - length xs)))
 
-  -- the items from i on are the item at i and those after it
+  -- the items of xs from index i on are the item at i, followed by the items after it
   item-at : (xs : List T) (i : ℕ) → i < length xs → (x : T) × (drop i xs ≡ x ∷ drop (i + 1) xs)
   item-at [] i h = absurd (omega arith)
   item-at (x ∷ xs) zero h = (x, refl)
@@ -147,7 +149,7 @@ module _ {T : Type 0} where
             e),
       )
 
-  -- the filled slots of xs followed by ys are those of xs, followed by those of ys
+  -- the row `full (xs ++ ys)` is the row `full xs`, followed by the row `full ys`
   pub full-append : (xs ys : List T) → full (xs ++ ys) ≡ full xs ++ full ys
   full-append xs ys = map-append (λ (x : T). Some x) xs ys
 

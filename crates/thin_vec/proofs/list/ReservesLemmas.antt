@@ -18,9 +18,9 @@ tells-ok x named n is = record {
   overflow = (λ e. ok-err x CapacityOverflow e, λ none. absurd (none-some none is));
 }
 
--- if m items of R and n items of S have the same exact capacity, and a call that made a list for
--- the former succeeded, then a result `Ok` of a call that makes one for the latter tells no
--- overflow
+-- if m items of the type R have the same exact capacity as n items of the type S, and a result `Ok`
+-- satisfies `TellsOverflowOf` for the items of R, then a result `Ok` satisfies it for the items of
+-- S
 pub tells-made : {X : Type 0} {x y : X} (R S : RattleType) (m n : ℕ)
     → exact_capacity R 0 m ≡ exact_capacity S 0 n
     → TellsOverflowOf R m (let r : Result X ThinVecError = Ok x in r)
@@ -32,8 +32,8 @@ tells-made {x = x} {y} R S m n e told = record {
   );
 }
 
--- if m items of R and n items of S have the same exact capacity, a result that tells an overflow
--- for the former tells it for the latter
+-- if m items of the type R have the same exact capacity as n items of the type S, and the result r
+-- satisfies `TellsOverflowOf` for the items of R, then r satisfies it for the items of S
 pub tells-same : {X : Type 0} {r : Result X ThinVecError} (R S : RattleType) (m n : ℕ)
     → exact_capacity R 0 m ≡ exact_capacity S 0 n → TellsOverflowOf R m r → TellsOverflowOf S n r
 tells-same R S m n e told = record {
@@ -86,8 +86,8 @@ module _ {T A : Type 0} (R : RattleType) (v : Thin T A) where
           overflow = (λ e. ok-err x CapacityOverflow e, λ none. absurd (none-some none named));
         }
 
-    -- let S be a type for which the rule chooses the same capacity as for R, and l equal to k. If v
-    -- grew to u, so that v and u satisfy `Reserves`, and w has the capacity of u, then v and w
+    -- Let S be a type for which the rule chooses the same capacity as for R, and let l equal k. If
+    -- v grew to u, so that v and u satisfy `Reserves`, and w has the capacity of u, then v and w
     -- satisfy `Reserves` after a further step that fails only with `OutOfMemory`.
     pub reserves-then : {X Y : Type 0} {x : X} (S : RattleType) (k l : ℕ) (u w : Thin T A)
         (r : Result Y ThinVecError) → l ≡ k
@@ -114,9 +114,9 @@ module _ {T A : Type 0} (R : RattleType) (v : Thin T A) where
           );
         }
 
-    -- let S be a type for which the rule chooses the same capacity as for R, and l equal to k. If a
-    -- call for k items of R failed, satisfies `Reserves` and left the list unchanged, then a call
-    -- for l items of S that failed with the same error satisfies `Reserves`.
+    -- Let S be a type for which the rule chooses the same capacity as for R, and let l equal k. If
+    -- a call for k items of R failed, satisfies `Reserves`, and did not change the list, then a
+    -- call for l items of S that failed with the same error satisfies `Reserves`.
     pub reserves-failed : {X Y : Type 0} (S : RattleType) (k l : ℕ) (w : Thin T A)
         (cause : ThinVecError) → l ≡ k
         → capacity_for rule S v l ≡ capacity_for rule R v k

@@ -28,8 +28,8 @@ split-at (x ∷ xs) (suc k) low =
     (x ∷ p.0, p.1, p.2, ap suc p.3, ap (λ l. x ∷ l) p.4)
 
 module _ {T : Type 0} where
-  -- in a row that contains the items pre, x and post, the slot of x may be written apart from the
-  -- others
+  -- a row that contains the items pre, x and post consists of the slots before x, the slot of x,
+  -- and the slots after x
   pub row-at : (a : List (Option T)) (pre : List T) (x : T) (post : List T) (z : List (Option T))
       → a ++ (full (pre ++ x ∷ post) ++ z) ≡ (a ++ full pre) ++ (Some x ∷ (full post ++ z))
   row-at a pre x post z =
@@ -50,7 +50,7 @@ module _ {T A : Type 0} where
     abbrev v : Open T A
     v = open_of h
 
-    -- the block after the item at k of the middle run was overwritten
+    -- the block after the item at index k of the middle run was overwritten
     abbrev pub written : Inside T A
     written = record {
       block = b;
@@ -61,11 +61,12 @@ module _ {T A : Type 0} where
       len = h.len;
     }
 
-    -- what a contract sees of `written`, where ys is its middle run
+    -- `written-seen ys` is what a contract sees of `written` if ys is the middle run of `written`
     abbrev pub written-seen : List T → Open T A
     written-seen ys = record v { rest = ys }
 
-    -- x was the item at k of the middle run, and contracts see `written` as h with y in place of x
+    -- x was the item at index k of the middle run, and contracts see `written` as h with y in place
+    -- of x
     pub record Written (x y : T) : Type 0 where
       pub pre : List T
       pub post : List T
@@ -73,8 +74,8 @@ module _ {T A : Type 0} where
       pub was : v.rest ≡ pre ++ x ∷ post
       pub shown : Found written (written-seen (pre ++ y ∷ post))
 
-    -- if the slot of the item at k of the middle run held x, and y was written into it,
-    -- `Written x y` holds
+    -- if the slot of the item at index k of the middle run held x, and y was written into this
+    -- slot, `Written x y` holds
     pub write-step : (x y : T) → slot h.block.slots (h.rest_start + k) ≡ Some x
         → seen b ≡ record (seen h.block)
         { slots = set h.block.slots (h.rest_start + k) (Some y) } → Written x y
@@ -133,7 +134,7 @@ module _ {T A : Type 0} where
               (ap (λ (z : Seen T A). z.cost) now);
         }
 
-  -- the first k items of the middle run are moved to the end of the front
+  -- context: the first k items of the middle run are moved to the end of the front
   module _ (h : Inside T A) (o : IsOpen h) (k : ℕ) (low : k ≤ length (open_of h).rest) where
     -- what a contract sees of h
     abbrev u : Open T A
@@ -189,7 +190,8 @@ module _ {T A : Type 0} where
         })
         alloc refl
 
-    -- the slots from the middle run on are those of its first k items, and those after them
+    -- the slots from the middle run on are the slots of its first k items, followed by the slots
+    -- after these
     cut : full u.rest ++ past_rest u ≡ full (take k u.rest) ++ (full (drop k u.rest) ++ past_rest u)
     cut =
         ap (λ (l : List T). full l ++ past_rest u) (sym (take-append-drop k u.rest))
