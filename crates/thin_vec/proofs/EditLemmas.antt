@@ -152,8 +152,8 @@ module _ {T F A G : Type 0} {g : Ghosts G}
   module _ (R : F → T → Bool → F → T → Type 0)
       (says : (s : F) (x : T) (b : Bool) (t : F) (y : T) → R s x b t y
       → (b ≡ test x) × (y ≡ x)) where
-    -- if `IsExtracting` holds, and `next` yields x, then `IsExtracting` holds again after x was
-    -- appended to the sequence
+    -- if `IsExtracting` holds, and `next` yields an item, then `IsExtracting` holds again after
+    -- this item was appended to the sequence
     pub extract_step : {start now new : ExtractIf T F A G (Holder (Extracting T F A)) g h}
         {old held more : List T} {item : Option T} {x : T} → IsExtracting start now old held
         → ExtractSteps R now item new → item ≡ Some x → more ≡ held ++ x ∷ []

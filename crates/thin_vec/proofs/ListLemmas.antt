@@ -32,7 +32,7 @@ module _ {T : Type 0} where
   items-full-alone [] = refl
   items-full-alone (x ∷ xs) = ap (λ (ys : List T). x ∷ ys) (items-full-alone xs)
 
-  -- if the first of c slots hold xs and the others are empty, the items are xs
+  -- if the first of c slots hold xs and the other slots are empty, the items in these slots are xs
   pub items-front : (xs : List T) (c : ℕ) → items_in (front xs c) ≡ xs
   items-front xs c = items-full xs (replicate (c - length xs) None)
       ∙ (ap (λ (ys : List T). xs ++ ys) (items-empty (c - length xs)) ∙ append-nil xs)
@@ -64,8 +64,8 @@ module _ {T : Type 0} where
       let n : i < length (full xs) = omega (arith, length-full xs) in
       get_or_append_left (full xs) s None i n ∙ get_or-map (λ (x : T). Some x) xs i d None h
 
-  -- if the first of c slots hold xs and the others are empty, writing v into the first empty slot
-  -- appends v to the items
+  -- if the first of c slots hold xs and the other slots are empty, writing v into the first empty
+  -- slot appends v to the items
   pub front-push : (xs : List T) (c : ℕ) (v : T) → length xs < c → set (front xs c) (length xs)
       (Some v) ≡ front (xs ++ v ∷ []) c
   front-push xs c v h =

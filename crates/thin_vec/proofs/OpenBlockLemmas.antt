@@ -248,8 +248,8 @@ module _ {T A : Type 0} where
       len = h.len;
     }
 
-    -- what a contract sees of `first-left`: ys are the items left in the middle run, and the gap
-    -- before them has one more slot
+    -- what a contract sees of `first-left`, for the list of the items left in the middle run: the
+    -- gap before the middle run has one more slot
     abbrev pub first-seen : List T → Open T A
     first-seen ys = record {
       front = v.front;
@@ -263,7 +263,7 @@ module _ {T A : Type 0} where
     }
 
     -- if the first slot of the middle run held x and was emptied, the middle run was x followed by
-    -- some ys, and contracts see `first-left` as `first-seen ys`
+    -- a list ys, and contracts see `first-left` as `first-seen ys`
     pub first-step : (x : T) → slot h.block.slots h.rest_start ≡ Some x
         → seen b ≡ record (seen h.block) { slots = set h.block.slots h.rest_start None }
         → (ys : List T) × (v.rest ≡ x ∷ ys) × Found first-left (first-seen ys)
@@ -316,8 +316,8 @@ module _ {T A : Type 0} where
       len = h.len;
     }
 
-    -- what a contract sees of `last-left`: ys are the items left in the middle run, and the gap
-    -- after them has one more slot
+    -- what a contract sees of `last-left`, for the list of the items left in the middle run: the
+    -- gap after the middle run has one more slot
     abbrev pub last-seen : List T → Open T A
     last-seen ys = record {
       front = v.front;
@@ -330,7 +330,7 @@ module _ {T A : Type 0} where
       cost = v.cost;
     }
 
-    -- if the last slot of the middle run held x and was emptied, the middle run was some ys
+    -- if the last slot of the middle run held x and was emptied, the middle run was a list ys
     -- followed by x, and contracts see `last-left` as `last-seen ys`
     pub last-step : (x : T) → slot h.block.slots (h.rest_end - 1) ≡ Some x
         → seen b ≡ record (seen h.block) { slots = set h.block.slots (h.rest_end - 1) None }
@@ -392,7 +392,7 @@ module _ {T A : Type 0} where
   -- context: an open block h, whose two gaps are one gap between the front and the tail if the
   -- middle run is empty
   module _ (h : Inside T A) (o : IsOpen h) where
-    -- the block h with both gaps taken as one gap after the front
+    -- the open block with both gaps taken as one gap after the front
     abbrev pub joined : Inside T A
     joined = record {
       block = h.block;
@@ -609,7 +609,7 @@ module _ {T A : Type 0} where
   -- after the last of these items
   module _ (h : Inside T A) (o : IsOpen h) (b : Block T A) (xs : List T) (end : ℕ)
       (ends : end ≡ h.front_end + length xs) (fits : end ≤ h.rest_start) where
-    -- the block after the items xs were written into the gap
+    -- the open block after the new items were written into the gap
     abbrev pub filled : Inside T A
     filled =
         record {
@@ -621,8 +621,8 @@ module _ {T A : Type 0} where
           len = h.len;
         }
 
-    -- what a contract sees of `filled`: the front ends with the items xs, and the gap is shorter by
-    -- the length of xs
+    -- what a contract sees of `filled`: the front ends with the new items, and the gap is shorter
+    -- by their number
     abbrev pub filled-seen : Open T A
     filled-seen =
         let v : Open T A = open_of h in

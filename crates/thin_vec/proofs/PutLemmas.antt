@@ -35,8 +35,8 @@ module _ {S X : Type 0} {steps : S → Option X → S → Type 0} {can : S → T
   }
 
 module _ {T : Type 0} where
-  -- if ys were laid from the slot i + 1 on, writing y into the slot i is the same as laying y
-  -- followed by ys from the slot i on
+  -- if the slots ys were written from the slot i + 1 on, writing y into the slot i is the same as
+  -- writing y followed by ys from the slot i on
   laid-before : (i k : ℕ) (y : Option T) (ys s : List (Option T)) → k ≡ i + 1 → i < length s
       → set (laid k ys s) i y ≡ laid i (y ∷ ys) s
   laid-before i k y ys s next low =

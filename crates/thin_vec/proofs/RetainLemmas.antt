@@ -149,7 +149,7 @@ module _ {S T : Type 0} (R : S → T → Bool → S → T → Type 0) where
       }
 
   module _ (k m : ℕ) (s : S) (xs : List T) (t : S) (ys : List T) (h : Stays k m s xs t ys) where
-    -- the items before the index m, as the tests left them
+    -- the items before the next one to be tested, as the tests left them
     abbrev asked-part : List T
     asked-part = h.before ++ h.left
 
@@ -460,7 +460,8 @@ module _ {S T : Type 0} (R : S → T → Bool → S → T → Type 0) where
     moved : w.cost ≡ moving h.count v.cost
     moved = ap (λ u. u.cost) h.now ∙ moving-after v.gap h.count v.cost gap
 
-    -- if z is w after the first item that does not stay was removed, v and z satisfy `Sifts`
+    -- if z is w without the first item that does not stay, the open block before the tests and z
+    -- satisfy `Sifts`
     pub advanced-goes : (value : T) (z : Open T A) → w.rest ≡ value ∷ z.rest
         → z ≡ record w { rest = z.rest; gap = w.gap + 1 } → Sifts R s v t z
     advanced-goes value z rest same =
@@ -532,14 +533,14 @@ module _ {S T : Type 0} (R : S → T → Bool → S → T → Type 0) where
 
   module _ {A : Type 0} (v w : Open T A) (m : ℕ) (s t : S) (ys : List T)
       (run : AskedUpTo R 0 m s v.rest t ys) where
-    -- w is v with the first m items of ys appended to the front, which costs no move. The gap and
-    -- the middle run of w may differ from those of v.
+    -- The tested items that stay were appended to the front, which costs no move. Of the other
+    -- parts, only the gap and the middle run may have changed.
     abbrev Passed : Type 0
     Passed = w ≡ record v
         { front = v.front ++ take m ys; gap = w.gap; rest = w.rest }
 
-    -- if the item after the run is removed, and all items after it were then tested, v and z
-    -- satisfy `IsSifted`
+    -- if the item after the run is removed, and all items after it were then tested, the open block
+    -- before the tests and z satisfy `IsSifted`
     pub sifted-goes : (value : T) (u : S) (z : Open T A) → Passed → drop m ys ≡ value ∷ w.rest
         → Sifts R t w u z → z.rest ≡ [] → IsSifted R s v u z
     unfolding part-goes

@@ -177,8 +177,8 @@ module _ {T A : Type 0} where
     gap = length b.slots - end
 
     -- in the row of `start` empty slots, the items ys and k empty slots: if the slot `start` holds
-    -- v, then v is the first of ys, and emptying this slot leaves one more empty slot before the
-    -- other items
+    -- an item, this item is the first of ys, and emptying the slot leaves one more empty slot
+    -- before the other items
     first-of : (ys : List T) (k : ℕ) → 0 < length ys
         → slot (empty start ++ (full ys ++ empty k)) start ≡ Some v
         → (ys ≡ v ∷ drop 1 ys)

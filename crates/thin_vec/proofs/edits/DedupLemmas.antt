@@ -29,7 +29,7 @@ last-same (z ∷ a) (q ∷ b) x y e =
     let p = last-same a b x y (cons-tail e) in
     ((λ i. cons-head e i ∷ p.0 i), p.1)
 
--- the flags of n items that all stay
+-- `all-stay n` is the list of the flags of n items that all stay
 abbrev pub all-stay : ℕ → List Bool
 all-stay n = replicate n true
 
@@ -184,8 +184,8 @@ module _ {S T : Type 0} (R : OnPairs S T) where
     next-asked b u zs a = subst (λ (k : T). R t a.later k b u a.later_left a.kept_left)
         (next-pair b u zs a).last a.asked
 
-    -- after the test `a`, xs is its first item, the tested items, which end with the later item of
-    -- `a`, and the items not yet tested
+    -- after the test `a`, the old items are the first item, the later items tested so far, which
+    -- end with the later item of `a`, and the items not yet tested
     next-was : (b : Bool) (u : S) (zs : List T) (a : IsPairAskedAt R m t ys b u zs)
         → xs ≡ h.first ∷ ((h.done ++ a.later ∷ []) ++ a.after)
     next-was b u zs a = h.was ∙ ap (λ (l : List T). h.first ∷ l)
@@ -284,7 +284,7 @@ module _ {S T : Type 0} (R : OnPairs S T) where
           | inr q ↦ (q.1.0, q.1.1)
         ]
 
-    -- the first item and the later items that stay are together m items
+    -- the length of the run is 1, for the first item, plus the number of later items that stay
     pub run-count : (f : List Bool) → trues f ≡ 0 → r.stays ≡ all-stay r.more ++ f
         → suc (trues r.stays) ≡ m
     run-count f none e =
@@ -293,7 +293,8 @@ module _ {S T : Type 0} (R : OnPairs S T) where
   -- ---- open blocks
 
   module _ {A : Type 0} (v w : Open T A) where
-    -- w is v with the given front, the given cost, and any gap and middle run
+    -- after the tests, the open block has the given front and the given cost; of the other parts,
+    -- only the gap and the middle run may have changed
     abbrev Moved : List T → Cost → Type 0
     Moved front cost = w ≡ record v
         { front = front; gap = w.gap; rest = w.rest; cost = cost }
@@ -305,8 +306,8 @@ module _ {S T : Type 0} (R : OnPairs S T) where
     moved e n = λ i. record v { front = e i; gap = w.gap; rest = w.rest; cost = n i }
 
     module _ (s t : S) where
-      -- v and w satisfy `Dedups` if the items `done` were tested, with `first` as the last item
-      -- kept before them, and those that stay were moved to the front
+      -- `Dedups` holds if the items `done` were tested, with `first` as the last item kept before
+      -- them, and those of them that stay were moved to the front
       dedups-of : (before : List T) (first : T) (done : List T) (stays : List Bool) (kept : List T)
           → v.front ≡ before ++ first ∷ [] → v.rest ≡ done ++ w.rest
           → AskedLast R s first done stays kept t → 0 < w.gap
@@ -325,7 +326,7 @@ module _ {S T : Type 0} (R : OnPairs S T) where
             now = now;
           }
 
-    -- if the next item x was tested and removed, v and w satisfy `Dedups`
+    -- if the next item x was tested and removed, `Dedups` holds
     pub dedups-goes : {s t : S} (x y : T) (front : List T)
         → IsLastAsked R s x v.front true t y front → v.rest ≡ x ∷ w.rest → 0 < w.gap
         → Moved front v.cost → Dedups R s v t w
@@ -334,8 +335,8 @@ module _ {S T : Type 0} (R : OnPairs S T) where
         (last-goes s t a.kept x y a.kept_left a.asked) gap
         (now ∙ moved (λ i. a.now i) (sym (moving-none v.cost)))
 
-    -- if the next item x was tested and stays, and was moved to the front for one move, v and w
-    -- satisfy `Dedups`
+    -- if the next item x was tested and stays, and was moved to the front for one move, `Dedups`
+    -- holds
     pub dedups-stays : {s t : S} (x y : T) (front : List T)
         → IsLastAsked R s x v.front false t y front → v.rest ≡ x ∷ w.rest
         → 0 < w.gap → Moved (front ++ y ∷ []) (moving 1 v.cost) → Dedups R s v t w
@@ -355,7 +356,7 @@ module _ {S T : Type 0} (R : OnPairs S T) where
       two-front = ap (λ (l : List T). l ++ z ∷ []) a.now
           ∙ append_assoc a.before (a.kept_left ∷ []) (z ∷ [])
 
-      -- if the next item stays, and the item after it is removed, v and w satisfy `Dedups`
+      -- if the next item stays, and the item after it is removed, `Dedups` holds
       pub dedups-two : b ≡ true → (value : T) → zs ≡ value ∷ w.rest → 0 < w.gap
           → Moved (front ++ z ∷ []) (moving 1 v.cost) → Dedups R s v u w
       dedups-two e value rest gap now =
@@ -370,7 +371,7 @@ module _ {S T : Type 0} (R : OnPairs S T) where
           (n.was ∙ ap (λ (l : List T). n.later ∷ l) same)) asked gap (now ∙ moved two-front refl)
 
       -- if the next two items stay, the run of items from the second one on stays too, and the item
-      -- after the run, if there is one, is removed, then v and w satisfy `Dedups`
+      -- after the run, if there is one, is removed, then `Dedups` holds
       pub dedups-run : b ≡ false → (m : ℕ) (q : S) (ws : List T) (r : PairsAskedUpTo R m u zs q ws)
           → r.after ≡ w.rest → suc (trues r.stays) ≡ m
           → 0 < w.gap → Moved ((front ++ z ∷ []) ++ take m ws) (moving m (moving 1 v.cost))
@@ -456,13 +457,13 @@ module _ {S T : Type 0} (R : OnPairs S T) where
 
   module _ {A : Type 0} (v w : Open T A) (m : ℕ) (s t : S) (ys : List T)
       (r : PairsAskedUpTo R m s v.rest t ys) where
-    -- w is v with the first m items of ys as its front, which costs no move. The gap and the middle
-    -- run of w may differ from those of v.
+    -- The items of the run, as the tests left them, are the front, which costs no move. Of the
+    -- other parts, only the gap and the middle run may have changed.
     abbrev RunPassed : Type 0
     RunPassed = Moved v w (take m ys) v.cost
 
-    -- if the item after the run is removed, and all items after it were then tested, v and z
-    -- satisfy `IsDeduped`
+    -- if the item after the run is removed, and all items after it were then tested, the open block
+    -- before the tests and z satisfy `IsDeduped`
     pub deduped-goes : (value : T) (u : S) (z : Open T A) → RunPassed → drop m ys ≡ value ∷ w.rest
         → Dedups R t w u z → z.rest ≡ [] → IsDeduped R s v u z
     deduped-goes value u z p k h none =

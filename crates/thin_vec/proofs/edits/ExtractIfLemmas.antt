@@ -29,8 +29,8 @@ module _ {F T : Type 0} (R : F → T → Bool → F → T → Type 0) where
   picked-count s (x ∷ xs) item t kept rest e =
       answered e.0 (λ ks m. picked-count e.1 xs item t ks rest m) e.4
     where
-      -- if `picked-count` holds for the items xs, it holds for x followed by xs, whatever the
-      -- closure returned for x
+      -- if `picked-count` holds for the items after the first item, it holds for all items,
+      -- whatever the closure returned for the first item
       answered : (b : Bool)
           → ((ks : List T) → ExtractsNext R e.1 xs item t ks rest
           → length xs ≡ length ks + length (option_to_list item) + length rest)
@@ -116,7 +116,7 @@ module _ {F T : Type 0} (R : F → T → Bool → F → T → Type 0) where
       pub picked-room : m ≤ length ys
       picked-room = omega (arith, reached, ap length now, length-append h.left h.end)
 
-      -- what the closure extracted from the items after the run is what it extracted from all of xs
+      -- what the closure extracted from the items after the run is what it extracted from all items
       whole : (item : Option T) (rest : List T) → ExtractsNext R (of h.between) h.after item (of t)
           [] rest → ExtractsNext R (of s) xs item (of t) (take m ys) rest
       whole item rest e =

@@ -86,7 +86,7 @@ module _ {S T A : Type 0} {steps : S → Option T → S → Type 0} {can : S →
           p.1.capacity (omega (arith, filled-long, length-append v.front v.tail)) few p.1.alloc
 
       -- if a gap was opened in the list u, filled, and closed, with at most n further moves in all,
-      -- u and w satisfy `HasTaken` with n further moves
+      -- then u and the new list satisfy `HasTaken` with n further moves
       pub wide-taken : (u : Thin T A) (at count : ℕ) → IsWide v u at count → a ≡ u.alloc
           → p.1.cost.0 + (length u.items - at) ≤ n → HasTaken rule R u w n left
       wide-taken u at count wide from few =
@@ -124,8 +124,9 @@ module _ {S T A : Type 0} {steps : S → Option T → S → Type 0} {can : S →
       nearer = p.nearer;
     }
 
-    -- if the steps up to u satisfy `HasTaken` with m further moves, the steps from u on satisfy it
-    -- with n further moves, and m + n ≤ k, then all steps together satisfy it with k further moves
+    -- if the steps so far satisfy `HasTaken` with m further moves, the later steps, up to the list
+    -- w, satisfy it with n further moves, and m + n ≤ k, then all steps together satisfy it with k
+    -- further moves
     pub reached-taken : (rule : Rule) (R : RattleType) → KeepsLaw rule → (a : A) (w : Thin T A)
         (m n k : ℕ) → m + n ≤ k → HasTaken rule R (left_of v a) u m (remaining s)
         → HasTaken rule R u w n (remaining t) → HasTaken rule R (left_of v a) w k (remaining s)
@@ -136,8 +137,8 @@ module _ {S T A : Type 0} {steps : S → Option T → S → Type 0} {can : S →
         (λ fit same. omega (arith, fit, same, ap length p.items, long, left, p.nearer))
         before now
 
-    -- if u has the capacity of v, a capacity that satisfies `IsExtended` for the steps from u on
-    -- satisfies it for all steps
+    -- if the capacity has not changed so far, a capacity d that satisfies `IsExtended` for the
+    -- later steps satisfies it for all steps
     pub reached-extended : (rule : Rule) (R : RattleType) (a : A) (d n : ℕ)
         → u.capacity ≡ v.capacity → IsExtended rule R u d n (remaining t)
         → IsExtended rule R (left_of v a) d n (remaining s)
@@ -195,8 +196,8 @@ module _ {S T A : Type 0} {steps : S → Option T → S → Type 0} {can : S →
       cause = tt;
     }
 
-    -- if xs were placed before a tail, and the steps after that returned r, the whole `finish`
-    -- satisfies `IsFinished` with r
+    -- if the items xs were placed before a tail, and the later steps returned a result r, the whole
+    -- `finish` satisfies `IsFinished` with r
     pub finished-from : {t : S} {u : Thin T A} {xs : List T} {end : ℕ}
         (r : Result (Unit {0}) (SpliceRefused T S A))
         → IsReached steps can remaining v s u xs end t → 0 < length v.tail

@@ -50,8 +50,9 @@ module _ {T : Type 0} where
       (λ m. front m ++ past m) ∙ take-append-drop i xs
 
 module _ {T : Type 0} (xs : List T) (i j : ℕ) (order : i ≤ j) (within : j ≤ length xs) where
-  -- if w is xs with zs inserted at j and ys appended, then moving ys from the end of w into the
-  -- place of the items from i up to j makes xs with ys and zs in place of these items
+  -- if w is a list xs with zs inserted at an index j, and ys appended, then moving ys from the end
+  -- of w into the place of the items from an index i up to j makes xs with ys and zs in place of
+  -- these items
   pub brought-in : (ys zs : List T) {w : List T} {n : ℕ} → length ys ≡ n
       → w ≡ replace_range xs j j zs ++ ys
       → (take i w ++ drop (length w - n) w) ++ take (length w - n - j) (drop j w)
@@ -89,11 +90,11 @@ module _ {T : Type 0} (xs : List T) (i j : ℕ) (order : i ≤ j) (within : j �
 
 module _ {T A : Type 0} (h : Inside T A) (o : IsOpen h) (b : Block T A) (k : ℕ)
     (few : k ≤ length (open_of h).tail) (room : k ≤ (open_of h).gap) where
-  -- what a contract sees of h
+  -- what a contract sees of the open block before the move
   abbrev v : Open T A
   v = open_of h
 
-  -- the block b after the last k items of the tail were moved to the end of the front
+  -- the open block after the last items of its tail were moved to the end of its front
   abbrev pub brought : Inside T A
   brought = record {
     block = b;
@@ -104,7 +105,7 @@ module _ {T A : Type 0} (h : Inside T A) (o : IsOpen h) (b : Block T A) (k : ℕ
     len = h.len - k;
   }
 
-  -- what a contract sees of `brought`: the last k items of the tail are now the last items of the
+  -- what a contract sees of `brought`: the last items of the tail are now the last items of the
   -- front
   abbrev pub brought-seen : Open T A
   brought-seen = record {

@@ -12,8 +12,8 @@ use Rattle.thin_vec.proofs.list.InsertRemoveLemmas.{full-append}
 use Rattle.thin_vec.proofs.ListLemmas.{IsWritten, Settled, length-full, settle-front, thin-room}
 
 module _ {T : Type 0} where
-  -- if the first of c slots hold xs and the others are empty, writing ys into the first empty slots
-  -- appends ys to the items
+  -- if the first of c slots hold xs and the other slots are empty, writing ys into the first empty
+  -- slots appends ys to the items
   pub front-more : (xs ys : List T) (c : ℕ) → length xs + length ys ≤ c → laid (length xs) (full ys)
       (front xs c) ≡ front (xs ++ ys) c
   front-more xs ys c room =

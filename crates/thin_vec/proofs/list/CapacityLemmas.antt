@@ -35,8 +35,9 @@ module _ {T : Type 0} where
   front-none c = let same : c ≡ c - 0 = omega arith in ap (λ (m : ℕ). empty m) same
 
 module _ {T A : Type 0} {b : Block T A} {a : A} (t : IsThin b a) where
-  -- if the slots of a list's block became `front xs c`, where xs are its items, the block is that
-  -- of a list with the same items and the capacity c
+  -- if the slots of a list's block became c slots, the first of which hold the items of the list,
+  -- and the others of which are empty, then the new block b' is that of a list with the same items
+  -- and the capacity c
   settle-remade : (b' : Block T A) (c : ℕ) {s : List (Option T)} {k : Cost}
       → seen b' ≡ record (seen b) { slots = s; alloc = Some a; cost = k }
       → s ≡ front (items_in b.slots) c → length (items_in b.slots) ≤ c

@@ -76,8 +76,8 @@ module _ {T : Type 0} (clones : T → T → Type 0) where
       each [] e = refl
       each (y ∷ ys) e = λ i. equal y e.0 i ∷ each ys e.1 i
 
--- the capacity that a new list v gets for the length k is the ruled capacity of an empty block for
--- k items
+-- for a new list v that needs room to reach the length k, the rule chooses the same capacity as for
+-- k items and the old capacity 0
 pub capacity-new : {T A : Type 0} (rule : Rule) (R : RattleType) (v : Thin T A) (a : A) (k : ℕ)
     → IsNew v a → capacity_for rule R v (k - length v.items) ≡ ruled_capacity rule R 0 k
 capacity-new rule R v a k new =

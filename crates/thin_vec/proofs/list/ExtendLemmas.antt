@@ -72,7 +72,7 @@ module _ {S X : Type 0} (steps : S → Option X → S → Type 0) (s : S) where
   run_given xs o t P gave h =
       (run steps s (xs ++ option_to_list o) false (t, gave, λ e. absurd (false≢true e)), refl, h)
 
-  -- if the result r is an error, and calls of `next` yielded the placed items and then the item in
+  -- if a result is an error, and calls of `next` yielded the placed items and then the item in
   -- hand, if there is one, these calls are a run of the iterator (`SomeRun`)
   pub run_given_err : {E : Type 0} (can : S → Type 0) (remaining : S → Count)
       (hand : E → Option X) (rest : E → S) (P : List X → Type 0) (r : Result (Unit {0}) E)

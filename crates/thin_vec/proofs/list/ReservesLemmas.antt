@@ -86,9 +86,9 @@ module _ {T A : Type 0} (R : RattleType) (v : Thin T A) where
           overflow = (λ e. ok-err x CapacityOverflow e, λ none. absurd (none-some none named));
         }
 
-    -- Let S be a type for which the rule chooses the same capacity as for R, and let l equal k. If
-    -- v grew to u, so that v and u satisfy `Reserves`, and w has the capacity of u, then v and w
-    -- satisfy `Reserves` after a further step that fails only with `OutOfMemory`.
+    -- Let S be a type for which the rule chooses the same capacity as for the item type, and let l
+    -- equal k. If a list grew to u and satisfies `Reserves`, and w has the capacity of u, then w
+    -- satisfies `Reserves` after a further step that fails only with `OutOfMemory`.
     pub reserves-then : {X Y : Type 0} {x : X} (S : RattleType) (k l : ℕ) (u w : Thin T A)
         (r : Result Y ThinVecError) → l ≡ k
         → capacity_for rule S v l ≡ capacity_for rule R v k → w.capacity ≡ u.capacity
@@ -114,9 +114,10 @@ module _ {T A : Type 0} (R : RattleType) (v : Thin T A) where
           );
         }
 
-    -- Let S be a type for which the rule chooses the same capacity as for R, and let l equal k. If
-    -- a call for k items of R failed, satisfies `Reserves`, and did not change the list, then a
-    -- call for l items of S that failed with the same error satisfies `Reserves`.
+    -- Let S be a type for which the rule chooses the same capacity as for the item type, and let l
+    -- equal k. If a call for k items of the item type failed, satisfies `Reserves`, and did not
+    -- change the list, then a call for l items of S that failed with the same error satisfies
+    -- `Reserves`.
     pub reserves-failed : {X Y : Type 0} (S : RattleType) (k l : ℕ) (w : Thin T A)
         (cause : ThinVecError) → l ≡ k
         → capacity_for rule S v l ≡ capacity_for rule R v k

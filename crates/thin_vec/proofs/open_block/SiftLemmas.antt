@@ -46,11 +46,11 @@ module _ {T A : Type 0} where
 
   module _ (h : Inside T A) (o : IsOpen h) (b : Block T A) (k : ℕ)
       (low : k < length (open_of h).rest) where
-    -- what a contract sees of h
+    -- what a contract sees of the open block before the item was overwritten
     abbrev v : Open T A
     v = open_of h
 
-    -- the block after the item at index k of the middle run was overwritten
+    -- the open block after one item of its middle run was overwritten
     abbrev pub written : Inside T A
     written = record {
       block = b;
@@ -65,8 +65,8 @@ module _ {T A : Type 0} where
     abbrev pub written-seen : List T → Open T A
     written-seen ys = record v { rest = ys }
 
-    -- x was the item at index k of the middle run, and contracts see `written` as h with y in place
-    -- of x
+    -- x was the item that was overwritten, and contracts see `written` as the old open block with y
+    -- in place of x
     pub record Written (x y : T) : Type 0 where
       pub pre : List T
       pub post : List T
@@ -136,11 +136,12 @@ module _ {T A : Type 0} where
 
   -- context: the first k items of the middle run are moved to the end of the front
   module _ (h : Inside T A) (o : IsOpen h) (k : ℕ) (low : k ≤ length (open_of h).rest) where
-    -- what a contract sees of h
+    -- what a contract sees of the open block before the move
     abbrev u : Open T A
     u = open_of h
 
-    -- the block b after the first k items of the middle run were moved
+    -- `moved_run b` is the open block with the memory of b, after the first items of the middle run
+    -- became the last items of the front
     abbrev pub moved_run : Block T A → Inside T A
     moved_run b = record {
       block = b;
@@ -151,14 +152,14 @@ module _ {T A : Type 0} where
       len = h.len;
     }
 
-    -- what a contract sees of `moved_run b`: the first k items of the middle run are now the last
-    -- items of the front
+    -- `moved_run-seen b` is what a contract sees of `moved_run b`: the first items of the middle
+    -- run are now the last items of the front
     abbrev pub moved_run-seen : Block T A → Open T A
     moved_run-seen b = record u
         { front = u.front ++ take k u.rest; rest = drop k u.rest; cost = b.cost }
 
-    -- if the slots of b are the front, the first k items of the middle run, the gap, and the rest
-    -- of the slots, contracts see `moved_run b` as `moved_run-seen b`
+    -- if the slots of b are the front, the moved items, the gap, and the other slots, contracts see
+    -- `moved_run b` as `moved_run-seen b`
     moved_run-shows : (b : Block T A)
         → b.slots ≡ full u.front
         ++ (full (take k u.rest) ++ (empty u.gap ++ (full (drop k u.rest) ++ past_rest u)))
@@ -199,14 +200,13 @@ module _ {T A : Type 0} where
         (full-append (take k u.rest) (drop k u.rest)) ∙ append_assoc (full (take k u.rest))
         (full (drop k u.rest)) (past_rest u))
 
-    -- the slots of h are the front, the gap, the first k items of the middle run, and the rest of
-    -- the slots
+    -- the slots of h are the front, the gap, the items to be moved, and the other slots
     parted : h.block.slots ≡ full u.front
         ++ (empty u.gap ++ (full (take k u.rest) ++ (full (drop k u.rest) ++ past_rest u)))
     parted = o.row ∙ ap (λ (r : List (Option T)). full u.front ++ (empty u.gap ++ r)) cut
 
-    -- if there is no gap after the front, the first k items of the middle run join the front
-    -- without a move
+    -- if there is no gap after the front, the first items of the middle run join the front without
+    -- a move
     pub pass-step : u.gap ≡ 0 → Found (moved_run h.block) (moved_run-seen h.block)
     pass-step none =
         moved_run-shows h.block
@@ -216,8 +216,8 @@ module _ {T A : Type 0} where
         ++ (full (take k u.rest) ++ (empty n ++ (full (drop k u.rest) ++ past_rest u))))
         (sym none))) refl
 
-    -- if the slots of the first k items of the middle run were moved to the end of the front,
-    -- contracts see `moved_run b` as `moved_run-seen b`
+    -- if the first items of the middle run were moved to the end of the front, contracts see
+    -- `moved_run b` as `moved_run-seen b`
     pub move_run_down-step : (b : Block T A) {c : Cost}
         → seen b ≡ record (seen h.block)
         { slots = moved h.rest_start h.front_end k h.block.slots; cost = c }
@@ -231,7 +231,7 @@ module _ {T A : Type 0} where
         (full (drop k u.rest) ++ past_rest u) (sym (length-full u.front ∙ o.front))
         (sym o.gap) (sym few))) (ap (λ (z : Seen T A). z.alloc) now)
 
-  -- if the first item x of the middle run was taken out of its slot and written into the first slot
+  -- if the first item of the middle run was taken out of its slot and written into the first slot
   -- after the front, contracts see `moved_run b` for one item as `moved_run-seen b`
   pub move_one_down-step : (h : Inside T A) (o : IsOpen h) (some : 1 ≤ length (open_of h).rest)
       → 0 < (open_of h).gap → (b : Block T A) {x : T} {c : Cost}
