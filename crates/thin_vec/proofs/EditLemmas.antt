@@ -18,7 +18,7 @@ use Rattle.thin_vec.specs.declared.edits.holder.Holds.{Ghosts as HoldsGhosts}
 
 -- ---- `dedup_by` and `dedup_by_key`
 
--- R is the relation of the closure, as in specs/Edits/Dedup
+-- context: R is the relation of the closure, as in specs/Edits/Dedup
 module _ {S T : Type 0} (R : S → T → T → Bool → S → T → T → Type 0) where
   -- if each later item was compared with the last item kept before it, then ys are the kept items,
   -- as std's `DedupsFrom` defines them
@@ -48,8 +48,8 @@ module _ {S T : Type 0} (R : S → T → T → Bool → S → T → T → Type 0
   dedups_all [] s stays ys t h = h.1
   dedups_all (x ∷ xs) s stays ys t h = dedups_from xs s x stays ys t h
 
-  -- if `dedup_by` or `dedup_by_key` reduced v to w, the items satisfy `IsDeduped` of std, about
-  -- which the kit's `lemmas/Fn` has lemmas
+  -- if `dedup_by` or `dedup_by_key` reduced the list v to w, their items satisfy std's `IsDeduped`,
+  -- about which std's proofs have lemmas in `lemmas/Fn`
   pub deduped_deduped : {A : Type 0} (s : S) (v w : Thin T A) → IsDedupedBy R s v w
       → IsDeduped R s v.items w.items
   deduped_deduped s v w h =
@@ -67,13 +67,12 @@ module _ {S T : Type 0} (R : S → T → T → Bool → S → T → T → Type 0
 -- ---- `extract_if`
 
 module _ {T : Type 0} (test : T → Bool) where
-  -- the items for which the test is false
+  -- `others xs` are the items of xs for which the test is false
   abbrev pub others : List T → List T
   others xs = filter (λ x. not (test x)) xs
 
-  -- how one call of `next` divides the items xs that were not tested before: it extracts `item`,
-  -- which is `None` at the end, keeps the items `kept` in the list, and does not test the items
-  -- `rest`
+  -- one call of `next` divides the items xs that were not tested before: it extracts `item`, which
+  -- is `None` at the end, keeps the items `kept` in the list, and does not test the items `rest`
   pub record Parts (xs : List T) (item : Option T) (kept rest : List T) : Type 0 where
     pub gone : filter test xs ≡ option_to_list item ++ filter test rest
     pub stay : others xs ≡ kept ++ others rest
@@ -127,7 +126,7 @@ module _ {T : Type 0} (test : T → Bool) where
         part x xs item t e.1 e.2 kept rest e.0 answer.0 answer.1
         (λ ks n. parts e.1 xs item t ks rest n) e.4
 
--- `extract_if` with the default holder
+-- context: an `ExtractIf` with the default holder, and a test of items
 module _ {T F A G : Type 0} {g : Ghosts G}
     {h : HoldsGhosts (Holder (Extracting T F A)) (Extracting T F A)} (test : T → Bool) where
   -- the state of a loop that moves each item that an `ExtractIf` yields to the end of a sequence:

@@ -180,8 +180,8 @@ module _ {T A : Type 0} where
         ∙ ap (λ (k : ℕ). full v.tail ++ empty k) (sym some)))
         ∙ items-front v.tail (length v.tail + (v.capacity - reach v))
 
-    -- if h has the slots and the indices of v (`Shows`), and also its allocator and its cost,
-    -- contracts see h as v
+    -- if h has the slots and the indices (`Shows`), the allocator, and the cost of v, contracts see
+    -- h as v
     pub found : h.block.alloc ≡ v.alloc → h.block.cost ≡ v.cost → Found h v
     found alloc cost =
         let gap : h.rest_start - h.front_end ≡ v.gap = omega (arith, s.gap) in
@@ -545,7 +545,8 @@ module _ {T A : Type 0} where
   -- run
   module _ (b : Block T A) (a : A) (start end : ℕ) (t : IsThin b a) (order : start ≤ end)
       (within : end ≤ length (items_in b.slots)) where
-    -- the open block: the items from `start` up to `end` are its middle run, and it has no gap
+    -- `opened len` is the open block without a gap whose middle run is the items from `start` up to
+    -- `end`
     abbrev pub opened : ℕ → Inside T A
     opened len =
         record {

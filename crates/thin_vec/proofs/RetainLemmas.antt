@@ -31,7 +31,7 @@ moving-after gap k c some =
     ap (λ (b : Bool). if b then c else moving k c)
     (ne_eqb gap 0 (λ (e : gap ≡ 0). omega (arith, e)))
 
--- if there is no gap, k items stay in their slots, and cost nothing
+-- if there is no gap, k items stay in their slots, which costs no move
 pub moving-before : (gap k : ℕ) (c : Cost) → (0 < gap → ⊥)
     → (if gap == 0 then c else moving k c) ≡ c
 moving-before zero k c none = refl
@@ -597,14 +597,14 @@ module _ {S T : Type 0} (R : S → T → Bool → S → T → Type 0) where
           });
         }
 
--- a test of the type J contains a closure, and returns what the closure returns. `inside` is the
--- state of the closure.
+-- context: a test of the type J contains a closure, and returns what the closure returns; `inside`
+-- is the state of the closure
 module _ {J S T : Type 0} (R : S → T → Bool → S → T → Type 0) (inside : J → S) where
   -- the relation of the test, which is that of the closure
   abbrev through : J → T → Bool → J → T → Type 0
   through s x b t y = R (inside s) x b (inside t) y
 
-  -- if the test tested some items, its closure tested them, with the same verdicts
+  -- if the test tested the items xs, its closure tested them, with the same verdicts
   pub asked-through : (xs : List T) (s t : J) (a : Verdicts T) → Asked through s xs a t
       → Asked R (inside s) xs a (inside t)
   asked-through [] s t a h = (h.0, ap inside h.1)
@@ -627,7 +627,7 @@ module _ {J S T : Type 0} (R : S → T → Bool → S → T → Type 0) (inside 
 
 -- ---- for callers
 
--- a closure that only reads the item, with the relation R
+-- context: R is the relation of a closure that only reads the item
 module _ {S T : Type 0} (R : S → T → Bool → S → Type 0) where
   -- if a closure that only reads the items tested xs, there is one flag for each item, the closure
   -- returned the flags in turn, and the items left are those of xs whose flag is true
@@ -646,16 +646,16 @@ module _ {S T : Type 0} (R : S → T → Bool → S → Type 0) where
       let left : y ≡ x = ap (λ (p : Bool × T). p.1) same ∙ h.4.1 in
       (ap suc rest.0, (h.2, answer, rest.1), first b y x a xs left rest.2)
     where
-      -- if the items left of xs are those whose flag is true, then this holds also for x followed
-      -- by xs, if the test left x unchanged
+      -- if the items left of xs are those whose flag is true, and the test left x unchanged, then
+      -- the items left of x followed by xs are those whose flag is true
       first : (b : Bool) (y x : T) (a : Verdicts T) (xs : List T) → y ≡ x
           → left_at true a ≡ items_where_true (flags_of a) xs
           → left_at true ((b, y) ∷ a) ≡ items_where_true (b ∷ flags_of a) (x ∷ xs)
       first true y x a xs e f = λ i. e i ∷ f i
       first false y x a xs e f = f
 
-  -- if `retain` with a closure that only reads the items reduced v to w, the items satisfy
-  -- `IsFiltered` of std, about which the kit's `lemmas/Fn` has lemmas
+  -- if `retain` with a closure that only reads the items reduced the list v to w, their items
+  -- satisfy std's `IsFiltered`, about which std's proofs have lemmas in `lemmas/Fn`
   pub retained_filtered : {A : Type 0} (s : S) (v w : Thin T A) → IsRetained (Looks R) s v w
       → IsFiltered R s v.items w.items
   retained_filtered s v w h =

@@ -517,14 +517,14 @@ module _ {S T : Type 0} (R : OnPairs S T) where
           });
         }
 
--- a test of the type J contains a closure, and returns what the closure returns. `inside` is the
--- state of the closure.
+-- context: a test of the type J contains a closure, and returns what the closure returns; `inside`
+-- is the state of the closure
 module _ {J S T : Type 0} (R : OnPairs S T) (inside : J → S) where
   -- the relation of the test, which is that of the closure
   abbrev through : OnPairs J T
   through s x k b t y l = R (inside s) x k b (inside t) y l
 
-  -- if the test tested some items after the kept item k, its closure tested them, with the same
+  -- if the test tested the items xs after the kept item k, its closure tested them, with the same
   -- answers
   last-through : (xs : List T) (s t : J) (k : T) (f : List Bool) (ys : List T)
       → AskedLast through s k xs f ys t → AskedLast R (inside s) k xs f ys (inside t)
@@ -541,7 +541,7 @@ module _ {J S T : Type 0} (R : OnPairs S T) (inside : J → S) where
         (λ q. (q.0, last-through xs h.3 t h.1 h.4 q.0 q.1, q.2)) h.7,
   )
 
-  -- if the test tested some items, its closure tested them, with the same answers
+  -- if the test tested the items xs, its closure tested them, with the same answers
   pairs-through : (xs : List T) (s t : J) (f : List Bool) (ys : List T)
       → AskedPairs through s xs f ys t → AskedPairs R (inside s) xs f ys (inside t)
   pairs-through [] s t f ys h = (h.0, h.1, ap inside h.2)
@@ -561,8 +561,8 @@ module _ {J S T : Type 0} (R : OnPairs S T) (inside : J → S) where
     },
   )
 
--- if a stateless test E decides, the items that stay and the items that move are functions of the
--- items
+-- context: a stateless test E decides which items stay, so that the items that stay and the items
+-- that move are functions of the items
 module _ {S T : Type 0} (E : T → T → Bool) where
   -- if the items xs were tested after the kept item k, the flags are `unlike_from E k xs`, and the
   -- items kept are `dedup_from E k xs`

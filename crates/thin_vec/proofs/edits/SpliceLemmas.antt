@@ -69,8 +69,8 @@ closed-moves v w n paid none same count = go (eqb w.gap 0) refl
         false-true : false ≡ true → ⊥
         false-true h = cc
 
--- if n items were moved up before k items were placed (unless `count` is 0), and m items were moved
--- afterwards, at most n + m moves are made in addition to the k
+-- if n items were moved up (unless `count` is 0) before k items were placed, and m items were moved
+-- afterwards, then at most n + m moves are counted in addition to the k moves of the placed items
 pub run-moves : (count n k m : ℕ) (c d : Cost) → d ≡ (if eqb count 0 then c else moving n c)
     → (x : ℕ) × (moving (k + m) d ≡ moving (k + x) c) × (x ≤ n + m)
 run-moves count n k m c d e = go (eqb count 0) e

@@ -46,8 +46,8 @@ module _ {T A : Type 0} {b : Block T A} {a : A} (t : IsThin b a) where
       settled b' a (items_in b.slots) c (ap (λ v. v.slots) w ∙ e) (ap (λ v. v.len) w ∙ t.packed.len)
       room (λ x h. some-same (sym h ∙ ap (λ v. v.alloc) w))
 
-  -- after a growth to c slots that succeeded or failed, the block is that of a list with the same
-  -- items, and has at most c slots
+  -- whether a growth to c slots succeeded or failed, the new block b' is that of a list with the
+  -- same items, and has at most c slots
   pub settle-tried : {X E : Type 0} (r : Result X E) (b' : Block T A) (c : ℕ)
       → length b.slots < c
       → OnOk r (seen b' ≡ record (seen b) {
