@@ -198,7 +198,7 @@ module _ {T A : Type 0} where
   IsWritten b b' s n k = seen b' ≡ record (seen b) { slots = s; len = n; cost = k }
 
   -- if the slots of a list's block became `front xs c`, and the stored length became the length of
-  -- xs, the block is that of a list with the items xs and the capacity c
+  -- xs, the new block is that of a list with the items xs and the capacity c
   pub settle-front : {b : Block T A} {a : A} → IsThin b a → (b' : Block T A) (xs : List T) (c : ℕ)
       {s : List (Option T)} {n : ℕ} {k : Cost} → IsWritten b b' s n k → s ≡ front xs c
       → n ≡ length xs → length xs ≤ c → Settled b' a xs c
@@ -206,7 +206,7 @@ module _ {T A : Type 0} where
       (ap (λ v. v.len) w ∙ n) h (from-same b b' a t.from (ap (λ v. v.alloc) w))
 
   -- if v was written into the slot after the last item, and the stored length was incremented, the
-  -- block is that of the list with v appended
+  -- new block is that of the list with v appended
   pub settle-push : {b : Block T A} {a : A} → IsThin b a → (b' : Block T A) (v : T) (i : ℕ)
       {k : Cost} → i ≡ b.len → i < length b.slots
       → IsWritten b b' (set b.slots i (Some v)) (i + 1) k
@@ -240,8 +240,8 @@ module _ {T A : Type 0} where
       (drop_more xs j v l
       ∙ (ap (λ (r : List T). get_or xs j v ∷ r) z ∙ ap (λ (r : T). r ∷ []) (sym y)))
 
-  -- if the slot of the last item was emptied, and the stored length was decremented, the block is
-  -- that of the list without its last item
+  -- if the slot of the last item was emptied, and the stored length was decremented, the new block
+  -- is that of the list without its last item
   pub settle-pop : {b : Block T A} {a : A} → IsThin b a → (b' : Block T A) (v : T) (j : ℕ)
       {k : Cost} → j + 1 ≡ b.len → slot b.slots j ≡ Some v
       → IsWritten b b' (set b.slots j None) j k

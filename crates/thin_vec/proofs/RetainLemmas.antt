@@ -600,7 +600,7 @@ module _ {S T : Type 0} (R : S → T → Bool → S → T → Type 0) where
 -- context: a test of the type J contains a closure, and returns what the closure returns; `inside`
 -- is the state of the closure
 module _ {J S T : Type 0} (R : S → T → Bool → S → T → Type 0) (inside : J → S) where
-  -- the relation of the test, which is that of the closure
+  -- the relation of the test: it is the relation of the closure, for the states of the closure
   abbrev through : J → T → Bool → J → T → Type 0
   through s x b t y = R (inside s) x b (inside t) y
 

@@ -205,7 +205,7 @@ module _ {T A : Type 0} where
     pub first-item : slot b.slots start ≡ Some v → xs ≡ v ∷ drop 1 xs
     first-item e = (first e).0
 
-    -- if the slot `start` held v and was emptied, the block is that of the iterator without its
+    -- if the slot `start` held v and was emptied, the new block is that of the iterator without its
     -- first item
     pub settle-first : slot b.slots start ≡ Some v
         → seen b' ≡ record (seen b) { slots = set b.slots start None }
@@ -242,7 +242,8 @@ module _ {T A : Type 0} where
         let same : get_or xs (end - 1 - start) v ≡ v = cc in
         whole ∙ ap (λ (x : T). most ++ x ∷ []) same
 
-    -- if the slot `end - 1` was emptied, the block is that of the iterator without its last item
+    -- if the slot `end - 1` was emptied, the new block is that of the iterator without its last
+    -- item
     pub settle-last : seen b' ≡ record (seen b) { slots = set b.slots (end - 1) None }
         → Walking b' a most start (end - 1) (length b.slots)
     settle-last w =

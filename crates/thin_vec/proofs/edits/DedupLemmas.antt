@@ -137,7 +137,7 @@ module _ {S T : Type 0} (R : OnPairs S T) where
     pub kept : suc (length pre) ≡ m
     pub now : ys ≡ pre ++ last ∷ after
 
-  -- before the first test, only the first item stays
+  -- before the first test, `PairStays` holds for the first item alone, if there is one
   pub pair-start : (s : S) (xs : List T) → 0 < length xs → PairStays 1 s xs s xs
   pair-start s [] some = absurd (omega arith)
   pair-start s (x ∷ xs) some =
@@ -520,7 +520,7 @@ module _ {S T : Type 0} (R : OnPairs S T) where
 -- context: a test of the type J contains a closure, and returns what the closure returns; `inside`
 -- is the state of the closure
 module _ {J S T : Type 0} (R : OnPairs S T) (inside : J → S) where
-  -- the relation of the test, which is that of the closure
+  -- the relation of the test: it is the relation of the closure, for the states of the closure
   abbrev through : OnPairs J T
   through s x k b t y l = R (inside s) x k b (inside t) y l
 

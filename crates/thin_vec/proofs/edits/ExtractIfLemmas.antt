@@ -43,8 +43,8 @@ module _ {F T : Type 0} (R : F → T → Bool → F → T → Type 0) where
       answered false more m = omega (arith, more m.0 m.1, ap length m.2)
 
   module _ {S : Type 0} (of : S → F) where
-    -- the relation of a test that keeps exactly the items which the closure does not extract. `of`
-    -- is the state of the closure.
+    -- The relation of a test that keeps exactly the items which the closure does not extract. `of
+    -- s` is the state of the closure in the state s of the test.
     abbrev J : S → T → Bool → S → T → Type 0
     J s x b t y = R (of s) x (not b) (of t) y
 

@@ -107,7 +107,7 @@ module _ {S T A : Type 0} {steps : S → Option T → S → Type 0} {can : S →
 
   module _ {v : Open T A} {s t : S} {u : Thin T A} {xs : List T} {end : ℕ}
       (p : IsReached steps can remaining v s u xs end t) where
-    -- the length of u is `end` plus the length of the tail
+    -- the length of the list u is `end` plus the length of the tail
     pub reached-long : length u.items ≡ end + length v.tail
     reached-long = omega (arith, ap length p.items, between-length v xs, p.ends)
 
@@ -177,8 +177,8 @@ module _ {S T A : Type 0} {steps : S → Option T → S → Type 0} {can : S →
         }
 
   module _ {rule : Rule} {R : RattleType} (v : Open T A) (a : A) (s : S) (w : Thin T A) where
-    -- if the list has all items that the iterator yielded, a `finish` that returned `Ok` satisfies
-    -- `IsFinished`
+    -- if all items that the iterator yields were placed, and the list satisfies `HasTaken` and
+    -- `IsExtended`, then a `finish` that returned `Ok` satisfies `IsFinished`
     pub finished-ok : (x : Unit {0})
         → (xs : List T) × Drains steps s xs × (w.items ≡ with_between v xs)
         → HasTaken rule R (left_of v a) w (2 * length v.tail) (remaining s)

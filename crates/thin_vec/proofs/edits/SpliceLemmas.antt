@@ -98,8 +98,8 @@ module _ {S X : Type 0} (steps : S → Option X → S → Type 0) where
     now.2,
   )
 
-  -- if calls of `next` yielded xs and then returned o, and o is `Some x`, they yielded xs followed
-  -- by x
+  -- if calls of `next` yielded xs and then returned o, and o is `Some x`, these calls yielded xs
+  -- followed by x
   pub yields-drawn : (s u : S) (xs : List X) (o : Option X) (x : X) → o ≡ Some x
       → YieldsThen steps s xs o u → Yields steps s (xs ++ x ∷ []) u
   yields-drawn s u xs o x is all =
@@ -189,7 +189,7 @@ module _ {S X A : Type 0} (steps : S → Option X → S → Type 0) (can : S →
         (now.2.0, yields-join steps s t now.2.0 xs error.held.items before now.2.1, now.2.2),
       )
 
-  -- if nothing is held, calls that yielded the placed items and then the item in hand, if there is
+  -- if no item is held, calls that yielded the placed items and then the item in hand, if there is
   -- one, satisfy `Stopped`
   pub stopped-now : (s : S) (xs : List X) (error : SpliceRefused X S A) → error.held.items ≡ []
       → PausedAfter steps can remaining s (xs ++ option_to_list error.in_hand) error.rest

@@ -69,8 +69,8 @@ module _ {T A : Type 0} {b : Block T A} {a : A} (t : IsThin b a) where
     omega (arith, ap (λ (q : Block T A). length q.slots) same),
   )
 
-  -- after the block of a list shrank to its first k slots, and these hold all items, the block is
-  -- that of a list with the same items and the capacity k
+  -- after the block of a list shrank to its first k slots, and these hold all items, the new block
+  -- is that of a list with the same items and the capacity k
   pub settle-shrink : (b' : Block T A) (k : ℕ) {m : Cost} → length (items_in b.slots) ≤ k
       → k ≤ length b.slots
       → seen b' ≡ record (seen b) { slots = take k b.slots; alloc = Some a; cost = m }

@@ -93,7 +93,7 @@ module _ {T : Type 0} where
 
 module _ {T A : Type 0} {b : Block T A} {a : A} (t : IsThin b a) where
   -- if the slot of the item at i was emptied, the later items were moved down by one slot, and the
-  -- stored length was decremented, the block is that of the list without this item
+  -- stored length was decremented, the new block is that of the list without this item
   pub settle-remove : (b' : Block T A) (i : ℕ) {j k : ℕ} → i < length (items_in b.slots)
       → j ≡ i + 1 → k ≡ b.len - j → {l : ℕ} {m : Cost} → l ≡ b.len
       → IsWritten b b' (moved j i k (set b.slots i None)) (l - 1) m
@@ -107,7 +107,7 @@ module _ {T A : Type 0} {b : Block T A} {a : A} (t : IsThin b a) where
       (omega (arith, thin-room b a t, length-remove xs i h))
 
   -- if the items from i on were moved up by one slot, v was written into the slot i, and the stored
-  -- length was incremented, the block is that of the list with v inserted at i
+  -- length was incremented, the new block is that of the list with v inserted at i
   pub settle-insert : (b' : Block T A) (i : ℕ) (v : T) {j k : ℕ} → i ≤ length (items_in b.slots)
       → b.len < length b.slots → j ≡ i + 1 → k ≡ b.len - i → {l : ℕ} {m : Cost} → l ≡ b.len
       → IsWritten b b' (set (moved i j k b.slots) i (Some v)) (l + 1) m
@@ -194,7 +194,7 @@ module _ {T : Type 0} where
         ∙ sym (append_assoc (full (take k xs)) (empty (i - k))
         (Some r.0 ∷ (full (drop (i + 1) xs) ++ empty (c - length xs))))
 
-    -- the next slot to be emptied, i, is filled
+    -- the next slot to be emptied, the slot i, is filled
     pub emptying-filled : IsSome (slot (emptying xs k i c) i)
     emptying-filled = rw (ap (λ (s : List (Option T)). slot s i) split
         ∙ get_or_at pre (Some (item-at xs i bound).0) post None i length-pre) refl
@@ -258,7 +258,7 @@ module _ {T : Type 0} where
       ∙ ap (λ (l : List T). front l c) (sym cut))))
 
 module _ {T A : Type 0} where
-  -- if all slots were emptied, and the stored length is 0, the block is that of a list with no
+  -- if all slots were emptied, and the stored length is 0, the new block is that of a list with no
   -- items and the same capacity
   pub settle-emptied : {b : Block T A} {a : A} → IsThin b a → (b' : Block T A)
       {s : List (Option T)} {m : Cost} → IsWritten b b' s 0 m → s ≡ empty (length b.slots)
@@ -268,8 +268,8 @@ module _ {T A : Type 0} where
 
   module _ {b : Block T A} {a : A} (t : IsThin b a) (b' : Block T A) (i last : ℕ) where
     -- if the item at i, which is not the last, and the last item were taken out, the last one was
-    -- written into the slot i, and the stored length was decremented, the block is that of the list
-    -- after `swap_remove`
+    -- written into the slot i, and the stored length was decremented, the new block is that of the
+    -- list after `swap_remove`
     settle-swap_remove : (v : T) {m : T} → i < last → last + 1 ≡ b.len → slot b.slots last ≡ Some m
         → {k : Cost} → IsWritten b b' (set (set (set b.slots i None) last None) i (Some m)) last k
         → Settled b' a (swap_remove (items_in b.slots) i v) (length b.slots)
@@ -309,7 +309,7 @@ module _ {T A : Type 0} where
             )
 
     -- if the content of the last filled slot was moved into the slot i, which may be the same slot,
-    -- and the stored length was decremented, the block is that of the list after `swap_remove`
+    -- and the stored length was decremented, the new block is that of the list after `swap_remove`
     pub settle-replaced : (v : T) → i ≤ last → last + 1 ≡ b.len → slot b.slots i ≡ Some v
         → {k : Cost} → IsWritten b b' (set (set b.slots i (slot b.slots last)) last None) last k
         → Settled b' a (swap_remove (items_in b.slots) i v) (length b.slots)
