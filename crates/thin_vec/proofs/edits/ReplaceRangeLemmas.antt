@@ -254,7 +254,8 @@ at-most-le {n} {m} {c} {d} h le = record {
   cost = h.cost;
 }
 
--- if no moves or n moves lead from one cost to another, at most n moves do
+-- if either no moves or n moves lead from one cost to another, then at most n moves lead from the
+-- one to the other
 pub at-most-if : (b : Bool) (n : ℕ) (c d : Cost) → d ≡ (if b then c else moving n c)
     → MovesAtMost n c d
 at-most-if true n c d is = record { moves = 0; few = omega arith; cost = is ∙ moving-zero c }

@@ -45,8 +45,8 @@ pub all-repeated : {T : Type 0} (clones : T → T → Type 0) (x : T) (n m : ℕ
     → AllZip clones (take n (replicate m x)) ys → All (clones x) ys
 all-repeated {T} clones x n m ys cloned = All-from_recursion (clones x) ys (each n m ys cloned)
   where
-    -- if ys are clones of the first n of m repetitions of x, each of ys is a clone of x, as a
-    -- statement by recursion over ys
+    -- if ys are clones of the first n of m repetitions of x, each of ys is a clone of x, stated by
+    -- recursion over ys
     each : (n m : ℕ) (ys : List T) → AllZip clones (take n (replicate m x)) ys
         → AllByRecursion (clones x) ys
     each zero m [] e = tt

@@ -11,7 +11,7 @@ use Rattle.thin_vec.specs.Cheap.{IsCheap}
 use Rattle.thin_vec.specs.List.Capacity.{Keeps, Reserves, TellsOverflow, TellsOverflowOf}
 use Rattle.thin_vec.specs.ThinVec.{HasRoomFor, IsWithin, Thin, capacity_for}
 
--- if a capacity was chosen, a call that returned `Ok` satisfies `TellsOverflow`
+-- if a capacity was chosen, the result `Ok` of a call satisfies `TellsOverflow`
 pub tells-ok : {X : Type 0} (x : X) (named : Option ℕ) (n : ℕ) → named ≡ Some n
     → TellsOverflow named (Ok x)
 tells-ok x named n is = record {
@@ -72,7 +72,7 @@ module _ {T A : Type 0} (R : RattleType) (v : Thin T A) where
   }
 
   module _ (rule : Rule) where
-    -- if v has room for k more items and the capacity does not change, a call that succeeded
+    -- if v has room for k more items, and its capacity does not change, the result `Ok` of a call
     -- satisfies `Reserves`
     pub reserves-room : {X : Type 0} {x : X} (k : ℕ) (w : Thin T A) → HasRoomFor v k
         → w.capacity ≡ v.capacity → Reserves rule R k v w (Ok x)
