@@ -18,7 +18,7 @@ use Rattle.thin_vec.specs.declared.edits.holder.Holds.{Ghosts as HoldsGhosts}
 
 -- ---- `dedup_by` and `dedup_by_key`
 
--- context: R is the relation of the closure, as in specs/Edits/Dedup
+-- in this module, R is the relation of the closure, as in specs/Edits/Dedup
 module _ {S T : Type 0} (R : S → T → T → Bool → S → T → T → Type 0) where
   -- if each later item was compared with the last item kept before it, then ys are the kept items,
   -- as std's `DedupsFrom` defines them
@@ -126,7 +126,7 @@ module _ {T : Type 0} (test : T → Bool) where
         part x xs item t e.1 e.2 kept rest e.0 answer.0 answer.1
         (λ ks n. parts e.1 xs item t ks rest n) e.4
 
--- context: an `ExtractIf` with the default holder, and a test of items
+-- in this module, `test` is a test of items, and each `ExtractIf` has the default holder
 module _ {T F A G : Type 0} {g : Ghosts G}
     {h : HoldsGhosts (Holder (Extracting T F A)) (Extracting T F A)} (test : T → Bool) where
   -- the state of a loop that moves each item that an `ExtractIf` yields to the end of a sequence:

@@ -389,8 +389,8 @@ module _ {T A : Type 0} where
               (ap (λ (z : Seen T A). z.cost) now),
         )
 
-  -- context: an open block h, whose two gaps are one gap between the front and the tail if the
-  -- middle run is empty
+  -- in this module, the two gaps of an open block h are taken as one gap between the front and the
+  -- tail, if the middle run is empty
   module _ (h : Inside T A) (o : IsOpen h) where
     -- the open block with both gaps taken as one gap after the front
     abbrev pub joined : Inside T A
@@ -541,8 +541,8 @@ module _ {T A : Type 0} where
         ∙ (ap (λ (r : List (Option T)). r ++ past_tail w) (sym (full-append w.front all-after))
         ∙ ap (λ (k : ℕ). full (items_of w) ++ empty k) left)))
 
-  -- context: the block b of a list is opened, and the items from `start` up to `end` are its middle
-  -- run
+  -- in this module, the block b of a list is opened, and the items from `start` up to `end` are its
+  -- middle run
   module _ (b : Block T A) (a : A) (start end : ℕ) (t : IsThin b a) (order : start ≤ end)
       (within : end ≤ length (items_in b.slots)) where
     -- `opened len` is the open block without a gap whose middle run is the items from `start` up to
@@ -606,8 +606,8 @@ module _ {T A : Type 0} where
               omega (arith, all, thin-room b a t);
         }) refl refl
 
-  -- context: the items xs are written into the gap after the front; `end` is the index of the slot
-  -- after the last of these items
+  -- in this module, the items xs are written into the gap after the front; `end` is the index of
+  -- the slot after the last of these items
   module _ (h : Inside T A) (o : IsOpen h) (b : Block T A) (xs : List T) (end : ℕ)
       (ends : end ≡ h.front_end + length xs) (fits : end ≤ h.rest_start) where
     -- the open block after the new items were written into the gap
@@ -682,8 +682,8 @@ module _ {T A : Type 0} where
         } in
         found filled filled-seen shows refl refl
 
-  -- context: the tail is moved up by `count` slots, and there are at least `count` empty slots
-  -- after it
+  -- in this module, the tail is moved up by `count` slots, and there are at least `count` empty
+  -- slots after it
   module _ (h : Inside T A) (o : IsOpen h) (b : Block T A) (count : ℕ)
       (room : h.len + count ≤ (open_of h).capacity) where
     -- the block after the tail was moved

@@ -94,8 +94,8 @@ module _ {T : Type 0} where
   moved_down-stay (x ∷ xs) a = moved_down-stay xs a
 
 module _ {S T : Type 0} (R : S → T → Bool → S → T → Type 0) where
-  -- context: the items ys were tested, starting in the state t and ending in the state u, with the
-  -- verdicts b
+  -- in this module, the items ys were tested, starting in the state t and ending in the state u,
+  -- with the verdicts b
   module _ (t u : S) (ys : List T) (b : Verdicts T) (k : Asked R t ys b u) where
     -- if the items xs were tested from the state s to the state t, and then other items from t on,
     -- then xs followed by the other items were tested from s on
@@ -448,8 +448,8 @@ module _ {S T : Type 0} (R : S → T → Bool → S → T → Type 0) where
           });
         }
 
-  -- context: the items of the middle run of v were tested up to the first that does not stay, or to
-  -- the end, and there is a gap before the middle run
+  -- in this module, the items of the middle run of v were tested up to the first that does not
+  -- stay, or to the end, and there is a gap before the middle run
   module _ {A : Type 0} (s t : S) (v w : Open T A) (gap : 0 < v.gap)
       (h : Advances R s v t w) where
     -- the tested items that stay, as the tests left them
@@ -597,8 +597,8 @@ module _ {S T : Type 0} (R : S → T → Bool → S → T → Type 0) where
           });
         }
 
--- context: a test of the type J contains a closure, and returns what the closure returns; `inside`
--- is the state of the closure
+-- in this module, a test of the type J contains a closure, and returns what the closure returns;
+-- `inside` gives the state of the closure
 module _ {J S T : Type 0} (R : S → T → Bool → S → T → Type 0) (inside : J → S) where
   -- the relation of the test: it is the relation of the closure, for the states of the closure
   abbrev through : J → T → Bool → J → T → Type 0
@@ -627,7 +627,7 @@ module _ {J S T : Type 0} (R : S → T → Bool → S → T → Type 0) (inside 
 
 -- ---- for callers
 
--- context: R is the relation of a closure that only reads the item
+-- in this module, R is the relation of a closure that only reads the item
 module _ {S T : Type 0} (R : S → T → Bool → S → Type 0) where
   -- if a closure that only reads the items tested xs, there is one flag for each item, the closure
   -- returned the flags in turn, and the items left are those of xs whose flag is true

@@ -76,7 +76,7 @@ module _ {T A : Type 0} (R : RattleType) (w : Thin T A) where
         fits = subst (Fits R) (sym same) kept.fits;
       }
 
--- context: the capacity of the list v becomes c
+-- in this module, the capacity of the list v becomes c
 module _ {T A : Type 0} (v : Thin T A) (c : ℕ) where
   -- the cost does not change if the capacity does not
   pub cost_at-same : c ≡ v.capacity → cost_at v c ≡ v.cost

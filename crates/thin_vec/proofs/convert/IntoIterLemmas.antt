@@ -292,7 +292,7 @@ module _ {T A : Type 0} where
       ∙ (replicate-append-replicate start (length b.slots - end) None
       ∙ ap (λ (n : ℕ). empty n) all))
 
--- context: the item type T and the allocator type A of an `IntoIter`
+-- in this module, T is the item type and A the allocator type of an `IntoIter`
 module _ (T A : Type 0) where
   -- repeated calls of `next` yield the items not yet yielded, in order
   pub rest_in_order : RestInOrder T A

@@ -88,8 +88,8 @@ module _ {S T : Type 0} (R : OnPairs S T) where
       → AskedLast R s k (x ∷ []) (true ∷ []) (k' ∷ x' ∷ []) t
   last-stays s t k x x' k' h = (false, x', k', t, [], h, refl, (x' ∷ [], (refl, refl, refl), refl))
 
-  -- context: the items zs were tested, starting in the state t and ending in the state u, and l was
-  -- the last item kept before them
+  -- in this module, the items zs were tested, starting in the state t and ending in the state u,
+  -- and l was the last item kept before them
   module _ (t u : S) (l : T) (g : List Bool) (ws zs : List T) (m : AskedLast R t l zs g ws u) where
     -- if the items xs were tested from the state s on, and further items were then tested against
     -- the last item kept, then xs followed by these items were tested from s on
@@ -517,8 +517,8 @@ module _ {S T : Type 0} (R : OnPairs S T) where
           });
         }
 
--- context: a test of the type J contains a closure, and returns what the closure returns; `inside`
--- is the state of the closure
+-- in this module, a test of the type J contains a closure, and returns what the closure returns;
+-- `inside` gives the state of the closure
 module _ {J S T : Type 0} (R : OnPairs S T) (inside : J → S) where
   -- the relation of the test: it is the relation of the closure, for the states of the closure
   abbrev through : OnPairs J T
@@ -561,8 +561,8 @@ module _ {J S T : Type 0} (R : OnPairs S T) (inside : J → S) where
     },
   )
 
--- context: a stateless test E decides which items stay, so that the items that stay and the items
--- that move are functions of the items
+-- in this module, a stateless test E decides which items stay, so that the items that stay and the
+-- items that move are functions of the items
 module _ {S T : Type 0} (E : T → T → Bool) where
   -- if the items xs were tested after the kept item k, the flags are `unlike_from E k xs`, and the
   -- items kept are `dedup_from E k xs`

@@ -48,8 +48,8 @@ module _ {F T : Type 0} (R : F → T → Bool → F → T → Type 0) where
     abbrev J : S → T → Bool → S → T → Type 0
     J s x b t y = R (of s) x (not b) (of t) y
 
-    -- context: the closure, from the state `between` on, keeps none of the items `after`: either it
-    -- extracts the first of these items, or there are none
+    -- in this module, the closure keeps none of the items `after`, if it begins in the state
+    -- `between`: either it extracts the first of these items, or there are none
     module _ (between : S) (after : List T) (item : Option T) (t : F) (rest : List T)
         (e : ExtractsNext R (of between) after item t [] rest) where
       -- if a run of items was tested before, and all of them stay, the closure kept this run, and

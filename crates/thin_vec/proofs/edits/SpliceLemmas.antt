@@ -205,8 +205,8 @@ module _ {S X A : Type 0} (steps : S → Option X → S → Type 0) (can : S →
         λ _. none,
       )
 
--- context: a `finish` that failed with the error `error`; v is the list after the failure, and
--- `left` bounds the rest of the iterator
+-- in this module, `error` is the error of a `finish` that failed, v is the list after the failure,
+-- and `left` bounds the rest of the iterator
 module _ {S T A : Type 0} (rule : Rule) (R : RattleType) (v : Thin T A) (tail : List T)
     (left : Count) (error : SpliceRefused T S A) where
   -- if there is a tail, and no item is held or in hand, the cause of the failure follows from the
@@ -310,7 +310,7 @@ module _ {T A : Type 0} where
       ∙ (ap (λ l. l ++ xs) (append-nil v.front)
       ∙ (sym (append-nil (v.front ++ xs)) ∙ (λ i. (v.front ++ xs) ++ sym none i)))
 
--- context: the growth rule and the item type, for the steps of `finish`
+-- in this module, the steps of `finish` work on lists of items of R, under the growth rule `rule`
 module _ (rule : Rule) (R : RattleType) {T A : Type 0} where
   -- if k items were placed into spare capacity, with k + m moves, and m ≤ n, then v and w satisfy
   -- `HasTaken` with n further moves

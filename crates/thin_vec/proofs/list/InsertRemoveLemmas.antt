@@ -41,7 +41,8 @@ module _ {T : Type 0} where
       (replicate-append-replicate 1 (c - length xs) None
       ∙ ap (λ (z : ℕ). replicate z None) m))))
 
-  -- context: the items of xs from index i on move up by one slot, to make room for one item at i
+  -- in this module, the items of xs from index i on move up by one slot, to make room for one item
+  -- at i
   module _ (xs : List T) (c i : ℕ) {j k : ℕ} (h : i ≤ length xs) (l : length xs < c) (e : j ≡ i + 1)
       (n : k ≡ length xs - i) where
     -- the slots after the empty slot i, once the items from index i on have moved up

@@ -54,8 +54,8 @@ module _ {T : Type 0} where
       let h = neighbours s i k x k' x' e in
       record { first = h.first; second = h.second; now = ap (λ (r : List (Option T)). p ∷ r) h.now }
 
-  -- context: the slice `all` of the two items from the slot i on is cut into two slices of one item
-  -- each, `a` and `b`
+  -- in this module, the slice `all` of the two items from the slot i on is cut into two slices of
+  -- one item each, `a` and `b`
   module _ (s : List (Option T)) (i : ℕ) (all a b : List T) (within : i + 2 ≤ length s)
       (lent : full all ≡ slice_range s i (i + 2)) (cut : all ≡ a ++ b) (one : length a ≡ 1) where
     -- if the item of `a` is k and that of `b` is x, then `Neighbours` holds, and writing k' into

@@ -134,7 +134,7 @@ module _ {T A : Type 0} where
               (ap (λ (z : Seen T A). z.cost) now);
         }
 
-  -- context: the first k items of the middle run are moved to the end of the front
+  -- in this module, the first k items of the middle run are moved to the end of the front
   module _ (h : Inside T A) (o : IsOpen h) (k : ℕ) (low : k ≤ length (open_of h).rest) where
     -- what a contract sees of the open block before the move
     abbrev u : Open T A
