@@ -1,4 +1,4 @@
--- What a list contains after a borrow of its items was written to.
+-- Lemmas about what a list contains after its items were written to through a borrow.
 use Rattle.std.proofs.Common.{◌≡◌, ℕ, zero, suc, ◌-◌, ◌<◌, List, [], ◌∷◌, ◌++◌, length, Some, ap, arith, refl, sym, ◌∙◌}
 use Rattle.std.proofs.Math.Seq.{take-length}
 use lib.ListN.{set, length-set}

@@ -1,5 +1,5 @@
--- What a contract sees of an open block after each step on it. Throughout, h is an open block as it
--- is stored: its memory, and the indices where its runs begin and end.
+-- Lemmas about what a contract sees of an open block after each step on it. Throughout, h is an
+-- open block as it is stored: the block itself, and the indices where its parts begin and end.
 use Rattle.std.proofs.Common.{◌≡◌, ℕ, suc, ◌+◌, ◌-◌, ◌<◌, ◌≤◌, List, [], ◌∷◌, ◌++◌, Option, Some, None, length, take, drop, refl, sym, ap, ◌∙◌, subst, arith, length-append, append_assoc}
 use Rattle.std.proofs.lemmas.List.{drop_at, get_or-append_right, get_or-replicate, get_or_append_left, get_or_at, length-drop, length-take, length-take-le, length_push, map_push, replicate-append-replicate, set_at, take_at}
 use Rattle.std.proofs.lemmas.List.Edits.{split_between}

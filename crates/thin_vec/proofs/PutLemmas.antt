@@ -1,5 +1,5 @@
--- The number of items after slots were filled from an iterator, and the slots of a block while the
--- items of a `Vec` are moved into them, from the last item to the first.
+-- Lemmas about the number of items after slots were filled from an iterator, and about the slots of
+-- a block while the items of a `Vec` are moved into them, from the last item to the first.
 use Rattle.std.proofs.Common.{◌≡◌, ℕ, ◌+◌, ◌<◌, ◌≤◌, List, [], ◌∷◌, ◌++◌, length, take, drop, Option, Some, None, sym, ap, ◌∙◌, append_assoc, arith, get_or, length-append}
 use Rattle.std.proofs.lemmas.List.{append-nil, length-take-le, length_push, set_at, take_more}
 use lib.ListN.{set}

@@ -1,6 +1,7 @@
--- Which items stay after a closure tested them, and how the results of consecutive tests combine.
--- Throughout, R is the relation of the closure (as in specs/Edits/Retain), and s, t and u are
--- states of the closure. An item is tested when the closure is called with it.
+-- Lemmas about which items stay after a closure tested them, and about how the results of
+-- consecutive tests combine. Throughout, R is the relation of the closure (as in
+-- specs/Edits/Retain), and s, t and u are states of the closure. An item is tested when the closure
+-- is called with it.
 use Rattle.std.proofs.Common.{◌≡◌, ℕ, zero, suc, ◌+◌, ◌<◌, ◌≤◌, Bool, true, false, List, [], ◌∷◌, ◌++◌, length, take, drop, refl, sym, ap, subst, ◌∙◌, arith, length-append, append_assoc}
 use Rattle.std.proofs.lemmas.Bool.{ne_eqb}
 use Rattle.std.proofs.lemmas.List.{append-nil, drop_at, length-drop, length-take-le, map-append, map_push, nil_from_length, take-append-drop, take_at}

@@ -1,5 +1,6 @@
--- What the block of an `IntoIter` contains after each step, and what the iterator yields. The items
--- not yet yielded are in the slots from `start` up to `end`; all other slots are empty.
+-- Lemmas about what the block of an `IntoIter` contains after each step, and about what the
+-- iterator yields. The items not yet yielded are in the slots from `start` up to `end`; all other
+-- slots are empty.
 use Rattle.std.proofs.Common.{◌≡◌, ℕ, zero, suc, ◌+◌, ◌-◌, ◌<◌, ◌≤◌, List, [], ◌∷◌, ◌++◌, Option, Some, None, length, take, drop, refl, sym, ap, ◌∙◌, arith, get_or, length-append, append_assoc}
 use Rattle.std.proofs.iter.runs.Sources.{as_is, as_is_back, from_back, from_front}
 use Rattle.std.proofs.lemmas.Grind.{take_at_read}

@@ -1,6 +1,6 @@
--- Which items stay after each was tested against the last item kept so far, and how the results of
--- consecutive tests combine. Throughout, R is the relation of the closure, and s, t and u are
--- states of the closure.
+-- Lemmas about which items stay after each was tested against the last item kept so far, and about
+-- how the results of consecutive tests combine. Throughout, R is the relation of the closure, and
+-- s, t and u are states of the closure.
 use Rattle.std.proofs.Common.{◌≡◌, ℕ, zero, suc, ◌+◌, ◌<◌, ◌≤◌, Bool, true, false, List, [], ◌∷◌, ◌++◌, length, take, drop, refl, sym, ap, subst, ◌∙◌, arith, inl, inr, append_assoc}
 use Rattle.std.proofs.lemmas.List.{append-nil, drop_at, length_push, replicate-append-replicate, take_at}
 use Rattle.std.specs.List.{dedup, dedup_from}

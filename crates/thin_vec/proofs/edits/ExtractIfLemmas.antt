@@ -1,5 +1,5 @@
--- Which item a closure extracts, if items are tested up to and including the first that it
--- extracts.
+-- Lemmas about which item a closure extracts, if items are tested up to and including the first
+-- that it extracts.
 use Rattle.std.proofs.Common.{◌≡◌, ℕ, ◌+◌, ◌≤◌, Bool, true, false, List, [], ◌∷◌, ◌++◌, Option, None, Some, length, take, drop, refl, sym, ap, subst, ◌∙◌, arith, length-append}
 use Rattle.std.proofs.lemmas.List.{drop_at, length-take-le, nil_from_length, take_at}
 use Rattle.std.specs.List.Retain.{ExtractsNext}

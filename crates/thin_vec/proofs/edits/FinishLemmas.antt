@@ -1,4 +1,5 @@
--- The steps by which `finish` fills the gap of a splice, and how they combine.
+-- Lemmas about the steps by which `finish` fills the gap of a splice, and about how these steps
+-- combine.
 use Rattle.std.proofs.Common.{if◌then◌else◌, inl, inr, Option, drop, take, subst, ◌≡◌, ℕ, ◌+◌, ◌-◌, ◌*◌, ◌<◌, ◌≤◌, true, false, eqb, List, [], ◌++◌, ap, arith, length, length-append, refl, sym, ◌∙◌}
 use Rattle.std.proofs.lemmas.List.{length-drop, length-take-le}
 use Rattle.std.specs.Borrow.{RattleType}

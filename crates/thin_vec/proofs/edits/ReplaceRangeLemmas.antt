@@ -1,5 +1,6 @@
--- What a list contains while the clones that are to replace a range are outside that range, and
--- what a contract sees of the open block after the clones were moved into the range.
+-- Lemmas about what a list contains while the clones that are to replace a range are outside that
+-- range, and about what a contract sees of the open block after the clones were moved into the
+-- range.
 use Rattle.std.proofs.Common.{if◌then◌else◌, inl, inr, eqb, min, Bool, true, false, ◌≡◌, ℕ, zero, suc, ◌+◌, ◌-◌, ◌≤◌, List, [], ◌∷◌, ◌++◌, None, Option, append_assoc, ap, arith, drop, length, length-append, refl, sym, take, ◌∙◌}
 use Rattle.std.proofs.lemmas.List.{drop_at, length-drop, length-take-le, replicate-append-replicate, take-append-drop, take-append-le, take_at}
 use Rattle.std.proofs.lemmas.Bool.{cases_lt}

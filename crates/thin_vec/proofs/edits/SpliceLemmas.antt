@@ -1,4 +1,5 @@
--- How many items a splice moves, what it costs, what its iterator yielded, and why `finish` failed.
+-- Lemmas about how many items a splice moves, what the splice costs, what its iterator yielded, and
+-- why `finish` failed.
 use Rattle.std.proofs.Common.{if◌then◌else◌, inl, inr, Option, Some, None, append_assoc, drop, take, subst, ◌≡◌, ℕ, ◌+◌, ◌-◌, ◌*◌, ◌^◌, ◌<◌, ◌≤◌, Bool, true, false, eqb, List, [], ◌∷◌, ◌++◌, ap, arith, length, length-append, refl, sym, ◌∙◌}
 use Rattle.std.proofs.lemmas.List.{append-nil, drop_at, length-drop, length-take-le, take_at}
 use Rattle.std.specs.Borrow.{RattleType}

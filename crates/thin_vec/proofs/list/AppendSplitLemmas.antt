@@ -1,5 +1,5 @@
--- What the blocks of two lists contain after the last items of one list were moved to the end of
--- the other.
+-- Lemmas about what the blocks of two lists contain after the last items of one list were moved to
+-- the end of the other.
 use Rattle.std.proofs.Common.{◌≡◌, ℕ, ◌+◌, ◌-◌, ◌≤◌, List, ◌++◌, length, take, drop, Option, None, sym, ap, ◌∙◌, arith, length-append, append_assoc}
 use Rattle.std.proofs.lemmas.List.{length-drop, length-replicate, length-take-le, take-append-drop, replicate-append-replicate}
 use Rattle.thin_block.specs.Cost.{Cost}

@@ -1,4 +1,5 @@
--- What a growth rule guarantees, and what the block of a list contains after its capacity changed.
+-- Lemmas about what a growth rule guarantees, and about what the block of a list contains after its
+-- capacity changed.
 use Rattle.std.proofs.Common.{◌≡◌, ℕ, ◌^◌, ◌<◌, ◌≤◌, Err, Ok, Result, Some, None, arith, refl, subst, sym, ◌-◌, List, [], ◌++◌, length, take, Option, ap, ◌∙◌}
 use Rattle.std.specs.Align.{type_align}
 use Rattle.std.specs.Borrow.{RattleType}

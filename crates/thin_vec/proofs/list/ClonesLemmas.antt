@@ -1,6 +1,6 @@
--- What a block contains while clones are put into its spare slots, and after the stored length
--- includes them; and the items of a range of a list, read after more items were appended to the
--- list.
+-- Lemmas about what a block contains while clones are put into its spare slots, and after the
+-- stored length includes these clones; and about the items of a range of a list, read after more
+-- items were appended to the list.
 use Rattle.std.proofs.Common.{◌≡◌, ◌+◌, ◌-◌, ◌<◌, ◌≤◌, [], ◌∷◌, ◌++◌, ◌∙◌, List, Option, Some, ap, append_assoc, arith, drop, get_or, length, refl, suc, sym, take, zero, ℕ}
 use Rattle.std.proofs.lemmas.List.{get_or-drop, get_or-take, get_or_append_left, length-drop, length-take-le, map_push, replicate-append-replicate}
 use Rattle.std.proofs.lemmas.List.Elements.{All-from_recursion, all_zip_more, length_all_zip, recursion_from_All}

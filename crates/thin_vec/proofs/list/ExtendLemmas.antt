@@ -1,5 +1,5 @@
--- What calls of `next` yielded, and what the block and the list contain after the yielded items
--- were placed.
+-- Lemmas about what calls of `next` yielded, and about what the block and the list contain after
+-- the yielded items were placed.
 use Rattle.std.proofs.Common.{true, ◌≡◌, ℕ, ◌+◌, ◌-◌, ◌<◌, ◌≤◌, List, [], ◌∷◌, ◌++◌, inl, inr, length, length-append, Option, None, Some, refl, sym, ap, subst, ◌∙◌, arith, false}
 use Rattle.std.proofs.lemmas.Bool.{cases_lt}
 use Rattle.std.proofs.lemmas.List.{map-append}

@@ -1,4 +1,4 @@
--- How `Keeps`, `Reserves` and `TellsOverflow` follow from the facts about a step.
+-- Lemmas about how `Keeps`, `Reserves` and `TellsOverflow` follow from the facts about a step.
 use Rattle.std.proofs.Common.{◌≡◌, ℕ, ◌+◌, Err, Ok, Option, Result, Some, ap, arith, inl, inr, length, sym, ◌∙◌}
 use Rattle.std.specs.Borrow.{RattleType}
 use Rattle.std.specs.Prelude.{IfErr}

@@ -1,5 +1,5 @@
--- What a contract sees of an open block after two of its items were tested against each other, step
--- by step.
+-- Lemmas about what a contract sees of an open block after two of its items were tested against
+-- each other, step by step.
 use Rattle.std.proofs.Common.{◌≡◌, ◌≢◌, ℕ, zero, suc, ◌+◌, ◌-◌, ◌<◌, ◌≤◌, List, [], ◌∷◌, ◌++◌, Option, Some, None, length, take, drop, refl, sym, ap, ◌∙◌, arith, length-append, append_assoc, get_or}
 use Rattle.std.proofs.lemmas.List.{drop_at, get_or_at, get_or-set_other, length-drop, length-take-le, length_push, set_at, take_at}
 use Rattle.std.specs.Prelude.{IsSome, slice_range}

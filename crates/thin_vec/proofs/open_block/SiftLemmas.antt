@@ -1,6 +1,6 @@
--- What a contract sees of an open block after an item of its middle run was tested, and after the
--- first items of its middle run were moved to the front. Throughout, h is an open block as it is
--- stored.
+-- Lemmas about what a contract sees of an open block after an item of its middle run was tested,
+-- and after the first items of its middle run were moved to the front. Throughout, h is an open
+-- block as it is stored.
 use Rattle.std.proofs.Common.{◌≡◌, ℕ, zero, suc, ◌+◌, ◌-◌, ◌<◌, ◌≤◌, List, [], ◌∷◌, ◌++◌, Option, Some, None, length, take, drop, refl, sym, ap, ◌∙◌, arith, length-append, append_assoc}
 use Rattle.std.proofs.lemmas.List.{get_or_at, length-drop, length-take-le, set_at, take-append-drop}
 use lib.ListN.{set}
