@@ -25,7 +25,7 @@ pub moving-none : (c : Cost) → moving 0 c ≡ c
 moving-none c = let e : c.moves + 0 ≡ c.moves = omega arith in
     λ i. record { blocks = c.blocks; grown = c.grown; moves = e i }
 
--- if there is a gap, moving k items over it costs k moves
+-- if there is a gap, moving k items over the gap costs k moves
 pub moving-after : (gap k : ℕ) (c : Cost) → 0 < gap
     → (if gap == 0 then c else moving k c) ≡ moving k c
 moving-after gap k c some =
