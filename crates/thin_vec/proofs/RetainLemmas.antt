@@ -333,8 +333,9 @@ module _ {S T : Type 0} (R : S → T → Bool → S → T → Type 0) where
 
   -- ---- the items that the tests of a run kept
 
-  -- all items of xs except the last ones, `rest`, were tested, from the state s to t. `kept` are
-  -- the tested items that stay, as the tests left them, and m is their number.
+  -- All items of xs except the last ones, `rest`, were tested, starting in the state s and ending
+  -- in the state t. `kept` are the tested items that stay, as the tests left them, and m is their
+  -- number.
   pub record Part (m : ℕ) (s : S) (xs : List T) (t : S) (kept rest : List T) : Type 0 where
     pub done : List T
     pub verdicts : Verdicts T

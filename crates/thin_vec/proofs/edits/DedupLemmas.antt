@@ -123,7 +123,7 @@ module _ {S T : Type 0} (R : OnPairs S T) where
 
   -- ---- runs of items that all stay
 
-  -- the first m items of xs stay so far: the first item, and m - 1 later items, which were tested.
+  -- The first m items of xs stay so far: the first item, and m - 1 later items, which were tested.
   -- ys is xs with these items as the tests left them; s and t are the states before and after the
   -- tests.
   pub record PairStays (m : ℕ) (s : S) (xs : List T) (t : S) (ys : List T) : Type 0 where

@@ -40,7 +40,7 @@ module _ {S T A : Type 0} (steps : S → Option T → S → Type 0) (can : S →
       (by : IsFilledBy steps can remaining v.gap s f) × IsClosedWith v by.items a w
       × (f.end ≡ length v.front + length by.items)
 
-  -- the list u is v with xs in its gap, where xs end before the slot `end` and were yielded by
+  -- The list u is v with xs in its gap, where xs end before the slot `end` and were yielded by
   -- calls of `next` that led from s to t. The gap is full, and `next` may be called on t.
   pub record IsReached (v : Open T A) (s : S) (u : Thin T A) (xs : List T) (end : ℕ)
       (t : S) : Type 0 where
