@@ -88,8 +88,8 @@ run-moves count n k m c d e = go (eqb count 0) e
     )
 
 module _ {S X : Type 0} (steps : S → Option X → S → Type 0) where
-  -- if calls of `next` yielded xs, and later calls yielded ys and then returned o, all of them
-  -- yielded zs, which is xs followed by ys, and then returned o
+  -- if calls of `next` yielded xs, and later calls yielded ys and then returned o, then all these
+  -- calls yielded zs, which is xs followed by ys, and then returned o
   pub yields-held : (s t u : S) (xs ys zs : List X) (o : Option X) → Yields steps s xs t
       → zs ≡ xs ++ ys → YieldsThen steps t ys o u → YieldsThen steps s zs o u
   yields-held s t u xs ys zs o before e now = (
@@ -140,7 +140,7 @@ pub if-err : {X E : Type 0} {P Q : E → Type 0} (r : Result X E) → ((e : E) �
 if-err (Ok _) h p = p
 if-err (Err e) h p = h e refl p
 
--- if Q holds for every error, it holds for the error of a result
+-- if Q holds for every error, then Q holds for the error of a result, if there is one
 pub any-err : {X E : Type 0} {Q : E → Type 0} (r : Result X E) → ((e : E) → Q e) → IfErr r Q
 any-err (Ok _) h = tt
 any-err (Err e) h = h e
@@ -159,8 +159,8 @@ inserted-long xs ys at in_bounds =
     )
 
 module _ {S X : Type 0} (steps : S → Option X → S → Type 0) where
-  -- if calls of `next` yielded xs, and later calls yielded ys and then `None`, then all of them
-  -- yielded xs, ys and then `None`
+  -- if calls of `next` yielded xs, and later calls yielded ys and then `None`, then all these calls
+  -- yielded xs, then ys, and then `None`
   pub drains-more : (s t : S) (xs ys : List X) → Yields steps s xs t → Drains steps t ys
       → Drains steps s (xs ++ ys)
   drains-more s t xs ys before now =

@@ -29,14 +29,15 @@ use Rattle.thin_vec.proofs.ListLemmas.{length-full}
 use Rattle.thin_vec.proofs.ThinVecLemmas.{cap-kept, cost_at-more, cost_at-moves, cost_at-same}
 
 module _ {S X : Type 0} (steps : S → Option X → S → Type 0) where
-  -- if calls of `next` yielded xs, and one more call yielded x, then all of them yielded xs
+  -- if calls of `next` yielded xs, and one more call yielded x, then all these calls yielded xs
   -- followed by x
   pub yields-more : (s t u : S) (xs : List X) (x : X) → Yields steps s xs t → steps t (Some x) u
       → Yields steps s (xs ++ x ∷ []) u
   yields-more s t u [] x e now = (u, subst (λ r. steps r (Some x) u) (sym e) now, λ _. u)
   yields-more s t u (y ∷ ys) x e now = (e.0, e.1, yields-more e.0 t u ys x e.2 now)
 
-  -- if calls of `next` yielded xs, and later calls ys, then all of them yielded xs followed by ys
+  -- if calls of `next` yielded xs, and later calls yielded ys, then all these calls yielded xs
+  -- followed by ys
   pub yields-join : (s t u : S) (xs ys : List X) → Yields steps s xs t → Yields steps t ys u
       → Yields steps s (xs ++ ys) u
   yields-join s t u [] ys e more = subst (λ r. Yields steps r ys u) (sym e) more

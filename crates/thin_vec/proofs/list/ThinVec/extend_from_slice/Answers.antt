@@ -1,5 +1,5 @@
 -- If `reserve` fails, nothing has changed. If it succeeds, the items are the same as before, and
--- `extend_from_slice_reserved` appends the clones to them.
+-- `extend_from_slice_reserved` appends the clones to these items.
 use Rattle.std.proofs.Common.{◌∙◌, arith}
 use Rattle.thin_vec.proofs.list.ThinVec.extend_from_slice.Goals as goal
 

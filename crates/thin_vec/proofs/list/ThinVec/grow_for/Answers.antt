@@ -1,5 +1,5 @@
--- If the growth rule names a capacity, `grow_to` makes it the capacity, for the cost of one growth,
--- or fails and changes nothing. If the rule names none, nothing changes.
+-- If the growth rule names a capacity, `grow_to` either makes it the capacity of the list, for the
+-- cost of one growth, or fails and changes nothing. If the rule names no capacity, nothing changes.
 use Rattle.std.proofs.Common.{arith, ◌∙◌}
 use Rattle.thin_vec.proofs.list.ThinVec.grow_for.Goals as goal
 

@@ -1,4 +1,4 @@
--- `reserve` does not change the items, and then `insert_reserved` puts `value` among them. If
+-- `reserve` does not change the items, and then `insert_reserved` puts `value` among the items. If
 -- `reserve` fails, nothing has changed.
 use Rattle.std.proofs.Common.{◌∙◌, arith}
 use Rattle.thin_vec.proofs.list.ThinVec.insert.Goals as goal

@@ -1,5 +1,5 @@
 -- `drop_rest` drops the items that are left, and makes all empty slots one gap, which `close`
--- closes. So the list has the items before the range, followed by those after it.
+-- closes. So the list has the items before the range, followed by the items after the range.
 use Rattle.std.proofs.Common.{arith, ◌∙◌}
 use Rattle.thin_vec.proofs.edits.drain.Drain.drop.Goals as goal
 
