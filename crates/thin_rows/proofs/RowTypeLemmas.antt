@@ -1,12 +1,13 @@
 -- Lemmas on capacities, which depend only on the size and the alignment of a type, and on errors
 -- that are passed on.
-use Rattle.std.proofs.Common.{◌≡◌, ℕ, IsErrOf, Result, Ok, Err, ap, refl, sym, ◌∙◌}
+use Rattle.std.proofs.Common.{◌≡◌, ◌↔◌, ℕ, IsErrOf, None, Option, Result, Ok, Err, ap, refl, sym, ◌∙◌}
 use Rattle.std.specs.Borrow.{RattleType}
 use Rattle.std.specs.Mem.{type_size}
 use Rattle.std.specs.Align.{type_align}
 use Rattle.std.specs.Result.{IsErrAnd}
 use Rattle.thin_vec.specs.declared.ThinVecError.{ThinVecError}
-use Rattle.thin_vec.specs.List.Capacity.{TellsOverflowOf}
+use Rattle.thin_vec.specs.declared.ThinVecError.TheVariants.{CapacityOverflow}
+use Rattle.thin_vec.specs.List.Capacity.{TellsOverflow, TellsOverflowOf}
 use Rattle.thin_vec.specs.Growth.{Rule, exact_capacity, ruled_capacity}
 
 -- if two types have the same size and alignment, they have the same exact capacities
@@ -42,6 +43,18 @@ error_tells R S w cause (Err e) size align passed told = record {
     λ over. exact_of_same S R 0 w size align ∙ told.overflow.0 (ap Err (sym passed ∙ same_cause over)),
     λ none. ap Err (passed ∙ same_cause (told.overflow.1
         (sym (exact_of_same S R 0 w size align) ∙ none))),
+  );
+}
+
+-- if a failure tells an overflow of the capacity b, and a and b are the same, then each failure with
+-- this cause tells an overflow of a
+pub failure_tells : {X Y : Type 0} {a b : Option ℕ} {cause : ThinVecError} → a ≡ b
+    → IsErrOf {T = X} (Err cause) CapacityOverflow ↔ (b ≡ None)
+    → TellsOverflow a (let r : Result Y ThinVecError = Err cause in r)
+failure_tells same told = record {
+  overflow = (
+    λ over. same ∙ told.0 (ap Err (same_cause over)),
+    λ none. ap Err (same_cause (told.1 (sym same ∙ none))),
   );
 }
 

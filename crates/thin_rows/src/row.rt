@@ -1,5 +1,5 @@
 //! A row of a table: a list of its entries, in increasing order of their columns.
-ghost use Rattle.std.specs.Prelude.{◌≡◌, ◌↔◌, ◌+◌, ◌<◌, IfErr, IfOk, IsOk, IsSome, IsTrue, None, OnErr, OnOk, Some, length};
+ghost use Rattle.std.specs.Prelude.{◌≡◌, ◌↔◌, ◌+◌, ◌<◌, IfErr, IfOk, IsOk, IsSome, IsTrue, OnErr, OnOk, Some, length};
 ghost use Rattle.std.specs.FinMap as map;
 ghost use Rattle.std.specs.Option.{option_copied};
 ghost use Rattle.thin_rows.specs.Entries.{IsGapFor, IsPlaceOf, IsRising};
@@ -7,7 +7,7 @@ ghost use Rattle.thin_rows.specs.Entries.{IsGapFor, IsPlaceOf, IsRising};
 use std::alloc::Allocator;
 use std::marker::Model;
 use std::{fmt, mem};
-use thin_vec::{Rejected, ThinVec, ThinVecError};
+use thin_vec::{Rejected, ThinVec};
 
 // A finite map from columns to values. It owns a block only if it has an entry.
 #[derive(Drop)]
@@ -35,7 +35,7 @@ impl<V, A: Allocator> Row<V, A> {
     ghost use types.Logic.{sem};
     ghost use Rattle.std.specs.Option.{option_copied_mut};
     ghost use Rattle.thin_vec.specs.Growth.{doubling, ruled_capacity};
-    ghost use Rattle.thin_vec.specs.ThinVec.{IsCause};
+    ghost use Rattle.thin_vec.specs.List.Capacity.{TellsOverflow, causes};
     ghost use Rattle.thin_rows.specs.EntryType.{entry_type};
     ghost use Rattle.thin_rows.specs.Lends.{LendsColumn, LendsIfThere};
 
@@ -109,12 +109,8 @@ impl<V, A: Allocator> Row<V, A> {
         ensures succeeds { IsSome (map.get self.old column) → IsOk result }
         ensures value { IfOk result (λ old. old ≡ map.get self.old column) }
         ensures columns { OnOk result (self.new ≡ map.insert self.old column value) }
-        ensures cause { IfErr result
-            (λ refused. IsCause (ruled_capacity doubling (entry_type V.row) (map.len self.old)
-            (map.len self.old + 1)) refused.cause) }
-        ensures overflow { IfErr result (λ refused. ruled_capacity doubling (entry_type V.row)
-            (map.len self.old) (map.len self.old + 1) ≡ None
-            → refused.cause ≡ ThinVecError.CapacityOverflow) }
+        ensures overflow { OnErr result (TellsOverflow (ruled_capacity doubling (entry_type V.row)
+            (map.len self.old) (map.len self.old + 1)) (causes result)) }
         ensures err { OnErr result (self.new ≡ self.old) }
         ensures value_returned { IfErr result (λ refused. refused.value ≡ value) }
     {

@@ -1,5 +1,5 @@
 //! The sparse table `Rows`: its type, its model in contracts, and its methods.
-ghost use Rattle.std.specs.Prelude.{◌≡◌, ◌↔◌, ◌+◌, ◌-◌, ◌^◌, ◌<◌, IfErr, IfOk, IsOk, IsSome, IsTrue, None, OnErr, OnOk, length, map, min, replicate, sum};
+ghost use Rattle.std.specs.Prelude.{◌≡◌, ◌↔◌, ◌+◌, ◌-◌, ◌^◌, ◌<◌, IfErr, IfOk, IsOk, IsSome, IsTrue, OnErr, OnOk, length, map, min, replicate, sum};
 ghost use Rattle.std.specs.FinMap as columns;
 ghost use Rattle.std.specs.List.Sorted.{IsStrictlyIncreasing};
 ghost use Rattle.std.specs.Option.{option_copied};
@@ -67,7 +67,7 @@ impl<V, A: Allocator> Rows<V, A> {
     ghost use types.Logic.{sem};
     ghost use Rattle.std.specs.Option.{option_copied_mut};
     ghost use Rattle.thin_vec.specs.Growth.{doubling, ruled_capacity};
-    ghost use Rattle.thin_vec.specs.ThinVec.{IsCause};
+    ghost use Rattle.thin_vec.specs.List.Capacity.{TellsOverflow, causes};
     ghost use Rattle.thin_rows.specs.EntryType.{entry_type};
     ghost use Rattle.thin_rows.specs.Lends.{LendsValue};
 
@@ -129,14 +129,9 @@ impl<V, A: Allocator> Rows<V, A> {
         ensures succeeds { IsSome (value_at self.old row column) → IsOk result }
 
         // On failure, the table is unchanged.
-        ensures cause { IfErr result
-            (λ refused. IsCause
-            (ruled_capacity doubling (entry_type V.row) (columns.len (row_of self.old row))
-            (columns.len (row_of self.old row) + 1)) refused.cause) }
-        ensures overflow { IfErr result
-            (λ refused. ruled_capacity doubling (entry_type V.row)
-            (columns.len (row_of self.old row)) (columns.len (row_of self.old row) + 1) ≡ None
-            → refused.cause ≡ ThinVecError.CapacityOverflow) }
+        ensures overflow { OnErr result (TellsOverflow (ruled_capacity doubling (entry_type V.row)
+            (columns.len (row_of self.old row)) (columns.len (row_of self.old row) + 1))
+            (causes result)) }
         ensures err { OnErr result (self.new ≡ self.old) }
         ensures value_returned { IfErr result (λ refused. refused.value ≡ value) }
     {

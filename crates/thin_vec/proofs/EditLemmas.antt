@@ -157,20 +157,21 @@ module _ {T F A G : Type 0} {g : Ghosts G}
         → ExtractSteps R now item new → item ≡ Some x → more ≡ held ++ x ∷ []
         → IsExtracting start new old more
     extract_step {start} {now} {new} {old} {held} {more} {item} {x} was step is put =
-        let part = parts test R says _ _ _ _ _ _ step.asked in record {
+        let got = step.extracts in
+        let part = parts test R says _ _ _ _ _ _ got.asked in record {
           gone = ap (λ l. l ++ filter test (extract_rest new)) put
               ∙ (append_assoc held (x ∷ []) (filter test (extract_rest new))
               ∙ (ap (λ r. held ++ (option_to_list r ++ filter test (extract_rest new))) (sym is)
               ∙ (ap (λ l. held ++ l) (sym part.gone) ∙ was.gone)));
-          stay = ap (λ l. l ++ others test (extract_rest new)) step.front
-              ∙ (append_assoc (extract_front now) step.kept (others test (extract_rest new))
+          stay = ap (λ l. l ++ others test (extract_rest new)) got.front
+              ∙ (append_assoc (extract_front now) got.kept (others test (extract_rest new))
               ∙ (ap (λ l. extract_front now ++ l) (sym part.stay) ∙ was.stay));
-          tail = step.tail ∙ was.tail;
+          tail = got.tail ∙ was.tail;
           lender = step.lender ∙ was.lender;
           count = omega (
             arith,
             was.count,
-            step.count,
+            got.count,
             ap (λ r. length (option_to_list r)) is,
             ap length put,
             length-append held (x ∷ []),
@@ -187,18 +188,19 @@ module _ {T F A G : Type 0} {g : Ghosts G}
         × (extract_front new ++ (extract_rest new ++ extract_tail new)
         ≡ extract_front start ++ (others test (extract_rest start) ++ extract_tail start))
     extract_end {start} {now} {new} {old} {held} {item} was step none =
-        let part = parts test R says _ _ _ _ _ _ step.asked in
+        let got = step.extracts in
+        let part = parts test R says _ _ _ _ _ _ got.asked in
         let ended = part.ended none in
         let front = extract_front new in
         let tail = extract_tail start in (
           sym (append-nil held)
               ∙ (sym (λ i. held ++ (option_to_list (none i) ++ filter test (ended i)))
               ∙ (ap (λ l. held ++ l) (sym part.gone) ∙ was.gone)),
-          (λ i. front ++ (ended i ++ (step.tail ∙ was.tail) i))
+          (λ i. front ++ (ended i ++ (got.tail ∙ was.tail) i))
               ∙ (ap (λ l. l ++ tail) (sym (append-nil front)
               ∙ (ap (λ l. front ++ others test l) (sym ended)
-              ∙ (ap (λ l. l ++ others test (extract_rest new)) step.front
-              ∙ (append_assoc (extract_front now) step.kept (others test (extract_rest new))
+              ∙ (ap (λ l. l ++ others test (extract_rest new)) got.front
+              ∙ (append_assoc (extract_front now) got.kept (others test (extract_rest new))
               ∙ (ap (λ l. extract_front now ++ l) (sym part.stay) ∙ was.stay)))))
               ∙ append_assoc (extract_front start) (others test (extract_rest start)) tail),
         )

@@ -54,6 +54,14 @@ module _ {T A : Type 0} where
   abbrev pub reach : Open T A → ℕ
   reach v = tail_start v + length v.tail
 
+  -- the items of the middle run of `v`
+  abbrev pub rest_of : Open T A → List T
+  rest_of v = v.rest
+
+  -- the number of slots between the front and the tail of `v`
+  abbrev pub range_len : Open T A → ℕ
+  range_len v = v.gap + length v.rest + v.gap_after
+
   -- the slots of `v`, in order
   abbrev pub row_of : Open T A → List (Option T)
   row_of v = full v.front
@@ -73,5 +81,4 @@ module _ {T A : Type 0} where
   -- the front. If there is a slot between the front and the tail, each item of the tail moves once
   -- for this.
   abbrev pub cost_drained : Open T A → Cost
-  cost_drained v = if v.gap + length v.rest + v.gap_after == 0 then v.cost else
-      moving (length v.tail) v.cost
+  cost_drained v = if range_len v == 0 then v.cost else moving (length v.tail) v.cost

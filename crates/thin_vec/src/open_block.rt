@@ -1,9 +1,10 @@
 //! The open block: the block of a list while an edit, or a call such as `retain`, works on it.
 ghost use Rattle.std.specs.Prelude.{◌≡◌, ◌↔◌, ◌+◌, ◌-◌, ◌==◌, ◌<◌, ◌≤◌, ◌∷◌, ◌++◌, [], IsTrue, drop, if◌then◌else◌, length, slice_range, take};
+ghost use Rattle.std.specs.Iterator.{YieldsFirst, YieldsLast};
 ghost use Rattle.thin_block.specs.Cost.{moving, no_cost};
 ghost use Rattle.thin_block.specs.Slots.{front};
 ghost use Rattle.thin_block.specs.Block.{IsFrom};
-ghost use Rattle.thin_vec.specs.Open.{cost_closed, items_of, reach};
+ghost use Rattle.thin_vec.specs.Open.{cost_closed, items_of, range_len, reach, rest_of};
 ghost use Rattle.thin_vec.specs.ThinVec.{HasRoomFor};
 
 pub(crate) mod dedup;
@@ -270,6 +271,36 @@ impl<T, A: Allocator> OpenBlock<T, A> {
         none.forget_none();
         self.tail_start += count;
         self.len += count;
+    }
+
+    // Yields the first item of the middle run, or returns `None` if there is none.
+    pub(crate) fn next(&mut self) -> Option<T>
+        ensures yields { YieldsFirst rest_of self.old result self.new }
+        ensures range { range_len self.new ≡ range_len self.old }
+        ensures changes { self.new ≡ record self.old {
+          gap = self.new.gap;
+          rest = self.new.rest;
+        } }
+    {
+        if self.rest_len() == 0 {
+            return None;
+        }
+        Some(self.take_first())
+    }
+
+    // Yields the last item of the middle run, or returns `None` if there is none.
+    pub(crate) fn next_back(&mut self) -> Option<T>
+        ensures yields { YieldsLast rest_of self.old result self.new }
+        ensures range { range_len self.new ≡ range_len self.old }
+        ensures changes { self.new ≡ record self.old {
+          rest = self.new.rest;
+          gap_after = self.new.gap_after;
+        } }
+    {
+        if self.rest_len() == 0 {
+            return None;
+        }
+        Some(self.take_last())
     }
 }
 

@@ -4,7 +4,7 @@ ghost use Rattle.thin_runner.specs.Setting.{setting};
 ghost use Rattle.thin_runner.specs.Steps.{Steps};
 ghost use Rattle.thin_runner.specs.commands.Ranges.{walked};
 ghost use Rattle.thin_runner.specs.declared.command.Command.TheVariants.{Splice as Spliced};
-ghost use Rattle.thin_vec.specs.Edits.Splice.{SpliceKeeps, splice_block};
+ghost use Rattle.thin_vec.specs.Edits.Splice.{SpliceKeeps, splice_rest};
 
 use crate::command::{Reply, Step};
 use crate::hinted::Hinted;
@@ -67,7 +67,7 @@ fn walk<T: Drop, A: Allocator, G: Growth>(
 )
     requires room { vec_len answers.old + vec_len steps ≤ vec_capacity answers.old }
     ensures answers { answers.new.items ≡ answers.old.items ++ walked
-        (splice_block splice.old).rest steps.items }
+        (splice_rest splice.old) steps.items }
     ensures keeps { SpliceKeeps splice.old splice.new }
 {
     for step in steps {
@@ -83,8 +83,8 @@ fn take<T, A: Allocator, G: Growth>(
     splice: &mut Splice<'_, Hinted<T, A>, T, A, G>,
     step: Step,
 ) -> Option<T>
-    ensures value { (steps : List Step) → walked (splice_block splice.old).rest (step ∷ steps)
-        ≡ result ∷ walked (splice_block splice.new).rest steps }
+    ensures value { (steps : List Step) → walked (splice_rest splice.old) (step ∷ steps)
+        ≡ result ∷ walked (splice_rest splice.new) steps }
     ensures keeps { SpliceKeeps splice.old splice.new }
 {
     match step {

@@ -1,7 +1,7 @@
 -- The parts of a `Drain` that contracts name, and what its calls state. (std: `vec::Drain`)
-use Rattle.std.specs.Prelude.{◌≡◌, ℕ, List, [], ◌∷◌, ◌++◌, MatchOption, Option}
+use Rattle.std.specs.Prelude.{◌≡◌, ℕ, List, ◌++◌, Option}
 use Rattle.std.specs.Borrow.{GName}
-use Rattle.std.specs.Iterator.{Yields}
+use Rattle.std.specs.Iterator.{Yields, YieldsFirst, YieldsLast}
 use Rattle.std.specs.Iterator.Runs.{YieldsInOrder, YieldsInReverse}
 use Rattle.thin_block.specs.Cost.{Cost}
 use Rattle.thin_block.specs.declared.growth.Growth.{Ghosts}
@@ -50,16 +50,14 @@ module _ {T A G : Type 0} {g : Ghosts G} {h : HoldsGhosts (Holder (Open T A)) (O
   -- returns `None` if no item is left
   pub record DrainSteps (old : Drain T A G (Holder (Open T A)) g h) (item : Option T)
       (new : Drain T A G (Holder (Open T A)) g h) : Type 0 where
-    pub gave : MatchOption item ((drain_rest old ≡ []) × (drain_rest new ≡ []))
-        (λ x. drain_rest old ≡ x ∷ drain_rest new)
+    pub gave : YieldsFirst drain_rest old item new
     pub keeps : DrainKeeps old new
 
   -- a call of `next_back` on `old` returned `item` and led to `new`: it yields the last item, or
   -- returns `None` if no item is left
   pub record DrainStepsBack (old : Drain T A G (Holder (Open T A)) g h) (item : Option T)
       (new : Drain T A G (Holder (Open T A)) g h) : Type 0 where
-    pub gave : MatchOption item ((drain_rest old ≡ []) × (drain_rest new ≡ []))
-        (λ x. drain_rest old ≡ drain_rest new ++ x ∷ [])
+    pub gave : YieldsLast drain_rest old item new
     pub keeps : DrainKeeps old new
 
   -- calls of `next` do not change what the list will be once the `Drain` is dropped. (`DrainSteps`

@@ -73,24 +73,11 @@ module _ {T F A G : Type 0} {g : Ghosts G}
   abbrev pub extract_lender : ExtractIf T F A G (Holder (Extracting T F A)) g h → GName
   extract_lender e = e.list.ghost_name
 
-  -- A call of `next` led from `old` to `new`, and returned `item`. The closure was called with the
-  -- items that were not tested yet, in order, until it returned true, or until the range ended.
-  -- `item` is the item for which it returned true, or `None` if there is none. `kept` has the items
-  -- for which the closure returned false. If an item was yielded before this call, each item of
-  -- `kept` counts one move. All these items are as the closure left them.
+  -- A call of `next` led from `old` to `new`, and returned `item`: this was one step of the
+  -- extraction. `old` and `new` borrow the same list.
   pub record ExtractSteps (R : F → T → Bool → F → T → Type 0)
       (old : ExtractIf T F A G (Holder (Extracting T F A)) g h) (item : Option T)
       (new : ExtractIf T F A G (Holder (Extracting T F A)) g h) : Type 0 where
-    pub kept : List T
-    pub asked : ExtractsNext R (extract_callee old) (extract_rest old) item (extract_callee new)
-        kept (extract_rest new)
-    pub count : length (extract_rest old) ≡ length kept + length
-        (option_to_list item) + length (extract_rest new)
-    pub front : extract_front new ≡ extract_front old ++ kept
-    pub gone : extract_gone new ≡ extract_gone old + length (option_to_list item)
-    pub tail : extract_tail new ≡ extract_tail old
-    pub cost : extract_cost new ≡ (if extract_gone old == 0 then extract_cost old else moving
-        (length kept) (extract_cost old))
+    pub extracts : Extracts R old.holder.value item new.holder.value
     pub lender : extract_lender new ≡ extract_lender old
-    pub capacity : extract_capacity new ≡ extract_capacity old
     pub alloc : extract_alloc new ≡ extract_alloc old

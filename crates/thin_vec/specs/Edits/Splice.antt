@@ -1,7 +1,7 @@
 -- The parts of a `Splice` that contracts name, and what a list is, and has cost, once the splice is
 -- finished. (std: `Vec::splice`)
-use Rattle.std.specs.Prelude.{◌≡◌, ◌⊎◌, ◌↔◌, ◌+◌, ◌<◌, ◌≤◌, [], ◌++◌, ◌∷◌, IsSome, List, MatchOption, Option, length, ℕ}
-use Rattle.std.specs.Iterator.{Count, YieldsThen}
+use Rattle.std.specs.Prelude.{◌≡◌, ◌⊎◌, ◌↔◌, ◌<◌, ◌≤◌, [], ◌++◌, IsSome, List, MatchOption, Option, length, ℕ}
+use Rattle.std.specs.Iterator.{Count, YieldsFirst, YieldsLast, YieldsThen}
 use Rattle.std.specs.Option.{option_to_list}
 use Rattle.std.specs.declared.option.Option.TheVariants.{None}
 use Rattle.std.specs.Borrow.{GName, RattleType}
@@ -9,7 +9,7 @@ use Rattle.thin_block.specs.declared.errors.ThinVecError.TheVariants.{CapacityOv
 use Rattle.thin_block.specs.Growth.{Rule}
 use Rattle.thin_block.specs.declared.growth.Growth.{Ghosts}
 use Rattle.thin_vec.specs.List.Extend.{FailsAtHint, PausedAfter}
-use Rattle.thin_vec.specs.Open.{Open}
+use Rattle.thin_vec.specs.Open.{Open, range_len, rest_of}
 use Rattle.thin_vec.specs.ThinVec.{HasRoomFor, Thin, capacity_for}
 use Rattle.thin_vec.specs.declared.errors.SpliceRefused.{SpliceRefused}
 use Rattle.thin_vec.specs.declared.edits.splice.Splice.{Splice}
@@ -71,15 +71,15 @@ module _ {T A : Type 0} where
   abbrev pub with_between : Open T A → List T → List T
   with_between v xs = (v.front ++ xs) ++ v.tail
 
-  -- the number of slots between the front and the tail
-  abbrev pub range_len : Open T A → ℕ
-  range_len v = v.gap + length v.rest + v.gap_after
-
 module _ {I T A G H : Type 0} {g : Ghosts G} {h : HoldsGhosts H (Open T A)} where
   -- the list's open block: its front is the items before the range, its middle run is the items of
   -- the range that were not yet yielded, and its tail is the items after the range
   abbrev pub splice_block : Splice I T A G H g h → Open T A
   splice_block s = h.inner s.holder
+
+  -- the items of the range that were not yet yielded
+  abbrev pub splice_rest : Splice I T A G H g h → List T
+  splice_rest s = rest_of (splice_block s)
 
   -- the iterator whose items will take the place of the range
   abbrev pub splice_iter : Splice I T A G H g h → I
@@ -128,16 +128,12 @@ module _ {I T A G H : Type 0} {g : Ghosts G} {h : HoldsGhosts H (Open T A)} wher
   -- returns `None` if no item is left
   pub record SpliceSteps (old : Splice I T A G H g h) (item : Option T)
       (new : Splice I T A G H g h) : Type 0 where
-    pub gave : MatchOption item
-        (((splice_block old).rest ≡ []) × ((splice_block new).rest ≡ []))
-        (λ x. (splice_block old).rest ≡ x ∷ (splice_block new).rest)
+    pub gave : YieldsFirst splice_rest old item new
     pub keeps : SpliceKeeps old new
 
   -- a call of `next_back` on `old` returned `item` and led to `new`: it yields the last item, or
   -- returns `None` if no item is left
   pub record SpliceStepsBack (old : Splice I T A G H g h) (item : Option T)
       (new : Splice I T A G H g h) : Type 0 where
-    pub gave : MatchOption item
-        (((splice_block old).rest ≡ []) × ((splice_block new).rest ≡ []))
-        (λ x. (splice_block old).rest ≡ (splice_block new).rest ++ x ∷ [])
+    pub gave : YieldsLast splice_rest old item new
     pub keeps : SpliceKeeps old new

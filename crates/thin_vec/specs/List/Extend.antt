@@ -31,25 +31,26 @@ abbrev pub IsLoose : Rule → RattleType → ℕ → ℕ → Type 0
 IsLoose rule R c d =
     (d ≡ c) ⊎ ((w : ℕ) × (n : ℕ) × (c < w) × (ruled_capacity rule R c w ≡ Some n) × (n ≤ d))
 
--- the last growth was to the capacity d: it is what the rule gives if a block of some capacity e
--- needs room for w items, where w is some number greater than e and at most n. (By `Doubling`, d is
--- then at most 4 or 2 * n)
+-- the rule gives the capacity d to a block of some capacity e that needs room for w items, where w
+-- is some number greater than e and at most n. This does not say that the list has had such a
+-- block. (By `Doubling`, d is then at most 4 or 2 * n)
 abbrev pub IsRuled : Rule → RattleType → ℕ → ℕ → Type 0
 IsRuled rule R d n = (e w : ℕ) × (e < w) × (w ≤ n) × (ruled_capacity rule R e w ≡ Some d)
 
--- the capacity, which was c and is d, stayed, or its last growth was for at most n items
+-- the capacity, which was c and is d, stayed, or the rule gives d to some block for at most n items
 abbrev pub IsKeptOrRuled : Rule → RattleType → ℕ → ℕ → ℕ → Type 0
 IsKeptOrRuled rule R c d n = (d ≡ c) ⊎ IsRuled rule R d n
 
--- the capacity of the list v became d, and the list then has n items: the capacity stayed, or its
--- last growth was for at most n items, or it grew once, for an allowed hint of the iterator
+-- the capacity of the list v became d, and the list then has n items: the capacity stayed, or the
+-- rule gives d to some block for at most n items, or d is the ruled capacity of v for an allowed
+-- hint of the iterator
 abbrev pub IsExtended : {T A : Type 0} → Rule → RattleType → Thin T A → ℕ → ℕ → Count → Type 0
 IsExtended rule R v d n left =
     IsKeptOrRuled rule R v.capacity d n
     ⊎ ((h : ℕ) × IsWithinCount h left × (capacity_for rule R v h ≡ Some d))
 
--- d is the capacity of a new list of n items: its last growth was for at most n items, or it is
--- exactly an allowed hint of the iterator
+-- d is the capacity of a new list of n items: the rule gives d to some block for at most n items, or
+-- d is exactly an allowed hint of the iterator
 abbrev pub IsCollected : Rule → RattleType → ℕ → ℕ → Count → Type 0
 IsCollected rule R d n left =
     IsRuled rule R d n ⊎ ((h : ℕ) × IsWithinCount h left × (exact_capacity R 0 h ≡ Some d))
@@ -61,8 +62,8 @@ module _ {T A : Type 0} where
     pub had_room : HasRoomFor v (size left) → w.capacity ≡ v.capacity
     -- the capacity stays, or it grows at least as far as the rule says
     pub loose : IsLoose rule R v.capacity w.capacity
-    -- the capacity stays, or its last growth was for at most the final number of items, or for an
-    -- allowed hint
+    -- the capacity stays, or it is what the rule gives to some block for at most the final number of
+    -- items, or for an allowed hint
     pub ruled : IsExtended rule R v w.capacity (length w.items) left
 
   -- what it has cost to add items to the list v, which became w: one move for each added item, and
@@ -85,8 +86,8 @@ module _ {T A : Type 0} where
       : Type 0 where
     -- without an item to yield, the list has no capacity
     pub none : size left ≡ 0 → w.capacity ≡ 0
-    -- the last growth was for at most the final number of items, or the capacity is exactly an
-    -- allowed hint
+    -- the capacity is what the rule gives to some block for at most the final number of items, or it
+    -- is exactly an allowed hint
     pub ruled : IsCollected rule R w.capacity (length w.items) left
     -- each item was moved once
     pub moves : w.cost.moves ≡ length w.items

@@ -118,20 +118,14 @@ impl<'a, T, A: Allocator, G: Growth> Drain<'a, T, A, G> {
     pub fn next(&mut self) -> Option<T>
         ensures steps { DrainSteps self.old result self.new }
     {
-        if self.holder.value.rest_len() == 0 {
-            return None;
-        }
-        Some(self.holder.value.take_first())
+        self.holder.value.next()
     }
 
     /// Yields the last item that was not yet yielded, or returns `None` if there is none.
     pub fn next_back(&mut self) -> Option<T>
         ensures steps { DrainStepsBack self.old result self.new }
     {
-        if self.holder.value.rest_len() == 0 {
-            return None;
-        }
-        Some(self.holder.value.take_last())
+        self.holder.value.next_back()
     }
 
     /// Returns the items that were not yet yielded, in order.

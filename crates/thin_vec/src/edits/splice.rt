@@ -35,7 +35,7 @@ pub struct Splice<
 }
 
 impl<T, A: Allocator, G: Growth> ThinVec<T, A, G> {
-    ghost use Rattle.thin_vec.specs.Edits.Splice.{splice_alloc, splice_block, splice_iter, splice_lender, splice_range};
+    ghost use Rattle.thin_vec.specs.Edits.Splice.{splice_alloc, splice_block, splice_iter, splice_lender, splice_range, splice_rest};
 
     /// Begins to replace the items with the indices `start..end` by the items of `iter`. The
     /// `Splice` yields the old items from either end, and its `finish` places the new ones.
@@ -52,7 +52,7 @@ impl<T, A: Allocator, G: Growth> ThinVec<T, A, G> {
         requires in_bounds { end ≤ length self.old.items }
 
         // What it yields, and what it will put there.
-        ensures rest { (splice_block result).rest ≡ slice_range self.old.items start end }
+        ensures rest { splice_rest result ≡ slice_range self.old.items start end }
         ensures range { splice_range result ≡ end - start }
         ensures iter { splice_iter result ≡ iter }
 
@@ -76,11 +76,11 @@ impl<T, A: Allocator, G: Growth> ThinVec<T, A, G> {
 }
 
 impl<'a, T, I, A: Allocator, G: Growth> Splice<'a, I, T, A, G> {
-    ghost use Rattle.thin_vec.specs.Edits.Splice.{SpliceSteps, SpliceStepsBack, splice_block};
+    ghost use Rattle.thin_vec.specs.Edits.Splice.{SpliceSteps, SpliceStepsBack, splice_rest};
 
     /// Returns how many items of the range were not yet yielded.
     pub fn len(&self) -> usize
-        ensures value { result ≡ length (splice_block self.now).rest }
+        ensures value { result ≡ length (splice_rest self.now) }
     {
         self.holder.value.rest_len()
     }
@@ -88,11 +88,8 @@ impl<'a, T, I, A: Allocator, G: Growth> Splice<'a, I, T, A, G> {
     /// Returns how many items of the range were not yet yielded, as both the lower and the upper
     /// bound.
     pub fn size_hint(&self) -> (usize, Option<usize>)
-        ensures value { result ≡ (
-          length (splice_block self.now).rest,
-          Some
-              (length (splice_block self.now).rest),
-        ) }
+        ensures value { result
+            ≡ (length (splice_rest self.now), Some (length (splice_rest self.now))) }
     {
         let len = self.len();
         (len, Some(len))
@@ -103,10 +100,7 @@ impl<'a, T, I, A: Allocator, G: Growth> Splice<'a, I, T, A, G> {
     pub fn next(&mut self) -> Option<T>
         ensures steps { SpliceSteps self.old result self.new }
     {
-        if self.holder.value.rest_len() == 0 {
-            return None;
-        }
-        Some(self.holder.value.take_first())
+        self.holder.value.next()
     }
 
     /// Yields the last item of the range that was not yet yielded, or returns `None` if there is
@@ -114,10 +108,7 @@ impl<'a, T, I, A: Allocator, G: Growth> Splice<'a, I, T, A, G> {
     pub fn next_back(&mut self) -> Option<T>
         ensures steps { SpliceStepsBack self.old result self.new }
     {
-        if self.holder.value.rest_len() == 0 {
-            return None;
-        }
-        Some(self.holder.value.take_last())
+        self.holder.value.next_back()
     }
 }
 

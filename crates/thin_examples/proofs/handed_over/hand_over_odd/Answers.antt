@@ -34,7 +34,7 @@ push_reserved-requires g c = omega (
   arith,
   c.loop-number.invariant.0.count,
   c.loop-number.invariant.1,
-  c.next.ensures.steps.count,
+  c.next.ensures.steps.extracts.count,
   ap (λ r. length (option_to_list r)) c.in-Some.is,
 )
 

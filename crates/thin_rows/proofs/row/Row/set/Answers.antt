@@ -1,13 +1,13 @@
 -- After the entry of the column is overwritten, or a new entry is inserted at its index, the
 -- entries represent the map with the value inserted.
-use Rattle.std.proofs.Common.{Err, inl, inr, ◌≡◌, ◌+◌, sym, ap, ◌∙◌, length, length-set, arith, refl, Some}
+use Rattle.std.proofs.Common.{inl, inr, ◌≡◌, ◌+◌, sym, ap, ◌∙◌, length, length-set, arith, refl, Some}
 use Rattle.std.proofs.lemmas.Bool.{cases_lt, false≢true}
 use Rattle.std.specs.FinMap.{len}
 use Rattle.thin_vec.specs.Growth.{doubling}
 use Rattle.std.proofs.lemmas.Option.{get_or_from_slice_get}
 use Rattle.std.proofs.lemmas.List.Edits.{length-insert}
 use Rattle.thin_rows.proofs.RowLemmas.{get_at, get_gap, insert_is, insert_rises, len_is, set_is, set_rises}
-use Rattle.thin_rows.proofs.RowTypeLemmas.{ruled_of_same, same_cause}
+use Rattle.thin_rows.proofs.RowTypeLemmas.{failure_tells, ruled_of_same}
 use Rattle.thin_rows.proofs.row.Row.set.Goals as goal
 
 -- the column had an entry, which is overwritten
@@ -64,22 +64,8 @@ returns-in-Err-insert-clause-succeeds g c some =
     at some
 
 -- the list was full, so its capacity was the number of entries
-pub returns-in-Err-insert-clause-cause : goal.returns-in-Err-insert-clause-cause
-returns-in-Err-insert-clause-cause g c = λ over.
-    let row = c.self.inside.entries in
-    let many : len c.args.self.now ≡ length row.items =
-    sym (sym (len_is row.items c.self.invariant.rising) ∙ ap len c.self.view_is) in
-    let full : len c.args.self.now ≡ row.capacity =
-    elim (cases_lt row.capacity (length row.items + 1)) [
-      | inl few ↦ omega (arith, few, many, c.insert.ensures.keeps.within.0.room)
-      | inr spare ↦ absurd (false≢true (c.in-Err-insert.ensures.succeeds spare))
-    ] in
-    ruled_of_same doubling _ _ (len c.args.self.now) row.capacity (len c.args.self.now + 1)
-    (length row.items + 1) refl refl full (ap (λ k. k + 1) many)
-    ∙ c.in-Err-insert.ensures.reserves.overflow.0 (ap Err over)
-
 pub returns-in-Err-insert-clause-overflow : goal.returns-in-Err-insert-clause-overflow
-returns-in-Err-insert-clause-overflow g c = λ none.
+returns-in-Err-insert-clause-overflow g c =
     let row = c.self.inside.entries in
     let many : len c.args.self.now ≡ length row.items =
     sym (sym (len_is row.items c.self.invariant.rising) ∙ ap len c.self.view_is) in
@@ -88,9 +74,9 @@ returns-in-Err-insert-clause-overflow g c = λ none.
       | inl few ↦ omega (arith, few, many, c.insert.ensures.keeps.within.0.room)
       | inr spare ↦ absurd (false≢true (c.in-Err-insert.ensures.succeeds spare))
     ] in
-    same_cause (c.in-Err-insert.ensures.reserves.overflow.1
-    (sym (ruled_of_same doubling _ _ (len c.args.self.now) row.capacity (len c.args.self.now + 1)
-    (length row.items + 1) refl refl full (ap (λ k. k + 1) many)) ∙ none))
+    failure_tells (ruled_of_same doubling _ _ (len c.args.self.now) row.capacity
+    (len c.args.self.now + 1) (length row.items + 1) refl refl full (ap (λ k. k + 1) many))
+    c.in-Err-insert.ensures.reserves.overflow
 
 pub returns-in_default-clause-value : goal.returns-in_default-clause-value
 returns-in_default-clause-value g c =

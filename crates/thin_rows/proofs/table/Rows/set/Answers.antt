@@ -1,14 +1,12 @@
 -- On failure, the row has not changed, so the table has not changed either; the cause is the one
 -- that `set` of the row returns.
-use Rattle.thin_vec.specs.declared.ThinVecError.TheVariants.{CapacityOverflow}
-use Rattle.std.proofs.Common.{None, ◌≡◌, ◌+◌, subst, ℕ, List, OnErr, Result, Ok, Err, Some, slice_get, slice_set, sym, ap, ◌∙◌}
+use Rattle.std.proofs.Common.{◌≡◌, ◌+◌, subst, ℕ, List, OnErr, Result, Ok, Err, Some, slice_get, slice_set, sym, ap, ◌∙◌}
 use Rattle.std.proofs.lemmas.List.{set-get_or}
 use Rattle.std.proofs.lemmas.Option.{get_or_from_slice_get}
 use denote.Param.{param}
 use Rattle.std.specs.FinMap as map
-use Rattle.std.specs.Prelude.{IfErr}
 use Rattle.thin_vec.specs.Growth.{doubling, ruled_capacity}
-use Rattle.thin_vec.specs.ThinVec.{IsCause}
+use Rattle.thin_vec.specs.List.Capacity.{TellsOverflow, causes}
 use Rattle.thin_rows.specs.EntryType.{entry_type}
 use Rattle.thin_rows.specs.Table.{row_of}
 use Rattle.thin_rows.proofs.table.Rows.set.Goals as goal
@@ -27,17 +25,6 @@ returns-clause-err g c =
     (left c.set.result c.self.inside.rows.items c.args.row c.index_mut.result.now
     c.set.new.self c.index_mut.ensures.found c.set.ensures.err)
 
-pub returns-clause-cause : goal.returns-clause-cause
-returns-clause-cause g c =
-    let table = c.self.inside.rows.items in
-    let there : row_of table c.args.row ≡ c.index_mut.result.now =
-    get_or_from_slice_get table c.args.row c.index_mut.result.now map.empty
-    c.index_mut.ensures.found in
-    rw (← c.self.view_is)
-    (subst (λ row. IfErr c.set.result (λ refused. IsCause (ruled_capacity doubling
-    (entry_type (param 0 g.row.V)) (map.len row) (map.len row + 1)) refused.cause))
-    (sym there) c.set.ensures.cause)
-
 pub returns-clause-overflow : goal.returns-clause-overflow
 returns-clause-overflow g c =
     let table = c.self.inside.rows.items in
@@ -45,7 +32,6 @@ returns-clause-overflow g c =
     get_or_from_slice_get table c.args.row c.index_mut.result.now map.empty
     c.index_mut.ensures.found in
     rw (← c.self.view_is)
-    (subst (λ row. IfErr c.set.result (λ refused. ruled_capacity doubling
-    (entry_type (param 0 g.row.V)) (map.len row) (map.len row + 1) ≡ None
-    → refused.cause ≡ CapacityOverflow))
+    (subst (λ row. OnErr c.set.result (TellsOverflow (ruled_capacity doubling
+    (entry_type (param 0 g.row.V)) (map.len row) (map.len row + 1)) (causes c.set.result)))
     (sym there) c.set.ensures.overflow)

@@ -37,7 +37,8 @@ loop-preserved g c =
     let ask = g.J.Judge.judging.take in
     let a = c.args in
     let at = c.loop.invariant in
-    let s = c.next.ensures.steps in
+    let steps = c.next.ensures.steps in
+    let s = steps.extracts in
     let was = c.loop.extract in
     let now = c.next.new.self in
     let k = a.count - (c.loop.counter + 1) in
@@ -72,11 +73,11 @@ loop-preserved g c =
           (handed_out k (left_at false left))
           ∙ (ap (λ l. c.loop.answers.items ++ l) (sym handed) ∙ at.answers));
       extracting = extracting-step asked (take a.start a.list.now.items) a.list.now.cost
-          _ _ s.kept c.next.result at.extracting next s.front s.gone s.cost;
+          _ _ s.kept c.next.result at.extracting next s.front s.gap s.cost;
       tail = s.tail ∙ at.tail;
-      lender = s.lender ∙ at.lender;
+      lender = steps.lender ∙ at.lender;
       capacity = s.capacity ∙ at.capacity;
-      alloc = s.alloc ∙ at.alloc;
+      alloc = steps.alloc ∙ at.alloc;
     }
 
 pub returns : goal.returns
