@@ -174,8 +174,8 @@ module _ (E : El) {M : Type 1} (𝓤 : Ura M) where
 
 module _ (E : El) {M : Type 1} {𝓤 : Ura M} {𝓛 : Logic 𝓤} {K : Type 0} {Γ : List (Item 𝓤)}
     {G : Goal 𝓤 𝓛.H} {h : Item 𝓤} where
-  -- takes the filled slot i out of the row, so that its item can be read; context: [the item's
-  -- bytes; what the item owns; the other slots; the header]
+  -- takes the filled slot i out of the row, so that its item can be read; the resources at this
+  -- point: [the item's bytes; what the item owns; the other slots; the header]
   pub takes_item : K → {x : el_x E} (b o : ℕ) (xs : List (Slot E)) (i : ℕ) → i < length xs
       → get_or xs i None ≡ Some x
       → ((v : Val) → Good E v → Seq K 𝓛 (Bits E 𝓤 b (i * sz E + o) v ∷ Owned E 𝓤 x v
@@ -186,8 +186,9 @@ module _ (E : El) {M : Type 1} {𝓤 : Ura M} {𝓛 : Logic 𝓤} {K : Type 0} {
       use1 𝓛 (some (λ (v : Val). given (Good E v) (Bits E 𝓤 b (i * sz E + o) v ⊛ Owned E 𝓤 x v)))
       (el_out E 𝓛 b x (i * sz E + o)) $ pick k (λ v. learn k (λ good. split k $ next v good))
 
-  -- takes two filled slots out of the row; context: [the second item's bytes; what the second item
-  -- owns; the first item's bytes; what the first item owns; the other slots; the header]
+  -- takes two filled slots out of the row; the resources at this point: [the second item's bytes;
+  -- what the second item owns; the first item's bytes; what the first item owns; the other slots;
+  -- the header]
   pub takes_two : K → {x y : el_x E} (b o : ℕ) (xs : List (Slot E)) (i j : ℕ)
       (p : Two E 𝓛 b o xs i j) → (get_or xs i None ≡ Some x) × (get_or xs j None ≡ Some y)
       → ((v w : Val) → Good E v → Good E w → Seq K 𝓛 (Bits E 𝓤 b (j * sz E + o) w ∷ Owned E 𝓤 y w

@@ -254,8 +254,8 @@ module _ (E : El) (Y : Al) {M : Type 1} {𝓤 : Ura M} {𝓛 : Logic 𝓤} {K : 
 
 module _ (E : El) (Y : Al) {M : Type 1} {𝓤 : Ura M} {𝓛 : Logic 𝓤} {K : Type 0}
     {Γ : List (Item 𝓤)} {G : Goal 𝓤 𝓛.H} where
-  -- opens the block behind a `&mut`; context: [the header; the slots; the block's cell; three
-  -- entries for the open borrow]
+  -- opens the block behind a `&mut`; the resources at this point: [the header; the slots; the
+  -- block's cell; three entries for the open borrow]
   pub block_opens : K → Soaks G → {κ : Lft} {q : Share} {γ : GName} (x : (Br E Y).Denot) (rb ro : ℕ)
       → ((b o : ℕ) → x.at ≡ block_ptr b o → fits_block (R E) (length x.slots) ≡ true
       → Seq K 𝓛 (‵ (Header E Y x b o) ∷ ‵ (Slots E Y x b o) ∷ ‵

@@ -15,6 +15,7 @@ mod CopyCall
 mod ResizedCall
 mod Sharing
 mod Lending
+mod SendLemmas
 pub mod BlockLemmas
 pub mod CapacityLemmas
 pub mod SlotsLemmas

@@ -153,8 +153,8 @@ module _ {n : ℕ} (s : Slot (suc n)) (ss : List (Slot (suc n))) where
       → SProp 𝓤
   Entry {𝓤 = 𝓤} 𝓛 x = sep 𝓤 (toks 𝓛 (suc n) x.0 x.1) (sem 𝓛 (owns (types_at (s ∷ ss) x.0) x.3 x.4))
 
-  -- begins a walk; context: [what the first argument owns; the first token; the other tokens; what
-  -- the other arguments own; the `requires`]
+  -- begins a walk; the resources at this point: [what the first argument owns; the first token; the
+  -- other tokens; what the other arguments own; the `requires`]
   pub arrives : {M : Type 1} {𝓤 : Ura M} (𝓛 : Logic 𝓤) {Bd : Lfts (suc n) → Type 0} {P : SProp 𝓤}
       (x : Passed Bd) (Q : SProp 𝓤)
       → Sq 𝓛 (‵ ((s.row x.0).own_val x.3.0 x.4.0) ∷ ‵ (flft x.0.0 x.1.0)
@@ -174,8 +174,8 @@ module _ (E : El) (Y : Al) {M : Type 1} {𝓤 : Ura M} (𝓛 : Logic 𝓤) {n : 
   abbrev shared : Slot (suc n)
   shared = shr_ref_to (0 ∷ []) tt (plain (λ _. Br E Y))
 
-  -- context: [two entries for the `&mut`; its token; the other tokens; what the other arguments
-  -- own], followed by the entries of Γ
+  -- the resources at this point: [two entries for the `&mut`; its token; the other tokens; what the
+  -- other arguments own], followed by the entries of Γ
   abbrev Entered : {Bd : Lfts (suc n) → Type 0} → Passed lent ss Bd → List (Item 𝓤) → List (Item 𝓤)
   Entered x Γ = ‵ (fobs x.3.0.ghost_name ((Br E Y).coded.code x.3.0.now)) ∷ ‵
       (fbor x.0.0 (Body (mem (Br E Y)) x.3.0.ref_ptr.0 x.3.0.ref_ptr.1 x.3.0.ghost_name))
@@ -195,7 +195,7 @@ module _ (E : El) (Y : Al) {M : Type 1} {𝓤 : Ura M} (𝓛 : Logic 𝓤) {n : 
       (move ! (5 ∷ []) $ heard_all ! φs (λ said. next said))
 
   -- begins the walk of a method on a `&mut Block` if what the other arguments own is not needed;
-  -- context: [two entries for the `&mut`; its token; the other tokens]
+  -- the resources at this point: [two entries for the `&mut`; its token; the other tokens]
   pub begins : {Bd : Lfts (suc n) → Type 0} {P : SProp 𝓤} (x : Passed lent ss Bd)
       (φs : List (Type 0))
       → (Shown φs → Sq 𝓛 (‵ (fobs x.3.0.ghost_name ((Br E Y).coded.code x.3.0.now)) ∷ ‵
@@ -204,8 +204,8 @@ module _ (E : El) (Y : Al) {M : Type 1} {𝓤 : Ura M} (𝓛 : Logic 𝓤) {n : 
       → ent 𝓤 (sep 𝓤 (Entry lent ss 𝓛 x) (Facts 𝓤 φs)) P
   begins x φs next = begins_with x φs (λ said. keep ! (0 ∷ 1 ∷ 2 ∷ 3 ∷ []) $ next said)
 
-  -- begins the walk of a method on a `&Block`; context: [what the `&` shows; its token; the other
-  -- tokens; what the other arguments own; the `requires`]
+  -- begins the walk of a method on a `&Block`; the resources at this point: [what the `&` shows;
+  -- its token; the other tokens; what the other arguments own; the `requires`]
   pub seen : {Bd : Lfts (suc n) → Type 0} {P : SProp 𝓤} (x : Passed shared ss Bd) (Q : SProp 𝓤)
       → Sq 𝓛 (‵ (hidden_shr (Br E Y) x.0.0 x.3.0.now x.3.0.ref_ptr.0 x.3.0.ref_ptr.1)
       ∷ ‵ (flft x.0.0 x.1.0) ∷ raw (toks 𝓛 n x.0.1 x.1.1) ∷ ‵

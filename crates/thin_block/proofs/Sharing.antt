@@ -81,8 +81,8 @@ module _ (E : El) (Y : Al) {M : Type 1} {𝓤 : Ura M} (𝓛 : Logic 𝓤) (κ :
 
 module _ (E : El) (Y : Al) {M : Type 1} {𝓤 : Ura M} {𝓛 : Logic 𝓤} {K : Type 0}
     {Γ : List (Item 𝓤)} {G : Goal 𝓤 𝓛.H} where
-  -- splits a `&` to a block; context: [the `&` to the pointer; the `&` to the capacity; the `&` to
-  -- the length; the `&` to the slots]
+  -- splits a `&` to a block; the resources at this point: [the `&` to the pointer; the `&` to the
+  -- capacity; the `&` to the length; the `&` to the slots]
   pub block_seen : K → {κ : Lft} (x : (Br E Y).Denot) (rb ro : ℕ)
       → ((b o : ℕ) → x.at ≡ block_ptr b o → fits_block (R E) (length x.slots) ≡ true
       → Seq K 𝓛 (‵ (hidden_shr RawPtr κ x.at rb (ro + 0)) ∷ ‵

@@ -137,7 +137,8 @@ module _ {M : Type 1} {𝓤 : Ura M} (𝓛 : Logic 𝓤) (E : El) (b c o : ℕ) 
       (uint_out 𝓛 full_share w64 n b (o + 8)) $
       use1 𝓛 (‵ (froom half b (o + 8))) (𝓛.laws.at_room half b (o + 8) (vint w64 n)) $
       move ! (1 ∷ []) $ fsplit ! $ drop ! $ fsplit ! $
-      -- context: [the way back; the right to free; the second word; the first word; the items]
+      -- the resources at this point: [the way back; the right to free; the second word; the first
+      -- word; the items]
       move ! (3 ∷ 2 ∷ 4 ∷ 0 ∷ []) $ group ! 4 $
       use1 𝓛 (‵ (froom (asked (R E) c) b o))
       (gather_for (words_of (R E)) (sym (same_words (R E) c))) $ done !
@@ -348,8 +349,8 @@ module _ {M : Type 1} {𝓤 : Ura M} (𝓛 : Logic 𝓤) (T : RattleType) (L : L
         rewrite ! 0 (λ (w : Option (ℕ × ℕ)). ‵ (backing_for t w (bare (R Item)) c b o)) asked_words
         refl $
         fsplit ! $ fsplit ! $
-        -- context: [the way back from the header to words; the way back from the slots to words;
-        -- the right to free; the second word; the first word]
+        -- the resources at this point: [the way back from the header to words; the way back from
+        -- the slots to words; the right to free; the second word; the first word]
         move ! (4 ∷ 3 ∷ 0 ∷ []) $ use3 𝓛 (‵ (froom units b o)) units_in $ move ! (2 ∷ []) $
         rewrite ! 0 (λ (j : ℕ). ‵ (t (array_of (R W) j) (block_ptr b o))) (sym total) refl $
         move ! (1 ∷ 2 ∷ 0 ∷ []) $ done !

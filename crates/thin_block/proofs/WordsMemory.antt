@@ -107,8 +107,8 @@ module _ {M : Type 1} {𝓤 : Ura M} (𝓛 : Logic 𝓤) (τ : Ty) (m k b : ℕ)
       split ! $ move ! (2 ∷ []) $
       use1 𝓛 (‵ (froom (ty_array τ (w * m)) b (o + u)) ⊛ ‵ (ways τ m w b (o + u)))
       (ways_out w (o + u)) $ split ! $
-      -- context: [memory for the other items; the other ways; memory for the first items; the way
-      -- of the first items]
+      -- the resources at this point: [memory for the other items; the other ways; memory for the
+      -- first items; the way of the first items]
       rewrite ! 0 (λ (n : ℕ). ‵ (froom (ty_array τ (w * m)) b n)) (sym (after_run o)) refl $
       move ! (2 ∷ 0 ∷ []) $ use2 𝓛 (‵ (froom (ty_array τ (m + w * m)) b o))
       (room_glue 𝓛 τ m (w * m) b o) $
@@ -125,8 +125,8 @@ module _ {M : Type 1} {𝓤 : Ura M} (𝓛 : Logic 𝓤) (τ : Ty) (m k b : ℕ)
       rewrite ! 0 (λ (n : ℕ). ‵ (froom (ty_array τ n) b o)) (sym (one_more w)) refl $
       use1 𝓛 (‵ (froom run b o) ⊛ ‵ (froom (ty_array τ (w * m)) b (past τ m o)))
       (room_cut 𝓛 τ m (w * m) b o) $ split ! $ move ! (2 ∷ []) $ fsplit ! $
-      -- context: [the first way; the other ways; memory for the first items; memory for the other
-      -- items]
+      -- the resources at this point: [the first way; the other ways; memory for the first items;
+      -- memory for the other items]
       move ! (2 ∷ 0 ∷ []) $ use2 𝓛 (‵ (froom ω b o)) (apply∗ 𝓤 (H.room run b o) (H.room ω b o)) $
       move ! (2 ∷ 1 ∷ []) $
       rewrite ! 0 (λ (n : ℕ). ‵ (froom (ty_array τ (w * m)) b n)) (after_run o) refl $
@@ -411,7 +411,8 @@ module _ {M : Type 1} {𝓤 : Ura M} (𝓛 : Logic 𝓤) (T : RattleType) (L : L
       (to_items E 𝓛 b m c o (first_long n xs o long)) $ move ! (2 ∷ []) $
       rewrite ! 0 (λ (n : ℕ). ‵ (ways τ' m n b o)) {x = suc (j + n)} (omega (arith, ew)) refl $
       fsplit ! $
-      -- context: [the first way; the other ways; the first items; the other items]
+      -- the resources at this point: [the first way; the other ways; the first items; the other
+      -- items]
       move ! (2 ∷ 0 ∷ []) $ fjoin ! $ move ! (2 ∷ 1 ∷ []) $
       use2 𝓛 (‵ (runs_at (R E) N (chunks n (rest m xs)) b far) ⊛ ‵ (ways τ' m j b at))
       (to_runs n (j + n) j (rest m xs) far at (rest_long n xs o long) refl
@@ -439,7 +440,8 @@ module _ {M : Type 1} {𝓤 : Ura M} (𝓛 : Logic 𝓤) (T : RattleType) (L : L
       use2 𝓛 (‵ (places (R E) (full (rest m xs)) b far) ⊛ ‵ (ways τ' m (j + n) b far))
       (of_runs n (j + n) j (rest m xs) far at (rest_long n xs o long) refl
       (omega (arith, ea, suc-mul n u'))) $ split ! $
-      -- context: [the other items; the other ways; the first items; the way of the first items]
+      -- the resources at this point: [the other items; the other ways; the first items; the way of
+      -- the first items]
       move ! (2 ∷ 0 ∷ []) $ use2 𝓛 (‵ (places (R E) (full c ++ full (rest m xs)) b o))
       (glue E 𝓛 b (full c) (full (rest m xs)) o far (next n xs o long)) $
       rewrite ! 0 (λ (l : List (Option X)). ‵ (places (R E) l b o)) (sym (parted xs)) refl $
@@ -527,7 +529,8 @@ module _ {M : Type 1} {𝓤 : Ura M} (𝓛 : Logic 𝓤) (T : RattleType) (L : L
         qed 𝓛 (‵ (places (R E) (full xs ++ empty j) b o) ∷ ‵ (slots_way τ' m w c b o) ∷ []) ∵
         use1 𝓛 (‵ (places (R E) (full xs) b o) ⊛ ‵ (places (R E) (empty j) b after))
         (cut E 𝓛 b (full xs) (empty j) o after last) $ split ! $ move ! (2 ∷ []) $ fsplit ! $
-        -- context: [the ways; the memory that no slot takes; the items; the empty slots]
+        -- the resources at this point: [the ways; the memory that no slot takes; the items; the
+        -- empty slots]
         move ! (2 ∷ 0 ∷ []) $
         use2 𝓛 (‵ (runs_at (R E) N (chunks n xs) b o) ⊛ ‵ (ways τ' m v b after))
         (to_runs n w v xs o after long total at_after) $ split ! $ move ! (3 ∷ 1 ∷ 2 ∷ []) $
@@ -554,7 +557,8 @@ module _ {M : Type 1} {𝓤 : Ura M} (𝓛 : Logic 𝓤) (T : RattleType) (L : L
         use1 𝓛 (‵ (places (R E) (empty j) b after) ⊛ ‵ (ways τ' m v b after) ⊛ ‵
         (froom (ty_array τ' pad') b (o + c * size τ')))
         (spare_slots j v pad' after (o + c * size τ') whole end) $ split3 ! $
-        -- context: [the empty slots; their ways; the memory that no slot takes; the words]
+        -- the resources at this point: [the empty slots; their ways; the memory that no slot takes;
+        -- the words]
         move ! (3 ∷ 1 ∷ []) $
         use2 𝓛 (‵ (places (R E) (full xs) b o) ⊛ ‵ (ways τ' m w b o))
         (of_runs n w v xs o after long total at_after) $ split ! $ move ! (0 ∷ 2 ∷ []) $

@@ -8,7 +8,7 @@ ghost use Rattle.std.specs.Option.{is_some};
 ghost use Rattle.thin_block.specs.Ownership.{block_owns, block_lent, any};
 
 use std::alloc::Allocator;
-use std::marker::{Model, PhantomData};
+use std::marker::{Model, PhantomData, Send, Sync};
 
 // The header to which a block without an allocation points. All such blocks share this header, and
 // nothing writes it.
@@ -51,6 +51,13 @@ impl<T, A: Allocator> Model for Block<T, A> {
 
     ghost also_shares = { λ b _ κ. block_lent T.row b.at b.len b.slots b.alloc κ };
 }
+
+// A block owns its allocation alone, or shares the static header, which nothing writes. So it may
+// be sent to another thread if its items and its allocator may.
+unsafe impl<T: Send, A: Allocator + Send> Send for Block<T, A> {}
+
+// A `&` to a block only reads its header and its items. So it may be shared if they may.
+unsafe impl<T: Sync, A: Allocator + Sync> Sync for Block<T, A> {}
 
 impl<T, A: Allocator> Block<T, A> {
     ghost use Rattle.thin_block.specs.Block.{seen};

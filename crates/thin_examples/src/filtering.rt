@@ -3,7 +3,7 @@
 ghost use Rattle.std.specs.List.{dedup};
 ghost use Rattle.std.specs.List.Sorted.{IsSorted, IsStrictlyIncreasing};
 ghost use Rattle.std.specs.Ordering.{nat_cmp};
-ghost use Rattle.std.specs.Prelude.{◌≡◌, ◌%◌, ◌/◌, ◌==◌, Bool, filter, true};
+ghost use Rattle.std.specs.Prelude.{◌≡◌, ◌%◌, ◌/◌, ◌==◌, Bool, filter, map, true};
 ghost use Rattle.thin_vec.specs.Edits.Retain.{left_at};
 ghost use Rattle.thin_examples.specs.Keepers.{asked_by};
 
@@ -41,6 +41,24 @@ pub fn keep_last_digits<A: Allocator, G: Growth>(list: &mut ThinVec<u32, A, G>)
     ensures capacity { list.new.capacity ≡ list.old.capacity }
 {
     list.dedup_by(|later: &mut u32, kept: &mut u32| *later % 10 == *kept % 10);
+}
+
+/// Halves each number, and removes each number whose half is equal to the half kept before it. The
+/// closure halves the later number, and then compares. It is never called with the first number as
+/// the later one, so the first number is halved before.
+pub fn halve_each<A: Allocator, G: Growth>(list: &mut ThinVec<u32, A, G>)
+    ensures items { list.new.items
+        ≡ dedup (λ later kept. later == kept) (map (λ number. number / 2) list.old.items) }
+    ensures capacity { list.new.capacity ≡ list.old.capacity }
+{
+    if list.is_empty() {
+        return;
+    }
+    list[0] /= 2;
+    list.dedup_by(|later: &mut u32, kept: &mut u32| {
+        *later /= 2;
+        *later == *kept
+    });
 }
 
 /// Decides for each item whether it stays in a list. A keeper has a state, which each decision may

@@ -117,7 +117,8 @@ pub fn run<T: Clone + Eq, A: Allocator + Copy, G: Growth, J: Judge<T>>(
         × (vec_capacity replies.new ≡ vec_capacity replies.old)) }
     ensures cause { IfErr result (λ cause. cause ≡ ThinVecError.OutOfMemory) }
 {
-    // This call tells the prover that the old items are within the old capacity, which fits.
+    // This call is only for the prover: its contract says that the old items are within the old
+    // capacity. The proof of the clause `ok` needs this, also if there is no command.
     let _capacity = list.capacity();
     match replies.reserve(commands.len()) {
         Ok(()) => (),
@@ -130,7 +131,8 @@ pub fn run<T: Clone + Eq, A: Allocator + Copy, G: Growth, J: Judge<T>>(
             Err(_refused) => unreachable!(),
         }
     }
-    // This call tells the prover the same about the list after the commands.
+    // This call is only for the prover: its contract says that the list is within bounds, as the
+    // field `within` of `Headline` states. The contract of `step` does not say it.
     let _end = list.capacity();
     Ok(())
 }

@@ -7,7 +7,8 @@
 //!
 //! `blocks` counts the blocks that are allocated and not yet freed. So a test can detect a leak,
 //! although no contract says that a list frees its block. A block that is grown or shrunk still
-//! counts once.
+//! counts once. The sizes of blocks are not counted: a call that asks for too many bytes is not
+//! detected here.
 //!
 //! Contracts cannot say what a `Cell` holds. So no contract says which request is refused, or what
 //! `requests` and `blocks` return: the tests show these. It is proved that the blocks come from

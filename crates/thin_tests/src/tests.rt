@@ -33,6 +33,7 @@ mod std_traits;
 mod support;
 mod tables;
 mod texts;
+mod threads;
 mod two_lists;
 mod uses;
 pub mod widths;

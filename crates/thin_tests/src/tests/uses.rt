@@ -5,7 +5,7 @@ use std::alloc::Global;
 use std::collections::HashMap;
 use std::io::ErrorKind;
 use std::process::Abort;
-use thin_examples::filtering::{keep_last_digits, keep_tens};
+use thin_examples::filtering::{halve_each, keep_last_digits, keep_tens};
 use thin_examples::handed_over::divide;
 use thin_examples::moved_range::move_range;
 use thin_examples::moves::{edited, extracted_first, spliced_middle};
@@ -186,6 +186,17 @@ fn repeated_keys_are_removed(rt: HostRuntime) {
     assert_items(&rt, &list, &[12, 21, 31, 19]);
     keep_last_digits(&mut list);
     assert_items(&rt, &list, &[12, 21, 19]);
+}
+
+#[test]
+fn numbers_are_halved_and_equal_halves_removed(rt: HostRuntime) {
+    let alloc = rt.alloc();
+    let mut list = list_of(&rt, alloc, &[4, 5, 2, 3, 9, 5]);
+    halve_each(&mut list);
+    assert_items(&rt, &list, &[2, 1, 4, 2]);
+    let mut none = list_of(&rt, alloc, &[]);
+    halve_each(&mut none);
+    assert_items(&rt, &none, &[]);
 }
 
 #[test]

@@ -29,6 +29,7 @@ use thin_block::{Growth, ThinVecError};
 impl<T, A: Allocator, G: Growth> ThinVec<T, A, G> {
     // Fills the gap of `block` with the items that `iter` yields, and makes `block` the block of
     // the list again.
+    #[inline(always)]
     fn fill_gap<I: Iterator<Item = T>>(&mut self, mut block: OpenBlock<T, A>, iter: I) -> Filled<I>
         requires empty { self.old.items ≡ [] }
         requires none { block.rest ≡ [] }

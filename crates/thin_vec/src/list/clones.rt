@@ -78,9 +78,6 @@ impl<T: Clone, A: Allocator, G: Growth> ThinVec<T, A, G> {
         // On failure.
         ensures cause { IfErr result (λ cause. cause ≡ ThinVecError.OutOfMemory) }
     {
-        // This call is only for the prover: its contract says that the number of items fits into a
-        // block.
-        let _len = self.len();
         ThinVec::from_fitting_slice(alloc, self.as_slice())
     }
 

@@ -164,7 +164,8 @@ module _ (E : El) (Y : Al) {M : Type 1} {𝓤 : Ura M} (𝓛 : Logic 𝓤) (at_m
       let live : κ ⊑ Y.row.lives = ⊑_trans κ κA Y.row.lives out leA in
       move ! (1 ∷ []) $ split ! $ split3 ! $ move ! (3 ∷ []) $ fsplit ! $ fsplit ! $
       keep ! (6 ∷ 1 ∷ 3 ∷ 4 ∷ 5 ∷ []) $
-      -- context: [the block; the `&` to the allocator; its token; the token of T; the token of A]
+      -- the resources at this point: [the block; the `&` to the allocator; its token; the token of
+      -- T; the token of A]
       enter ! C Λ (here E Y) (vs x) _ $ alloc_all ! (λ l. pass_all ! refl (
         (tt, tt),
         (

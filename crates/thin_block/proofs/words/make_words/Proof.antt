@@ -244,8 +244,8 @@ module _ (E : El) (m : ℕ) {M : Type 1} {𝓤 : Ura M} (𝓛 : Logic 𝓤) (at_
           sets ! (bin ! (get ! refl) (size_lit ! (record { fits = fs })) (record { fits = fm }))
           refl (tt, record { fits = fm }) $
           sets ! (bin ! (get ! refl) (get ! refl) tt) refl (tt, tt) $ fsplit ! $ fsplit ! $
-          -- context: [the items of the next word; the way to that word; the items of the other
-          -- words; what turns these into all words; the tokens]
+          -- the resources at this point: [the items of the next word; the way to that word; the
+          -- items of the other words; what turns these into all words; the tokens]
           use1 𝓛 (exists (λ (v : Val). ‵ (fat full_share σ b at v) ⊛ ‵
           ((Arr E m).own_val xs (v ∷ [])))) (part_out 𝓛 (Arr E m) refl full_share xs b at) $
           pick ! (λ v. split ! $ move ! (1 ∷ []) $

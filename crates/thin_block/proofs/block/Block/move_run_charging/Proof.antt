@@ -143,8 +143,9 @@ move_run_charging_spec 𝓤 𝓛 𝓜 𝓡 wired T A LT LA g d dd met md =
     let En : Env 𝓤 H = env fn.locals l in
     block_opens E Y ! tt x rb ro (λ b o at fits. move ! (6 ∷ 7 ∷ 8 ∷ []) $
     block_opens E Y ! tt y sb so (λ b' o' at' fits'.
-    -- context: [the header, the slots and the cell of the other; three entries for its open borrow;
-    -- the header, the slots, the cell and the open borrow of self; the other tokens]
+    -- the resources at this point: [the header, the slots and the cell of the other; three entries
+    -- for its open borrow; the header, the slots, the cell and the open borrow of self; the other
+    -- tokens]
     let src : ℕ = from * s + (o + 16) in
     let dst : ℕ = to * s + (o' + 16) in
     let light : k * s < 2 ^ 63 = reach (R E) k (length x.slots) fits (omega arith) in
@@ -165,9 +166,9 @@ move_run_charging_spec 𝓤 𝓛 𝓜 𝓡 wired T A LT LA g d dd met md =
     (run_out E 𝓛 b (o + 16) x.slots from k source (full xs) items.1) $ split ! $
     use1 𝓛 (‵ (part_at (Array (R E) k) full_share xs b src)) (to_items E 𝓛 b k xs src long) $
     move ! (0 ∷ 2 ∷ []) $ move ! (14 ∷ []) $ split ! $ move ! (2 ∷ 3 ∷ 0 ∷ []) $
-    -- context: [the items; the empty slots they move to; the token of T; the last token; the slots
-    -- around the items and around the empty slots; the header, the cell and the open borrow of the
-    -- other; the same of self]
+    -- the resources at this point: [the items; the empty slots they move to; the token of T; the
+    -- last token; the slots around the items and around the empty slots; the header, the cell and
+    -- the open borrow of the other; the same of self]
     let G = Copies T 𝓛 𝓜.mem 𝓡.returns in
     let y₀ : G.Ghost = at_copies T 𝓛 𝓜.mem 𝓡.returns κ₂ q₂ b src b' dst k xs in
     use3 𝓛 (raw (G.pre y₀)) (Copies-goes T 𝓛 𝓜.mem 𝓡.returns κ₂ q₂ b src b' dst k xs lives fk light)
@@ -183,9 +184,9 @@ move_run_charging_spec 𝓤 𝓛 𝓜 𝓡 wired T A LT LA g d dd met md =
     lands_last ! refl (subst (λ (u : Val). Holds (has_ty ty_unit u) × WT u) (sym e) (tt, tt)) $
     exec ! 𝓣.C 𝓣.Λ En (after 3 fn.body) (at_ret En Post) $
     sets ! (of_opd ! (unit_lit !)) refl (tt, tt) $
-    -- context: [the items at their new place; the slots they left; the token of T; the last token;
-    -- the slots around each; the header, the cell and the open borrow of the other; the same of
-    -- self]
+    -- the resources at this point: [the items at their new place; the slots they left; the token of
+    -- T; the last token; the slots around each; the header, the cell and the open borrow of the
+    -- other; the same of self]
     let laid_to : List (Option T.Denot) = laid to (full xs) y.slots in
     let long_full : length (full xs) ≡ k = length-map xs Some ∙ long in
     let long_to : length laid_to ≡ length y.slots =
@@ -197,9 +198,9 @@ move_run_charging_spec 𝓤 𝓛 𝓜 𝓡 wired T A LT LA g d dd met md =
     move ! (5 ∷ 0 ∷ 6 ∷ 7 ∷ 8 ∷ 9 ∷ []) $
     rewrite ! 0 (λ (n : ℕ). ‵ (header (t E Y) (R E) y.len n y.alloc b' o')) (sym long_to) refl $
     block_closes E Y ! tt y' b' o' sb so at' $
-    -- context: [two entries for the `&mut` to the other; its token; the slots that the items left;
-    -- the token of T; the last token; the slots around these; the header, the cell and the open
-    -- borrow of self]
+    -- the resources at this point: [two entries for the `&mut` to the other; its token; the slots
+    -- that the items left; the token of T; the last token; the slots around these; the header, the
+    -- cell and the open borrow of self]
     let left : List (Option T.Denot) = emptied from k x.slots in
     let long_empty : length (empty {T = T.Denot} k) ≡ k = length-replicate k None in
     let long_left : length left ≡ length x.slots =
@@ -211,8 +212,8 @@ move_run_charging_spec 𝓤 𝓛 𝓜 𝓡 wired T A LT LA g d dd met md =
     move ! (6 ∷ 0 ∷ 7 ∷ 8 ∷ 9 ∷ 10 ∷ []) $
     rewrite ! 0 (λ (n : ℕ). ‵ (header (t E Y) (R E) x.len n x.alloc b o)) (sym long_left) refl $
     block_closes E Y ! tt x' b o rb ro at $
-    -- context: [two entries for the `&mut` to self; the token of this `&mut`; the token of the
-    -- `&mut` to the other block; the token of T; the last token]
+    -- the resources at this point: [two entries for the `&mut` to self; the token of this `&mut`;
+    -- the token of the `&mut` to the other block; the token of T; the last token]
     returns ! (look_at ! 0 refl) $ free_all ! refl $
     feq_i ! (List Val) vss.0 (vptr rb ro ∷ []) are.0.0 $ fjoin3 ! $ move ! (2 ∷ 3 ∷ []) $
     feq_i ! (List Val) vss.1.1.0 (vptr sb so ∷ []) are.1.1.0.0 $ fjoin3 ! $

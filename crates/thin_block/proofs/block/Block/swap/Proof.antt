@@ -66,9 +66,9 @@ swap_spec 𝓤 𝓛 𝓜 𝓡 wired T A LT LA g d dd met md =
       | inr apart ↦
           let p = two_slots E 𝓛 b (o + 16) x.slots i j apart low low' in
           takes_two E ! b (o + 16) x.slots i j p (one.1, two.1) (λ v v' good good'.
-          -- context: [the second item's bytes; what the second item owns; the first item's bytes;
-          -- what the first item owns; the other slots; the header; the cell; the open borrow; the
-          -- other tokens]
+          -- the resources at this point: [the second item's bytes; what the second item owns; the
+          -- first item's bytes; what the first item owns; the other slots; the header; the cell;
+          -- the open borrow; the other tokens]
           sets ! (of_opd ! (load ! (through ! refl (stop !)) (look ! 2 refl))) refl good $
           sets ! (of_opd ! (load ! (through ! refl (stop !)) (look ! 0 refl))) refl good' $
           assigns ! (of_opd ! (get ! refl)) (through ! refl (stop !)) (store ! 2 refl good') $
@@ -88,8 +88,8 @@ swap_spec 𝓤 𝓛 𝓜 𝓡 wired T A LT LA g d dd met md =
           says_all ! (_ ∷ []) refl $ done !)
       | inl same ↦
           takes_item E ! b (o + 16) x.slots i low one.1 (λ v good.
-          -- context: [the item's bytes; what the item owns; the other slots; the header; the cell;
-          -- the open borrow; the other tokens]
+          -- the resources at this point: [the item's bytes; what the item owns; the other slots;
+          -- the header; the cell; the open borrow; the other tokens]
           let Bits = λ (k : ℕ). ‵ (fat full_share (layout T) b (k * sz E + (o + 16)) v) in
           sets ! (of_opd ! (load ! (through ! refl (stop !)) (look ! 0 refl))) refl good $
           rewrite ! 0 Bits same refl $

@@ -144,7 +144,7 @@ module _ (Z : Al) (X : RattleType) {M : Type 1} {𝓤 : Ura M} (𝓛 : Logic �
         use0 𝓛 (‵ (Answer.own_val (result_of y b' o') (answer_val y b' o' ∷ [])))
         (result_own 𝓛 y b' o') $ nothing ! $ nothing ! $ fjoin ! $ nothing ! $ fjoin ! $
         nothing ! $ fjoin ! $ nothing ! $ fjoin ! $ nothing ! $ fjoin ! $ join ! $
-        -- context: [the result; the block; the tokens of κ, κT and ρ]
+        -- the resources at this point: [the result; the block; the tokens of κ, κT and ρ]
         nothing ! $ move ! (4 ∷ 0 ∷ []) $ join ! $ move ! (4 ∷ 0 ∷ []) $ join ! $
         move ! (3 ∷ 0 ∷ []) $ join ! $ join ! $ done !
 
@@ -172,7 +172,8 @@ module _ (Z : Al) (X : RattleType) {M : Type 1} {𝓤 : Ura M} (𝓛 : Logic �
         use1 𝓛 (‵ (seen Z κ p h)) (id⊢ 𝓤 _) $ move ! (1 ∷ []) $ fsplit ! $
         use1 𝓛 (‵ (hidden_shr Row κ r.now.counts c.0 c.1)) (id⊢ 𝓤 _) $
         keep ! (0 ∷ 8 ∷ 2 ∷ 10 ∷ 6 ∷ 9 ∷ []) $
-        -- context: [the counts; κ's token; the inner allocator; the block; the tokens of κT and ρ]
+        -- the resources at this point: [the counts; κ's token; the inner allocator; the block; the
+        -- tokens of κT and ρ]
         enter ! 𝓣.C 𝓣.Λ (here Z X) (vs x) _ $
         alloc_all ! (λ l. pass_all ! refl (
           (tt, tt),

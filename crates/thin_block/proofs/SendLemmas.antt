@@ -1,0 +1,131 @@
+-- A block may be sent to another thread, and shared between threads, if its items may and the right
+-- to free its memory may be. What it owns, and what a `&` to it shows, names no thread: this is the
+-- word `Keyless` of the logic. `Common` says it of a `&` for every lifetime.
+--     block_send, block_sync    a block may be sent, and shared
+use Rattle.std.specs.Prelude.{ℕ, zero, suc, ◌+◌, List, [], ◌∷◌, length, Option}
+use Rattle.std.specs.declared.option.Option.TheVariants.{Some, None}
+use Rattle.std.specs.Int.{div_ceil}
+use Rattle.std.specs.Mem.{type_size}
+use mir.Syntax.{Ty}
+use base.Shift.{Keyless}
+use prog.Memory.{size}
+use denote.RattleType.{RattleType}
+use denote.RawPtr.{Ptr, block_ptr, null_ptr}
+use denote.Builtin.{usize}
+use denote.Struct.Struct.{exits_of}
+use denote.Struct.Owning.{shape, fields, to}
+use denote.Param.Send.{IsSend, IsSync, Common, AllSend, AllSync, Frees, owning_send, struct_send, struct_sync, sendable}
+use Rattle.core.specs.declared.alloc.Allocator.{Ghosts}
+use Rattle.std_alloc.proofs.SendSync.{quiet, lies, seen}
+use Rattle.thin_block.specs.Ownership.{bare, word_of, words_of, place, places, ways, way_back, block_owns, place_lent, places_lent, block_lent}
+use Rattle.thin_block.specs.contracts.block.Block as C
+
+-- numbers may be sent
+number_send : IsSend usize
+number_send = search sendable
+
+-- numbers may be shared
+number_sync : IsSync usize
+number_sync = search sendable
+
+-- what turns the memory of items into the memory of words names no thread
+ways_Keyless : (τ : Ty) (m w b o : ℕ) → Keyless (ways τ m w b o)
+ways_Keyless τ m zero b o = tt
+ways_Keyless τ m (suc w) b o = ((tt, tt), ways_Keyless τ m w b (o + size (word_of τ m)))
+
+-- what turns the parts of a block back into its allocation names no thread
+way_back_Keyless : (w : Option (ℕ × ℕ)) (τ : Ty) (c b o : ℕ) → Keyless (way_back w τ c b o)
+way_back_Keyless None τ c b o = ((tt, (tt, tt)), tt)
+way_back_Keyless (Some w) τ c b o =
+    (((tt, tt), tt), (ways_Keyless τ w.0 (div_ceil c w.0) b (o + 16), tt))
+
+module _ (R : RattleType) where
+  -- if items may be sent, a slot names no thread
+  place_Keyless : IsSend R → (x : Option R.Denot) (b o : ℕ) → Keyless (place R x b o)
+  place_Keyless s (Some x) b o = lies R s (block_ptr b o) x
+  place_Keyless s None b o = tt
+
+  -- if items may be sent, slots in a row name no thread
+  places_Keyless : IsSend R → (xs : List (Option R.Denot)) (b o : ℕ) → Keyless (places R xs b o)
+  places_Keyless s [] b o = tt
+  places_Keyless s (x ∷ xs) b o =
+      (place_Keyless s x b o, places_Keyless s xs b (o + type_size R))
+
+  -- if items may be shared, a `&` to a slot names no thread
+  place_Common : IsSync R → (x : Option R.Denot) (p : Ptr) → Common (place_lent R x p)
+  place_Common y (Some x) p κ = seen R y p x κ
+  place_Common y None p κ = tt
+
+  -- if items may be shared, a `&` to slots in a row names no thread
+  places_Common : IsSync R → (xs : List (Option R.Denot)) (b o : ℕ)
+      → Common (places_lent R xs b o)
+  places_Common y [] b o κ = tt
+  places_Common y (x ∷ xs) b o κ =
+      (place_Common y x (block_ptr b o) κ, places_Common y xs b (o + type_size R) κ)
+
+  module _ (Z : RattleType) (g : Ghosts Z.Denot) where
+    -- if items may be sent, and the right to free memory names no thread, then what a block owns
+    -- names no thread
+    block_Keyless : IsSend R → Frees g g.dealloc_token → (p : Ptr) (n : ℕ)
+        (xs : List (Option R.Denot)) (a : Option Z.Denot)
+        → Keyless (block_owns g.dealloc_token R p n xs a)
+    block_Keyless s f null_ptr n xs a = tt
+    block_Keyless s f (block_ptr b o) n xs None = (
+      seen usize number_sync (block_ptr b o) 0 [],
+      seen usize number_sync (block_ptr b (o + 8)) 0 [],
+    )
+    block_Keyless s f (block_ptr b o) n xs (Some a) = (
+      (
+        lies usize number_send (block_ptr b o) (length xs),
+        (
+          lies usize number_send (block_ptr b (o + 8)) n,
+          (
+            tt,
+            (
+              way_back_Keyless (words_of R) (bare R) (length xs) b o,
+              f.frees a _ (block_ptr b o),
+            ),
+          ),
+        ),
+      ),
+      places_Keyless s xs b (o + 16),
+    )
+
+    -- if items may be shared, a `&` to a block names no thread
+    block_Common : IsSync R → (p : Ptr) (n : ℕ) (xs : List (Option R.Denot)) (a : Option Z.Denot)
+        → Common (block_lent R p n xs a)
+    block_Common y null_ptr n xs a κ = tt
+    block_Common y (block_ptr b o) n xs None κ = (
+      seen usize number_sync (block_ptr b o) 0 κ,
+      seen usize number_sync (block_ptr b (o + 8)) 0 κ,
+    )
+    block_Common y (block_ptr b o) n xs (Some a) κ = (
+      (
+        seen usize number_sync (block_ptr b o) (length xs) κ,
+        (seen usize number_sync (block_ptr b (o + 8)) n κ, tt),
+      ),
+      places_Common y xs b (o + 16) κ,
+    )
+
+    -- if items may be sent, and so may the allocator and the right to free memory, a block may be
+    -- sent
+    pub block_send : IsSend R → IsSend Z → Frees g g.dealloc_token → IsSend (C.the_row R Z g)
+    block_send s z f =
+        let O = C.the_type R Z g in
+        let all : AllSend (fields O) =
+        (search sendable, (search sendable, (search sendable, tt))) in
+        owning_send O all (λ d. block_Keyless s f d.at d.len d.slots d.alloc)
+        (λ k. quiet (to O) (exits_of k (fields O)) ((struct_send (shape O) all).leaving k))
+
+    -- if items and the allocator may be shared, a block may be shared
+    pub block_sync : IsSync R → IsSync Z → IsSync (C.the_row R Z g)
+    block_sync y z =
+        let O = C.the_type R Z g in
+        let all : AllSync (fields O) =
+        (search sendable, (search sendable, (search sendable, tt))) in
+        record {
+          shared = λ d b o κ. (
+            (struct_sync (shape O) all).shared (to O d) b o κ,
+            block_Common y d.at d.len d.slots d.alloc κ,
+          );
+        }

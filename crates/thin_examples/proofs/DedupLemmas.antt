@@ -1,0 +1,61 @@
+-- Lemmas about `dedup_by` with a closure that writes to each later item before it compares.
+use Rattle.std.proofs.Common.{◌≡◌, Bool, true, false, List, [], ◌∷◌, ap, map, slice_index_or, slice_set, subst, ◌∙◌}
+use Rattle.std.specs.List.{dedup, dedup_from}
+use Rattle.std.specs.List.Retain.{DedupsFrom, DedupsAll}
+use Rattle.std.specs.Prelude.{MatchBool, cond}
+use Rattle.thin_vec.proofs.EditLemmas.{deduped_deduped}
+use Rattle.thin_vec.specs.Edits.Dedup.{IsDedupedBy}
+use Rattle.thin_vec.specs.ThinVec.{Thin}
+
+-- The closure, with the relation R, replaces the later item x by f x, leaves the kept item k as it
+-- is, and returns `same (f x) k`.
+module _ {S T : Type 0} (R : S → T → T → Bool → S → T → T → Type 0) (f : T → T)
+    (same : T → T → Bool)
+    (says : (s : S) (x k : T) (b : Bool) (t : S) (x' k' : T) → R s x k b t x' k'
+    → (b ≡ same (f x) k) × (x' ≡ f x) × (k' ≡ k)) where
+  -- the items zs are those of xs, each replaced by its image under f, without those that are the
+  -- same as the item kept before them. The item k was kept before xs, and is the first of zs.
+  abbrev Kept : T → List T → List T → Type 0
+  Kept k xs zs = zs ≡ dedup_from same k (map f xs)
+
+  -- if x is tested against k with the result b, and the items after x are kept as `Kept` says, then
+  -- x and the items after it are
+  one : (b : Bool) (x k x' k' : T) (xs zs : List T) → b ≡ same (f x) k → x' ≡ f x → k' ≡ k
+      → MatchBool b (Kept k' xs zs) ((ys : List T) × Kept x' xs ys × (zs ≡ k' ∷ ys))
+      → Kept k (x ∷ xs) zs
+  one true x k x' k' xs zs b-is x-is k-is m = m
+      ∙ (ap (λ y. dedup_from same y (map f xs)) k-is
+      ∙ ap (λ c. cond c (dedup_from same k (map f xs)) (k ∷ dedup_from same (f x) (map f xs)))
+      b-is)
+  one false x k x' k' xs zs b-is x-is k-is m = m.2
+      ∙ ((λ i. k-is i ∷ (m.1 ∙ ap (λ y. dedup_from same y (map f xs)) x-is) i)
+      ∙ ap (λ c. cond c (dedup_from same k (map f xs)) (k ∷ dedup_from same (f x) (map f xs)))
+      b-is)
+
+  -- if each item of xs was tested against the last item kept before it, the items are kept as
+  -- `Kept` says
+  kept_from : (xs : List T) (s : S) (k : T) (zs : List T) → DedupsFrom R s k xs zs → Kept k xs zs
+  kept_from [] s k zs h = h
+  kept_from (x ∷ xs) s k zs h =
+      let says_one = says s x k h.0 h.1 h.2 h.3 h.4 in
+      one h.0 x k h.2 h.3 xs zs says_one.0 says_one.1 says_one.2
+      ((elim h.0 as (λ b.
+      MatchBool b (DedupsFrom R h.1 h.3 xs zs)
+      ((ys : List T) × DedupsFrom R h.1 h.2 xs ys × (zs ≡ h.3 ∷ ys))
+      → MatchBool b (Kept h.3 xs zs) ((ys : List T) × Kept h.2 xs ys × (zs ≡ h.3 ∷ ys))) [
+        | true ↦ λ m. kept_from xs h.1 h.3 zs m
+        | false ↦ λ m. (m.0, kept_from xs h.1 h.2 m.0 m.1, m.2)
+      ]) h.5)
+
+  -- if x is the first item of xs, v has the items xs with f x in place of x, and `dedup_by` reduced v
+  -- to w, then w has the items of `map f xs` without those that are the same as the item kept before
+  -- them. This is also true if xs is empty.
+  pub deduped_mapped : {A : Type 0} {s : S} {v w : Thin T A} (xs : List T) (x : T)
+      → x ≡ slice_index_or xs 0 x → v.items ≡ slice_set xs 0 (f x) → IsDedupedBy R s v w
+      → w.items ≡ dedup same (map f xs)
+  deduped_mapped {s = s} {v} {w} [] x first is h =
+      subst (λ l. DedupsAll R s l w.items) is (deduped_deduped R s v w h).told
+  deduped_mapped {s = s} {v} {w} (y ∷ ys) x first is h =
+      kept_from ys s (f x) w.items
+      (subst (λ l. DedupsAll R s l w.items) is (deduped_deduped R s v w h).told)
+      ∙ ap (λ z. dedup_from same (f z) (map f ys)) first

@@ -1,0 +1,79 @@
+//! Sends lists, and what is made of lists, through functions whose bounds are `Send` and `Sync`. No
+//! thread is started: that these functions compile and are proved is the test.
+ghost use Rattle.std.specs.Prelude.{◌≡◌};
+
+use crate::tests::support::assertions::assert_same;
+use std::alloc::{Allocator, Global};
+use std::marker::{Send, Sync};
+use thin_rows::Rows;
+use thin_vec::{Growth, PowerBytes, ThinVec, thin_vec};
+
+// A node of a tree, which has a list of its children.
+#[derive(Drop)]
+struct Node {
+    value: u8,
+    children: ThinVec<Node>,
+}
+
+// Returns `value`. Its type has to be one that can be sent to another thread.
+fn needs_send<X: Send>(value: X) -> X
+    ensures value { result ≡ value }
+{
+    value
+}
+
+// Returns `value`. Its type has to be one to which several threads may have references.
+fn needs_sync<X: Sync>(value: &X) -> &X
+    ensures value { result.now ≡ value.now }
+{
+    value
+}
+
+// Sends a list of any items, with any allocator and any growth rule.
+fn send_list<T: Send, A: Allocator + Send, G: Growth + Send>(
+    list: ThinVec<T, A, G>,
+) -> ThinVec<T, A, G>
+    ensures value { result ≡ list }
+{
+    needs_send(list)
+}
+
+// Shares a list of any items, with any allocator and any growth rule.
+fn share_list<T: Sync, A: Allocator + Sync, G: Growth + Sync>(
+    list: &ThinVec<T, A, G>,
+) -> &ThinVec<T, A, G>
+    ensures value { result.now ≡ list.now }
+{
+    needs_sync(list)
+}
+
+#[test]
+fn lists_can_be_sent_and_shared(rt: HostRuntime) {
+    let list: ThinVec<u8> = thin_vec![rt.alloc() => 1, 2].expect(&rt, "memory");
+    let list = needs_send(send_list(list));
+    assert_same(&rt, needs_sync(share_list(&list)).len(), 2);
+    let lists = thin_vec![rt.alloc() => list].expect(&rt, "memory");
+    assert_same(&rt, needs_sync(&needs_send(lists)).len(), 1);
+    let powers: ThinVec<u8, Global, PowerBytes> = ThinVec::ruled(rt.alloc());
+    assert_same(&rt, needs_send(powers).len(), 0);
+}
+
+#[test]
+fn iterators_over_lists_can_be_sent(rt: HostRuntime) {
+    let mut list: ThinVec<u8> = thin_vec![rt.alloc() => 1, 2, 3].expect(&rt, "memory");
+    assert_same(&rt, needs_send(list.drain(0, 1)).len(), 1);
+    assert_same(&rt, needs_send(list.into_iter()).len(), 2);
+}
+
+#[test]
+fn types_with_lists_can_be_sent_and_shared(rt: HostRuntime) {
+    let table: Rows<u8> = Rows::with_rows(rt.alloc(), 3).expect(&rt, "memory");
+    assert_same(&rt, needs_sync(&needs_send(table)).rows(), 3);
+    let node = Node {
+        value: 1,
+        children: ThinVec::new(rt.alloc()),
+    };
+    let node = needs_send(node);
+    assert_same(&rt, needs_sync(&node).value, 1);
+    assert_same(&rt, node.children.len(), 0);
+}
