@@ -1,5 +1,5 @@
--- The lemmas: about the number that a call writes, about the numbers of a row that are written one
--- after the other, and about sums over the columns.
+-- The lemmas: about the numbers after a call writes one number, about the numbers after the entries
+-- of a row are written one after the other, and about sums over the columns.
 mod NumberLemmas
 mod WritesLemmas
 mod SumLemmas

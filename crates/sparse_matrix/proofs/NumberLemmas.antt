@@ -12,8 +12,8 @@ if_true x y e = ap (λ (b : Bool). if b then x else y) e
 if_false : {b : Bool} (x y : ℕ) → b ≡ false → (if b then x else y) ≡ y
 if_false x y e = ap (λ (b : Bool). if b then x else y) e
 
--- if f has the number v at row i and column j, and elsewhere the numbers of g, then the same is
--- true by a test of the row and the column
+-- if f has the number v at row i and column j, and elsewhere the numbers of g, then `f k l` is
+-- `if k == i && l == j then v else g k l`
 pub at_place : (f g : ℕ → ℕ → ℕ) (i j v : ℕ) → f i j ≡ v → ((k l : ℕ) → l ≢ j → f k l ≡ g k l)
     → ((k l : ℕ) → k ≢ i → f k l ≡ g k l)
     → (k l : ℕ) → f k l ≡ (if k == i && l == j then v else g k l)
@@ -28,7 +28,7 @@ at_place f g i j v here columns rows k l = elim (cases_eq k i) [
       ∙ sym (if_false v (g k l) (and_left (k == i) (l == j) (ne_eqb k i other)))
 ]
 
--- conversely, suppose that f is g, except that it has the number v at row i and column j
+-- let f have the numbers of g, except v at row i and column j
 module _ (f g : ℕ → ℕ → ℕ) (i j v : ℕ)
     (told : (k l : ℕ) → f k l ≡ (if k == i && l == j then v else g k l)) where
   pub here : f i j ≡ v
@@ -42,8 +42,8 @@ module _ (f g : ℕ → ℕ → ℕ) (i j v : ℕ)
   other_rows k l other =
       told k l ∙ if_false v (g k l) (and_left (k == i) (l == j) (ne_eqb k i other))
 
--- if f has in row i the numbers of h, and in the other rows those of g, then the same is true by a
--- test of the row
+-- if f has in row i the numbers of h, and in the other rows those of g, then `f k l` is
+-- `if k == i then h k l else g k l`
 pub at_row : (f g h : ℕ → ℕ → ℕ) (i : ℕ) → ((l : ℕ) → f i l ≡ h i l)
     → ((k l : ℕ) → k ≢ i → f k l ≡ g k l)
     → (k l : ℕ) → f k l ≡ (if k == i then h k l else g k l)
@@ -54,7 +54,8 @@ at_row f g h i here rows k l = elim (cases_eq k i) [
 ]
 
 module _ (t : Table ℕ) (i j : ℕ) where
-  -- after v is written, the matrix has v at this place, and elsewhere the numbers that it had
+  -- after v is written at row i and column j of the table t, the table has v there, and elsewhere
+  -- the numbers that it had
   pub number-with_value : (v : ℕ) → i < length t → (k l : ℕ)
       → number_at (with_value t i j v) k l ≡ (if k == i && l == j then v else number_at t k l)
   number-with_value v inside =
@@ -63,8 +64,8 @@ module _ (t : Table ℕ) (i j : ℕ) where
       (λ k l other. ap (λ o. unwrap_or o 0) (columns_unchanged t i j k l v other))
       (λ k l other. ap (λ o. unwrap_or o 0) (rows_unchanged t i j k l v other))
 
-  -- after an entry is removed, the matrix has 0 at this place, and elsewhere the numbers that it
-  -- had
+  -- after the entry at row i and column j of the table t is removed, the number there is v, which
+  -- is 0, and the other numbers are those that the table had
   pub number-without_value : (v : ℕ) → v ≡ 0 → (k l : ℕ)
       → number_at (without_value t i j) k l ≡ (if k == i && l == j then v else number_at t k l)
   number-without_value v zero =
@@ -73,13 +74,13 @@ module _ (t : Table ℕ) (i j : ℕ) where
       (λ k l other. ap (λ o. unwrap_or o 0) (columns_left t i j k l other))
       (λ k l other. ap (λ o. unwrap_or o 0) (rows_left t i j k l other))
 
--- a number that a test chooses from two numbers below n is below n
+-- if x and y are less than n, the one that b chooses is less than n
 either_below : (b : Bool) (x y n : ℕ) → x < n → y < n → (if b then x else y) < n
 either_below true x y n first second = first
 either_below false x y n first second = second
 
--- if the numbers of t and the number v fit into a `u64`, so do the numbers after v is written at
--- one place
+-- if v and all numbers of t fit into a `u64`, so do all numbers of u, which has v at row i and
+-- column j, and elsewhere the numbers of t
 pub still_small : (t u : Table ℕ) (i j v : ℕ) → v < 2 ^ 64
     → ((k l : ℕ) → number_at t k l < 2 ^ 64)
     → ((k l : ℕ) → number_at u k l ≡ (if k == i && l == j then v else number_at t k l))
@@ -87,8 +88,8 @@ pub still_small : (t u : Table ℕ) (i j v : ℕ) → v < 2 ^ 64
 still_small t u i j v fits small told k l =
     rw (told k l) (either_below (k == i && l == j) v (number_at t k l) (2 ^ 64) fits (small k l))
 
--- if the numbers of t and the number v fit into a `u64`, so do the numbers after a call that writes
--- v, or fails and changes nothing
+-- if v and all numbers of t fit into a `u64`, so do all numbers of u, which is t with v written at
+-- row i and column j if the call succeeded, and t if it failed
 pub small_if_written : {X E : Type 0} (result : Result X E) (t u : Table ℕ) (i j v : ℕ)
     → i < length t → v < 2 ^ 64 → ((k l : ℕ) → number_at t k l < 2 ^ 64)
     → OnOk result (u ≡ with_value t i j v) → OnErr result (u ≡ t)

@@ -22,7 +22,7 @@ is_less Less h = refl
 is_less Equal h = absurd h
 is_less Greater h = absurd h
 
--- if f and g are equal below n, so are their sums
+-- if f and g are equal at each number less than n, their sums over these numbers are equal
 same_sum : (f g : ℕ → ℕ) (n : ℕ) → ((j : ℕ) → j < n → f j ≡ g j) → sum_below n f ≡ sum_below n g
 same_sum f g zero same = refl
 same_sum f g (suc n) same =
@@ -30,7 +30,8 @@ same_sum f g (suc n) same =
     let last : f n ≡ g n = same n (omega arith) in
     λ i. rest i + last i
 
--- if f and g differ at one number c below n only, and f is greater by v there, then so is its sum
+-- if f and g differ only at c, which is less than n, and f is greater than g by v there, then the
+-- sum of f below n is greater than that of g by v
 sum_differs : (f g : ℕ → ℕ) (c v n : ℕ) → c < n → f c ≡ v + g c → ((j : ℕ) → j ≢ c → f j ≡ g j)
     → sum_below n f ≡ v + sum_below n g
 sum_differs f g c v zero inside here others = absurd (omega arith)
@@ -50,7 +51,7 @@ no_sum f zero = refl
 no_sum f (suc n) = let rest = no_sum f n in omega arith
 
 module _ (f : ℕ → ℕ) where
-  -- the number of the entries at column j, or 0 if there is none, times f j
+  -- the number that the entries hold at column j, or 0 if there is no such entry, times f j
   abbrev term : List (ℕ × ℕ) → ℕ → ℕ
   term entries j = unwrap_or (find nat_cmp j entries) 0 * f j
 
@@ -62,8 +63,8 @@ module _ (f : ℕ → ℕ) where
       (is_less (nat_cmp x e.0) (both_hold _ _ below).0)
       ∙ none_found x entries (both_hold _ _ below).1
 
-  -- the sum over the entries, whose columns increase and are less than n, is the sum over all
-  -- columns below n
+  -- if the columns of the entries increase and are less than n, the sum of each number times f of
+  -- its column, over the entries, is the sum of `term entries` over all columns less than n
   entries_sum : (entries : List (ℕ × ℕ)) (n : ℕ) → T (is_sorted nat_cmp entries)
       → ((k : ℕ) → k < length entries → (slice_index_or entries k (0, 0)).0 < n)
       → sum_by (λ e. e.1 * f e.0) entries ≡ sum_below n (term entries)
@@ -92,8 +93,8 @@ module _ (f : ℕ → ℕ) where
           ∙ (let nothing : term entries e.0 ≡ 0 * f e.0 = ap (λ o. unwrap_or o 0 * f e.0) none in
           omega (arith, nothing))
 
--- if the columns of the entries of a row are less than n, then the sum over the entries is the sum
--- over all columns below n
+-- if the columns of the entries of a row are less than n, the sum of each number times f of its
+-- column is the same over the entries as over all columns less than n
 pub row_sum : (f : ℕ → ℕ) (row : Columns ℕ) (n : ℕ) (entries : List (ℕ × ℕ))
     → entries ≡ columns.entries row
     → ((k : ℕ) → k < length entries → (slice_index_or entries k (0, 0)).0 < n)

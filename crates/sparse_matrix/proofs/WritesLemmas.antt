@@ -19,12 +19,13 @@ module _ (write : ℕ → ℕ → ℕ) (row : Columns ℕ) (old : ℕ → ℕ) w
   abbrev number : ℕ → ℕ
   number k = (slice_index_or (columns.entries row) k (0, 0)).1
 
-  -- the first n entries of the row are written, and the numbers at other columns are the old ones
+  -- in the numbers `now`, the first n entries of the row are written, and the numbers at other
+  -- columns are the old ones
   pub record IsWritten (n : ℕ) (now : ℕ → ℕ) : Type 0 where
     pub done : (k : ℕ) → k < n → now (column k) ≡ write (old (column k)) (number k)
     pub left : (j : ℕ) → ((k : ℕ) → k < n → column k ≢ j) → now j ≡ old j
 
-  -- before the first write, no entry is written
+  -- in the old numbers, none of the entries is written
   pub none_written : IsWritten 0 old
   none_written = record { done = λ k less. absurd (omega arith); left = λ j none. refl }
 
@@ -47,7 +48,7 @@ module _ (write : ℕ → ℕ → ℕ) (row : Columns ℕ) (old : ℕ → ℕ) w
         ∙ h.left j (λ k less. none k (omega (arith, less)));
   }
 
-  -- the lemma `one_more` for a list that equals the list of the row's entries
+  -- `one_more` also holds for `entries`, a list that equals the list of the row's entries
   pub next_written : (entries : List (ℕ × ℕ)) → entries ≡ columns.entries row → (n : ℕ)
       (now next : ℕ → ℕ) → n < length entries → IsWritten n now
       → next (slice_index_or entries n (0, 0)).0
@@ -56,8 +57,8 @@ module _ (write : ℕ → ℕ → ℕ) (row : Columns ℕ) (old : ℕ → ℕ) w
       → IsWritten (n + 1) next
   next_written entries is = rw is one_more
 
-  -- after all entries are written, each column has the number that is written there. A column
-  -- without an entry counts as 0, if writing 0 changes nothing
+  -- if writing 0 over `old j` changes nothing, then after all entries are written, column j has the
+  -- number of the row written over `old j`. A column without an entry has the number 0
   pub all_written : (n : ℕ) (now : ℕ → ℕ) → n ≡ length (columns.entries row) → IsWritten n now
       → (j : ℕ) → write (old j) 0 ≡ old j
       → now j ≡ write (old j) (unwrap_or (columns.get row j) 0)

@@ -29,7 +29,8 @@ use Rattle.thin_block.specs.Ownership.{fits_block, place as slot_place, places}
 use Rattle.thin_block.proofs.HeaderMemory.{Br, block_val}
 use Rattle.thin_block.proofs.SlotMemory.{Slot, sz, reach, besides, slot_out, Two}
 
--- the distance in bytes from the first slot to the slot i fits into a word of 64 bits
+-- if the slots xs make a block that fits, the distance in bytes from the first slot to the slot i
+-- is less than 2 ^ 64
 pub near : (E : El) (xs : List (Slot E)) (i : ℕ) → fits_block (R E) (length xs) ≡ true
     → i ≤ length xs → i * sz E < 2 ^ 64
 near E xs i fits le = let low = reach (R E) i (length xs) fits le in omega arith
@@ -49,54 +50,57 @@ module _ (E : El) (Y : Al) {M : Type 1} {𝓤 : Ura M} {𝓛 : Logic 𝓤} {K : 
 module _ {M : Type 1} {𝓤 : Ura M} (𝓛 : Logic 𝓤) (Ev : Env 𝓤 𝓛.H) where
   open 𝓛 use {H}
 
-  -- the entry of the local p if it holds the value v
+  -- `holds p v` is the entry of the context which says that the local p holds the value v
   abbrev holds : ℕ → Val → Item 𝓤
   holds p v = ‵ (fat full_share (spot_of 𝓤 H Ev p).0 (spot_of 𝓤 H Ev p).1 zero v)
 
-  -- the entry of the local p if it may be written: it holds any value of its type, or none
+  -- `free p Γ` is the entry of the context Γ which says that the local p may be written: it holds
+  -- any value of its type, or none
   abbrev free : ℕ → List (Item 𝓤) → Item 𝓤
   free p Γ = nth 𝓛 0 (free_needs 𝓛 (((spot_of 𝓤 H Ev p).0, (spot_of 𝓤 H Ev p).1) ∷ [])
       (at 𝓛 p Γ ∷ ‵ ftrue ∷ []))
 
-  -- the value v has the type of the local p
+  -- `Takes p v`: the value v has the type of the local p
   abbrev Takes : ℕ → Val → Type 0
   Takes p v = T (has_ty (spot_of 𝓤 H Ev p).0 v)
 
   module _ (Γ : List (Item 𝓤)) (E : El) (b o i p₃ p₄ : ℕ) where
-    -- the context after p₃ holds the distance, which is i times the size of an item
+    -- the context after the distance in bytes (i times the size of an item) was stored in the local
+    -- p₃
     abbrev far : List (Item 𝓤)
     far = set 𝓛 p₃ (holds p₃ (vint w64 (i * sz E))) Γ
 
-    -- the context after p₄ also holds the address of the item i, counted from the offset o on
+    -- the context after the address of the item i, counted from the offset o, was also stored in
+    -- the local p₄
     abbrev pub gone : List (Item 𝓤)
     gone = set 𝓛 p₄ (holds p₄ (vptr b (i * sz E + o))) far
 
-    -- the entries of the context that the steps of `p.add(i)` use, if p holds the first address and
-    -- pᵢ the number i
+    -- the entries of the context that the steps of `p.add(i)` use, where the local p holds the
+    -- address of the first item and the local pᵢ holds i
     abbrev pub goes_by : ℕ → ℕ → List (Item 𝓤)
     goes_by p pᵢ = at 𝓛 pᵢ Γ ∷ at 𝓛 p₃ Γ ∷ at 𝓛 p far ∷ at 𝓛 p₃ far ∷ at 𝓛 p₄ far ∷ []
 
-    -- what the entries that `goes_by` lists must be
+    -- what the entries that `goes_by` lists must be, in the same order
     abbrev pub goes_with : ℕ → ℕ → List (Item 𝓤)
     goes_with p pᵢ = holds pᵢ (vint w64 i) ∷ free p₃ Γ ∷ holds p (vptr b o)
         ∷ holds p₃ (vint w64 (i * sz E)) ∷ free p₄ far ∷ []
 
   module _ (Γ : List (Item 𝓤)) (E : El) (b o i p₁ p₂ : ℕ) where
-    -- the context after p₁ holds the address of the first slot
+    -- the context after the address of the first slot was stored in the local p₁
     abbrev first : List (Item 𝓤)
     first = set 𝓛 p₁ (holds p₁ (vptr b (o + 16))) Γ
 
-    -- the context after p₂ also holds the address of the first slot
+    -- the context after the address of the first slot was stored in the locals p₁ and p₂
     abbrev pub turned : List (Item 𝓤)
     turned = set 𝓛 p₂ (holds p₂ (vptr b (o + 16))) first
 
-    -- the entries of the context that the four steps of `slot_found` use, if p holds the pointer of
-    -- the block
+    -- the entries of the context that the four steps of `slot_found` use, where the local p holds
+    -- the pointer of the block
     abbrev pub meets : ℕ → ℕ → ℕ → ℕ → List (Item 𝓤)
     meets p₃ p₄ p pᵢ = at 𝓛 p Γ ∷ at 𝓛 p₁ Γ ∷ at 𝓛 p₁ first ∷ at 𝓛 p₂ first
         ∷ goes_by turned E b (o + 16) i p₃ p₄ p₂ pᵢ
 
-    -- what the entries that `meets` lists must be
+    -- what the entries that `meets` lists must be, in the same order
     abbrev pub needs : ℕ → ℕ → ℕ → ℕ → List (Item 𝓤)
     needs p₃ p₄ p pᵢ = holds p (vptr b o) ∷ free p₁ Γ ∷ holds p₁ (vptr b (o + 16)) ∷ free p₂ first
         ∷ goes_with turned E b (o + 16) i p₃ p₄ p₂ pᵢ
@@ -151,8 +155,8 @@ module _ (E : El) {M : Type 1} {𝓤 : Ura M} {𝓛 : Logic 𝓤} {K : Type 0} {
 
 module _ (E : El) {M : Type 1} {𝓤 : Ura M} {𝓛 : Logic 𝓤} {K : Type 0} {Γ : List (Item 𝓤)}
     {G : Goal 𝓤 𝓛.H} {h : Item 𝓤} where
-  -- takes the slot i out of the row: from the context [the header; the slots] to the context [the
-  -- slot i and its content; the other slots; the header]
+  -- takes the slot i out of the row: the context [the header; the slots] becomes [the slot i and
+  -- its content; the other slots; the header]
   pub takes_slot : K → {x : Slot E} (b o : ℕ) (xs : List (Slot E)) (i : ℕ) → i < length xs
       → get_or xs i None ≡ x
       → Step K 𝓛 (‵ (slot_place (R E) x b (i * sz E + o)) ∷ ‵ (besides E 𝓛 b o xs i) ∷ h ∷ Γ) G
@@ -168,7 +172,7 @@ module _ (E : El) {M : Type 1} (𝓤 : Ura M) where
   abbrev Bits : ℕ → ℕ → Val → Item 𝓤
   Bits b o v = ‵ (fat full_share (elτ E) b o v)
 
-  -- what the item owns
+  -- what the item with the given machine value owns
   abbrev Owned : el_x E → Val → Item 𝓤
   Owned x v = ‵ (E.row.own_val x (v ∷ []))
 

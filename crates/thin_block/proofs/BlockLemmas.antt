@@ -1,5 +1,5 @@
 -- Lemmas on what a contract sees of a block: its slots may be replaced by equal ones, and two
--- successive changes of it may be combined into one.
+-- successive changes of the block may be combined into one.
 use Rattle.std.proofs.Common.{◌≡◌, ℕ, List, ap, ◌∙◌}
 use Rattle.std.specs.Prelude.{Option}
 use Rattle.thin_block.specs.Block.{Seen}

@@ -1,5 +1,4 @@
--- Lemmas on ruled capacities, exact capacities and capacities that fit. The crates above this one
--- use them too.
+-- Lemmas on ruled capacities, exact capacities and capacities that fit. Other crates use them too.
 use Rattle.std.proofs.Common.{if◌then◌else◌, Bool, true, false, IsTrue, ◌≡◌, ℕ, zero, suc, ◌*◌, ◌^◌, ◌<◌, ◌≤◌, ap, refl, subst, sym, ◌∙◌, arith}
 use Rattle.std.specs.declared.option.Option.TheVariants.{Some, None}
 use borrow.Author.Tests.{lt-ltb, le-ltb, le-leb, lt-leb}
@@ -20,20 +19,21 @@ pub ruled-same : (rule : Rule) (R : RattleType) (c w : ℕ) → w ≤ c
 unfolding ruled_capacity
 ruled-same rule R c w enough = rw (le-leb w c enough) refl
 
--- if the capacity does not suffice, and w exceeds `usize::MAX`, then there is no ruled capacity
+-- if the capacity c is less than w, and w exceeds `usize::MAX`, then there is no ruled capacity
 pub ruled-overflow : (rule : Rule) (R : RattleType) (c w : ℕ) → c < w → 2 ^ 64 ≤ w
     → ruled_capacity rule R c w ≡ None
 unfolding ruled_capacity
 ruled-overflow rule R c w more high = rw (lt-leb w c more) (rw (le-ltb w (2 ^ 64) high) refl)
 
--- if the capacity does not suffice, and w fits into a `usize`, then the ruled capacity is what the
+-- if the capacity c is less than w, and w fits into a `usize`, then the ruled capacity is what the
 -- rule chooses
 pub ruled-rule : (rule : Rule) (R : RattleType) (c w : ℕ) → c < w → w < 2 ^ 64
     → ruled_capacity rule R c w ≡ rule (type_size R) (type_align R) c w
 unfolding ruled_capacity
 ruled-rule rule R c w more word = rw (lt-leb w c more) (rw (lt-ltb w (2 ^ 64) word) refl)
 
--- n is a capacity to which a block of capacity c may grow in order to hold w items of R
+-- n is a capacity to which a block of capacity c may grow in order to hold w items of R. (This is
+-- `Grows`, with `Fits R n` as its last part.)
 pub record Grown (R : RattleType) (c w n : ℕ) : Type 0 where
   pub enough : w ≤ n
   pub doubled : 2 * c ≤ n
@@ -42,8 +42,8 @@ pub record Grown (R : RattleType) (c w n : ℕ) : Type 0 where
 none_some : {A B : Type 0} (x : A) → None ≡ Some x → B
 none_some x e = cc
 
--- if a capacity that does not suffice has a ruled capacity n, then n has room for w items, is at
--- least 2 * c, and fits
+-- if a capacity c that does not suffice for w items has a ruled capacity n, then n has room for w
+-- items, is at least 2 * c, and fits
 pub ruled-grows : (rule : Rule) (R : RattleType) (c w n : ℕ) → KeepsLaw rule → c < w
     → ruled_capacity rule R c w ≡ Some n → Grown R c w n
 ruled-grows rule R c w n law more e = elim (dec_lt w (2 ^ 64)) [
@@ -74,8 +74,8 @@ fits-less R c d e less =
 pub fits-none : (R : RattleType) → Fits R 0
 fits-none R = closed R 0 (fits_none R)
 
--- ---- numbers that are far below every limit, for callers at a known item type: fewer than 2 ^ 31
--- items of fewer than 2 ^ 31 bytes each
+-- ---- numbers that are far below every limit, for callers that know the item type: fewer than
+-- 2 ^ 31 items of fewer than 2 ^ 31 bytes each
 
 -- fewer than 2 ^ 31 items of fewer than 2 ^ 31 bytes each take less than 2 ^ 62 bytes
 pub few_bytes : (c s : ℕ) → c < 2 ^ 31 → s < 2 ^ 31 → c * s < 2 ^ 62
@@ -119,7 +119,7 @@ pub exact-same : (R : RattleType) (c w : ℕ) → w ≤ c → exact_capacity R c
 unfolding exact_capacity
 exact-same R c w enough = rw (le-leb w c enough) refl
 
--- if the capacity does not suffice, and w fits, then the exact capacity is w
+-- if the capacity c is less than w, and w fits, then the exact capacity is w
 pub exact-fits : (R : RattleType) (c w : ℕ) → c < w → Fits R w → exact_capacity R c w ≡ Some w
 unfolding exact_capacity fitting
 exact-fits R c w more fit = rw (lt-leb w c more, fit) refl
@@ -134,7 +134,7 @@ pub fitting_none : (R : RattleType) (n : ℕ) → (Fits R n → ⊥)
 unfolding fitting
 fitting_none R n never = no_answer (fits (type_size R) (type_align R) n) n never
 
--- if the capacity does not suffice, and w does not fit, then there is no exact capacity
+-- if the capacity c is less than w, and w does not fit, then there is no exact capacity
 pub exact-overflow : (R : RattleType) (c w : ℕ) → c < w → (Fits R w → ⊥)
     → exact_capacity R c w ≡ None
 unfolding exact_capacity
@@ -145,12 +145,12 @@ pub exact-none : (R : RattleType) (w : ℕ) → (Fits R w → ⊥) → exact_cap
 exact-none R zero never = absurd (never (fits-none R))
 exact-none R (suc w) never = exact-overflow R 0 (suc w) (omega arith) never
 
--- if the capacity does not suffice, and w exceeds `usize::MAX`, then there is no exact capacity
+-- if the capacity c is less than w, and w exceeds `usize::MAX`, then there is no exact capacity
 pub exact-past : (R : RattleType) (c w : ℕ) → c < w → 2 ^ 64 ≤ w → exact_capacity R c w ≡ None
 exact-past R c w more high =
     exact-overflow R c w more (λ fit. let small = fits-small R w fit in absurd (omega arith))
 
--- two item types that have the same size and the same alignment
+-- lemmas on two item types that have the same size and the same alignment
 module _ (R S : RattleType) (c w : ℕ) (size : type_size R ≡ type_size S)
     (align : type_align R ≡ type_align S) where
   -- the exact capacities of the two item types are equal

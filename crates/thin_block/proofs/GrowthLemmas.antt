@@ -5,8 +5,8 @@ use Rattle.std.proofs.Common.{arith}
 use Rattle.thin_block.specs.Capacity.{fits}
 use Rattle.thin_block.specs.Growth.{KeepsLaw, fitting}
 
--- such a rule breaks the law: if the capacity is 4 and 5 items need room, it chooses 5, which is
--- less than twice 4
+-- a rule that always chooses exactly the wanted capacity breaks the law: if the capacity is 4 and 5
+-- items need room, it chooses 5, which is less than twice 4
 pub want_alone_breaks : KeepsLaw (λ s a c w. fitting s a w) → ⊥
 unfolding fitting fits
 want_alone_breaks law =

@@ -3,8 +3,8 @@
 --     block_val, block_own        the pointer in a struct of three fields, and what the struct owns
 --     whole_size, whole_align     the size and the alignment of the memory of a whole block
 --     carve                       splits that memory into its parts, and keeps the way back
---     header, header_fits         a block without its slots, also if it has no allocation; that the
---                                 block fits
+--     header                      what a block owns without its slots, also if it has no allocation
+--     header_fits                 the header of a block implies that the block fits
 --     alloc_there                 if there are slots, the block has an allocator
 --     block_had, block_made       split a block into its header and its slots, and join them
 --     block_opens, block_closes   do the same for the block behind a `&mut`
@@ -46,7 +46,8 @@ use Rattle.std.specs.Align.{type_align}
 use Rattle.thin_block.specs.Capacity.{block_align, block_bytes}
 use Rattle.thin_block.proofs.SizesLemmas.{fits_none}
 
--- the struct with the fields Rs: what it owns does not depend on its name
+-- the struct with the given fields and an empty name: what a struct owns does not depend on its
+-- name
 abbrev pub plainly : List RattleType → RattleType
 plainly Rs = Struct (record { name = []; args = []; types = []; fields = Rs })
 
@@ -148,7 +149,7 @@ module _ {M : Type 1} {𝓤 : Ura M} (𝓛 : Logic 𝓤) (R : RattleType) where
       move ! (2 ∷ 4 ∷ []) $ join ! $ move ! (2 ∷ 0 ∷ []) $ join ! $ move ! (1 ∷ 0 ∷ []) $ join ! $
       by ! (apply∗ 𝓤 rooms (H.room (whole R c) b o))
 
--- ---- a block, with its slots apart.
+-- ---- a block, apart from its slots.
 -- What a block of c slots owns without these slots: the frame if it has an allocator; otherwise its
 -- share of the static header.
 abbrev pub header : {D : Type 0} → (D → Ty → Ptr → Fml) → RattleType → ℕ → ℕ
@@ -202,20 +203,20 @@ module _ {D : Type 0} (t : D → Ty → Ptr → Fml) (R : RattleType) {M : Type 
   header_fits k n (x ∷ xs) None b o is next = absurd (clash is)
 
 module _ (E : El) (Y : Al) where
-  -- the type arguments of the block's functions: the item type and the allocator type
+  -- the type arguments of the functions of a block: the item type and the allocator type
   abbrev pub args : Args
   args = bounded (a_type ∷ a_type ∷ []) (E.row, (Y.row, tt)) (dcons Y.d (dcons Y.drops dnil))
 
-  -- the type of blocks, as proofs see types
+  -- the type of blocks that have the item type and the allocator type of this module
   abbrev pub Br : RattleType
   Br = block.the_row (param 0 E.row) (param 1 Y.row) Y.g
 
-  -- the right to free memory of an allocator
+  -- the right to free memory that the given allocator has allocated
   abbrev pub t : Y.row.Denot → Ty → Ptr → Fml
   t = Y.g.dealloc_token
 
-  -- the header of the block x: its two words, and the allocation or the static header that they
-  -- are in
+  -- what the block x owns without its slots: its header and the rest of its allocation, or its
+  -- share of the static header
   abbrev pub Header : Br.Denot → ℕ → ℕ → Fml
   Header x b o = header t (R E) x.len (length x.slots) x.alloc b o
 
@@ -270,7 +271,7 @@ module _ (E : El) (Y : Al) {M : Type 1} {𝓤 : Ura M} {𝓛 : Logic 𝓤} {K : 
       rewrite k 2 (λ (us : List Val). ‵ (cell_at full_share (Br E Y).mir us rb ro))
       is refl $ next b o at fits))
 
-  -- closes the block behind a `&mut` again, which joins its header and its slots
+  -- closes the block behind a `&mut` again, by joining its header and its slots
   pub block_closes : K → Soaks G → {κ : Lft} {q : Share} {u v : Gv} {γ : GName} (x : (Br E Y).Denot)
       (b o rb ro : ℕ) → x.at ≡ block_ptr b o
       → Step K 𝓛 (‵ (fobs γ ((Br E Y).coded.code x)) ∷ ‵

@@ -1,4 +1,4 @@
--- The lemma files. The files that are `pub` are also for the crates above this one.
+-- The lemma files. Other crates may use those that are `pub`.
 mod SizesLemmas
 mod PowersLemmas
 mod GrowthLemmas

@@ -60,13 +60,13 @@ module _ {n : ℕ} where
   dropped (s ∷ ss) ks = (stay_dropped s ks.0, dropped ss ks.1)
 
 module _ {M : Type 1} {𝓤 : Ura M} (𝓛 : Logic 𝓤) {n : ℕ} where
-  -- the contract says nothing of the parameters ss when the function returns
+  -- the contract says nothing about the parameters ss when the function returns
   abbrev pub AllSilent : (ss : List (Slot n)) → Kepts ss → Type 1
   AllSilent [] ks = Unit {1}
   AllSilent (s ∷ ss) ks = Silent 𝓛 n s ks.0 × AllSilent ss ks.1
 
-  -- if the contract says nothing of the parameters ss when the function returns, these parameters
-  -- may be dropped
+  -- if the contract says nothing about the parameters ss when the function returns, these
+  -- parameters may be dropped
   pub all_go : (ss : List (Slot n)) (ks : Kepts ss) → AllSilent ss ks
       → AllGo 𝓛 n ss ks (dropped ss ks)
   all_go [] ks silent = tt
@@ -75,7 +75,8 @@ module _ {M : Type 1} {𝓤 : Ura M} (𝓛 : Logic 𝓤) {n : ℕ} where
 
 module _ {M : Type 1} {𝓤 : Ura M} {𝓛 : Logic 𝓤} {K : Type 0} {Γ : List (Item 𝓤)}
     {G : Goal 𝓤 𝓛.H} where
-  -- from several facts in the context, learns each of them
+  -- splits several facts in the context into single facts, and passes their proofs to the rest of
+  -- the walk
   pub heard_all : K → (φs : List (Type 0)) → (Shown φs → Seq K 𝓛 Γ G)
       → Seq K 𝓛 (raw (Facts 𝓤 φs) ∷ Γ) G
   heard_all k [] next = drop k $ next tt
@@ -88,7 +89,7 @@ module _ {M : Type 1} {𝓤 : Ura M} {𝓛 : Logic 𝓤} {K : Type 0} {Γ : List
 abbrev pub ptr_of : {X : Type 0} → MutBor X → Val
 ptr_of r = vptr r.ref_ptr.0 r.ref_ptr.1
 
--- a number less than 2 ^ 64 has the type of a word
+-- a number less than 2 ^ 64 is a value of the type of a word
 abbrev pub word : {n : ℕ} → n < 2 ^ 64 → T (has_ty (ty_int w64) (vint w64 n)) × WT (vint w64 n)
 word fits = (tt, record { fits = fits })
 
@@ -116,7 +117,7 @@ args_at E Y N = bounded (a_type ∷ a_type ∷ a_number ∷ []) (E.row, (Y.row, 
     (dcons Y.d (dcons Y.drops dnil))
 
 module _ (E : El) (Y : Al) {n : ℕ} (ss : List (Slot (suc n))) where
-  -- the parameters of a method on a `&mut Block`: the `&mut`, and the parameters ss
+  -- the parameters of a method on a `&mut Block`: the `&mut`, and then the parameters ss
   abbrev pub on_block : List (Slot (suc n))
   on_block = mut_ref_to (0 ∷ []) tt (plain (λ _. Br E Y)) ∷ ss
 
@@ -124,7 +125,7 @@ module _ (E : El) (Y : Al) {n : ℕ} (ss : List (Slot (suc n))) where
   abbrev pub block_stays : (ks : Kepts ss) → Stays on_block (yes, ks)
   block_stays ks = (stay_ref (0 ∷ []) tt (plain (λ _. Br E Y)), dropped ss ks)
 
-  -- if the contract says nothing of the other parameters when the method returns, they may be
+  -- if the contract says nothing about the other parameters when the method returns, they may be
   -- dropped
   pub goes : {M : Type 1} {𝓤 : Ura M} (𝓛 : Logic 𝓤) (ks : Kepts ss) → AllSilent 𝓛 ss ks
       → AllGo 𝓛 (suc n) on_block (yes, ks) (block_stays ks)
@@ -215,28 +216,29 @@ module _ (E : El) (Y : Al) {M : Type 1} {𝓤 : Ura M} (𝓛 : Logic 𝓤) {n : 
 
 module _ {M : Type 1} {𝓤 : Ura M} {𝓛 : Logic 𝓤} {K : Type 0} {Γ : List (Item 𝓤)}
     {G : Goal 𝓤 𝓛.H} where
-  -- takes the first token out of a row of tokens
+  -- splits the token of the first lifetime off from the tokens of the lifetimes κs
   pub token_out : K → (n : ℕ) (κs : Lfts (suc n)) (qs : Shares (suc n))
       → Step K 𝓛 (‵ (flft κs.0 qs.0) ∷ raw (toks 𝓛 n κs.1 qs.1) ∷ Γ) G
       (raw (toks 𝓛 (suc n) κs qs) ∷ Γ) G
   token_out k n κs qs = step (λ s.
       use1 𝓛 (‵ (flft κs.0 qs.0) ⊛ raw (toks 𝓛 n κs.1 qs.1)) (id⊢ 𝓤 _) $ split k $ s)
 
--- what m parameters that are not returned must leave: nothing
+-- what parameters that are not returned must leave: nothing, once for each of them
 abbrev pub blanks : ℕ → Fml
 blanks zero = ftrue
 blanks (suc m) = fsep ftrue (blanks m)
 
 module _ {M : Type 1} {𝓤 : Ura M} {𝓛 : Logic 𝓤} {K : Type 0} {Γ : List (Item 𝓤)}
     {G : Goal 𝓤 𝓛.H} where
-  -- m parameters that are not returned leave nothing, so nothing is needed for them
+  -- adds to the context what m parameters that are not returned must leave. This is nothing, so no
+  -- resource is needed
   pub blank : K → (m : ℕ) → Step K 𝓛 (‵ (blanks m) ∷ Γ) G Γ G
   blank k zero = nothing k
   blank k (suc m) = step (λ s. blank k m $ nothing k $ fjoin k $ s)
 
 module _ {M : Type 1} {𝓤 : Ura M} {𝓛 : Logic 𝓤} {K : Type 0} {G : Goal 𝓤 𝓛.H} where
-  -- joins what a function must return that returns none of its m parameters, from the context [a
-  -- token; the result; the other tokens]
+  -- for a function that returns none of its m parameters: joins the context [a token; the result;
+  -- the other tokens] into what the function must return
   pub leaves : K → {Q F : Fml} {T : Item 𝓤} (m : ℕ)
       → Step K 𝓛 (((‵ Q ⊛ T) ⊛ ‵ (blanks m) ⊛ ‵ F) ∷ []) G (‵ Q ∷ ‵ F ∷ T ∷ []) G
   leaves k m = step (λ s. move k (0 ∷ 2 ∷ []) $ join k $ blank k m $ move k (0 ∷ 2 ∷ []) $ join k $
@@ -257,7 +259,7 @@ module _ (E : El) (Y : Al) {M : Type 1} {𝓤 : Ura M} {𝓛 : Logic 𝓤} {K : 
       (fbor κ (Body (mem (Br E Y)) r.ref_ptr.0 r.ref_ptr.1 r.ghost_name)) ∷ ‵ (flft κ q) ∷ Γ) G
   opens_self k z r next = block_opens E Y k z r.now r.ref_ptr.0 r.ref_ptr.1 next
 
-  -- closes the block behind a `&mut` again, from the context [the slots as they now are; the
+  -- closes the block behind a `&mut` again; the context before is [the slots as they now are; the
   -- header; the block's cell; three entries for the open borrow]
   pub closes_over : K → Soaks G → {Γ : List (Item 𝓤)} {κ : Lft} {q : Share} {u v : Gv} {c : ℕ}
       (r : MutBor (Br E Y).Denot) (y : (Br E Y).Denot) (b o : ℕ) → y.at ≡ block_ptr b o
@@ -272,8 +274,8 @@ module _ (E : El) (Y : Al) {M : Type 1} {𝓤 : Ura M} {𝓛 : Logic 𝓤} {K : 
       rewrite k 1 (λ (c : ℕ). ‵ (header (t E Y) (R E) y.len c y.alloc b o)) (sym long) refl $
       move k (1 ∷ 0 ∷ []) $ block_closes E Y k z y b o r.ref_ptr.0 r.ref_ptr.1 at $ s)
 
-  -- joins what a method with m further parameters must return, from the context [two entries for
-  -- the `&mut`; its token; the result; the other tokens]
+  -- joins the context [two entries for the `&mut`; its token; the result; the other tokens] into
+  -- what a method with m further parameters must return
   pub leaves_with : K → {κ : Lft} {q : Share} {us : List Val} {F : Fml} {T : Item 𝓤}
       (r : MutBor (Br E Y).Denot) (y : (Br E Y).Denot) (m : ℕ) → us ≡ mut_vals r
       → Step K 𝓛 (((‵ (flft κ q) ⊛ T) ⊛ ‵
@@ -285,8 +287,8 @@ module _ (E : El) (Y : Al) {M : Type 1} {𝓤 : Ura M} {𝓛 : Logic 𝓤} {K : 
       feq_i k (List Val) us (mut_vals r) e $ fjoin3 k $ blank k m $ move k (1 ∷ 0 ∷ []) $ fjoin k $
       move k (0 ∷ 2 ∷ []) $ join k $ move k (1 ∷ 2 ∷ []) $ join k $ join k $ s)
 
-  -- joins what a method with m further parameters must return if its result is `()`, from the
-  -- context [two entries for the `&mut`; its token; the other tokens]
+  -- joins the context [two entries for the `&mut`; its token; the other tokens] into what a method
+  -- with m further parameters and the result `()` must return
   pub leaves_unit : K → {κ : Lft} {q : Share} {us : List Val} {T : Item 𝓤}
       (r : MutBor (Br E Y).Denot) (y : (Br E Y).Denot) (m : ℕ) → us ≡ mut_vals r
       → Step K 𝓛 (((‵ (flft κ q) ⊛ T) ⊛ ‵

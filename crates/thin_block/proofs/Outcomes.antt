@@ -1,5 +1,5 @@
 -- Lemmas on results that are `Ok` or `Err`, and on options that are `Some` or `None`, for this
--- crate and the crate of the list.
+-- crate and for `thin_vec`.
 use Rattle.std.proofs.Common.{Err, None, Ok, Option, Result, Some, subst, ◌≡◌}
 use Rattle.std.specs.Prelude.{OnErr, OnOk, OnSome}
 

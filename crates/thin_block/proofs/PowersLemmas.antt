@@ -15,7 +15,7 @@ use Rattle.thin_block.specs.PowerLaws.{least_power_is, powers_filled, powers_of_
 use Rattle.thin_block.proofs.CapacityLemmas.{fitting_none}
 use Rattle.thin_block.proofs.SizesLemmas.{fits_tells, opened, rounded}
 
--- if the size of an item that the code sees is 0, then the item takes no bytes
+-- if the code computes 0 as the size of an item, the item takes no bytes
 pub takes_none : (s size : ℕ) → size ≡ capped s → size ≡ 0 → s ≡ 0
 takes_none s size is none =
     let low : s < 2 ^ 63 = capped_small s (omega (arith, is, none)) in
@@ -45,7 +45,7 @@ module _ (R : RattleType) (c w size : ℕ) (is : size ≡ capped (type_size R))
   abbrev a : ℕ
   a = type_align R
 
-  -- the number of items for which the code makes room; a product that exceeds `usize::MAX` counts
+  -- the greater of w and 2 * c, as the code computes it: a product that exceeds `usize::MAX` counts
   -- as `usize::MAX`
   abbrev items : ℕ
   items = max w (min (c * 2) (2 ^ 64 - 1))
@@ -53,7 +53,8 @@ module _ (R : RattleType) (c w size : ℕ) (is : size ≡ capped (type_size R))
   abbrev wanted : ℕ
   wanted = max w (2 * c)
 
-  -- if the header and `items` items take at most 2 ^ 63 bytes, no number has exceeded `usize::MAX`
+  -- if the header and `items` items take at most 2 ^ 63 bytes, no number that the code computes
+  -- exceeds `usize::MAX`
   module _ (small : 16 + items * size ≤ 2 ^ 63) where
     size_is : s ≡ size
     size_is =

@@ -21,7 +21,8 @@ use Rattle.core.proofs.alloc.Resizes.{Sizes, Flagged, by_flag}
 use Rattle.core.proofs.mem.Param.{El, R, el_x}
 use Rattle.thin_block.specs.contracts.in_place.resized as F
 
--- the sizes that both `grow` and `shrink` of the allocator accept
+-- what both `grow` and `shrink` of the allocator require of the number of items, and of the old and
+-- the new number of places
 abbrev pub Sized : El → Sizes
 Sized E len held wanted = (len ≤ held) × ((len ≤ wanted)
     × (FitsBlock (R E) held × FitsBlock (R E) wanted))
@@ -58,7 +59,7 @@ module _ (E : El) (Y : Al) {M : Type 1} {𝓤 : Ura M} (𝓛 : Logic 𝓤) (at_m
     abbrev Block : Fml
     Block = block_with_items (token Y a) (R E) (block_ptr b o) len held xs
 
-    -- what the call leaves, which depends on its result
+    -- the resources that the caller has after the call, which depend on its result
     abbrev pub leaves : Answer.Denot → Fml
     leaves = resized_if_ok (token Y a) (R E) (block_ptr b o) len held wanted xs
 

@@ -1,6 +1,7 @@
--- A block may be sent to another thread, and shared between threads, if its items may and the right
--- to free its memory may be. What it owns, and what a `&` to it shows, names no thread: this is the
--- word `Keyless` of the logic. `Common` says it of a `&` for every lifetime.
+-- A block may be sent to another thread, and shared between threads, if its items may be, and if
+-- the right to free its memory may be. The lemmas prove that what a block owns, and what a `&` to
+-- it shows, does not depend on the thread. The logic calls this `Keyless`, and `Common` if it is
+-- true for every lifetime of a `&`.
 --     block_send, block_sync    a block may be sent, and shared
 use Rattle.std.specs.Prelude.{ℕ, zero, suc, ◌+◌, List, [], ◌∷◌, length, Option}
 use Rattle.std.specs.declared.option.Option.TheVariants.{Some, None}
@@ -28,35 +29,35 @@ number_send = search sendable
 number_sync : IsSync usize
 number_sync = search sendable
 
--- what turns the memory of items into the memory of words names no thread
+-- what turns the memory of items into the memory of words does not depend on the thread
 ways_Keyless : (τ : Ty) (m w b o : ℕ) → Keyless (ways τ m w b o)
 ways_Keyless τ m zero b o = tt
 ways_Keyless τ m (suc w) b o = ((tt, tt), ways_Keyless τ m w b (o + size (word_of τ m)))
 
--- what turns the parts of a block back into its allocation names no thread
+-- what turns the parts of a block back into its allocation does not depend on the thread
 way_back_Keyless : (w : Option (ℕ × ℕ)) (τ : Ty) (c b o : ℕ) → Keyless (way_back w τ c b o)
 way_back_Keyless None τ c b o = ((tt, (tt, tt)), tt)
 way_back_Keyless (Some w) τ c b o =
     (((tt, tt), tt), (ways_Keyless τ w.0 (div_ceil c w.0) b (o + 16), tt))
 
 module _ (R : RattleType) where
-  -- if items may be sent, a slot names no thread
+  -- if items may be sent, a slot does not depend on the thread
   place_Keyless : IsSend R → (x : Option R.Denot) (b o : ℕ) → Keyless (place R x b o)
   place_Keyless s (Some x) b o = lies R s (block_ptr b o) x
   place_Keyless s None b o = tt
 
-  -- if items may be sent, slots in a row name no thread
+  -- if items may be sent, slots in a row do not depend on the thread
   places_Keyless : IsSend R → (xs : List (Option R.Denot)) (b o : ℕ) → Keyless (places R xs b o)
   places_Keyless s [] b o = tt
   places_Keyless s (x ∷ xs) b o =
       (place_Keyless s x b o, places_Keyless s xs b (o + type_size R))
 
-  -- if items may be shared, a `&` to a slot names no thread
+  -- if items may be shared, a `&` to a slot does not depend on the thread
   place_Common : IsSync R → (x : Option R.Denot) (p : Ptr) → Common (place_lent R x p)
   place_Common y (Some x) p κ = seen R y p x κ
   place_Common y None p κ = tt
 
-  -- if items may be shared, a `&` to slots in a row names no thread
+  -- if items may be shared, a `&` to slots in a row does not depend on the thread
   places_Common : IsSync R → (xs : List (Option R.Denot)) (b o : ℕ)
       → Common (places_lent R xs b o)
   places_Common y [] b o κ = tt
@@ -64,8 +65,8 @@ module _ (R : RattleType) where
       (place_Common y x (block_ptr b o) κ, places_Common y xs b (o + type_size R) κ)
 
   module _ (Z : RattleType) (g : Ghosts Z.Denot) where
-    -- if items may be sent, and the right to free memory names no thread, then what a block owns
-    -- names no thread
+    -- if items may be sent, and the right to free memory does not depend on the thread, then what a
+    -- block owns does not depend on the thread
     block_Keyless : IsSend R → Frees g g.dealloc_token → (p : Ptr) (n : ℕ)
         (xs : List (Option R.Denot)) (a : Option Z.Denot)
         → Keyless (block_owns g.dealloc_token R p n xs a)
@@ -91,7 +92,7 @@ module _ (R : RattleType) where
       places_Keyless s xs b (o + 16),
     )
 
-    -- if items may be shared, a `&` to a block names no thread
+    -- if items may be shared, a `&` to a block does not depend on the thread
     block_Common : IsSync R → (p : Ptr) (n : ℕ) (xs : List (Option R.Denot)) (a : Option Z.Denot)
         → Common (block_lent R p n xs a)
     block_Common y null_ptr n xs a κ = tt

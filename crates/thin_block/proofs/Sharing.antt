@@ -1,7 +1,7 @@
 -- What a `&` to a block shows: its pointer, and a `&` to each word of the header and to each item.
 -- Assumes `Logic`.
 --     block_seen    splits a `&` to a block
---     run_seen      makes a slice of a run of slots that hold the items xs and are lent
+--     run_seen      turns a `&` to the items in a run of slots into a `&` to a slice
 use Rattle.std.proofs.Common.{◌≡◌, ℕ, zero, suc, Some, None, ◌+◌, ◌*◌, ◌≤◌, List, [], ◌∷◌, ◌++◌, length, Bool, true, refl, sym, ap, subst, ◌∙◌, arith}
 use native.Mathlib.Nat.{zero-mul, suc-mul}
 use lib.ListN.{drop, take-append-drop}

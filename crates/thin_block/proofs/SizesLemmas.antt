@@ -24,7 +24,8 @@ use Rattle.thin_block.specs.Growth.{fitting, doubling}
 
 -- ---- rounding up
 
--- what is known of the size of a block whose items have the alignment a and take x bytes in total
+-- what is known about the size of a block whose items have the alignment a and take x bytes in
+-- total
 pub record Rounded (a x : ℕ) : Type 0 where
   pub least : 8 ≤ block_align a
   pub most : block_align a ≤ 16
@@ -89,9 +90,9 @@ rounded_at a x is = subst (λ (k : ℕ). Rounded k x) (sym is.1) (rounded_to is.
 pub rounded : (R : RattleType) (x : ℕ) → Rounded (type_align R) x
 rounded R x = rounded_at (type_align R) x (align_known R)
 
--- ---- sizes that exceed `usize::MAX`, which the code sees as `usize::MAX`
+-- ---- sizes that exceed `usize::MAX`, which the code replaces by `usize::MAX`
 
--- if a product with a capped factor is small, the product with the factor itself is the same
+-- if the product of c and the capped number s is less than 2 ^ 63, it is the product of c and s
 pub whole_product : (c s : ℕ) → c * capped s < 2 ^ 63 → c * s ≡ c * capped s
 whole_product zero s h = zero-mul s ∙ sym (zero-mul (capped s))
 whole_product (suc c) s h =
@@ -99,7 +100,7 @@ whole_product (suc c) s h =
     let low : s < 2 ^ 63 = capped_small s (omega arith) in
     ap (λ (k : ℕ). suc c * k) (sym (capped_is s (omega arith)))
 
--- if a product with a factor is small, the product with the capped factor is the same
+-- if the product of c and s is less than 2 ^ 63, it is the product of c and the capped number s
 pub capped_product : (c s : ℕ) → c * s < 2 ^ 63 → c * capped s ≡ c * s
 capped_product zero s h = zero-mul (capped s) ∙ sym (zero-mul s)
 capped_product (suc c) s h = let more = suc-mul c s in
@@ -129,7 +130,7 @@ lt_of_not a b never = omega arith
 
 -- ---- when a block fits
 
--- c items of s bytes leave room for the header and the padding, within 2 ^ 63 bytes
+-- `Small s a c`: c items of s bytes leave room for the header and the padding, within 2 ^ 63 bytes
 abbrev pub Small : ℕ → ℕ → ℕ → Type 0
 Small s a c = c * s + 16 + block_align a ≤ 2 ^ 63
 
@@ -140,14 +141,15 @@ pub record Told (s a c : ℕ) : Type 0 where
   pub short : block_bytes s a c < 2 ^ 63
 
 module _ (s a c : ℕ) (is : IsAlign a) where
-  -- if c is less than 2 ^ 63, and its items leave room for header and padding, then c is small
+  -- if c is less than 2 ^ 63, and c items leave room for header and padding, then c is a small
+  -- capacity
   pub small_yes : c < 2 ^ 63 → Small s a c → is_small s a c ≡ true
   small_yes few room =
       let whole : block_bytes s a c < 2 ^ 63 = (rounded_at a (c * s) is).short room in
       both_true (ltb c (2 ^ 63)) (ltb (block_bytes s a c) (2 ^ 63)) (lt-ltb c (2 ^ 63) few)
       (lt-ltb (block_bytes s a c) (2 ^ 63) whole)
 
-  -- if c is small, then it is less than 2 ^ 63, and its items leave room for header and padding
+  -- if c is a small capacity, it is less than 2 ^ 63, and c items leave room for header and padding
   pub small_tells : is_small s a c ≡ true → Told s a c
   small_tells e =
       let few : c < 2 ^ 63 =
@@ -161,12 +163,13 @@ module _ (R : RattleType) (c : ℕ) where
   abbrev IsSmall : Type 0
   IsSmall = is_small (type_size R) (type_align R) c ≡ true
 
-  -- if c is less than 2 ^ 63, and c items of R leave room for header and padding, then c is small
+  -- if c is less than 2 ^ 63, and c items of R leave room for header and padding, then c is a small
+  -- capacity
   pub fits_yes : c < 2 ^ 63 → Small (type_size R) (type_align R) c → IsSmall
   fits_yes few room = small_yes (type_size R) (type_align R) c (align_known R) few room
 
-  -- if c is small for items of R, then it is less than 2 ^ 63, and c items of R leave room for
-  -- header and padding
+  -- if c is a small capacity for items of R, it is less than 2 ^ 63, and c items of R leave room
+  -- for header and padding
   pub fits_tells : IsSmall → Told (type_size R) (type_align R) c
   fits_tells e = small_tells (type_size R) (type_align R) c (align_known R) e
 
@@ -180,8 +183,8 @@ module _ (R : RattleType) (c : ℕ) where
   unfolding fits
   closed e = e
 
-  -- if c is at most the quotient that the code computes, then c items leave room for header and
-  -- padding
+  -- if c is at most the quotient that the code computes, then c items of R leave room for header
+  -- and padding
   pub divided : (size : ℕ) → size ≡ capped (type_size R) → 0 < size
       → c ≤ (2 ^ 63 - block_align (type_align R) - 16) / size → Small (type_size R) (type_align R) c
   divided size is some few =
@@ -195,7 +198,7 @@ module _ (R : RattleType) (c : ℕ) where
       ∙ ap (λ (k : ℕ). c * k) (sym is) in
       omega arith
 
-  -- if c items leave room for header and padding, then c is at most the quotient that the code
+  -- if c items of R leave room for header and padding, then c is at most the quotient that the code
   -- computes
   pub dividing : (size : ℕ) → size ≡ capped (type_size R) → 0 < size
       → Small (type_size R) (type_align R) c → c ≤ (2 ^ 63 - block_align (type_align R) - 16) / size
@@ -215,7 +218,7 @@ fits_none R =
 
 -- ---- the first capacity
 
--- if the code sees a size that exceeds 2 ^ 61 - 1, the first capacity is 1
+-- if the size that the code computes for an item exceeds 2 ^ 61 - 1, the first capacity is 1
 pub first_one : (s : ℕ) → 2 ^ 61 - 1 < capped s → 1 ≡ first s
 unfolding first
 first_one s large =
@@ -224,7 +227,7 @@ first_one s large =
     absurd (omega arith)) in
     rw (lt-ltb (2 ^ 61 - 1) s above) refl
 
--- if the code sees a size of at most 2 ^ 61 - 1, the first capacity is 4
+-- if the size that the code computes for an item is at most 2 ^ 61 - 1, the first capacity is 4
 pub first_many : (s : ℕ) → capped s ≤ 2 ^ 61 - 1 → 4 ≡ first s
 unfolding first
 first_many s small =
@@ -243,7 +246,7 @@ unfolding fits
 fits_no s a c many = first_false (ltb c (2 ^ 63)) (ltb (block_bytes s a c) (2 ^ 63))
     (le-ltb c (2 ^ 63) many)
 
--- the capacity that doubling tries: it is chosen if it fits
+-- the capacity that doubling tries: doubling chooses this capacity if it fits
 abbrev pub tried : ℕ → ℕ → ℕ → ℕ
 tried s c w = max w (if c == 0 then first s else 2 * c)
 

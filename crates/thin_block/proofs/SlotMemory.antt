@@ -36,7 +36,8 @@ use Rattle.thin_block.specs.Ownership.{fits_block, place, places}
 use Rattle.thin_block.specs.Slots.{full, empty, run, laid}
 use Rattle.thin_block.proofs.SizesLemmas.{fits_tells}
 
--- the distance in bytes from the first slot to the slot i is less than 2 ^ 63
+-- if a block of c slots fits, the distance in bytes from the first slot to the slot i is less than
+-- 2 ^ 63
 pub reach : (Rw : RattleType) (i c : ℕ) → fits_block Rw c ≡ true → i ≤ c → i * type_size Rw < 2 ^ 63
 reach Rw i c fits le =
     let small = (fits_tells Rw c fits).room in
@@ -44,7 +45,7 @@ reach Rw i c fits le =
     times_below i c (type_size Rw) (2 ^ 63) le all
 
 module _ (E : El) where
-  -- what a slot may hold: an item, or nothing
+  -- what a slot may hold: an item or nothing
   abbrev pub Slot : Type 0
   Slot = Option (el_x E)
 
@@ -166,20 +167,20 @@ module _ (E : El) {M : Type 1} {𝓤 : Ura M} (𝓛 : Logic 𝓤) (b : ℕ) wher
   of_row [] o = id⊢ 𝓤 (emp 𝓤)
   of_row (x ∷ xs) o = mono_r 𝓤 (sem 𝓛 (part_at (R E) full_share x b o)) (of_row xs (o + s))
 
-  -- slots that hold the items xs are an array of xs
+  -- slots that hold the items xs may be used as an array of xs
   pub to_items : (k : ℕ) (xs : List (el_x E)) (o : ℕ) → length xs ≡ k
       → ent 𝓤 (sem 𝓛 (Row o (full xs))) (sem 𝓛 (part_at (Array (R E) k) full_share xs b o))
   to_items k xs o long = qed 𝓛 (‵ (Row o (full xs)) ∷ []) ∵ use1 𝓛 (‵ (row (R E) full_share xs b o))
       (to_row xs o) $ by ! (arrays.whole E' 𝓛 full_share k xs b o long)
 
-  -- an array of the items xs is slots that hold xs
+  -- an array of the items xs may be used as slots that hold xs
   pub of_items : (k : ℕ) (xs : List (el_x E)) (o : ℕ)
       → ent 𝓤 (sem 𝓛 (part_at (Array (R E) k) full_share xs b o)) (sem 𝓛 (Row o (full xs)))
   of_items k xs o = qed 𝓛 (‵ (part_at (Array (R E) k) full_share xs b o) ∷ []) ∵
       use1 𝓛 (given (length xs ≡ k) (‵ (row (R E) full_share xs b o)))
       (arrays.apart E' 𝓛 full_share k xs b o) $ learn ! (λ _. by ! (of_row xs o))
 
-  -- the number of items of an array is the number that its type says
+  -- the number of items in an array is the number k in the array's type
   pub counted : (k : ℕ) (xs : List (el_x E)) (o : ℕ)
       → ent 𝓤 (sem 𝓛 (part_at (Array (R E) k) full_share xs b o))
       (guard 𝓤 (length xs ≡ k) (sem 𝓛 (part_at (Array (R E) k) full_share xs b o)))
@@ -188,19 +189,19 @@ module _ (E : El) {M : Type 1} {𝓤 : Ura M} (𝓛 : Logic 𝓤) (b : ℕ) wher
       (arrays.apart E' 𝓛 full_share k xs b o) $
       learn ! (λ long. check ! long $ by ! (arrays.whole E' 𝓛 full_share k xs b o long))
 
-  -- slots that hold the items xs are the cells of xs, as std sees them
+  -- slots that hold the items xs may be used as the cells of xs in a slice
   pub to_cells : (xs : List (el_x E)) (o : ℕ) → ent 𝓤 (sem 𝓛 (Row o (full xs)))
       (sem 𝓛 (cells (mem (R E)) xs b o))
   to_cells [] o = id⊢ 𝓤 (emp 𝓤)
   to_cells (x ∷ xs) o = mono_r 𝓤 (sem 𝓛 (part_at (R E) full_share x b o)) (to_cells xs (o + s))
 
-  -- cells of the items xs, as std sees them, are slots that hold xs
+  -- the cells of the items xs in a slice may be used as slots that hold xs
   pub of_cells : (xs : List (el_x E)) (o : ℕ) → ent 𝓤 (sem 𝓛 (cells (mem (R E)) xs b o))
       (sem 𝓛 (Row o (full xs)))
   of_cells [] o = id⊢ 𝓤 (emp 𝓤)
   of_cells (x ∷ xs) o = mono_r 𝓤 (sem 𝓛 (part_at (R E) full_share x b o)) (of_cells xs (o + s))
 
-  -- uninitialized memory for an array of k items is k empty slots
+  -- uninitialized memory for an array of k items may be used as k empty slots
   pub of_room : (k o : ℕ) → ent 𝓤 (H.room (ty_array (elτ E) k) b o) (sem 𝓛 (Row o (empty k)))
   of_room zero o = qed 𝓛 (‵ (froom (ty_array (elτ E) 0) b o) ∷ []) ∵ keep ! [] $ done !
   of_room (suc k) o = qed 𝓛 (‵ (froom (ty_array (elτ E) (suc k)) b o) ∷ []) ∵
@@ -209,7 +210,7 @@ module _ (E : El) {M : Type 1} {𝓤 : Ura M} (𝓛 : Logic 𝓤) (b : ℕ) wher
       use1 𝓛 (‵ (place (R E) None b o)) (𝓛.laws.room-raw (elτ E) b o) $ keeps ! $
       by ! (of_room k (o + s))
 
-  -- k empty slots are uninitialized memory for an array of k items
+  -- k empty slots may be used as uninitialized memory for an array of k items
   pub to_room : (k o : ℕ) → ent 𝓤 (sem 𝓛 (Row o (empty k))) (H.room (ty_array (elτ E) k) b o)
   to_room zero o = 𝓛.laws.room_nil (elτ E) b o
   to_room (suc k) o = qed 𝓛 (‵ (Row o (empty (suc k))) ∷ []) ∵ fsplit ! $
@@ -217,17 +218,17 @@ module _ (E : El) {M : Type 1} {𝓤 : Ura M} (𝓛 : Logic 𝓤) (b : ℕ) wher
       use1 𝓛 (‵ (froom (ty_array (elτ E) k) b (o + s))) (to_room k (o + s)) $ move ! (1 ∷ []) $
       by ! (𝓛.laws.room_cons (elτ E) k b o)
 
-  -- uninitialized memory for the bare type of an array of k items is k empty slots
+  -- uninitialized memory for the bare type of an array of k items may be used as k empty slots
   pub of_raw : (k o : ℕ) → ent 𝓤 (H.room (bare (ty_array (elτ E) k)) b o) (sem 𝓛 (Row o (empty k)))
   of_raw k o = via 𝓤 (H.room (ty_array (elτ E) k) b o)
       (𝓛.laws.raw-room (ty_array (elτ E) k) b o) (of_room k o)
 
-  -- k empty slots are uninitialized memory for the bare type of an array of k items
+  -- k empty slots may be used as uninitialized memory for the bare type of an array of k items
   pub to_raw : (k o : ℕ) → ent 𝓤 (sem 𝓛 (Row o (empty k))) (H.room (bare (ty_array (elτ E) k)) b o)
   to_raw k o = via 𝓤 (H.room (ty_array (elτ E) k) b o) (to_room k o)
       (𝓛.laws.room-raw (ty_array (elτ E) k) b o)
 
-  -- all slots except the two slots i and j, if i is less than j
+  -- all slots of the row except the slots i and j, if i is less than j
   abbrev Others : ℕ → List (Slot E) → ℕ → ℕ → Fml
   Others o xs i j = fsep (besides o (take j xs) i) (Row (j * s + o + s) (drop (suc j) xs))
 
@@ -266,7 +267,7 @@ module _ (E : El) {M : Type 1} {𝓤 : Ura M} (𝓛 : Logic 𝓤) (b : ℕ) wher
       (sym (drop-set-lt (suc j) xs i x (omega arith))) refl $ fjoin ! $ move ! (1 ∷ 0 ∷ []) $
       by ! (slot_in o (set xs i x) j low' y)
 
-  -- the slots i and j can be taken out of the row, and any content of these two can be put back
+  -- the slots i and j can be taken out of the row xs, and can be put back with any content
   pub record Two (o : ℕ) (xs : List (Slot E)) (i j : ℕ) : Type 1 where
     pub Rest : Fml
     pub out : ent 𝓤 (sem 𝓛 (Row o xs))
@@ -301,7 +302,7 @@ module _ (E : El) {M : Type 1} {𝓤 : Ura M} (𝓛 : Logic 𝓤) (b : ℕ) wher
             done !;
       }
 
-  -- two different slots can be taken out of the row, and put back with any content
+  -- two different slots can be taken out of the row xs, and can be put back with any content
   pub two_slots : (o : ℕ) (xs : List (Slot E)) (i j : ℕ) → (i ≡ j → ⊥) → i < length xs
       → j < length xs → Two o xs i j
   two_slots o xs i j apart low low' = ⊎_elim (λ (p : i < j). in_order o xs i j p low')

@@ -64,11 +64,12 @@ module _ {T : Type 0} where
       λ n. bare zero (omega arith) (omega arith) n ∷ empty-run s zero k (omega arith)
       (λ j p q. bare (suc j) (omega arith) (omega arith)) n
 
-  -- if the row has k slots from i on, the run of k slots from i on has k slots
+  -- if the row s has k slots from i on, then `run i k s` has k slots
   pub length-run : (s : List (Option T)) (i k : ℕ) → i + k ≤ length s → length (run i k s) ≡ k
   length-run s i k le = omega (arith, length-take k (drop i s), length-drop i s)
 
-  -- laying slots over a row does not change the number of slots of the row
+  -- laying the slots ys over a row that has room for them does not change the number of slots of
+  -- the row
   pub length-laid : (i : ℕ) (ys s : List (Option T)) → i + length ys ≤ length s
       → length (laid i ys s) ≡ length s
   length-laid i ys s le =
@@ -108,7 +109,7 @@ module _ {T : Type 0} where
   laid-none i s = ap (λ (k : ℕ). take i s ++ drop k s) (let e : i + 0 ≡ i = omega arith in
       e) ∙ take-append-drop i s
 
-  -- laying ys and then setting the next slot to y is the same as laying ys and y
+  -- laying ys and then setting the next slot to y is the same as laying ys followed by y
   pub laid-one : (i : ℕ) (ys s : List (Option T)) (k : ℕ) (y : Option T) → k ≡ i + length ys
       → k < length s → set (laid i ys s) k y ≡ laid i (ys ++ y ∷ []) s
   laid-one i ys s k y e within =
@@ -126,7 +127,7 @@ module _ {T : Type 0} where
       (sym (append_assoc ys (y ∷ []) (drop (suc k) s)))
       ∙ ap (λ (n : ℕ). take i s ++ ((ys ++ y ∷ []) ++ drop n s)) long))))
 
-  -- laying slots does not change the slots after them
+  -- laying the slots ys over a row does not change the slots after them
   pub slot-laid : (i : ℕ) (ys s : List (Option T)) (k : ℕ) → i ≤ length s → i + length ys ≤ k
       → slot (laid i ys s) k ≡ slot s k
   slot-laid i ys s k low past =
@@ -168,7 +169,8 @@ module _ {T : Type 0} where
       (drop_at pre (ys ++ post) i (sym e)) ∙ take_at ys post k (sym n)
 
   module _ (from to k : ℕ) where
-    -- `moved` in three steps: taking the run, emptying its slots, and laying the run elsewhere
+    -- if ys is the run, `bare` is the row with the run emptied, and `result` is `bare` with ys laid
+    -- over it from `to` on, then moving the run yields `result`
     moved-by : (s ys bare result : List (Option T)) → run from k s ≡ ys → emptied from k s ≡ bare
         → laid to ys bare ≡ result → moved from to k s ≡ result
     unfolding moved
@@ -306,7 +308,8 @@ module _ {T : Type 0} where
   full-filled (x ∷ xs) rest (suc i) low =
       full-filled xs rest i (let low' : suc i < suc (length xs) = low in omega arith)
 
-  -- c empty slots after the items xs are a empty slots followed by b more, if c is a + b
+  -- if c is a + b, the items xs and c empty slots are the items xs and a empty slots, followed by b
+  -- empty slots
   tail-split : (xs : List T) (a b c : ℕ) → c ≡ a + b
       → full xs ++ empty c ≡ (full xs ++ empty a) ++ empty b
   tail-split xs a b c e =
@@ -352,7 +355,7 @@ module _ {T : Type 0} (s : List (Option T)) (n : ℕ) (packed : IsPacked s n) wh
   packed-rest = ap (λ (l : Row). drop n l) parted
       ∙ drop_at (full xs) (empty (length s - n)) n full-long
 
-  -- after its first n slots are emptied, the row is empty
+  -- emptying the first n slots leaves only empty slots
   pub packed-emptied : emptied 0 n s ≡ empty (length s)
   packed-emptied =
       let le = packed-le in

@@ -5,8 +5,8 @@
 --     turn_out, turn_back         split the last k words from the others, and join them
 --     turn_up, turn_down          make the array that an allocator can grow, and split it again
 --     units_out                   memory for the words in the header, as memory for its two words
---     header_apart, header_whole  split a block without its slots into what its words need, and
---                                 join it
+--     header_apart, header_whole  split a block without its slots into memory for words, and join
+--                                 it again
 use Rattle.std.proofs.Common.{◌≡◌, true, ℕ, Some, None, ◌+◌, ◌-◌, ◌*◌, List, [], ◌∷◌, ◌++◌, length, refl, sym, ap, ◌∙◌, arith, w64, append_assoc}
 use Rattle.std.proofs.lemmas.List.{length-map, length-append, length-replicate, map-append, replicate-append-replicate}
 use Rattle.std.specs.Prelude.{Bool}
@@ -45,7 +45,7 @@ use Rattle.thin_block.proofs.SlotMemory.{cut, glue, to_items, of_items, to_raw, 
 use Rattle.thin_block.proofs.WordsLemmas.{InWords, word_align, word_size, words_told, nameless}
 use Rattle.thin_block.proofs.WordsMemory.{word_el, header_out, header_in, block_out, block_in}
 
--- half of the header: the capacity, or the length
+-- the type of half of the header: of the capacity, or of the length
 abbrev half : Ty
 half = ty_int w64
 
@@ -90,7 +90,7 @@ module _ {M : Type 1} {𝓤 : Ura M} (𝓛 : Logic 𝓤) (E : El) (b c o : ℕ) 
   open 𝓛 use {H}
 
   -- the parts of a block: the two words of the header, the slots, and what turns these parts back
-  -- into the whole
+  -- into the memory of the whole block
   abbrev Parts : Option (ℕ × ℕ) → SProp 𝓤
   Parts w = sep 𝓤 (H.room half b o) (sep 𝓤 (H.room half b (o + 8))
       (sep 𝓤 (H.room (array_of (R E) c) b (o + 16)) (sem 𝓛 (way_back w (bare (R E)) c b o))))
@@ -119,12 +119,12 @@ module _ {M : Type 1} {𝓤 : Ura M} (𝓛 : Logic 𝓤) (E : El) (b c o : ℕ) 
       let h = known w e in
       block_in 𝓛 (bare (R E)) w.0 w.1 b h (div_ceil c w.0) c o (h.counts.covers c)
 
-  -- splits the memory of a block into its parts, and keeps the way back
+  -- splits the memory of a block into its parts, and keeps what turns them back into the whole
   pub carve_asked : ent 𝓤 (H.room (asked (R E) c) b o) (Parts (words_of (R E)))
   carve_asked = carve_for (words_of (R E)) (sym (same_words (R E) c))
 
-  -- joins a block without its slots, and uninitialized memory for these, into the memory of the
-  -- whole block
+  -- joins a block without its slots, and uninitialized memory for the slots, into the memory of the
+  -- whole block and the right to free it
   pub gather : (t : Ty → Ptr → Fml) (n : ℕ)
       → ent 𝓤 (sep 𝓤 (sem 𝓛 (frame t (R E) n c b o)) (H.room (array_of (R E) c) b (o + 16)))
       (sep 𝓤 (H.room (asked (R E) c) b o) (sem 𝓛 (t (asked (R E) c) (block_ptr b o))))
@@ -154,7 +154,8 @@ module _ {M : Type 1} {𝓤 : Ura M} (𝓛 : Logic 𝓤) (E : El) (b : ℕ) (k :
   abbrev Slots' : ℕ → List (Option (el_x E)) → Fml
   Slots' at xs = places (R E) xs b at
 
-  -- the items xs, then the k items ys, which take as many bytes as the header, and m empty slots
+  -- a row that holds the items xs and then the k items ys, which take as many bytes as the header,
+  -- and that ends with m empty slots
   module _ (xs ys : List (el_x E)) (long : length ys ≡ k) (n m : ℕ)
       (count : n ≡ length xs + k) where
     abbrev there : ℕ
@@ -193,7 +194,7 @@ module _ {M : Type 1} {𝓤 : Ura M} (𝓛 : Logic 𝓤) (E : El) (b : ℕ) (k :
     abbrev Last : ℕ → Fml
     Last at = part_at (Array (R E) k) full_share ys b at
 
-    -- splits the last k items from the others
+    -- splits the last k items from the other items and from the empty slots
     pub turn_out : ent 𝓤 (sem 𝓛 (Slots' (o + 16) All))
         (sep 𝓤 (sem 𝓛 (Slots' (o + 16) (full xs)))
         (sep 𝓤 (sem 𝓛 (Last there)) (sem 𝓛 (Slots' past_all (empty m)))))
@@ -206,7 +207,8 @@ module _ {M : Type 1} {𝓤 : Ura M} (𝓛 : Logic 𝓤) (E : El) (b : ℕ) (k :
         (cut E 𝓛 b (full ys) (empty m) there past_all at_end) $ split ! $
         use1 𝓛 (‵ (Last there)) (to_items E 𝓛 b k ys there long) $ move ! (2 ∷ 0 ∷ 1 ∷ []) $ done !
 
-    -- joins the last k items with the others, at their old place
+    -- joins the last k items with the other items and the empty slots, if all are at their old
+    -- places
     pub turn_back : ent 𝓤 (sep 𝓤 (sem 𝓛 (Slots' (o + 16) (full xs)))
         (sep 𝓤 (sem 𝓛 (Last there)) (sem 𝓛 (Slots' past_all (empty m)))))
         (sem 𝓛 (Slots' (o + 16) All))
@@ -309,14 +311,16 @@ module _ {M : Type 1} {𝓤 : Ura M} (𝓛 : Logic 𝓤) (T : RattleType) (L : L
   hd : InWords (size (bare (R Item))) (align (bare (R Item))) m k
   hd = nameless (elτ Item) m k (words_told (R Item) m k is)
 
-  -- uninitialized memory for k words is uninitialized memory for the two words of the header
+  -- splits uninitialized memory for k words into uninitialized memory for the two words of the
+  -- header, and the way back
   pub units_out : ent 𝓤 (H.room units b o)
       (sep 𝓤 (H.room half b o)
       (sep 𝓤 (H.room half b (o + 8)) (sem 𝓛 (header_way (bare (R Item)) m k b o))))
   units_out = via 𝓤 (H.room (array_of (R W) k) b o) (𝓛.laws.room-raw units b o)
       (header_out 𝓛 (bare (R Item)) m k b hd o)
 
-  -- uninitialized memory for the two words of the header is uninitialized memory for k words
+  -- joins uninitialized memory for the two words of the header and the way back into uninitialized
+  -- memory for k words
   pub units_in : ent 𝓤 (sep 𝓤 (H.room half b o) (sep 𝓤 (H.room half b (o + 8))
       (sem 𝓛 (header_way (bare (R Item)) m k b o)))) (H.room units b o)
   units_in = via 𝓤 (H.room (array_of (R W) k) b o) (header_in 𝓛 (bare (R Item)) m k b hd o)
@@ -332,8 +336,8 @@ module _ {M : Type 1} {𝓤 : Ura M} (𝓛 : Logic 𝓤) (T : RattleType) (L : L
     asked_words : words_of (R Item) ≡ Some (m, k)
     asked_words = same_words (R Item) c ∙ is
 
-    -- splits a block without its slots: uninitialized memory for the k words of the header, the way
-    -- back from the slots to words, and the right to free the block
+    -- splits a block without its slots into uninitialized memory for the k words of the header, the
+    -- way back from the slots to words, and the right to free the block
     pub header_apart : ent 𝓤 (sem 𝓛 (frame t (R Item) n c b o))
         (sep 𝓤 (H.room units b o) (sep 𝓤 (sem 𝓛 Rest) (sem 𝓛 Right)))
     header_apart =
@@ -355,7 +359,8 @@ module _ {M : Type 1} {𝓤 : Ura M} (𝓛 : Logic 𝓤) (T : RattleType) (L : L
         rewrite ! 0 (λ (j : ℕ). ‵ (t (array_of (R W) j) (block_ptr b o))) (sym total) refl $
         move ! (1 ∷ 2 ∷ 0 ∷ []) $ done !
 
-    -- joins the capacity, the length, the ways back and the right to free into a header
+    -- joins the capacity, the length, the ways back and the right to free into a block without its
+    -- slots
     pub header_whole : fits_block (R Item) c ≡ true
         → ent 𝓤 (sep 𝓤 (sem 𝓛 (lies_at usize full_share (block_ptr b o) c))
         (sep 𝓤 (sem 𝓛 (lies_at usize full_share (block_ptr b (o + 8)) n))

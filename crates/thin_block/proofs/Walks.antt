@@ -1,5 +1,5 @@
--- What all walks share: the parts of a body, what follows a part, and a walk that holds the
--- thread's token. Assumes `Logic`.
+-- What all walks share: the parts of a body, what must hold after a part has run, and how a walk
+-- proves the clauses of an `ensures`. Assumes `Logic`.
 pub use Rattle.core.proofs.alloc.Shapes.{after, head, inside, arm_body}
 use Rattle.std.proofs.Common.{◌≡◌, ℕ, zero, suc, List, [], ◌∷◌, refl, T}
 use seplogic.Ra.Ura.{Ura}
@@ -21,7 +21,7 @@ use denote.Laws.{Is, Typed}
 use denote.Builtin.{unit}
 use denote.Signature.{Slot, plain}
 
--- the type of the local with the index k
+-- the parameter with the index k, or one of the type `()` if there are not so many
 abbrev pub slot_at : {n : ℕ} → ℕ → List (Slot n) → Slot n
 slot_at k [] = plain (λ _. unit)
 slot_at zero (s ∷ ss) = s
@@ -30,7 +30,7 @@ slot_at (suc k) (s ∷ ss) = slot_at k ss
 module _ {M : Type 1} {𝓤 : Ura M} (𝓛 : Logic 𝓤) where
   open 𝓛 use {H}
 
-  -- what must hold before the rest b of a body runs
+  -- what must hold before the given rest of a body runs
   abbrev pub then_runs : Calls 𝓤 H → Loops 𝓤 H → Env 𝓤 H → Body → Post 𝓤 H → Post 𝓤 H
   then_runs C Λ E b q = any_q (after_seq 𝓤 H (Wp 𝓤 H C Λ E b (post 𝓤 H q)) (post 𝓤 H q))
 
@@ -38,13 +38,13 @@ module _ {M : Type 1} {𝓤 : Ura M} (𝓛 : Logic 𝓤) where
   abbrev pub out_of_block : Post 𝓤 H → Post 𝓤 H
   out_of_block q = any_q (after_block 𝓤 H (post 𝓤 H q))
 
--- the statements of an `ensures` with several clauses
+-- the clauses of a `requires` or an `ensures`, as facts in the context of a walk
 abbrev pub Facts : {M : Type 1} (𝓤 : Ura M) → List (Type 0) → SProp 𝓤
 Facts 𝓤 [] = emp 𝓤
 Facts 𝓤 (φ ∷ []) = fact 𝓤 φ
 Facts 𝓤 (φ ∷ ψ ∷ φs) = sep 𝓤 (fact 𝓤 φ) (Facts 𝓤 (ψ ∷ φs))
 
--- the proofs of the clauses of an `ensures`
+-- proofs of the clauses of a `requires` or an `ensures`
 abbrev pub Shown : List (Type 0) → Type 0
 Shown [] = Unit {0}
 Shown (φ ∷ []) = φ
@@ -68,7 +68,7 @@ says_all {𝓤 = 𝓤} k φs {P} x = step (λ s. record {
       (via 𝓤 (sep 𝓤 (Facts 𝓤 φs) P) (mono_l 𝓤 P (facts_i 𝓤 φs x)) (comm∗ 𝓤 (Facts 𝓤 φs) P)));
 })
 
--- the value of an `AllocError` owns nothing, so nothing is needed for it
+-- an `AllocError` owns nothing, so it can be made without resources
 pub refused_made : {M : Type 1} {𝓤 : Ura M} (𝓛 : Logic 𝓤)
     → ent 𝓤 (emp 𝓤) (sem 𝓛 (AE.the_row.own_val (record {}) (vstruct vnil ∷ [])))
 refused_made 𝓛 = qed 𝓛 [] ∵
@@ -76,7 +76,7 @@ refused_made 𝓛 = qed 𝓛 [] ∵
     (Struct-Makes 𝓛 (Declared.shape AE.the_type) tt) tt (vstruct vnil ∷ []) (tt, (refl, tt)) $
     done !
 
--- if a list of machine values has a type, then it is one value of that type
+-- if a list of machine values has the type τ alone, then it consists of one value of this type
 pub alone : (τ : Ty) (vs : List Val) → Typed (τ ∷ []) vs → (v : Val)
     × ((vs ≡ v ∷ []) × (T (has_ty τ v) × WT v))
 alone τ [] t = absurd t

@@ -21,15 +21,15 @@ use denote.RattleType.{RattleType}
 use Rattle.thin_block.specs.Capacity.{in_words, block_align, block_bytes}
 use Rattle.std.specs.Option.{is_some}
 
--- the alignment of a word of items with the alignment a
+-- the alignment of a word whose items have the given alignment
 abbrev pub word_align : ℕ → ℕ
 word_align a = max a (max 8 1)
 
--- the size in bytes of a word of m items of s bytes
+-- `word_size s a m` is the size in bytes of a word of m items of s bytes with the alignment a
 abbrev pub word_size : ℕ → ℕ → ℕ → ℕ
 word_size s a m = up (word_align a) (up 8 (up a 0 + m * s) + 0 * 8)
 
--- for every c: the number of words that c items need, if a word holds m items
+-- what is known about `div_ceil c m`, the number of words that c items need if a word holds m items
 pub record Counts (m : ℕ) : Type 0 where
   pub some : 0 < m
   pub covers : (c : ℕ) → c ≤ div_ceil c m * m
@@ -79,7 +79,7 @@ counts_8 = record {
   few = λ c. omega arith;
 }
 
--- the size and the alignment of a word, and the size in bytes of a block of words
+-- what is known about words: their size and alignment, and the size in bytes of a block of words
 abbrev Laid : ℕ → ℕ → ℕ → ℕ → Type 0
 Laid s a m k = (word_size s a m ≡ m * s) × ((word_align a ≡ block_align a)
     × (Dv 8 (word_align a) × (Dv a (word_align a)
@@ -145,7 +145,7 @@ in_words_by s a m k c any room l = record {
   any = any;
 }
 
--- `InWords` holds for each alignment that divides the size s
+-- `AtAny s m k`: `InWords` holds for items of s bytes and each alignment that divides s
 abbrev AtAny : ℕ → ℕ → ℕ → Type 0
 AtAny s m k = (w : Width) → Dv (bytes w) s → InWords s (bytes w) m k
 
@@ -154,18 +154,20 @@ abbrev pair : Option (ℕ × ℕ) → ℕ × ℕ
 pair None = (0, 0)
 pair (Some p) = p
 
--- if the words of items of t bytes are known, they are known for items of the same size s
+-- if s equals t, and p equals q, then what is known about words of items of t bytes holds for items
+-- of s bytes
 at_size : (s t : ℕ) (p q : ℕ × ℕ) → s ≡ t → ◌≡◌ {A = Option (ℕ × ℕ)} (Some p) (Some q)
     → AtAny t p.0 p.1 → AtAny s q.0 q.1
 at_size s t p q es e all =
     subst (λ (x : ℕ × (ℕ × ℕ)). AtAny x.0 x.1.0 x.1.1) (λ i. (sym es i, pair (e i))) all
 
--- the words of items, found by five tests of their size
+-- how many items make a word, and how many words make the header, computed from five tests of the
+-- size of an item
 abbrev tested : Bool → Bool → Bool → Bool → Bool → Option (ℕ × ℕ)
 tested x y z u v = if x then Some (8, 2) else (if y then Some (4, 2) else
     (if z then Some (2, 2) else (if u then Some (1, 2) else (if v then Some (1, 1) else None))))
 
--- if one of the five tests succeeds, then `InWords` holds
+-- if one of the five tests of the size s succeeds, then `InWords` holds for items of s bytes
 by_test : (x y z u v : Bool) (s : ℕ) (q : ℕ × ℕ) → (s == 1) ≡ x → (s == 2) ≡ y → (s == 4) ≡ z
     → (s == 8) ≡ u → (s == 16) ≡ v → tested x y z u v ≡ Some q → AtAny s q.0 q.1
 by_test true y z u v s q ex ey ez eu ev e =

@@ -73,7 +73,7 @@ module _ {M : Type 1} {𝓤 : Ura M} (𝓛 : Logic 𝓤) (τ : Ty) (m k b : ℕ)
   abbrev run : Ty
   run = ty_array τ m
 
-  -- half of the header: the capacity, or the length
+  -- the type of half of the header: of the capacity, or of the length
   abbrev half : Ty
   half = ty_int w64
 
@@ -91,7 +91,7 @@ module _ {M : Type 1} {𝓤 : Ura M} (𝓛 : Logic 𝓤) (τ : Ty) (m k b : ℕ)
   one_more : (w : ℕ) → m + w * m ≡ suc w * m
   one_more w = omega (arith, suc-mul w m)
 
-  -- splits memory for w words into memory for their items, and the ways back to words
+  -- splits memory for w words into memory for their items, and `ways` back to the words
   pub ways_out : (w o : ℕ) → ent 𝓤 (H.room (ty_array ω w) b o)
       (sep 𝓤 (H.room (ty_array τ (w * m)) b o) (sem 𝓛 (ways τ m w b o)))
   ways_out zero o =
@@ -115,7 +115,7 @@ module _ {M : Type 1} {𝓤 : Ura M} (𝓛 : Logic 𝓤) (τ : Ty) (m k b : ℕ)
       rewrite ! 0 (λ (n : ℕ). ‵ (froom (ty_array τ n) b o)) (one_more w) refl $
       move ! (2 ∷ 1 ∷ 0 ∷ []) $ fjoin ! $ move ! (1 ∷ 0 ∷ []) $ done !
 
-  -- joins memory for the items of w words and the ways back into memory for w words
+  -- joins memory for the items of w words and the `ways` back into memory for the words
   pub ways_in : (w o : ℕ) → ent 𝓤 (sep 𝓤 (H.room (ty_array τ (w * m)) b o) (sem 𝓛 (ways τ m w b o)))
       (H.room (ty_array ω w) b o)
   ways_in zero o = qed 𝓛 (‵ (froom (ty_array τ (0 * m)) b o) ∷ ‵ ftrue ∷ []) ∵ keep ! [] $
@@ -229,11 +229,11 @@ module _ {M : Type 1} {𝓤 : Ura M} (𝓛 : Logic 𝓤) (τ : Ty) (m k b : ℕ)
 abbrev pub number_of_items : ℕ → RattleType
 number_of_items m = param 1 (number m)
 
--- the type of words, as proofs see types
+-- the type of words, for the given item type and the given number of items of a word
 abbrev pub word_row : RattleType → ℕ → RattleType
 word_row T m = the_row (param 0 T) (number_of_items m)
 
--- the type of words, in the form that walks use for the items of a block
+-- the type of words as the item type of a block, in the form that walks use
 abbrev pub word_el : (T : RattleType) → Laws T → ℕ → El
 word_el T L m = record {
   row = word_row T m;
@@ -252,16 +252,16 @@ zero_at w128 = refl
 zero_up : (τ : Ty) → up (align τ) 0 ≡ 0
 zero_up τ = subst (λ (a : ℕ). up a 0 ≡ 0) (sym (align-bytes τ)) (zero_at (align_w τ))
 
--- the first n words that the items xs make
+-- `words_made T m n xs` is the first n words that the items xs make
 abbrev pub words_made : (T : RattleType) (m n : ℕ) → List T.Denot → List (word_row T m).Denot
 words_made T m n xs = map (word (param 0 T) (number_of_items m)) (first_chunks m n xs)
 
--- cutting items into n chunks gives n chunks
+-- cutting a list into its first n chunks yields n chunks
 pub chunks_long : {X : Type 0} (m n : ℕ) (xs : List X) → length (first_chunks m n xs) ≡ n
 chunks_long m zero xs = refl
 chunks_long m (suc n) xs = ap suc (chunks_long m n (rest m xs))
 
--- the items make n words
+-- the first n words that the items xs make are n words
 pub words_long : (T : RattleType) (m n : ℕ) (xs : List T.Denot)
     → length (words_made T m n xs) ≡ n
 words_long T m n xs = length-map (first_chunks m n xs) (word (param 0 T) (number_of_items m))
@@ -333,7 +333,8 @@ module _ {M : Type 1} {𝓤 : Ura M} (𝓛 : Logic 𝓤) (T : RattleType) (L : L
     abbrev Rooms : SProp 𝓤
     Rooms = rooms_for 𝓤 H fields zero b o
 
-    -- the way back to memory for a word follows from the way back to memory for its fields
+    -- what turns memory for the fields of a word into memory for the word also turns memory for its
+    -- items into memory for the word
     way_out : ent 𝓤 (RoomBack 𝓤 H (the_type (R E) N).name fields b o) (sem 𝓛 (way τ' m b o))
     way_out =
         qed 𝓛 (raw (RoomBack 𝓤 H (the_type (R E) N).name fields b o) ∷ []) ∵
@@ -373,7 +374,7 @@ module _ {M : Type 1} {𝓤 : Ura M} (𝓛 : Logic 𝓤) (T : RattleType) (L : L
   words n xs = words_made T m n xs
 
   -- slots that hold the items xs are the slots of the first word, followed by the slots of the
-  -- others
+  -- other words
   parted : (xs : List X) → full xs ≡ full (take m xs) ++ full (rest m xs)
   parted xs = ap full (sym (take-append-drop m xs)) ∙ map-append Some (take m xs) (rest m xs)
 
@@ -390,7 +391,7 @@ module _ {M : Type 1} {𝓤 : Ura M} (𝓛 : Logic 𝓤) (T : RattleType) (L : L
         ap (λ (n : ℕ). n * s) (length-map (take m xs) Some ∙ first_long) in
         let e = wide in omega arith
 
-  -- filled slots and the ways to n + j words are the items of n words, and the ways to j words
+  -- turns filled slots, and `ways` to n + j words, into the items of n words, and `ways` to j words
   to_runs : (n w j : ℕ) (xs : List X) (o at : ℕ) → length xs ≡ n * m → w ≡ j + n → at ≡ n * u' + o
       → ent 𝓤 (sep 𝓤 (sem 𝓛 (places (R E) (full xs) b o)) (sem 𝓛 (ways τ' m w b o)))
       (sep 𝓤 (sem 𝓛 (runs_at (R E) N (chunks n xs) b o)) (sem 𝓛 (ways τ' m j b at)))
@@ -418,7 +419,7 @@ module _ {M : Type 1} {𝓤 : Ura M} (𝓛 : Logic 𝓤) (T : RattleType) (L : L
       (to_runs n (j + n) j (rest m xs) far at (rest_long n xs o long) refl
       (omega (arith, ea, suc-mul n u'))) $ split ! $ move ! (2 ∷ 0 ∷ []) $ fjoin ! $ done !
 
-  -- n words in a row and the ways to j words are filled slots, and the ways to n + j words
+  -- turns n words in a row, and `ways` to j words, into filled slots, and `ways` to n + j words
   of_runs : (n w j : ℕ) (xs : List X) (o at : ℕ) → length xs ≡ n * m → w ≡ j + n → at ≡ n * u' + o
       → ent 𝓤 (sep 𝓤 (sem 𝓛 (places (R W) (full (words n xs)) b o)) (sem 𝓛 (ways τ' m j b at)))
       (sep 𝓤 (sem 𝓛 (places (R E) (full xs) b o)) (sem 𝓛 (ways τ' m w b o)))
@@ -457,7 +458,7 @@ module _ {M : Type 1} {𝓤 : Ura M} (𝓛 : Logic 𝓤) (T : RattleType) (L : L
     end_at : far ≡ past τ' j at
     end_at = end ∙ sym (past_is τ' j at)
 
-    -- empty slots, the ways to words, and the memory that no slot takes are empty words
+    -- turns empty slots, `ways` to words, and the memory that no slot takes into empty words
     spare_words : ent 𝓤 (sep 𝓤 (sem 𝓛 (places (R E) (empty j) b at))
         (sep 𝓤 (sem 𝓛 (ways τ' m v b at)) (sem 𝓛 Spare)))
         (sem 𝓛 (places (R W) (empty v) b at))
@@ -471,7 +472,7 @@ module _ {M : Type 1} {𝓤 : Ura M} (𝓛 : Logic 𝓤) (T : RattleType) (L : L
         use2 𝓛 (‵ (froom (ty_array (word_of τ' m) v) b at)) (ways_in 𝓛 τ' m k b hd' v at) $
         by ! (of_raw W 𝓛 b v at)
 
-    -- empty words are empty slots, the ways to words, and the memory that no slot takes
+    -- turns empty words into empty slots, `ways` to words, and the memory that no slot takes
     spare_slots : ent 𝓤 (sem 𝓛 (places (R W) (empty v) b at))
         (sep 𝓤 (sem 𝓛 (places (R E) (empty j) b at))
         (sep 𝓤 (sem 𝓛 (ways τ' m v b at)) (sem 𝓛 Spare)))
@@ -521,7 +522,7 @@ module _ {M : Type 1} {𝓤 : Ura M} (𝓛 : Logic 𝓤) (T : RattleType) (L : L
         ap (λ (x : ℕ). length xs * x) (size-raw σ) in
         let e = same_bytes in let a = at_after in omega arith
 
-    -- turns filled slots into items that can be made words, and the empty slots into empty words
+    -- turns filled slots into items that can be made words, and empty slots into empty words
     pub words_in : ent 𝓤 (sep 𝓤 (sem 𝓛 (places (R E) (full xs ++ empty j) b o))
         (sem 𝓛 (slots_way τ' m w c b o)))
         (sep 𝓤 (sem 𝓛 (runs_at (R E) N (chunks n xs) b o)) (sem 𝓛 (places (R W) (empty v) b after)))

@@ -2,18 +2,19 @@
 use Rattle.std.specs.Prelude.{ℕ, ◌+◌, refl}
 use Rattle.std.specs.Coded.{Coded, code_by, coded×, coded_ℕ}
 
--- three counts of what was done to a block since it was new
+-- three counts of what was done to a block since it was made
 pub record Cost : Type 0 where
-  -- the allocations that were granted, also those that changed the size of the block
+  -- the number of granted requests for memory, both for a new allocation and for a change of its
+  -- size
   pub blocks : ℕ
-  -- the items that had to be copied into such an allocation: they are counted also if the block
-  -- could stay where it was
+  -- the number of items that reallocations have copied. If the block stays at its address, its
+  -- items are counted as copied too
   pub grown : ℕ
-  -- the items that were placed, or moved within the block. A clone is placed, and counts as one. An
-  -- item that is taken out is not counted
+  -- the number of items that were put into the block, or moved within it. A clone that is put into
+  -- the block counts as one item. An item that is taken out is not counted
   pub moves : ℕ
 
--- the code of a cost is the code of its three numbers
+-- costs are encoded as the three numbers that they consist of
 abbrev pub cost_code : Coded Cost
 cost_code =
     code_by (ℕ × (ℕ × ℕ)) (coded× coded_ℕ (coded× coded_ℕ coded_ℕ))
@@ -24,10 +25,10 @@ cost_code =
 abbrev pub no_cost : Cost
 no_cost = record { blocks = 0; grown = 0; moves = 0 }
 
--- the cost c plus one more allocation, into which k items were copied
+-- `growing k c` is the cost c plus one more allocation, into which k items were copied
 abbrev pub growing : ℕ → Cost → Cost
 growing k c = record { blocks = c.blocks + 1; grown = c.grown + k; moves = c.moves }
 
--- the cost c plus k more moves
+-- `moving k c` is the cost c plus k more moves
 abbrev pub moving : ℕ → Cost → Cost
 moving k c = record { blocks = c.blocks; grown = c.grown; moves = c.moves + k }

@@ -13,7 +13,7 @@ when_some : (b : Bool) (m n : ℕ) → (if b then Some m else None) ≡ Some n �
 when_some true m n e = (refl, cc)
 when_some false m n e = cc
 
--- if `fitting` of m is Some n, then m fits, and m is n
+-- if `fitting s a m` is Some n, then the capacity m fits, and m is n
 pub fitting_is : (s a m n : ℕ) → fitting s a m ≡ Some n → IsTrue (fits s a m) × (m ≡ n)
 unfolding fitting
 fitting_is s a m n e = when_some (fits s a m) m n e

@@ -10,8 +10,8 @@ use Rattle.thin_block.specs.declared.block.Block.{Block}
 use Rattle.thin_block.specs.contracts.block.Block.{the_row}
 
 module _ {X : Type 0} where
-  -- the slots s, after the items of ws were written over the items in the filled slots from i on;
-  -- this stops at the first empty slot, and at the end of s or of ws
+  -- `over s i ws` is the row s after the items of ws were written over the items in the slots from
+  -- i on. Writing stops at the first empty slot, and at the end of s or of ws.
   abbrev pub over : List (Option X) → ℕ → List X → List (Option X)
   over [] i ws = []
   over (x ∷ s) (suc i) ws = x ∷ over s i ws
@@ -28,7 +28,7 @@ module _ {X : Type 0} where
   length-over (Some x ∷ s) zero (w ∷ ws) = ap suc (length-over s zero ws)
 
 module _ {X Z : Type 0} where
-  -- the block b with the slots s, which are as many as before
+  -- the block b with s as its slots, whose number does not change
   abbrev pub with_slots : (b : Block X Z) (s : List (Option X))
       → length s ≡ length b.slots → Block X Z
   with_slots b s same =
@@ -41,21 +41,21 @@ module _ {X Z : Type 0} where
         );
       }
 
-  -- the block b with the item w in the slot i
+  -- `with_item b i w` is the block b with the item w in the slot i
   abbrev pub with_item : Block X Z → ℕ → X → Block X Z
   with_item b i w = with_slots b (slice_set b.slots i (Some w)) (length-set b.slots i (Some w))
 
-  -- the block b with the items ws in the slots from i on
+  -- `with_items b i ws` is the block b with the items ws in the slots from i on
   abbrev pub with_items : Block X Z → ℕ → List X → Block X Z
   with_items b i ws = with_slots b (over b.slots i ws) (length-over b.slots i ws)
 
 module _ (T A : RattleType) (g : Ghosts A.Denot) (b : MutBor (Block T.Denot A.Denot)) where
-  -- r is a `&mut` to the item in the slot i of b, and b holds what was written to r after r has
-  -- ended
+  -- `LendsItem i r`: r is a `&mut` to the item in the slot i of the block, and after r has ended,
+  -- this slot holds what was written to r
   abbrev pub LendsItem : ℕ → MutBor T.Denot → Fml
   LendsItem i r = Lends (the_row T A g) T b r (with_item b.now i)
 
-  -- r is a `&mut` to the items of b in the slots from i on, and b holds what was written to r after
-  -- r has ended
+  -- `LendsItems i r`: r is a `&mut` to the items of the block in the slots from i on, and after r
+  -- has ended, these slots hold what was written to r
   abbrev pub LendsItems : ℕ → MutBor (List T.Denot) → Fml
   LendsItems i r = Lends (the_row T A g) (Array T 0) b r (with_items b.now i)

@@ -1,5 +1,5 @@
 -- The definitions that the contracts use, the laws of the growth rules, and the former of blocks,
--- which says how a block is made of its items.
+-- which tells the prover why a type may contain blocks of itself.
 pub mod Capacity
 pub mod Growth
 pub mod GrowthLaws

@@ -3,8 +3,8 @@
 -- No public clause cites this module.
 --     place, places   one slot, and all slots in a row: each is an item in memory, or uninitialized
 --                     memory for one
---     frame           a block without its slots: the two words of the header, that the block fits,
---                     and the backing
+--     frame           a block without its slots: the two words of the header, the fact that the
+--                     block fits, and the backing
 --     word_of, way    if items make words: the type of a word, and what turns memory for its items
 --                     into memory for the word
 --     backing         what turns the parts of a block back into the memory that was allocated, and
@@ -44,7 +44,8 @@ any_same [] (y ∷ ys) e = absurd (omega arith)
 any_same (x ∷ xs) [] e = absurd (omega arith)
 any_same (x ∷ xs) (y ∷ ys) e = refl
 
--- whether a block of c slots is small enough to be allocated
+-- whether a block is small enough to be allocated, for items of the given type and the given number
+-- of slots
 abbrev pub fits_block : RattleType → ℕ → Bool
 fits_block R c = is_small (type_size R) (type_align R) c
 
@@ -58,8 +59,8 @@ abbrev pub places : (R : RattleType) → List (Option R.Denot) → ℕ → ℕ �
 places R [] b o = ftrue
 places R (x ∷ xs) b o = fsep (place R x b o) (places R xs b (o + type_size R))
 
--- the type of a whole block of c slots for items of the type τ: a struct of the two words of the
--- header and an array of the slots
+-- `whole_of τ c` is the type of a whole block of c slots for items of the type τ: a struct of the
+-- two words of the header and an array of the slots
 abbrev pub whole_of : Ty → ℕ → Ty
 whole_of τ c = ty_struct []
     (tcons (ty_int w64) (tcons (ty_int w64) (tcons (ty_array τ c) tnil)))
@@ -69,27 +70,26 @@ whole_of τ c = ty_struct []
 abbrev pub bare : RattleType → Ty
 bare R = raw (lone R.mir)
 
--- the type of a whole block of c slots for items of R
+-- `whole R c` is the type of a whole block of c slots for items of R
 abbrev pub whole : RattleType → ℕ → Ty
 whole R c = whole_of (bare R) c
 
--- the type of a word: m items, aligned as a block is
+-- `word_of τ m` is the type of a word: m items of the type τ, aligned as a block is
 abbrev pub word_of : Ty → ℕ → Ty
 word_of τ m = ty_struct [] (tcons (ty_array τ m) (tcons (ty_array (ty_int w64) 0) tnil))
 
--- how many items of R make a word, and how many words take as many bytes as the header. Only the
--- size of the bare type matters.
+-- how many items of a type make a word, and how many words take as many bytes as the header. Only
+-- the size of the bare type matters.
 abbrev pub words_of : RattleType → Option (ℕ × ℕ)
 words_of R = in_words (size (bare R))
 
--- the type for which the memory of a block of c slots is allocated. If the items make words, it is
--- an array of words, which the allocator can grow in place. Otherwise it is the type of the whole
--- block.
+-- the type for which the memory of a block is allocated. If the items make words, it is an array of
+-- words, which the allocator can grow in place. Otherwise it is the type of the whole block.
 abbrev pub asked_for : Option (ℕ × ℕ) → Ty → ℕ → Ty
 asked_for None τ c = whole_of τ c
 asked_for (Some w) τ c = ty_array (word_of τ w.0) (w.1 + div_ceil c w.0)
 
--- the type for which the memory of a block of c slots for items of R is allocated
+-- `asked R c` is the type for which the memory of a block of c slots for items of R is allocated
 abbrev pub asked : RattleType → ℕ → Ty
 asked R c = asked_for (words_of R) (bare R) c
 
@@ -97,59 +97,62 @@ asked R c = asked_for (words_of R) (bare R) c
 abbrev pub header_room : ℕ → ℕ → Fml
 header_room b o = fsep (froom (ty_int w64) b o) (froom (ty_int w64) b (o + 8))
 
--- uninitialized memory for the parts of a block: the capacity, the length, and c slots
+-- uninitialized memory for the parts of a block: the capacity, the length, and the slots
 abbrev pub parts_for : Ty → ℕ → ℕ → ℕ → Fml
 parts_for τ c b o = fsep (froom (ty_int w64) b o)
     (fsep (froom (ty_int w64) b (o + 8)) (froom (ty_array τ c) b (o + 16)))
 
--- uninitialized memory for the parts of a block of c slots for items of R
+-- `parts R c b o` is uninitialized memory for the parts of a block of c slots for items of R
 abbrev pub parts : RattleType → ℕ → ℕ → ℕ → Fml
 parts R c b o = parts_for (bare R) c b o
 
--- what turns uninitialized memory for m items into uninitialized memory for one word
+-- what turns uninitialized memory for the items of one word into uninitialized memory for the word
 abbrev pub way : Ty → ℕ → ℕ → ℕ → Fml
 way τ m b o = fwand (froom (ty_array τ m) b o) (froom (word_of τ m) b o)
 
--- what turns uninitialized memory for m items into memory for a word, for each of w words in a row
+-- for each of several words in a row: what turns uninitialized memory for its items into
+-- uninitialized memory for the word
 abbrev pub ways : Ty → ℕ → ℕ → ℕ → ℕ → Fml
 ways τ m zero b o = ftrue
 ways τ m (suc w) b o = fsep (way τ m b o) (ways τ m w b (o + size (word_of τ m)))
 
--- what turns uninitialized memory for the header into memory for the k words that take as many
--- bytes
+-- what turns uninitialized memory for the header into uninitialized memory for the words that take
+-- as many bytes
 abbrev pub header_way : Ty → ℕ → ℕ → ℕ → ℕ → Fml
 header_way τ m k b o = fwand (header_room b o) (froom (ty_array (word_of τ m) k) b o)
 
--- what turns the memory of c slots into memory for w words: the conversion of each word, and the
--- memory at the end of the last word that no slot takes
+-- what turns the memory of the slots into memory for words: the conversion of each word, and the
+-- memory at the end of the last word that belongs to no slot
 abbrev pub slots_way : Ty → ℕ → ℕ → ℕ → ℕ → ℕ → Fml
 slots_way τ m w c b o = fsep (ways τ m w b o) (froom (ty_array τ (w * m - c)) b (o + c * size τ))
 
--- what turns the parts of a block back into the memory of the whole block, with its padding, once
--- these parts are uninitialized
+-- what turns the uninitialized parts of a block back into the memory of the whole block, with its
+-- padding
 abbrev pub way_back : Option (ℕ × ℕ) → Ty → ℕ → ℕ → ℕ → Fml
 way_back None τ c b o = fwand (parts_for τ c b o) (froom (whole_of τ c) b o)
 way_back (Some w) τ c b o = fsep (header_way τ w.0 w.1 b o)
     (slots_way τ w.0 (div_ceil c w.0) c b (o + 16))
 
--- the way back from the parts of a block to the whole, and the right t to free the block
+-- what turns the parts of a block back into the memory of the whole block (`way_back`), and the
+-- right to free the block
 abbrev pub backing_for : (Ty → Ptr → Fml) → Option (ℕ × ℕ) → Ty → ℕ → ℕ → ℕ → Fml
 backing_for t w τ c b o = fsep (way_back w τ c b o) (t (asked_for w τ c) (block_ptr b o))
 
--- the way back and the right to free the block, for a block of c slots for items of R
+-- for a block of items of a given type: what turns its parts back into the memory of the whole
+-- block, and the right to free the block
 abbrev pub backing : (Ty → Ptr → Fml) → RattleType → ℕ → ℕ → ℕ → Fml
 backing t R c b o = backing_for t (words_of R) (bare R) c b o
 
--- a block without its slots: the capacity c and the length n in memory, that the block fits, and
--- the backing
+-- `frame t R n c b o` is a block without its slots: the capacity c and the length n in memory, the
+-- fact that the block fits, and the backing
 abbrev pub frame : (Ty → Ptr → Fml) → RattleType → ℕ → ℕ → ℕ → ℕ → Fml
 frame t R n c b o =
     fsep (lies_at usize full_share (block_ptr b o) c)
     (fsep (lies_at usize full_share (block_ptr b (o + 8)) n)
     (fsep (feq Bool (fits_block R c) true) (backing t R c b o)))
 
--- what a block owns. If it has no allocator, it has no allocation: it shares the two words of the
--- static header, which are 0 and lent for ever.
+-- what a block owns. A block without an allocator has no allocation: it shares the two words of the
+-- static header, which are 0 and lent forever.
 abbrev pub block_owns : {D : Type 0} → (D → Ty → Ptr → Fml) → (R : RattleType) → Ptr → ℕ
     → List (Option R.Denot) → Option D → Fml
 block_owns t R null_ptr n xs a = ffalse
@@ -163,19 +166,19 @@ abbrev pub place_lent : (R : RattleType) → Option R.Denot → Ptr → Lft → 
 place_lent R (Some x) p = lent_at R p x
 place_lent R None p = nothing
 
--- a `&` to each item of slots in a row
+-- a `&` to each item in a row of slots
 abbrev pub places_lent : (R : RattleType) → List (Option R.Denot) → ℕ → ℕ → Lft → Fml
 places_lent R [] b o = nothing
 places_lent R (x ∷ xs) b o = beside (place_lent R x (block_ptr b o))
     (places_lent R xs b (o + type_size R))
 
--- a `&` to each of the two words of the header, and that the block fits
+-- a `&` to each of the two words of the header, and the fact that the block fits
 abbrev pub frame_lent : (R : RattleType) → ℕ → ℕ → ℕ → ℕ → Lft → Fml
 frame_lent R n c b o =
     beside (lent_at usize (block_ptr b o) c)
     (beside (lent_at usize (block_ptr b (o + 8)) n) (said (feq Bool (fits_block R c) true)))
 
--- a `&` to a block: a `&` to each of its two words, and to each item in its slots
+-- a `&` to a block: a `&` to each of the two words of its header, and to each item in its slots
 abbrev pub block_lent : {D : Type 0} → (R : RattleType) → Ptr → ℕ
     → List (Option R.Denot) → Option D → Lft → Fml
 block_lent R null_ptr n xs a = said ffalse

@@ -20,15 +20,16 @@ below_power : (n : ℕ) → n < 2 ^ n
 below_power zero = omega arith
 below_power (suc n) = omega (arith, below_power n, pow_more 2 n)
 
--- assume that p is a power of two whose half is too small: if p is at least n, then p is the least
--- power of two that is at least n; otherwise that power is `next`
+-- Let p be a power of two whose half is less than `max 1 n`. If p is less than n, let `next` be the
+-- least power of two that is at least n. Then this least power is p if p is at least n, and `next`
+-- otherwise.
 one_step : (b : Bool) (n p next : ℕ) → nat_le n p ≡ b → IsPowerOfTwo p → p / 2 < max 1 n
     → (p < n → IsNextPowerOfTwo n next) → IsNextPowerOfTwo n (if b then p else next)
 one_step true n p next e power half later = (power, leb-true n p e, half)
 one_step false n p next e power half later = later (leb-false n p e)
 
--- if p is a power of two whose half is too small, and k doublings of p reach n, then `doubled_to`
--- returns the least power of two that is at least n
+-- if p is a power of two whose half is less than `max 1 n`, and k doublings of p reach n, then
+-- `doubled_to` returns the least power of two that is at least n
 doubled_is : (k n p : ℕ) → IsPowerOfTwo p → p / 2 < max 1 n → n ≤ 2 ^ k * p
     → IsNextPowerOfTwo n (doubled_to k n p)
 doubled_is zero n p power half enough = (power, omega (arith, enough), half)
@@ -45,7 +46,7 @@ pub least_power_is : (n : ℕ) → IsNextPowerOfTwo n (least_power n)
 unfolding least_power
 least_power_is n = doubled_is n n 1 (0, refl) (omega arith) (omega (arith, below_power n))
 
--- if 2 ^ k is at least n, and half of 2 ^ j is too small, then 2 ^ j is at most 2 ^ k
+-- if 2 ^ k is at least n, and half of 2 ^ j is less than `max 1 n`, then 2 ^ j is at most 2 ^ k
 not_more : (n j k : ℕ) → n ≤ 2 ^ k → 2 ^ j / 2 < max 1 n → 2 ^ j ≤ 2 ^ k
 not_more n zero k enough half = pow_pos k
 not_more n (suc j) k enough half = elim (cases_lt j k) [
@@ -70,7 +71,8 @@ pub powers_of_none : (s a c w : ℕ) → s ≡ 0 → power_bytes s a c w ≡ dou
 unfolding power_bytes
 powers_of_none s a c w none = let test : (s == 0) ≡ true = grind (arith, nat_tests) in rw test refl
 
--- for items of at least one byte, the rule `power_bytes` uses the least power of two that has room
+-- for items of at least one byte, `power_bytes` chooses as many items as fit, with the header, into
+-- the least power of two bytes that has room for w items and for twice the capacity
 pub powers_of_some : (s a c w : ℕ) → 0 < s → power_bytes s a c w ≡ fitting s a
     ((least_power (items_offset a + max w (2 * c) * s) - items_offset a) / s)
 unfolding power_bytes
@@ -78,7 +80,7 @@ powers_of_some s a c w some = let test : (s == 0) ≡ false = grind (arith, nat_
 
 -- what `power_bytes` chooses for items of at least one byte: assume that it chooses the capacity n
 module _ (s a c w n : ℕ) (some : 0 < s) (e : power_bytes s a c w ≡ Some n) where
-  -- how many bytes the items take for which there must be room
+  -- the size in bytes of w items or of 2 * c items, whichever is greater
   abbrev wanted : ℕ
   wanted = max w (2 * c) * s
 
@@ -86,15 +88,16 @@ module _ (s a c w n : ℕ) (some : 0 < s) (e : power_bytes s a c w ≡ Some n) w
   abbrev power : ℕ
   power = least_power (items_offset a + wanted)
 
-  -- n is the number of items for which `power` has room after the header, and this number fits
+  -- n is the number of items that fit into `power` bytes after the header, and n is a capacity that
+  -- fits
   named : IsTrue (fits s a ((power - items_offset a) / s)) × ((power - items_offset a) / s ≡ n)
   named = fitting_is s a ((power - items_offset a) / s) n (sym (powers_of_some s a c w some) ∙ e)
 
-  -- the power has room for the header and the wanted items
+  -- `power` bytes have room for the header and for `wanted` bytes
   room : items_offset a + wanted ≤ power
   room = (least_power_is (items_offset a + wanted)).1
 
-  -- the capacity n is large enough, at least twice the old capacity, and fits
+  -- the capacity n has room for w items, is at least 2 * c, and fits
   pub powers_grow : IsGrown s a c w n
   powers_grow =
       let more : max w (2 * c) ≤ (power - items_offset a) / s =
@@ -105,7 +108,7 @@ module _ (s a c w n : ℕ) (some : 0 < s) (e : power_bytes s a c w ≡ Some n) w
         fits = subst (λ (k : ℕ). IsTrue (fits s a k)) named.1 named.0;
       }
 
-  -- a block of n items fills the power, with less than one item to spare
+  -- some power of two bytes has room for the header and n items, but not for one more item
   pub powers_filled : FillsPower s a n
   powers_filled =
       let parts = div-add-mod' (power - items_offset a) s in

@@ -11,15 +11,15 @@ module _ {T : Type 0} where
   abbrev pub empty : ℕ → List (Option T)
   empty k = replicate k None
 
-  -- the content of the slot i: None if the slot is empty, or if there is no such slot
+  -- `slot s i` is the content of the slot i: None if the slot is empty, or if there is no such slot
   abbrev pub slot : List (Option T) → ℕ → Option T
   slot s i = slice_index_or s i None
 
-  -- each of the k slots from i on holds an item
+  -- `AreFilled s i k`: each of the k slots from i on holds an item
   abbrev pub AreFilled : List (Option T) → ℕ → ℕ → Type 0
   AreFilled s i k = (j : ℕ) → i ≤ j → j < i + k → IsSome (slot s j)
 
-  -- each of the k slots from i on is empty
+  -- `AreEmpty s i k`: each of the k slots from i on is empty
   abbrev pub AreEmpty : List (Option T) → ℕ → ℕ → Type 0
   AreEmpty s i k = (j : ℕ) → i ≤ j → j < i + k → slot s j ≡ None
 
@@ -29,28 +29,28 @@ module _ {T : Type 0} where
   items_in (None ∷ s) = items_in s
   items_in (Some x ∷ s) = x ∷ items_in s
 
-  -- c slots: the first ones hold the items of xs, and the others are empty
+  -- `front xs c` is a row of c slots: the first ones hold the items of xs, and the others are empty
   abbrev pub front : List T → ℕ → List (Option T)
   front xs c = full xs ++ empty (c - length xs)
 
-  -- there are n items, and they are in the first n slots
+  -- the row s holds n items, and they are in its first n slots
   pub record IsPacked (s : List (Option T)) (n : ℕ) : Type 0 where
     pub row : s ≡ front (items_in s) (length s)
     pub len : n ≡ length (items_in s)
 
-  -- the k slots from i on
+  -- `run i k s` is the k slots of the row s from i on
   abbrev pub run : ℕ → ℕ → List (Option T) → List (Option T)
   run i k s = take k (drop i s)
 
-  -- the slots s, with ys in place of as many slots from i on
+  -- `laid i ys s` is the row s, with the slots from i on replaced by the slots ys, one for one
   abbrev pub laid : ℕ → List (Option T) → List (Option T) → List (Option T)
   laid i ys s = take i s ++ (ys ++ drop (i + length ys) s)
 
-  -- the slots s, with the k slots from i on emptied
+  -- `emptied i k s` is the row s, with the k slots from i on emptied
   abbrev pub emptied : ℕ → ℕ → List (Option T) → List (Option T)
   emptied i k s = laid i (empty k) s
 
-  -- the slots s, after the content of the k slots from `from` on was moved to the slots from `to`
-  -- on
+  -- `moved from to k s` is the row s, after the content of the k slots from `from` on was moved to
+  -- the slots from `to` on
   unfoldable pub moved : ℕ → ℕ → ℕ → List (Option T) → List (Option T)
   moved from to k s = laid to (run from k s) (emptied from k s)

@@ -16,7 +16,7 @@ use Rattle.thin_block.specs.Slots.{full}
 use Rattle.thin_block.specs.contracts.words.Words.{the_row}
 
 module _ (T M : RattleType) where
-  -- the word that holds the items xs
+  -- `word xs` is the word that holds the items xs
   abbrev pub word : List T.Denot → (the_row T M).Denot
   word xs = record { items = xs; aligned = [] }
 
@@ -30,12 +30,13 @@ module _ (T M : RattleType) where
   runs_at (xs ∷ xss) b o = fsep (run_at xs b o)
       (runs_at xss b (o + size (word_of (bare T) (value_of M))))
 
-  -- the items of several words in a row, from the address of a pointer on
+  -- the items of several words in a row, which begin at the address of a pointer, each with its
+  -- conversion into a word
   abbrev pub runs_from : List (List T.Denot) → Ptr → Fml
   runs_from xss null_ptr = ffalse
   runs_from xss (block_ptr b o) = runs_at xss b o
 
-  -- several words in a row, from the address of a pointer on
+  -- several words in a row, which begin at the address of a pointer
   abbrev pub words_from : List (List T.Denot) → Ptr → Fml
   words_from xss null_ptr = ffalse
   words_from xss (block_ptr b o) = places (the_row T M) (full (map word xss)) b o

@@ -34,8 +34,8 @@ struct Header {
 /// memory. Contracts see the slots, the stored length, the allocator that the memory came from, and
 /// three counters. Only the slots and the length take memory.
 pub struct Block<T, A: Allocator> {
-    // Points to the capacity, which the length and then the slots follow. Without an allocation, it
-    // points to `NO_BLOCK`.
+    // Points to the capacity, which is followed by the length and then by the slots. Without an
+    // allocation, it points to `NO_BLOCK`.
     pub(crate) at: *mut usize,
     pub(crate) item: PhantomData<T>,
     pub(crate) handle: PhantomData<A>,
@@ -52,11 +52,12 @@ impl<T, A: Allocator> Model for Block<T, A> {
     ghost also_shares = { λ b _ κ. block_lent T.row b.at b.len b.slots b.alloc κ };
 }
 
-// A block owns its allocation alone, or shares the static header, which nothing writes. So it may
-// be sent to another thread if its items and its allocator may.
+// A block owns its allocation alone, or shares the static header, which nothing writes. So a block
+// may be sent to another thread if its items and its allocator may be.
 unsafe impl<T: Send, A: Allocator + Send> Send for Block<T, A> {}
 
-// A `&` to a block only reads its header and its items. So it may be shared if they may.
+// A `&` to a block only reads its header and its items. So a block may be shared between threads if
+// its items and its allocator may be.
 unsafe impl<T: Sync, A: Allocator + Sync> Sync for Block<T, A> {}
 
 impl<T, A: Allocator> Block<T, A> {

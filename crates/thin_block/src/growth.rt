@@ -13,8 +13,8 @@ pub mod power_bytes;
 /// decides by how much a list grows.
 pub trait Growth {
     /// The rule as a function on numbers. Its arguments are the size and the alignment of an item
-    /// in bytes, the old capacity, and the number of items that need room, which is greater. `None`
-    /// says that the new capacity overflows.
+    /// in bytes, the old capacity, and the number of items that need room, which exceeds the old
+    /// capacity. `None` says that the new capacity overflows.
     ghost rule: { ℕ → ℕ → ℕ → ℕ → Option ℕ };
 
     /// Returns the capacity to which a list of capacity `cap` grows in order to hold `want` items,
@@ -24,7 +24,7 @@ pub trait Growth {
         ensures value { result ≡ rule (type_size T.row) (type_align T.row) cap want };
 
     /// Each capacity that the rule chooses has room for the wanted items, is at least twice the old
-    /// capacity, and fits.
+    /// capacity, and is small enough to be allocated.
     ghost law: { KeepsLaw rule };
 }
 

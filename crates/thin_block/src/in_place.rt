@@ -19,8 +19,8 @@ use std::alloc::{AllocError, Allocator};
 use std::marker::PhantomData;
 use std::mem::{ManuallyDrop, replace};
 
-// If its items make at least this many words of 8 bytes, a block is resized by the allocator, which
-// may leave the items where they are. For fewer words, a new block is cheaper.
+// If the items of a block make at least this many words of 8 bytes, the allocator resizes the
+// block, and may leave the items where they are. For fewer words, a new block is cheaper.
 pub(crate) const LONG: usize = 32;
 
 // Calls `grow` of the allocator if `wanted` is greater than `held`, and `shrink` otherwise.
@@ -48,9 +48,9 @@ unsafe fn resized<T, A: Allocator>(
 impl<T, A: Allocator> Block<T, A> {
     ghost use Rattle.thin_block.specs.Block.{IsFrom, seen};
 
-    // Resizes the block to `cap` slots, as `remake` does, but the items may stay where they are.
-    // `M` items make a word, the header takes as many bytes as `K` words, and the items make at
-    // least `K` words. The call fails only if the allocator does, and then nothing changes.
+    // Resizes the block to `cap` slots, and may leave the items at their address. `M` items make a
+    // word, the header takes as many bytes as `K` words, and the items make at least `K` words. The
+    // call fails only if the allocator does, and then nothing changes.
     #[cold]
     pub(crate) fn remake_in_place<const M: usize, const K: usize>(
         &mut self,

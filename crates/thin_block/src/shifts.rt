@@ -8,8 +8,8 @@ ghost use Rattle.core.specs.Ptr.{array_size, memory_before_copy, memory_after_co
 ghost use types.Logic.{sem};
 ghost use Rattle.thin_block.specs.Shifts.{IsShifted};
 
-// Moves `count` items from `source` to `target`. The ghost number `g.0` is the distance of the two
-// pointers in items, and `up` says whether `target` is above `source`.
+// Moves `count` items from `source` to `target`. The ghost number `g.0` is the distance between the
+// two pointers in items, and `up` says whether `target` is above `source`.
 pub(crate) unsafe fn slide<T>(source: *const T, target: *mut T, count: usize, up: bool)
     ghost g: { ℕ × List T }
     requires shifted { IsShifted T.row up g.0 source target }

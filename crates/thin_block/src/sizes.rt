@@ -12,8 +12,8 @@ use std::mem::{align_of, size_of};
 // this many bytes after the start of the block.
 pub(crate) const HEADER: usize = 16;
 
-// The size of the header in words of 8 bytes: the capacity and the length. The first item is this
-// many words after the capacity.
+// The size of the header in words of 8 bytes, which are the capacity and the length. The first item
+// is this many words after the start of the block.
 pub(crate) const HEADER_WORDS: usize = 2;
 
 // Returns the size of an item in bytes, or `usize::MAX` if the size is greater than that.

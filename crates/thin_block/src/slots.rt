@@ -10,7 +10,7 @@ use crate::sizes::HEADER_WORDS;
 use core::slots::Slots;
 use std::alloc::Allocator;
 
-// At most this many items are copied in one by one.
+// Up to this many items are copied in one by one.
 const FEW: usize = 16;
 
 impl<T, A: Allocator> Block<T, A> {
@@ -48,8 +48,8 @@ impl<T, A: Allocator> Block<T, A> {
         }
     }
 
-    /// Moves the item out of the slot `i` to the caller. The slot is empty afterwards. An item that
-    /// is moved out does not count as moved.
+    /// Moves the item out of the slot `i` to the caller. The slot is empty afterwards. Moving an
+    /// item out is not counted as a move.
     pub fn take(&mut self, i: usize) -> T
         requires filled { IsSome (slot self.old.slots i) }
         ensures value { slot self.old.slots i ≡ Some result }
@@ -82,8 +82,7 @@ impl<T, A: Allocator> Block<T, A> {
     }
 
     /// Moves the item out of the slot `i` to the caller, and then moves the item of the slot `j`
-    /// into the slot `i`. The two may be the same slot: then the slot is empty afterwards, and no
-    /// move is counted.
+    /// into the slot `i`. If `i` equals `j`, the slot is empty afterwards, and no move is counted.
     pub fn take_replacing(&mut self, i: usize, j: usize) -> T
         requires first { IsSome (slot self.old.slots i) }
         requires second { IsSome (slot self.old.slots j) }
@@ -153,8 +152,8 @@ impl<T: Copy, A: Allocator> Block<T, A> {
 
 // Returns `row` filled with copies of `items`.
 //
-// `Slots::copy_in` is one call, which first tests whether the two runs overlap. For a few items,
-// call and test would cost more than the copy.
+// A few items are copied one by one: a call of `Slots::copy_in`, which first tests whether the two
+// runs overlap, would cost more than the copy.
 fn copied<T: Copy>(mut row: Slots<T>, items: &[T]) -> Slots<T>
     requires room { slots_len row ≡ length items.now }
     ensures cap { SamePlaces row result }

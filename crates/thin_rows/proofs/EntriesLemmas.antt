@@ -59,8 +59,8 @@ module _ {V : Type 0} where
   columns_rise (e ∷ entries) h (suc i) (suc k) d before inside =
       columns_rise entries (both_hold _ _ h).1 i k d (omega arith) (omega arith)
 
-  -- if the columns of the entries are strictly increasing by `IsRising`, they are so by the
-  -- definition of std, `IsStrictlyIncreasing`
+  -- `IsRising`, which says that the columns of the entries are strictly increasing, implies std's
+  -- statement of this, `IsStrictlyIncreasing`
   pub columns_increase : (entries : List (ℕ × V)) → IsRising entries
       → IsStrictlyIncreasing (map (λ entry. entry.0) entries)
   columns_increase (e ∷ entries) h k inside =
@@ -87,8 +87,8 @@ module _ {V : Type 0} where
       greater = λ k d from inside. g.greater (suc k) d (omega arith) (omega arith);
     }
 
-    -- if the columns are strictly increasing, and column c is at a later index, then the column of
-    -- the first entry is less than c
+    -- if the columns are strictly increasing, and the entry of column c is not the first one, then
+    -- the column of the first entry is less than c
     before_place : (e : ℕ × V) (entries : List (ℕ × V)) (at : ℕ) → IsRising (e ∷ entries)
         → IsPlaceOf (e ∷ entries) c (suc at) → e.0 < c
     before_place e entries at h p =

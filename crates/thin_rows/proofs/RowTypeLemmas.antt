@@ -1,4 +1,4 @@
--- Lemmas on capacities, which depend only on the size and the alignment of a type, and on errors
+-- Lemmas on capacities (which depend only on the size and the alignment of a type), and on errors
 -- that are passed on.
 use Rattle.std.proofs.Common.{◌≡◌, ◌↔◌, ℕ, IsErrOf, None, Option, Result, Ok, Err, ap, refl, sym, ◌∙◌}
 use Rattle.std.specs.Borrow.{RattleType}
@@ -16,7 +16,7 @@ pub exact_of_same : (R S : RattleType) (c w : ℕ) → type_size R ≡ type_size
 unfolding exact_capacity
 exact_of_same R S c w size align = rw (size, align) refl
 
--- if two types have the same size and alignment, they have the same ruled capacities
+-- if two types have the same size and alignment, a growth rule chooses the same capacities for them
 pub ruled_of_same : (rule : Rule) (R S : RattleType) (c d v w : ℕ) → type_size R ≡ type_size S
     → type_align R ≡ type_align S → c ≡ d → v ≡ w
     → ruled_capacity rule R c v ≡ ruled_capacity rule S d w
@@ -31,8 +31,9 @@ no_error same = cc
 pub same_cause : {X E : Type 0} {d e : E} → IsErrOf {T = X} (Err d) e → d ≡ e
 same_cause same = cc
 
--- if a call fails and its error is passed on by `?`, then the result tells an overflow as the call
--- did, for a type of the same size and alignment
+-- if `Err cause` has the right cause for a list of w items of R (`TellsOverflowOf`), and the error
+-- is passed on by `?` as `result`, then `result` has the right cause for w items of S, a type of
+-- the size and alignment of R
 pub error_tells : {X Y : Type 0} (R S : RattleType) (w : ℕ) (cause : ThinVecError)
     (result : Result Y ThinVecError) → type_size S ≡ type_size R → type_align S ≡ type_align R
     → IsErrAnd result (λ e. e ≡ cause) → TellsOverflowOf {X = X} R w (Err cause)
@@ -46,8 +47,8 @@ error_tells R S w cause (Err e) size align passed told = record {
   );
 }
 
--- if a failure tells an overflow of the capacity b, and a and b are the same, then each failure with
--- this cause tells an overflow of a
+-- if a and b are the same, and the cause is `CapacityOverflow` if and only if b is `None`, then a
+-- failure with this cause has the right cause for the capacity a (`TellsOverflow`)
 pub failure_tells : {X Y : Type 0} {a b : Option ℕ} {cause : ThinVecError} → a ≡ b
     → IsErrOf {T = X} (Err cause) CapacityOverflow ↔ (b ≡ None)
     → TellsOverflow a (let r : Result Y ThinVecError = Err cause in r)
@@ -58,8 +59,8 @@ failure_tells same told = record {
   );
 }
 
--- if a call succeeds, a later success tells an overflow as the call did, for a type of the same
--- size and alignment
+-- if S has the size and alignment of R, and `Ok x` is allowed for a list of w items of R
+-- (`TellsOverflowOf`), then `Ok y` is allowed for w items of S
 pub made_tells : {X Y : Type 0} (R S : RattleType) (w : ℕ) (x : X) (y : Y)
     → type_size S ≡ type_size R → type_align S ≡ type_align R
     → TellsOverflowOf R w (Ok x) → TellsOverflowOf S w (Ok y)

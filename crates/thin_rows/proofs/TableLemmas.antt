@@ -25,11 +25,11 @@ module _ {V : Type 0} where
   abbrev pub IsAmong : List (ℕ × V) → ℕ × V → Type 0
   IsAmong es e = (k : ℕ) × (k < length es) × ((d : ℕ × V) → slice_index_or es k d ≡ e)
 
-  -- an item of a list is an item of the list with one more in front
+  -- if e is an item of the list es, it is also an item of the list with f in front
   later : (f : ℕ × V) (es : List (ℕ × V)) (e : ℕ × V) → IsAmong es e → IsAmong (f ∷ es) e
   later f es e among = (suc among.0, omega (arith, among.1), among.2)
 
-  -- a list in which the value v is found at column j has the pair of j and v
+  -- if the value v is found at column j in the list es, then es contains the pair of j and v
   found_at : (j : ℕ) (v : V) (es : List (ℕ × V)) → find nat_cmp j es ≡ Some v
       → IsAmong es (j, v)
   found_at j v [] found = cc
@@ -144,7 +144,7 @@ module _ {V : Type 0} where
         same = λ e. ap (λ x. x.0) (get_or_default (map.entries row) k e d inside);
       })
 
-  -- if a row has the value v at column j, the list of its entries has the pair of j and v
+  -- if a row has the value v at column j, the list of its entries contains the pair of j and v
   pub is_listed : (row : Columns V) (j : ℕ) (v : V) → map.get row j ≡ Some v
       → IsAmong (map.entries row) (j, v)
   is_listed row j v there = found_at j v (map.entries row) (sym (get-entries row j) ∙ there)
@@ -155,7 +155,7 @@ module _ {V : Type 0} where
   in_order row k m d before inside =
       columns_rise (map.entries row) (entries_sorted row) k m d before inside
 
--- the values of a table after a call, and the entries of a row
+-- the lemmas about the values of a table after a call, and about the entries of a row
 pub ruleset values = (
   written,
   columns_unchanged,

@@ -11,12 +11,12 @@ module _ {V : Type 0} where
   abbrev pub IsRising : List (ℕ × V) → Type 0
   IsRising entries = T (is_sorted nat_cmp entries)
 
-  -- the entry at index i has this column
+  -- the entry at index i has the column `column`
   pub record IsPlaceOf (entries : List (ℕ × V)) (column i : ℕ) : Type 0 where
     pub in_bounds : i < length entries
     pub same : (d : ℕ × V) → (slice_index_or entries i d).0 ≡ column
 
-  -- no entry has this column, and i is the index at which a new entry for this column is inserted:
+  -- no entry has the column `column`, and i is the index at which a new entry for it is inserted:
   -- all entries before i have lesser columns, and all others have greater columns
   pub record IsGapFor (entries : List (ℕ × V)) (column i : ℕ) : Type 0 where
     pub in_bounds : i ≤ length entries

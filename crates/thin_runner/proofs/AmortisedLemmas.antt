@@ -117,8 +117,7 @@ module _ {T A G J : Type 0} (here : Setting T A J) (law : KeepsLaw here.rule) wh
   step-amortised m v w Pop reply only a s = absurd s.1
   step-amortised m v w command reply only a s = absurd only
 
-  -- the sum over the steps of a run, with 1 for each push that succeeded, is the number of pushes
-  -- that succeeded
+  -- the sum of `accepted` over the single commands and their replies is `accepted` for all of them
   accepted-counted : (commands : List (Command T A G)) (replies : List (Reply T A G))
       → counted (λ c r. accepted (c ∷ []) (r ∷ [])) commands replies ≡ accepted commands replies
   accepted-counted (Push x ∷ commands) (Done ∷ replies) =
@@ -128,7 +127,7 @@ module _ {T A G J : Type 0} (here : Setting T A J) (law : KeepsLaw here.rule) wh
   accepted-counted commands replies = refl
 
   -- if a list is amortised for 0 pushes, then after a run of pushes and pops it is amortised for
-  -- the pushes that succeeded
+  -- the number of pushes that succeeded
   pub runs-amortised : (v w : Thin T A) (commands : List (Command T A G))
       (replies : List (Reply T A G)) → All IsPushOrPop commands → IsAmortised 0 v
       → Runs here v commands replies w → IsAmortised (0 + accepted commands replies) w

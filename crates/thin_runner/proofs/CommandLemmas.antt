@@ -1,4 +1,4 @@
--- Lemmas that lead from the clauses of the list's methods to the definitions of `specs/Steps`.
+-- Lemmas that derive the cases of `specs/Steps` from the contracts of the list's methods.
 use Rattle.std.proofs.Common.{◌≡◌, ℕ, ◌<◌, ◌⊎◌, List, [], ◌∷◌, Some, refl, length, inl, inr, arith}
 use Rattle.std.specs.Borrow.{RattleType}
 use Rattle.std.specs.Prelude.{HoldsAt}
@@ -31,8 +31,8 @@ module _ {T A : Type 0} where
 
   module _ (rule : Rule) where
     -- if a call that clones fails, and leaves the items and the allocator unchanged, then either
-    -- nothing changed, or the capacity is the ruled one and a source could not be cloned, after one
-    -- move for each source before it
+    -- nothing changed, or the capacity is the one that the rule requires for k more items, and a
+    -- source could not be cloned, after one move for each source before it
     pub refuses-clone : (R : RattleType) (k : ℕ) {infallible : T → Type 0} {sources : List T}
         {v w : Thin T A} → w.items ≡ v.items → w.alloc ≡ v.alloc
         → (w ≡ v) ⊎ (capacity_for rule R v k ≡ Some w.capacity)

@@ -15,7 +15,8 @@ use Rattle.thin_runner.specs.commands.Ranges.{walked}
 use Rattle.thin_runner.specs.declared.command.Step.TheVariants.{Front}
 
 module _ {T : Type 0} where
-  -- the answer for an extracted item: it is not kept. There is no answer if no item was extracted
+  -- the answer for the item that a call of `next` returned: the item is not kept. If the call
+  -- returned `None`, there is no answer
   abbrev pub goes : Option T → Verdicts T
   goes None = []
   goes (Some x) = (false, x) ∷ []
@@ -56,8 +57,8 @@ module _ {T : Type 0} where
   few-goes None = refl
   few-goes (Some x) = refl
 
-  -- the moves for two successive parts of a list are the moves for the first part, plus those for
-  -- the second; in the second part, all kept items move if an item of the first part was removed
+  -- the moves for the answers a followed by the answers b are the moves for a, plus those for b,
+  -- or, if a removes an item, plus one for each item that b keeps
   pub moves-append : (a b : Verdicts T) → moved_down (flags_of (a ++ b))
       ≡ moved_down (flags_of a) + (if length (left_at false a) == 0 then moved_down
       (flags_of b) else trues (flags_of b))
@@ -78,8 +79,9 @@ module _ {S T J : Type 0} (R : S → T → Bool → S → T → Type 0) (judge_o
   -- let a call of `next` return `item`, and leave the items `rest` to be tested and the closure in
   -- the state t; k calls may follow
   module _ (t : S) (k : ℕ) (item : Option T) (rest : List T) where
-    -- if a call of `next` keeps the items `kept`, the answers from this call on are: these items
-    -- are kept, the returned item is extracted, and then the answers of the k calls after it
+    -- if a call of `next` keeps the items `kept`, then the answers of this call and of k more calls
+    -- say that these items are kept and that `item` is extracted, and continue with the answers of
+    -- the k calls
     pub extracts-by : (s : S) (xs kept : List T) → ExtractsNext R s xs item t kept rest
         → extracting ask (judge_of s) (suc k) xs
         ≡ stay kept ++ (goes item ++ extracting ask (judge_of t) k rest)
@@ -119,7 +121,7 @@ module _ {S T J : Type 0} (R : S → T → Bool → S → T → Type 0) (judge_o
         answered false by m = by m.0 m.1
 
     -- what `handed_out` computes for a call of `next` and the k calls after it is `item`, followed
-    -- by what it computes for the k calls
+    -- by what it computes for these k calls
     pub handed-by : (s : S) (xs kept : List T) → ExtractsNext R s xs item t kept rest
         → handed_out (suc k) (left_at false (extracting ask (judge_of s) (suc k) xs))
         ≡ item ∷ handed_out k (left_at false (extracting ask (judge_of t) k rest))
@@ -188,7 +190,8 @@ module _ {T : Type 0} (asked : Verdicts T) (start : List T) (before : Cost) wher
       before)
       ∙ ap (λ m. moving m before) (sym (moves-append h.done now))))
 
-  -- before the first call of `next`, no item has been tested
+  -- the state before the first call of `next`, when no item has been tested, is a state of the
+  -- extraction
   pub extracting-none : (at : Stand T) → at.left ≡ asked → at.front ≡ start → at.out ≡ 0
       → at.paid ≡ before → IsExtracting at
   extracting-none at all same none free =
@@ -242,9 +245,9 @@ module _ {T : Type 0} (asked : Verdicts T) (start : List T) (before : Cost) wher
 -- let w be the list after an extraction from the list v, of the range from index a up to b, with
 -- the answers `asked`
 module _ {T A : Type 0} (v w : Thin T A) (a b : ℕ) (asked : Verdicts T) where
-  -- w is v with the items at the front, then those of the range that were not tested (`rest`), and
-  -- then those after the range (`tail`). The items of `rest` and `tail` count a move each if an
-  -- item was yielded
+  -- w is v with these items: those at the front, those of the range that were not tested (`rest`),
+  -- and those after the range (`tail`). If an item was yielded, each item of `rest` and `tail`
+  -- counts one move
   pub record IsLeft (at : Stand T) (rest tail : List T) : Type 0 where
     pub items : w.items ≡ at.front ++ (rest ++ tail)
     pub cost : w.cost ≡ (if at.out == 0 then at.paid else moving (length rest
@@ -293,7 +296,7 @@ module _ {T A : Type 0} (v w : Thin T A) (a b : ℕ) (asked : Verdicts T) where
         cost = paid i;
       }
 
--- an extraction leaves at most as many items as there were
+-- an extraction keeps at most as many items as there were before it
 module _ {T J : Type 0} (ask : J → T → Bool × T × J) where
   stay-length : (xs : List T) → length (stay xs) ≡ length xs
   stay-length xs = length-map xs (λ (x : T). (true, x))
@@ -304,7 +307,8 @@ module _ {T J : Type 0} (ask : J → T → Bool × T × J) where
   extracting-length j (suc k) (x ∷ xs) =
       ap suc (extracting-length (ask j x).2 (if (ask j x).0 then k else suc k) xs)
 
-  -- the number of items that are kept by an extraction is at most the number of items of xs
+  -- if k calls extract items from index a up to b of xs, the number of items that are kept is at
+  -- most the number of items of xs
   pub few-extracted : (j : J) (k : ℕ) (xs : List T) (a b : ℕ) → a ≤ b → b ≤ length xs
       → length (left_at true (around xs a b (extracting ask j k (slice_range xs a b)))) ≤ length xs
   few-extracted j k xs a b order within =

@@ -43,8 +43,8 @@ module _ {S T J : Type 0} (R : S → T → Bool → S → T → Type 0) (judge_o
 
 -- a definition for lists whose items are compared, each with the last item kept before it
 module _ {T : Type 0} where
-  -- ys are the items that are kept by the results b, beginning with the first item, and the flags
-  -- say for each later item whether it is kept
+  -- let b hold the first item, which is kept, and the answers for the later items: ys are all the
+  -- kept items, and `flags` say for each later item whether it is kept
   abbrev pub Leaves : List Bool → List T → T × Verdicts T → Type 0
   Leaves flags ys b = (flags ≡ flags_of b.1) × (ys ≡ b.0 ∷ left_at true b.1)
 
@@ -100,7 +100,7 @@ module _ {F T A J : Type 0} (g : Mut F (MutBor T × Unit {0}) (ℕ × (MutBor T 
     (told : (f : F) (x : T) (k : ℕ) (f' : F) (x' : T) → CalledAtMut g f x k f' x'
     → (k, x', judge_of f') ≡ key (judge_of f) x) where
   -- if `dedup_by_key`, with a closure that asks the judge, turns v into w, then w is v with only
-  -- the items that the judge keeps (`sifted`); of two items, the key of the later one is taken
+  -- the items that the judge keeps (`sifted`); of two items, the key of the later one is computed
   -- first
   pub deduped-by-keys : (f : F) (v w : Thin T A)
       → IsDedupedBy (ComparesKeys g (λ a b. a == b)) f v w → w.capacity ≡ v.capacity
@@ -126,7 +126,7 @@ module _ {T J : Type 0} (look : J → T → Bool × J) where
   pub looked : (j u : J) (x y : T) (b : Bool) → (b, u) ≡ look j x → y ≡ x → (b, y, u) ≡ looks j x
   looked j u x y b told same = ap (λ z. (b, z, u)) same ∙ ap (λ a. (a.0, x, a.1)) told
 
--- at most as many items are kept as there were
+-- a filter keeps at most as many items as there were before it
 module _ {T : Type 0} where
   -- the number of kept items is at most the number of answers
   pub few-left : (verdicts : Verdicts T) → length (left_at true verdicts) ≤ length verdicts
@@ -158,7 +158,7 @@ module _ {T J : Type 0} where
   few-asked ask j xs = omega (arith, few-left (asked ask j xs), asked-length ask j xs)
 
   -- if each item of xs is compared with the last item kept before it, there is one answer for each
-  -- item; the same holds if the first item is kept without a comparison
+  -- item; `pairs-length` states the same if the first item is kept without a comparison
   last-length : (same : J → T → T → Bool × T × T × J) (j : J) (k : T) (xs : List T)
       → length (asked_last same j k xs).1 ≡ length xs
   last-length same j k [] = refl
@@ -178,7 +178,7 @@ module _ {T J : Type 0} where
       → length (left_at true (asked_pairs same j xs)) ≤ length xs
   few-pairs same j xs = omega (arith, few-left (asked_pairs same j xs), pairs-length same j xs)
 
--- if the test E is stateless, the items that `dedup` leaves are those that are kept by the test
+-- the items that `dedup` leaves by the stateless test E are those that the test keeps
 module _ {T J : Type 0} (E : T → T → Bool) (j : J) where
   -- the test E as a function of the judge's state: it returns what E says, and changes neither the
   -- items nor the state
@@ -186,7 +186,7 @@ module _ {T J : Type 0} (E : T → T → Bool) (j : J) where
   tells j later kept = (E later kept, later, kept, j)
 
   -- if k is the item kept before xs, `dedup_from` returns the items that are kept by the test E,
-  -- and `unlike_from` returns the flags
+  -- and `unlike_from` returns a flag for each item of xs, which says whether it is kept
   dedup-last : (k : T) (xs : List T) → Leaves (unlike_from E k xs) (dedup_from E k xs)
       (asked_last tells j k xs)
   dedup-last k [] = (refl, refl)

@@ -66,7 +66,7 @@ module _ {T A : Type 0} (v w : Thin T A) (room : length v.items ≤ v.capacity) 
   same-paid e = subst (IsPaid v) (sym e) (none-paid v room)
 
   -- if the capacity, the blocks and the copied items are those of v, and no item is added, the
-  -- change is paid for
+  -- change from v to w is paid for
   kept-paid : (u : Thin T A) → w ≡ u → u.capacity ≡ v.capacity
       → u.cost.blocks ≡ v.cost.blocks → u.cost.grown ≡ v.cost.grown
       → length u.items ≤ length v.items → IsPaid v w
@@ -81,8 +81,8 @@ module _ {T A : Type 0} (v w : Thin T A) (room : length v.items ≤ v.capacity) 
 
 module _ {T A J : Type 0} (here : Setting T A J) (law : KeepsLaw here.rule) (v w : Thin T A)
     (room : length v.items ≤ v.capacity) where
-  -- if the capacity of w is the ruled one for n more items, w has the cost of this growth, and at
-  -- most n items are added, then the change is paid for
+  -- if the growth rule requires the capacity of w for n more items, w has the cost of this growth,
+  -- and at most n items are added, then the change from v to w is paid for
   ruled-paid : (u : Thin T A) (n : ℕ) → capacity_for here.rule here.R v n ≡ Some w.capacity
       → w ≡ u → u.cost.blocks ≡ (cost_at v w.capacity).blocks
       → u.cost.grown ≡ (cost_at v w.capacity).grown
@@ -106,7 +106,7 @@ module _ {T A J : Type 0} (here : Setting T A J) (law : KeepsLaw here.rule) (v w
       }
 
   -- if a call that clones fails, for lack of room for n more items or because of a clone, then the
-  -- change is paid for
+  -- change from v to w is paid for
   refused-paid : (n : ℕ) (sources : List T) (cause : ThinVecError)
       → RefusesClone here v n sources cause w → IsPaid v w
   refused-paid n sources cause r = stopped r.2
@@ -161,8 +161,8 @@ module _ {T : Type 0} where
       omega (arith, ap length a.1, length-append xs a.0, count)
 
 module _ {T A G J : Type 0} (here : Setting T A J) (law : KeepsLaw here.rule) where
-  -- a command other than `ReserveExact` and `ShrinkToFit` changes the list in a way that is paid
-  -- for (`IsPaid`)
+  -- if the list v has room for its items, and the command is neither `ReserveExact` nor
+  -- `ShrinkToFit`, then the change from v to w by the command is paid for (`IsPaid`)
   pub step-paid : (v w : Thin T A) (command : Command T A G) (reply : Reply T A G)
       → KeepsCheap command → length v.items ≤ v.capacity → Steps here v command reply w
       → IsPaid v w
@@ -243,8 +243,8 @@ module _ {T A G J : Type 0} (here : Setting T A J) (law : KeepsLaw here.rule) wh
   step-paid v w (Splice i j steps xs lower) (Refused cause) keeps room s = same-paid v w room s.1.2
   step-paid v w command reply keeps room s = absurd s.1
 
-  -- a run without `ReserveExact` and `ShrinkToFit` changes the list in a way that is paid for
-  -- (`IsPaid`)
+  -- if the list v has room for its items, and no command is `ReserveExact` or `ShrinkToFit`, then
+  -- the change from v to w by the run is paid for (`IsPaid`)
   pub runs-paid : (v w : Thin T A) (commands : List (Command T A G)) (replies : List (Reply T A G))
       → All KeepsCheap commands → length v.items ≤ v.capacity → Runs here v commands replies w
       → IsPaid v w

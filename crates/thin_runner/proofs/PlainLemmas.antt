@@ -27,11 +27,11 @@ use Rattle.thin_runner.proofs.JudgedLemmas.{dedup-pairs}
 use Rattle.thin_runner.proofs.WalkLemmas.{last-of}
 use Rattle.thin_runner.proofs.WeakerClonesLemmas.{zip-weaker}
 
--- since `Some x` is not `None`, a reply with a cause is not granted
+-- `Some x ≡ None` implies any B; so a reply with a cause is not granted
 refused : {X B : Type 0} (x : X) → Some x ≡ None → B
 refused x e = cc
 
--- the test of a range is true if and only if the range is in bounds for n items
+-- the test of a range is true if and only if the range from a up to b is in bounds for n items
 range-decides : (a b n : ℕ) → Decides (nat_le a b && nat_le b n) ((a ≤ b) × (b ≤ n))
 range-decides a b n = (
   (λ e. let both = and_parts (nat_le a b) (nat_le b n) e in
@@ -202,7 +202,8 @@ module _ {T A G J : Type 0} (here : Setting T A J) (equal : ClonesEqual here.clo
       (says (OutOfRange command), v.items) inside)
 
   -- if each clone equals its source, and no call of a run fails, then its items are the fold of
-  -- `items_after` over the commands, and its replies are the scan with `reply_to`
+  -- `items_after` over the commands, and its replies, as `seen` shows them, are the scan with
+  -- `reply_to`
   pub run-plain : (v w : Thin T A) (commands : List (Command T A G)) (replies : List (Reply T A G))
       → All IsGranted replies → Runs here v commands replies w
       → (w.items ≡ fold (items_after here) v.items commands)

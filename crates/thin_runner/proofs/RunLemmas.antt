@@ -74,15 +74,15 @@ module _ {T A G J : Type 0} (here : Setting T A J) where
               (new, (stepped, refl));
         }
 
-  -- let `Holds` be a property of a number and a list. Each step whose command is in `Only` keeps
-  -- it, if the number grows by `count` of the command and its reply
+  -- let `Holds` be a property of a number and a list. Each step whose command satisfies `Only`
+  -- keeps it, if the number grows by `count` of the command and its reply
   module _ (Holds : ℕ → Thin T A → Type 0) (Only : Command T A G → Type 0)
       (count : Command T A G → Reply T A G → ℕ)
       (step : (n : ℕ) (v w : Thin T A) (command : Command T A G) (reply : Reply T A G)
       → Only command → Holds n v → Steps here v command reply w
       → Holds (n + count command reply) w) where
-    -- a run whose commands are in `Only` keeps the property `Holds`, if the number grows by the sum
-    -- of `count` over the run
+    -- a run whose commands satisfy `Only` keeps the property `Holds`, if the number grows by the
+    -- sum of `count` over the run
     pub runs-keep : (n : ℕ) (v w : Thin T A) (commands : List (Command T A G))
         (replies : List (Reply T A G)) → All Only commands → Holds n v
         → Runs here v commands replies w → Holds (n + counted count commands replies) w

@@ -15,8 +15,9 @@ use Rattle.thin_runner.specs.declared.command.Command.TheVariants.{Push, Pop}
 use Rattle.thin_runner.specs.declared.command.Reply.{Reply}
 use Rattle.thin_runner.specs.declared.command.Reply.TheVariants.{Done, Item, Returned, OutOfRange}
 
--- if the largest of 4, the capacity before, and twice the greatest length bounds the capacity after
--- the first step, and likewise after the later steps, then it does so after all steps together
+-- if `mid` is at most the largest of `before`, 4 and `2 * long`, and `after` is at most the largest
+-- of `mid`, 4 and `2 * rest`, and `long` is at most `rest`, then `after` is at most the largest of
+-- `before`, 4, `2 * len` and `2 * rest`
 slack-join : (before mid after len long rest : ℕ) → mid ≤ max before (max 4 (2 * long))
     → after ≤ max mid (max 4 (2 * rest)) → long ≤ rest
     → after ≤ max before (max 4 (2 * max len rest))
@@ -25,7 +26,7 @@ slack-join before mid after len long rest first later less = omega (arith, first
 module _ {T A G J : Type 0} (here : Setting T A J) (law : KeepsLaw here.rule)
     (doubles : here.rule ≡ doubling) where
   -- under `Doubling`, the capacity after a push or a pop is at most the largest of 4, the capacity
-  -- before, and twice the length
+  -- before, and twice the new length
   step-slack : (v w : Thin T A) (command : Command T A G) (reply : Reply T A G)
       → IsPushOrPop command → Steps here v command reply w
       → w.capacity ≤ max v.capacity (max 4 (2 * length w.items))

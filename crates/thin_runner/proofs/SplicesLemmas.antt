@@ -1,5 +1,5 @@
--- Lemmas that lead from the clauses of `finish` and `extend` to the definitions of
--- `specs/commands/Splices`.
+-- Lemmas that derive the definitions of `specs/commands/Splices` from the contracts of `finish` and
+-- `extend`.
 use Rattle.std.proofs.Common.{◌≡◌, ℕ, ◌-◌, ◌*◌, ◌<◌, List, [], ◌∷◌, ◌++◌, None, Option, Some, ap, append_assoc, arith, drop, inl, inr, length, refl, subst, sym, take, ◌∙◌}
 use Rattle.std.proofs.lemmas.Bool.{false≢true}
 use Rattle.std.proofs.Math.Seq.{drop-length, take-length}
@@ -117,8 +117,8 @@ module _ {T A : Type 0} (old : Thin T A) (a b : ℕ) where
         subst (λ (v : Thin T A). CostsAdding v new (2 * (length old.items - b))) left-is
         (subst (λ (n : ℕ). CostsAdding (left_of block alloc) new (2 * n)) tail-count cost)
 
-    -- if the limit of the iterator is `most`, then what `IsExtended` states for the list without
-    -- the range and this limit holds for `cut old a b` and `most`
+    -- if the limit `left` of the iterator is `most`, then `IsExtended` for the list of the open
+    -- block and `left` implies `IsExtended` for `cut old a b` and `most`
     pub ruled : (rule : Rule) (R : RattleType) (new : Thin T A) (most : ℕ) (left : Count)
         → left ≡ at_most most
         → IsExtended rule R (left_of block alloc) new.capacity (length new.items) left
@@ -129,8 +129,8 @@ module _ {T A : Type 0} (old : Thin T A) (a b : ℕ) where
         subst (λ (n : Count). of (cut old a b) n) count
         (subst (λ (v : Thin T A). of v left) left-is is_ruled)
 
-    -- if the limit of the iterator is `most`, and `cut old a b` has room for `most` items, then the
-    -- list without the range has room for as many items as the iterator may yield
+    -- if the limit `size` of the iterator is `most`, and `cut old a b` has room for `most` more
+    -- items, then the list of the open block has room for `size` more items
     pub room-left : (most size : ℕ) → size ≡ most → HasRoomFor (cut old a b) most
         → HasRoomFor (left_of block alloc) size
     room-left most size count room =
@@ -159,8 +159,8 @@ module _ {T A : Type 0} (old : Thin T A) where
   pub cut-end : cut old (length old.items) (length old.items) ≡ old
   cut-end = λ i. record old { items = take-append-drop (length old.items) old.items i }
 
-  -- if there is room for `most` items without the empty range at the end, there is room for them in
-  -- the list
+  -- if the list `old` without the empty range at its end has room for `most` more items, then `old`
+  -- has room for them
   room-end : (most : ℕ) → HasRoomFor (cut old (length old.items) (length old.items)) most
       → HasRoomFor old most
   room-end most = subst (λ (v : Thin T A). HasRoomFor v most) cut-end
@@ -175,7 +175,7 @@ module _ {T A : Type 0} (old : Thin T A) where
 -- items that are added after those of a list replace the empty range at its end
 module _ {T A : Type 0} (rule : Rule) (R : RattleType) (old new : Thin T A) where
   -- what the contract of `extend` says of the list `new`, to which the items `placed` were added,
-  -- if the iterator might yield up to `most` items
+  -- if the iterator could yield at most `most` items
   pub record IsFilled (placed : List T) (most : ℕ) : Type 0 where
     pub items : new.items ≡ old.items ++ placed
     pub capacity : IsLoose rule R old.capacity new.capacity

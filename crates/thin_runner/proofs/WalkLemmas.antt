@@ -14,8 +14,9 @@ module _ {T : Type 0} where
   last-of [] x = refl
   last-of (y ∷ xs) x = last-of xs x
 
-  -- if `item` is the last item of xs, or `None` if there is none, and ys is what is left, then a
-  -- step from the back, followed by others, returns `item` and then what the others return on ys
+  -- if `item` is the last item of xs, and ys are the items before it (or `item` is `None`, and both
+  -- lists are empty), then a step from the back, followed by `steps`, returns `item`, followed by
+  -- what `steps` return on ys
   walked-last : (xs ys : List T) (item : Option T)
       → MatchOption item ((xs ≡ []) × (ys ≡ [])) (λ x. xs ≡ ys ++ x ∷ [])
       → (steps : List Step) → walked xs (Back ∷ steps) ≡ item ∷ walked ys steps

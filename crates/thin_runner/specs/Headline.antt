@@ -13,16 +13,16 @@ use Rattle.thin_runner.specs.declared.command.Command.{Command}
 use Rattle.thin_runner.specs.declared.command.Reply.{Reply}
 
 module _ {T A G J : Type 0} (here : Setting T A J) where
-  -- the statements about a run of these commands, which turned the list `old` into `new`, and the
-  -- replies `before` into `after`
+  -- what the main theorem states about a run of `commands` that turned the list `old` into `new`,
+  -- and the replies `before` into `after`
   pub record Headline (old : Thin T A) (commands : List (Command T A G))
       (before after : List (Reply T A G)) (new : Thin T A) : Type 0 where
     -- the run appended its replies to the replies that were there before
     pub replies : List (Reply T A G)
     pub appended : after ≡ before ++ replies
     -- if each clone equals its source, and no call failed, then the items are the fold of
-    -- `items_after` over the commands, and the replies are the scan with `reply_to`: two functions
-    -- on sequences, with one equation for each command
+    -- `items_after` over the commands, and the replies, as `seen` shows them, are the scan with
+    -- `reply_to`: two functions on sequences, with one equation for each command
     pub plain : ClonesEqual here.clones → All IsGranted replies
         → (new.items ≡ fold (items_after here) old.items commands)
         × (map seen replies ≡ scan (items_after here) (reply_to here) old.items commands)

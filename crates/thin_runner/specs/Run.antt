@@ -62,8 +62,8 @@ module _ {T A G J : Type 0} (here : Setting T A J) where
   may_move xs (Splice a b steps ys lower) reply = 2 * (length xs - b) + length ys.items
   may_move xs command reply = moved_down (flags_of (unwrap_or (answered here xs command) []))
 
-  -- the sum of `may_move` over the commands of a run and their replies, each for the list before
-  -- its command
+  -- the sum of `may_move` over the commands of a run and their replies, each applied to the items
+  -- before that command
   abbrev pub run_may_move : (old new : Thin T A) (commands : List (Command T A G))
       (replies : List (Reply T A G)) → Runs old commands replies new → ℕ
   run_may_move old new (command ∷ commands) (reply ∷ replies) run =

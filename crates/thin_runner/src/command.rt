@@ -46,8 +46,8 @@ pub enum Command<T, A: Allocator = Global, G: Growth = Doubling> {
     Resize(usize, T),
     /// Calls `extend_from_slice`. The reply is `Done`, or `Refused` on failure.
     ExtendFromSlice(Vec<T, A>),
-    /// Calls `extend` with an iterator over the items of the vector, which claims the number as its
-    /// lower bound. The reply is `Done`, or `Stopped` on failure.
+    /// Calls `extend` with an iterator that yields the items of the vector, and claims the number
+    /// as its lower bound. The reply is `Done`, or `Stopped` on failure.
     Extend(Vec<T, A>, usize),
     /// Calls `append`. The reply is `Other`.
     Append(ThinVec<T, A, G>),
@@ -75,9 +75,9 @@ pub enum Command<T, A: Allocator = Global, G: Growth = Doubling> {
     /// answers.
     ExtractIf(usize, usize, usize),
     /// Calls `splice` on the items from the first index up to, but not including, the second, takes
-    /// the steps in order, and calls `finish`. The new items are those of the second vector, from
-    /// an iterator that claims the last number as its lower bound. The reply is `Answers`,
-    /// `Refused` if there is no memory for the answers, or `Stopped` if `finish` fails.
+    /// the steps in order, and calls `finish`. The new items come from an iterator that yields the
+    /// items of the second vector, and claims the last number as its lower bound. The reply is
+    /// `Answers`, `Refused` if there is no memory for the answers, or `Stopped` if `finish` fails.
     Splice(usize, usize, Vec<Step, A>, Vec<T, A>, usize),
 }
 

@@ -1,4 +1,4 @@
-//! The trait `Judge`, whose methods commands use in place of closures.
+//! The trait `Judge`. Commands use its methods in place of closures.
 ghost use Rattle.std.specs.Prelude.{◌≡◌};
 
 /// Decides about items, in place of the closures that methods such as `retain` take.

@@ -1,6 +1,6 @@
-//! Tools that the tests of several crates share: an allocator that refuses a request that the test
-//! chooses, two more growth rules, and all growth rules once more as plain functions, with which
-//! tests compare capacities.
+//! Tools that the tests of several crates share: an allocator that refuses one request, which the
+//! test chooses; two more growth rules; and all growth rules as plain functions, by which tests
+//! compute the capacities that they expect.
 #![tactic(auto)]
 
 mod multiples;

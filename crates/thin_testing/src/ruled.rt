@@ -1,5 +1,5 @@
-//! The growth rules once more, as functions on numbers, with which tests compare capacities. They
-//! have no upper limit.
+//! The growth rules once more, as functions on numbers, by which tests compute the capacities that
+//! they expect. The functions have no upper limit.
 use crate::multiples::{Fourfold, Threefold};
 use thin_vec::{Doubling, Growth, PowerBytes};
 

@@ -8,7 +8,7 @@ use crate::growth::{Growth, fitting};
 use crate::sizes::item_size;
 
 /// The growth rule of the Rust crate thin-vec: the new capacity is twice the old one, or
-/// `first_capacity` if the old one is 0. If more items need room, it is their number.
+/// `first_capacity` if the old one is 0. If more items than that need room, it is their number.
 pub struct Doubling {}
 
 impl Growth for Doubling {

@@ -22,9 +22,8 @@ impl Growth for PowerBytes {
 
     ghost rule = { power_bytes };
 
-    // Returns the capacity that the rule chooses. Unless items have size 0, a block of this
-    // capacity takes at most a power of two bytes, before its size is rounded up to its alignment.
-    // A block with one more item would take more bytes than that power.
+    // Returns the capacity that the rule chooses. If items take at least one byte, the header and
+    // this many items fit into some power of two bytes, but one more item does not.
     fn next_capacity<T>(cap: usize, want: usize) -> Option<usize>
         requires { cap < want }
         ensures value { result ≡ power_bytes (type_size T.row) (type_align T.row) cap want }
@@ -44,9 +43,9 @@ impl Growth for PowerBytes {
     ghost law = { power_bytes_law };
 }
 
-// Returns the least power of two that is at least as many bytes as a header and `items` items of
-// `size` bytes take. Returns `None` if that power is greater than 2 ^ 63: then no block of that
-// many items fits.
+// Returns the least power of two bytes that has room for a header and `items` items of `size`
+// bytes. Returns `None` if that power is greater than 2 ^ 63: then no block of that many items
+// fits.
 fn power_for(items: usize, size: usize) -> Option<usize>
     ensures none { IfNone result (2 ^ 63 < 16 + items * size) }
     ensures value { IfSome result (λ power. power ≡ least_power (16 + items * size)) }

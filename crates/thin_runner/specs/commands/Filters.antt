@@ -10,8 +10,8 @@ use Rattle.thin_runner.specs.declared.command.Command.{Command}
 use Rattle.thin_runner.specs.declared.command.Command.TheVariants.{Retain, RetainMut, Dedup, DedupBy, DedupByKey}
 
 module _ {T J : Type 0} where
-  -- whether two items have the same key, the items as they are left, and the judge's next state;
-  -- the key of the later item is taken first
+  -- for two items, `later` and `kept`: whether their keys are the same, the items as `key` leaves
+  -- them, and the judge's next state. The key of `later` is computed first
   abbrev pub same_key : (J → T → ℕ × T × J) → J → T → T → Bool × T × T × J
   same_key key j later kept =
       let a = key j later in let b = key a.2 kept in (a.0 == b.0, a.1, b.1, b.2)
@@ -23,9 +23,9 @@ module _ {T J : Type 0} (ask : J → T → Bool × T × J) where
   asked j [] = []
   asked j (x ∷ xs) = let a = ask j x in (a.0, a.1) ∷ asked a.2 xs
 
-  -- the result of k calls of `next`, starting with the judge's state j: for each item, whether it
-  -- is kept, and the item as it is left. Items after the last yielded one are not tested, and are
-  -- kept
+  -- the result of k calls of `next` on an `ExtractIf`, starting with the judge's state j: for each
+  -- item, whether it is kept, and the item as it is left. Once k items are extracted, the items
+  -- after them are not tested, and are kept
   abbrev pub extracting : J → ℕ → List T → Verdicts T
   extracting j zero xs = stay xs
   extracting j (suc k) [] = []
@@ -49,12 +49,12 @@ module _ {T J : Type 0} (same : J → T → T → Bool × T × T × J) where
   asked_pairs j (x ∷ xs) = let b = asked_last j x xs in (true, b.0) ∷ b.1
 
 module _ {T : Type 0} where
-  -- the answers for all items of xs: `answers` are those for the items from index a up to b, and
+  -- the answers for all items of xs: `verdicts` are those for the items from index a up to b, and
   -- the items before and after them are kept
   abbrev pub around : List T → ℕ → ℕ → Verdicts T → Verdicts T
   around xs a b verdicts = stay (take a xs) ++ (verdicts ++ stay (drop b xs))
 
-  -- the list `old` with only the items that the answers keep, each as it was left. Each item that
+  -- the list `old` with only the items that `verdicts` keep, each as it was left. Each item that
   -- changes its place counts one move
   abbrev pub sifted : {A : Type 0} → Thin T A → Verdicts T → Thin T A
   sifted old verdicts = edited old (left_at true verdicts) (moved_down (flags_of verdicts))

@@ -19,15 +19,15 @@ module _ {T A : Type 0} (old : Thin T A) (a b : ℕ) where
   abbrev pub cut : Thin T A
   cut = record old { items = remove_range old.items a b }
 
-  -- `most` items need no new memory: they are at most as many as the range has, or no item follows
-  -- the range, and there is room for them once the range is removed
+  -- placing `most` items needs no new memory: the range has at least `most` items, or no item
+  -- follows the range, and there is room for `most` items once the range is removed
   abbrev pub HasPlacesFor : ℕ → Type 0
   HasPlacesFor most = (most ≤ b - a) ⊎ ((b ≡ length old.items) × HasRoomFor cut most)
 
 module _ {T A : Type 0} (rule : Rule) (R : RattleType) (old : Thin T A) (a b : ℕ) where
-  -- the items `placed` took the places of the items from index a up to b; the iterator might have
-  -- yielded up to `most`. Each placed item was moved once, and each item after the range at most
-  -- twice. The capacity did not change, or it is one that the rule names for at most the final
+  -- the items `placed` took the places of the items from index a up to b; the iterator could yield
+  -- at most `most` items. Each placed item was moved once, and each item after the range at most
+  -- twice. The capacity did not change, or it is one that the rule chooses for at most the final
   -- number of items, or for a hint of at most `most`
   pub record Replaces (placed : List T) (most : ℕ) (new : Thin T A) : Type 0 where
     pub items : new.items ≡ (take a old.items ++ placed) ++ drop b old.items
@@ -51,16 +51,17 @@ module _ {T A : Type 0} (rule : Rule) (R : RattleType) (old : Thin T A) (a b : �
     pub claim : rest.lower ≡ lower
     pub filled : Replaces placed (lower + length xs) new
     pub no_room : ¬ (HasPlacesFor old a b (lower + length xs))
-    -- without an item held or in hand, room for a hint could not be reserved
+    -- if no item is held or in hand, the list has no room for the hint, and could not grow for it
     pub by_hint : held ≡ [] → in_hand ≡ None
         → FailsAtHint rule R new (at_most (rest.lower + length (into_iter_items rest.items))) cause
-    -- with items held and none in hand, it is one if and only if no capacity is ruled for the items
+    -- if items are held and none is in hand, the cause is an overflow if and only if the rule has
+    -- no capacity for that many more items
     pub by_held : 0 < length held → in_hand ≡ None
         → (cause ≡ CapacityOverflow) ↔ (capacity_for rule R new (length held) ≡ None)
-    -- with an item in hand and items after the range, there was no memory to hold the item
+    -- if an item is in hand and items follow the range, there was no memory to hold the item
     pub by_in_hand : b < length old.items → IsSome in_hand → cause ≡ OutOfMemory
-    -- with an item in hand and no item after the range, it is one if and only if no capacity is
-    -- ruled for one item more
+    -- if an item is in hand and no item follows the range, the cause is an overflow if and only if
+    -- the rule has no capacity for one more item
     pub by_push : b ≡ length old.items → IsSome in_hand
         → (cause ≡ CapacityOverflow) ↔ (capacity_for rule R new 1 ≡ None)
     pub ended : in_hand ≡ None → 0 < length held → into_iter_items rest.items ≡ []

@@ -1,4 +1,4 @@
--- The total is the sum over the entries so far.
+-- The total is the sum over the entries visited so far, or `u64::MAX` if the sum is greater.
 use Rattle.std.proofs.Common.{◌≡◌, ◌*◌, ◌-◌, ◌^◌, map, min, slice_index, sum, take}
 use Rattle.sparse_matrix.proofs.row_product.row_product.Given as goal
 

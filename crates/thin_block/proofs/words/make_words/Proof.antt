@@ -165,7 +165,7 @@ module _ (E : El) (m : ℕ) {M : Type 1} {𝓤 : Ura M} (𝓛 : Logic 𝓤) (at_
     abbrev To : Fml
     To = Made g o
 
-    -- what turns the words that are not yet made into all words
+    -- what turns the remaining words, once they are made, into the row of all words
     abbrev Then : Runs E m → ℕ → SProp 𝓤
     Then xss at = wand 𝓤 (sem 𝓛 (Made xss at)) (sem 𝓛 To)
 

@@ -1,5 +1,5 @@
--- The former of `Block`: how a type may contain blocks of itself. A block is determined by the
--- items in its slots, and by values that contain no items.
+-- The former of `Block`: it tells the prover why a type may contain blocks of itself. A block is
+-- determined by the items in its slots, and by values that contain no items.
 use Rattle.std.specs.Prelude.{◌≡◌, ℕ, suc, max, ◌+◌, ◌≤◌, List, [], ◌∷◌, map, length, Option}
 use Rattle.std.specs.declared.option.Option.TheVariants.{Some, None}
 use mathlib.Core.Path.{PathP, refl, sym, ap, ◌∙◌}
@@ -36,25 +36,27 @@ use Rattle.std.specs.Coded.{coded_option}
 use Rattle.thin_block.specs.declared.block.Block.{Block}
 use Rattle.thin_block.specs.contracts.block.Block as C
 
--- the slot, with h applied to its item
+-- `on_slot h x` is the slot x, with h applied to its item
 abbrev pub on_slot : {X Y : Type 0} → (X → Y) → Option X → Option Y
 on_slot h None = None
 on_slot h (Some x) = Some (h x)
 
--- slots as a former: how a slot contains values of a type X
+-- the former of slots, made from the former g of items: it says how a slot contains values of a
+-- type X
 module _ (g : Former {0}) where
-  -- the number of values of X in a slot with the given shape, plus n
+  -- `slot_count a n` is n plus the number of values in a slot of the shape a
   abbrev pub slot_count : Option g.Shape → Count → Count
   slot_count None n = n
   slot_count (Some a) n = g.count a n
 
-  -- prepends the values of X in a slot to a row
+  -- prepends the values of X that a slot contains to a row
   abbrev pub slot_put : (X : Type 0) (o : Option (g.Of X)) (n : Count) → Row X n
       → Row X (slot_count (on_slot (g.shape X) o) n)
   slot_put X None n t = t
   slot_put X (Some y) n t = g.put X y n t
 
-  -- takes a slot from a row: the values of X in that slot are the first values of the row
+  -- takes a slot of the shape a from a row: the first values of the row are those that the slot
+  -- contains
   abbrev pub slot_get : (X : Type 0) (a : Option g.Shape) (n : Count) → Row X (slot_count a n)
       → Option (g.Of X) × Row X n
   slot_get X None n v = (None, v)
@@ -104,7 +106,7 @@ module _ (g : Former {0}) where
   }
 
 module _ {g : Former {0}} (w : Weighed g) where
-  -- the depth of a slot: the depth that its item has, or 0 if the slot is empty
+  -- the depth of a slot is the depth of its item, or 0 if the slot is empty
   abbrev pub slot_weight : (X : Type 0) → (X → ℕ) → Option (g.Of X) → ℕ
   slot_weight X μ None = 0
   slot_weight X μ (Some y) = w.weight X μ y
@@ -117,13 +119,13 @@ module _ {g : Former {0}} (w : Weighed g) where
   slot_puts X μ None n t = none_max (deepest μ n t)
   slot_puts X μ (Some y) n t = w.puts X μ y n t
 
-  -- the former of slots, with the depth of its values
+  -- the former of slots, together with the depth of a slot
   abbrev pub w_slot : Weighed (slot g)
   w_slot = record { weight = slot_weight; puts = slot_puts }
 
 module _ {X Y Z : Type 0} (d : Block X Z) where
-  -- the block d may hold the slots ys: they are at least as many as its length, and non-empty if
-  -- and only if d has an allocation
+  -- `Fits ys`: the block d may hold the slots ys. They are at least as many as its length, and
+  -- there is a slot if and only if d has an allocation.
   abbrev pub Fits : List (Option Y) → Type 0
   Fits ys = (d.len ≤ length ys) × (is_some d.alloc ≡ any ys)
 
@@ -140,11 +142,11 @@ module _ {X Y Z : Type 0} (d : Block X Z) where
     sound = sound;
   }
 
-  -- a block may hold any slots that are as many as its own
+  -- if the slots ys are as many as those of the block d, then d may hold ys
   pub fits : (ys : List (Option Y)) → length ys ≡ length d.slots → Fits ys
   fits ys e = (let le = d.sound.0 in omega (arith, e, le), d.sound.1 ∙ sym (any_same d.slots ys e))
 
-  -- two proofs that the block d may hold equal slots are equal
+  -- if the slots ys and zs are equal, two proofs that the block d may hold them are equal
   pub Fits-along : (ys zs : List (Option Y)) (e : ys ≡ zs) (p : Fits ys) (q : Fits zs)
       → PathP (λ i. Fits (e i)) p q
   Fits-along ys zs e = is_prop→PathP (λ i. Fits (e i))
@@ -155,21 +157,21 @@ module _ {X Y Z : Type 0} (d : Block X Z) where
       → holding ys p ≡ holding zs q
   holding_along ys zs e p q = λ i. holding (e i) (Fits-along ys zs e p q i)
 
--- the block with h applied to each of its items
+-- `mapped h d` is the block d with h applied to each of its items
 abbrev pub mapped : {X Y Z : Type 0} → (X → Y) → Block X Z → Block Y Z
 mapped h d = holding d (map (on_slot h) d.slots)
     (fits d (map (on_slot h) d.slots) (length-map d.slots (on_slot h)))
 
 module _ (g : Former {0}) (Z : Type 0) where
-  -- the slots that are taken from a row are as many as those of the shape a
+  -- taking slots from a row yields as many slots as the list a has shapes
   pub length_got : (X : Type 0) (a : List (Option g.Shape)) (n : Count)
       (v : Row X (list_count (slot g) a n)) → length (list_get (slot g) X a n v).0 ≡ length a
   length_got X [] n v = refl
   length_got X (a ∷ as') n v =
       ap suc (length_got X as' n ((slot g).get X a (list_count (slot g) as' n) v).1)
 
-  -- takes a block with the shape a from a row: the values of X in that block are the first values
-  -- of the row
+  -- takes a block of the shape a from a row: the first values of the row are those that the block
+  -- contains
   abbrev pub got : (X : Type 0) (a : Block g.Shape Z) (n : Count)
       → Row X (list_count (slot g) a.slots n) → Block (g.Of X) Z × Row X n
   got X a n v = let r : List (Option (g.Of X)) × Row X n = list_get (slot g) X a.slots n v in
@@ -234,7 +236,7 @@ the_weighed w Z = record {
   puts = λ X μ d. List-puts (w_slot w) X μ d.slots;
 }
 
--- a block without slots, which is the block without an allocation
+-- a block without slots and without an allocation, whose item type has no values
 abbrev pub the_empty : (Z : Type 0) → Z → Block ⊥ Z
 the_empty Z z = record {
   at = null_ptr;
@@ -247,7 +249,8 @@ the_empty Z z = record {
   sound = (omega arith, refl);
 }
 
--- for the former `this`, the values in a row of slots are the items that the slots hold
+-- under the former `this`, where each item is itself a value, the values in a row of slots are the
+-- items that the slots hold
 pub items_listed : (X : Type 0) (xs : List (Option X))
     → listed _ (children (list (slot this)) X xs) ≡ items_in xs
 items_listed X [] = refl
@@ -258,22 +261,22 @@ items_listed X (Some x ∷ xs) = ap (λ l. x ∷ l) (items_listed X xs)
 abbrev pub the_items : (Z X : Type 0) → Block X Z → List X
 the_items Z X d = items_in d.slots
 
--- for the former `this`, the values in a block are its items
+-- under the former `this`, where each item is itself a value, the values in a block are its items
 pub the_items_listed : (Z X : Type 0) (d : Block X Z)
     → listed _ (children (the_former this Z) X d) ≡ the_items Z X d
 the_items_listed Z X d = items_listed X d.slots
 
--- if h keeps the code of each item, then mapping h over a list keeps the code of the list (used by
--- a list over a block)
+-- if h keeps the code of each item, then mapping h over a list keeps the code of the list
+-- (`ThinVec` uses this)
 pub codes_of : {X Y : Type 0} (c : X → Gv) (c' : Y → Gv) (h : X → Y) → ((x : X) → c' (h x) ≡ c x)
     → (xs : List X) → code_l c' (map h xs) ≡ code_l c xs
 codes_of = codes_placed
 
--- if two codes are equal, they are equal as the first part of a pair
+-- replacing the first part of a pair of codes by an equal code yields an equal pair
 first : {a b c : Gv} → a ≡ b → gcons a c ≡ gcons b c
 first {c = c} e = λ i. gcons (e i) c
 
--- if two codes are equal, they are equal as the second part of a pair
+-- replacing the second part of a pair of codes by an equal code yields an equal pair
 second : {a b c : Gv} → a ≡ b → gcons c a ≡ gcons c b
 second {c = c} e = λ i. gcons c (e i)
 
@@ -330,8 +333,8 @@ module _ (R R' : RattleType) (h : R.Denot → R'.Denot) (a : Alike R R' h) where
       (places_lent_placed xs b (o + 16) i)
 
 module _ (A : RattleType) (G : Ghosts A.Denot) (R R' : RattleType) (h : R.Denot → R'.Denot) where
-  -- if the memory of items is the same as the memory of their images under h, then this is so for
-  -- blocks of these items
+  -- if items have the same memory as their images under h, then the same is true of blocks of these
+  -- items
   pub the_places : Alike R R' h → Alike (C.the_row R A G) (C.the_row R' A G)
       ((the_former this A.Denot).map R.Denot R'.Denot h)
   the_places a = record {
@@ -343,13 +346,13 @@ module _ (A : RattleType) (G : Ghosts A.Denot) (R R' : RattleType) (h : R.Denot 
         (block_lent_placed R R' h a d.at d.len d.slots d.alloc i) κ;
   }
 
-  -- if h keeps the codes of items, a slot has the same code as its image
+  -- if h keeps the codes of items, a slot has the same code as its image under h
   slot_recoded : Recodes R R' h → (x : Option R.Denot) → (coded_option R'.coded).code (on_slot h x)
       ≡ (coded_option R.coded).code x
   slot_recoded e None = refl
   slot_recoded e (Some x) = second (e x)
 
-  -- if h keeps the codes of items, a block has the same code as its image
+  -- if h keeps the codes of items, a block has the same code as its image under h
   pub the_codes_placed : Recodes R R' h → Recodes (C.the_row R A G) (C.the_row R' A G)
       ((the_former this A.Denot).map R.Denot R'.Denot h)
   the_codes_placed e d =

@@ -1,5 +1,5 @@
--- In each arm, the clause `allowed` of the method of `Setting` is the one to prove, once the
--- command is known to be the matched one.
+-- In each arm, rewriting by the matched command turns the clause `allowed` of the called method of
+-- `Setting` into the clause to prove.
 use Rattle.thin_runner.proofs.runner.step.Goals as goal
 
 pub returns-in-Push : goal.returns-in-Push

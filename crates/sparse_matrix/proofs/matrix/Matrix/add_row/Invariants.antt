@@ -1,4 +1,5 @@
--- The entries of the row of `other` so far are added, and nothing else has changed.
+-- The entries of the row of `other` that the loop has visited are added, and nothing else has
+-- changed.
 use Rattle.std.proofs.Common.{◌≡◌, ◌≢◌, ℕ, length}
 use Rattle.thin_rows.specs.Table.{row_of}
 use Rattle.sparse_matrix.specs.Numbers.{added, number_at}

@@ -1,4 +1,4 @@
--- The numbers so far are the products of the rows with the vector.
+-- The numbers computed so far are the products of the first rows with the vector.
 use Rattle.std.proofs.Common.{◌≡◌, ℕ, ◌<◌, ◌-◌, ◌^◌, length, min, slice_index}
 use Rattle.sparse_matrix.specs.Numbers.{dot}
 use Rattle.sparse_matrix.proofs.matrix.Matrix.product.Given as goal

@@ -1,4 +1,4 @@
--- The rows so far are the sums of the rows of both matrices, and the other rows are zeros.
+-- The rows computed so far are the sums of the rows of both matrices, and the other rows are zeros.
 use Rattle.std.proofs.Common.{◌≡◌, ℕ, ◌<◌, ◌≤◌, length}
 use Rattle.sparse_matrix.specs.Numbers.{added, number_at}
 use Rattle.sparse_matrix.proofs.matrix.Matrix.sum.Given as goal

@@ -1,5 +1,5 @@
--- After the loop, all columns are written. This matrix has no further rows, and the transposed
--- matrix has zeros in the columns after them.
+-- After the loop, all columns are written. Beyond them, the numbers of both matrices are 0, since
+-- this matrix has no further rows.
 use Rattle.std.proofs.Common.{◌≡◌, arith, inl, inr, length, sym, ◌∙◌}
 use Rattle.std.proofs.lemmas.Bool.{cases_lt}
 use Rattle.sparse_matrix.proofs.NumberLemmas.{no_row}

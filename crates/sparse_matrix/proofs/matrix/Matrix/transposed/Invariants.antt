@@ -1,4 +1,4 @@
--- The columns so far are the rows of this matrix, and the other columns are zeros.
+-- The columns written so far are the rows of this matrix, and the other columns are zeros.
 use Rattle.std.proofs.Common.{◌≡◌, ℕ, ◌<◌, ◌≤◌, length}
 use Rattle.sparse_matrix.specs.Numbers.{number_at}
 use Rattle.sparse_matrix.proofs.matrix.Matrix.transposed.Given as goal

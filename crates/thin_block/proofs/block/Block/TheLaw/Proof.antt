@@ -71,7 +71,7 @@ module _ (R : RattleType) (L : RowLaws R) where
 module _ {M : Type 1} {𝓤 : Ura M} (𝓛 : Logic 𝓤) where
   open 𝓛 use {H, A}
 
-  -- what is lent for ever can be lent once more
+  -- what is lent forever can be lent once more
   Lends-kept : (t : Lft → Fml) → ShrLaws t → (l : Lft) → Lends 𝓛 (t []) t l
   Lends-kept t L l κ ts inc sp =
       let P : Fml = t [] in

@@ -1,5 +1,4 @@
--- `none` returns a pointer to the static header, whose two words are lent for ever. Assumes
--- `Logic`.
+-- `none` returns a pointer to the static header, whose two words are lent forever. Assumes `Logic`.
 use Rattle.std.proofs.Common.{[], ◌∷◌, refl, arith, lit<, w64, None}
 use mir.Syntax.{Ty, Fn, Tys, ty_int, ty_array, ty_struct, tcons, tnil, w128}
 use mir.Val.{Val, Vals, vint, vstruct, vcons, vnil}

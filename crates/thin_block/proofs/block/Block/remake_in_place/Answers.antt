@@ -5,7 +5,7 @@ use Rattle.thin_block.proofs.WordsLemmas.{words_told}
 use denote.Param.{param}
 use Rattle.thin_block.proofs.block.Block.remake_in_place.Goals as goal
 
--- a capacity that fits is less than 2 ^ 63, its items make at most that many words, and the header
+-- a capacity that fits is less than 2 ^ 63, its items make at most as many words, and the header
 -- takes as many bytes as one or two words
 pub overflow_add-wanted : goal.overflow_add-wanted
 overflow_add-wanted g c =

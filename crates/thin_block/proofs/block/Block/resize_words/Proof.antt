@@ -80,7 +80,7 @@ resize_words_spec 𝓤 𝓛 𝓜 𝓡 wired T A m k LT LA fits_m fits_k g d dd m
     let H = 𝓛.H in
     let E : El = record { row = T; laws = LT } in
     let W : El = word_el T LT m in
-    -- the type of words in a call, which is given by the layout of a word
+    -- the type of words as the type argument of a call, made from the layout of a word
     let X : RattleType = arg (word_of (layout T) m) yes W.row in
     let EX : El = record {
       row = X;
@@ -160,7 +160,7 @@ resize_words_spec 𝓤 𝓛 𝓜 𝓡 wired T A m k LT LA fits_m fits_k g d dd m
     let held_is : held ≡ k + div_ceil old m = said.1.1.1.1.1.1.1.1.1.1.1.1.0 in
     let wanted_is : wanted ≡ k + div_ceil cap m = said.1.1.1.1.1.1.1.1.1.1.1.1.1.0 in
     let room : k ≤ count = said.1.1.1.1.1.1.1.1.1.1.1.1.1.1 in
-    -- the numbers: of items, of words, and of bytes
+    -- the numbers of items, of words and of bytes
     let hd : InWords (type_size Rt) (type_align Rt) m k = words_told Rt m k in_words in
     let sixteen : k * s ≡ 16 = ap (λ (n : ℕ). k * n) hd.size ∙ hd.room in
     let items : List T.Denot = items_in x.slots in

@@ -1,5 +1,5 @@
--- `slice_mut` takes a run of items out of the row and lends it as a slice, which may be empty, with
--- the way back to the whole block. Assumes `Logic`.
+-- `slice_mut` takes a run of items out of the row and lends it as a slice, which may be empty. The
+-- walk also proves that the block is whole again once the borrow has ended. Assumes `Logic`.
 use Rattle.std.proofs.Common.{◌≡◌, ℕ, Some, ◌+◌, ◌-◌, ◌*◌, ◌^◌, ◌<◌, ◌≤◌, List, ◌∷◌, [], ◌++◌, length, refl, sym, ap, subst, ◌∙◌, arith, w64}
 use lib.ListN.{length-map}
 use mir.Syntax.{named}

@@ -1,5 +1,5 @@
--- `slot_mut` takes one filled slot out of the row and lends its item, with the way back to the
--- whole block. Assumes `Logic`.
+-- `slot_mut` takes one filled slot out of the row and lends its item. The walk also proves that the
+-- block is whole again once the borrow has ended. Assumes `Logic`.
 use Rattle.std.proofs.Common.{◌≡◌, ℕ, Some, None, ◌+◌, ◌*◌, ◌<◌, ◌∷◌, [], ◌++◌, length, refl, arith, w64}
 use lib.ListN.{get_or}
 use mir.Syntax.{named}

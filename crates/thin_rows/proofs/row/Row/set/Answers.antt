@@ -10,7 +10,7 @@ use Rattle.thin_rows.proofs.RowLemmas.{get_at, get_gap, insert_is, insert_rises,
 use Rattle.thin_rows.proofs.RowTypeLemmas.{failure_tells, ruled_of_same}
 use Rattle.thin_rows.proofs.row.Row.set.Goals as goal
 
--- the column had an entry, which is overwritten
+-- if the column had an entry, overwriting this entry keeps the invariant of the row
 pub invariant_of-self : goal.invariant_of-self
 invariant_of-self g c =
     let row = c.self.inside.entries in
@@ -40,7 +40,7 @@ returns-in-Ok-clause-columns g c =
     rw (c.replace-column.ensures.after, ← c.self.view_is)
     (set_is row.items c.self.invariant.rising c.args.column c.in-Ok.at place c.args.value)
 
--- the column had no entry, and a new one is inserted at the index found
+-- if the column had no entry, inserting one at the index found keeps the invariant of the row
 pub invariant_of-self-in-Err : goal.invariant_of-self-in-Err
 invariant_of-self-in-Err g c =
     let row = c.self.inside.entries in
@@ -63,7 +63,7 @@ returns-in-Err-insert-clause-succeeds g c some =
     rw (← c.self.view_is, get_gap row.items c.self.invariant.rising c.args.column c.in-Err.at gap)
     at some
 
--- the list was full, so its capacity was the number of entries
+-- if an insertion failed, the list was full, so its capacity was the number of entries
 pub returns-in-Err-insert-clause-overflow : goal.returns-in-Err-insert-clause-overflow
 returns-in-Err-insert-clause-overflow g c =
     let row = c.self.inside.entries in

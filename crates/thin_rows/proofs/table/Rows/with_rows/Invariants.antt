@@ -1,4 +1,5 @@
--- There are as many empty rows as the loop has made turns, and the capacity suffices for all rows.
+-- There are as many empty rows as the loop has made turns, and the capacity suffices for all rows
+-- of the table.
 use Rattle.std.proofs.Common.{◌≡◌, replicate}
 use Rattle.std.specs.FinMap as map
 use Rattle.thin_rows.proofs.table.Rows.with_rows.Given as goal

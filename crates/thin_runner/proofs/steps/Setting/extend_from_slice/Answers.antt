@@ -1,4 +1,4 @@
--- The clauses on failure speak of the slice, whose items are those of the vector.
+-- The clauses for failure are about the slice, whose items are those of the vector.
 use Rattle.std.proofs.Common.{Err, ap, arith, length}
 use Rattle.thin_vec.specs.ThinVec.{HasRoomFor}
 use Rattle.thin_runner.proofs.CommandLemmas.{refuses-clone, some-items}

@@ -1,6 +1,6 @@
 -- `allocate` calls `refuses`. If this request is refused, it returns an error. Otherwise it calls
--- `allocate` of the inner allocator, passes the answer to `granted`, which counts the block, and
--- returns the answer. Assumes `Logic`.
+-- `allocate` of the inner allocator, passes the answer to `granted`, which counts the block if
+-- there is one, and returns the answer. Assumes `Logic`.
 use Rattle.std.proofs.Common.{◌≡◌, ℕ, zero, suc, ◌+◌, ◌^◌, ◌<◌, true, false, Bool, List, [], ◌∷◌, Ok, Err, refl, w64, Bor}
 use seplogic.Ra.Ura.{Ura}
 use mir.Syntax.{Ty, Args, Fn, Body, seq, skip, a_type, dnil, dcons}

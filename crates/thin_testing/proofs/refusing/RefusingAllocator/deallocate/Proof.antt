@@ -1,5 +1,5 @@
--- `deallocate` calls `returned`, which takes the block off the count, and gives the block back to
--- the inner allocator. Assumes `Logic`.
+-- `deallocate` calls `returned`, which counts one block less. Then it gives the block back to the
+-- inner allocator. Assumes `Logic`.
 use Rattle.std.proofs.Common.{◌≡◌, ℕ, ◌+◌, ◌^◌, ◌<◌, List, [], ◌∷◌, refl, w64, Bor}
 use seplogic.Ra.Ura.{Ura}
 use mir.Syntax.{Ty, Args, Fn, a_type, dnil, dcons}
