@@ -13,13 +13,13 @@ module _ {S T : Type 0} (R : S → T → T → Bool → S → T → T → Type 0
     (same : T → T → Bool)
     (says : (s : S) (x k : T) (b : Bool) (t : S) (x' k' : T) → R s x k b t x' k'
     → (b ≡ same (f x) k) × (x' ≡ f x) × (k' ≡ k)) where
-  -- the items zs are those of xs, each replaced by its image under f, without those that are the
-  -- same as the item kept before them. The item k was kept before xs, and is the first of zs.
+  -- The item k was kept, and the items xs follow it. zs has k, and then the image under f of each
+  -- item of xs, without each image that is the same as the item kept before it.
   abbrev Kept : T → List T → List T → Type 0
   Kept k xs zs = zs ≡ dedup_from same k (map f xs)
 
-  -- if x is tested against k with the result b, and the items after x are kept as `Kept` says, then
-  -- x and the items after it are
+  -- if x was tested against the kept item k with the result b, and the items after x are kept as
+  -- `Kept` says, then x and the items after it are kept as `Kept` says, too
   one : (b : Bool) (x k x' k' : T) (xs zs : List T) → b ≡ same (f x) k → x' ≡ f x → k' ≡ k
       → MatchBool b (Kept k' xs zs) ((ys : List T) × Kept x' xs ys × (zs ≡ k' ∷ ys))
       → Kept k (x ∷ xs) zs
@@ -47,9 +47,9 @@ module _ {S T : Type 0} (R : S → T → T → Bool → S → T → T → Type 0
         | false ↦ λ m. (m.0, kept_from xs h.1 h.2 m.0 m.1, m.2)
       ]) h.5)
 
-  -- if x is the first item of xs, v has the items xs with f x in place of x, and `dedup_by` reduced v
-  -- to w, then w has the items of `map f xs` without those that are the same as the item kept before
-  -- them. This is also true if xs is empty.
+  -- If `dedup_by` reduced the list v to w, and v has the items xs with f x in place of their first
+  -- item x, then w has the items of `map f xs` without those that are the same as the item kept
+  -- before them. This is also true if xs is empty.
   pub deduped_mapped : {A : Type 0} {s : S} {v w : Thin T A} (xs : List T) (x : T)
       → x ≡ slice_index_or xs 0 x → v.items ≡ slice_set xs 0 (f x) → IsDedupedBy R s v w
       → w.items ≡ dedup same (map f xs)

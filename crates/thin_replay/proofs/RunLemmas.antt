@@ -14,8 +14,8 @@ alone : {X : Type 0} (front : List X) (x : X) → length (front ++ x ∷ []) ≡
 alone [] x one = refl
 alone (y ∷ front) x one = absurd (omega (arith, length-append front (x ∷ [])))
 
--- a run that satisfies `Headline`, whose commands are one command, and before which there were no
--- replies
+-- context: a run of one command, before which there were no replies, and for which `Headline` is
+-- true
 module _ {T A G J : Type 0} (here : Setting T A J) (old new : Thin T A)
     (command : Command T A G) (commands : List (Command T A G)) (before after : List (Reply T A G))
     (one : commands ≡ command ∷ []) (none : before ≡ [])
@@ -34,7 +34,7 @@ module _ {T A G J : Type 0} (here : Setting T A J) (old new : Thin T A)
       ∙ has_one headline.replies
       (subst (λ cs. Runs here old cs headline.replies new) one headline.allowed)
 
-  -- if the last of the replies was popped, `Headline` holds for one command and this reply
+  -- if the last reply was popped, `Headline` is true for a run of one command with this reply alone
   pub headline-one : (left : List (Reply T A G)) (popped : Option (Reply T A G))
       (reply : Reply T A G) → after ≡ left ++ option_to_list popped → popped ≡ Some reply
       → Headline here old (command ∷ []) [] (reply ∷ []) new

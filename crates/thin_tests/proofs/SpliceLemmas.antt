@@ -29,7 +29,7 @@ module _ {T : Type 0} (old numbers : List T) (start stop : ℕ) where
       (λ i. (front i ++ gone) ++ back i)
       ∙ (append_assoc pre gone post ∙ sym (split_between old start stop order))
 
--- If P implies Q, and P holds of a successful result, then Q holds of a successful result.
+-- If P implies Q, and P holds in case the result is `Ok`, then Q holds in case the result is `Ok`.
 pub on_ok : {X E P Q : Type 0} (r : Result X E) → (P → Q) → OnOk r P → OnOk r Q
 on_ok (Ok _) h p = h p
 on_ok (Err _) h p = p

@@ -1,5 +1,5 @@
--- What the growth of a list may have cost: the amortised cost of growth. (std: `Vec::push`, "Time
--- complexity")
+-- An upper bound on what the growth of a list has cost. By this bound, a push takes amortised
+-- constant time. (std: `Vec::push`, "Time complexity")
 use Rattle.std.specs.Prelude.{◌≡◌, ℕ, ◌*◌, ◌^◌, ◌<◌, ◌≤◌}
 use Rattle.thin_block.specs.Cost.{Cost}
 use Rattle.thin_vec.specs.ThinVec.{Thin}
@@ -12,7 +12,8 @@ pub record IsCheapAt (cap : ℕ) (cost : Cost) : Type 0 where
   pub grown : 0 < cap → cost.grown < cap
   pub blocks : 0 < cap → 2 ^ cost.blocks ≤ 2 * cap
 
--- the cost of v is cheap for the capacity of v. A new list is cheap, and every call keeps a cheap
--- list cheap, except `reserve_exact`, `shrink_to` and `shrink_to_fit`, which do not promise it.
+-- The cost of the list v is cheap for its capacity. A new list is cheap, and every call keeps a
+-- cheap list cheap, except `reserve_exact`, `shrink_to` and `shrink_to_fit`, which do not promise
+-- it.
 abbrev pub IsCheap : {T A : Type 0} → Thin T A → Type 0
 IsCheap v = IsCheapAt v.capacity v.cost

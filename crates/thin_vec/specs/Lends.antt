@@ -11,7 +11,7 @@ use Rattle.thin_vec.specs.contracts.convert.into_iter.IntoIter.{the_row as itera
 use Rattle.thin_vec.specs.contracts.list.ThinVec.{the_row}
 
 module _ {T A : Type 0} where
-  -- the list v, with ws written over its first items. The length does not change: items of ws
+  -- The list v, with ws written over its first items. The length does not change: items of ws
   -- beyond it are ignored.
   abbrev pub with_items : Thin T A → List T → Thin T A
   with_items v ws = record v { items = refill (length v.items) v.items ws }
@@ -22,26 +22,28 @@ module _ {T A : Type 0} where
 
 module _ (T A G : RattleType) (a : AllocatorGhosts A.Denot) (g : GrowthGhosts G.Denot)
     (v : MutBor (Thin T.Denot A.Denot)) where
-  -- r borrows all items of v: when the borrow ends, v contains what was written to r
+  -- the reference r borrows all items of the list v: when the borrow ends, the list contains what
+  -- was written through r
   abbrev pub LendsItems : MutBor (List T.Denot) → Fml
   LendsItems r = Lends (the_row T A G a g) (Array T 0) v r (with_items v.now)
 
-  -- r borrows the item of v at index i: when the borrow ends, v contains what was written to r
+  -- the reference r borrows the item of the list v at index i: when the borrow ends, the list
+  -- contains what was written through r
   abbrev pub LendsItem : ℕ → MutBor T.Denot → Fml
   LendsItem i r = Lends (the_row T A G a g) T v r (with_item v.now i)
 
-  -- if r is `Some`, it borrows the item of v at index i, as in `LendsItem`; if r is `None`, v does
-  -- not change
+  -- if r is `Some`, it borrows the item of the list v at index i, as in `LendsItem`; if r is
+  -- `None`, the list does not change
   abbrev pub LendsGet : ℕ → Option (MutBor T.Denot) → Fml
   LendsGet i r = LendsIf (the_row T A G a g) T v r (with_item v.now i) v.now
 
-  -- the iterator `it` borrows all items of v: when the borrow ends, v contains what was written to
-  -- them
+  -- the iterator `it` borrows all items of the list v: when the borrow ends, the list contains what
+  -- was written to the items
   abbrev pub LendsIter : IterMut T.Denot → Fml
   LendsIter it = follows (the_row T A G a g) (Array T 0) v.ghost_name
       (iter_mut_name it) (with_items v.now)
 
-  -- v is a borrowed iterator that was made from a list, and r borrows the items that it has not
-  -- yielded yet: when the borrow r ends, the iterator contains what was written to r
+  -- v is a borrowed iterator that was made from a list, and the reference r borrows the items that
+  -- v has not yielded yet: when the borrow ends, the iterator v contains what was written through r
   abbrev pub LendsRest : MutBor (List T.Denot) → Fml
   LendsRest r = Lends (iterator_row T A G a g) (Array T 0) v r (with_items v.now)

@@ -46,39 +46,39 @@ open_code {T} {A} t a =
     (λ _. refl)
 
 module _ {T A : Type 0} where
-  -- the index of the slot where the tail of `v` begins
+  -- the index of the slot where the tail of the open block `v` begins
   abbrev pub tail_start : Open T A → ℕ
   tail_start v = length v.front + v.gap + length v.rest + v.gap_after
 
-  -- the index of the slot after the tail of `v`
+  -- the index of the slot after the tail of the open block `v`
   abbrev pub reach : Open T A → ℕ
   reach v = tail_start v + length v.tail
 
-  -- the items of the middle run of `v`
+  -- the items of the middle run of the open block `v`
   abbrev pub rest_of : Open T A → List T
   rest_of v = v.rest
 
-  -- the number of slots between the front and the tail of `v`
+  -- the number of slots between the front and the tail of the open block `v`
   abbrev pub range_len : Open T A → ℕ
   range_len v = v.gap + length v.rest + v.gap_after
 
-  -- the slots of `v`, in order
+  -- the slots of the open block `v`, in order
   abbrev pub row_of : Open T A → List (Option T)
   row_of v = full v.front
       ++ (empty v.gap
       ++ (full v.rest ++ (empty v.gap_after ++ (full v.tail ++ empty (v.capacity - reach v)))))
 
-  -- the items of `v`, in order
+  -- the items of the open block `v`, in order
   abbrev pub items_of : Open T A → List T
   items_of v = v.front ++ (v.rest ++ v.tail)
 
-  -- The cost of `v` after its gap was closed. If the gap has a slot, each item of the middle run
-  -- and of the tail moves once for this.
+  -- The cost of the open block `v` after its gap was closed. If the gap has a slot, each item of
+  -- the middle run and of the tail moves once for this.
   abbrev pub cost_closed : Open T A → Cost
   cost_closed v = if v.gap == 0 then v.cost else moving (length v.rest + length v.tail) v.cost
 
-  -- The cost of `v` after the items of the middle run were removed, and the tail was moved down to
-  -- the front. If there is a slot between the front and the tail, each item of the tail moves once
-  -- for this.
+  -- The cost of the open block `v` after the items of its middle run were removed, and its tail was
+  -- moved down to the front. If there is a slot between the front and the tail, each item of the
+  -- tail moves once for this.
   abbrev pub cost_drained : Open T A → Cost
   cost_drained v = if range_len v == 0 then v.cost else moving (length v.tail) v.cost

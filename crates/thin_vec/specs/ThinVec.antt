@@ -59,7 +59,7 @@ module _ {T A : Type 0} where
     pub small : v.capacity < 2 ^ 63
     pub fits : Fits R v.capacity
 
-  -- v has room for k more items without growing
+  -- the list v has room for k more items, without growing
   abbrev pub HasRoomFor : Thin T A → ℕ → Type 0
   HasRoomFor v k = length v.items + k ≤ v.capacity
 
@@ -73,19 +73,19 @@ module _ {T A : Type 0} where
   abbrev pub exact_for : RattleType → Thin T A → ℕ → Option ℕ
   exact_for R v k = exact_capacity R v.capacity (length v.items + k)
 
-  -- the cost of v after its capacity became c. If c differs from the old capacity, the cost
-  -- includes one more block, into which all items were copied.
+  -- The cost of the list v after its capacity became c. If c differs from the old capacity, the
+  -- cost includes one more block, into which all items were copied.
   abbrev pub cost_at : Thin T A → ℕ → Cost
   cost_at v c = if c == v.capacity then v.cost else growing (length v.items) v.cost
 
-  -- the cost of v after its capacity shrank to c. If c differs from the old capacity, the cost
-  -- includes one more block, into which all items were copied; but if c is 0, the block is freed,
-  -- and the cost becomes 0.
+  -- The cost of the list v after its capacity shrank to c. If c differs from the old capacity, the
+  -- cost includes one more block, into which all items were copied; but if c is 0, the block is
+  -- freed, and the cost becomes 0.
   abbrev pub cost_shrunk_to : Thin T A → ℕ → Cost
   cost_shrunk_to v c = if c == v.capacity then v.cost else
       (if c == 0 then no_cost else growing (length v.items) v.cost)
 
-  -- the cost of v after its capacity shrank to its length
+  -- the cost of the list v after its capacity shrank to its length
   abbrev pub cost_shrunk : Thin T A → Cost
   cost_shrunk v = cost_shrunk_to v (length v.items)
 

@@ -22,7 +22,7 @@ pub(crate) struct Filled<I> {
     pub(crate) ended: bool,
 }
 
-// Drops the first `len` items of a block, which are all that it has.
+// Drops all items of a block. They are in its first `len` slots.
 pub(crate) fn drop_items<T: Drop, A: Allocator>(block: &mut Block<T, A>, len: usize)
     requires packed { IsPacked block.old.slots len }
     ensures changes { seen block.new
@@ -33,8 +33,8 @@ pub(crate) fn drop_items<T: Drop, A: Allocator>(block: &mut Block<T, A>, len: us
     }
 }
 
-// Moves the items of `items` into the empty slots from `start` on. They leave the `Vec` from the
-// last on.
+// Moves the items of `items` into the empty slots from `start` on, in order, and frees the vector.
+// The last item is moved first.
 pub(crate) fn put_vec<T, A: Allocator, B: Allocator>(
     block: &mut Block<T, A>,
     start: usize,
@@ -55,8 +55,8 @@ pub(crate) fn put_vec<T, A: Allocator, B: Allocator>(
     items.destroy_empty();
 }
 
-// Puts clones of `items` into the empty slots from `start` on, and returns how many: it ends before
-// a clone that fails.
+// Puts clones of `items` into the empty slots from `start` on, in order, until a clone fails.
+// Returns the number of clones.
 pub(crate) fn put_clones<T: Clone, A: Allocator>(
     block: &mut Block<T, A>,
     start: usize,
@@ -84,8 +84,8 @@ pub(crate) fn put_clones<T: Clone, A: Allocator>(
     items.len()
 }
 
-// Puts clones of `value` into the `count` empty slots from `start` on, and returns how many: it
-// ends before a clone that fails.
+// Puts clones of `value` into the `count` empty slots from `start` on, until a clone fails. Returns
+// the number of clones.
 pub(crate) fn put_repeated<T: Clone, A: Allocator>(
     block: &mut Block<T, A>,
     start: usize,
@@ -114,7 +114,7 @@ pub(crate) fn put_repeated<T: Clone, A: Allocator>(
     count
 }
 
-// Puts what calls of `make` return into the `count` empty slots from `start` on.
+// Fills the `count` empty slots from `start` on with the results of calls of `make`, in order.
 pub(crate) fn put_results<T, A: Allocator, F: FnMut() -> T>(
     block: &mut Block<T, A>,
     start: usize,

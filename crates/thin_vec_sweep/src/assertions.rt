@@ -30,7 +30,7 @@ pub fn assert_same<T: PartialEq + Debug + Drop, R: Abort>(
     assert_eq!(rt; value, wanted, "{what}, {at:?}");
 }
 
-/// Asserts that `item` is the item of this number, or that both are `None`.
+/// Asserts that `item` is the item that is made from `number`, or that both are `None`.
 pub fn assert_same_item<T: Sample, R: Abort>(
     rt: &R,
     at: &At,
@@ -57,15 +57,15 @@ pub fn is_item<T: Sample>(item: Option<T>, number: Option<u64>) -> bool {
     }
 }
 
-/// Asserts that `items` are the items of these numbers.
+/// Asserts that `items` are the items that are made from `numbers`, in order.
 pub fn assert_same_items<T: Sample, R: Abort>(rt: &R, at: &At, items: &[T], numbers: &[u64]) {
     assert_same(rt, at, "length", items.len(), numbers.len());
     let difference = first_difference(items, numbers);
     assert_same(rt, at, "first item that differs", difference, None);
 }
 
-/// Asserts that `items` items are not yet dropped, and that the allocated blocks are theirs, if
-/// each owns one, and the list's, if its capacity is not 0.
+/// Asserts that `items` items are not yet dropped, and how many blocks are allocated: one for each
+/// of these items, if each owns one, and one for the list, if its capacity is not 0.
 pub fn assert_live<T: Sample, R: Abort>(
     rt: &R,
     at: &At,
@@ -83,7 +83,8 @@ pub fn assert_live<T: Sample, R: Abort>(
     assert_same(rt, at, "blocks that are not freed", out, blocks);
 }
 
-// Returns the first index at which an item is not the item of its number.
+// Returns the first index at which the item is not the one that is made from the number at this
+// index.
 fn first_difference<T: Sample>(items: &[T], numbers: &[u64]) -> Option<usize> {
     let mut index: usize = 0;
     for (item, number) in items.iter().zip(numbers.iter()) {

@@ -73,7 +73,7 @@ impl<T: Sample, G: Ruled> Case<T, G> {
         }
     }
 
-    /// Makes an item of this number, for example to pass it to the call.
+    /// Makes an item from `number`, for example to pass it to the call.
     pub fn item<R: Abort>(&self, rt: &R, number: u64) -> T {
         T::nth(rt, self.ledger, number)
     }
@@ -226,7 +226,7 @@ impl<T: Sample, G: Ruled> Case<T, G> {
         }
     }
 
-    /// Asserts that an item that a call returned is the item of this number.
+    /// Asserts that an item that a call returned is the item that is made from `number`.
     pub fn assert_item<R: Abort>(&self, rt: &R, item: &T, number: u64) {
         assert_same(
             rt,
@@ -237,7 +237,8 @@ impl<T: Sample, G: Ruled> Case<T, G> {
         );
     }
 
-    /// Asserts that a call returned the item of this number, or none if `number` is `None`.
+    /// Asserts that a call returned the item that is made from `number`, or none if `number` is
+    /// `None`.
     pub fn assert_item_or_none<R: Abort>(&self, rt: &R, item: Option<T>, number: Option<u64>) {
         assert_same_item(rt, &self.at, item, number);
     }
@@ -251,12 +252,12 @@ impl<T: Sample, G: Ruled> Case<T, G> {
         }
     }
 
-    /// Asserts that `items` are the items of these numbers.
+    /// Asserts that `items` are the items that are made from `numbers`, in order.
     pub fn assert_items<R: Abort>(&self, rt: &R, items: &[T], numbers: &[u64]) {
         assert_same_items(rt, &self.at, items, numbers);
     }
 
-    /// Asserts that a list has the items of these numbers, and this capacity.
+    /// Asserts that a list has the items that are made from `numbers`, and this capacity.
     pub fn assert_list<H: Growth, R: Abort>(
         &self,
         rt: &R,
@@ -294,8 +295,8 @@ impl<T: Sample, G: Ruled> Case<T, G> {
         self.assert_list(rt, list, numbers.as_slice(), capacity);
     }
 
-    /// Checks a call that makes a second list. Asserts that the second list has the items of these
-    /// numbers, and this capacity.
+    /// Checks a call that makes a second list. Asserts that the second list has the items that are
+    /// made from `numbers`, and this capacity.
     pub fn assert_second_list<H: Growth, R: Abort>(
         &self,
         rt: &R,

@@ -29,7 +29,7 @@ impl<T> Claims<T> {
         }
     }
 
-    /// Returns the items that were not yielded. The next one to be yielded is the last.
+    /// Returns the items that were not yielded. The last of them would have been yielded next.
     pub fn into_items(self) -> Vec<T> {
         let Claims {
             items,

@@ -10,9 +10,9 @@ use std::process::Abort;
 /// k items, which is 2 ^ k.
 pub const PATTERNS: Cases = [1, 2, 4, 8, 16, 32, 64];
 
-/// Returns whether the item at `index` stays, of `count` items, by the pattern of this number. If
-/// there are at most 6 items, the binary digits of `pattern` tell which items are removed (digit
-/// 1).
+/// Returns whether the item at `index`, of `count` items, stays by the pattern with the number
+/// `pattern`. If there are at most 6 items, the binary digits of `pattern` tell which items are
+/// removed (digit 1).
 pub fn stays(count: usize, pattern: usize, index: usize) -> bool {
     if count < PATTERNS.len() {
         return pattern >> (index % 64) & 1 == 0;
@@ -36,8 +36,7 @@ pub fn number_at(index: usize) -> u64 {
     (index as u64).saturating_add(1)
 }
 
-/// How often a closure was called, and how often with another item than the one it had to be called
-/// with.
+/// How often a closure was called, and how often it was called with a wrong item.
 pub struct ClosureCalls {
     asked: Cell<usize>,
     wrong: Cell<u64>,
@@ -59,7 +58,7 @@ impl ClosureCalls {
         number
     }
 
-    /// Counts a wrong item if `item` is not the item of this number.
+    /// Counts a wrong item if `item` is not the item that is made from `number`.
     pub fn check_item<T: Sample>(&self, item: &T, number: u64) {
         if item.kept_number() != T::expected_number(number) {
             count(&self.wrong);

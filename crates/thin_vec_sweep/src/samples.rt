@@ -27,13 +27,13 @@ pub trait Sample: Clone + Drop + PartialEq {
     /// block is that of an item, but at least 8.
     const LIMIT: usize;
 
-    /// Makes the item of this number.
+    /// Makes an item from `number`.
     fn nth<R: Abort>(rt: &R, ledger: &'static Ledger, number: u64) -> Self;
 
     /// Returns the number that the item was made from, or what the type keeps of it.
     fn kept_number(&self) -> u64;
 
-    /// Returns what `kept_number` must return for the item of this number.
+    /// Returns what `kept_number` must return for the item that is made from `number`.
     fn expected_number(number: u64) -> u64;
 }
 

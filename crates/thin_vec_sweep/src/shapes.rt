@@ -10,7 +10,7 @@ pub struct Shape {
 /// How many shapes there are without the two longest.
 pub const SHAPES: usize = 110;
 
-/// How many of the shapes have at most 40 items. They are the first ones.
+/// How many shapes have at most 40 items. These shapes are the first ones.
 pub const SHORT: usize = 107;
 
 /// The number of the first of the two longest shapes, which have 100,000 items. Only some sweeps
@@ -53,9 +53,9 @@ impl Ranged {
 }
 
 impl Shape {
-    /// Returns the shape of this number. The shapes are, in order: 0 to 4 items with 0 to 4 empty
-    /// slots, 0 to 40 items with 0 and 1 empty slots, some thousand items, and the longest with 1
-    /// and 0 empty slots.
+    /// Returns the shape with the number `number`. The shapes are, in order: 0 to 4 items with 0 to
+    /// 4 empty slots, 0 to 40 items with 0 and 1 empty slots, some thousand items, and the longest
+    /// with 1 and 0 empty slots.
     pub fn nth(number: usize) -> Shape {
         if number < 25 {
             return Shape {
@@ -135,8 +135,8 @@ impl Shape {
         cases.get(self.length).copied().unwrap_or(self.some())
     }
 
-    // Returns how many cases are tried on more than 6 items, if there is no spare room. With spare
-    // room, none is.
+    // Returns how many cases are tried on a list of more than 6 items. If there is spare room,
+    // there are none.
     fn some(self) -> usize {
         self.alone(if self.is_long() { 2 } else { 20 })
     }
@@ -159,7 +159,8 @@ impl Shape {
         self.length.saturating_add(1).saturating_sub(width)
     }
 
-    /// Returns a range and the number of a case on its items, by the number of both together.
+    /// Returns a range, and the number of a case on the items of this range. `number` is the number
+    /// of the two together.
     pub fn ranged_case(self, cases: &Cases, number: usize) -> Ranged {
         if self.length >= cases.len() {
             return self.some_range(number % RANGES, number / RANGES);

@@ -18,8 +18,9 @@ pub struct Walk {
 }
 
 impl Walk {
-    /// Returns the walk of this number over `count` items. Over at most 6 items, each walk of up to
-    /// `count + 1` steps has a number: its binary digits after the first one are the steps.
+    /// Returns the walk with the number `number` over `count` items. Over at most 6 items, each
+    /// walk of up to `count + 1` steps has a number: its binary digits after the first one are the
+    /// steps.
     pub fn nth(count: usize, number: usize) -> Walk {
         if count >= WALKS.len() {
             return Walk {
@@ -45,13 +46,14 @@ impl Walk {
         }
     }
 
-    /// Returns whether the step of this number is from the back.
+    /// Returns whether the step with the number `step` is from the back.
     pub fn is_back(self, step: usize) -> bool {
         self.ends >> (step % 64) & 1 == 1
     }
 }
 
-/// Returns how many steps a walk over more than 6 items has, by a number from 0 to 4.
+/// Returns how many steps a walk over more than 6 items has. There are five such lengths, with the
+/// numbers from 0 to 4.
 pub fn some_steps(count: usize, number: usize) -> usize {
     match number {
         0 => count / 2,

@@ -75,8 +75,8 @@ impl<L: Numbers> Work<L, u64> for InsertFirst {
     }
 }
 
-/// Removes the first item, or the item in the middle if `IN_MIDDLE`, and pushes it again, increased
-/// by 1.
+/// Removes the first item, or the item in the middle if `IN_MIDDLE` is true, and pushes it again,
+/// increased by 1.
 pub struct Remove<const IN_MIDDLE: bool>;
 
 impl<L: Numbers, const IN_MIDDLE: bool> Work<L, u64> for Remove<IN_MIDDLE> {
@@ -156,8 +156,8 @@ impl<L: Numbers, const START: usize, const END: usize> Work<L, u64> for DrainFew
     }
 }
 
-/// Replaces the two items from `START` up to, but not including, `END` with one item or two, and
-/// pushes an item if it was one.
+/// Replaces the two items from `START` up to, but not including, `END` with one item or with two.
+/// If it inserts only one, it pushes another one.
 pub struct SpliceFew<C, const START: usize, const END: usize> {
     count: PhantomData<C>,
 }

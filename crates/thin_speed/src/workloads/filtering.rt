@@ -87,7 +87,7 @@ impl<L: List<T>, T: Item, P: Pick> Work<L, T> for Retain<P> {
     }
 }
 
-/// Removes the second of each two equal neighbours, by `dedup`.
+/// Removes the second item of each pair of equal neighbours, by `dedup`.
 pub struct Dedup;
 
 impl<L: Numbers> Work<L, u64> for Dedup {

@@ -84,8 +84,8 @@ fn clone_iter_into_vec<A: Allocator + Copy>(
     move_into_vec(rt, list, alloc)
 }
 
-// Moves the items of `list` into a `Vec` on `other`, by one of the six functions above: the one
-// with the number `way`.
+// Moves the items of `list` into a `Vec` on `other`. The number `way` says which of the six
+// functions of this file does this.
 fn move_by_way(
     rt: &impl Abort,
     way: u32,
@@ -102,8 +102,9 @@ fn move_by_way(
     }
 }
 
-// Moves a list of these items to another allocator by each of the six functions above. Asserts each
-// time that the list's own allocator has no block left, and that the other allocator has one block.
+// Moves a list of these items to another allocator by each of the six functions of this file.
+// Asserts each time that the list's own allocator has no block left, and that the other allocator
+// has one block.
 fn assert_each_way_moves_the_block(rt: &impl Abort, alloc: Global, items: &[i32]) {
     let own = refusing_nth(rt, alloc, 0);
     let other = refusing_nth(rt, alloc, 0);

@@ -55,7 +55,7 @@ fn assert_extended<'a>(
 }
 
 // Appends clones of three items to a list of one item, twice. The first time, only one clone
-// succeeds, so that the call fails and drops this clone. The second time, all three clones succeed.
+// succeeds, so the call fails and drops this clone. The second time, all three clones succeed.
 fn assert_extended_at_second_try(
     rt: &impl Abort,
     alloc: Global,

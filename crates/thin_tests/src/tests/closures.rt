@@ -55,8 +55,9 @@ fn dedup_by_key_drops_its_closure(rt: HostRuntime) {
     assert_without_two(&rt, &list, &drops);
 }
 
-// This closure owns an `Rc`, whose count shows the drop. A `Counted` would borrow its cell, and the
-// borrow checker does not cover a closure that borrows here.
+// The closure owns an `Rc`, whose count shows when the closure is dropped. It does not own a
+// `Counted`, which borrows a cell: here, the borrow checker does not support a closure that
+// borrows.
 #[test]
 fn extract_if_drops_its_closure(rt: HostRuntime) {
     let kept = Rc::new(rt.alloc(), 2).ok().expect(&rt, "memory");

@@ -45,7 +45,7 @@ pub fn drain_first<T: Drop, A: Allocator, G: Growth>(
 }
 
 /// Moves the items from `start` up to `end` of `list` to the end of `other`, by one call of
-/// `extend`. This call takes the `Drain` by value, so that no contract states which items `list`
+/// `extend`. This call takes the `Drain` by value, so no contract states which items `list`
 /// has afterwards: a test checks that.
 pub fn extend_by_range(
     list: &mut ThinVec<u32, Global>,

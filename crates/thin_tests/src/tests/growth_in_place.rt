@@ -1,5 +1,5 @@
-//! Tests of lists that grow and shrink in place once they are long: those whose items have 1, 2, 4,
-//! 8 or 16 bytes. Each change of the capacity is refused first, and then made.
+//! Tests of lists that grow and shrink in place once they are long. Lists whose items have 1, 2, 4,
+//! 8 or 16 bytes do so. Each change of the capacity is refused first, and then made.
 use crate::tests::support::assertions::assert_same;
 use crate::tests::support::items::push;
 use std::alloc::{Allocator, Global};
@@ -13,7 +13,7 @@ trait Numbered: Copy + PartialEq + Debug + Drop {
     fn numbered(number: usize) -> Self;
 }
 
-// The modulus is odd, so that bytes in neighbouring words differ.
+// The modulus is odd, so bytes in neighbouring words differ.
 impl Numbered for u8 {
     fn numbered(number: usize) -> u8 {
         (number % 251) as u8
@@ -131,8 +131,8 @@ fn make_capacity<T: Drop, A: Allocator, G: Growth>(
     }
 }
 
-// Changes the capacity of the list to `capacity`, twice. Asserts that the first request is refused
-// and leaves the list unchanged, and that the second one succeeds.
+// Tries twice to change the capacity of the list to `capacity`. Asserts that the first request is
+// refused and leaves the list unchanged, and that the second one succeeds.
 fn assert_capacity_made<T: Numbered, B: Allocator>(
     rt: &impl Abort,
     refusing: &Refusing<B>,
@@ -174,7 +174,7 @@ fn assert_capacities<T: Numbered, B: Allocator>(
 }
 
 // Runs `assert_pushes` and `assert_capacities` for one type of item, of `size` bytes. The shortest
-// block that can stay in place has 32 words (256 bytes) of items, so that the lists have about this
+// block that can stay in place has 32 words (256 bytes) of items, so the lists have about this
 // many bytes. Their capacities are up to 18 items greater. If an item is smaller than a word, some
 // of these capacities fill a whole number of words, and others do not.
 fn assert_type<T: Numbered>(rt: &impl Abort, alloc: Global, size: usize) {

@@ -39,8 +39,8 @@ fn next_capacity_follows_doubling(rt: HostRuntime) {
     );
 }
 
-// A block of 2 ^ 62 bytes has room for `last` items of one byte, and not for one item more. For
-// that many, `PowerBytes` has no capacity, but `Doubling` has one.
+// A block of 2 ^ 62 bytes has room for 2 ^ 62 - 16 items of one byte. For one item more,
+// `PowerBytes` has no capacity, but `Doubling` has one.
 #[test]
 fn power_bytes_has_no_capacity_past_2_to_62_bytes(rt: HostRuntime) {
     let last = (1 << 62) - 16;
@@ -67,8 +67,8 @@ fn errors_print_their_texts(rt: HostRuntime) {
     assert_same(&rt, cause, ThinVecError::OutOfMemory);
 }
 
-// No type of Rattle has an alignment above 16, so that no test can run into these limits. They are
-// proved.
+// The limits for alignments above 16 are proved, and not tested, because no type of Rattle has such
+// an alignment.
 #[tactic(auto, unfolding(thin_block::specs::Capacity::fits))]
 fn states_limits_at_greater_alignments()
     ensures byte_items { items_offset 1 ≡ 16 }

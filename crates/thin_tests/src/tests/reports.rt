@@ -46,7 +46,7 @@ const REPORT: &str =
     row 36 ok\nrow 40 ok\nrow 41 ok\n\
     35 rows ok\n";
 
-// The exit codes of the program. An `ExitCode` can be read only by printing it, so that these are
+// The exit codes of the program. An `ExitCode` can be read only by printing it, so these are
 // texts.
 const EVERY_ROW_OK: &str = "ExitCode(unix_exit_status(0))";
 
@@ -57,7 +57,8 @@ const OUT_OF_MEMORY: &str = "ExitCode(unix_exit_status(2))";
 const NOT_WRITTEN: &str = "ExitCode(unix_exit_status(3))";
 
 // Writes the report to `text`. The call of `write` with the number `failing` fails, or none if that
-// is 0. Asserts that the report ends with the exit code `end`, and returns how many calls it made.
+// is 0. Asserts that the report ends with the exit code `end`, and returns how many calls of
+// `write` were made.
 fn report_into<A: Allocator + Copy, R: Abort>(
     rt: &R,
     alloc: A,
@@ -140,7 +141,7 @@ fn assert_report_of_rows(rt: &impl Abort, alloc: Global, rows: &[u32], wanted: &
 
 #[test]
 fn report_counts_failed_rows_and_exits_with_1(rt: HostRuntime) {
-    // No row has the number 0, so that row 0 fails.
+    // No row has the number 0, so row 0 fails.
     for (rows, text) in [
         ([0, 1].as_slice(), "row 0 failed\nrow 1 ok\n1 rows failed\n"),
         (

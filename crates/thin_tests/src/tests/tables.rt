@@ -20,7 +20,7 @@ fn assert_row<V, A: Allocator>(rt: &impl Abort, table: &Rows<V, A>, row: usize)
     assert!(rt; row < table.rows());
 }
 
-// Asserts that the row has these entries, and that it has a block exactly if it is not empty.
+// Asserts that the row has these entries, and that it has a block if and only if it is not empty.
 fn assert_entries<A: Allocator>(
     rt: &impl Abort,
     table: &Rows<u32, A>,
@@ -311,8 +311,8 @@ fn set_both<A: Allocator>(
     }
 }
 
-// Asserts that both hold the same: the same number of entries, and each entry of the table is in
-// the reference.
+// Asserts that the table and the reference have equally many entries, and that each entry of the
+// table is in the reference.
 fn assert_both<A: Allocator>(rt: &impl Abort, table: &Rows<u32, A>, reference: &Reference) {
     assert_same(rt, table.len(), reference.len());
     for row in 0..table.rows() {

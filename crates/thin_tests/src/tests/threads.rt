@@ -1,5 +1,5 @@
 //! Sends lists, and what is made of lists, through functions whose bounds are `Send` and `Sync`. No
-//! thread is started: that these functions compile and are proved is the test.
+//! thread is started: the test is that these functions compile and are proved.
 ghost use Rattle.std.specs.Prelude.{◌≡◌};
 
 use crate::tests::support::assertions::assert_same;
@@ -15,14 +15,14 @@ struct Node {
     children: ThinVec<Node>,
 }
 
-// Returns `value`. Its type has to be one that can be sent to another thread.
+// Returns `value`. Its type has to be `Send`: values of the type can be moved to another thread.
 fn needs_send<X: Send>(value: X) -> X
     ensures value { result ≡ value }
 {
     value
 }
 
-// Returns `value`. Its type has to be one to which several threads may have references.
+// Returns `value`. Its type has to be `Sync`: several threads can have references to one value.
 fn needs_sync<X: Sync>(value: &X) -> &X
     ensures value { result.now ≡ value.now }
 {

@@ -1,4 +1,5 @@
-//! Tests of `append` and `split_off`: what both lists have afterwards, also on failure.
+//! Tests of `append` and `split_off`: what both lists have after the call, whether it succeeds or
+//! fails.
 use crate::tests::support::assertions::{assert_counts, assert_list, assert_same};
 use crate::tests::support::items::{list_of, refusing_nth};
 use thin_vec::ThinVecError;

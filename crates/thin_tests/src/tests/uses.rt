@@ -1,4 +1,4 @@
-//! Runs each example use of `thin_examples` once.
+//! Runs each example function of `thin_examples` once.
 use crate::tests::support::assertions::{assert_items, assert_len, assert_same};
 use crate::tests::support::items::{list_of, push, refusing_nth};
 use std::alloc::Global;

@@ -46,32 +46,32 @@ module _ {T A G : Type 0} {g : Ghosts G} {h : HoldsGhosts (Holder (Open T A)) (O
     pub alloc : drain_alloc new ≡ drain_alloc old
     pub cost : drain_cost new ≡ drain_cost old
 
-  -- a call of `next` on `old` returned `item` and led to `new`: it yields the first item, or
-  -- returns `None` if no item is left
+  -- a call of `next` on `old` returned `item` and led to `new`: `item` is the first item that was
+  -- not yet yielded, or `None` if there was none
   pub record DrainSteps (old : Drain T A G (Holder (Open T A)) g h) (item : Option T)
       (new : Drain T A G (Holder (Open T A)) g h) : Type 0 where
     pub gave : YieldsFirst drain_rest old item new
     pub keeps : DrainKeeps old new
 
-  -- a call of `next_back` on `old` returned `item` and led to `new`: it yields the last item, or
-  -- returns `None` if no item is left
+  -- a call of `next_back` on `old` returned `item` and led to `new`: `item` is the last item that
+  -- was not yet yielded, or `None` if there was none
   pub record DrainStepsBack (old : Drain T A G (Holder (Open T A)) g h) (item : Option T)
       (new : Drain T A G (Holder (Open T A)) g h) : Type 0 where
     pub gave : YieldsLast drain_rest old item new
     pub keeps : DrainKeeps old new
 
-  -- calls of `next` do not change what the list will be once the `Drain` is dropped. (`DrainSteps`
-  -- and `DrainStepsBack` state it of each single call, also in any mixture)
+  -- Calls of `next` do not change what the list will be once the `Drain` is dropped. (`DrainSteps`
+  -- and `DrainStepsBack` say the same of each single call of `next` or `next_back`.)
   abbrev pub DrainKeepsAlong : Drain T A G (Holder (Open T A)) g h → Type 0
   DrainKeepsAlong first = (items : List T) (later : Drain T A G (Holder (Open T A)) g h)
       → Yields DrainSteps first items later → DrainKeeps first later
 
-  -- whatever state calls of `next` begin in, they yield the items of `drain_rest` in order. This
-  -- holds of all states of this type, so the argument only names the type
+  -- Calls of `next` yield the items of `drain_rest` in order, whatever `Drain` of this type they
+  -- begin with. The argument only names the type.
   abbrev pub DrainsInOrder : Drain T A G (Holder (Open T A)) g h → Type 0
   DrainsInOrder d = YieldsInOrder DrainSteps drain_rest
 
-  -- whatever state calls of `next_back` begin in, they yield the items of `drain_rest` in reverse.
-  -- This holds of all states of this type, so the argument only names the type
+  -- Calls of `next_back` yield the items of `drain_rest` in reverse order, whatever `Drain` of this
+  -- type they begin with. The argument only names the type.
   abbrev pub DrainsInReverse : Drain T A G (Holder (Open T A)) g h → Type 0
   DrainsInReverse d = YieldsInReverse DrainStepsBack drain_rest

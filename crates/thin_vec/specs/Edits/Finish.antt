@@ -1,5 +1,5 @@
--- What the private steps of a splice's `finish` state of each other. No public clause cites this
--- file.
+-- What the contracts of the private functions that `finish` of a `Splice` calls say. No public
+-- contract uses this file.
 use Rattle.std.specs.Prelude.{◌≡◌, ℕ, ◌+◌, ◌*◌, ◌<◌, ◌≤◌, List, [], IfErr, IsOk, OnErr, OnOk, Option, length}
 use Rattle.std.specs.Iterator.{Count, Drains, size}
 use Rattle.std.specs.declared.result.Result.{Result}
@@ -14,8 +14,8 @@ use Rattle.thin_vec.specs.ThinVec.{HasRoomFor, Thin}
 use Rattle.thin_vec.specs.declared.errors.SpliceRefused.{SpliceRefused}
 
 module _ {T A : Type 0} where
-  -- the list v became w, to which items of an iterator were added that might yield `left`; at most
-  -- n other items were moved
+  -- The list v became w when items of an iterator were added. `left` bounds how many items the
+  -- iterator could yield. At most n moves of other items were made.
   pub record HasTaken (rule : Rule) (R : RattleType) (v w : Thin T A) (n : ℕ)
       (left : Count) : Type 0 where
     pub capacity : IsLoose rule R v.capacity w.capacity
@@ -36,8 +36,9 @@ module _ {T A : Type 0} where
 
 module _ {S T A : Type 0} (steps : S → Option T → S → Type 0) (can : S → Type 0)
     (remaining : S → Count) where
-  -- the block v became the list w on the allocator a, and the items of the iterator s were placed
-  -- in its gap and after it: the facts from which the clauses of `finish` follow
+  -- Items of the iterator s were placed between the front and the tail of the open block v, which
+  -- became the list w on the allocator a. `result` is what the call returned. The clauses of
+  -- `finish` follow from these facts.
   pub record IsFinished (rule : Rule) (R : RattleType) (v : Open T A) (a : A) (s : S)
       (w : Thin T A) (result : Result (Unit {0}) (SpliceRefused T S A)) : Type 0 where
     pub succeeds : size (remaining s) ≤ v.gap → IsOk result

@@ -16,10 +16,10 @@ use Rattle.thin_vec.specs.declared.edits.splice.Splice.{Splice}
 use Rattle.thin_vec.specs.declared.edits.holder.Holds.{Ghosts as HoldsGhosts}
 
 module _ {S T A : Type 0} (steps : S → Option T → S → Type 0) where
-  -- where the iterator `s` was when `finish` failed, which had placed the items `placed`. The error
-  -- has the items that `s` yielded after those, in `held` and `in_hand`, and its `rest` is the
-  -- iterator then. Either `next` may be called on `rest`, and items are held only if one is in
-  -- hand; or no item is in hand, items are held, and `s` has returned `None` after them
+  -- `finish` failed after it had placed the items `placed` of the iterator `s`. The items that it
+  -- drew after them are in the error, first `held` and then `in_hand`, and `rest` is the iterator
+  -- after these. There are two cases: `next` may be called on `rest`, and items are held only if
+  -- one is in hand; or no item is in hand, items are held, and `s` has returned `None` after them.
   abbrev pub Stopped : (S → Type 0) → (S → Count) → S → List T → SpliceRefused T S A → Type 0
   Stopped can remaining s placed error =
       (PausedAfter steps can remaining s
@@ -29,27 +29,27 @@ module _ {S T A : Type 0} (steps : S → Option T → S → Type 0) where
       × YieldsThen steps s (placed ++ error.held.items) None error.rest)
 
 module _ {T A : Type 0} where
-  -- why `finish` failed, which left the list w; `tail` is the items after the range, and `left`
-  -- bounds the rest of the iterator
+  -- why `finish` failed and left the list w; `tail` has the items after the range, and `left`
+  -- bounds how many items the rest of the iterator may yield
   pub record IsStopCause {S : Type 0} (rule : Rule) (R : RattleType) (w : Thin T A) (tail : List T)
       (left : Count) (error : SpliceRefused T S A) : Type 0 where
-    -- with no item held or in hand, room for the hint could not be reserved
+    -- if no item is held and none is in hand, room for the size hint could not be reserved
     pub by_hint : error.held.items ≡ [] → error.in_hand ≡ None
         → FailsAtHint rule R w left error.cause
-    -- with items held and none in hand, the cause is `CapacityOverflow` if and only if there is no
-    -- ruled capacity for them
+    -- if items are held and none is in hand, the cause is `CapacityOverflow` if and only if there
+    -- is no ruled capacity for the held items
     pub by_held : 0 < length error.held.items → error.in_hand ≡ None
         → (error.cause ≡ CapacityOverflow)
         ↔ (capacity_for rule R w (length error.held.items) ≡ None)
-    -- with an item in hand before a tail, there was no memory to hold it
+    -- if items follow the range and an item is in hand, there was no memory to hold that item
     pub by_in_hand : 0 < length tail → IsSome error.in_hand → error.cause ≡ OutOfMemory
-    -- with an item in hand and no tail, the cause is `CapacityOverflow` if and only if there is no
-    -- ruled capacity for one item more
+    -- if no item follows the range and an item is in hand, the cause is `CapacityOverflow` if and
+    -- only if there is no ruled capacity for one more item
     pub by_push : tail ≡ [] → IsSome error.in_hand
         → (error.cause ≡ CapacityOverflow) ↔ (capacity_for rule R w 1 ≡ None)
 
-  -- `finish` failed with no item after the range. The list v without the range became w, and `s` is
-  -- the iterator
+  -- `finish` failed, and no item follows the range: v is the list without the range, w is the list
+  -- after the call, and `s` is the iterator
   pub record FailsAsExtend {S : Type 0} (v w : Thin T A) (s : S) (error : SpliceRefused T S A)
       : Type 0 where
     pub held : error.held.items ≡ []
@@ -58,7 +58,7 @@ module _ {T A : Type 0} where
     pub in_hand : MatchOption error.in_hand ((w ≡ v) × (error.rest ≡ s))
         (λ _. length w.items ≡ w.capacity)
 
-  -- the list on the allocator a that an open block leaves if its middle run is dropped
+  -- the list on the allocator a that an open block becomes if its middle run is dropped
   abbrev pub left_of : Open T A → A → Thin T A
   left_of v a = record {
     items = v.front ++ v.tail;
@@ -97,7 +97,7 @@ module _ {I T A G H : Type 0} {g : Ghosts G} {h : HoldsGhosts H (Open T A)} wher
   abbrev pub splice_left : Splice I T A G H g h → Thin T A
   splice_left s = left_of (splice_block s) (splice_alloc s)
 
-  -- the number of places of the range, from which items were yielded or not
+  -- the number of places of the range, including those whose items were already yielded
   abbrev pub splice_range : Splice I T A G H g h → ℕ
   splice_range s = range_len (splice_block s)
 
@@ -105,8 +105,8 @@ module _ {I T A G H : Type 0} {g : Ghosts G} {h : HoldsGhosts H (Open T A)} wher
   abbrev pub splice_replaced : Splice I T A G H g h → List T → List T
   splice_replaced s xs = with_between (splice_block s) xs
 
-  -- the iterator can place `most` items without new memory: they are at most as many as the range
-  -- has places, or no item follows the range, and the list without it has room for them
+  -- `most` items of the iterator can be placed without new memory: the range has at least as many
+  -- places, or no item follows the range, and the list without the range has room for them
   abbrev pub HasPlacesFor : Splice I T A G H g h → ℕ → Type 0
   HasPlacesFor s most =
       (most ≤ splice_range s)
@@ -124,15 +124,15 @@ module _ {I T A G H : Type 0} {g : Ghosts G} {h : HoldsGhosts H (Open T A)} wher
     pub alloc : splice_alloc new ≡ splice_alloc old
     pub cost : (splice_block new).cost ≡ (splice_block old).cost
 
-  -- a call of `next` on `old` returned `item` and led to `new`: it yields the first item, or
-  -- returns `None` if no item is left
+  -- a call of `next` on `old` returned `item` and led to `new`: `item` is the first item that was
+  -- not yet yielded, or `None` if there was none
   pub record SpliceSteps (old : Splice I T A G H g h) (item : Option T)
       (new : Splice I T A G H g h) : Type 0 where
     pub gave : YieldsFirst splice_rest old item new
     pub keeps : SpliceKeeps old new
 
-  -- a call of `next_back` on `old` returned `item` and led to `new`: it yields the last item, or
-  -- returns `None` if no item is left
+  -- a call of `next_back` on `old` returned `item` and led to `new`: `item` is the last item that
+  -- was not yet yielded, or `None` if there was none
   pub record SpliceStepsBack (old : Splice I T A G H g h) (item : Option T)
       (new : Splice I T A G H g h) : Type 0 where
     pub gave : YieldsLast splice_rest old item new

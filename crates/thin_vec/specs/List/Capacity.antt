@@ -19,7 +19,8 @@ use Rattle.thin_vec.specs.Cheap.{IsCheap}
 use Rattle.thin_vec.specs.ThinVec.{Thin, HasRoomFor, IsWithin, capacity_for, cost_at}
 use Rattle.thin_vec.specs.declared.errors.Rejected.{Rejected}
 
--- the result r with the value that its error returns to the caller left out: only the cause stays
+-- the result r, with an error replaced by its cause alone, without the value that it returns to the
+-- caller
 abbrev pub causes : {X T : Type 0} → Result X (Rejected T) → Result X ThinVecError
 causes (Ok x) = Ok x
 causes (Err e) = Err e.cause
@@ -42,18 +43,19 @@ module _ {T A : Type 0} where
   abbrev pub Costs : ℕ → Thin T A → Thin T A → Type 0
   Costs n v w = w.cost ≡ moving n (cost_at v w.capacity)
 
-  -- the capacity after a call that needs room for k further items, and the error of such a call
+  -- what a call that needs room for k further items guarantees: the capacity afterwards, and the
+  -- error if it fails
   pub record Reserves (rule : Rule) (R : RattleType) (k : ℕ) (v w : Thin T A)
       {X : Type 0} (r : Result X ThinVecError) : Type 0 where
     -- if v has room for k further items, the capacity stays
     pub had_room : HasRoomFor v k → w.capacity ≡ v.capacity
     -- on success, the capacity is the ruled one for k further items
     pub ok : OnOk r (capacity_for rule R v k ≡ Some w.capacity)
-    -- on failure, the list is unchanged, or it has grown to that capacity and a clone failed then.
-    -- (The clause `err` of each call says when the list is unchanged)
+    -- On failure, the list is unchanged, or it has grown to the ruled capacity for k further items,
+    -- and then a clone failed. (The clause `err` of each call says when the list is unchanged.)
     pub err : OnErr r ((w ≡ v) ⊎ (capacity_for rule R v k ≡ Some w.capacity))
-    -- the error is `CapacityOverflow` if and only if there is no such capacity. There are only two
-    -- kinds of error, so any other failure is `OutOfMemory`
+    -- The error is `CapacityOverflow` if and only if there is no ruled capacity for k further
+    -- items. There are only two kinds of error, so any other failure is `OutOfMemory`.
     pub overflow : IsErrOf r CapacityOverflow ↔ (capacity_for rule R v k ≡ None)
 
   -- what each call that may grow a list preserves: the allocator stays, the capacity does not

@@ -58,8 +58,8 @@ pub record StopsAtClone {T : Type 0} (infallible : T → Type 0) (sources : List
   pub fallible : HoldsAt (λ x. ¬ (infallible x)) sources at
   pub cost : after ≡ moving at before
 
--- w has the cost of v at the capacity of w, plus one move for each source before one whose clone
--- can fail
+-- the cost of the list w is the cost that the list v has at the capacity of w, plus one move for
+-- each source before some source whose clone can fail
 abbrev pub CostsUpToClone : {T A : Type 0} → (T → Type 0) → List T → Thin T A → Thin T A → Type 0
 CostsUpToClone infallible sources v w =
     StopsAtClone infallible sources (cost_at v w.capacity) w.cost

@@ -24,50 +24,53 @@ pub record PausedAfter {S X : Type 0} (steps : S → Option X → S → Type 0) 
   pub can_next : can t
   pub finite : IsFinite (remaining t)
 
--- the capacity, which was c and is d, stayed, or it grew at least to the capacity that the rule
+-- The capacity was c and is now d: it stayed, or it grew at least to the capacity that the rule
 -- gives if a block of capacity c needs room for w items, where w is some number greater than c. So
--- it stayed or at least doubled
+-- it stayed, or at least doubled.
 abbrev pub IsLoose : Rule → RattleType → ℕ → ℕ → Type 0
 IsLoose rule R c d =
     (d ≡ c) ⊎ ((w : ℕ) × (n : ℕ) × (c < w) × (ruled_capacity rule R c w ≡ Some n) × (n ≤ d))
 
--- the rule gives the capacity d to a block of some capacity e that needs room for w items, where w
--- is some number greater than e and at most n. This does not say that the list has had such a
--- block. (By `Doubling`, d is then at most 4 or 2 * n)
+-- The rule gives the capacity d to some block. That block has a capacity e and needs room for w
+-- items, where w is greater than e and at most n. This does not say that the list has had such a
+-- block. (By `Doubling`, d is then at most 4 or at most 2 * n.)
 abbrev pub IsRuled : Rule → RattleType → ℕ → ℕ → Type 0
 IsRuled rule R d n = (e w : ℕ) × (e < w) × (w ≤ n) × (ruled_capacity rule R e w ≡ Some d)
 
--- the capacity, which was c and is d, stayed, or the rule gives d to some block for at most n items
+-- the capacity was c and is now d: it stayed, or the rule gives d to some block that needs room for
+-- at most n items
 abbrev pub IsKeptOrRuled : Rule → RattleType → ℕ → ℕ → ℕ → Type 0
 IsKeptOrRuled rule R c d n = (d ≡ c) ⊎ IsRuled rule R d n
 
 -- the capacity of the list v became d, and the list then has n items: the capacity stayed, or the
--- rule gives d to some block for at most n items, or d is the ruled capacity of v for an allowed
--- hint of the iterator
+-- rule gives d to some block that needs room for at most n items, or d is the ruled capacity of v
+-- for a size hint that the iterator may have
 abbrev pub IsExtended : {T A : Type 0} → Rule → RattleType → Thin T A → ℕ → ℕ → Count → Type 0
 IsExtended rule R v d n left =
     IsKeptOrRuled rule R v.capacity d n
     ⊎ ((h : ℕ) × IsWithinCount h left × (capacity_for rule R v h ≡ Some d))
 
--- d is the capacity of a new list of n items: the rule gives d to some block for at most n items, or
--- d is exactly an allowed hint of the iterator
+-- d is the capacity of a new list of n items: the rule gives d to some block that needs room for at
+-- most n items, or d is exactly a size hint that the iterator may have
 abbrev pub IsCollected : Rule → RattleType → ℕ → ℕ → Count → Type 0
 IsCollected rule R d n left =
     IsRuled rule R d n ⊎ ((h : ℕ) × IsWithinCount h left × (exact_capacity R 0 h ≡ Some d))
 
 module _ {T A : Type 0} where
-  -- the capacity of w, which was v before the items of an iterator were added
+  -- what the capacity is after items of an iterator were added to the list v, which became w;
+  -- `left` bounds how many items the iterator may yield
   pub record GrowsFor (rule : Rule) (R : RattleType) (v w : Thin T A) (left : Count) : Type 0 where
     -- if v has room for as many items as the iterator may yield, the capacity stays
     pub had_room : HasRoomFor v (size left) → w.capacity ≡ v.capacity
-    -- the capacity stays, or it grows at least as far as the rule says
+    -- the capacity stays, or it grows at least to the capacity that the rule gives
     pub loose : IsLoose rule R v.capacity w.capacity
-    -- the capacity stays, or it is what the rule gives to some block for at most the final number of
-    -- items, or for an allowed hint
+    -- the capacity stays, or the rule gives it to some block that needs room for at most the final
+    -- number of items, or it is the ruled capacity for a size hint that the iterator may have
     pub ruled : IsExtended rule R v w.capacity (length w.items) left
 
-  -- what it has cost to add items to the list v, which became w: one move for each added item, and
-  -- at most n moves of other items (the two inequalities are sums without subtraction)
+  -- The cost of adding items to the list v, which became w: one move for each added item, and at
+  -- most n moves of other items. (The first two inequalities have sums on both sides, to avoid
+  -- subtraction.)
   pub record CostsAdding (v w : Thin T A) (n : ℕ) : Type 0 where
     pub least : v.cost.moves + length w.items ≤ w.cost.moves + length v.items
     pub moves : w.cost.moves + length v.items ≤ v.cost.moves + n + length w.items
@@ -81,60 +84,63 @@ module _ {T A : Type 0} where
     -- growth has copied at most as many items as the capacity has grown by
     pub copied : w.cost.grown + v.capacity ≤ v.cost.grown + w.capacity
 
-  -- what a new list w on the allocator `a` is, to which at most `left` items were added
+  -- w is a new list on the allocator `a`, made of the items of an iterator; `left` bounds how many
+  -- items the iterator may yield
   pub record IsCollectedList (rule : Rule) (R : RattleType) (a : A) (w : Thin T A) (left : Count)
       : Type 0 where
-    -- without an item to yield, the list has no capacity
+    -- if the iterator has no item to yield, the list has capacity 0
     pub none : size left ≡ 0 → w.capacity ≡ 0
-    -- the capacity is what the rule gives to some block for at most the final number of items, or it
-    -- is exactly an allowed hint
+    -- the rule gives the capacity to some block that needs room for at most the final number of
+    -- items, or the capacity is exactly a size hint that the iterator may have
     pub ruled : IsCollected rule R w.capacity (length w.items) left
     -- each item was moved once
     pub moves : w.cost.moves ≡ length w.items
     -- the list is on the allocator, cheap and within bounds
     pub made : IsMade R a w
 
-  -- what std's `Extend` states of the list v that became w, on success and on failure: the items xs
-  -- were added after its own
+  -- what the contract of std's `Extend` says on success and on failure, if the items xs were
+  -- appended to the list v, which became w
   abbrev pub Extends : Rule → RattleType → Thin T A → List T → Thin T A → Type 0
   Extends rule R v xs w =
       (w.items ≡ v.items ++ xs) × (length w.items ≡ length v.items + length xs)
       × (v.capacity ≤ w.capacity) × IsLoose rule R v.capacity w.capacity × CostsAdding v w 0
       × (w.alloc ≡ v.alloc) × (IsCheap v → IsCheap w) × IsWithin R w
 
-  -- what std's `FromIterator` states of the list v that was made of the items xs
+  -- what the contract of std's `FromIterator` says of the list v that was made of the items xs
   abbrev pub IsMadeOf : RattleType → List T → Thin T A → Type 0
   IsMadeOf R xs v =
       (v.items ≡ xs) × (length v.items ≡ length xs) × (v.cost.moves ≡ length xs) × IsCheap v
       × IsWithin R v
 
-  -- a call failed since it could not reserve room for the hint h of its iterator. The list w has no
-  -- room for h items, and the cause is `CapacityOverflow` if and only if there is no ruled capacity
-  -- for them. (h is the lower bound that `size_hint` returned; `left` bounds the iterator)
+  -- A call failed because it could not reserve room for the size hint h of its iterator. The list w
+  -- has no room for h items, and the cause is `CapacityOverflow` if and only if there is no ruled
+  -- capacity for them. (h is the lower bound that `size_hint` returned; `left` bounds how many
+  -- items the iterator may yield.)
   abbrev pub FailsAtHint : Rule → RattleType → Thin T A → Count → ThinVecError → Type 0
   FailsAtHint rule R w left cause =
       (h : ℕ) × IsWithinCount h left × ¬ (HasRoomFor w h)
       × ((cause ≡ CapacityOverflow) ↔ (capacity_for rule R w h ≡ None))
 
-  -- why `extend` failed and left the list w: `left` bounds the rest of the iterator
+  -- why `extend` failed and left the list w; `left` bounds how many items the rest of the iterator
+  -- may yield
   pub record IsExtendCause {S : Type 0} (rule : Rule) (R : RattleType) (w : Thin T A)
       (left : Count) (error : ExtendRefused T S) : Type 0 where
-    -- with an item in hand, the cause is `CapacityOverflow` if and only if there is no ruled
-    -- capacity for one item more
+    -- if an item is in hand, the cause is `CapacityOverflow` if and only if there is no ruled
+    -- capacity for one more item
     pub by_push : IsSome error.in_hand
         → (error.cause ≡ CapacityOverflow) ↔ (capacity_for rule R w 1 ≡ None)
-    -- with no item in hand, room for the hint could not be reserved
+    -- if no item is in hand, room for the size hint could not be reserved
     pub by_hint : error.in_hand ≡ None → FailsAtHint rule R w left error.cause
 
-  -- why `from_iter` failed: `left` bounds the rest of the iterator
+  -- why `from_iter` failed; `left` bounds how many items the rest of the iterator may yield
   pub record IsCollectCause {S : Type 0} (rule : Rule) (R : RattleType) (left : Count)
       (error : CollectRefused T S A) : Type 0 where
-    -- with an item in hand, the cause is `CapacityOverflow` if and only if there is no ruled
-    -- capacity for one item more
+    -- if an item is in hand, the cause is `CapacityOverflow` if and only if there is no ruled
+    -- capacity for one more item
     pub by_push : IsSome error.in_hand
         → (error.cause ≡ CapacityOverflow) ↔ (capacity_for rule R error.list 1 ≡ None)
-    -- with no item in hand, a block for exactly the hint h could not be made: h is not 0, and the
-    -- cause is `CapacityOverflow` if and only if h is too large as a capacity
+    -- if no item is in hand, a block for exactly the size hint h could not be made: h is not 0, and
+    -- the cause is `CapacityOverflow` if and only if h is too large as a capacity
     pub by_hint : error.in_hand ≡ None
         → (h : ℕ) × IsWithinCount h left × (0 < h)
         × ((error.cause ≡ CapacityOverflow) ↔ (exact_capacity R 0 h ≡ None))

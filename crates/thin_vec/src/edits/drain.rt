@@ -71,19 +71,20 @@ impl<T: Drop, A: Allocator, G: Growth> ThinVec<T, A, G> {
         requires start_le_end { start ≤ end }
         requires in_bounds { end ≤ length self.old.items }
 
-        // What it yields: the items of the range, by `next` in order, by `next_back` in reverse.
+        // The `Drain` yields the items of the range: `next` in order, `next_back` in reverse order.
         ensures rest { drain_rest result ≡ slice_range self.old.items start end }
         ensures runs { DrainsInOrder result }
         ensures runs_back { DrainsInReverse result }
 
-        // What the list is once the `Drain` is dropped, by the contract of its `drop`.
+        // What the list will be once the `Drain` is dropped, by the contract of its `drop`.
         ensures kept { drain_kept result ≡ remove_range self.old.items start end }
         ensures capacity { drain_capacity result ≡ self.old.capacity }
         ensures alloc { drain_alloc result ≡ self.old.alloc }
         ensures cost { drain_cost result ≡ (if start == end then self.old.cost else moving
             (length self.old.items - end) self.old.cost) }
 
-        // It borrows this list, and calls of `next` do not change what the list will be.
+        // The `Drain` borrows this list. Calls of `next` do not change what the list will be once
+        // the `Drain` is dropped.
         ensures same_reference { drain_lender result ≡ self.entry.ghost_name }
         ensures stays { DrainKeepsAlong result }
     {

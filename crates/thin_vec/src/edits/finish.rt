@@ -179,7 +179,7 @@ impl<T: Drop, A: Allocator, G: Growth> ThinVec<T, A, G> {
         iter: I,
         alloc: A,
     ) -> Result<(), SpliceRefused<T, I, A>>
-        // The block has a tail, its range is empty, and it comes from this list.
+        // The block comes from this list, and has a tail. Its middle run is empty.
         requires some { 0 < length block.tail }
         requires empty { self.old.items ≡ [] }
         requires none { block.rest ≡ [] }
@@ -226,7 +226,7 @@ impl<T: Drop, A: Allocator, G: Growth> ThinVec<T, A, G> {
         iter: I,
         alloc: A,
     ) -> Result<(), SpliceRefused<T, I, A>>
-        // The block has no tail, its range is empty, and it comes from this list.
+        // The block comes from this list, and has no tail. Its middle run is empty.
         requires no_tail { block.tail ≡ [] }
         requires within { reach block ≤ block.capacity }
         requires empty { self.old.items ≡ [] }

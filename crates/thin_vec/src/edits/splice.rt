@@ -51,19 +51,20 @@ impl<T, A: Allocator, G: Growth> ThinVec<T, A, G> {
         requires start_le_end { start ≤ end }
         requires in_bounds { end ≤ length self.old.items }
 
-        // What it yields, and what it will put there.
+        // The items that the `Splice` yields, the number of places of the range, and the iterator
+        // whose items will take these places.
         ensures rest { splice_rest result ≡ slice_range self.old.items start end }
         ensures range { splice_range result ≡ end - start }
         ensures iter { splice_iter result ≡ iter }
 
-        // What it will leave.
+        // What the list will be without the range.
         ensures front { (splice_block result).front ≡ take start self.old.items }
         ensures tail { (splice_block result).tail ≡ drop end self.old.items }
         ensures capacity { (splice_block result).capacity ≡ self.old.capacity }
         ensures alloc { splice_alloc result ≡ self.old.alloc }
         ensures cost { (splice_block result).cost ≡ self.old.cost }
 
-        // It borrows this list.
+        // The `Splice` borrows this list.
         ensures same_reference { splice_lender result ≡ self.entry.ghost_name }
     {
         let block = self.open(start, end);
@@ -186,8 +187,8 @@ impl<
         ensures succeeds { HasPlacesFor self.entry (size (I.remaining (splice_iter self.entry)))
             → IsOk result }
 
-        // On failure, no item is lost. With a tail (items after the range), the range is full;
-        // without one, the list lacks only the range, or is full.
+        // On failure, no item is lost. If items follow the range (`before_tail`), its places are
+        // filled. If none follow (`without_tail`), the list lacks only the range, or is full.
         ensures placed { IfErr result (λ error. (xs : List T)
             × (self.exit.0.now.items ≡ splice_replaced self.entry xs)
             × Stopped I.next_gives I.can_next I.remaining (splice_iter self.entry) xs error) }
@@ -217,7 +218,7 @@ impl<
         } else {
             list.finish_at_end(block, iter, alloc)
         };
-        // This call is for the prover: it yields that the list is within bounds.
+        // This call is only for the prover: its contract says that the list is within bounds.
         let _len = list.len();
         answer
     }

@@ -270,7 +270,8 @@ impl<T: Clone, A: Allocator, G: Growth> ThinVec<T, A, G> {
         requires room { HasRoomFor self.old (end - start) }
         requires within { IsWithin T.row self.old }
 
-        // The clones that are appended.
+        // What the list is after the call: clones of the first `result` items of the range were
+        // appended.
         ensures in_bounds { result ≤ end - start }
         ensures items { AppendsClones T.is_clone self.old.items self.new.items
             (take result (slice_range self.old.items start end)) }

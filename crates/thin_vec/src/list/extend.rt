@@ -29,9 +29,8 @@ impl<T, A: Allocator, G: Growth> ThinVec<T, A, G> {
     ///
     /// # Errors
     ///
-    /// The cause is `CapacityOverflow` if there is no ruled capacity for what was needed (the rule
-    /// G gives a larger capacity than a block can have, or none), and `OutOfMemory` if the
-    /// allocator refuses a block. There are two cases:
+    /// The cause is `CapacityOverflow` if the new capacity would be too large, and `OutOfMemory` if
+    /// the allocator failed. There are two cases:
     ///
     /// - The room for the lower bound cannot be reserved. Then the list is unchanged, `in_hand` is
     ///   `None`, and `rest` is the whole iterator.
@@ -142,7 +141,7 @@ impl<T, A: Allocator, G: Growth> ThinVec<T, A, G> {
         requires can_next { I.can_next iter }
         requires finite { IsFinite (I.remaining iter) }
 
-        // What the iterator yielded, and what the list then is.
+        // What the iterator yielded, and what the list is after the call.
         ensures items { (xs : List T) × (self.new.items ≡ self.old.items ++ xs)
             × YieldsThen I.next_gives iter xs result.1 result.0 }
         ensures changes { self.new ≡ record self.old {
@@ -150,7 +149,8 @@ impl<T, A: Allocator, G: Growth> ThinVec<T, A, G> {
           cost = moving (length self.new.items - length self.old.items) self.old.cost;
         } }
 
-        // If it returns an item, the list is full, and the iterator is nearer to its end.
+        // If the call returns an item, the list is full, and the returned iterator is nearer to its
+        // end.
         ensures full { OnSome result.1 (length self.new.items ≡ self.new.capacity) }
         ensures rest { OnSome result.1 (I.can_next result.0 × IsFinite (I.remaining result.0)) }
         ensures nearer { OnSome result.1
@@ -209,8 +209,8 @@ impl<T, A: Allocator> ThinVec<T, A> {
     ///
     /// # Errors
     ///
-    /// The cause is `CapacityOverflow` if there is no capacity for what was needed, and
-    /// `OutOfMemory` if the allocator refuses a block. There are two cases:
+    /// The cause is `CapacityOverflow` if the capacity would be too large, and `OutOfMemory` if the
+    /// allocator failed. There are two cases:
     ///
     /// - The first block cannot be made. Then `list` is a new list, `in_hand` is `None`, and `rest`
     ///   is the whole iterator.

@@ -1,5 +1,5 @@
 //! The steps of `retain`, `retain_mut` and `extract_if` on an open block. They test the items of
-//! the middle run where they are, and move the items that are kept to the front.
+//! the middle run where they are, and move the kept items to the front.
 ghost use Rattle.std.specs.Prelude.{◌≡◌, ◌↔◌, ◌+◌, ◌<◌, ◌≤◌, ◌==◌, ◌++◌, [], Bool, IsTrue, drop, length, take};
 ghost use Rattle.thin_block.specs.Cost.{moving};
 
@@ -230,8 +230,8 @@ impl<T, A: Allocator> OpenBlock<T, A> {
 impl<T: Drop, A: Allocator> OpenBlock<T, A> {
     ghost use Rattle.thin_vec.specs.OpenBlock.Sift.{IsSifted, Sifts};
 
-    // Tests each item of the middle run, in order. Moves the items that are kept to the front, and
-    // drops the others. Afterwards the middle run is empty.
+    // Tests each item of the middle run, in order. Moves the kept items to the front, and drops the
+    // others. Afterwards the middle run is empty.
     pub(crate) fn sift<J: Test<T>>(&mut self, test: &mut J)
         requires none { self.old.gap ≡ 0 }
         requires ready { J.ready test.old }

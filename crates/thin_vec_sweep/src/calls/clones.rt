@@ -11,8 +11,8 @@ use thin_vec::ThinVecError;
 // The number of the first item that is added.
 const FRESH: u64 = 80_000;
 
-/// Calls `resize`: with each index as the new length, and with a new length that is greater by each
-/// count.
+/// Calls `resize` with each index as the new length, and with some new lengths that are greater
+/// than the old one.
 pub struct Resize {}
 
 impl<T: Sample, G: Ruled> Call<T, G> for Resize {
@@ -37,7 +37,7 @@ impl<T: Sample, G: Ruled> Call<T, G> for Resize {
 }
 
 // Returns the new length, and by how much it is greater than the old one. The new lengths are each
-// index, and the old length plus each count.
+// index, and the old length plus each tried number of new items.
 fn length(shape: Shape, argument: usize) -> (usize, usize) {
     match argument.checked_sub(shape.indices()) {
         None => (shape.index(argument), 0),

@@ -12,8 +12,8 @@ use std::hash::{DefaultHasher, Hash, Hasher};
 use std::process::Abort;
 use thin_testing::Ruled;
 
-/// Compares the list with another list, which has other spare room. The other list has the same
-/// items, or another last item, or one item less, or one item more.
+/// Compares the list with a second list, whose spare room is different. The second list has the
+/// same items, or a different last item, or one item fewer, or one item more.
 pub struct Compare {}
 
 impl<T: Sample + Ord + Hash + Debug, G: Ruled> Call<T, G> for Compare {
@@ -114,7 +114,7 @@ fn iter_text<D: Debug, R: Abort>(rt: &R, global: Global, items: &D) -> String {
     text(rt, global, &Told { items })
 }
 
-// A slice that is printed as the iterator over its items is.
+// A slice that is printed as an iterator over its items is printed.
 #[derive(Drop)]
 struct Told<'a, D> {
     items: &'a D,

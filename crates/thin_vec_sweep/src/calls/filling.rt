@@ -13,14 +13,14 @@ use std::process::Abort;
 use thin_testing::Ruled;
 use thin_vec::{Doubling, ThinVec};
 
-// The number of the first new item. The next ones have the numbers below, in descending order.
+// The number of the first new item. Each further new item has the next lower number.
 const FRESH: u64 = 800_000;
 
 // How many size hints are tried.
 const HINTS: usize = 10;
 
-// Returns the size hint of this number, for an iterator over `count` items and a list of `length`
-// items.
+// Returns the size hint with the number `number`, for an iterator over `count` items and a list of
+// `length` items.
 fn hint<T: Sample>(number: usize, count: usize, length: usize) -> usize {
     match number {
         0 => 0,
@@ -42,7 +42,7 @@ pub struct Ending {
     pub verdict: Verdict,
     /// How many items are moved into the list.
     pub placed: usize,
-    /// How many items are held back in a vector after those.
+    /// How many items are held back in a vector, after the items that are moved into the list.
     pub held: usize,
     /// How many items are in hand after the items that are held back: 0 or 1.
     pub in_hand: usize,
@@ -146,7 +146,7 @@ pub fn assert_iterator_calls<T: Sample, G: Ruled, R: Abort>(
 }
 
 /// Asserts that an error returns the item in hand, and the items that were not taken from the
-/// iterator. Together with the other items, they are all `count` items.
+/// iterator. Together with the items that were placed or held back, they are all `count` items.
 pub fn back<T: Sample, G: Ruled, R: Abort>(
     rt: &R,
     case: &Case<T, G>,
@@ -178,8 +178,8 @@ pub fn claims<T: Sample, G: Ruled, R: Abort>(
     Claims::new(source(rt, case.ledger, last, count), lower, case.ledger)
 }
 
-/// Calls `extend` with each count of items and each size hint. A failed call must return the items
-/// that are not in the list.
+/// Calls `extend` with each tried number of items and each size hint. A failed call must return the
+/// items that are not in the list.
 pub struct Extend {}
 
 impl<T: Sample, G: Ruled> Call<T, G> for Extend {
@@ -227,7 +227,7 @@ impl<T: Sample, G: Ruled> Call<T, G> for ExtendAsTrait {
     }
 }
 
-// Asserts that a call of a trait of `std` succeeded exactly if it had to.
+// Asserts that a call of a trait of `std` succeeded if and only if it had to.
 fn done<T: Sample, G: Ruled, R: Abort>(rt: &R, case: &Case<T, G>, ending: &Ending, is_done: bool) {
     assert_same(
         rt,

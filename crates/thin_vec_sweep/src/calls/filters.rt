@@ -1,5 +1,5 @@
-//! Sweeps of the calls that keep the items for which a closure says so. The closure is called once
-//! for each item, in order, and may overwrite it.
+//! Sweeps of the calls in which a closure decides which items stay. The closure is called once for
+//! each item, in order, and may overwrite it.
 use crate::case::{Case, put};
 use crate::closures::{ClosureCalls, PATTERNS, number_at, stays};
 use crate::samples::{Counted, Sample};
@@ -93,8 +93,8 @@ fn moved_up<R: Abort>(rt: &R, global: Global, count: usize, pattern: usize) -> V
 }
 
 /// Calls `pop_if`. The closure owns a new item, and swaps it with the last item of the list. The
-/// closure then owns the old last item, and drops it with itself. The closure returns whether the
-/// new item is removed from the list.
+/// closure then owns the old last item, which is dropped with the closure. The closure returns
+/// whether the new item is removed from the list.
 pub struct PopIf {}
 
 impl<T: Sample, G: Ruled> Call<T, G> for PopIf {
@@ -262,7 +262,7 @@ impl<T: Sample + PartialEq, G: Ruled> Call<T, G> for Dedup {
     }
 }
 
-// Replaces the item at `index` by the item of this number.
+// Replaces the item at `index` by the item that is made from `number`.
 fn write<T: Sample, G: Ruled, R: Abort>(rt: &R, case: &mut Case<T, G>, index: usize, number: u64) {
     if index < case.list.len() {
         case.list[index] = case.item(rt, number);

@@ -58,7 +58,8 @@ impl<T: Sample, G: Ruled> Call<T, G> for IntoIter {
     }
 }
 
-// Asserts that the items of these numbers remain, and that `len` and `size_hint` say so.
+// Asserts that the items that are made from `numbers` remain, and that `len` and `size_hint` say
+// so.
 fn remains<T: Sample, A: Allocator, G: Growth, R: Abort>(
     rt: &R,
     at: &At,

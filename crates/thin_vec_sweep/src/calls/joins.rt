@@ -9,7 +9,8 @@ use thin_testing::Ruled;
 // The number of the first item of the second list.
 const FRESH: u64 = 80_000;
 
-/// Calls `append` with a list of each count of items, without spare room and with one empty slot.
+/// Calls `append` with a list of each tried number of items, once without spare room and once with
+/// one empty slot.
 pub struct Append {}
 
 impl<T: Sample, G: Ruled> Call<T, G> for Append {

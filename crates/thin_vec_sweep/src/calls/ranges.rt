@@ -61,7 +61,8 @@ fn drain<T: Sample, A: Allocator, G: Growth, R: Abort>(
     remains(rt, at, &drain, numbers);
 }
 
-// Asserts that the items of these numbers remain, and that `len` and `size_hint` say so.
+// Asserts that the items that are made from `numbers` remain, and that `len` and `size_hint` say
+// so.
 fn remains<T: Sample, A: Allocator, G: Growth, R: Abort>(
     rt: &R,
     at: &At,
@@ -237,7 +238,7 @@ impl<T: Sample, G: Ruled> Call<T, G> for Bounds {
     }
 }
 
-// Returns the bound of this number, for a list of `length` items.
+// Returns the bound with the number `number`, for a list of `length` items.
 fn bound(number: usize, length: usize) -> Bound<usize> {
     let place = match number / 2 {
         5 => length,
@@ -253,7 +254,7 @@ fn bound(number: usize, length: usize) -> Bound<usize> {
     }
 }
 
-// Returns the range that `bounds` must return. No list has `usize::MAX` items, so that a sum may
+// Returns the range that `bounds` must return. No list has `usize::MAX` items, so a sum may
 // saturate there.
 fn between(start: Bound<usize>, end: Bound<usize>, length: usize) -> Option<(usize, usize)> {
     let first = match start {

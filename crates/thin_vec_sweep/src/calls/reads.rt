@@ -63,8 +63,8 @@ impl<T: Sample, G: Ruled> Call<T, G> for Iterate {
     }
 }
 
-// Returns the first index at which an iteration does not yield the item of its number, also if the
-// iteration ends too early or too late.
+// Returns the first index at which an iteration over the list yields a wrong item, or ends too
+// early or too late.
 fn difference<T: Sample, G: Ruled>(list: &List<T, G>, numbers: &[u64]) -> Option<usize> {
     let mut index: usize = 0;
     for item in list {

@@ -13,7 +13,7 @@ const FRESH: u64 = 80_000;
 // How many counts of new items are tried for each range.
 const COUNTS: usize = 7;
 
-// On lists of at most 6 items, each count is tried for each range.
+// On lists of at most 6 items, each range is replaced by each tried number of new items.
 const EACH_COUNT: Cases = [COUNTS; 7];
 
 // Returns how many new items replace the range: more than the range has, none, one, or about as

@@ -7,8 +7,8 @@ use crate::sweep::Call;
 use std::process::Abort;
 use thin_testing::Ruled;
 
-/// Calls `reserve` with each count, with numbers near the greatest capacity that fits, and with
-/// `usize::MAX`.
+/// Calls `reserve` with each tried number of items, with numbers near the greatest capacity that
+/// fits, and with `usize::MAX`.
 pub struct Reserve {}
 
 impl<T: Sample, G: Ruled> Call<T, G> for Reserve {

@@ -34,8 +34,8 @@ pub trait AppendsSlice<T: Sample, G: Ruled> {
     ) -> Result<(), ThinVecError>;
 }
 
-/// Makes the call `C` with each count of items. If it requires spare room, makes it with one item,
-/// with two items, and so on, up to the spare room.
+/// Makes the call `C` with each tried number of items. If `C` requires spare room, makes it with
+/// one item, with two items, and so on, up to the spare room.
 pub struct AppendSlice<C> {
     call: PhantomData<C>,
 }

@@ -34,11 +34,11 @@ const SHORT_WALKS: usize = 3;
 // cases take a step.
 const AFTER_STEPS: Cases = [33, 94, 102, 118, 150, 214, 342];
 
-// Each filling is tried, without a step before.
+// Each filling is tried, without a step before it.
 const AT_ONCE: Cases = [FILLS; 7];
 
-// Returns how many cases of each range are tried. Spare room matters only to the filling, so that
-// lists with spare room are tried without steps.
+// Returns how many cases of each range are tried. Spare room matters only to the filling, so lists
+// with spare room are tried without steps.
 fn cases(shape: Shape) -> Cases {
     if shape.spare == 0 {
         AFTER_STEPS
@@ -108,8 +108,8 @@ fn many(width: usize, number: usize) -> usize {
     }
 }
 
-// Returns the lower bound of this number. When `finish` reads it, `left` of `all` items are not yet
-// yielded.
+// Returns the size hint with the number `number`. When `finish` reads it, `left` of `all` items are
+// not yet yielded.
 fn hint(number: usize, left: usize, all: usize) -> usize {
     match number {
         0 => 0,
@@ -173,8 +173,9 @@ fn fill_between<T: Sample, G: Ruled>(case: &mut Case<T, G>, width: usize, plan: 
     ending
 }
 
-// Returns how many of `count` items a `Vec` can hold that is empty at first. It first requests 4
-// places, or 8 if an item has at most one byte, and then twice as many as it has.
+// Returns how many of `count` items a `Vec` that is empty at first can hold. The `Vec` first
+// requests 4 places, or 8 if an item has at most one byte, and then each time twice as many as it
+// has.
 fn hold<T: Sample, G: Ruled>(case: &mut Case<T, G>, count: usize) -> usize {
     let first = if T::SIZE <= 1 { 8 } else { 4 };
     let mut room: usize = 0;
@@ -189,7 +190,8 @@ fn hold<T: Sample, G: Ruled>(case: &mut Case<T, G>, count: usize) -> usize {
     count
 }
 
-/// Calls `splice` on each range, with each count of new items and each size hint, after some steps.
+/// Calls `splice` on each range, with each tried number of new items and each size hint, after some
+/// steps.
 pub struct Spliced {}
 
 impl<T: Sample, G: Ruled> Call<T, G> for Spliced {

@@ -83,8 +83,8 @@ fn shown_out<T: Drop, A: Allocator + Copy>(
     }
 }
 
-// Returns the reply of a command that reserves room. It succeeded if `made`, and otherwise the
-// capacity overflowed.
+// Returns the reply of a command that reserves room: a success if `made` is true, and otherwise a
+// capacity overflow.
 fn shown_room<T: Drop, A: Allocator + Copy>(alloc: A, made: bool) -> Shown<T, A> {
     if made {
         Shown::plain(alloc, Form::Done, None)
@@ -256,8 +256,8 @@ impl<T: Numbered<A>, A: Allocator + Copy, G: Ruled> Model<T, A, G> {
         }
     }
 
-    // Removes the items that the judge does not keep, or takes. `ExtractIf` tests only the items of
-    // its range, until as many are removed as it asks for.
+    // Tests the items by the judge, in order, and removes those that do not stay. `ExtractIf` tests
+    // only the items of its range, until it has removed as many as it asks for.
     fn sift<J: Judge<T>>(
         &mut self,
         alloc: A,

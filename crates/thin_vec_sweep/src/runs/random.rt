@@ -35,8 +35,8 @@ impl Dice {
         usize::try_from(self.below(limit)).unwrap_or(0)
     }
 
-    // Returns a lower bound, or how many items are reserved. Rarely, it is more than any block
-    // holds.
+    // Returns a number that is used as a lower bound, or as the number of items to reserve room
+    // for. Rarely, it is more than any block holds.
     fn claim(&mut self) -> usize {
         if self.below(9) == 0 {
             usize::MAX
@@ -150,7 +150,7 @@ pub fn assert_alike<'a, T: Numbered<Lender<'a>>, G: Ruled, J: Judge<T> + From<u6
 const RUNS: u64 = 5_000;
 
 // How many commands were run, how many of them were to have a request refused, and how many really
-// had one refused. The others made too few requests for that.
+// had one refused. Some commands made too few requests for that.
 #[derive(Debug, Drop)]
 struct Tally {
     commands: u64,

@@ -13,7 +13,7 @@ pub trait Numbered<A: Allocator>: Clone + Eq {
     /// Whether each item owns a block. If so, cloning an item makes a request.
     const OWNS_BLOCK: bool;
 
-    /// Makes the item of this number. Several numbers may have the same item.
+    /// Makes an item from `number`. Several numbers may make equal items.
     fn sample(alloc: A, number: u64) -> Result<Self, AllocError>;
 }
 

@@ -75,7 +75,8 @@ pub struct Shown<T, A: Allocator> {
     pub items: Vec<T, A>,
     /// The capacity of a list, or how many items were held back.
     pub number: usize,
-    /// Whether an item was in hand. It is the first one after those that were held back.
+    /// Whether an item was in hand. In `items`, this item is the first one after the items that
+    /// were held back.
     pub in_hand: bool,
     /// The place of a command that was returned because it is out of range.
     pub place: Place,
@@ -185,7 +186,7 @@ fn show_list<T: Drop, A: Allocator + Copy, G: Growth>(
     }
 }
 
-// Returns what a reply shows if its call stopped half way.
+// Returns what a reply shows if its call stopped before all items were placed.
 fn show_stopped<T: Drop, A: Allocator + Copy>(
     answers: Vec<Option<T>, A>,
     cause: ThinVecError,

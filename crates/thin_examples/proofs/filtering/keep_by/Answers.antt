@@ -1,4 +1,4 @@
--- `keep_judged`: the closure returns what its keeper returns, so the items left are those that the
+-- `keep_by`: the closure returns what its keeper returns, so the items left are those that the
 -- keeper keeps.
 use Rattle.std.proofs.Common.{rules}
 use Rattle.thin_examples.proofs.KeeperLemmas.{retained-by}

@@ -123,7 +123,8 @@ items_in-held X [] = refl
 items_in-held X (None ∷ s) = items_in-held X s
 items_in-held X (Some x ∷ s) = λ i. (one_more (items_in-held X s i).0, (x, (items_in-held X s i).1))
 
--- if two codes are equal, they are equal as the first part of a pair
+-- if the codes a and b are equal, so are the codes of two pairs that have a and b as first parts,
+-- and the same second part c
 first : {a b c : Gv} → a ≡ b → gcons a c ≡ gcons b c
 first {c = c} e = λ i. gcons (e i) c
 

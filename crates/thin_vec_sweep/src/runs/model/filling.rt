@@ -85,9 +85,9 @@ impl<T: Numbered<A>, A: Allocator + Copy, G: Ruled> Model<T, A, G> {
     // Returns whether the reply `given` is possible for a command for which a request was refused
     // after some items were placed.
     //
-    // If no items are after the range, no item is held back, and an item is in hand exactly if the
-    // list is full. Otherwise, either an item is in hand, or no item was drawn, or all items were
-    // drawn.
+    // If no items are after the range, no item is held back, and there are two cases: an item is in
+    // hand and the list is full, or no item is in hand and none was placed. Otherwise, either an
+    // item is in hand, or no item was drawn, or all items were drawn.
     fn may_stop(&self, order: Order, given: &Shown<T, A>) -> bool {
         let placed = order.count.saturating_sub(given.items.len());
         if order.to == self.items.len() {
