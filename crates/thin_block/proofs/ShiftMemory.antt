@@ -3,13 +3,11 @@
 --     Moves     how the memory that a copy needs is taken out of the row, and how the memory that
 --               the copy leaves is put back
 --     apart     if the two runs of slots do not overlap: the items, and memory for them
---     slides    if the two runs of slots overlap: the items, and memory as wide as the distance of
---               the move
+--     slides    if the slots through which the run moves are empty: the items, and memory as wide
+--               as the distance of the move
 use Rattle.std.proofs.Common.{◌≡◌, ◌⊎◌, Bool, true, false, ℕ, Some, None, ◌+◌, ◌-◌, ◌*◌, ◌<◌, ◌≤◌, List, [], ◌∷◌, ◌++◌, length, refl, sym, ap, ◌∙◌, arith, append_assoc}
 use Rattle.std.proofs.lemmas.List.{length-map, length-replicate, length-append, length-take}
 use mathlib.Core.Logic.{inl, inr, ⊎_elim}
-use borrow.Author.Tests.{ltb-true, ltb-false}
-use lib.Dec.{ltb}
 use seplogic.Ra.Ura.{Ura}
 use base.Fraction.{full_share}
 use base.Logic.{ent, sep}
@@ -25,7 +23,7 @@ use Rattle.core.proofs.mem.Param.{El, R, el_x, elτ}
 use Rattle.core.proofs.ptr.Rows.{add_times}
 use Rattle.core.specs.Ptr.{memory_before_copy, memory_after_copy}
 use Rattle.thin_block.specs.Ownership.{places}
-use Rattle.thin_block.specs.Slots.{full, empty, slot, run, laid, moved}
+use Rattle.thin_block.specs.Slots.{AreEmpty, full, empty, slot, run, laid, moved}
 use Rattle.thin_block.specs.Shifts.{IsShifted}
 use Rattle.thin_block.proofs.SlotsLemmas.{empty-run, parted-run, run-split, length-run, moved_left, moved_right, moved_over, moved_back}
 use Rattle.thin_block.proofs.SlotMemory.{Slot, sz, cut, glue, around, run_out, run_in, to_items, of_items, to_room, of_room}
@@ -359,27 +357,33 @@ module _ (E : El) {M : Type 1} {𝓤 : Ura M} (𝓛 : Logic 𝓤) (b o : ℕ) (s
   Way up = Moves (memory_before_copy (R E) up (distance up) k (block_ptr b src) (block_ptr b dst)
       xs) (memory_after_copy (R E) up (distance up) k (block_ptr b src) (block_ptr b dst) xs)
 
-  -- if the two runs of slots overlap, the run and the gap next to it can be taken out of the row,
-  -- and put back after the move
-  pub slides : from + k ≤ length slots → to + k ≤ length slots → Bare → to < from + k
-      → from < to + k → (up : Bool) → ltb from to ≡ up → Way up
-  slides source target bare near near' true e =
-      let less : from < to = ltb-true from to e in
-      let le : from + k + (to - from) ≤ length slots = omega arith in
+  -- if the run moves up, the slots after it, up to the new end of the run, are empty
+  abbrev pub GapAbove : Bool → Type 0
+  GapAbove up = up ≡ true → (from ≤ to) × AreEmpty slots (from + k) (to - from)
+
+  -- if the run moves down, the slots before it, from its new place on, are empty
+  abbrev pub GapBelow : Bool → Type 0
+  GapBelow up = up ≡ false → (to ≤ from) × AreEmpty slots to (from - to)
+
+  -- if the slots through which the run moves are empty, the run and these slots can be taken out of
+  -- the row, and put back after the move
+  pub slides : from + k ≤ length slots → to + k ≤ length slots → (up : Bool) → GapAbove up
+      → GapBelow up → Way up
+  slides source target true above below =
+      let gap = above refl in let le : from ≤ to = gap.0 in
+      let within : from + k + (to - from) ≤ length slots = omega arith in
       slides_up (to - from) (omega arith) target
-      (empty-run slots (from + k) (to - from) le
-      (λ i h j. bare i (omega arith) (omega arith) (inr h)))
-  slides source target bare near near' false e =
-      let less : to ≤ from = ltb-false from to e in
-      let le : to + (from - to) ≤ length slots = omega arith in
+      (empty-run slots (from + k) (to - from) within gap.1)
+  slides source target false above below =
+      let gap = below refl in let le : to ≤ from = gap.0 in
+      let within : to + (from - to) ≤ length slots = omega arith in
       slides_down (from - to) (omega arith) source
-      (empty-run slots to (from - to) le
-      (λ i h j. bare i h (omega arith) (inl (let q : i < from = omega arith in q))))
+      (empty-run slots to (from - to) within gap.1)
 
   -- the address of the destination differs from the address of the run by the distance of the move
-  pub shifted : (up : Bool) → ltb from to ≡ up → IsShifted (R E) up (distance up)
+  pub shifted : (up : Bool) → GapAbove up → GapBelow up → IsShifted (R E) up (distance up)
       (block_ptr b src) (block_ptr b dst)
-  shifted true e = let less : from < to = ltb-true from to e in
+  shifted true above below = let le : from ≤ to = (above refl).0 in
       ap (block_ptr b) (further from (to - from) to s o (omega arith))
-  shifted false e = let less : to ≤ from = ltb-false from to e in
+  shifted false above below = let le : to ≤ from = (below refl).0 in
       ap (block_ptr b) (further to (from - to) from s o (omega arith))

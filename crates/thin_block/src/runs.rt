@@ -1,5 +1,5 @@
 //! Moving runs of items, within a block or to another block. A run is the items in adjacent slots.
-ghost use Rattle.std.specs.Prelude.{◌≡◌, ◌⊎◌, ℕ, ◌+◌, ◌<◌, ◌≤◌, length};
+ghost use Rattle.std.specs.Prelude.{◌≡◌, ◌⊎◌, ℕ, ◌+◌, ◌-◌, ◌<◌, ◌≤◌, false, length, true};
 ghost use Rattle.std.specs.declared.option.Option.TheVariants.{None};
 ghost use Rattle.thin_block.specs.Cost.{Cost, moving};
 ghost use Rattle.thin_block.specs.Slots.{AreEmpty, AreFilled, slot, run, laid, emptied, moved};
@@ -47,11 +47,7 @@ impl<T, A: Allocator> Block<T, A> {
         } }
         ensures cap { length self.new.slots ≡ length self.old.slots }
     {
-        let at = self.at;
-        unsafe {
-            let target = (at.add(HEADER_WORDS) as *mut T).add(to);
-            slide(target.add(gap) as *const T, target, k, false)
-        }
+        self.slide_run(to, gap, 0, k, false);
     }
 
     /// Moves `k` items up by `gap` slots, of which the first is in the slot `from`. The `gap` slots
@@ -68,11 +64,7 @@ impl<T, A: Allocator> Block<T, A> {
         } }
         ensures cap { length self.new.slots ≡ length self.old.slots }
     {
-        let at = self.at;
-        unsafe {
-            let source = (at.add(HEADER_WORDS) as *mut T).add(from);
-            slide(source as *const T, source.add(gap), k, true)
-        }
+        self.slide_run(from, 0, gap, k, true);
     }
 
     /// Moves items down as `move_down` does, and returns the block. The block is passed by value,
@@ -186,10 +178,33 @@ impl<T, A: Allocator> Block<T, A> {
           cost = moving k self.old.cost;
         } }
     {
+        self.slide_run(0, from, to, k, from < to);
+    }
+
+    // Moves the `k` items in the slots from `low + from` on to the slots from `low + to` on. `up`
+    // says whether the items move up. The slots through which the items move must be empty.
+    //
+    // The addresses of the items and of their new slots are computed from the address of the slot
+    // `low`. So if `from` and `to` are constants, LLVM sees the distance of the two addresses.
+    #[inline(always)]
+    fn slide_run(&mut self, low: usize, from: usize, to: usize, k: usize, up: bool)
+        requires source { low + from + k ≤ length self.old.slots }
+        requires target { low + to + k ≤ length self.old.slots }
+        requires filled { AreFilled self.old.slots (low + from) k }
+        requires above { up ≡ true → (low + from ≤ low + to)
+            × AreEmpty self.old.slots (low + from + k) (low + to - (low + from)) }
+        requires below { up ≡ false → (low + to ≤ low + from)
+            × AreEmpty self.old.slots (low + to) (low + from - (low + to)) }
+        ensures changes { seen self.new ≡ record (seen self.old) {
+          slots = moved (low + from) (low + to) k self.old.slots;
+          cost = moving k self.old.cost;
+        } }
+        ensures cap { length self.new.slots ≡ length self.old.slots }
+    {
         let at = self.at;
         unsafe {
-            let items = at.add(HEADER_WORDS) as *mut T;
-            slide(items.add(from) as *const T, items.add(to), k, from < to)
+            let base = (at.add(HEADER_WORDS) as *mut T).add(low);
+            slide(base.add(from) as *const T, base.add(to), k, up)
         }
     }
 

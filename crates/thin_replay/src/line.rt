@@ -24,7 +24,8 @@ impl Line {
     /// Parses a line. Fails if its words do not have the form of a line, or if there is no memory
     /// for what the line describes.
     pub fn parse(alloc: Global, text: &str) -> Result<Line, LineError>
-        ensures says { IfOk result (λ line. (words : Words) × HasWords text.now words × IsLine words line) }
+        ensures says { IfOk result (λ line. (words : Words) × HasWords text.now words
+            × IsLine words line) }
     {
         let words: Vec<&str> = text.split_whitespace().collect(alloc)?;
         Line::from_words(alloc, words.as_slice())

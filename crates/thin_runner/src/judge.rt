@@ -21,7 +21,8 @@ pub trait Judge<T>: Copy {
     /// Returns whether `dedup_by` removes `later`. The item `kept` is the last one kept before
     /// `later`. May write to both items.
     fn same(&mut self, later: &mut T, kept: &mut T) -> bool
-        ensures value { (result, later.new, kept.new, self.new) ≡ judging.same self.old later.old kept.old };
+        ensures value { (result, later.new, kept.new, self.new)
+            ≡ judging.same self.old later.old kept.old };
 
     /// Returns the key by which `dedup_by_key` compares `item`. May write to `item`.
     fn key(&mut self, item: &mut T) -> u64

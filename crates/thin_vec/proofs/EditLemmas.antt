@@ -18,10 +18,10 @@ use Rattle.thin_vec.specs.declared.edits.holder.Holds.{Ghosts as HoldsGhosts}
 
 -- ---- `dedup_by` and `dedup_by_key`
 
--- R is the relation of the closure, as in specs/Edits/Dedup
+-- in this module, R is the relation of the closure, as in specs/Edits/Dedup
 module _ {S T : Type 0} (R : S → T → T → Bool → S → T → T → Type 0) where
-  -- if each later item was compared with the last item kept before it, ys is what std's
-  -- `DedupsFrom` says that the comparisons keep
+  -- if each later item was compared with the last item kept before it, then ys are the kept items,
+  -- as std's `DedupsFrom` defines them
   dedups_from : (xs : List T) (s : S) (k : T) (stays : List Bool) (ys : List T) (t : S)
       → AskedLast R s k xs stays ys t → DedupsFrom R s k xs ys
   dedups_from [] s k stays ys t h = h.1
@@ -41,14 +41,15 @@ module _ {S T : Type 0} (R : S → T → T → Bool → S → T → T → Type 0
         ]) h.7,
   )
 
-  -- `dedups_from` for all items, of which the first stays
+  -- if each item of xs except the first was compared with the last item kept before it, then ys are
+  -- the kept items, as std's `DedupsAll` defines them
   dedups_all : (xs : List T) (s : S) (stays : List Bool) (ys : List T) (t : S)
       → AskedPairs R s xs stays ys t → DedupsAll R s xs ys
   dedups_all [] s stays ys t h = h.1
   dedups_all (x ∷ xs) s stays ys t h = dedups_from xs s x stays ys t h
 
-  -- if `dedup_by` or `dedup_by_key` reduced v to w, the items satisfy `IsDeduped` of std, about
-  -- which the kit's `lemmas/Fn` has lemmas
+  -- if `dedup_by` or `dedup_by_key` reduced the list v to w, their items satisfy std's `IsDeduped`,
+  -- about which std's proofs have lemmas in `lemmas/Fn`
   pub deduped_deduped : {A : Type 0} (s : S) (v w : Thin T A) → IsDedupedBy R s v w
       → IsDeduped R s v.items w.items
   deduped_deduped s v w h =
@@ -66,13 +67,12 @@ module _ {S T : Type 0} (R : S → T → T → Bool → S → T → T → Type 0
 -- ---- `extract_if`
 
 module _ {T : Type 0} (test : T → Bool) where
-  -- the items for which the test is false
+  -- `others xs` are the items of xs for which the test is false
   abbrev pub others : List T → List T
   others xs = filter (λ x. not (test x)) xs
 
-  -- how one call of `next` divides the items xs that were not tested before: it extracts `item`,
-  -- which is `None` at the end, keeps the items `kept` in the list, and does not test the items
-  -- `rest`
+  -- one call of `next` divides the items xs that were not tested before: it extracts `item`, which
+  -- is `None` at the end, keeps the items `kept` in the list, and does not test the items `rest`
   pub record Parts (xs : List T) (item : Option T) (kept rest : List T) : Type 0 where
     pub gone : filter test xs ≡ option_to_list item ++ filter test rest
     pub stay : others xs ≡ kept ++ others rest
@@ -85,8 +85,8 @@ module _ {T : Type 0} (test : T → Bool) where
   module _ {S : Type 0} (R : S → T → Bool → S → T → Type 0)
       (says : (s : S) (x : T) (b : Bool) (t : S) (y : T) → R s x b t y
       → (b ≡ test x) × (y ≡ x)) where
-    -- if one call of `next` tests the item x first, and what it does with the items xs after x is
-    -- as `Parts` says, then what it does with x and xs is as `Parts` says
+    -- if one call of `next` tests the item x first, and divides the items xs after x as `Parts`
+    -- says, then it divides x followed by xs as `Parts` says
     part : (x : T) (xs : List T) (item : Option T) (t u : S) (y : T) (kept rest : List T)
         (b : Bool) → b ≡ test x → y ≡ x
         → ((ks : List T) → ExtractsNext R u xs item t ks rest → Parts xs item ks rest)
@@ -126,11 +126,12 @@ module _ {T : Type 0} (test : T → Bool) where
         part x xs item t e.1 e.2 kept rest e.0 answer.0 answer.1
         (λ ks n. parts e.1 xs item t ks rest n) e.4
 
--- `extract_if` with the default holder
+-- in this module, `test` is a test of items, and each `ExtractIf` has the default holder
 module _ {T F A G : Type 0} {g : Ghosts G}
     {h : HoldsGhosts (Holder (Extracting T F A)) (Extracting T F A)} (test : T → Bool) where
-  -- the state of a loop that takes each item out of `now`, which was `start` when the loop began,
-  -- and appends it to a sequence, which was `old` when the loop began and is `held` now
+  -- the state of a loop that moves each item that an `ExtractIf` yields to the end of a sequence:
+  -- when the loop began, the `ExtractIf` was `start` and the sequence was `old`; now they are `now`
+  -- and `held`
   pub record IsExtracting (start now : ExtractIf T F A G (Holder (Extracting T F A)) g h)
       (old held : List T) : Type 0 where
     pub gone : held ++ filter test (extract_rest now) ≡ old ++ filter test (extract_rest start)
@@ -141,7 +142,7 @@ module _ {T F A G : Type 0} {g : Ghosts G}
     pub count : length held + length (extract_rest now)
         ≤ length old + length (extract_rest start)
 
-  -- a loop is in this state when it begins
+  -- `IsExtracting` holds when the loop begins
   pub extract_start : (e : ExtractIf T F A G (Holder (Extracting T F A)) g h) (old : List T)
       → IsExtracting e e old old
   extract_start e old =
@@ -150,8 +151,8 @@ module _ {T F A G : Type 0} {g : Ghosts G}
   module _ (R : F → T → Bool → F → T → Type 0)
       (says : (s : F) (x : T) (b : Bool) (t : F) (y : T) → R s x b t y
       → (b ≡ test x) × (y ≡ x)) where
-    -- if a loop is in this state, and `next` yields x, the loop is in this state after x was
-    -- appended
+    -- if `IsExtracting` holds, and `next` yields an item, then `IsExtracting` holds again after
+    -- this item was appended to the sequence
     pub extract_step : {start now new : ExtractIf T F A G (Holder (Extracting T F A)) g h}
         {old held more : List T} {item : Option T} {x : T} → IsExtracting start now old held
         → ExtractSteps R now item new → item ≡ Some x → more ≡ held ++ x ∷ []
@@ -178,9 +179,8 @@ module _ {T F A G : Type 0} {g : Ghosts G}
           );
         }
 
-    -- if a loop is in this state, and `next` yields `None`, then exactly the items of the range
-    -- that pass the test were appended, and the list has all other items once the `ExtractIf` is
-    -- dropped
+    -- if `IsExtracting` holds, and `next` yields `None`, then exactly the items of the range that
+    -- pass the test were appended, and the list has all other items once the `ExtractIf` is dropped
     pub extract_end : {start now new : ExtractIf T F A G (Holder (Extracting T F A)) g h}
         {old held : List T} {item : Option T} → IsExtracting start now old held
         → ExtractSteps R now item new → item ≡ None

@@ -15,8 +15,7 @@ use Rattle.thin_block.proofs.Outcomes.{some-same}
 use Rattle.thin_vec.specs.List.Capacity.{Reserves, TellsOverflowOf}
 use Rattle.thin_vec.specs.ThinVec.{IsCause, Thin}
 
--- if there are fewer than 2 ^ 31 items of fewer than 2 ^ 31 bytes each, the exact capacity for n
--- items is n
+-- the exact capacity for n items is n, if n and the number of bytes of an item are less than 2 ^ 31
 pub exact-few : (R : RattleType) (n : ℕ) → n < 2 ^ 31 → type_size R < 2 ^ 31
     → exact_capacity R 0 n ≡ Some n
 exact-few R zero few small = exact-same R 0 0 (omega arith)
@@ -71,8 +70,7 @@ doubling-few R c w few small = elim (cases_lt c w) [
 ]
 
 -- under the rule `doubling`, a call that needs room for k more items fails only with `OutOfMemory`,
--- if these k and the items of the list together are fewer than 2 ^ 30, each of fewer than 2 ^ 31
--- bytes
+-- if the list with these k items has fewer than 2 ^ 30 items, of fewer than 2 ^ 31 bytes each
 pub few_more : {X T A : Type 0} (R : RattleType) (k : ℕ) (v w : Thin T A)
     (result : Result X ThinVecError) → length v.items + k < 2 ^ 30 → type_size R < 2 ^ 31
     → Reserves doubling R k v w result → IfErr result (λ cause. cause ≡ OutOfMemory)
@@ -97,14 +95,14 @@ first_most : (s : ℕ) → first s ≤ 4
 unfolding first
 first_most s = either_most (nat_lt (2 ^ 61 - 1) s)
 
--- if w exceeds the capacity c, then twice c, or the first capacity, is at most the larger of 4 and
--- 2 * w
+-- if w exceeds the capacity c, then neither twice c nor the first capacity that doubling chooses
+-- exceeds the larger of 4 and 2 * w
 twice-most : (b : Bool) (s c w : ℕ) → c < w → (if b then first s else 2 * c) ≤ max 4 (2 * w)
 twice-most true s c w more = omega (arith, first_most s)
 twice-most false s c w more = omega (arith, more)
 
--- if the rule `doubling` lets a capacity grow in order to hold w items, the new capacity is at most
--- the larger of 4 and 2 * w
+-- if the capacity c is too small for w items, the capacity n that the rule `doubling` chooses is at
+-- most the larger of 4 and 2 * w
 pub doubling-most : (R : RattleType) (c w n : ℕ) → c < w → ruled_capacity doubling R c w ≡ Some n
     → n ≤ max 4 (2 * w)
 unfolding doubling fitting

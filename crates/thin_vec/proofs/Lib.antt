@@ -1,11 +1,12 @@
 -- The lemma modules. ThinVecLemmas and RetainLemmas are for callers too. UndoLemmas, FewLemmas,
--- SliceLemmas, TakenLemmas and EditLemmas are for callers alone.
+-- SliceLemmas, TakenLemmas, CollectLemmas and EditLemmas are for callers alone.
 mod ListLemmas
 pub mod ThinVecLemmas
 pub mod UndoLemmas
 pub mod FewLemmas
 pub mod SliceLemmas
 pub mod TakenLemmas
+pub mod CollectLemmas
 pub mod EditLemmas
 mod LendsLemmas
 mod PutLemmas

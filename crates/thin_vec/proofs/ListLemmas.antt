@@ -1,5 +1,5 @@
--- What the block of a list contains after each step on it. The items of a list are in the first
--- slots of its block.
+-- Lemmas about what the block of a list contains after each step on it. The items of a list are in
+-- the first slots of its block.
 use Rattle.std.proofs.Common.{◌≡◌, ◌≢◌, ℕ, zero, suc, ◌+◌, ◌-◌, ◌<◌, ◌≤◌, List, [], ◌∷◌, ◌++◌, length, take, drop, Option, Some, None, refl, sym, ap, ◌∙◌, arith, get_or, length-append, append_assoc}
 use Rattle.std.proofs.lemmas.List.{length-replicate, length-map, take-append-drop, replicate-append-replicate, set_at, get_or_append_left, get_or-map, map_push, append-nil, length-take-le, drop_more, length_push, get_or-set_other}
 use Rattle.std.proofs.Math.Seq.{drop-length, take-append_seam}
@@ -21,22 +21,23 @@ module _ {T : Type 0} where
   items-empty zero = refl
   items-empty (suc k) = items-empty k
 
-  -- the items in the slots of xs followed by the slots s are xs followed by the items in s
+  -- in a row that begins with the items xs, the items are xs, followed by the items in the other
+  -- slots s
   pub items-full : (xs : List T) (s : List (Option T)) → items_in (full xs ++ s) ≡ xs ++ items_in s
   items-full [] s = refl
   items-full (x ∷ xs) s = ap (λ (ys : List T). x ∷ ys) (items-full xs s)
 
-  -- the items in the slots of xs are xs
+  -- the items in the row `full xs` are xs
   pub items-full-alone : (xs : List T) → items_in (full xs) ≡ xs
   items-full-alone [] = refl
   items-full-alone (x ∷ xs) = ap (λ (ys : List T). x ∷ ys) (items-full-alone xs)
 
-  -- if the first of c slots hold xs and the others are empty, the items are xs
+  -- if the first of c slots hold xs and the other slots are empty, the items in these slots are xs
   pub items-front : (xs : List T) (c : ℕ) → items_in (front xs c) ≡ xs
   items-front xs c = items-full xs (replicate (c - length xs) None)
       ∙ (ap (λ (ys : List T). xs ++ ys) (items-empty (c - length xs)) ∙ append-nil xs)
 
-  -- the filled slots of xs are as many as the items of xs
+  -- the row `full xs` has as many slots as xs has items
   pub length-full : (xs : List T) → length (full xs) ≡ length xs
   length-full xs = length-map xs (λ (x : T). Some x)
 
@@ -51,7 +52,7 @@ module _ {T : Type 0} where
         length-replicate {A = Option T} (c - length xs) None,
       )
 
-  -- if the filled slots of xs equal those of ys, then xs equals ys
+  -- if the rows `full xs` and `full ys` are equal, the lists xs and ys are equal
   pub full-same : (xs ys : List T) → full xs ≡ full ys → xs ≡ ys
   full-same xs ys e = sym (items-full-alone xs) ∙ (ap items_in e ∙ items-full-alone ys)
 
@@ -63,8 +64,8 @@ module _ {T : Type 0} where
       let n : i < length (full xs) = omega (arith, length-full xs) in
       get_or_append_left (full xs) s None i n ∙ get_or-map (λ (x : T). Some x) xs i d None h
 
-  -- if the first of c slots hold xs and the others are empty, writing v into the first empty slot
-  -- appends v to the items
+  -- if the first of c slots hold xs and the other slots are empty, writing v into the first empty
+  -- slot appends v to the items
   pub front-push : (xs : List T) (c : ℕ) (v : T) → length xs < c → set (front xs c) (length xs)
       (Some v) ≡ front (xs ++ v ∷ []) c
   front-push xs c v h =
@@ -113,7 +114,7 @@ module _ {T : Type 0} where
       (replicate-append-replicate (c - length xs) (d - c) None
       ∙ ap (λ (q : ℕ). replicate q None) m)
 
-  -- in a row that begins with the items xs, reading the slot i is reading xs at index i, if i is
+  -- in a row that begins with the items xs, the slot i holds the item of xs at index i, if i is
   -- less than the length of xs
   pub slot-get : (xs : List T) (s : List (Option T)) (i : ℕ) → i < length xs
       → slot (full xs ++ s) i ≡ slice_get xs i
@@ -121,7 +122,7 @@ module _ {T : Type 0} where
   slot-get (x ∷ xs) s zero h = refl
   slot-get (x ∷ xs) s (suc i) h = slot-get xs s i (omega arith)
 
-  -- there is an item at each index that is less than the length
+  -- a list xs has an item at each index i that is less than its length
   pub get-some : (xs : List T) (i : ℕ) → i < length xs → IsSome (slice_get xs i)
   get-some [] i h = absurd (omega arith)
   get-some (x ∷ xs) zero h = refl
@@ -154,8 +155,8 @@ module _ {T A : Type 0} where
         cap = l;
       }
 
-  -- if b' has c slots, the items xs and the cost k, contracts see it as the old list v with the
-  -- items xs, the capacity c and the cost k
+  -- if the block b' has c slots, the items xs and the cost k, contracts see b' as the list v with
+  -- this capacity, these items and this cost
   pub thin_of-becomes : {w v : Thin T A} → w ≡ v → (b' : Block T A) {xs : List T} {c : ℕ} {k : Cost}
       → length b'.slots ≡ c → items_in b'.slots ≡ xs → b'.cost ≡ k
       → thin_of b' w.alloc ≡ record v { items = xs; capacity = c; cost = k }
@@ -166,8 +167,8 @@ module _ {T A : Type 0} where
     cost = cost i;
   }
 
-  -- if b' has as many slots as before, the items xs and the cost k, contracts see it as the old
-  -- list v with the items xs and the cost k
+  -- if the number of slots of the block b' is the capacity of the old list, contracts see b' as the
+  -- old list with the items xs and the cost k of b'
   pub thin_of-keeps : {w v : Thin T A} → w ≡ v → (b' : Block T A) {xs : List T} {k : Cost}
       → length b'.slots ≡ w.capacity → items_in b'.slots ≡ xs → b'.cost ≡ k
       → thin_of b' w.alloc ≡ record v { items = xs; cost = k }
@@ -191,12 +192,13 @@ module _ {T A : Type 0} where
       → IsFrom b'.alloc a
   from-same b b' a f e = λ x h. f x (sym e ∙ h)
 
-  -- b' is b with the slots s, the stored length n and the cost k
+  -- the second block is the first block with the given slots, the given stored length and the given
+  -- cost
   abbrev pub IsWritten : Block T A → Block T A → List (Option T) → ℕ → Cost → Type 0
   IsWritten b b' s n k = seen b' ≡ record (seen b) { slots = s; len = n; cost = k }
 
   -- if the slots of a list's block became `front xs c`, and the stored length became the length of
-  -- xs, the block is that of a list with the items xs and the capacity c
+  -- xs, the new block is that of a list with the items xs and the capacity c
   pub settle-front : {b : Block T A} {a : A} → IsThin b a → (b' : Block T A) (xs : List T) (c : ℕ)
       {s : List (Option T)} {n : ℕ} {k : Cost} → IsWritten b b' s n k → s ≡ front xs c
       → n ≡ length xs → length xs ≤ c → Settled b' a xs c
@@ -204,7 +206,7 @@ module _ {T A : Type 0} where
       (ap (λ v. v.len) w ∙ n) h (from-same b b' a t.from (ap (λ v. v.alloc) w))
 
   -- if v was written into the slot after the last item, and the stored length was incremented, the
-  -- block is that of the list with v appended
+  -- new block is that of the list with v appended
   pub settle-push : {b : Block T A} {a : A} → IsThin b a → (b' : Block T A) (v : T) (i : ℕ)
       {k : Cost} → i ≡ b.len → i < length b.slots
       → IsWritten b b' (set b.slots i (Some v)) (i + 1) k
@@ -219,7 +221,8 @@ module _ {T A : Type 0} where
       ∙ front-push xs c v l))
       (omega (arith, t.packed.len, length_push xs v)) (omega (arith, length_push xs v))
 
-  -- if the last filled slot, at j, holds v, the items are the first j items and then v
+  -- if the last filled slot is the slot j, and it holds v, the items are the first j items,
+  -- followed by v
   pub last-item : (b : Block T A) (a : A) (v : T) (j : ℕ) → IsThin b a → j + 1 ≡ b.len
       → slot b.slots j ≡ Some v → items_in b.slots ≡ take j (items_in b.slots) ++ v ∷ []
   last-item b a v j t o w =
@@ -237,8 +240,8 @@ module _ {T A : Type 0} where
       (drop_more xs j v l
       ∙ (ap (λ (r : List T). get_or xs j v ∷ r) z ∙ ap (λ (r : T). r ∷ []) (sym y)))
 
-  -- if the slot of the last item was emptied, and the stored length was decremented, the block is
-  -- that of the list without its last item
+  -- if the slot of the last item was emptied, and the stored length was decremented, the new block
+  -- is that of the list without its last item
   pub settle-pop : {b : Block T A} {a : A} → IsThin b a → (b' : Block T A) (v : T) (j : ℕ)
       {k : Cost} → j + 1 ≡ b.len → slot b.slots j ≡ Some v
       → IsWritten b b' (set b.slots j None) j k
@@ -257,8 +260,8 @@ module _ {T A : Type 0} where
       ∙ (ap (λ (q : ℕ). set (front (ys ++ v ∷ []) c) q None) (sym m) ∙ front-pop ys c v k))
       (sym m) (omega (arith, length_push ys v))
 
-  -- in the block of a list, reading the slot i is reading the items at index i, if i is less than
-  -- their number
+  -- in the block of a list, the slot i holds the item at index i, if i is less than the number of
+  -- items
   thin-slot : (b : Block T A) (a : A) (i : ℕ) → IsThin b a → i < length (items_in b.slots)
       → slot b.slots i ≡ slice_get (items_in b.slots) i
   thin-slot b a i t h =

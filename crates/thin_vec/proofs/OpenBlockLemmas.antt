@@ -1,5 +1,5 @@
--- What a contract sees of an open block after each step on it. Throughout, h is an open block as it
--- is stored: its memory, and the indices where its runs begin and end.
+-- Lemmas about what a contract sees of an open block after each step on it. Throughout, h is an
+-- open block as it is stored: the block itself, and the indices where its parts begin and end.
 use Rattle.std.proofs.Common.{◌≡◌, ℕ, suc, ◌+◌, ◌-◌, ◌<◌, ◌≤◌, List, [], ◌∷◌, ◌++◌, Option, Some, None, length, take, drop, refl, sym, ap, ◌∙◌, subst, arith, length-append, append_assoc}
 use Rattle.std.proofs.lemmas.List.{drop_at, get_or-append_right, get_or-replicate, get_or_append_left, get_or_at, length-drop, length-take, length-take-le, length_push, map_push, replicate-append-replicate, set_at, take_at}
 use Rattle.std.proofs.lemmas.List.Edits.{split_between}
@@ -17,12 +17,12 @@ use Rattle.thin_vec.specs.declared.open_block.OpenBlock.TheInside.{Inside}
 use Rattle.thin_vec.proofs.list.InsertRemoveLemmas.{full-append}
 use Rattle.thin_vec.proofs.ListLemmas.{get-some, items-front, items-full-alone, length-empty, length-full, slot-get, thin-room}
 
--- a non-empty list consists of its first item and a rest
+-- a non-empty list xs consists of its first item x, followed by a list ys
 pub first-of : {X : Type 0} (xs : List X) → 0 < length xs → (x : X) × (ys : List X) × (xs ≡ x ∷ ys)
 first-of [] h = absurd (omega arith)
 first-of (x ∷ ys) h = (x, ys, refl)
 
--- a non-empty list consists of some items and its last item
+-- a non-empty list xs consists of a list ys, followed by its last item
 pub last-of : {X : Type 0} (xs : List X) → 0 < length xs → (ys : List X)
     × (x : X) × (xs ≡ ys ++ x ∷ [])
 last-of [] h = absurd (omega arith)
@@ -59,41 +59,43 @@ module _ {T A : Type 0} where
     pub lies : IsOpen h
     pub view : open_of h ≡ v
 
-  -- the slots before the middle run
+  -- the slots of an open block before its middle run
   abbrev pub to_rest : Open T A → List (Option T)
   to_rest v = full v.front ++ empty v.gap
 
-  -- the slots up to the end of the middle run
+  -- the slots of an open block up to the end of its middle run
   abbrev to_after : Open T A → List (Option T)
   to_after v = to_rest v ++ full v.rest
 
-  -- the slots before the tail
+  -- the slots of an open block before its tail
   abbrev to_tail : Open T A → List (Option T)
   to_tail v = to_after v ++ empty v.gap_after
 
-  -- the slots after the tail
+  -- the slots of an open block after its tail
   abbrev pub past_tail : Open T A → List (Option T)
   past_tail v = empty (v.capacity - reach v)
 
-  -- the slots from the start of the tail on
+  -- the slots of an open block from the start of its tail on
   abbrev pub past_after : Open T A → List (Option T)
   past_after v = full v.tail ++ past_tail v
 
-  -- the slots after the middle run
+  -- the slots of an open block after its middle run
   abbrev pub past_rest : Open T A → List (Option T)
   past_rest v = empty v.gap_after ++ past_after v
 
   module _ (h : Inside T A) (v : Open T A) (s : Shows h v) where
-    -- the slots of h are those before the middle run, the middle run, and those after it
+    -- the slots of h are the slots before the middle run, then the middle run, then the slots after
+    -- it
     pub by_rest : h.block.slots ≡ to_rest v ++ (full v.rest ++ past_rest v)
     by_rest = s.row ∙ sym
         (append_assoc (full v.front) (empty v.gap) (full v.rest ++ past_rest v))
 
-    -- the slots of h are those up to the end of the middle run, and those after it
+    -- the slots of h are the slots up to the end of the middle run, followed by the slots after it
     by_after : h.block.slots ≡ to_after v ++ past_rest v
     by_after = by_rest ∙ sym (append_assoc (to_rest v) (full v.rest) (past_rest v))
 
-    -- the slots of h are those before the tail, and those from its start on
+    -- the slots of h are the slots before the tail, followed by the slots from the start of the
+    -- tail on
     by_tail : h.block.slots ≡ to_tail v ++ past_after v
     by_tail = by_after ∙ sym (append_assoc (to_after v) (empty v.gap_after) (past_after v))
 
@@ -128,7 +130,7 @@ module _ {T A : Type 0} where
       s.gap_after,
     )
 
-    -- the number of slots up to the last item is `len`
+    -- the number of slots up to the end of the tail is `h.len`
     pub reached : reach v ≡ h.len
     reached = omega (arith, s.front, s.gap, s.rest, s.gap_after, s.tail)
 
@@ -178,8 +180,8 @@ module _ {T A : Type 0} where
         ∙ ap (λ (k : ℕ). full v.tail ++ empty k) (sym some)))
         ∙ items-front v.tail (length v.tail + (v.capacity - reach v))
 
-    -- if h has the slots and the indices of v (`Shows`), and also its allocator and its cost,
-    -- contracts see h as v
+    -- if h has the slots and the indices (`Shows`), the allocator, and the cost of v, contracts see
+    -- h as v
     pub found : h.block.alloc ≡ v.alloc → h.block.cost ≡ v.cost → Found h v
     found alloc cost =
         let gap : h.rest_start - h.front_end ≡ v.gap = omega (arith, s.gap) in
@@ -220,14 +222,14 @@ module _ {T A : Type 0} where
         (omega (arith, length-full v.front, s.front))
         (omega (arith, length-full v.front, s.front, s.gap))
 
-  -- if xs fill exactly the slots `rest_start..rest_end`, xs are the middle run
+  -- if the slots `rest_start..rest_end` hold exactly the items xs, then xs is the middle run
   pub rest-run : (h : Inside T A) (xs : List T) → full xs
       ≡ slice_range h.block.slots h.rest_start h.rest_end
       → xs ≡ (open_of h).rest
   rest-run h xs e = sym (items-full-alone xs) ∙ ap items_in e
 
-  -- ---- the steps. Each has three parts: the block after the step, what a contract sees of this
-  -- block, and a lemma that proves this.
+  -- ---- The steps. Each step has three parts: the block after the step, what a contract sees of
+  -- this block, and a lemma which says that a contract sees this.
 
   module _ (h : Inside T A) (o : IsOpen h) (b : Block T A)
       (some : 0 < length (open_of h).rest) where
@@ -246,8 +248,8 @@ module _ {T A : Type 0} where
       len = h.len;
     }
 
-    -- what a contract sees of `first-left`: ys are the items left in the middle run, and the gap
-    -- before them has one more slot
+    -- what a contract sees of `first-left`, for the list of the items left in the middle run: the
+    -- gap before the middle run has one more slot
     abbrev pub first-seen : List T → Open T A
     first-seen ys = record {
       front = v.front;
@@ -261,7 +263,7 @@ module _ {T A : Type 0} where
     }
 
     -- if the first slot of the middle run held x and was emptied, the middle run was x followed by
-    -- some ys, and contracts see `first-left` as `first-seen ys`
+    -- a list ys, and contracts see `first-left` as `first-seen ys`
     pub first-step : (x : T) → slot h.block.slots h.rest_start ≡ Some x
         → seen b ≡ record (seen h.block) { slots = set h.block.slots h.rest_start None }
         → (ys : List T) × (v.rest ≡ x ∷ ys) × Found first-left (first-seen ys)
@@ -314,8 +316,8 @@ module _ {T A : Type 0} where
       len = h.len;
     }
 
-    -- what a contract sees of `last-left`: ys are the items left in the middle run, and the gap
-    -- after them has one more slot
+    -- what a contract sees of `last-left`, for the list of the items left in the middle run: the
+    -- gap after the middle run has one more slot
     abbrev pub last-seen : List T → Open T A
     last-seen ys = record {
       front = v.front;
@@ -328,7 +330,7 @@ module _ {T A : Type 0} where
       cost = v.cost;
     }
 
-    -- if the last slot of the middle run held x and was emptied, the middle run was some ys
+    -- if the last slot of the middle run held x and was emptied, the middle run was a list ys
     -- followed by x, and contracts see `last-left` as `last-seen ys`
     pub last-step : (x : T) → slot h.block.slots (h.rest_end - 1) ≡ Some x
         → seen b ≡ record (seen h.block) { slots = set h.block.slots (h.rest_end - 1) None }
@@ -387,9 +389,10 @@ module _ {T A : Type 0} where
               (ap (λ (z : Seen T A). z.cost) now),
         )
 
-  -- in an open block whose middle run is empty, the two gaps are one gap between front and tail
+  -- in this module, the two gaps of an open block h are taken as one gap between the front and the
+  -- tail, if the middle run is empty
   module _ (h : Inside T A) (o : IsOpen h) where
-    -- the block h with both gaps taken as one gap after the front
+    -- the open block with both gaps taken as one gap after the front
     abbrev pub joined : Inside T A
     joined = record {
       block = h.block;
@@ -446,8 +449,8 @@ module _ {T A : Type 0} where
     abbrev all-after : List T
     all-after = (open_of h).rest ++ (open_of h).tail
 
-    -- if there is no gap before the tail, the slots are the front, the gap, one run of the middle
-    -- run and the tail, and the empty slots after the tail
+    -- if there is no gap before the tail, the slots are the front, the gap, the middle run directly
+    -- followed by the tail, and the empty slots after the tail
     side-by-side : (open_of h).gap_after ≡ 0 → h.block.slots ≡ full (open_of h).front
         ++ (empty (open_of h).gap ++ (full all-after ++ past_tail (open_of h)))
     side-by-side none =
@@ -458,7 +461,8 @@ module _ {T A : Type 0} where
         (sym (append_assoc (full w.rest) (full w.tail) (past_tail w))
         ∙ ap (λ (r : List (Option T)). r ++ past_tail w) (sym (full-append w.rest w.tail))))
 
-    -- if there is no gap before the tail, the middle run and the tail have `len - rest_start` items
+    -- if there is no gap before the tail, the middle run and the tail together have `len -
+    -- rest_start` items
     count-after : (open_of h).gap_after ≡ 0 → length all-after ≡ h.len - h.rest_start
     count-after none =
         omega (arith, length-append (open_of h).rest (open_of h).tail, o.rest, o.gap_after, o.tail)
@@ -477,7 +481,8 @@ module _ {T A : Type 0} where
         (slot-in-full pre all-after (past_tail w) j (omega (arith, start))
         (omega (arith, start, count-after none)))
 
-    -- the number of all items is that of the front plus that of the middle run and the tail
+    -- the number of all items is the number of items in the front, plus the number of items in the
+    -- middle run and the tail
     count-all : length (items_of (open_of h)) ≡ h.front_end + length all-after
     count-all = omega (arith, length-append (open_of h).front all-after, o.front)
 
@@ -536,10 +541,12 @@ module _ {T A : Type 0} where
         ∙ (ap (λ (r : List (Option T)). r ++ past_tail w) (sym (full-append w.front all-after))
         ∙ ap (λ (k : ℕ). full (items_of w) ++ empty k) left)))
 
-  -- the block of a list, opened for the items from `start` up to `end`
+  -- in this module, the block b of a list is opened, and the items from `start` up to `end` are its
+  -- middle run
   module _ (b : Block T A) (a : A) (start end : ℕ) (t : IsThin b a) (order : start ≤ end)
       (within : end ≤ length (items_in b.slots)) where
-    -- the open block: the items from `start` up to `end` are its middle run, and it has no gap
+    -- `opened len` is the open block without a gap whose middle run is the items from `start` up to
+    -- `end`
     abbrev pub opened : ℕ → Inside T A
     opened len =
         record {
@@ -599,10 +606,11 @@ module _ {T A : Type 0} where
               omega (arith, all, thin-room b a t);
         }) refl refl
 
-  -- the items xs are laid into the gap after the front; `end` is the slot after the last of them
+  -- in this module, the items xs are written into the gap after the front; `end` is the index of
+  -- the slot after the last of these items
   module _ (h : Inside T A) (o : IsOpen h) (b : Block T A) (xs : List T) (end : ℕ)
       (ends : end ≡ h.front_end + length xs) (fits : end ≤ h.rest_start) where
-    -- the block after the items xs were laid
+    -- the open block after the new items were written into the gap
     abbrev pub filled : Inside T A
     filled =
         record {
@@ -614,8 +622,8 @@ module _ {T A : Type 0} where
           len = h.len;
         }
 
-    -- what a contract sees of `filled`: the front ends with xs, and the gap is shorter by their
-    -- number
+    -- what a contract sees of `filled`: the front ends with the new items, and the gap is shorter
+    -- by their number
     abbrev pub filled-seen : Open T A
     filled-seen =
         let v : Open T A = open_of h in
@@ -630,8 +638,8 @@ module _ {T A : Type 0} where
           cost = b.cost;
         }
 
-    -- if xs were laid into the slots from the end of the front on, contracts see `filled` as
-    -- `filled-seen`
+    -- if the items xs were written into the slots from the end of the front on, contracts see
+    -- `filled` as `filled-seen`
     pub fill-step : b.slots ≡ laid h.front_end (full xs) h.block.slots → Found filled filled-seen
     fill-step now =
         let v : Open T A = open_of h in
@@ -674,7 +682,8 @@ module _ {T A : Type 0} where
         } in
         found filled filled-seen shows refl refl
 
-  -- the tail is moved up by `count` slots; there are at least `count` empty slots after it
+  -- in this module, the tail is moved up by `count` slots, and there are at least `count` empty
+  -- slots after it
   module _ (h : Inside T A) (o : IsOpen h) (b : Block T A) (count : ℕ)
       (room : h.len + count ≤ (open_of h).capacity) where
     -- the block after the tail was moved
@@ -703,7 +712,8 @@ module _ {T A : Type 0} where
           cost = b.cost;
         }
 
-    -- the slots after the tail begin with `count` empty slots, followed by the other empty slots
+    -- the slots of h are the slots before the tail, the tail, `count` empty slots, and further
+    -- empty slots
     spare : h.block.slots ≡ to_tail (open_of h)
         ++ (full (open_of h).tail
         ++ (empty count ++ empty ((open_of h).capacity - reach (open_of h) - count)))
@@ -715,7 +725,7 @@ module _ {T A : Type 0} where
         (ap (λ (k : ℕ). empty k) (sym all)
         ∙ sym (replicate-append-replicate count (v.capacity - reach v - count) None))
 
-    -- the `count` slots after the tail are empty
+    -- the first `count` slots after the tail are empty
     pub spare-empty : (j : ℕ) → h.len ≤ j → j < h.len + count → slot h.block.slots j ≡ None
     spare-empty j low high =
         let v : Open T A = open_of h in

@@ -1,5 +1,5 @@
--- The number of items after slots were filled from an iterator, and the slots of a block while the
--- items of a `Vec` are moved into them, from the last item to the first.
+-- Lemmas about the number of items after slots were filled from an iterator, and about the slots of
+-- a block while the items of a `Vec` are moved into them, from the last item to the first.
 use Rattle.std.proofs.Common.{◌≡◌, ℕ, ◌+◌, ◌<◌, ◌≤◌, List, [], ◌∷◌, ◌++◌, length, take, drop, Option, Some, None, sym, ap, ◌∙◌, append_assoc, arith, get_or, length-append}
 use Rattle.std.proofs.lemmas.List.{append-nil, length-take-le, length_push, set_at, take_more}
 use lib.ListN.{set}
@@ -12,7 +12,7 @@ use Rattle.thin_vec.specs.declared.put.Filled.{Filled}
 
 module _ {S X : Type 0} {steps : S → Option X → S → Type 0} {can : S → Type 0}
     {remaining : S → Count} {s : S} {f : Filled S} where
-  -- no more items were placed than there were slots
+  -- if `room` slots were filled from an iterator, at most `room` items were placed in them
   pub filled-fits : {room : ℕ} (by : IsFilledBy steps can remaining room s f)
       → length by.items ≤ room
   filled-fits {room} by = go f.ended by.full by.short
@@ -35,8 +35,8 @@ module _ {S X : Type 0} {steps : S → Option X → S → Type 0} {can : S → T
   }
 
 module _ {T : Type 0} where
-  -- if ys were laid from the slot i + 1 on, writing y into the slot i is the same as laying y
-  -- followed by ys from the slot i on
+  -- if the slots ys were written from the slot i + 1 on, writing y into the slot i is the same as
+  -- writing y followed by ys from the slot i on
   laid-before : (i k : ℕ) (y : Option T) (ys s : List (Option T)) → k ≡ i + 1 → i < length s
       → set (laid k ys s) i y ≡ laid i (y ∷ ys) s
   laid-before i k y ys s next low =
@@ -52,13 +52,13 @@ module _ {T : Type 0} where
 
   -- the items xs are being moved, from the last to the first, into the slots of the row r from
   -- `start` on: `left` are the first items of xs, which have not been moved yet, and s is r with
-  -- the others in their slots
+  -- the moved items in their slots
   pub record IsMoving (xs left : List T) (start : ℕ) (r s : List (Option T)) : Type 0 where
     pub rest : List T
     pub parts : xs ≡ left ++ rest
     pub row : s ≡ laid (start + length left) (full rest) r
 
-  -- before any item is moved, all of xs are left, and the row is unchanged
+  -- before any item is moved, all items of xs are left to move, and the row s is unchanged
   pub moving-first : (xs : List T) (start : ℕ) (s : List (Option T)) → IsMoving xs xs start s s
   moving-first xs start s =
       record {
@@ -67,7 +67,8 @@ module _ {T : Type 0} where
         row = sym (laid-none (start + length xs) s);
       }
 
-  -- after the last item v of those left was moved into its slot i, the items before v are left
+  -- after v, the last of the items left to move, was moved into its slot i, the items `left` before
+  -- v are still left to move
   pub moving-next : {xs : List T} (left : List T) {start : ℕ} (i : ℕ) (v : T)
       {r s : List (Option T)} → IsMoving xs (left ++ v ∷ []) start r s → i ≡ start + length left
       → start + length xs ≤ length r → IsMoving xs left start r (set s i (Some v))

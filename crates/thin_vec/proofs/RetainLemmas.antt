@@ -1,6 +1,7 @@
--- Which items stay after a closure tested them, and how the results of consecutive tests combine.
--- Throughout, R is the relation of the closure (as in specs/Edits/Retain), and s, t and u are
--- states of the closure. An item is tested when the closure is called with it.
+-- Lemmas about which items stay after a closure tested them, and about how the results of
+-- consecutive tests combine. Throughout, R is the relation of the closure (as in
+-- specs/Edits/Retain), and s, t and u are states of the closure. An item is tested when the closure
+-- is called with it.
 use Rattle.std.proofs.Common.{◌≡◌, ℕ, zero, suc, ◌+◌, ◌<◌, ◌≤◌, Bool, true, false, List, [], ◌∷◌, ◌++◌, length, take, drop, refl, sym, ap, subst, ◌∙◌, arith, length-append, append_assoc}
 use Rattle.std.proofs.lemmas.Bool.{ne_eqb}
 use Rattle.std.proofs.lemmas.List.{append-nil, drop_at, length-drop, length-take-le, map-append, map_push, nil_from_length, take-append-drop, take_at}
@@ -24,14 +25,14 @@ pub moving-none : (c : Cost) → moving 0 c ≡ c
 moving-none c = let e : c.moves + 0 ≡ c.moves = omega arith in
     λ i. record { blocks = c.blocks; grown = c.grown; moves = e i }
 
--- if there is a gap, moving k items over it costs k moves
+-- if there is a gap, moving k items over the gap costs k moves
 pub moving-after : (gap k : ℕ) (c : Cost) → 0 < gap
     → (if gap == 0 then c else moving k c) ≡ moving k c
 moving-after gap k c some =
     ap (λ (b : Bool). if b then c else moving k c)
     (ne_eqb gap 0 (λ (e : gap ≡ 0). omega (arith, e)))
 
--- if there is no gap, k items stay in their slots, and cost nothing
+-- if there is no gap, k items stay in their slots, which costs no move
 pub moving-before : (gap k : ℕ) (c : Cost) → (0 < gap → ⊥)
     → (if gap == 0 then c else moving k c) ≡ c
 moving-before zero k c none = refl
@@ -61,15 +62,15 @@ none-left [] none = refl
 none-left (x ∷ xs) none = absurd (none (omega arith))
 
 module _ {T : Type 0} where
-  -- the items that stay of two runs together are those of the first run, followed by those of the
-  -- second
+  -- if the verdicts on two runs are joined, the items that stay are those of the first run,
+  -- followed by those of the second run
   pub left_at-append : (a b : Verdicts T) → left_at true (a ++ b) ≡ left_at true a ++ left_at true b
   left_at-append [] b = refl
   left_at-append ((true, x) ∷ a) b = ap (λ (l : List T). x ∷ l) (left_at-append a b)
   left_at-append ((false, x) ∷ a) b = left_at-append a b
 
-  -- the number of items that stay in two runs joined together is the sum of the numbers for each
-  -- run
+  -- if the verdicts on two runs are joined, the number of items that stay is the sum of the numbers
+  -- for the two runs
   pub trues-append : (a b : Verdicts T) → trues (flags_of (a ++ b)) ≡ trues
       (flags_of a) + trues (flags_of b)
   trues-append [] b = omega arith
@@ -86,16 +87,19 @@ module _ {T : Type 0} where
   trues-stay [] = refl
   trues-stay (x ∷ xs) = ap suc (trues-stay xs)
 
-  -- items that stay at the beginning do not move, and do not make later items move
+  -- if all items of xs stay, they do not move, and they do not change how many of the later items
+  -- move
   pub moved_down-stay : (xs : List T) (a : Verdicts T) → moved_down (flags_of (stay xs ++ a))
       ≡ moved_down (flags_of a)
   moved_down-stay [] a = refl
   moved_down-stay (x ∷ xs) a = moved_down-stay xs a
 
 module _ {S T : Type 0} (R : S → T → Bool → S → T → Type 0) where
-  -- the items ys were tested, from the state t to the state u
+  -- in this module, the items ys were tested, starting in the state t and ending in the state u,
+  -- with the verdicts b
   module _ (t u : S) (ys : List T) (b : Verdicts T) (k : Asked R t ys b u) where
-    -- if xs were tested from the state s to t, then xs followed by ys were tested from s to u
+    -- if the items xs were tested from the state s to the state t, and then other items from t on,
+    -- then xs followed by the other items were tested from s on
     asked-append : (xs : List T) (s : S) (a : Verdicts T) → Asked R s xs a t
         → Asked R s (xs ++ ys) (a ++ b) u
     asked-append [] s a h = subst (λ (c : Verdicts T). Asked R s ys (c ++ b) u) (sym h.0)
@@ -110,7 +114,7 @@ module _ {S T : Type 0} (R : S → T → Bool → S → T → Type 0) where
       ap (λ (c : Verdicts T). c ++ b) h.6,
     )
 
-  -- a test of one item x is a test of the list of x alone, with one verdict
+  -- if one item x was tested, then the list with the single item x was tested, with one verdict
   pub asked-one : (s t : S) (x y : T) (b : Bool) → R s x b t y → Asked R s (x ∷ []) ((b, y) ∷ []) t
   asked-one s t x y b h = (b, y, t, [], h, (refl, refl), refl)
 
@@ -129,7 +133,8 @@ module _ {S T : Type 0} (R : S → T → Bool → S → T → Type 0) where
     pub asked : Asked R s run (stay left) t
     pub now : ys ≡ before ++ (left ++ more)
 
-  -- before the first test, nothing has changed
+  -- before the first test, `Stays` holds from k up to k, and neither the state s nor the items xs
+  -- have changed
   pub stays-start : (k : ℕ) (s : S) (xs : List T) → k ≤ length xs → Stays k k s xs s xs
   stays-start k s xs low =
       record {
@@ -145,7 +150,7 @@ module _ {S T : Type 0} (R : S → T → Bool → S → T → Type 0) where
       }
 
   module _ (k m : ℕ) (s : S) (xs : List T) (t : S) (ys : List T) (h : Stays k m s xs t ys) where
-    -- the items up to m, as the tests left them
+    -- the items before the next one to be tested, as the tests left them
     abbrev asked-part : List T
     asked-part = h.before ++ h.left
 
@@ -174,8 +179,7 @@ module _ {S T : Type 0} (R : S → T → Bool → S → T → Type 0) where
     next-now b u zs a = a.now ∙ (ap (λ (l : List T). l ++ a.left ∷ a.after) (next-parts b u zs a).0
         ∙ append_assoc h.before h.left (a.left ∷ a.after))
 
-    -- if the item at m is tested and stays, the items from k up to m + 1 were tested, and each of
-    -- them stays
+    -- if the item at index m is tested and stays, `Stays` holds up to m + 1
     pub stays-more : (u : S) (zs : List T) → IsAskedAt R m t ys true u zs
         → Stays k (m + 1) s xs u zs
     stays-more u zs a =
@@ -198,7 +202,7 @@ module _ {S T : Type 0} (R : S → T → Bool → S → T → Type 0) where
               (sym (append_assoc h.left (a.left ∷ []) a.after));
         }
 
-    -- if the item at m is tested and does not stay, the tests from k on stopped at m (`AskedUpTo`)
+    -- if the item at index m is tested and does not stay, the tests stopped at m (`AskedUpTo`)
     pub stays-goes : (u : S) (zs : List T) → IsAskedAt R m t ys false u zs
         → AskedUpTo R k m s xs u zs
     stays-goes u zs a =
@@ -217,7 +221,7 @@ module _ {S T : Type 0} (R : S → T → Bool → S → T → Type 0) where
           now = next-now false u zs a;
         }
 
-    -- if there is no item at m, the tests from k on stopped at m (`AskedUpTo`)
+    -- if there is no item at index m, the tests stopped at m (`AskedUpTo`)
     pub stays-end : length ys ≤ m → AskedUpTo R k m s xs t ys
     stays-end short =
         let none : h.more ≡ [] =
@@ -292,8 +296,8 @@ module _ {S T : Type 0} (R : S → T → Bool → S → T → Type 0) where
   two-stay s xs t ys u zs a b = stays-more 0 1 s xs t ys (one-stays s xs t ys a) u zs b
 
   module _ (m n : ℕ) where
-    -- if the items up to m were tested and all stay, and the tests from m on stopped at n, then the
-    -- tests from 0 on stopped at n
+    -- if the items before an index m were tested and all stay, and the tests from m on stopped at
+    -- an index n, then the tests from 0 on stopped at n
     pub runs-join : (s : S) (xs : List T) (t : S) (ys : List T) (u : S) (zs : List T)
         → Stays 0 m s xs t ys → AskedUpTo R m n t ys u zs → AskedUpTo R 0 n s xs u zs
     runs-join s xs t ys u zs h r =
@@ -329,8 +333,9 @@ module _ {S T : Type 0} (R : S → T → Bool → S → T → Type 0) where
 
   -- ---- the items that the tests of a run kept
 
-  -- all items of xs except the last ones, `rest`, were tested, from the state s to t. `kept` are
-  -- the tested items that stay, as the tests left them, and m is their number.
+  -- All items of xs except the last ones, `rest`, were tested, starting in the state s and ending
+  -- in the state t. `kept` are the tested items that stay, as the tests left them, and m is their
+  -- number.
   pub record Part (m : ℕ) (s : S) (xs : List T) (t : S) (kept rest : List T) : Type 0 where
     pub done : List T
     pub verdicts : Verdicts T
@@ -445,8 +450,8 @@ module _ {S T : Type 0} (R : S → T → Bool → S → T → Type 0) where
           });
         }
 
-  -- the items of the middle run of v were tested up to the first that does not stay, or to the end,
-  -- and there is a gap before them
+  -- in this module, the items of the middle run of v were tested up to the first that does not
+  -- stay, or to the end, and there is a gap before the middle run
   module _ {A : Type 0} (s t : S) (v w : Open T A) (gap : 0 < v.gap)
       (h : Advances R s v t w) where
     -- the tested items that stay, as the tests left them
@@ -457,7 +462,8 @@ module _ {S T : Type 0} (R : S → T → Bool → S → T → Type 0) where
     moved : w.cost ≡ moving h.count v.cost
     moved = ap (λ u. u.cost) h.now ∙ moving-after v.gap h.count v.cost gap
 
-    -- if z is w after the first item that does not stay was removed, v and z satisfy `Sifts`
+    -- if z is w without the first item that does not stay, the open block before the tests and z
+    -- satisfy `Sifts`
     pub advanced-goes : (value : T) (z : Open T A) → w.rest ≡ value ∷ z.rest
         → z ≡ record w { rest = z.rest; gap = w.gap + 1 } → Sifts R s v t z
     advanced-goes value z rest same =
@@ -486,7 +492,7 @@ module _ {S T : Type 0} (R : S → T → Bool → S → T → Type 0) where
       runs-count 0 h.count s v.rest t h.left h.run,
     )
 
-  -- before the first test, v and v itself satisfy `Sifts`
+  -- before the first test, an open block v that has a gap satisfies `Sifts` with itself
   pub sifts-start : {A : Type 0} (s : S) (v : Open T A) → 0 < v.gap → Sifts R s v s v
   sifts-start s v gap =
       record {
@@ -529,14 +535,14 @@ module _ {S T : Type 0} (R : S → T → Bool → S → T → Type 0) where
 
   module _ {A : Type 0} (v w : Open T A) (m : ℕ) (s t : S) (ys : List T)
       (run : AskedUpTo R 0 m s v.rest t ys) where
-    -- w is v with the first m items of ys appended to the front, for no move. The gap and the
-    -- middle run of w may be any.
+    -- The tested items that stay were appended to the front, which costs no move. Of the other
+    -- parts, only the gap and the middle run may have changed.
     abbrev Passed : Type 0
     Passed = w ≡ record v
         { front = v.front ++ take m ys; gap = w.gap; rest = w.rest }
 
-    -- if the item after the run is removed, and all items after it were then tested, v and z
-    -- satisfy `IsSifted`
+    -- if the item after the run is removed, and all items after it were then tested, the open block
+    -- before the tests and z satisfy `IsSifted`
     pub sifted-goes : (value : T) (u : S) (z : Open T A) → Passed → drop m ys ≡ value ∷ w.rest
         → Sifts R t w u z → z.rest ≡ [] → IsSifted R s v u z
     unfolding part-goes
@@ -593,21 +599,22 @@ module _ {S T : Type 0} (R : S → T → Bool → S → T → Type 0) where
           });
         }
 
--- a test of the type J contains a closure, and returns what the closure returns. `inside` is the
--- state of the closure.
+-- in this module, a test of the type J contains a closure, and returns what the closure returns;
+-- `inside` gives the state of the closure
 module _ {J S T : Type 0} (R : S → T → Bool → S → T → Type 0) (inside : J → S) where
-  -- the relation of the test, which is that of the closure
+  -- the relation of the test: it is the relation of the closure, for the states of the closure
   abbrev through : J → T → Bool → J → T → Type 0
   through s x b t y = R (inside s) x b (inside t) y
 
-  -- if the test tested some items, its closure tested them, with the same verdicts
+  -- if the test tested the items xs, its closure tested them, with the same verdicts
   pub asked-through : (xs : List T) (s t : J) (a : Verdicts T) → Asked through s xs a t
       → Asked R (inside s) xs a (inside t)
   asked-through [] s t a h = (h.0, ap inside h.1)
   asked-through (x ∷ xs) s t a h =
       (h.0, h.1, inside h.2, h.3, h.4, asked-through xs h.2 t h.3 h.5, h.6)
 
-  -- if the test reduced v to w, then its closure did
+  -- if the list v was reduced to w by the results of the test, it was reduced to w by the results
+  -- of the closure
   pub retained-through : {A : Type 0} (s : J) (v w : Thin T A) (t : J)
       → IsRetainedTo through s v w t → IsRetained R (inside s) v w
   retained-through s v w t h = (
@@ -622,7 +629,7 @@ module _ {J S T : Type 0} (R : S → T → Bool → S → T → Type 0) (inside 
 
 -- ---- for callers
 
--- a closure that only reads the item, with the relation R
+-- in this module, R is the relation of a closure that only reads the item
 module _ {S T : Type 0} (R : S → T → Bool → S → Type 0) where
   -- if a closure that only reads the items tested xs, there is one flag for each item, the closure
   -- returned the flags in turn, and the items left are those of xs whose flag is true
@@ -641,15 +648,16 @@ module _ {S T : Type 0} (R : S → T → Bool → S → Type 0) where
       let left : y ≡ x = ap (λ (p : Bool × T). p.1) same ∙ h.4.1 in
       (ap suc rest.0, (h.2, answer, rest.1), first b y x a xs left rest.2)
     where
-      -- the third part of `told`, for one more item that its test left unchanged
+      -- if the items left of xs are those whose flag is true, and the test left x unchanged, then
+      -- the items left of x followed by xs are those whose flag is true
       first : (b : Bool) (y x : T) (a : Verdicts T) (xs : List T) → y ≡ x
           → left_at true a ≡ items_where_true (flags_of a) xs
           → left_at true ((b, y) ∷ a) ≡ items_where_true (b ∷ flags_of a) (x ∷ xs)
       first true y x a xs e f = λ i. e i ∷ f i
       first false y x a xs e f = f
 
-  -- if `retain` with a closure that only reads the items reduced v to w, the items satisfy
-  -- `IsFiltered` of std, about which the kit's `lemmas/Fn` has lemmas
+  -- if `retain` with a closure that only reads the items reduced the list v to w, their items
+  -- satisfy std's `IsFiltered`, about which std's proofs have lemmas in `lemmas/Fn`
   pub retained_filtered : {A : Type 0} (s : S) (v w : Thin T A) → IsRetained (Looks R) s v w
       → IsFiltered R s v.items w.items
   retained_filtered s v w h =

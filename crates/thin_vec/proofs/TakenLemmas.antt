@@ -6,8 +6,8 @@ use Rattle.thin_vec.specs.Convert.IntoIter.{rest}
 use Rattle.thin_vec.specs.ThinVec.{Thin}
 
 module _ {T A : Type 0} where
-  -- if calls of `next` have yielded xs, the items that remained before are xs and then those that
-  -- remain now
+  -- if calls of `next` have yielded xs, the items that remained before these calls are xs, followed
+  -- by the items that remain now
   pub taken_front : (s : Thin T A) (xs : List T) (t : Thin T A) → Yields (YieldsFirst rest) s xs t
       → s.items ≡ xs ++ t.items
   taken_front s [] t y = ap (λ v. v.items) y

@@ -65,8 +65,8 @@ module _ {T A : Type 0} (R : RattleType) (w : Thin T A) where
     fits = subst (Fits R) (sym nothing) (fits-none R);
   }
 
-  -- if v is within bounds, a list w of the same capacity is too, if it has no more items than that
-  -- capacity
+  -- if v is within bounds, a list w of the same capacity is within bounds too, if w has at most as
+  -- many items as this capacity
   pub within-like : (v : Thin T A) → IsWithin R v → w.capacity ≡ v.capacity
       → length w.items ≤ v.capacity → IsWithin R w
   within-like v kept same room =
@@ -76,7 +76,7 @@ module _ {T A : Type 0} (R : RattleType) (w : Thin T A) where
         fits = subst (Fits R) (sym same) kept.fits;
       }
 
--- the cost of the list v after its capacity became c
+-- in this module, the capacity of the list v becomes c
 module _ {T A : Type 0} (v : Thin T A) (c : ℕ) where
   -- the cost does not change if the capacity does not
   pub cost_at-same : c ≡ v.capacity → cost_at v c ≡ v.cost

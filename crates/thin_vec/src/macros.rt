@@ -61,7 +61,10 @@ macro_rules! thin_vec {
         }
     };
     ($($other:tt)*) => {
-        compile_error!("`thin_vec!` takes an allocator first: write `thin_vec![alloc => 1, 2]?` or `thin_vec![alloc => 0; n]?`")
+        compile_error!(
+            "`thin_vec!` takes an allocator first: write `thin_vec![alloc => 1, 2]?` or \
+             `thin_vec![alloc => 0; n]?`"
+        )
     };
 }
 

@@ -1,5 +1,6 @@
--- What the block of an `IntoIter` contains after each step, and what the iterator yields. The items
--- not yet yielded are in the slots from `start` up to `end`; all other slots are empty.
+-- Lemmas about what the block of an `IntoIter` contains after each step, and about what the
+-- iterator yields. The items not yet yielded are in the slots from `start` up to `end`; all other
+-- slots are empty.
 use Rattle.std.proofs.Common.{◌≡◌, ℕ, zero, suc, ◌+◌, ◌-◌, ◌<◌, ◌≤◌, List, [], ◌∷◌, ◌++◌, Option, Some, None, length, take, drop, refl, sym, ap, ◌∙◌, arith, get_or, length-append, append_assoc}
 use Rattle.std.proofs.iter.runs.Sources.{as_is, as_is_back, from_back, from_front}
 use Rattle.std.proofs.lemmas.Grind.{take_at_read}
@@ -153,7 +154,8 @@ module _ {T A : Type 0} where
       low ∙ slot-get xs after (i - start) within))
       (get-some xs (i - start) within)
 
-  -- if ys fill exactly the slots from `start` up to `end`, then ys are the items of the iterator
+  -- if the slots from `start` up to `end` hold exactly the items ys, then ys are the items of the
+  -- iterator
   pub walked-run : (b : Block T A) (a : A) (start end : ℕ) (ys : List T) → IsWalked b a start end
       → full ys ≡ slice_range b.slots start end → ys ≡ items_in b.slots
   walked-run b a start end ys t run =
@@ -176,8 +178,8 @@ module _ {T A : Type 0} where
     gap = length b.slots - end
 
     -- in the row of `start` empty slots, the items ys and k empty slots: if the slot `start` holds
-    -- v, then v is the first of ys, and emptying this slot leaves one more empty slot before the
-    -- other items
+    -- an item, this item is the first of ys, and emptying the slot leaves one more empty slot
+    -- before the other items
     first-of : (ys : List T) (k : ℕ) → 0 < length ys
         → slot (empty start ++ (full ys ++ empty k)) start ≡ Some v
         → (ys ≡ v ∷ drop 1 ys)
@@ -191,7 +193,8 @@ module _ {T A : Type 0} where
         let same : y ≡ v = cc in
         (ap (λ (x : T). x ∷ ys) same, set-first start k y ys)
 
-    -- `first-of` for the slots of b
+    -- if the slot `start` of b holds v, then v is the first item, and emptying this slot leaves one
+    -- more empty slot before the other items
     first : slot b.slots start ≡ Some v → (xs ≡ v ∷ drop 1 xs)
         × (set b.slots start None ≡ empty (start + 1) ++ (full (drop 1 xs) ++ empty gap))
     first e =
@@ -203,7 +206,7 @@ module _ {T A : Type 0} where
     pub first-item : slot b.slots start ≡ Some v → xs ≡ v ∷ drop 1 xs
     first-item e = (first e).0
 
-    -- if the slot `start` held v and was emptied, the block is that of the iterator without its
+    -- if the slot `start` held v and was emptied, the new block is that of the iterator without its
     -- first item
     pub settle-first : slot b.slots start ≡ Some v
         → seen b' ≡ record (seen b) { slots = set b.slots start None }
@@ -217,7 +220,7 @@ module _ {T A : Type 0} where
     abbrev most : List T
     most = take (end - 1 - start) xs
 
-    -- the items are `most` and then the last item
+    -- the items are `most`, followed by the last item
     whole : xs ≡ most ++ get_or xs (end - 1 - start) v ∷ []
     whole = split-last xs (end - 1 - start) v (omega (arith, t.len))
 
@@ -225,7 +228,8 @@ module _ {T A : Type 0} where
     place : start + length most ≡ end - 1
     place = omega (arith, t.len, length-take-le (end - 1 - start) xs (omega (arith, t.len)))
 
-    -- the slots of b, with the last item written apart from `most`
+    -- the slots of b are the empty slots before the items, `most`, the last item, and the empty
+    -- slots after it
     row : b.slots ≡ empty start ++ (full (most ++ get_or xs (end - 1 - start) v ∷ []) ++ empty gap)
     row = t.row ∙ ap (λ (ys : List T). empty start ++ (full ys ++ empty gap)) whole
 
@@ -239,7 +243,8 @@ module _ {T A : Type 0} where
         let same : get_or xs (end - 1 - start) v ≡ v = cc in
         whole ∙ ap (λ (x : T). most ++ x ∷ []) same
 
-    -- if the slot `end - 1` was emptied, the block is that of the iterator without its last item
+    -- if the slot `end - 1` was emptied, the new block is that of the iterator without its last
+    -- item
     pub settle-last : seen b' ≡ record (seen b) { slots = set b.slots (end - 1) None }
         → Walking b' a most start (end - 1) (length b.slots)
     settle-last w =
@@ -252,8 +257,8 @@ module _ {T A : Type 0} where
         place (omega (arith, walked-room b a start end t))
         (from-same b b' a t.from (ap (λ v. v.alloc) w))
 
-  -- if ws was written over the slots from `start` on, the block is that of an iterator of the same
-  -- length, with ws in place of its first items
+  -- if ws was written over the slots from `start` on, the new block b' is that of an iterator of
+  -- the same length, with ws in place of its first items
   pub settle-written : (b b' : Block T A) (a : A) (start end : ℕ) (ws : List T)
       → IsWalked b a start end → seen b' ≡ record (seen b) { slots = over b.slots start ws }
       → Walking b' a (refill (length (items_in b.slots)) (items_in b.slots) ws)
@@ -268,7 +273,7 @@ module _ {T A : Type 0} where
       (omega (arith, t.len, length_refill (length xs) xs ws refl)) (walked-room b a start end t)
       (from-same b b' a t.from (ap (λ v. v.alloc) w))
 
-  -- writing ws over the slots from `start` on writes it over the items of the iterator that
+  -- writing ws over the slots from `start` on writes ws over the items of the iterator that
   -- contracts see
   pub view-written : (b : Block T A) (a : A) (start end : ℕ) (ws : List T) → IsWalked b a start end
       → thin_of (block_with_items b start ws) a ≡ with_items (thin_of b a) ws
@@ -288,7 +293,7 @@ module _ {T A : Type 0} where
       ∙ (replicate-append-replicate start (length b.slots - end) None
       ∙ ap (λ (n : ℕ). empty n) all))
 
--- what repeated calls of `next` and of `next_back` yield
+-- in this module, T is the item type and A the allocator type of an `IntoIter`
 module _ (T A : Type 0) where
   -- repeated calls of `next` yield the items not yet yielded, in order
   pub rest_in_order : RestInOrder T A

@@ -1,6 +1,6 @@
--- Which items stay after each was tested against the last item kept so far, and how the results of
--- consecutive tests combine. Throughout, R is the relation of the closure, and s, t and u are
--- states of the closure.
+-- Lemmas about which items stay after each was tested against the last item kept so far, and about
+-- how the results of consecutive tests combine. Throughout, R is the relation of the closure, and
+-- s, t and u are states of the closure.
 use Rattle.std.proofs.Common.{◌≡◌, ℕ, zero, suc, ◌+◌, ◌<◌, ◌≤◌, Bool, true, false, List, [], ◌∷◌, ◌++◌, length, take, drop, refl, sym, ap, subst, ◌∙◌, arith, inl, inr, append_assoc}
 use Rattle.std.proofs.lemmas.List.{append-nil, drop_at, length_push, replicate-append-replicate, take_at}
 use Rattle.std.specs.List.{dedup, dedup_from}
@@ -29,22 +29,24 @@ last-same (z ∷ a) (q ∷ b) x y e =
     let p = last-same a b x y (cons-tail e) in
     ((λ i. cons-head e i ∷ p.0 i), p.1)
 
--- the flags of n items that all stay
+-- `all-stay n` is the list of the flags of n items that all stay
 abbrev pub all-stay : ℕ → List Bool
 all-stay n = replicate n true
 
--- the number of true flags in two lists of flags is the sum of the numbers for each list
+-- if two lists of flags are joined, the number of true flags is the sum of the numbers for the two
+-- lists
 trues-join : (a b : List Bool) → trues (a ++ b) ≡ trues a + trues b
 trues-join [] b = omega arith
 trues-join (true ∷ a) b = let e = trues-join a b in omega arith
 trues-join (false ∷ a) b = trues-join a b
 
--- n flags that are all true have n true flags
+-- a list of n flags that are all true contains n true flags
 trues-all : (n : ℕ) → trues (replicate n true) ≡ n
 trues-all zero = refl
 trues-all (suc n) = ap suc (trues-all n)
 
--- items that all stay at the beginning do not move, and do not make later items move
+-- if the first n items stay, they do not move, and they do not change how many of the later items
+-- move
 moved-all : (n : ℕ) (b : List Bool) → moved_down (replicate n true ++ b) ≡ moved_down b
 moved-all zero b = refl
 moved-all (suc n) b = moved-all n b
@@ -68,7 +70,7 @@ after-first [] zs k l e some = let n = ap length e in absurd (omega (arith, n, s
 after-first (a ∷ p) zs k l e some = (p, sym (cons-tail e), ap (λ z. z ∷ p) (cons-head e))
 
 module _ {S T : Type 0} (R : OnPairs S T) where
-  -- at least one item is kept
+  -- if the items xs were tested after the kept item k, at least one item is kept
   pub last-some : (xs : List T) (s t : S) (k : T) (stays : List Bool) (ys : List T)
       → AskedLast R s k xs stays ys t → 0 < length ys
   last-some [] s t k stays ys h = omega (arith, ap length h.1)
@@ -86,11 +88,11 @@ module _ {S T : Type 0} (R : OnPairs S T) where
       → AskedLast R s k (x ∷ []) (true ∷ []) (k' ∷ x' ∷ []) t
   last-stays s t k x x' k' h = (false, x', k', t, [], h, refl, (x' ∷ [], (refl, refl, refl), refl))
 
-  -- the items zs were tested, from the state t to the state u, with l as the last item kept before
-  -- them
+  -- in this module, the items zs were tested, starting in the state t and ending in the state u,
+  -- and l was the last item kept before them
   module _ (t u : S) (l : T) (g : List Bool) (ws zs : List T) (m : AskedLast R t l zs g ws u) where
-    -- if xs were tested from the state s to t, and l was the last item kept then, then xs followed
-    -- by zs were tested from s to u
+    -- if the items xs were tested from the state s on, and further items were then tested against
+    -- the last item kept, then xs followed by these items were tested from s on
     last-append : (xs : List T) (s : S) (k : T) (f : List Bool) (pre : List T)
         → AskedLast R s k xs f (pre ++ l ∷ []) t → AskedLast R s k (xs ++ zs) (f ++ g) (pre ++ ws) u
     last-append [] s k f pre h =
@@ -121,7 +123,7 @@ module _ {S T : Type 0} (R : OnPairs S T) where
 
   -- ---- runs of items that all stay
 
-  -- the first m items of xs stay so far: the first item, and m - 1 later items, which were tested.
+  -- The first m items of xs stay so far: the first item, and m - 1 later items, which were tested.
   -- ys is xs with these items as the tests left them; s and t are the states before and after the
   -- tests.
   pub record PairStays (m : ℕ) (s : S) (xs : List T) (t : S) (ys : List T) : Type 0 where
@@ -135,7 +137,7 @@ module _ {S T : Type 0} (R : OnPairs S T) where
     pub kept : suc (length pre) ≡ m
     pub now : ys ≡ pre ++ last ∷ after
 
-  -- before the first test, only the first item stays
+  -- before the first test, `PairStays` holds for the first item alone, if there is one
   pub pair-start : (s : S) (xs : List T) → 0 < length xs → PairStays 1 s xs s xs
   pair-start s [] some = absurd (omega arith)
   pair-start s (x ∷ xs) some =
@@ -182,8 +184,8 @@ module _ {S T : Type 0} (R : OnPairs S T) where
     next-asked b u zs a = subst (λ (k : T). R t a.later k b u a.later_left a.kept_left)
         (next-pair b u zs a).last a.asked
 
-    -- after the test `a`, xs is its first item, the tested items, which end with the later item of
-    -- `a`, and the items not yet tested
+    -- after the test `a`, the old items are the first item, the later items tested so far, which
+    -- end with the later item of `a`, and the items not yet tested
     next-was : (b : Bool) (u : S) (zs : List T) (a : IsPairAskedAt R m t ys b u zs)
         → xs ≡ h.first ∷ ((h.done ++ a.later ∷ []) ++ a.after)
     next-was b u zs a = h.was ∙ ap (λ (l : List T). h.first ∷ l)
@@ -256,12 +258,12 @@ module _ {S T : Type 0} (R : OnPairs S T) where
     pub run-left : take m ys ≡ r.left
     run-left = ap (take m) r.now ∙ take_at r.left (r.over ++ r.after) m r.long
 
-    -- the items of ys from m on are the item to be removed, if there is one, and those not yet
-    -- tested
+    -- the items of ys from m on are the item to be removed, if there is one, followed by the items
+    -- not yet tested
     pub run-over : drop m ys ≡ r.over ++ r.after
     run-over = ap (drop m) r.now ∙ drop_at r.left (r.over ++ r.after) m r.long
 
-    -- if there is an item after those kept, it is the one to be removed, and the items after it
+    -- if there is an item after the kept ones, it is the item to be removed, and the items after it
     -- were not yet tested
     pub run-goes : (value : T) (rest : List T) → drop m ys ≡ value ∷ rest → (r.after ≡ rest)
         × (r.stays ≡ all-stay r.more ++ false ∷ [])
@@ -272,7 +274,7 @@ module _ {S T : Type 0} (R : OnPairs S T) where
           | inr q ↦ absurd (cons-not-nil (sym k ∙ (run-over ∙ (λ i. q.0 i ++ q.1.0 i))))
         ]
 
-    -- if there is no item after those kept, all items were tested, and all are kept
+    -- if there is no item after the kept ones, all items were tested, and all are kept
     pub run-ends : drop m ys ≡ [] → (r.after ≡ []) × (r.stays ≡ all-stay r.more)
     run-ends k =
         elim r.stops [
@@ -282,7 +284,7 @@ module _ {S T : Type 0} (R : OnPairs S T) where
           | inr q ↦ (q.1.0, q.1.1)
         ]
 
-    -- the first item and the later items that stay are m items
+    -- the length of the run is 1, for the first item, plus the number of later items that stay
     pub run-count : (f : List Bool) → trues f ≡ 0 → r.stays ≡ all-stay r.more ++ f
         → suc (trues r.stays) ≡ m
     run-count f none e =
@@ -291,7 +293,8 @@ module _ {S T : Type 0} (R : OnPairs S T) where
   -- ---- open blocks
 
   module _ {A : Type 0} (v w : Open T A) where
-    -- w is v with another front, gap, middle run and cost
+    -- after the tests, the open block has the given front and the given cost; of the other parts,
+    -- only the gap and the middle run may have changed
     abbrev Moved : List T → Cost → Type 0
     Moved front cost = w ≡ record v
         { front = front; gap = w.gap; rest = w.rest; cost = cost }
@@ -303,8 +306,8 @@ module _ {S T : Type 0} (R : OnPairs S T) where
     moved e n = λ i. record v { front = e i; gap = w.gap; rest = w.rest; cost = n i }
 
     module _ (s t : S) where
-      -- v and w satisfy `Dedups` if the items `done` were tested, with `first` as the last item
-      -- kept before them, and those that stay were moved to the front
+      -- `Dedups` holds if the items `done` were tested, with `first` as the last item kept before
+      -- them, and those of them that stay were moved to the front
       dedups-of : (before : List T) (first : T) (done : List T) (stays : List Bool) (kept : List T)
           → v.front ≡ before ++ first ∷ [] → v.rest ≡ done ++ w.rest
           → AskedLast R s first done stays kept t → 0 < w.gap
@@ -323,7 +326,7 @@ module _ {S T : Type 0} (R : OnPairs S T) where
             now = now;
           }
 
-    -- if the next item x was tested and removed, v and w satisfy `Dedups`
+    -- if the next item x was tested and removed, `Dedups` holds
     pub dedups-goes : {s t : S} (x y : T) (front : List T)
         → IsLastAsked R s x v.front true t y front → v.rest ≡ x ∷ w.rest → 0 < w.gap
         → Moved front v.cost → Dedups R s v t w
@@ -332,8 +335,8 @@ module _ {S T : Type 0} (R : OnPairs S T) where
         (last-goes s t a.kept x y a.kept_left a.asked) gap
         (now ∙ moved (λ i. a.now i) (sym (moving-none v.cost)))
 
-    -- if the next item x was tested and stays, and was moved to the front for one move, v and w
-    -- satisfy `Dedups`
+    -- if the next item x was tested and stays, and was moved to the front for one move, `Dedups`
+    -- holds
     pub dedups-stays : {s t : S} (x y : T) (front : List T)
         → IsLastAsked R s x v.front false t y front → v.rest ≡ x ∷ w.rest
         → 0 < w.gap → Moved (front ++ y ∷ []) (moving 1 v.cost) → Dedups R s v t w
@@ -347,13 +350,13 @@ module _ {S T : Type 0} (R : OnPairs S T) where
         (a : IsLastAsked R s x v.front false t y front) (b : Bool)
         (n : IsNextAsked R t y ys b u z zs) (whole : v.rest ≡ x ∷ ys) where
       -- if the next item stays, and the item after it was tested too, the front then ends with the
-      -- last item kept before, as the first test left it, and the next item, as the second test
-      -- left it
+      -- item kept before these two, as the first test left it, and the next item, as the second
+      -- test left it
       two-front : (front ++ z ∷ [] ≡ a.before ++ a.kept_left ∷ z ∷ [])
       two-front = ap (λ (l : List T). l ++ z ∷ []) a.now
           ∙ append_assoc a.before (a.kept_left ∷ []) (z ∷ [])
 
-      -- if the next item stays, and the item after it is removed, v and w satisfy `Dedups`
+      -- if the next item stays, and the item after it is removed, `Dedups` holds
       pub dedups-two : b ≡ true → (value : T) → zs ≡ value ∷ w.rest → 0 < w.gap
           → Moved (front ++ z ∷ []) (moving 1 v.cost) → Dedups R s v u w
       dedups-two e value rest gap now =
@@ -368,7 +371,7 @@ module _ {S T : Type 0} (R : OnPairs S T) where
           (n.was ∙ ap (λ (l : List T). n.later ∷ l) same)) asked gap (now ∙ moved two-front refl)
 
       -- if the next two items stay, the run of items from the second one on stays too, and the item
-      -- after the run, if there is one, is removed, then v and w satisfy `Dedups`
+      -- after the run, if there is one, is removed, then `Dedups` holds
       pub dedups-run : b ≡ false → (m : ℕ) (q : S) (ws : List T) (r : PairsAskedUpTo R m u zs q ws)
           → r.after ≡ w.rest → suc (trues r.stays) ≡ m
           → 0 < w.gap → Moved ((front ++ z ∷ []) ++ take m ws) (moving m (moving 1 v.cost))
@@ -397,7 +400,8 @@ module _ {S T : Type 0} (R : OnPairs S T) where
           ∙ append_assoc a.before (a.kept_left ∷ z ∷ []) r.left)
           (moving-more m 1 v.cost ∙ ap (λ (k : ℕ). moving k v.cost) paid))
 
-  -- before the first test, v and v itself satisfy `Dedups`
+  -- before the first test, an open block v that has a gap and a non-empty front satisfies `Dedups`
+  -- with itself
   pub dedups-start : {A : Type 0} (s : S) (v : Open T A) → 0 < length v.front
       → 0 < v.gap → Dedups R s v s v
   dedups-start s v some gap =
@@ -453,13 +457,13 @@ module _ {S T : Type 0} (R : OnPairs S T) where
 
   module _ {A : Type 0} (v w : Open T A) (m : ℕ) (s t : S) (ys : List T)
       (r : PairsAskedUpTo R m s v.rest t ys) where
-    -- w is v with the first m items of ys as its front, for no move. The gap and the middle run of
-    -- w may be any.
+    -- The items of the run, as the tests left them, are the front, which costs no move. Of the
+    -- other parts, only the gap and the middle run may have changed.
     abbrev RunPassed : Type 0
     RunPassed = Moved v w (take m ys) v.cost
 
-    -- if the item after the run is removed, and all items after it were then tested, v and z
-    -- satisfy `IsDeduped`
+    -- if the item after the run is removed, and all items after it were then tested, the open block
+    -- before the tests and z satisfy `IsDeduped`
     pub deduped-goes : (value : T) (u : S) (z : Open T A) → RunPassed → drop m ys ≡ value ∷ w.rest
         → Dedups R t w u z → z.rest ≡ [] → IsDeduped R s v u z
     deduped-goes value u z p k h none =
@@ -513,14 +517,14 @@ module _ {S T : Type 0} (R : OnPairs S T) where
           });
         }
 
--- a test of the type J contains a closure, and returns what the closure returns. `inside` is the
--- state of the closure.
+-- in this module, a test of the type J contains a closure, and returns what the closure returns;
+-- `inside` gives the state of the closure
 module _ {J S T : Type 0} (R : OnPairs S T) (inside : J → S) where
-  -- the relation of the test, which is that of the closure
+  -- the relation of the test: it is the relation of the closure, for the states of the closure
   abbrev through : OnPairs J T
   through s x k b t y l = R (inside s) x k b (inside t) y l
 
-  -- if the test tested some items after the kept item k, its closure tested them, with the same
+  -- if the test tested the items xs after the kept item k, its closure tested them, with the same
   -- answers
   last-through : (xs : List T) (s t : J) (k : T) (f : List Bool) (ys : List T)
       → AskedLast through s k xs f ys t → AskedLast R (inside s) k xs f ys (inside t)
@@ -537,13 +541,14 @@ module _ {J S T : Type 0} (R : OnPairs S T) (inside : J → S) where
         (λ q. (q.0, last-through xs h.3 t h.1 h.4 q.0 q.1, q.2)) h.7,
   )
 
-  -- if the test tested some items, its closure tested them, with the same answers
+  -- if the test tested the items xs, its closure tested them, with the same answers
   pairs-through : (xs : List T) (s t : J) (f : List Bool) (ys : List T)
       → AskedPairs through s xs f ys t → AskedPairs R (inside s) xs f ys (inside t)
   pairs-through [] s t f ys h = (h.0, h.1, ap inside h.2)
   pairs-through (x ∷ xs) s t f ys h = last-through xs s t x f ys h
 
-  -- if the test reduced v to w, then its closure did
+  -- if the list v was reduced to w by the results of the test, it was reduced to w by the results
+  -- of the closure
   pub deduped-through : {A : Type 0} (s : J) (v w : Thin T A) (t : J) → IsDedupedTo through s v w t
       → IsDedupedBy R (inside s) v w
   deduped-through s v w t h = (
@@ -556,11 +561,11 @@ module _ {J S T : Type 0} (R : OnPairs S T) (inside : J → S) where
     },
   )
 
--- if a stateless test E decides, the items that stay and the items that move are functions of the
--- items
+-- in this module, a stateless test E decides which items stay, so that the items that stay and the
+-- items that move are functions of the items
 module _ {S T : Type 0} (E : T → T → Bool) where
-  -- after the kept item k, the flags are `unlike_from E k` of the items, and the items kept are
-  -- `dedup_from E k` of them
+  -- if the items xs were tested after the kept item k, the flags are `unlike_from E k xs`, and the
+  -- items kept are `dedup_from E k xs`
   last-compares : (xs : List T) (s t : S) (k : T) (f : List Bool) (ys : List T)
       → AskedLast (Compares E) s k xs f ys t → (f ≡ unlike_from E k xs) × (ys ≡ dedup_from E k xs)
   last-compares [] s t k f ys h = (h.0, h.1)
@@ -586,14 +591,15 @@ module _ {S T : Type 0} (E : T → T → Bool) where
       ]
       h.5.0 h.6 h.7
 
-  -- the flags are `unlike E` of the items, and the items kept are `dedup E` of them
+  -- if the items xs were tested, the flags are `unlike E xs`, and the items kept are `dedup E xs`
   pub pairs-compare : (xs : List T) (s t : S) (f : List Bool) (ys : List T)
       → AskedPairs (Compares E) s xs f ys t → (f ≡ unlike E xs) × (ys ≡ dedup E xs)
   pairs-compare [] s t f ys h = (h.0, h.1)
   pairs-compare (x ∷ xs) s t f ys h = last-compares xs s t x f ys h
 
 module _ {S T : Type 0} (R : OnPairs S T) where
-  -- at most as many items are kept as k and the items after it
+  -- if the items xs were tested after the kept item k, at most `1 + length xs` items are kept, k
+  -- included
   few-last : (xs : List T) (s t : S) (k : T) (stays : List Bool) (ys : List T)
       → AskedLast R s k xs stays ys t → length ys ≤ suc (length xs)
   few-last [] s t k stays ys h = omega (arith, ap length h.1)
@@ -608,7 +614,7 @@ module _ {S T : Type 0} (R : OnPairs S T) where
       one true m few = let f = few h.2 ys m in omega (arith, f)
       one false m few = let f = few h.1 m.0 m.1 in omega (arith, f, ap length m.2)
 
-  -- at most as many items are kept as there were
+  -- at most as many items are kept as xs has
   few-pairs : (xs : List T) (s t : S) (stays : List Bool) (ys : List T)
       → AskedPairs R s xs stays ys t → length ys ≤ length xs
   few-pairs [] s t stays ys h = omega (arith, ap length h.1)

@@ -1,4 +1,5 @@
--- What calls of `next` and `next_back` on a `Drain` yield, and what they keep.
+-- Lemmas about what calls of `next` and `next_back` on a `Drain` yield, and about what these calls
+-- do not change.
 use Rattle.std.proofs.Common.{[], ◌∷◌, ap, refl, subst, ◌∙◌, length}
 use Rattle.std.proofs.iter.runs.Sources.{as_is, as_is_back, from_back, from_front}
 use Rattle.std.specs.Iterator.Runs.{YieldsInOrder, YieldsInReverse}

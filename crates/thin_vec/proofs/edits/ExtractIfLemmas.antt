@@ -1,5 +1,5 @@
--- Which item a closure extracts, if items are tested up to and including the first that it
--- extracts.
+-- Lemmas about which item a closure extracts, if items are tested up to and including the first
+-- that it extracts.
 use Rattle.std.proofs.Common.{◌≡◌, ℕ, ◌+◌, ◌≤◌, Bool, true, false, List, [], ◌∷◌, ◌++◌, Option, None, Some, length, take, drop, refl, sym, ap, subst, ◌∙◌, arith, length-append}
 use Rattle.std.proofs.lemmas.List.{drop_at, length-take-le, nil_from_length, take_at}
 use Rattle.std.specs.List.Retain.{ExtractsNext}
@@ -16,8 +16,8 @@ not-not true = refl
 not-not false = refl
 
 module _ {F T : Type 0} (R : F → T → Bool → F → T → Type 0) where
-  -- the number of items is that of the kept ones, plus 1 if an item was extracted, plus that of the
-  -- items not yet tested
+  -- the number of items in xs is the number of kept items, plus 1 if an item was extracted, plus
+  -- the number of items not yet tested
   pub picked-count : (s : F) (xs : List T) (item : Option T) (t : F) (kept rest : List T)
       → ExtractsNext R s xs item t kept rest → length xs ≡ length kept + length
       (option_to_list item) + length rest
@@ -29,7 +29,8 @@ module _ {F T : Type 0} (R : F → T → Bool → F → T → Type 0) where
   picked-count s (x ∷ xs) item t kept rest e =
       answered e.0 (λ ks m. picked-count e.1 xs item t ks rest m) e.4
     where
-      -- `picked-count` for one more item, by the answer b of the closure for it
+      -- if `picked-count` holds for the items after the first item, it holds for all items,
+      -- whatever the closure returned for the first item
       answered : (b : Bool)
           → ((ks : List T) → ExtractsNext R e.1 xs item t ks rest
           → length xs ≡ length ks + length (option_to_list item) + length rest)
@@ -42,17 +43,17 @@ module _ {F T : Type 0} (R : F → T → Bool → F → T → Type 0) where
       answered false more m = omega (arith, more m.0 m.1, ap length m.2)
 
   module _ {S : Type 0} (of : S → F) where
-    -- the relation of a test that keeps exactly the items which the closure does not extract. `of`
-    -- is the state of the closure.
+    -- The relation of a test that keeps exactly the items which the closure does not extract. `of
+    -- s` is the state of the closure in the state s of the test.
     abbrev J : S → T → Bool → S → T → Type 0
     J s x b t y = R (of s) x (not b) (of t) y
 
-    -- from the state `between` on, the closure keeps none of the items `after`: it extracts the
-    -- first of them, `item`, or there are none
+    -- in this module, the closure keeps none of the items `after`, if it begins in the state
+    -- `between`: either it extracts the first of these items, or there are none
     module _ (between : S) (after : List T) (item : Option T) (t : F) (rest : List T)
         (e : ExtractsNext R (of between) after item t [] rest) where
       -- if a run of items was tested before, and all of them stay, the closure kept this run, and
-      -- then extracted `item`, if there is one
+      -- then extracted the first item after it, if there is one
       picked-after : (s : S) (run left : List T) → Asked J s run (stay left) between
           → ExtractsNext R (of s) (run ++ after) item t left rest
       picked-after s [] [] a =
@@ -115,7 +116,7 @@ module _ {F T : Type 0} (R : F → T → Bool → F → T → Type 0) where
       pub picked-room : m ≤ length ys
       picked-room = omega (arith, reached, ap length now, length-append h.left h.end)
 
-      -- what the closure extracted from the items after the run is what it extracted from all of xs
+      -- what the closure extracted from the items after the run is what it extracted from all items
       whole : (item : Option T) (rest : List T) → ExtractsNext R (of h.between) h.after item (of t)
           [] rest → ExtractsNext R (of s) xs item (of t) (take m ys) rest
       whole item rest e =

@@ -1,4 +1,5 @@
--- The steps by which `finish` fills the gap of a splice, and how they combine.
+-- Lemmas about the steps by which `finish` fills the gap of a splice, and about how these steps
+-- combine.
 use Rattle.std.proofs.Common.{if◌then◌else◌, inl, inr, Option, drop, take, subst, ◌≡◌, ℕ, ◌+◌, ◌-◌, ◌*◌, ◌<◌, ◌≤◌, true, false, eqb, List, [], ◌++◌, ap, arith, length, length-append, refl, sym, ◌∙◌}
 use Rattle.std.proofs.lemmas.List.{length-drop, length-take-le}
 use Rattle.std.specs.Borrow.{RattleType}
@@ -20,8 +21,8 @@ use Rattle.thin_vec.proofs.list.ExtendLemmas.{yields-join}
 use Rattle.thin_vec.proofs.edits.SpliceLemmas.{between-length, between-more, drains-more, run-moves, stopped-more, taken-join, taken-spare}
 
 module _ {T A : Type 0} where
-  -- the open block b is the list u, opened before the item at index `at`: the items from there on
-  -- were moved up for a gap of `count` slots, unless `count` is 0
+  -- the open block b is the list u, opened before the item at index `at`: the items from this index
+  -- on were moved up for a gap of `count` slots, unless `count` is 0
   pub record IsWide (b : Open T A) (u : Thin T A) (at count : ℕ) : Type 0 where
     pub in_bounds : at ≤ length u.items
     pub front : b.front ≡ take at u.items
@@ -31,15 +32,15 @@ module _ {T A : Type 0} where
 
 module _ {S T A : Type 0} (steps : S → Option T → S → Type 0) (can : S → Type 0)
     (remaining : S → Count) where
-  -- the gap of the block v was filled from the iterator s, and v became the block of the list w
-  -- with the allocator `a`. f says where filling ended: at which slot, whether the iterator has
-  -- ended, and what is left of it.
+  -- `FillsGap v a s w f`: the gap of the open block v was filled from the iterator s, and v became
+  -- the block of the list w with the allocator `a`. f tells at which slot the filling ended,
+  -- whether the iterator has ended, and what is left of the iterator.
   abbrev pub FillsGap : Open T A → A → S → Thin T A → Filled S → Type 0
   FillsGap v a s w f =
       (by : IsFilledBy steps can remaining v.gap s f) × IsClosedWith v by.items a w
       × (f.end ≡ length v.front + length by.items)
 
-  -- the list u is v with xs in its gap, where xs end before the slot `end` and were yielded by
+  -- The list u is v with xs in its gap, where xs end before the slot `end` and were yielded by
   -- calls of `next` that led from s to t. The gap is full, and `next` may be called on t.
   pub record IsReached (v : Open T A) (s : S) (u : Thin T A) (xs : List T) (end : ℕ)
       (t : S) : Type 0 where
@@ -55,7 +56,7 @@ module _ {S T A : Type 0} {steps : S → Option T → S → Type 0} {can : S →
     {remaining : S → Count} where
   module _ {v : Open T A} {a : A} {s : S} {w : Thin T A} {f : Filled S}
       (p : FillsGap steps can remaining v a s w f) where
-    -- after the gap was filled, there are as many items as in the front, the tail and the placed
+    -- after the gap was filled, the list has as many items as the front, the tail and the placed
     -- items together
     pub filled-long : length w.items ≡ length v.front + length v.tail + length p.0.items
     filled-long = omega (arith, ap length p.1.items, between-length v p.0.items)
@@ -73,7 +74,7 @@ module _ {S T A : Type 0} {steps : S → Option T → S → Type 0} {can : S →
       nearer = p.0.nearer more;
     }
 
-    -- if the iterator has ended, the placed items are all that it yields
+    -- if the iterator has ended, the placed items are all items that it yields
     pub filled-drains : f.ended ≡ true → Drains steps s p.0.items
     filled-drains done = (f.rest, subst (λ b. Gives steps s p.0.items b f.rest) done p.0.gave)
 
@@ -86,7 +87,7 @@ module _ {S T A : Type 0} {steps : S → Option T → S → Type 0} {can : S →
           p.1.capacity (omega (arith, filled-long, length-append v.front v.tail)) few p.1.alloc
 
       -- if a gap was opened in the list u, filled, and closed, with at most n further moves in all,
-      -- u and w satisfy `HasTaken` with n further moves
+      -- then u and the new list satisfy `HasTaken` with n further moves
       pub wide-taken : (u : Thin T A) (at count : ℕ) → IsWide v u at count → a ≡ u.alloc
           → p.1.cost.0 + (length u.items - at) ≤ n → HasTaken rule R u w n left
       wide-taken u at count wide from few =
@@ -107,7 +108,7 @@ module _ {S T A : Type 0} {steps : S → Option T → S → Type 0} {can : S →
 
   module _ {v : Open T A} {s t : S} {u : Thin T A} {xs : List T} {end : ℕ}
       (p : IsReached steps can remaining v s u xs end t) where
-    -- the length of u is `end` plus the length of the tail
+    -- the length of the list u is `end` plus the length of the tail
     pub reached-long : length u.items ≡ end + length v.tail
     reached-long = omega (arith, ap length p.items, between-length v xs, p.ends)
 
@@ -124,8 +125,9 @@ module _ {S T A : Type 0} {steps : S → Option T → S → Type 0} {can : S →
       nearer = p.nearer;
     }
 
-    -- if the steps up to u satisfy `HasTaken` with m further moves, those from u on satisfy it with
-    -- n, and m + n ≤ k, then all steps satisfy it with k
+    -- if the steps so far satisfy `HasTaken` with m further moves, the later steps, up to the list
+    -- w, satisfy it with n further moves, and m + n ≤ k, then all steps together satisfy it with k
+    -- further moves
     pub reached-taken : (rule : Rule) (R : RattleType) → KeepsLaw rule → (a : A) (w : Thin T A)
         (m n k : ℕ) → m + n ≤ k → HasTaken rule R (left_of v a) u m (remaining s)
         → HasTaken rule R u w n (remaining t) → HasTaken rule R (left_of v a) w k (remaining s)
@@ -136,8 +138,8 @@ module _ {S T A : Type 0} {steps : S → Option T → S → Type 0} {can : S →
         (λ fit same. omega (arith, fit, same, ap length p.items, long, left, p.nearer))
         before now
 
-    -- if u has the capacity of v, a capacity that satisfies `IsExtended` for the steps from u on
-    -- satisfies it for all steps
+    -- if the capacity has not changed so far, a capacity d that satisfies `IsExtended` for the
+    -- later steps satisfies it for all steps
     pub reached-extended : (rule : Rule) (R : RattleType) (a : A) (d n : ℕ)
         → u.capacity ≡ v.capacity → IsExtended rule R u d n (remaining t)
         → IsExtended rule R (left_of v a) d n (remaining s)
@@ -176,8 +178,8 @@ module _ {S T A : Type 0} {steps : S → Option T → S → Type 0} {can : S →
         }
 
   module _ {rule : Rule} {R : RattleType} (v : Open T A) (a : A) (s : S) (w : Thin T A) where
-    -- if the list has all items that the iterator yielded, a `finish` that returned `Ok` satisfies
-    -- `IsFinished`
+    -- if all items that the iterator yields were placed, and the list satisfies `HasTaken` and
+    -- `IsExtended`, then a `finish` that returned `Ok` satisfies `IsFinished`
     pub finished-ok : (x : Unit {0})
         → (xs : List T) × Drains steps s xs × (w.items ≡ with_between v xs)
         → HasTaken rule R (left_of v a) w (2 * length v.tail) (remaining s)
@@ -195,8 +197,8 @@ module _ {S T A : Type 0} {steps : S → Option T → S → Type 0} {can : S →
       cause = tt;
     }
 
-    -- if xs were placed before a tail, and the steps after that returned r, the whole `finish`
-    -- satisfies `IsFinished` with r
+    -- if the items xs were placed before a tail, and the later steps returned a result r, the whole
+    -- `finish` satisfies `IsFinished` with r
     pub finished-from : {t : S} {u : Thin T A} {xs : List T} {end : ℕ}
         (r : Result (Unit {0}) (SpliceRefused T S A))
         → IsReached steps can remaining v s u xs end t → 0 < length v.tail

@@ -1,5 +1,6 @@
--- What a list contains while the clones that are to replace a range are outside that range, and
--- what a contract sees of the open block after the clones were moved into the range.
+-- Lemmas about what a list contains while the clones that are to replace a range are outside that
+-- range, and about what a contract sees of the open block after the clones were moved into the
+-- range.
 use Rattle.std.proofs.Common.{if◌then◌else◌, inl, inr, eqb, min, Bool, true, false, ◌≡◌, ℕ, zero, suc, ◌+◌, ◌-◌, ◌≤◌, List, [], ◌∷◌, ◌++◌, None, Option, append_assoc, ap, arith, drop, length, length-append, refl, sym, take, ◌∙◌}
 use Rattle.std.proofs.lemmas.List.{drop_at, length-drop, length-take-le, replicate-append-replicate, take-append-drop, take-append-le, take_at}
 use Rattle.std.proofs.lemmas.Bool.{cases_lt}
@@ -50,8 +51,9 @@ module _ {T : Type 0} where
       (λ m. front m ++ past m) ∙ take-append-drop i xs
 
 module _ {T : Type 0} (xs : List T) (i j : ℕ) (order : i ≤ j) (within : j ≤ length xs) where
-  -- if w is xs with zs inserted at j and ys appended, then moving ys from the end of w into the
-  -- place of the items from i up to j makes xs with ys and zs in place of these items
+  -- if w is a list xs with zs inserted at an index j, and ys appended, then moving ys from the end
+  -- of w into the place of the items from an index i up to j makes xs with ys and zs in place of
+  -- these items
   pub brought-in : (ys zs : List T) {w : List T} {n : ℕ} → length ys ≡ n
       → w ≡ replace_range xs j j zs ++ ys
       → (take i w ++ drop (length w - n) w) ++ take (length w - n - j) (drop j w)
@@ -89,11 +91,11 @@ module _ {T : Type 0} (xs : List T) (i j : ℕ) (order : i ≤ j) (within : j �
 
 module _ {T A : Type 0} (h : Inside T A) (o : IsOpen h) (b : Block T A) (k : ℕ)
     (few : k ≤ length (open_of h).tail) (room : k ≤ (open_of h).gap) where
-  -- what a contract sees of h
+  -- what a contract sees of the open block before the move
   abbrev v : Open T A
   v = open_of h
 
-  -- the block b after the last k items of the tail were moved to the end of the front
+  -- the open block after the last items of its tail were moved to the end of its front
   abbrev pub brought : Inside T A
   brought = record {
     block = b;
@@ -104,7 +106,7 @@ module _ {T A : Type 0} (h : Inside T A) (o : IsOpen h) (b : Block T A) (k : ℕ
     len = h.len - k;
   }
 
-  -- what a contract sees of `brought`: the last k items of the tail are now the last items of the
+  -- what a contract sees of `brought`: the last items of the tail are now the last items of the
   -- front
   abbrev pub brought-seen : Open T A
   brought-seen = record {
@@ -217,8 +219,8 @@ module _ {T A : Type 0} (h : Inside T A) (o : IsOpen h) (b : Block T A) (k : ℕ
         room = omega (arith, o.room);
       }) refl refl
 
--- if clones of the sources were inserted into xs, the length is that of xs plus the number of
--- sources
+-- if clones of the sources were inserted into xs, the new length is the length of xs plus the
+-- number of sources
 pub replaced-length : {T : Type 0} (clones : T → T → Type 0) (xs : List T) (i : ℕ)
     (sources ys : List T) → i ≤ length xs → ReplacesByClones clones xs i i sources ys
     → length ys ≡ length xs + length sources
@@ -244,7 +246,8 @@ at-most-more {n} {m} {k} {c} {d} {e} h few is = record {
   cost = is ∙ (ap (λ q. moving m q) h.cost ∙ moving-add m h.moves c);
 }
 
--- if at most n moves lead from one cost to another, and n ≤ m, then at most m moves do
+-- if at most n moves lead from one cost to another, and n ≤ m, then at most m moves lead from the
+-- one to the other
 pub at-most-le : {n m : ℕ} {c d : Cost} → MovesAtMost n c d → n ≤ m → MovesAtMost m c d
 at-most-le {n} {m} {c} {d} h le = record {
   moves = h.moves;
@@ -252,13 +255,14 @@ at-most-le {n} {m} {c} {d} h le = record {
   cost = h.cost;
 }
 
--- if no moves or n moves lead from one cost to another, at most n moves do
+-- if either no moves or n moves lead from one cost to another, then at most n moves lead from the
+-- one to the other
 pub at-most-if : (b : Bool) (n : ℕ) (c d : Cost) → d ≡ (if b then c else moving n c)
     → MovesAtMost n c d
 at-most-if true n c d is = record { moves = 0; few = omega arith; cost = is ∙ moving-zero c }
 at-most-if false n c d is = record { moves = n; few = omega arith; cost = is }
 
--- k moves, and n more in one of two cases, are at most k + n moves
+-- k plus either 0 or n is at most k + n
 pub if-le : (b : Bool) (k n : ℕ) → k + (if b then 0 else n) ≤ k + n
 if-le true k n = omega arith
 if-le false k n = omega arith
@@ -271,9 +275,9 @@ pub record IsParted (k r k1 k2 : ℕ) : Type 0 where
   -- each clone is one of the k1 or of the k2
   pub all : k1 + k2 ≡ k
 
--- the number of moves if the k2 clones are inserted after the range, and the k1 clones are appended
--- to the list and then moved into the range, where t items follow the range: it is the number of
--- moves of a replacement, plus one for each of the k1 clones
+-- if the k2 clones are inserted after the range, the k1 clones are appended to the list and then
+-- moved into the range, and t items follow the range, then the number of moves is that of a
+-- replacement, plus one for each of the k1 clones
 pub cloning-moves : {k r k1 k2 : ℕ} → IsParted k r k1 k2 → (t : ℕ) {z u : ℕ} → z ≡ 0 → u ≡ t + k2
     → ((k2 + (if eqb k2 z then 0 else t)) + k1) + (k1 + (if eqb k1 r then 0 else u))
     ≡ (k + (if eqb k r then 0 else t)) + min k r

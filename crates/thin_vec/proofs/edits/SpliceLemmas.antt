@@ -1,4 +1,5 @@
--- How many items a splice moves, what it costs, what its iterator yielded, and why `finish` failed.
+-- Lemmas about how many items a splice moves, what the splice costs, what its iterator yielded, and
+-- why `finish` failed.
 use Rattle.std.proofs.Common.{if◌then◌else◌, inl, inr, Option, Some, None, append_assoc, drop, take, subst, ◌≡◌, ℕ, ◌+◌, ◌-◌, ◌*◌, ◌^◌, ◌<◌, ◌≤◌, Bool, true, false, eqb, List, [], ◌∷◌, ◌++◌, ap, arith, length, length-append, refl, sym, ◌∙◌}
 use Rattle.std.proofs.lemmas.List.{append-nil, drop_at, length-drop, length-take-le, take_at}
 use Rattle.std.specs.Borrow.{RattleType}
@@ -69,8 +70,8 @@ closed-moves v w n paid none same count = go (eqb w.gap 0) refl
         false-true : false ≡ true → ⊥
         false-true h = cc
 
--- if n items were moved up before k items were placed (unless `count` is 0), and m items were moved
--- afterwards, at most n + m moves are made in addition to the k
+-- if n items were moved up (unless `count` is 0) before k items were placed, and m items were moved
+-- afterwards, then at most n + m moves are counted in addition to the k moves of the placed items
 pub run-moves : (count n k m : ℕ) (c d : Cost) → d ≡ (if eqb count 0 then c else moving n c)
     → (x : ℕ) × (moving (k + m) d ≡ moving (k + x) c) × (x ≤ n + m)
 run-moves count n k m c d e = go (eqb count 0) e
@@ -87,8 +88,8 @@ run-moves count n k m c d e = go (eqb count 0) e
     )
 
 module _ {S X : Type 0} (steps : S → Option X → S → Type 0) where
-  -- if calls of `next` yielded xs, and later calls yielded ys and then returned o, all of them
-  -- yielded zs, which is xs followed by ys, and then returned o
+  -- if calls of `next` yielded xs, and later calls yielded ys and then returned o, then all these
+  -- calls yielded zs, which is xs followed by ys, and then returned o
   pub yields-held : (s t u : S) (xs ys zs : List X) (o : Option X) → Yields steps s xs t
       → zs ≡ xs ++ ys → YieldsThen steps t ys o u → YieldsThen steps s zs o u
   yields-held s t u xs ys zs o before e now = (
@@ -98,15 +99,16 @@ module _ {S X : Type 0} (steps : S → Option X → S → Type 0) where
     now.2,
   )
 
-  -- if calls of `next` yielded xs and then returned o, and o is `Some x`, they yielded xs followed
-  -- by x
+  -- if calls of `next` yielded xs and then returned o, and o is `Some x`, these calls yielded xs
+  -- followed by x
   pub yields-drawn : (s u : S) (xs : List X) (o : Option X) (x : X) → o ≡ Some x
       → YieldsThen steps s xs o u → Yields steps s (xs ++ x ∷ []) u
   yields-drawn s u xs o x is all =
       yields-more steps s all.0 u xs x all.1 (subst (λ r. steps all.0 r u) is all.2)
 
-  -- if one call of `next` yielded x and later calls xs, where x and xs are the items `held` and
-  -- then o, all calls yielded `held` and then o. If o is None, a last call returned `None`.
+  -- Let x followed by xs be the items `held`, followed by the item in o if there is one. If one
+  -- call of `next` yielded x, and later calls yielded xs, then all these calls yielded `held` and
+  -- then the item in o. If o is `None`, the last call returned `None`.
   pub drawn-after : (s t u : S) (x : X) (xs held : List X) (o : Option X) → steps s (Some x) t
       → held ++ option_to_list o ≡ x ∷ xs
       → MatchOption o (YieldsThen steps t xs None u) (λ _. Yields steps t xs u)
@@ -138,7 +140,7 @@ pub if-err : {X E : Type 0} {P Q : E → Type 0} (r : Result X E) → ((e : E) �
 if-err (Ok _) h p = p
 if-err (Err e) h p = h e refl p
 
--- if Q holds for every error, it holds for the error of a result
+-- if Q holds for every error, then Q holds for the error of a result, if there is one
 pub any-err : {X E : Type 0} {Q : E → Type 0} (r : Result X E) → ((e : E) → Q e) → IfErr r Q
 any-err (Ok _) h = tt
 any-err (Err e) h = h e
@@ -157,8 +159,8 @@ inserted-long xs ys at in_bounds =
     )
 
 module _ {S X : Type 0} (steps : S → Option X → S → Type 0) where
-  -- if calls of `next` yielded xs, and later calls yielded ys and then `None`, then all of them
-  -- yielded xs, ys and then `None`
+  -- if calls of `next` yielded xs, and later calls yielded ys and then `None`, then all these calls
+  -- yielded xs, then ys, and then `None`
   pub drains-more : (s t : S) (xs ys : List X) → Yields steps s xs t → Drains steps t ys
       → Drains steps s (xs ++ ys)
   drains-more s t xs ys before now =
@@ -188,7 +190,7 @@ module _ {S X A : Type 0} (steps : S → Option X → S → Type 0) (can : S →
         (now.2.0, yields-join steps s t now.2.0 xs error.held.items before now.2.1, now.2.2),
       )
 
-  -- if nothing is held, calls that yielded the placed items and then the item in hand, if there is
+  -- if no item is held, calls that yielded the placed items and then the item in hand, if there is
   -- one, satisfy `Stopped`
   pub stopped-now : (s : S) (xs : List X) (error : SpliceRefused X S A) → error.held.items ≡ []
       → PausedAfter steps can remaining s (xs ++ option_to_list error.in_hand) error.rest
@@ -204,11 +206,12 @@ module _ {S X A : Type 0} (steps : S → Option X → S → Type 0) (can : S →
         λ _. none,
       )
 
--- the cause of a `finish` that failed with the error `error`, where v is the list after the
--- failure, and `left` bounds the rest of the iterator
+-- in this module, `error` is the error of a `finish` that failed, v is the list after the failure,
+-- and `left` bounds the rest of the iterator
 module _ {S T A : Type 0} (rule : Rule) (R : RattleType) (v : Thin T A) (tail : List T)
     (left : Count) (error : SpliceRefused T S A) where
-  -- if there is a tail, no item is held and none is in hand, the cause follows from the hint
+  -- if there is a tail, and no item is held or in hand, the cause of the failure follows from the
+  -- hint
   pub stop-at-hint : 0 < length tail → error.held.items ≡ [] → error.in_hand ≡ None
       → FailsAtHint rule R v left error.cause → IsStopCause rule R v tail left error
   stop-at-hint some none empty fails = record {
@@ -218,7 +221,8 @@ module _ {S T A : Type 0} (rule : Rule) (R : RattleType) (v : Thin T A) (tail : 
     by_push = λ no_tail. absurd (omega (arith, some, ap length no_tail));
   }
 
-  -- if there is a tail, and items are held or one is in hand, the cause follows from these items
+  -- if there is a tail, and items are held or an item is in hand, the cause of the failure follows
+  -- from these items
   pub stop-at-held : 0 < length tail → (error.in_hand ≡ None → 0 < length error.held.items)
       → (error.in_hand ≡ None → (error.cause ≡ CapacityOverflow)
       ↔ (capacity_for rule R v (length error.held.items) ≡ None))
@@ -231,8 +235,8 @@ module _ {S T A : Type 0} (rule : Rule) (R : RattleType) (v : Thin T A) (tail : 
     by_push = λ no_tail. absurd (omega (arith, some, ap length no_tail));
   }
 
-  -- if there is no tail, and `extend` failed with the same cause, item in hand and rest, the cause
-  -- of the splice is as that of `extend`
+  -- if there is no tail, no item is held, and `extend` failed with the same cause and the same item
+  -- in hand, then what holds for the cause of `extend` holds for the cause of `error`
   pub stop-at-end : (e : ExtendRefused T S) → tail ≡ [] → error.held.items ≡ []
       → error.cause ≡ e.cause → error.in_hand ≡ e.in_hand → IsExtendCause rule R v left e
       → IsStopCause rule R v tail left error
@@ -260,7 +264,7 @@ module _ (rule : Rule) (R : RattleType) where
         | inr spare ↦ inl (cap-kept rule R law v k d spare e)
       ]
 
--- if n is 0, a cost is the same with n more moves as without them
+-- if n is 0, adding n moves to a cost does not change the cost
 unmoved : (b : Bool) (c : Cost) (n : ℕ) → n ≡ 0 → (if b then c else moving n c) ≡ c
 unmoved true c n none = refl
 unmoved false c n none = ap (λ k. moving k c) none ∙ sym (moving-zero c)
@@ -307,7 +311,7 @@ module _ {T A : Type 0} where
       ∙ (ap (λ l. l ++ xs) (append-nil v.front)
       ∙ (sym (append-nil (v.front ++ xs)) ∙ (λ i. (v.front ++ xs) ++ sym none i)))
 
--- what a step of `finish` does to a list
+-- in this module, the steps of `finish` work on lists of items of R, under the growth rule `rule`
 module _ (rule : Rule) (R : RattleType) {T A : Type 0} where
   -- if k items were placed into spare capacity, with k + m moves, and m ≤ n, then v and w satisfy
   -- `HasTaken` with n further moves
@@ -357,8 +361,8 @@ module _ (rule : Rule) (R : RattleType) {T A : Type 0} where
       cheap = cheap;
     }
 
-    -- if v and u satisfy `HasTaken` with m further moves, u and w satisfy it with n, and m + n ≤ k,
-    -- then v and w satisfy it with k
+    -- if v and u satisfy `HasTaken` with m further moves, u and w satisfy it with n further moves,
+    -- and m + n ≤ k, then v and w satisfy it with k further moves
     pub taken-join : (v u w : Thin T A) (m n k : ℕ) (left more : Count) → m + n ≤ k
         → length v.items ≤ length u.items
         → (HasRoomFor v (size left) → u.capacity ≡ v.capacity → HasRoomFor u (size more))

@@ -1,4 +1,5 @@
--- What a growth rule guarantees, and what the block of a list contains after its capacity changed.
+-- Lemmas about what a growth rule guarantees, and about what the block of a list contains after its
+-- capacity changed.
 use Rattle.std.proofs.Common.{◌≡◌, ℕ, ◌^◌, ◌<◌, ◌≤◌, Err, Ok, Result, Some, None, arith, refl, subst, sym, ◌-◌, List, [], ◌++◌, length, take, Option, ap, ◌∙◌}
 use Rattle.std.specs.Align.{type_align}
 use Rattle.std.specs.Borrow.{RattleType}
@@ -35,8 +36,9 @@ module _ {T : Type 0} where
   front-none c = let same : c ≡ c - 0 = omega arith in ap (λ (m : ℕ). empty m) same
 
 module _ {T A : Type 0} {b : Block T A} {a : A} (t : IsThin b a) where
-  -- if the slots of a list's block became `front xs c`, where xs are its items, the block is that
-  -- of a list with the same items and the capacity c
+  -- if the slots of a list's block became c slots, the first of which hold the items of the list,
+  -- and the others of which are empty, then the new block b' is that of a list with the same items
+  -- and the capacity c
   settle-remade : (b' : Block T A) (c : ℕ) {s : List (Option T)} {k : Cost}
       → seen b' ≡ record (seen b) { slots = s; alloc = Some a; cost = k }
       → s ≡ front (items_in b.slots) c → length (items_in b.slots) ≤ c
@@ -45,8 +47,8 @@ module _ {T A : Type 0} {b : Block T A} {a : A} (t : IsThin b a) where
       settled b' a (items_in b.slots) c (ap (λ v. v.slots) w ∙ e) (ap (λ v. v.len) w ∙ t.packed.len)
       room (λ x h. some-same (sym h ∙ ap (λ v. v.alloc) w))
 
-  -- after a growth to c slots that succeeded or failed, the block is that of a list with the same
-  -- items, and has at most c slots
+  -- whether a growth to c slots succeeded or failed, the new block b' is that of a list with the
+  -- same items, and has at most c slots
   pub settle-tried : {X E : Type 0} (r : Result X E) (b' : Block T A) (c : ℕ)
       → length b.slots < c
       → OnOk r (seen b' ≡ record (seen b) {
@@ -68,8 +70,8 @@ module _ {T A : Type 0} {b : Block T A} {a : A} (t : IsThin b a) where
     omega (arith, ap (λ (q : Block T A). length q.slots) same),
   )
 
-  -- after the block of a list shrank to its first k slots, and these hold all items, the block is
-  -- that of a list with the same items and the capacity k
+  -- after the block of a list shrank to its first k slots, and these hold all items, the new block
+  -- is that of a list with the same items and the capacity k
   pub settle-shrink : (b' : Block T A) (k : ℕ) {m : Cost} → length (items_in b.slots) ≤ k
       → k ≤ length b.slots
       → seen b' ≡ record (seen b) { slots = take k b.slots; alloc = Some a; cost = m }

@@ -1,5 +1,6 @@
--- What a block contains while clones are put into its spare slots, and after the list counts them;
--- and the items of a range of a list, read after more items were appended to the list.
+-- Lemmas about what a block contains while clones are put into its spare slots, and after the
+-- stored length includes these clones; and about the items of a range of a list, read after more
+-- items were appended to the list.
 use Rattle.std.proofs.Common.{◌≡◌, ◌+◌, ◌-◌, ◌<◌, ◌≤◌, [], ◌∷◌, ◌++◌, ◌∙◌, List, Option, Some, ap, append_assoc, arith, drop, get_or, length, refl, suc, sym, take, zero, ℕ}
 use Rattle.std.proofs.lemmas.List.{get_or-drop, get_or-take, get_or_append_left, length-drop, length-take-le, map_push, replicate-append-replicate}
 use Rattle.std.proofs.lemmas.List.Elements.{All-from_recursion, all_zip_more, length_all_zip, recursion_from_All}
@@ -16,14 +17,14 @@ use Rattle.thin_vec.proofs.ListLemmas.{length-full}
 
 module _ {T : Type 0} {clones : T → T → Type 0} {sources : List T} {n i : ℕ}
     {s s' : List (Option T)} (lays : LaysClones clones sources n i s s') where
-  -- if clones of the first n sources were laid, and there are at least n sources, there are n
+  -- if clones of the first n sources were written, and there are at least n sources, there are n
   -- clones
   pub length-copies : n ≤ length sources → length lays.copies ≡ n
   length-copies few = sym (length_all_zip clones (take n sources) lays.copies lays.cloned)
       ∙ length-take-le n sources few
 
-  -- if clones of the first n sources were laid, and a clone of the next source is put after them,
-  -- clones of the first n + 1 sources were laid
+  -- if clones of the first n sources were written, and a clone y of the next source is put after
+  -- them, then clones of the first n + 1 sources were written
   pub lays-more : (y : T) {x : T} {s'' : List (Option T)} → n < length sources
       → i + length sources ≤ length s → x ≡ get_or sources n x → clones x y
       → s'' ≡ set s' (i + n) (Some y) → LaysClones clones sources (n + 1) i s s''
@@ -44,7 +45,8 @@ pub all-repeated : {T : Type 0} (clones : T → T → Type 0) (x : T) (n m : ℕ
     → AllZip clones (take n (replicate m x)) ys → All (clones x) ys
 all-repeated {T} clones x n m ys cloned = All-from_recursion (clones x) ys (each n m ys cloned)
   where
-    -- `all-repeated`, by recursion over the items
+    -- if ys are clones of the first n of m repetitions of x, each of ys is a clone of x, stated by
+    -- recursion over ys
     each : (n m : ℕ) (ys : List T) → AllZip clones (take n (replicate m x)) ys
         → AllByRecursion (clones x) ys
     each zero m [] e = tt
@@ -69,12 +71,13 @@ module _ {T : Type 0} (clones : T → T → Type 0) where
       ∙ (append_assoc xs (replicate n x) (x ∷ []) ∙ ap (λ (l : List T). xs ++ l)
       (replicate-append-replicate n 1 x ∙ ap (λ k. replicate k x) (sym one))))
     where
-      -- clones of x, each of which equals x, are x repeated as often as there are clones
+      -- if every clone of x equals x, then clones ys of x are x repeated `length ys` times
       each : (ys : List T) → AllByRecursion (clones x) ys → ys ≡ replicate (length ys) x
       each [] e = refl
       each (y ∷ ys) e = λ i. equal y e.0 i ∷ each ys e.1 i
 
--- the capacity that a new list gets in order to have the length k is the ruled capacity for k items
+-- for a new list v that needs room to reach the length k, the rule chooses the same capacity as for
+-- k items and the old capacity 0
 pub capacity-new : {T A : Type 0} (rule : Rule) (R : RattleType) (v : Thin T A) (a : A) (k : ℕ)
     → IsNew v a → capacity_for rule R v (k - length v.items) ≡ ruled_capacity rule R 0 k
 capacity-new rule R v a k new =
@@ -83,7 +86,7 @@ capacity-new rule R v a k new =
     (let e : length v.items + (k - length v.items) ≡ k = omega (arith, ap length new.items) in
     e)
 
--- if P does not hold for the item at index i, P does not hold for every item of xs
+-- if P does not hold for the item at index i, it is false that P holds for all items of xs
 pub not-all : {X : Type 0} (P : X → Type 0) (xs : List X) (i : ℕ) → i < length xs
     → HoldsAt (λ x. ¬ (P x)) xs i → All P xs → ⊥
 not-all P [] i low never all = absurd (omega arith)
@@ -93,7 +96,7 @@ not-all P (x ∷ xs) i low never all = never x (all i x low)
 pub ruleset new_lists = (capacity-new)
 
 module _ {T : Type 0} (xs : List T) (a b : ℕ) (within : b ≤ length xs) where
-  -- the range `a..b` has b - a items
+  -- the range `a..b` of xs has b - a items
   pub length-range : length (slice_range xs a b) ≡ b - a
   length-range = length-take-le (b - a) (drop a xs) (omega (arith, length-drop a xs))
 

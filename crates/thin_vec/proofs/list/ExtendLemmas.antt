@@ -1,5 +1,5 @@
--- What calls of `next` yielded, and what the block and the list contain after the yielded items
--- were placed.
+-- Lemmas about what calls of `next` yielded, and about what the block and the list contain after
+-- the yielded items were placed.
 use Rattle.std.proofs.Common.{true, ◌≡◌, ℕ, ◌+◌, ◌-◌, ◌<◌, ◌≤◌, List, [], ◌∷◌, ◌++◌, inl, inr, length, length-append, Option, None, Some, refl, sym, ap, subst, ◌∙◌, arith, false}
 use Rattle.std.proofs.lemmas.Bool.{cases_lt}
 use Rattle.std.proofs.lemmas.List.{map-append}
@@ -29,14 +29,15 @@ use Rattle.thin_vec.proofs.ListLemmas.{length-full}
 use Rattle.thin_vec.proofs.ThinVecLemmas.{cap-kept, cost_at-more, cost_at-moves, cost_at-same}
 
 module _ {S X : Type 0} (steps : S → Option X → S → Type 0) where
-  -- if calls of `next` yielded xs, and one more call yielded x, then all of them yielded xs
+  -- if calls of `next` yielded xs, and one more call yielded x, then all these calls yielded xs
   -- followed by x
   pub yields-more : (s t u : S) (xs : List X) (x : X) → Yields steps s xs t → steps t (Some x) u
       → Yields steps s (xs ++ x ∷ []) u
   yields-more s t u [] x e now = (u, subst (λ r. steps r (Some x) u) (sym e) now, λ _. u)
   yields-more s t u (y ∷ ys) x e now = (e.0, e.1, yields-more e.0 t u ys x e.2 now)
 
-  -- if calls of `next` yielded xs, and later calls ys, then all of them yielded xs followed by ys
+  -- if calls of `next` yielded xs, and later calls yielded ys, then all these calls yielded xs
+  -- followed by ys
   pub yields-join : (s t u : S) (xs ys : List X) → Yields steps s xs t → Yields steps t ys u
       → Yields steps s (xs ++ ys) u
   yields-join s t u [] ys e more = subst (λ r. Yields steps r ys u) (sym e) more
@@ -55,7 +56,8 @@ module _ {S X : Type 0} (steps : S → Option X → S → Type 0) where
       → WholeRun steps s (λ p. P p.items)
   run_of s P all = (run steps s all.0 true (to_end steps s all.0 all.1), refl, refl, all.2)
 
-  -- `run_of` for the result r of a call: the whole run exists if r is `Ok`
+  -- if it follows from r being `Ok` that calls of `next` yielded items for which P holds, and then
+  -- `None`, it also follows that these calls form a whole run (`WholeRun`)
   pub run_of_ok : {E : Type 0} (s : S) (P : List X → Type 0) (r : Result (Unit {0}) E)
       → OnOk r ((xs : List X) × Drains steps s xs × P xs)
       → OnOk r (WholeRun steps s (λ p. P p.items))
@@ -63,16 +65,16 @@ module _ {S X : Type 0} (steps : S → Option X → S → Type 0) where
   run_of_ok s P (Err _) all = tt
 
 module _ {S X : Type 0} (steps : S → Option X → S → Type 0) (s : S) where
-  -- if calls of `next` yielded the items xs and then the item in o, if there is one, they are a run
-  -- of the iterator
+  -- if calls of `next` yielded the items xs and then the item in o, if there is one, these calls
+  -- are a run of the iterator (`SomeRun`)
   pub run_given : (xs : List X) (o : Option X) (t : S) (P : List X → Type 0)
       → Yields steps s (xs ++ option_to_list o) t → P (xs ++ option_to_list o)
       → SomeRun steps s (λ p. P p.items)
   run_given xs o t P gave h =
       (run steps s (xs ++ option_to_list o) false (t, gave, λ e. absurd (false≢true e)), refl, h)
 
-  -- if the result is an error, and calls of `next` yielded the placed items and the item in hand,
-  -- these are a run of the iterator
+  -- if a result is an error, and calls of `next` yielded the placed items and then the item in
+  -- hand, if there is one, these calls are a run of the iterator (`SomeRun`)
   pub run_given_err : {E : Type 0} (can : S → Type 0) (remaining : S → Count)
       (hand : E → Option X) (rest : E → S) (P : List X → Type 0) (r : Result (Unit {0}) E)
       → IfErr r (λ e. (xs : List X) × P xs
@@ -91,7 +93,7 @@ pub match-some : {X : Type 0} (P Q : Type 0) (o : Option X) → IsSome o → P
 match-some P Q (Some x) some p = p
 match-some P Q None some p = absurd (false≢true some)
 
--- no option has a value and is `None`
+-- an option that has a value is not `None`
 pub hand-empty : {X : Type 0} {o : Option X} → IsSome o → o ≡ None → ⊥
 hand-empty some none = false≢true (subst IsSome none some)
 
@@ -106,7 +108,8 @@ full-in-hand P Q (Err error) some at_capacity =
 
 module _ {T : Type 0} where
   module _ (s s' r : List (Option T)) where
-    -- if xs were laid from the slot i on, writing x into the slot after them lays xs followed by x
+    -- if xs was written from the slot i on, and x is written into the slot after xs, then xs
+    -- followed by x was written from the slot i on
     pub laid-more : (i k : ℕ) (xs : List T) (x : T) → s ≡ laid i (full xs) r → k ≡ i + length xs
         → k < length r → s' ≡ set s k (Some x) → s' ≡ laid i (full (xs ++ x ∷ [])) r
     laid-more i k xs x e at within e' =
@@ -137,8 +140,8 @@ module _ {T A : Type 0} where
         ∙ (moving-more 1 n u.cost ∙ ap (λ (m : ℕ). moving m u.cost) (sym one)))) i;
   }
 
--- if w is v with xs appended and one more move for each of xs, then w is v with the items of w, and
--- with as many more moves as w has more items than v
+-- if w is v with xs appended at the cost of one move for each of xs, then w differs from v only in
+-- its items and in its moves, which increased by the number of items appended
 pub spare-kept : {T A : Type 0} (v w : Thin T A) (xs : List T)
     → w ≡ record v { items = v.items ++ xs; cost = moving (length xs) v.cost }
     → w ≡ record v
@@ -171,8 +174,8 @@ module _ (rule : Rule) (R : RattleType) (law : KeepsLaw rule) where
   ruled-more c n m same more (inr p) =
       inr (p.0, p.1, p.2, omega (arith, p.3, more), p.4 ∙ ap Some (sym same))
 
-  -- if the capacity e satisfies `IsKeptOrRuled` after d, then it satisfies it after c, or e is d,
-  -- and then P holds
+  -- if the capacity e satisfies `IsKeptOrRuled` after the capacity d, and P holds if e is d, then e
+  -- satisfies `IsKeptOrRuled` after the capacity c, or P holds
   pub ruled-after : (c d e n : ℕ) (P : Type 0) → IsKeptOrRuled rule R d e n → (e ≡ d → P)
       → IsKeptOrRuled rule R c e n ⊎ P
   ruled-after c d e n P (inl same) f = inr (f same)
@@ -212,7 +215,8 @@ module _ {T A : Type 0} where
         (omega (arith, ap (λ c. c.blocks) f), omega (arith, ap (λ c. c.grown) f));
   }
 
-  -- if v only grew, and no item was appended, v and w satisfy `CostsAdding`
+  -- if the list v became w by at most a growth, and no item was appended, v and w satisfy
+  -- `CostsAdding`
   pub filled-reserved : (v w : Thin T A) → w.cost ≡ cost_at v w.capacity
       → w.items ≡ v.items
       → (cost_at v w.capacity).grown + v.capacity ≤ v.cost.grown + w.capacity → CostsAdding v w 0
@@ -238,8 +242,9 @@ module _ {T A : Type 0} where
       filled-at v w k (ap (λ u. u.cost) e ∙ ap (λ c. moving k c) (sym kept)) n
       (omega (arith, ap (λ c. c.grown) kept, same))
 
-  -- if v and u satisfy `CostsAdding` with m other moves, and u and w with n, then v and w do with
-  -- k, provided that m + n ≤ k, no capacity shrinks, and u has at least as many items as v
+  -- if v and u satisfy `CostsAdding` with m other moves, and u and w satisfy it with n other moves,
+  -- then v and w satisfy it with k other moves, provided that m + n ≤ k, no capacity shrinks, and u
+  -- has at least as many items as v
   pub adding-join : {v u w : Thin T A} (m n k : ℕ) → m + n ≤ k → CostsAdding v u m
       → CostsAdding u w n → v.capacity ≤ u.capacity → u.capacity ≤ w.capacity
       → length v.items ≤ length u.items → CostsAdding v w k
@@ -262,7 +267,7 @@ module _ {T A : Type 0} where
     ];
   }
 
-  -- if v and w satisfy `CostsAdding` with no other move, they do with n other moves
+  -- if v and w satisfy `CostsAdding` with no other move, they satisfy it with n other moves
   pub adding-more : (v w : Thin T A) (n : ℕ) → CostsAdding v w 0 → CostsAdding v w n
   adding-more v w n p = record {
     copied = p.copied;

@@ -1,4 +1,5 @@
--- What a block contains while items are removed from it, or moved within it, and afterwards.
+-- Lemmas about what a block contains while items are removed from it or moved within it, and
+-- afterwards.
 use Rattle.thin_vec.proofs.list.CapacityLemmas.{front-none}
 use Rattle.std.proofs.Common.{◌≡◌, ◌≢◌, ℕ, zero, suc, ◌+◌, ◌-◌, ◌<◌, ◌≤◌, List, [], ◌∷◌, ◌++◌, length, take, drop, Option, Some, None, refl, sym, ap, ◌∙◌, subst, arith, get_or, length-append, append_assoc}
 use Rattle.std.proofs.Math.Seq.{drop-length, take-append_seam}
@@ -41,14 +42,15 @@ module _ {T : Type 0} where
       (replicate-append-replicate 1 (c - length xs) None
       ∙ ap (λ (z : ℕ). replicate z None) m))))
 
-  -- the items of xs from i on move up one slot, to make room for one item at i
+  -- in this module, the items of xs from index i on move up by one slot, to make room for one item
+  -- at i
   module _ (xs : List T) (c i : ℕ) {j k : ℕ} (h : i ≤ length xs) (l : length xs < c) (e : j ≡ i + 1)
       (n : k ≡ length xs - i) where
-    -- the slots after the room for the item
+    -- the slots after the empty slot i, once the items from index i on have moved up
     after : List (Option T)
     after = full (drop i xs) ++ replicate (c - length xs - 1) None
 
-    -- there are i slots before the room for the item
+    -- the items before index i fill i slots
     before : i ≡ length (full (take i xs))
     before = omega (arith, length-full (take i xs), length-take i xs)
 
@@ -70,7 +72,8 @@ module _ {T : Type 0} where
         ap (λ (ys : List (Option T)). moved i j k ys) s
         ∙ moved_right i j k 1 (full a) (full b) r before e q
 
-    -- if v is then written into the slot i, the slots are those of the list with v inserted at i
+    -- if v is written into the slot i after the items from index i on have moved up, the slots are
+    -- those of the list with v inserted at i
     pub front-insert : (v : T)
         → set (moved i j k (front xs c)) i (Some v) ≡ front (insert xs i v) c
     unfolding after
@@ -84,7 +87,7 @@ module _ {T : Type 0} where
         ∙ (ap (λ (ys : List (Option T)). ys ++ r) (sym (map-append (λ (y : T). Some y) a (v ∷ b)))
         ∙ ap (λ (z : ℕ). full (insert xs i v) ++ replicate z None) m)))
 
-    -- before the item is written, its slot i is empty
+    -- after the items from index i on have moved up, the slot i is empty
     front-gap : slot (moved i j k (front xs c)) i ≡ None
     front-gap =
         ap (λ (ys : List (Option T)). slot ys i) apart
@@ -92,7 +95,7 @@ module _ {T : Type 0} where
 
 module _ {T A : Type 0} {b : Block T A} {a : A} (t : IsThin b a) where
   -- if the slot of the item at i was emptied, the later items were moved down by one slot, and the
-  -- stored length was decremented, the block is that of the list without this item
+  -- stored length was decremented, the new block is that of the list without this item
   pub settle-remove : (b' : Block T A) (i : ℕ) {j k : ℕ} → i < length (items_in b.slots)
       → j ≡ i + 1 → k ≡ b.len - j → {l : ℕ} {m : Cost} → l ≡ b.len
       → IsWritten b b' (moved j i k (set b.slots i None)) (l - 1) m
@@ -106,7 +109,7 @@ module _ {T A : Type 0} {b : Block T A} {a : A} (t : IsThin b a) where
       (omega (arith, thin-room b a t, length-remove xs i h))
 
   -- if the items from i on were moved up by one slot, v was written into the slot i, and the stored
-  -- length was incremented, the block is that of the list with v inserted at i
+  -- length was incremented, the new block is that of the list with v inserted at i
   pub settle-insert : (b' : Block T A) (i : ℕ) (v : T) {j k : ℕ} → i ≤ length (items_in b.slots)
       → b.len < length b.slots → j ≡ i + 1 → k ≡ b.len - i → {l : ℕ} {m : Cost} → l ≡ b.len
       → IsWritten b b' (set (moved i j k b.slots) i (Some v)) (l + 1) m
@@ -130,12 +133,13 @@ module _ {T A : Type 0} {b : Block T A} {a : A} (t : IsThin b a) where
 -- ---- removal of items
 
 module _ {T : Type 0} where
-  -- c slots that held xs, after the slots from k up to i were emptied
+  -- `emptying xs k i c` is the row of c slots that held xs, after the slots from k up to i were
+  -- emptied
   abbrev pub emptying : List T → ℕ → ℕ → ℕ → List (Option T)
   emptying xs k i c =
       full (take k xs) ++ (empty (i - k) ++ (full (drop i xs) ++ empty (c - length xs)))
 
-  -- the items from i on are the item at i and those after it
+  -- the items of xs from index i on are the item at i, followed by the items after it
   item-at : (xs : List T) (i : ℕ) → i < length xs → (x : T) × (drop i xs ≡ x ∷ drop (i + 1) xs)
   item-at [] i h = absurd (omega arith)
   item-at (x ∷ xs) zero h = (x, refl)
@@ -147,7 +151,7 @@ module _ {T : Type 0} where
             e),
       )
 
-  -- the filled slots of xs followed by ys are those of xs, followed by those of ys
+  -- the row `full (xs ++ ys)` is the row `full xs`, followed by the row `full ys`
   pub full-append : (xs ys : List T) → full (xs ++ ys) ≡ full xs ++ full ys
   full-append xs ys = map-append (λ (x : T). Some x) xs ys
 
@@ -192,7 +196,7 @@ module _ {T : Type 0} where
         ∙ sym (append_assoc (full (take k xs)) (empty (i - k))
         (Some r.0 ∷ (full (drop (i + 1) xs) ++ empty (c - length xs))))
 
-    -- the next slot to be emptied, i, is filled
+    -- the next slot to be emptied, the slot i, is filled
     pub emptying-filled : IsSome (slot (emptying xs k i c) i)
     emptying-filled = rw (ap (λ (s : List (Option T)). slot s i) split
         ∙ get_or_at pre (Some (item-at xs i bound).0) post None i length-pre) refl
@@ -256,7 +260,7 @@ module _ {T : Type 0} where
       ∙ ap (λ (l : List T). front l c) (sym cut))))
 
 module _ {T A : Type 0} where
-  -- if all slots were emptied, and the stored length is 0, the block is that of a list with no
+  -- if all slots were emptied, and the stored length is 0, the new block is that of a list with no
   -- items and the same capacity
   pub settle-emptied : {b : Block T A} {a : A} → IsThin b a → (b' : Block T A)
       {s : List (Option T)} {m : Cost} → IsWritten b b' s 0 m → s ≡ empty (length b.slots)
@@ -266,8 +270,8 @@ module _ {T A : Type 0} where
 
   module _ {b : Block T A} {a : A} (t : IsThin b a) (b' : Block T A) (i last : ℕ) where
     -- if the item at i, which is not the last, and the last item were taken out, the last one was
-    -- written into the slot i, and the stored length was decremented, the block is that of the list
-    -- after `swap_remove`
+    -- written into the slot i, and the stored length was decremented, the new block is that of the
+    -- list after `swap_remove`
     settle-swap_remove : (v : T) {m : T} → i < last → last + 1 ≡ b.len → slot b.slots last ≡ Some m
         → {k : Cost} → IsWritten b b' (set (set (set b.slots i None) last None) i (Some m)) last k
         → Settled b' a (swap_remove (items_in b.slots) i v) (length b.slots)
@@ -307,7 +311,7 @@ module _ {T A : Type 0} where
             )
 
     -- if the content of the last filled slot was moved into the slot i, which may be the same slot,
-    -- and the stored length was decremented, the block is that of the list after `swap_remove`
+    -- and the stored length was decremented, the new block is that of the list after `swap_remove`
     pub settle-replaced : (v : T) → i ≤ last → last + 1 ≡ b.len → slot b.slots i ≡ Some v
         → {k : Cost} → IsWritten b b' (set (set b.slots i (slot b.slots last)) last None) last k
         → Settled b' a (swap_remove (items_in b.slots) i v) (length b.slots)

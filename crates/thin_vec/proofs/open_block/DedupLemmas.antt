@@ -1,5 +1,5 @@
--- What a contract sees of an open block after two of its items were tested against each other, step
--- by step.
+-- Lemmas about what a contract sees of an open block after two of its items were tested against
+-- each other, step by step.
 use Rattle.std.proofs.Common.{◌≡◌, ◌≢◌, ℕ, zero, suc, ◌+◌, ◌-◌, ◌<◌, ◌≤◌, List, [], ◌∷◌, ◌++◌, Option, Some, None, length, take, drop, refl, sym, ap, ◌∙◌, arith, length-append, append_assoc, get_or}
 use Rattle.std.proofs.lemmas.List.{drop_at, get_or_at, get_or-set_other, length-drop, length-take-le, length_push, set_at, take_at}
 use Rattle.std.specs.Prelude.{IsSome, slice_range}
@@ -22,7 +22,7 @@ use Rattle.thin_vec.proofs.open_block.SiftLemmas.{row-at, same-past, write-step,
 module _ {T : Type 0} where
   -- ---- two neighbouring items
 
-  -- writing no items over slots does not change them
+  -- writing no items over the slots s does not change s
   over-none : (s : List (Option T)) → over s 0 [] ≡ s
   over-none [] = refl
   over-none (None ∷ s) = refl
@@ -54,8 +54,8 @@ module _ {T : Type 0} where
       let h = neighbours s i k x k' x' e in
       record { first = h.first; second = h.second; now = ap (λ (r : List (Option T)). p ∷ r) h.now }
 
-  -- the slice of the two items from the slot i on is cut into two slices of one item each, `a` and
-  -- `b`
+  -- in this module, the slice `all` of the two items from the slot i on is cut into two slices of
+  -- one item each, `a` and `b`
   module _ (s : List (Option T)) (i : ℕ) (all a b : List T) (within : i + 2 ≤ length s)
       (lent : full all ≡ slice_range s i (i + 2)) (cut : all ≡ a ++ b) (one : length a ≡ 1) where
     -- if the item of `a` is k and that of `b` is x, then `Neighbours` holds, and writing k' into
@@ -89,8 +89,8 @@ module _ {T : Type 0} where
 module _ {T A : Type 0} where
   -- ---- open blocks
 
-  -- x and y, the items at k and k + 1 of the middle run, were overwritten by x' and y', and
-  -- contracts see the block as h with x' and y' in their place
+  -- the items x and y, at the indices k and k + 1 of the middle run, were overwritten by x' and y',
+  -- and contracts see the block b as h with x' and y' in place of x and y
   pub record WrittenTwo (h : Inside T A) (o : IsOpen h) (k : ℕ) (b : Block T A)
       (x y x' y' : T) : Type 0 where
     pub pre : List T
@@ -165,8 +165,8 @@ module _ {T A : Type 0} where
           };
         }
 
-  -- x, the last item of the front, was overwritten by y, and contracts see the block as h with y in
-  -- its place
+  -- x, the last item of the front, was overwritten by y, and contracts see the block b as h with y
+  -- in place of x
   pub record WrittenLast (h : Inside T A) (b : Block T A) (x y : T) : Type 0 where
     pub pre : List T
     pub was : (open_of h).front ≡ pre ++ x ∷ []

@@ -1,6 +1,6 @@
--- What a contract sees of an open block after an item of its middle run was tested, and after the
--- first items of its middle run were moved to the front. Throughout, h is an open block as it is
--- stored.
+-- Lemmas about what a contract sees of an open block after an item of its middle run was tested,
+-- and after the first items of its middle run were moved to the front. Throughout, h is an open
+-- block as it is stored.
 use Rattle.std.proofs.Common.{◌≡◌, ℕ, zero, suc, ◌+◌, ◌-◌, ◌<◌, ◌≤◌, List, [], ◌∷◌, ◌++◌, Option, Some, None, length, take, drop, refl, sym, ap, ◌∙◌, arith, length-append, append_assoc}
 use Rattle.std.proofs.lemmas.List.{get_or_at, length-drop, length-take-le, set_at, take-append-drop}
 use lib.ListN.{set}
@@ -28,8 +28,8 @@ split-at (x ∷ xs) (suc k) low =
     (x ∷ p.0, p.1, p.2, ap suc p.3, ap (λ l. x ∷ l) p.4)
 
 module _ {T : Type 0} where
-  -- in a row that contains the items pre, x and post, the slot of x may be written apart from the
-  -- others
+  -- a row that contains the items pre, x and post consists of the slots before x, the slot of x,
+  -- and the slots after x
   pub row-at : (a : List (Option T)) (pre : List T) (x : T) (post : List T) (z : List (Option T))
       → a ++ (full (pre ++ x ∷ post) ++ z) ≡ (a ++ full pre) ++ (Some x ∷ (full post ++ z))
   row-at a pre x post z =
@@ -46,11 +46,11 @@ module _ {T A : Type 0} where
 
   module _ (h : Inside T A) (o : IsOpen h) (b : Block T A) (k : ℕ)
       (low : k < length (open_of h).rest) where
-    -- what a contract sees of h
+    -- what a contract sees of the open block before the item was overwritten
     abbrev v : Open T A
     v = open_of h
 
-    -- the block after the item at k of the middle run was overwritten
+    -- the open block after one item of its middle run was overwritten
     abbrev pub written : Inside T A
     written = record {
       block = b;
@@ -61,11 +61,12 @@ module _ {T A : Type 0} where
       len = h.len;
     }
 
-    -- what a contract sees of `written`, where ys is its middle run
+    -- `written-seen ys` is what a contract sees of `written` if ys is the middle run of `written`
     abbrev pub written-seen : List T → Open T A
     written-seen ys = record v { rest = ys }
 
-    -- x was the item at k of the middle run, and contracts see `written` as h with y in place of x
+    -- x was the item that was overwritten, and contracts see `written` as the old open block with y
+    -- in place of x
     pub record Written (x y : T) : Type 0 where
       pub pre : List T
       pub post : List T
@@ -73,8 +74,8 @@ module _ {T A : Type 0} where
       pub was : v.rest ≡ pre ++ x ∷ post
       pub shown : Found written (written-seen (pre ++ y ∷ post))
 
-    -- if the slot of the item at k of the middle run held x, and y was written into it,
-    -- `Written x y` holds
+    -- if the slot of the item at index k of the middle run held x, and y was written into this
+    -- slot, `Written x y` holds
     pub write-step : (x y : T) → slot h.block.slots (h.rest_start + k) ≡ Some x
         → seen b ≡ record (seen h.block)
         { slots = set h.block.slots (h.rest_start + k) (Some y) } → Written x y
@@ -133,13 +134,14 @@ module _ {T A : Type 0} where
               (ap (λ (z : Seen T A). z.cost) now);
         }
 
-  -- the first k items of the middle run are moved to the end of the front
+  -- in this module, the first k items of the middle run are moved to the end of the front
   module _ (h : Inside T A) (o : IsOpen h) (k : ℕ) (low : k ≤ length (open_of h).rest) where
-    -- what a contract sees of h
+    -- what a contract sees of the open block before the move
     abbrev u : Open T A
     u = open_of h
 
-    -- the block b after the first k items of the middle run were moved
+    -- `moved_run b` is the open block with the memory of b, after the first items of the middle run
+    -- became the last items of the front
     abbrev pub moved_run : Block T A → Inside T A
     moved_run b = record {
       block = b;
@@ -150,14 +152,14 @@ module _ {T A : Type 0} where
       len = h.len;
     }
 
-    -- what a contract sees of `moved_run b`: the first k items of the middle run are now the last
-    -- items of the front
+    -- `moved_run-seen b` is what a contract sees of `moved_run b`: the first items of the middle
+    -- run are now the last items of the front
     abbrev pub moved_run-seen : Block T A → Open T A
     moved_run-seen b = record u
         { front = u.front ++ take k u.rest; rest = drop k u.rest; cost = b.cost }
 
-    -- if the slots of b are the front, the first k items of the middle run, the gap, and the rest
-    -- of the slots, contracts see `moved_run b` as `moved_run-seen b`
+    -- if the slots of b are the front, the moved items, the gap, and the other slots, contracts see
+    -- `moved_run b` as `moved_run-seen b`
     moved_run-shows : (b : Block T A)
         → b.slots ≡ full u.front
         ++ (full (take k u.rest) ++ (empty u.gap ++ (full (drop k u.rest) ++ past_rest u)))
@@ -189,7 +191,8 @@ module _ {T A : Type 0} where
         })
         alloc refl
 
-    -- the slots from the middle run on are those of its first k items, and those after them
+    -- the slots from the middle run on are the slots of its first k items, followed by the slots
+    -- after these
     cut : full u.rest ++ past_rest u ≡ full (take k u.rest) ++ (full (drop k u.rest) ++ past_rest u)
     cut =
         ap (λ (l : List T). full l ++ past_rest u) (sym (take-append-drop k u.rest))
@@ -197,14 +200,13 @@ module _ {T A : Type 0} where
         (full-append (take k u.rest) (drop k u.rest)) ∙ append_assoc (full (take k u.rest))
         (full (drop k u.rest)) (past_rest u))
 
-    -- the slots of h are the front, the gap, the first k items of the middle run, and the rest of
-    -- the slots
+    -- the slots of h are the front, the gap, the items to be moved, and the other slots
     parted : h.block.slots ≡ full u.front
         ++ (empty u.gap ++ (full (take k u.rest) ++ (full (drop k u.rest) ++ past_rest u)))
     parted = o.row ∙ ap (λ (r : List (Option T)). full u.front ++ (empty u.gap ++ r)) cut
 
-    -- if there is no gap after the front, the first k items of the middle run join the front
-    -- without a move
+    -- if there is no gap after the front, the first items of the middle run join the front without
+    -- a move
     pub pass-step : u.gap ≡ 0 → Found (moved_run h.block) (moved_run-seen h.block)
     pass-step none =
         moved_run-shows h.block
@@ -214,8 +216,8 @@ module _ {T A : Type 0} where
         ++ (full (take k u.rest) ++ (empty n ++ (full (drop k u.rest) ++ past_rest u))))
         (sym none))) refl
 
-    -- if the slots of the first k items of the middle run were moved to the end of the front,
-    -- contracts see `moved_run b` as `moved_run-seen b`
+    -- if the first items of the middle run were moved to the end of the front, contracts see
+    -- `moved_run b` as `moved_run-seen b`
     pub move_run_down-step : (b : Block T A) {c : Cost}
         → seen b ≡ record (seen h.block)
         { slots = moved h.rest_start h.front_end k h.block.slots; cost = c }
@@ -229,7 +231,7 @@ module _ {T A : Type 0} where
         (full (drop k u.rest) ++ past_rest u) (sym (length-full u.front ∙ o.front))
         (sym o.gap) (sym few))) (ap (λ (z : Seen T A). z.alloc) now)
 
-  -- if the first item x of the middle run was taken out of its slot and written into the first slot
+  -- if the first item of the middle run was taken out of its slot and written into the first slot
   -- after the front, contracts see `moved_run b` for one item as `moved_run-seen b`
   pub move_one_down-step : (h : Inside T A) (o : IsOpen h) (some : 1 ≤ length (open_of h).rest)
       → 0 < (open_of h).gap → (b : Block T A) {x : T} {c : Cost}

@@ -1,5 +1,5 @@
--- The items for which there was room are pushed after the held ones. The item for which there was
--- no room is the next one.
+-- Each turn of the loop pushes the next item, and then the items for which the vector has spare
+-- capacity. The item that `draw_spare` draws after these is the next item of the following turn.
 use Rattle.std.proofs.Common.{[], ◌++◌, ◌∷◌, ◌∙◌, ap, arith, length, refl, subst}
 use Rattle.std.proofs.lemmas.List.{append-nil, length_push}
 use Rattle.std.specs.Iterator.{YieldsThen}

@@ -1,4 +1,4 @@
--- The next item is pushed after the items that were drawn before.
+-- Each turn of the loop pushes the next item of the iterator after the items drawn before it.
 use Rattle.std.proofs.Common.{◌∷◌, ◌++◌, [], ◌∙◌, ap, append_assoc, arith, length}
 use Rattle.std.proofs.lemmas.List.{length_push}
 use Rattle.thin_vec.proofs.list.ExtendLemmas.{yields-more}

@@ -1,5 +1,5 @@
 -- `append` reserves room for `other.len()` more items, and `other.len()` is the number of items of
--- `other`. So the capacity and the error of `append` are those of `reserve` for that number.
+-- `other`. So its capacity and its error are those of a call of `reserve` for this number.
 use Rattle.std.proofs.Common.{Ok, arith, ap, sym, ◌∙◌}
 use denote.Param.{param}
 use Rattle.thin_vec.specs.ThinVec.{capacity_for}

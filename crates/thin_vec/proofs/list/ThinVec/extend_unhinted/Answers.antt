@@ -1,4 +1,5 @@
--- A turn of the loop appends the items that fill the spare capacity, and pushes one item more.
+-- Each turn of the loop appends the items that `extend_reserved` moves into the spare capacity, and
+-- then pushes the item that it returned, if there is one.
 use Rattle.std.proofs.lemmas.Grind.{common_steps}
 use Rattle.std.proofs.Common.{Err, ◌++◌, ◌∷◌, [], ◌-◌, ◌∙◌, ap, arith, append_assoc, length, length-append, refl, subst, sym, ◌+◌, inr}
 use Rattle.std.proofs.lemmas.List.{length_push}

@@ -1,4 +1,5 @@
--- The placed items lie after the front, and the tail moves if the gap is not full.
+-- `fill` puts the items that the iterator yields directly after the front. Then `close` moves each
+-- item of the tail once if the gap is not full, and no item if it is.
 use Rattle.std.proofs.Common.{◌≡◌, ◌-◌, ◌++◌, ◌∙◌, ap, arith, length, length-append}
 use Rattle.thin_block.specs.Cost.{moving}
 use Rattle.thin_vec.proofs.PutLemmas.{filled-fits}

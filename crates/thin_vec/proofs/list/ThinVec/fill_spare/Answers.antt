@@ -1,4 +1,5 @@
--- The items that the iterator yielded lie after the others, and the stored length counts all.
+-- `put_iter` puts the items that the iterator yields directly after the items of the list. Then
+-- `set_len` stores the new length, which includes them.
 use Rattle.thin_block.proofs.BlockLemmas.{slots-are, then-len}
 use Rattle.std.proofs.lemmas.Grind.{common_steps}
 use Rattle.std.proofs.Common.{◌++◌, ◌-◌, ◌≡◌, ◌∙◌, ap, arith, length, length-append}
@@ -11,7 +12,8 @@ use Rattle.thin_vec.proofs.PutLemmas.{filled-fits, filled-room}
 use Rattle.thin_vec.proofs.ThinVecLemmas.{within-kept}
 use Rattle.thin_vec.proofs.list.ThinVec.fill_spare.Goals as goal
 
--- the block that was put back is the old block with the new items
+-- the block that was put back is the old block with the yielded items in the slots after the old
+-- items
 stored : (g : _) (c : goal.After-set_len g) → seen c.replace-none.new.dest
     ≡ record (seen c.self.inside.block) {
       slots = laid c.len-len.result (full c.put_iter-block.ensures.filled.0.items)
@@ -45,7 +47,7 @@ facts g c =
     put.2
     (then-len c.set_len.ensures.changes (stored g c))
 
--- the end that the loop returns is the number of items
+-- the `end` that `put_iter` returns is the new number of items of the list
 ends : (g : _) (c : goal.After-set_len g) → c.put_iter-block.result.1.end
     ≡ length (items_in c.set_len.new.self.slots)
 ends g c =

@@ -1,5 +1,5 @@
--- If there is no tail, the closed list is what is left of the block, and the clauses of `extend`
--- give the rest.
+-- There is no tail, so `close` makes the list out of the front alone, and `extend` appends the
+-- items of the iterator. The clauses follow from the contracts of these two steps.
 use Rattle.std.proofs.Common.{◌≡◌, ◌*◌, ◌++◌, ◌∙◌, ap, arith, length, length-append, refl, subst, sym}
 use Rattle.std.specs.Iterator.{size}
 use Rattle.std.specs.Prelude.{MatchOption}
@@ -15,14 +15,14 @@ use Rattle.thin_vec.specs.declared.errors.SpliceRefused.{SpliceRefused}
 use Rattle.thin_vec.proofs.list.ThinVec.finish_at_end.Goals.{After-extend}
 use Rattle.thin_vec.proofs.list.ThinVec.finish_at_end.Goals as goal
 
--- the closed list is what is left of the block
+-- after `close`, the list is what is left of the open block (`left_of`)
 left : (g : _) (c : After-extend g)
     → c.close.new.self ≡ left_of c.args.block c.args.self.now.alloc
 left g c =
     c.close.ensures.changes
     ∙ closed-left c.args.block c.args.self.now c.requires.none c.requires.no_tail
 
--- `extend` has taken the items of the iterator into what is left of the block
+-- what is left of the open block and the list after `extend` satisfy `HasTaken`
 taken : (g : _) (c : After-extend g)
     → HasTaken g.G.Growth.rule (param 0 g.row.T) (left_of c.args.block c.args.self.now.alloc)
     c.extend.new.self (2 * length c.args.block.tail) (g.I.Iterator.remaining c.args.iter)
@@ -38,7 +38,7 @@ taken g c =
     } in
     subst (λ z. HasTaken g.G.Growth.rule (param 0 g.row.T) z w n more) (left g c) now
 
--- the capacity is ruled as `extend` states it for what is left of the block
+-- the capacity after `extend` satisfies `IsExtended` for what is left of the open block
 ruled : (g : _) (c : After-extend g)
     → IsExtended g.G.Growth.rule (param 0 g.row.T) (left_of c.args.block c.args.self.now.alloc)
     c.extend.new.self.capacity (length c.extend.new.self.items)

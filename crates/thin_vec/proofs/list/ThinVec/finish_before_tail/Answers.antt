@@ -1,5 +1,7 @@
--- The gap is filled, then the room that the size hint asked for, and then the collected items are
--- inserted: each of the four ways to return gives what `IsFinished` states.
+-- `fill_gap` fills the gap, `insert_hinted` inserts as many items as the size hint says, and
+-- `insert_held` inserts the remaining items. `IsFinished` holds in each of four cases: the iterator
+-- ends in the first step, it ends in the second step, the second step fails, or the third step
+-- returns the result.
 use Rattle.std.proofs.Common.{[], Err, None, Ok, Some, inl, inr, ◌-◌, ◌*◌, ◌∙◌, ap, arith, length, refl, subst, sym}
 use denote.Param.{param}
 use Rattle.thin_vec.specs.Edits.Finish.{HasTaken}

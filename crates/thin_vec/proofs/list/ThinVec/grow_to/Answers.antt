@@ -1,5 +1,5 @@
--- If the growth succeeds, the items lie at the front of a larger block. If the allocator fails,
--- they lie at the front of the old block.
+-- If the growth succeeds, the items lie at the front of a larger block. If the allocator fails, the
+-- items lie at the front of the old block.
 use Rattle.std.proofs.Common.{◌≤◌, ap, ◌∙◌, arith, length, refl}
 use denote.Param.{param}
 use Rattle.thin_block.specs.Slots.{items_in}

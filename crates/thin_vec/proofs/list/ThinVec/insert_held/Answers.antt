@@ -1,4 +1,6 @@
--- The items that were drawn are held, and are then inserted, or are returned with the cause.
+-- `draw` collects the items of the iterator in a vector. If there is memory for all of them, and
+-- room for them in the list, `insert_vec` inserts them. Otherwise the error returns the vector, and
+-- the item for which it has no room, if there is one.
 use Rattle.std.proofs.Common.{Err, ◌++◌, drop, take, inl, inr, ◌≡◌, ◌+◌, ◌-◌, ◌<◌, ◌∙◌, ap, arith, length, refl, subst, sym}
 use Rattle.std.proofs.lemmas.Bool.{cases_lt, false≢true}
 use Rattle.std.specs.Option.{option_len}
@@ -15,7 +17,8 @@ use Rattle.thin_vec.proofs.list.ThinVec.insert_held.Goals as goal
 count : (g : _) (c : In-Err g) → c.len.result ≡ length c.draw-held.result.held.items
 count g c = c.len.ensures ∙ c.draw-held.result.held.ok.0
 
--- if room cannot be reserved, some item is held: for none, `reserve` succeeds
+-- if room cannot be reserved, at least one item is held, because reserving room for no item
+-- succeeds
 more : (g : _) (c : In-Err g) → 0 < length c.draw-held.result.held.items
 more g c = elim (cases_lt 0 (length c.draw-held.result.held.items)) [
   | inl some ↦ some

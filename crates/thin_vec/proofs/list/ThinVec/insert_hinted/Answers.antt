@@ -1,4 +1,5 @@
--- The list is opened for as many items as the hint says, and the gap is filled.
+-- `open_wide` opens the list with a gap of as many slots as the size hint says, and `fill_gap`
+-- fills this gap with the items of the iterator.
 use Rattle.std.proofs.Common.{Err, Some, ◌≡◌, ◌+◌, ◌-◌, ◌*◌, ◌≤◌, ◌++◌, ◌∙◌, ap, arith, drop, length, refl, subst, sym, take}
 use Rattle.std.proofs.lemmas.Bool.{false≢true}
 use Rattle.std.proofs.lemmas.List.{length-drop, length-take-le}
@@ -22,7 +23,8 @@ wide g c = record {
   cost = c.open_wide-block.ensures.other_cost;
 }
 
--- the items were taken into the list with at most n moves of the items from `at` on
+-- if opening, filling and closing the gap took at most n further moves, the old list and the new
+-- one satisfy `HasTaken` with n further moves
 taken : (g : _) (c : After-fill_gap g) (n : _)
     → c.fill_gap.ensures.filled.1.cost.0 + (length c.reserve.new.self.items - c.args.at) ≤ n
     → HasTaken g.G.Growth.rule (param 0 g.row.T) c.args.self.now c.fill_gap.new.self n
@@ -42,7 +44,7 @@ taken g c n few =
     (wide-taken c.fill_gap.ensures.filled rule T n left u c.args.at hint (wide g c)
     (ap (λ z. z.alloc) c.open_wide-block.ensures.changes) few)
 
--- the tail has as many items as the list has from `at` on
+-- the tail has as many items as the old list has from index `at` on
 tail : (g : _) (c : After-fill_gap g) → length c.open_wide-block.result.tail
     ≡ length c.args.self.now.items - c.args.at
 tail g c = omega (

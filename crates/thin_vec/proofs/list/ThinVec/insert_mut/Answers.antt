@@ -1,5 +1,5 @@
 -- `insert_mut` lends the item that it has inserted, so the item lent is `value`. What is written to
--- it becomes the item at `index`.
+-- the item lent becomes the item at `index`.
 use Rattle.std.proofs.Common.{◌≡◌, ap, arith, drop, get_or, length, refl, take, ◌∙◌}
 use Rattle.std.proofs.lemmas.List.{get_or_at, length-take-le, set_at}
 use lib.ListN.{length-set, set}

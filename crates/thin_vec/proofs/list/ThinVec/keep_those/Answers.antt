@@ -1,5 +1,5 @@
--- The items that `sift` keeps become the items of the list. The capacity does not change, and these
--- items fit into it.
+-- The items that `sift` keeps become the items of the list. They fit into the capacity of the list,
+-- which does not change.
 use Rattle.std.proofs.Common.{◌≡◌, arith, rules}
 use Rattle.thin_vec.proofs.ThinVecLemmas.{within-like}
 use Rattle.std.proofs.lemmas.Grind.{common_steps}

@@ -1,5 +1,5 @@
--- `put_clones` puts the clones into the slots directly after the items, so they are appended to the
--- items.
+-- `put_clones` puts the clones into the slots directly after the items, so the clones are appended
+-- to the items.
 use Rattle.std.proofs.Common.{◌++◌, ap, arith, length, ◌∙◌, refl, rules}
 use Rattle.thin_block.proofs.BlockLemmas.{slots-are, then-len}
 use Rattle.thin_block.specs.Slots.{items_in}

@@ -1,5 +1,5 @@
 -- `push_mut` lends the item that it has appended, so the item lent is `value`. What is written to
--- it becomes the last item of the list.
+-- the item lent becomes the last item of the list.
 use Rattle.std.proofs.Common.{[], ap, arith, get_or, refl, sym, ◌∙◌}
 use Rattle.std.proofs.lemmas.List.{get_or_at, set_at}
 use lib.ListN.{length-set, set}

@@ -1,4 +1,4 @@
--- `put_repeated` puts clones of `value` into the slots directly after the items, so they are
+-- `put_repeated` puts clones of `value` into the slots directly after the items, so the clones are
 -- appended to the items.
 use Rattle.std.proofs.Common.{◌≡◌, ◌++◌, ap, arith, length, ◌∙◌, refl, rules}
 use Rattle.std.proofs.lemmas.List.{length-replicate}

@@ -1,5 +1,5 @@
 -- The clones are first put directly after the range and at the end of the list. If a clone fails,
--- all of them are dropped and the old items are left; otherwise `replace_by_last` moves the clones
+-- all clones are dropped and the old items are left; otherwise `replace_by_last` moves the clones
 -- at the end of the list into the places of the range.
 use Rattle.std.proofs.Common.{if◌then◌else◌, ◌≡◌, ◌+◌, ◌-◌, ◌≤◌, ◌++◌, ◌∙◌, ap, arith, eqb, length, length-append, subst, sym}
 use Rattle.std.proofs.lemmas.List.Elements.{length_all_zip}

@@ -1,6 +1,6 @@
 -- Each call of the test calls the closure `keep` once, and does not change the item. So what
 -- `keep_those` guarantees for the test holds for the closure, and the items left are those for
--- which it returns true.
+-- which the closure returns true.
 use Rattle.std.specs.Fn.{CalledAt}
 use Rattle.thin_vec.specs.Edits.Retain.{Looks}
 use Rattle.thin_vec.proofs.RetainLemmas.{few-retained, retained-through, retained_filtered}

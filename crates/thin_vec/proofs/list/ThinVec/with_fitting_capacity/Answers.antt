@@ -1,5 +1,5 @@
--- A newly allocated block holds no item, so the list made of it is empty. Its capacity is
--- `capacity`, which fits.
+-- A newly allocated block holds no item, so the list made of it is empty. The capacity of this list
+-- is `capacity`, which fits.
 use Rattle.std.proofs.Common.{[]}
 use Rattle.thin_vec.proofs.ListLemmas.{Settled}
 use Rattle.thin_vec.proofs.ThinVecLemmas.{within-settled}

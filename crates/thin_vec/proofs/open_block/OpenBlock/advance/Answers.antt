@@ -1,5 +1,5 @@
--- If there is no gap, the items before the first one to be removed become part of the front without
--- a move.
+-- If there is no gap, the items before the first item to be removed become part of the front
+-- without a move.
 use Rattle.std.proofs.Common.{◌≡◌, ◌<◌, ◌++◌, ◌∙◌, ap, drop, sym, take}
 use Rattle.std.proofs.lemmas.Bool.{false≢true}
 use Rattle.thin_vec.proofs.RetainLemmas.{moving-before}

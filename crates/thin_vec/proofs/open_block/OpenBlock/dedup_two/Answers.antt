@@ -13,8 +13,8 @@ returns-then-test_last-clause-dedups g c =
     c.take_first-later.result c.test_last.new.later c.test_last.new.self.front
     (search rules) (search rules) (search rules) (search rules)
 
--- if the next item stays and the one after it is to be removed, the former is appended to the
--- front, and the latter is dropped
+-- if the next item stays and the item after it is to be removed, the next item is appended to the
+-- front, and the item after it is dropped
 pub returns-then-goes-clause-dedups : goal.returns-then-goes-clause-dedups
 returns-then-goes-clause-dedups g c =
     dedups-two g.J.PairTest.tests c.args.self.now c.take_first.new.self c.args.test.now
@@ -25,8 +25,8 @@ returns-then-goes-clause-dedups g c =
     c.test_next-goes.result c.test_next-goes.ensures.asked (search rules)
     c.if-goes.true c.take_first.result (search rules) (search rules) (search rules)
 
--- if the next two items stay, and an item after them is to be removed, all items before that item
--- are moved to the front, and that item is dropped
+-- if the next two items stay, and an item after them is the first to be removed, all items before
+-- that item are moved to the front, and that item is dropped
 pub returns-then-rest_len-gt0-clause-dedups : goal.returns-then-rest_len-gt0-clause-dedups
 returns-then-rest_len-gt0-clause-dedups g c =
     let R = g.J.PairTest.tests in

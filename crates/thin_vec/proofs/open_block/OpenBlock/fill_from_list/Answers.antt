@@ -1,5 +1,5 @@
--- `move_run_to` moves the items of `other` into the slots directly after the front, so they are
--- added to the front. Afterwards all slots of `other` are empty.
+-- `move_run_to` moves the items of `other` into the slots directly after the front, so these items
+-- are added to the front. Afterwards all slots of `other` are empty.
 use Rattle.thin_block.proofs.BlockLemmas.{then-len}
 use Rattle.thin_block.specs.Cost.{moving}
 use Rattle.thin_block.specs.Slots.{full, items_in, laid, run}

@@ -1,4 +1,5 @@
--- The middle run is empty, so no item lies between the two gaps, and together they are one gap.
+-- The middle run is empty, so no item lies between the two gaps, and the two gaps together are one
+-- gap.
 use Rattle.std.proofs.Common.{◌+◌, ap, sym, ◌∙◌}
 use Rattle.thin_vec.proofs.OpenBlockLemmas.{Found, join-step, joined, joined-seen}
 use Rattle.thin_vec.proofs.open_block.OpenBlock.join.Goals as goal

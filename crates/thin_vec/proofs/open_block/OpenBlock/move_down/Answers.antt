@@ -1,5 +1,5 @@
 -- Each turn of the loop moves one more item to the front, for one move. So if the invariant holds
--- before a turn, it holds after it.
+-- before a turn, it also holds after that turn.
 use Rattle.std.proofs.Common.{◌++◌, drop, take, ap, sym, ◌∙◌, append_assoc}
 use Rattle.std.proofs.Math.Seq.{take-add}
 use Rattle.std.proofs.lemmas.List.{drop-drop}

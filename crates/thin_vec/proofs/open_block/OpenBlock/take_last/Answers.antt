@@ -18,7 +18,8 @@ take-requires g c =
 some : (g : _) (c : goal.After-take g) → 0 < length (open_of c.self.inside).rest
 some g c = omega (arith, c.requires.some, ap (λ v. length v.rest) c.self.view_is)
 
--- the middle run was some items ys followed by the returned item, and after the call it is ys
+-- before the call, the middle run was a list ys followed by the returned item; after the call, the
+-- middle run is ys
 facts : (g : _) (c : goal.After-take g) → (ys : List g.row.T.Denot)
     × ((open_of c.self.inside).rest ≡ ys ++ c.take.result ∷ [])
     × Found (last-left c.self.inside c.self.invariant c.take.new.self (some g c))

@@ -1,5 +1,5 @@
--- The slot at `rest_start + k` holds the tested item. After the test it holds this item as the test
--- left it, and nothing else has changed.
+-- The slot at `rest_start + k` holds the tested item. After the test, the slot holds this item as
+-- the test left it, and nothing else has changed.
 use Rattle.std.proofs.Common.{◌<◌, ◌+◌, refl, ap, sym, ◌∙◌, arith, length}
 use Rattle.thin_block.specs.Lends.{with_item}
 use Rattle.thin_vec.specs.OpenBlock.{open_of}

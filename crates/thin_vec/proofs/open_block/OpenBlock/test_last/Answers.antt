@@ -1,5 +1,5 @@
--- The last slot of the front is filled. After the test it holds its item as the test left it, and
--- nothing else has changed.
+-- The last slot of the front is filled. After the test, the slot holds its item as the test left
+-- it, and nothing else has changed.
 use Rattle.std.proofs.Common.{◌-◌, refl, ap, sym, ◌∙◌, arith, length}
 use Rattle.thin_block.specs.Lends.{with_item}
 use Rattle.thin_vec.proofs.open_block.DedupLemmas.{WrittenLast, last-filled, write-last-step}

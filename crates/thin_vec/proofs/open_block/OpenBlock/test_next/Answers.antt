@@ -1,5 +1,5 @@
--- The first slot of the middle run is filled. After the test it holds its item as the test left it,
--- and nothing else has changed.
+-- The first slot of the middle run is filled. After the test, the slot holds its item as the test
+-- left it, and nothing else has changed.
 use Rattle.thin_block.proofs.BlockLemmas.{slots-are}
 use Rattle.std.proofs.Common.{◌≡◌, ◌<◌, ◌+◌, refl, ap, sym, ◌∙◌, arith, length}
 use Rattle.thin_vec.specs.OpenBlock.{open_of}

@@ -1,5 +1,5 @@
--- The slots of the items at `k - 1` and `k` of the middle run are filled. After the test they hold
--- the two items as the test left them, and nothing else has changed.
+-- The slots of the items at `k - 1` and `k` of the middle run are filled. After the test, these
+-- slots hold the two items as the test left them, and nothing else has changed.
 use Rattle.std.proofs.Common.{◌-◌, ap, sym, ◌∙◌, arith, length}
 use Rattle.thin_vec.specs.OpenBlock.{open_of}
 use Rattle.thin_vec.proofs.OpenBlockLemmas.{rest-filled}

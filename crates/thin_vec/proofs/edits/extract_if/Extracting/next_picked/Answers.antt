@@ -1,5 +1,5 @@
--- `advance` tests items up to the first one to be extracted, and adds the tested items before it to
--- the front. `next_picked` then extracts that item, or returns `None` if no item is left.
+-- `advance` tests items up to the first item to be extracted, and adds the tested items before that
+-- item to the front. `next_picked` then extracts that item, or returns `None` if no item is left.
 use Rattle.std.proofs.Common.{◌≡◌, ◌∙◌, [], ap, arith, rules, sym, take}
 use Rattle.std.proofs.lemmas.Bool.{false≢true}
 use Rattle.std.specs.Fn.{CalledAtMut}

@@ -1,5 +1,5 @@
--- The clauses follow from what `finish_before_tail` and `finish_at_end` state of the block, from
--- which the rest of the range was dropped before.
+-- `finish` first drops the items of the range that are left, and then calls `finish_before_tail` or
+-- `finish_at_end`. The clauses follow from what these two functions guarantee for the block.
 use Rattle.std.proofs.Common.{[], inl, inr, ◌≡◌, ◌+◌, ◌≤◌, ◌∙◌, ap, arith, length, length-append, subst}
 use denote.Param.{param}
 use Rattle.thin_vec.specs.Edits.Finish.{IsFinished}

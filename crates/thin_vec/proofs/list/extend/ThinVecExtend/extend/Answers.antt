@@ -1,5 +1,5 @@
--- The clauses of the inherent `extend` give what the trait's `extend` states. On failure, the
--- placed items are the ones that the first calls of `next` yielded.
+-- The contract of the method `extend` implies what the trait `Extend` requires. On failure, the
+-- placed items are those that the first calls of `next` yielded.
 use Rattle.std.proofs.Common.{arith, ap, length, length-append, ◌∙◌}
 use Rattle.thin_vec.proofs.list.ExtendLemmas.{yields-first}
 use Rattle.thin_vec.proofs.list.extend.ThinVecExtend.extend.Goals as goal

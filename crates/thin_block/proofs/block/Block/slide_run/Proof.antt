@@ -1,4 +1,4 @@
--- `move_up` takes a run and the gap after it out of the row, calls `slide` to move the items up
+-- `slide_run` takes the run and the gap next to it out of the row, calls `slide` to move the items
 -- into the gap, and puts both back. Assumes `Logic`.
 use Rattle.std.proofs.Common.{◌≡◌, ℕ, Some, ◌+◌, ◌*◌, ◌^◌, ◌<◌, ◌≤◌, List, ◌∷◌, [], ◌++◌, length, refl, sym, ap, subst, ◌∙◌, arith, w64}
 use lib.ListN.{length-map}
@@ -11,7 +11,7 @@ use base.Fml.{Lft, Share, Fml, ftrue, fsep, flft}
 use contract.BorrowLft.{◌⊑◌}
 use contract.Monad.{fact, fact_i}
 use types.Kit.{‵, raw, ◌⊛◌, some as exists, later, pick, await, ◌$◌, !, move, drop, use0, use1, use2, split, join, suffices, done}
-use types.Run.{bin, size_word, unit_lit, true_lit, of_opd, no_more, and_then, first, blocks, returns}
+use types.Run.{bin, size_word, unit_lit, of_opd, no_more, and_then, first, blocks, returns}
 use types.ByLocal.{alloc_all, pass_all, free_all, look_at, is, sets, lands_last, get}
 use denote.Builtin.{usize}
 use denote.RattleType.{owns}
@@ -29,10 +29,10 @@ use Rattle.thin_block.specs.Lends.{with_slots}
 use Rattle.thin_block.specs.Ownership.{places}
 use Rattle.thin_block.specs.Slots.{moved}
 use Rattle.thin_block.proofs.Walks.{says_all}
-use Rattle.thin_block.proofs.SlotsLemmas.{full-run, length-run, empty-run}
+use Rattle.thin_block.proofs.SlotsLemmas.{full-run, length-run}
 use Rattle.thin_block.proofs.HeaderMemory.{args, Br}
 use Rattle.thin_block.proofs.SlotMemory.{sz, reach}
-use Rattle.std.specs.Prelude.{true}
+use Rattle.std.specs.Prelude.{Bool}
 use types.Kit.{feq_l}
 use base.Logic.{id⊢}
 use denote.Builtin.{bool, unit}
@@ -44,79 +44,95 @@ use mir.Val.{vbool}
 use Rattle.core.specs.Ptr.{memory_before_copy, memory_after_copy}
 use Rattle.thin_block.specs.Shifts.{IsShifted}
 use Rattle.thin_block.proofs.SlotsLemmas.{length-moved}
-use Rattle.thin_block.proofs.ShiftMemory.{further, slides_up}
+use Rattle.thin_block.proofs.ShiftMemory.{further, slides, distance, shifted}
 use Rattle.thin_block.proofs.shifts.slide.Met as slide_met
 use Rattle.thin_block.specs.contracts.shifts.slide as slide
 use Rattle.thin_block.proofs.Methods.{item, source, others, block_stays, goes, begins, enters, closes_over, token_out, leaves_unit, ptr_of, opens_self, continues, word}
 use Rattle.thin_block.proofs.Addresses.{near, its_ptr, slot_found}
-use Rattle.thin_block.specs.contracts.block.Block.move_up.{ended, clauses}
-use Rattle.thin_block.specs.contracts.block.Block.move_up.Key.{name as #self}
-use Rattle.thin_block.proofs.block.Block.move_up.Statement.{statement}
-use Rattle.thin_block.proofs.block.Block.move_up.Code as compiled
+use Rattle.thin_block.specs.contracts.block.Block.slide_run.{ended, clauses}
+use Rattle.thin_block.specs.contracts.block.Block.slide_run.Key.{name as #self}
+use Rattle.thin_block.proofs.block.Block.slide_run.Statement.{statement}
+use Rattle.thin_block.proofs.block.Block.slide_run.Code as compiled
 
-pub move_up_spec : {M : Type 1} → statement M
-move_up_spec 𝓤 𝓛 𝓜 𝓡 wired T A LT LA g d dd met md =
+pub slide_run_spec : {M : Type 1} → statement M
+slide_run_spec 𝓤 𝓛 𝓜 𝓡 wired T A LT LA g d dd met md =
     let E = item LT in let Y = source LA g d dd in let En₀ = ended T A g d dd in
     let c = clauses T A g d dd 𝓛 𝓜.mem 𝓡.returns in let ss = others En₀.signature.params in
     let hs = block_stays E Y ss En₀.kept.1 in let fn = inst_fn (args E Y) compiled.function in
     proved_at 𝓛 En₀ hs c 𝓜 𝓡
-    (goes E Y ss 𝓛 En₀.kept.1 ((λ κs x f. refl), ((λ κs x f. refl), ((λ κs x f. refl), tt))))
+    (goes E Y ss 𝓛 En₀.kept.1 (
+      (λ κs x f. refl),
+      ((λ κs x f. refl), ((λ κs x f. refl), ((λ κs x f. refl), ((λ κs x f. refl), tt)))),
+    ))
     (#self (args E Y)) fn (compiled.unfolded 𝓤 𝓛.H 𝓜 𝓡 wired (T, (A, tt)) d dd) (λ z are.
     let r = z.0.3.0 in let x = r.now in let cap : ℕ = length x.slots in
-    let from : ℕ = z.0.3.1.0 in let gap : ℕ = z.0.3.1.1.0 in let k : ℕ = z.0.3.1.1.1.0 in
-    let κ₁ : Lft = z.0.0.1.0 in let q₁ : Share = z.0.1.1.0 in let to : ℕ = from + gap in
-    begins E Y 𝓛 ss z.0 (_ ∷ _ ∷ _ ∷ _ ∷ _ ∷ []) (λ said.
-    let lives = said.0 in let within : to + k ≤ cap = said.1.1.0 in
-    let bare = said.1.1.1.0 in let filled = said.1.1.1.1 in
-    let source_fits : from + k ≤ cap = omega arith in
-    let items = full-run x.slots from k source_fits filled in
+    let low : ℕ = z.0.3.1.0 in let a : ℕ = z.0.3.1.1.0 in let d : ℕ = z.0.3.1.1.1.0 in
+    let k : ℕ = z.0.3.1.1.1.1.0 in let up : Bool = z.0.3.1.1.1.1.1.0 in
+    let from : ℕ = low + a in let to : ℕ = low + d in
+    let κ₁ : Lft = z.0.0.1.0 in let q₁ : Share = z.0.1.1.0 in
+    begins E Y 𝓛 ss z.0 (_ ∷ _ ∷ _ ∷ _ ∷ _ ∷ _ ∷ _ ∷ []) (λ said.
+    let lives = said.0 in let source : from + k ≤ cap = said.1.1.0 in
+    let target : to + k ≤ cap = said.1.1.1.0 in let filled = said.1.1.1.1.0 in
+    let above = said.1.1.1.1.1.0 in let below = said.1.1.1.1.1.1 in
+    let items = full-run x.slots from k source filled in
     let xs : List T.Denot = items.0 in
     let long : length xs ≡ k = sym (length-map xs Some) ∙ ap length (sym items.1)
-    ∙ length-run x.slots from k source_fits in
-    let ff = are.1.0.1 in
-    let fg = are.1.1.0.1 in
-    let fk = are.1.1.1.0.1 in
-    enters ! fn (ptr_of r ∷ vint w64 from ∷ vint w64 gap ∷ vint w64 k ∷ [])
-    (λ n. are.0.0 n ++ (are.1.0.0 n ++ (are.1.1.0.0 n ++ (are.1.1.1.0.0 n ++ [])))) $
-    alloc_all ! (λ l. pass_all ! refl ((tt, tt), (word ff, (word fg, (word fk, tt)))) $
+    ∙ length-run x.slots from k source in
+    let fl = are.1.0.1 in
+    let fa = are.1.1.0.1 in
+    let fd = are.1.1.1.0.1 in
+    let fk = are.1.1.1.1.0.1 in
+    enters ! fn (ptr_of r ∷ vint w64 low ∷ vint w64 a ∷ vint w64 d ∷ vint w64 k ∷ vbool up ∷ [])
+    (λ n. are.0.0 n ++ (are.1.0.0 n ++ (are.1.1.0.0 n
+    ++ (are.1.1.1.0.0 n ++ (are.1.1.1.1.0.0 n ++ (are.1.1.1.1.1.0 n ++ [])))))) $
+    alloc_all ! (λ l. pass_all ! refl
+    ((tt, tt), (word fl, (word fa, (word fd, (word fk, ((tt, tt), tt)))))) $
     opens_self E Y ! tt r (λ b o at fits.
     let s : ℕ = sz E in
     let src : ℕ = from * s + (o + 16) in
     let dst : ℕ = to * s + (o + 16) in
     let light : k * s < 2 ^ 63 = reach (R E) k cap fits (omega arith) in
-    let fm = near E x.slots from fits (omega arith) in
-    let fm' = near E x.slots gap fits (omega arith) in
-    let beyond : dst ≡ gap * s + src = further from gap to s (o + 16) (omega arith) in
+    let base : ℕ = low * s + (o + 16) in
+    let fm = near E x.slots low fits (omega arith) in
+    let fs = near E x.slots a fits (omega arith) in
+    let ft = near E x.slots d fits (omega arith) in
+    let source_at : src ≡ a * s + base = further low a from s (o + 16) (omega arith) in
+    let target_at : dst ≡ d * s + base = further low d to s (o + 16) (omega arith) in
     sets ! (of_opd ! (its_ptr E Y ! refl)) refl (tt, tt) $ first ! $ blocks ! $
-    slot_found E ! b o from fm refl ((tt, tt), (tt, tt)) $
+    slot_found E ! b o low fm refl ((tt, tt), (tt, tt)) $
+    sets ! (is ! (bin ! (get ! refl) (size_word !)
+    (record { fits = subst (λ (n : ℕ). n < 2 ^ 64) (sym (uncapped a s fs)) fs }))
+    (ap (vint w64) (uncapped a s fs))) refl (tt, record { fits = fs }) $
+    sets ! (is ! (bin ! (get ! refl) (get ! refl) tt) (ap (vptr b) (sym source_at))) refl (tt, tt) $
     sets ! (of_opd ! (get ! refl)) refl (tt, tt) $
     sets ! (is ! (bin ! (get ! refl) (size_word !)
-    (record { fits = subst (λ (n : ℕ). n < 2 ^ 64) (sym (uncapped gap s fm')) fm' }))
-    (ap (vint w64) (uncapped gap s fm'))) refl (tt, record { fits = fm' }) $
-    sets ! (is ! (bin ! (get ! refl) (get ! refl) tt) (ap (vptr b) (sym beyond))) refl (tt, tt) $
-    let p = slides_up E 𝓛 b (o + 16) x.slots from to k xs items.1 long gap refl within
-    (empty-run x.slots (from + k) gap (omega arith) bare) in
-    let Before : Fml =
-    memory_before_copy (R E) true gap k (block_ptr b src) (block_ptr b dst) xs in
-    let After : Fml = memory_after_copy (R E) true gap k (block_ptr b src) (block_ptr b dst) xs in
-    let Shifted : Type 0 = IsShifted (R E) true gap (block_ptr b src) (block_ptr b dst) in
+    (record { fits = subst (λ (n : ℕ). n < 2 ^ 64) (sym (uncapped d s ft)) ft }))
+    (ap (vint w64) (uncapped d s ft))) refl (tt, record { fits = ft }) $
+    sets ! (is ! (bin ! (get ! refl) (get ! refl) tt) (ap (vptr b) (sym target_at))) refl (tt, tt) $
+    let far : ℕ = distance E 𝓛 b (o + 16) x.slots from to k xs items.1 long up in
+    let p = slides E 𝓛 b (o + 16) x.slots from to k xs items.1 long source target
+    up above below in
+    let Before : Fml = memory_before_copy (R E) up far k (block_ptr b src) (block_ptr b dst) xs in
+    let After : Fml = memory_after_copy (R E) up far k (block_ptr b src) (block_ptr b dst) xs in
+    let Shifted : Type 0 = IsShifted (R E) up far (block_ptr b src) (block_ptr b dst) in
     let Fits : Type 0 = k * s < 2 ^ 64 in
-    let is_shifted : Shifted = ap (block_ptr b) beyond in
+    let is_shifted : Shifted =
+    shifted E 𝓛 b (o + 16) x.slots from to k xs items.1 long up above below in
     let fits_k : Fits = omega arith in
     move ! (1 ∷ []) $ use1 𝓛 (‵ Before ⊛ ‵ p.Rest) p.out $ split ! $ move ! (7 ∷ []) $
     token_out ! 1 z.0.0.1 z.0.1.1 $ move ! (2 ∷ 0 ∷ []) $
-    -- context: [the items and the gap; the token of T; the last token; the other slots; the header;
-    -- the cell; three entries for the open borrow]
+    -- the resources at this point: [the items and the gap; the token of T; the last token; the other
+    -- slots; the header; the cell; three entries for the open borrow]
     let G = triple_of 𝓛 (slide.signature T) (slide.spec T 𝓛 𝓜.mem 𝓡.returns) in
     let y₀ : G.Ghost = (
       (
         (κ₁, tt),
         (q₁, tt),
         tt,
-        (block_ptr b src, (block_ptr b dst, (k, (true, tt)))),
-        (vptr b src ∷ [], (vptr b dst ∷ [], (vint w64 k ∷ [], (vbool true ∷ [], tt)))),
+        (block_ptr b src, (block_ptr b dst, (k, (up, tt)))),
+        (vptr b src ∷ [], (vptr b dst ∷ [], (vint w64 k ∷ [], (vbool up ∷ [], tt)))),
       ),
-      (gap, xs),
+      (far, xs),
     ) in
     use0 𝓛 (raw (fact 𝓤 Fits)) (fact_i 𝓤 Fits (emp 𝓤) fits_k) $ join ! $
     use0 𝓛 (raw (fact 𝓤 Shifted)) (fact_i 𝓤 Shifted (emp 𝓤) is_shifted) $ join ! $
@@ -127,7 +143,7 @@ move_up_spec 𝓤 𝓛 𝓜 𝓡 wired T A LT LA g d dd met md =
     calls_at_last ! (framed 𝓛 𝓜 𝓡) G
     (slide_met.met 𝓤 𝓛 𝓜 𝓡 (compiled.calls-thin_block::shifts::slide 𝓡.env wired) T LT) y₀
     (and_then ! (get ! refl)
-    (and_then ! (get ! refl) (and_then ! (get ! refl) (and_then ! (true_lit !) (no_more !)))))
+    (and_then ! (get ! refl) (and_then ! (get ! refl) (and_then ! (get ! refl) (no_more !)))))
     (λ v.
     use1 𝓛 (later (exists
     (λ (r : Unit {0}). ((‵ (flft κ₁ q₁) ⊛ ‵ ftrue) ⊛ ‵ (unit.own_val r (v ∷ [])))
@@ -137,18 +153,19 @@ move_up_spec 𝓤 𝓛 𝓜 𝓡 wired T A LT LA g d dd met md =
     feq_l ! (λ e. move ! (1 ∷ []) $
     pick ! (λ ws. split ! $ drop ! $ move ! (1 ∷ []) $ split ! $ move ! (1 ∷ []) $
     drop ! $ move ! (1 ∷ 0 ∷ []) $
-    -- context: [the moved items and the new gap; the token of T; the last token; ..]
+    -- the resources at this point: [the moved items and the new gap; the token of T; the last
+    -- token; ..]
     lands_last ! refl (subst (λ (u : Val). Holds (has_ty ty_unit u) × WT u)
     (sym (ap only e)) (tt, tt)) $
     continues ! 𝓜 𝓡 fn l 2 ((walk_of 𝓛 En₀ hs c).post z) $
     sets ! (of_opd ! (unit_lit !)) refl (tt, tt) $
     move ! (0 ∷ 3 ∷ []) $
     let gone : List (Option T.Denot) = moved from to k x.slots in
-    let same : length gone ≡ cap = length-moved from to k x.slots source_fits within in
+    let same : length gone ≡ cap = length-moved from to k x.slots source target in
     let y : (Br E Y).Denot = record (with_slots x gone same) { cost = moving k x.cost } in
     use2 𝓛 (‵ (places (R E) gone b (o + 16))) p.back $ move ! (0 ∷ 3 ∷ 4 ∷ 5 ∷ 6 ∷ 7 ∷ []) $
     closes_over E Y ! tt r y b o at same $
     returns ! (look_at ! 0 refl) $ free_all ! refl $ move ! (3 ∷ 4 ∷ []) $ join ! $
-    move ! (1 ∷ 2 ∷ 3 ∷ 0 ∷ []) $ leaves_unit E Y ! r y 3 are.0.0 $
-    suffices ! _ (ends_at 𝓛 En₀ hs c z vunit tt (y, (tt, (tt, (tt, tt))))
-    (tt, (tt, (tt, (tt, tt))))) $ says_all ! (_ ∷ _ ∷ []) (refl, same) $ done !))))))))
+    move ! (1 ∷ 2 ∷ 3 ∷ 0 ∷ []) $ leaves_unit E Y ! r y 5 are.0.0 $
+    suffices ! _ (ends_at 𝓛 En₀ hs c z vunit tt (y, (tt, (tt, (tt, (tt, (tt, tt))))))
+    (tt, (tt, (tt, (tt, (tt, (tt, tt))))))) $ says_all ! (_ ∷ _ ∷ []) (refl, same) $ done !))))))))

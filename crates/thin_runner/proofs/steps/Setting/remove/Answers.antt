@@ -1,6 +1,0 @@
--- The contract of `remove` implies what `Steps` states for the command.
-use Rattle.std.proofs.Common.{rules}
-use Rattle.thin_runner.proofs.steps.Setting.remove.Goals as goal
-
-pub returns : goal.returns
-returns g c = search rules
