@@ -35,8 +35,8 @@ fn is_in_range<T, A: Allocator, G: Growth>(
 /// Carries out one command, and returns the reply, which owns what the call returned.
 ///
 /// If the index or the range of the command is out of bounds, the list does not change, and the
-/// reply returns the command. What the command makes takes its memory from `alloc`. A command that
-/// asks the judge begins with a copy of `judge`.
+/// reply returns the command. The lists and vectors that the command makes use the allocator
+/// `alloc`. A command that asks the judge begins with a copy of `judge`.
 pub fn step<T: Clone + Eq, A: Allocator + Copy, G: Growth, J: Judge<T>>(
     alloc: A,
     list: &mut ThinVec<T, A, G>,
@@ -88,8 +88,8 @@ pub fn step<T: Clone + Eq, A: Allocator + Copy, G: Growth, J: Judge<T>>(
 
 /// Carries out the commands in order, and appends one reply for each to `replies`.
 ///
-/// It first reserves room for all the replies. What the commands make takes its memory from
-/// `alloc`. Each command that asks the judge begins with a copy of `judge`.
+/// It first reserves room for all the replies. The lists and vectors that the commands make use the
+/// allocator `alloc`. Each command that asks the judge begins with a copy of `judge`.
 ///
 /// # Errors
 ///
@@ -118,7 +118,7 @@ pub fn run<T: Clone + Eq, A: Allocator + Copy, G: Growth, J: Judge<T>>(
     ensures cause { IfErr result (λ cause. cause ≡ ThinVecError.OutOfMemory) }
 {
     // This call is only for the prover: its contract says that the old items are within the old
-    // capacity. The proof of the clause `ok` needs this, also if there is no command.
+    // capacity. The proof of the clause `ok` needs this, even if there is no command.
     let _capacity = list.capacity();
     match replies.reserve(commands.len()) {
         Ok(()) => (),

@@ -33,6 +33,12 @@ where
     E: Error + Copy + Eq + From<AllocError> + From<Rejected<u8>>,
 {}
 
+// A struct that derives `Clone`. The items of its list allocate memory when they are cloned.
+#[derive(Clone, Drop)]
+struct Names {
+    all: ThinVec<String>,
+}
+
 fn assert_is_extract_if<F>(_items: &ExtractIf<'_, u8, F>) {}
 
 fn capacity_under_rule<G: Growth, A: Allocator>(list: &ThinVec<u8, A, G>) -> usize {
@@ -55,4 +61,15 @@ fn public_iterators_and_their_traits_exist(rt: HostRuntime) {
     assert_is_extract_if(&bytes.extract_if(0, 0, |_item: &mut u8| true));
     let items: IntoIter<u8, Global, Doubling> = bytes.into_iter();
     assert_iterator_traits(&items);
+}
+
+#[test]
+fn derived_clone_clones_each_item(rt: HostRuntime) {
+    let mut word = String::new(rt.alloc());
+    word.push_str("ada").expect(&rt, "memory");
+    let all = thin_vec![rt.alloc() => word].expect(&rt, "memory");
+    let names = Names { all };
+    let other = names.clone().expect(&rt, "memory");
+    assert_same(&rt, other.all.len(), 1);
+    assert_same(&rt, other.all[0] == names.all[0], true);
 }

@@ -1,13 +1,12 @@
 -- What the calls that clone items guarantee about the clones, and about a clone that fails.
 -- Throughout, `clones x y` says that y may be a clone of x, and `infallible x` that cloning x
 -- cannot fail. (std: `Clone`)
-use Rattle.std.specs.Prelude.{◌≡◌, ℕ, ◌<◌, ◌≤◌, List, [], ◌∷◌, ◌++◌, All, HoldsAt, Option, length, take}
-use Rattle.std.specs.Borrow.{RattleType}
+use Rattle.std.specs.Prelude.{◌≡◌, ℕ, ◌^◌, ◌<◌, ◌≤◌, List, [], ◌∷◌, ◌++◌, All, HoldsAt, Option, length, take}
 use Rattle.std.specs.List.{AllZip}
 use Rattle.thin_block.specs.Cost.{Cost, moving}
 use Rattle.thin_block.specs.Slots.{full, laid}
 use Rattle.thin_vec.specs.Cheap.{IsCheap}
-use Rattle.thin_vec.specs.ThinVec.{IsWithin, Thin, cost_at, cost_new}
+use Rattle.thin_vec.specs.ThinVec.{Thin, cost_at, cost_new}
 
 module _ {T : Type 0} (clones : T → T → Type 0) where
   -- every clone of x equals x
@@ -26,11 +25,12 @@ module _ {T : Type 0} (clones : T → T → Type 0) where
 
   -- what the contract of std's `Clone` says of a clone w of the list v: w has a clone of each item,
   -- the same allocator, and a block of exactly as many slots as there are items
-  abbrev pub IsClonedList : {A : Type 0} → RattleType → Thin T A → Thin T A → Type 0
-  IsClonedList R v w =
+  abbrev pub IsClonedList : {A : Type 0} → Thin T A → Thin T A → Type 0
+  IsClonedList v w =
       AllZip clones v.items w.items × (length w.items ≡ length v.items)
       × (w.capacity ≡ length v.items) × (w.alloc ≡ v.alloc)
-      × (w.cost ≡ moving (length v.items) (cost_new (length v.items))) × IsCheap w × IsWithin R w
+      × (w.cost ≡ moving (length v.items) (cost_new (length v.items))) × IsCheap w
+      × (w.capacity < 2 ^ 63)
 
 -- ys is xs followed by n clones of x
 pub record AppendsRepeats {T : Type 0} (clones : T → T → Type 0) (x : T) (n : ℕ)

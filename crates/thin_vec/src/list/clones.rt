@@ -300,7 +300,7 @@ impl<T: Clone, A: Allocator, G: Growth> ThinVec<T, A, G> {
 }
 
 impl<T: Clone, A: Allocator + Copy, G: Growth> Clone for ThinVec<T, A, G> {
-    ghost is_clone = { IsClonedList T.is_clone T.row };
+    ghost is_clone = { IsClonedList T.is_clone };
 
     ghost is_infallible = { λ list. list.items ≡ [] };
 

@@ -1,7 +1,7 @@
 -- `draw` collects the items of the iterator in a vector. If there is memory for all of them, and
 -- room for them in the list, `insert_vec` inserts them. Otherwise the error returns the vector, and
 -- the item for which it has no room, if there is one.
-use Rattle.std.proofs.Common.{Err, ◌++◌, drop, take, inl, inr, ◌≡◌, ◌+◌, ◌-◌, ◌<◌, ◌∙◌, ap, arith, length, refl, subst, sym}
+use Rattle.std.proofs.Common.{Err, ◌++◌, drop, take, inl, inr, ◌≡◌, ◌-◌, ◌<◌, ◌∙◌, ap, arith, length, refl, subst, sym}
 use Rattle.std.proofs.lemmas.Bool.{cases_lt, false≢true}
 use Rattle.std.specs.Option.{option_len}
 use Rattle.std.specs.Prelude.{IsSome}

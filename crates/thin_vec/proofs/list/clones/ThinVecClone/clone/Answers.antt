@@ -15,6 +15,6 @@ returns-in-Ok g c =
         e.made.alloc ∙ c.allocator.ensures.value,
         e.cost,
         e.made.cheap,
-        e.made.within,
+        e.made.within.small,
       );
     }
