@@ -91,8 +91,8 @@ small_fits R c few small =
     let about = rounded R 0 in
     closed R c (fits_yes R c (omega arith) (omega (arith, about.most)))
 
--- if the capacity is 0, 1 to 4 items need room, and an item takes less than 2 ^ 31 bytes, then
--- doubling chooses the capacity 4
+-- if 1 to 4 items of less than 2 ^ 31 bytes each need room and the capacity is 0, then doubling
+-- chooses the capacity 4
 pub doubling_first : (R : RattleType) (c w : ℕ) → c ≡ 0 → 0 < w → w ≤ 4 → type_size R < 2 ^ 31
     → ruled_capacity doubling R c w ≡ Some 4
 unfolding doubling fitting first
@@ -144,7 +144,7 @@ pub exact-overflow : (R : RattleType) (c w : ℕ) → c < w → (Fits R w → �
 unfolding exact_capacity
 exact-overflow R c w more never = rw (lt-leb w c more) (fitting_none R w never)
 
--- if a list has no block and the capacity w does not fit, then w items have no exact capacity
+-- if the old capacity is 0 and the capacity w does not fit, then w items have no exact capacity
 pub exact-none : (R : RattleType) (w : ℕ) → (Fits R w → ⊥) → exact_capacity R 0 w ≡ None
 exact-none R zero never = absurd (never (fits-none R))
 exact-none R (suc w) never = exact-overflow R 0 (suc w) (omega arith) never

@@ -118,8 +118,8 @@ module _ (E : El) (Y : Al) {M : Type 1} {𝓤 : Ura M} (𝓛 : Logic 𝓤) (at_m
   abbrev left : Ptr → Bool → ℕ → ℕ → Fml
   left x y b o = resized_if_ok (token Y r.now) (R E) x len held wanted xs (result_of y b o)
 
-  -- Ends the walk of `resized`. The context holds, in this order: [what the call of `grow` or
-  -- `shrink` leaves; the lifetime tokens of the `&` to the allocator, of T and of A].
+  -- Ends the walk of `resized`. Before it the context holds, in this order: [what the call of
+  -- `grow` or `shrink` leaves; the lifetime tokens of the `&` to the allocator, of T and of A].
   exits : (x : Ptr) (y : Bool) (b o : ℕ)
       → ent 𝓤 (⋆ 𝓛 (‵ (left x y b o) ∷ ‵ (flft κ q) ∷ ‵ (flft κT qT) ∷ (‵ (flft κA qA) ⊛ ‵ ftrue)
       ∷ [])) (Post x (answer_val y b o))

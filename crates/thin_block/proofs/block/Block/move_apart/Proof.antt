@@ -80,9 +80,9 @@ move_apart_spec 𝓤 𝓛 𝓜 𝓡 wired T A LT LA g d dd met md =
     move ! (1 ∷ []) $ use1 𝓛 (‵ Before ⊛ ‵ p.Rest) p.out $ split ! $ fsplit ! $ move ! (8 ∷ []) $
     token_out ! 1 z.0.0.1 z.0.1.1 $ move ! (2 ∷ 3 ∷ 0 ∷ []) $
     -- The run and its destination are out of the row. The context holds, in this order: [the items
-    -- of the run; the empty slots to which they move; the lifetime token of T; the last lifetime
-    -- token; the other slots; the header; the cell with the block's pointer; three entries for the
-    -- open borrow of the block].
+    -- of the run; the empty slots to which they move; the lifetime tokens of T and A; the other
+    -- slots; the header; the cell with the block's pointer; three entries for the open borrow of
+    -- the block].
     let G = Copies T 𝓛 𝓜.mem 𝓡.returns in
     let y₀ : G.Ghost = at_copies T 𝓛 𝓜.mem 𝓡.returns κ₁ q₁ b src b dst k xs in
     use3 𝓛 (raw (G.pre y₀)) (Copies-goes T 𝓛 𝓜.mem 𝓡.returns κ₁ q₁ b src b dst k xs lives fk light)

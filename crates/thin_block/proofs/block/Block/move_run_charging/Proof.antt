@@ -167,9 +167,9 @@ move_run_charging_spec 𝓤 𝓛 𝓜 𝓡 wired T A LT LA g d dd met md =
     use1 𝓛 (‵ (part_at (Array (R E) k) full_share xs b src)) (to_items E 𝓛 b k xs src long) $
     move ! (0 ∷ 2 ∷ []) $ move ! (14 ∷ []) $ split ! $ move ! (2 ∷ 3 ∷ 0 ∷ []) $
     -- Both runs are out of their rows. The context holds, in this order: [the items; the empty
-    -- slots to which they move; the lifetime token of T; the last lifetime token; the other slots
-    -- of `self`; the other slots of `to_block`; the header, the cell and the open borrow of
-    -- `to_block`; the header, the cell and the open borrow of `self`].
+    -- slots to which they move; the lifetime tokens of T and A; the other slots of `self`; the
+    -- other slots of `to_block`; the header, the cell and the open borrow of `to_block`; the
+    -- header, the cell and the open borrow of `self`].
     let G = Copies T 𝓛 𝓜.mem 𝓡.returns in
     let y₀ : G.Ghost = at_copies T 𝓛 𝓜.mem 𝓡.returns κ₂ q₂ b src b' dst k xs in
     use3 𝓛 (raw (G.pre y₀)) (Copies-goes T 𝓛 𝓜.mem 𝓡.returns κ₂ q₂ b src b' dst k xs lives fk light)
@@ -186,9 +186,9 @@ move_run_charging_spec 𝓤 𝓛 𝓜 𝓡 wired T A LT LA g d dd met md =
     exec ! 𝓣.C 𝓣.Λ En (after 3 fn.body) (at_ret En Post) $
     sets ! (of_opd ! (unit_lit !)) refl (tt, tt) $
     -- The items are copied. The context holds, in this order: [the items at their new place; the
-    -- memory at their old place; the lifetime token of T; the last lifetime token; the other slots
-    -- of `self`; the other slots of `to_block`; the header, the cell and the open borrow of
-    -- `to_block`; the header, the cell and the open borrow of `self`].
+    -- memory at their old place; the lifetime tokens of T and A; the other slots of `self`; the
+    -- other slots of `to_block`; the header, the cell and the open borrow of `to_block`; the
+    -- header, the cell and the open borrow of `self`].
     let laid_to : List (Option T.Denot) = laid to (full xs) y.slots in
     let long_full : length (full xs) ≡ k = length-map xs Some ∙ long in
     let long_to : length laid_to ≡ length y.slots =
@@ -202,8 +202,8 @@ move_run_charging_spec 𝓤 𝓛 𝓜 𝓡 wired T A LT LA g d dd met md =
     block_closes E Y ! tt y' b' o' sb so at' $
     -- `to_block` is closed. The context holds, in this order: [two entries for the `&mut` to
     -- `to_block`; the lifetime token of this `&mut`; the memory at the old place of the items; the
-    -- lifetime token of T; the last lifetime token; the other slots of `self`; the header, the cell
-    -- and the open borrow of `self`].
+    -- lifetime tokens of T and A; the other slots of `self`; the header, the cell and the open
+    -- borrow of `self`].
     let left : List (Option T.Denot) = emptied from k x.slots in
     let long_empty : length (empty {T = T.Denot} k) ≡ k = length-replicate k None in
     let long_left : length left ≡ length x.slots =
@@ -217,7 +217,7 @@ move_run_charging_spec 𝓤 𝓛 𝓜 𝓡 wired T A LT LA g d dd met md =
     block_closes E Y ! tt x' b o rb ro at $
     -- `self` is closed too. The context holds, in this order: [two entries for the `&mut` to
     -- `self`; the lifetime token of this `&mut`; two entries for the `&mut` to `to_block`; the
-    -- lifetime token of this `&mut`; the lifetime token of T; the last lifetime token].
+    -- lifetime token of this `&mut`; the lifetime tokens of T and A].
     returns ! (look_at ! 0 refl) $ free_all ! refl $
     feq_i ! (List Val) vss.0 (vptr rb ro ∷ []) are.0.0 $ fjoin3 ! $ move ! (2 ∷ 3 ∷ []) $
     feq_i ! (List Val) vss.1.1.0 (vptr sb so ∷ []) are.1.1.0.0 $ fjoin3 ! $

@@ -201,8 +201,8 @@ resize_words_spec 𝓤 𝓛 𝓜 𝓡 wired T A m k LT LA fits_m fits_k g d dd m
     split ! $ split3 ! $ move ! (2 ∷ []) $ split3 ! $ move ! (5 ∷ []) $ fsplit ! $
     block_had E Y ! x vss.0 (λ b o at told fits.
     -- The block is split into its header and its slots. The context holds, in this order: [the
-    -- header; the slots; what the other parameters own; the lifetime tokens of A and M; the last
-    -- lifetime token; the lifetime tokens of the `&` to the allocator and of T].
+    -- header; the slots; what the other parameters own; the lifetime tokens of A, M and K, of the
+    -- `&` to the allocator, and of T].
     let here : Ptr = block_ptr b o in
     let there : ℕ = count * s + o in
     let same_bytes : count * s ≡ len * type_size Rt = ap (λ (n : ℕ). count * n) hd.size
@@ -232,7 +232,7 @@ resize_words_spec 𝓤 𝓛 𝓜 𝓡 wired T A m k LT LA fits_m fits_k g d dd m
     keep ! (2 ∷ 3 ∷ 4 ∷ 5 ∷ 0 ∷ 9 ∷ 10 ∷ 6 ∷ 7 ∷ 8 ∷ []) $
     -- The slots are turned into items and empty words. The context holds, in this order: [the
     -- items; the empty words; memory for the header; the right to free the block; the `&` to the
-    -- allocator; the lifetime tokens of this `&`, of T, A and M; the last lifetime token].
+    -- allocator; the lifetime tokens of this `&` and of T, A, M and K].
     regoal ! (λ (us : List Val). prop (WpFn 𝓤 H C Λ fn us Post))
     (λ i. told i ++ (are.1.0.0 i ++ (are.1.1.0.0 i ++ (are.1.1.1.0.0 i ++ (are.1.1.1.1.0.0 i
     ++ (are.1.1.1.1.1.0.0 i ++ (are.1.1.1.1.1.1.0.0 i ++ (are.1.1.1.1.1.1.1.0.0 i ++ []))))))))
@@ -306,8 +306,7 @@ resize_words_spec 𝓤 𝓛 𝓜 𝓡 wired T A m k LT LA fits_m fits_k g d dd m
     lands_as ! (ap only is_unit) refl (tt, tt) $ move ! (0 ∷ 2 ∷ []) $
     -- `make_words` has turned the items into words. The context holds, in this order: [the words;
     -- the empty words; the lifetime tokens of T and M; memory for the header; the right to free the
-    -- block; the `&` to the allocator; the lifetime tokens of this `&` and of A; the last lifetime
-    -- token].
+    -- block; the `&` to the allocator; the lifetime tokens of this `&`, of A and of K].
     use2 𝓛 (‵ (places Rw (full ws ++ empty v) b (o + 16)))
     (words_joined 𝓛 T LT m k b hd items count j v w old (o + 16) whole_words slots_are fill
     (hd.counts.covers old)) $
@@ -319,7 +318,7 @@ resize_words_spec 𝓤 𝓛 𝓜 𝓡 wired T A m k LT LA fits_m fits_k g d dd m
     -- The last words are split from the other words. The context holds, in this order: [the
     -- lifetime tokens of T and M; the other words; the last words; the empty words; memory for the
     -- header; the right to free the block; the `&` to the allocator; the lifetime tokens of this
-    -- `&` and of A; the last lifetime token].
+    -- `&`, of A and of K].
     move ! (1 ∷ 10 ∷ []) $ join ! $ move ! (9 ∷ 0 ∷ []) $ join ! $
     move ! (3 ∷ 2 ∷ 4 ∷ 5 ∷ 6 ∷ 7 ∷ 8 ∷ 1 ∷ 0 ∷ []) $
     -- The entries are put into a new order: [the last words; the other words; the empty words;
