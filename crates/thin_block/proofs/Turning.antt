@@ -1,7 +1,7 @@
 -- A block as an array of words from its start: the last words are kept in the place of the header
 -- until the allocator returns. Assumes `Logic`.
 --     asked_size, asked_align     the size and the alignment for which a block is allocated
---     carve_asked, gather         split the memory of a block into its parts, and join these
+--     carve_asked, gather         split the memory of a block into its parts, and join them again
 --     turn_out, turn_back         split the last k words from the other words, and join them again
 --     turn_up, turn_down          make the array that an allocator can grow, and split it again
 --     units_out                   turns memory for the k words in the place of the header into

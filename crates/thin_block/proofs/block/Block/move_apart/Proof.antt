@@ -1,5 +1,5 @@
--- `move_apart` takes the run and its destination out of the row, copies the one to the other, and
--- puts both back. Assumes `Logic`.
+-- `move_apart` takes the run and its destination out of the row, copies the items to the
+-- destination, and puts both back. Assumes `Logic`.
 use Rattle.std.proofs.Common.{◌≡◌, ℕ, Some, ◌+◌, ◌*◌, ◌^◌, ◌<◌, ◌≤◌, List, ◌∷◌, [], ◌++◌, length, refl, sym, ap, subst, ◌∙◌, arith, w64}
 use lib.ListN.{length-map}
 use lib.Dec.{T as Holds}
