@@ -1,10 +1,12 @@
--- The address of a slot, as a walk computes it, and how the slot at that address is taken out of
--- the row of slots. Assumes `Logic`.
+-- How a walk computes the address of a slot, and takes this slot out of the row of slots. Assumes
+-- `Logic`.
 --     its_ptr       reads the pointer of the block
---     slot_found    follows the computation of `(p.add(HEADER_WORDS) as *mut T).add(i)`
---     moves_on      follows the computation of `p.add(i)`
---     takes_slot    takes a slot out of the row; takes_item: a filled slot; takes_two: two filled
---                   slots
+--     slot_found    walks through the statements that compute
+--                   `(p.add(HEADER_WORDS) as *mut T).add(i)`
+--     moves_on      walks through the statements that compute `p.add(i)`
+--     takes_slot    takes a slot out of the row
+--     takes_item    takes a filled slot out of the row
+--     takes_two     takes two filled slots out of the row
 use Rattle.std.proofs.Common.{◌≡◌, ℕ, zero, Some, None, ◌+◌, ◌*◌, ◌^◌, ◌<◌, ◌≤◌, List, [], ◌∷◌, length, true, refl, sym, ap, subst, arith, w64}
 use lib.Dec.{T}
 use lib.ListN.{get_or}
@@ -29,8 +31,8 @@ use Rattle.thin_block.specs.Ownership.{fits_block, place as slot_place, places}
 use Rattle.thin_block.proofs.HeaderMemory.{Br, block_val}
 use Rattle.thin_block.proofs.SlotMemory.{Slot, sz, reach, besides, slot_out, Two}
 
--- if the slots xs make a block that fits, the distance in bytes from the first slot to the slot i
--- is less than 2 ^ 64
+-- if a block of the slots xs fits and i is at most their number, then the distance in bytes from
+-- the first slot to the slot i is less than 2 ^ 64
 pub near : (E : El) (xs : List (Slot E)) (i : ℕ) → fits_block (R E) (length xs) ≡ true
     → i ≤ length xs → i * sz E < 2 ^ 64
 near E xs i fits le = let low = reach (R E) i (length xs) fits le in omega arith
@@ -54,8 +56,8 @@ module _ {M : Type 1} {𝓤 : Ura M} (𝓛 : Logic 𝓤) (Ev : Env 𝓤 𝓛.H) 
   abbrev holds : ℕ → Val → Item 𝓤
   holds p v = ‵ (fat full_share (spot_of 𝓤 H Ev p).0 (spot_of 𝓤 H Ev p).1 zero v)
 
-  -- `free p Γ` is the entry of the context Γ which says that the local p may be written: it holds
-  -- any value of its type, or none
+  -- `free p Γ` is the entry of the context Γ which says that the local p may be written. The local
+  -- may hold any value of its type, or no value.
   abbrev free : ℕ → List (Item 𝓤) → Item 𝓤
   free p Γ = nth 𝓛 0 (free_needs 𝓛 (((spot_of 𝓤 H Ev p).0, (spot_of 𝓤 H Ev p).1) ∷ [])
       (at 𝓛 p Γ ∷ ‵ ftrue ∷ []))
@@ -65,42 +67,41 @@ module _ {M : Type 1} {𝓤 : Ura M} (𝓛 : Logic 𝓤) (Ev : Env 𝓤 𝓛.H) 
   Takes p v = T (has_ty (spot_of 𝓤 H Ev p).0 v)
 
   module _ (Γ : List (Item 𝓤)) (E : El) (b o i p₃ p₄ : ℕ) where
-    -- the context after the distance in bytes (i times the size of an item) was stored in the local
-    -- p₃
+    -- the context Γ after i times the size of an item was stored in the local p₃
     abbrev far : List (Item 𝓤)
     far = set 𝓛 p₃ (holds p₃ (vint w64 (i * sz E))) Γ
 
-    -- the context after the address of the item i, counted from the offset o, was also stored in
-    -- the local p₄
+    -- the context Γ after `p.add(i)` was computed: the local p₃ holds i times the size of an item,
+    -- and the local p₄ holds the address of the item i
     abbrev pub gone : List (Item 𝓤)
     gone = set 𝓛 p₄ (holds p₄ (vptr b (i * sz E + o))) far
 
-    -- the entries of the context that the steps of `p.add(i)` use, where the local p holds the
-    -- address of the first item and the local pᵢ holds i
+    -- `goes_by p pᵢ` lists the context entries that the steps of `p.add(i)` use. The local p holds
+    -- the address of the first item, and the local pᵢ holds i.
     abbrev pub goes_by : ℕ → ℕ → List (Item 𝓤)
     goes_by p pᵢ = at 𝓛 pᵢ Γ ∷ at 𝓛 p₃ Γ ∷ at 𝓛 p far ∷ at 𝓛 p₃ far ∷ at 𝓛 p₄ far ∷ []
 
-    -- what the entries that `goes_by` lists must be, in the same order
+    -- what the entries in `goes_by` must be, in the same order
     abbrev pub goes_with : ℕ → ℕ → List (Item 𝓤)
     goes_with p pᵢ = holds pᵢ (vint w64 i) ∷ free p₃ Γ ∷ holds p (vptr b o)
         ∷ holds p₃ (vint w64 (i * sz E)) ∷ free p₄ far ∷ []
 
   module _ (Γ : List (Item 𝓤)) (E : El) (b o i p₁ p₂ : ℕ) where
-    -- the context after the address of the first slot was stored in the local p₁
+    -- the context Γ after the address of the first slot was stored in the local p₁
     abbrev first : List (Item 𝓤)
     first = set 𝓛 p₁ (holds p₁ (vptr b (o + 16))) Γ
 
-    -- the context after the address of the first slot was stored in the locals p₁ and p₂
+    -- the context Γ after the address of the first slot was stored in the locals p₁ and p₂
     abbrev pub turned : List (Item 𝓤)
     turned = set 𝓛 p₂ (holds p₂ (vptr b (o + 16))) first
 
-    -- the entries of the context that the four steps of `slot_found` use, where the local p holds
-    -- the pointer of the block
+    -- `meets p₃ p₄ p pᵢ` lists the context entries that the four steps of `slot_found` use. The
+    -- local p holds the pointer of the block.
     abbrev pub meets : ℕ → ℕ → ℕ → ℕ → List (Item 𝓤)
     meets p₃ p₄ p pᵢ = at 𝓛 p Γ ∷ at 𝓛 p₁ Γ ∷ at 𝓛 p₁ first ∷ at 𝓛 p₂ first
         ∷ goes_by turned E b (o + 16) i p₃ p₄ p₂ pᵢ
 
-    -- what the entries that `meets` lists must be, in the same order
+    -- what the entries in `meets` must be, in the same order
     abbrev pub needs : ℕ → ℕ → ℕ → ℕ → List (Item 𝓤)
     needs p₃ p₄ p pᵢ = holds p (vptr b o) ∷ free p₁ Γ ∷ holds p₁ (vptr b (o + 16)) ∷ free p₂ first
         ∷ goes_with turned E b (o + 16) i p₃ p₄ p₂ pᵢ
@@ -108,7 +109,7 @@ module _ {M : Type 1} {𝓤 : Ura M} (𝓛 : Logic 𝓤) (Ev : Env 𝓤 𝓛.H) 
 module _ (E : El) {M : Type 1} {𝓤 : Ura M} {𝓛 : Logic 𝓤} {K : Type 0} {Γ : List (Item 𝓤)} where
   open 𝓛 use {H}
 
-  -- follows the computation of `p.add(i)`, which takes two statements
+  -- walks through the two statements that compute `p.add(i)`
   pub moves_on : K → {C : Calls 𝓤 H} {Λ : Loops 𝓤 H} {Ev : Env 𝓤 H} {q : Post 𝓤 H} {rest : Body}
       {p pᵢ p₃ p₄ : ℕ} (b o i : ℕ) → i * sz E < 2 ^ 64
       → goes_by 𝓛 Ev Γ E b o i p₃ p₄ p pᵢ ≡ goes_with 𝓛 Ev Γ E b o i p₃ p₄ p pᵢ
@@ -130,8 +131,7 @@ module _ (E : El) {M : Type 1} {𝓤 : Ura M} {𝓛 : Logic 𝓤} {K : Type 0} {
 module _ (E : El) {M : Type 1} {𝓤 : Ura M} {𝓛 : Logic 𝓤} {K : Type 0} {Γ : List (Item 𝓤)} where
   open 𝓛 use {H}
 
-  -- follows the computation of `(p.add(HEADER_WORDS) as *mut T).add(i)`, which takes four
-  -- statements
+  -- walks through the four statements that compute `(p.add(HEADER_WORDS) as *mut T).add(i)`
   pub slot_found : K → {C : Calls 𝓤 H} {Λ : Loops 𝓤 H} {Ev : Env 𝓤 H} {q : Post 𝓤 H} {rest : Body}
       {p pᵢ p₁ p₂ p₃ p₄ : ℕ} (b o i : ℕ) → i * sz E < 2 ^ 64
       → meets 𝓛 Ev Γ E b o i p₁ p₂ p₃ p₄ p pᵢ ≡ needs 𝓛 Ev Γ E b o i p₁ p₂ p₃ p₄ p pᵢ
@@ -155,8 +155,8 @@ module _ (E : El) {M : Type 1} {𝓤 : Ura M} {𝓛 : Logic 𝓤} {K : Type 0} {
 
 module _ (E : El) {M : Type 1} {𝓤 : Ura M} {𝓛 : Logic 𝓤} {K : Type 0} {Γ : List (Item 𝓤)}
     {G : Goal 𝓤 𝓛.H} {h : Item 𝓤} where
-  -- takes the slot i out of the row: the context [the header; the slots] becomes [the slot i and
-  -- its content; the other slots; the header]
+  -- Takes the slot i out of the row. The context [the header; the slots] becomes [the slot i; the
+  -- other slots; the header].
   pub takes_slot : K → {x : Slot E} (b o : ℕ) (xs : List (Slot E)) (i : ℕ) → i < length xs
       → get_or xs i None ≡ x
       → Step K 𝓛 (‵ (slot_place (R E) x b (i * sz E + o)) ∷ ‵ (besides E 𝓛 b o xs i) ∷ h ∷ Γ) G
@@ -168,18 +168,18 @@ module _ (E : El) {M : Type 1} {𝓤 : Ura M} {𝓛 : Logic 𝓤} {K : Type 0} {
       rewrite k 0 (λ (x : Slot E). ‵ (slot_place (R E) x b (i * sz E + o))) e refl $ rest)
 
 module _ (E : El) {M : Type 1} (𝓤 : Ura M) where
-  -- the bytes of an item in memory
+  -- `Bits b o v` is the bytes of an item in memory, if its machine value is v
   abbrev Bits : ℕ → ℕ → Val → Item 𝓤
   Bits b o v = ‵ (fat full_share (elτ E) b o v)
 
-  -- what the item with the given machine value owns
+  -- `Owned x v` is what the item x with the machine value v owns
   abbrev Owned : el_x E → Val → Item 𝓤
   Owned x v = ‵ (E.row.own_val x (v ∷ []))
 
 module _ (E : El) {M : Type 1} {𝓤 : Ura M} {𝓛 : Logic 𝓤} {K : Type 0} {Γ : List (Item 𝓤)}
     {G : Goal 𝓤 𝓛.H} {h : Item 𝓤} where
-  -- takes the filled slot i out of the row, so that its item can be read; the resources at this
-  -- point: [the item's bytes; what the item owns; the other slots; the header]
+  -- Takes the filled slot i out of the row, so that its item can be read. After it the context
+  -- holds, in this order: [the bytes of the item; what the item owns; the other slots; the header].
   pub takes_item : K → {x : el_x E} (b o : ℕ) (xs : List (Slot E)) (i : ℕ) → i < length xs
       → get_or xs i None ≡ Some x
       → ((v : Val) → Good E v → Seq K 𝓛 (Bits E 𝓤 b (i * sz E + o) v ∷ Owned E 𝓤 x v
@@ -190,9 +190,9 @@ module _ (E : El) {M : Type 1} {𝓤 : Ura M} {𝓛 : Logic 𝓤} {K : Type 0} {
       use1 𝓛 (some (λ (v : Val). given (Good E v) (Bits E 𝓤 b (i * sz E + o) v ⊛ Owned E 𝓤 x v)))
       (el_out E 𝓛 b x (i * sz E + o)) $ pick k (λ v. learn k (λ good. split k $ next v good))
 
-  -- takes two filled slots out of the row; the resources at this point: [the second item's bytes;
-  -- what the second item owns; the first item's bytes; what the first item owns; the other slots;
-  -- the header]
+  -- Takes two filled slots out of the row. After it the context holds, in this order: [the bytes of
+  -- the second item; what the second item owns; the bytes of the first item; what the first item
+  -- owns; the other slots; the header].
   pub takes_two : K → {x y : el_x E} (b o : ℕ) (xs : List (Slot E)) (i j : ℕ)
       (p : Two E 𝓛 b o xs i j) → (get_or xs i None ≡ Some x) × (get_or xs j None ≡ Some y)
       → ((v w : Val) → Good E v → Good E w → Seq K 𝓛 (Bits E 𝓤 b (j * sz E + o) w ∷ Owned E 𝓤 y w

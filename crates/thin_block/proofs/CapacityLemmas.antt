@@ -19,21 +19,21 @@ pub ruled-same : (rule : Rule) (R : RattleType) (c w : ℕ) → w ≤ c
 unfolding ruled_capacity
 ruled-same rule R c w enough = rw (le-leb w c enough) refl
 
--- if the capacity c is less than w, and w exceeds `usize::MAX`, then there is no ruled capacity
+-- if the capacity c is less than w and w exceeds `usize::MAX`, then w items have no ruled capacity
 pub ruled-overflow : (rule : Rule) (R : RattleType) (c w : ℕ) → c < w → 2 ^ 64 ≤ w
     → ruled_capacity rule R c w ≡ None
 unfolding ruled_capacity
 ruled-overflow rule R c w more high = rw (lt-leb w c more) (rw (le-ltb w (2 ^ 64) high) refl)
 
--- if the capacity c is less than w, and w fits into a `usize`, then the ruled capacity is what the
--- rule chooses
+-- if the capacity c is less than w and w fits into a `usize`, then the ruled capacity for w items
+-- is what the rule chooses
 pub ruled-rule : (rule : Rule) (R : RattleType) (c w : ℕ) → c < w → w < 2 ^ 64
     → ruled_capacity rule R c w ≡ rule (type_size R) (type_align R) c w
 unfolding ruled_capacity
 ruled-rule rule R c w more word = rw (lt-leb w c more) (rw (lt-ltb w (2 ^ 64) word) refl)
 
--- n is a capacity to which a block of capacity c may grow in order to hold w items of R. (This is
--- `Grows`, with `Fits R n` as its last part.)
+-- `Grown R c w n`: a block of capacity c may grow to the capacity n in order to hold w items of R.
+-- (This is `Grows`, with `Fits R n` as its last field.)
 pub record Grown (R : RattleType) (c w n : ℕ) : Type 0 where
   pub enough : w ≤ n
   pub doubled : 2 * c ≤ n
@@ -42,8 +42,8 @@ pub record Grown (R : RattleType) (c w n : ℕ) : Type 0 where
 none_some : {A B : Type 0} (x : A) → None ≡ Some x → B
 none_some x e = cc
 
--- if a capacity c that does not suffice for w items has a ruled capacity n, then n has room for w
--- items, is at least 2 * c, and fits
+-- if the rule keeps its law, c is less than w, and n is the ruled capacity for w items, then n is
+-- at least w, n is at least 2 * c, and n fits
 pub ruled-grows : (rule : Rule) (R : RattleType) (c w n : ℕ) → KeepsLaw rule → c < w
     → ruled_capacity rule R c w ≡ Some n → Grown R c w n
 ruled-grows rule R c w n law more e = elim (dec_lt w (2 ^ 64)) [
@@ -74,8 +74,8 @@ fits-less R c d e less =
 pub fits-none : (R : RattleType) → Fits R 0
 fits-none R = closed R 0 (fits_none R)
 
--- ---- numbers that are far below every limit, for callers that know the item type: fewer than
--- 2 ^ 31 items of fewer than 2 ^ 31 bytes each
+-- ---- sizes that are far below every limit: fewer than 2 ^ 31 items of fewer than 2 ^ 31 bytes
+-- each. These lemmas are for callers that know the item type.
 
 -- fewer than 2 ^ 31 items of fewer than 2 ^ 31 bytes each take less than 2 ^ 62 bytes
 pub few_bytes : (c s : ℕ) → c < 2 ^ 31 → s < 2 ^ 31 → c * s < 2 ^ 62
@@ -84,14 +84,15 @@ few_bytes c s few small =
     mul-le-mul_left c (let less : s ≤ 2 ^ 31 = omega arith in less) in
     omega arith
 
--- a capacity for fewer than 2 ^ 31 items of fewer than 2 ^ 31 bytes each fits
+-- if an item takes less than 2 ^ 31 bytes, every capacity less than 2 ^ 31 fits
 pub small_fits : (R : RattleType) (c : ℕ) → c < 2 ^ 31 → type_size R < 2 ^ 31 → Fits R c
 small_fits R c few small =
     let bytes : c * type_size R < 2 ^ 62 = few_bytes c (type_size R) few small in
     let about = rounded R 0 in
     closed R c (fits_yes R c (omega arith) (omega (arith, about.most)))
 
--- if a list has no block and needs room for 1 to 4 items, doubling chooses the capacity 4
+-- if 1 to 4 items of less than 2 ^ 31 bytes each need room and the capacity is 0, then doubling
+-- chooses the capacity 4
 pub doubling_first : (R : RattleType) (c w : ℕ) → c ≡ 0 → 0 < w → w ≤ 4 → type_size R < 2 ^ 31
     → ruled_capacity doubling R c w ≡ Some 4
 unfolding doubling fitting first
@@ -103,7 +104,8 @@ doubling_first R c w none some few small =
     subst (Fits R) (sym four) (small_fits R 4 (omega arith) small) in
     ruled-rule doubling R c w more (omega arith) ∙ (rw fit (ap Some four))
 
--- if a list has a block, and twice its capacity suffices, doubling chooses twice the capacity
+-- if the capacity c is from 1 to 2 ^ 30 - 1, w is more than c and at most 2 * c, and an item takes
+-- less than 2 ^ 31 bytes, then doubling chooses the capacity 2 * c for w items
 pub doubling_next : (R : RattleType) (c w : ℕ) → 0 < c → c < w → w ≤ 2 * c → c < 2 ^ 30
     → type_size R < 2 ^ 31 → ruled_capacity doubling R c w ≡ Some (2 * c)
 unfolding doubling fitting
@@ -119,7 +121,8 @@ pub exact-same : (R : RattleType) (c w : ℕ) → w ≤ c → exact_capacity R c
 unfolding exact_capacity
 exact-same R c w enough = rw (le-leb w c enough) refl
 
--- if the capacity c is less than w, and w fits, then the exact capacity is w
+-- if the capacity c is less than w and the capacity w fits, then the exact capacity for w items is
+-- w
 pub exact-fits : (R : RattleType) (c w : ℕ) → c < w → Fits R w → exact_capacity R c w ≡ Some w
 unfolding exact_capacity fitting
 exact-fits R c w more fit = rw (lt-leb w c more, fit) refl
@@ -134,18 +137,19 @@ pub fitting_none : (R : RattleType) (n : ℕ) → (Fits R n → ⊥)
 unfolding fitting
 fitting_none R n never = no_answer (fits (type_size R) (type_align R) n) n never
 
--- if the capacity c is less than w, and w does not fit, then there is no exact capacity
+-- if the capacity c is less than w and the capacity w does not fit, then w items have no exact
+-- capacity
 pub exact-overflow : (R : RattleType) (c w : ℕ) → c < w → (Fits R w → ⊥)
     → exact_capacity R c w ≡ None
 unfolding exact_capacity
 exact-overflow R c w more never = rw (lt-leb w c more) (fitting_none R w never)
 
--- if a list has no block, and w does not fit, then there is no exact capacity
+-- if the old capacity is 0 and the capacity w does not fit, then w items have no exact capacity
 pub exact-none : (R : RattleType) (w : ℕ) → (Fits R w → ⊥) → exact_capacity R 0 w ≡ None
 exact-none R zero never = absurd (never (fits-none R))
 exact-none R (suc w) never = exact-overflow R 0 (suc w) (omega arith) never
 
--- if the capacity c is less than w, and w exceeds `usize::MAX`, then there is no exact capacity
+-- if the capacity c is less than w and w exceeds `usize::MAX`, then w items have no exact capacity
 pub exact-past : (R : RattleType) (c w : ℕ) → c < w → 2 ^ 64 ≤ w → exact_capacity R c w ≡ None
 exact-past R c w more high =
     exact-overflow R c w more (λ fit. let small = fits-small R w fit in absurd (omega arith))

@@ -54,7 +54,7 @@ module _ (E : El) (g : Ghosts (el_x E)) (d : Dict) {M : Type 1} {𝓤 : Ura M} (
     abbrev pub Slice : Fml
     Slice = (ShrSlice (named 0) κ₀ (copied 0 E.row)).own_val s (shr_slice_vals s)
 
-    -- z is the row r with a copy of the slice in its places
+    -- `IsCopy z`: z is the row r, with the items of the slice copied into its places
     pub record IsCopy (z : (Row E).Denot) : Type 0 where
       pub same : SamePlaces r z
       pub items : slots_items z ≡ s.now
@@ -69,10 +69,11 @@ module _ (E : El) (g : Ghosts (el_x E)) (d : Dict) {M : Type 1} {𝓤 : Ura M} (
         use0 𝓛 (raw (fact 𝓤 (slots_len r ≡ length s.now)))
         (fact_i 𝓤 (slots_len r ≡ length s.now) (emp 𝓤) long) $
         use0 𝓛 (raw (fact 𝓤 (κ₁ ⊑ E.row.lives))) (fact_i 𝓤 (κ₁ ⊑ E.row.lives) (emp 𝓤) le) $ join ! $
-        -- the resources at this point: [what the call requires; the two tokens; the row; the slice]
+        -- The facts that the call requires are joined. The context holds, in this order: [these
+        -- facts; the two lifetime tokens; the row; the slice].
         nothing ! $ move ! (5 ∷ 0 ∷ []) $ fjoin ! $ move ! (4 ∷ 0 ∷ []) $ fjoin ! $
-        -- the resources at this point: [what the call receives; what the call requires; the two
-        -- tokens]
+        -- The arguments of the call are joined. The context holds, in this order: [the row and the
+        -- slice, as arguments; the facts that the call requires; the two lifetime tokens].
         nothing ! $ move ! (4 ∷ 0 ∷ []) $ join ! $ move ! (3 ∷ 0 ∷ []) $ join ! $ join ! $ done !
 
     pub Copied-gives : (v : Val) → slots_ptr r ≡ block_ptr b o

@@ -1,13 +1,14 @@
--- A block as a machine value, its memory split into its parts, and the steps that open and close a
--- block. Assumes `Logic`.
+-- A block as a machine value, the parts of its memory, and the steps that open and close a block.
+-- Assumes `Logic`.
 --     block_val, block_own        the pointer in a struct of three fields, and what the struct owns
 --     whole_size, whole_align     the size and the alignment of the memory of a whole block
---     carve                       splits that memory into its parts, and keeps the way back
+--     carve                       splits the memory of a whole block into its parts, and keeps what
+--                                 turns these back into the whole
 --     header                      what a block owns without its slots, also if it has no allocation
 --     header_fits                 the header of a block implies that the block fits
 --     alloc_there                 if there are slots, the block has an allocator
---     block_had, block_made       split a block into its header and its slots, and join them
---     block_opens, block_closes   do the same for the block behind a `&mut`
+--     block_had, block_made       split a block into its header and its slots, and join these
+--     block_opens, block_closes   open and close the block behind a `&mut`
 use Rattle.std.proofs.Common.{◌≡◌, Bool, true, ℕ, Some, None, ◌+◌, ◌*◌, ◌<◌, List, [], ◌∷◌, ◌++◌, length, refl, sym, ap, subst, ◌∙◌, arith, w64}
 use seplogic.Ra.Ura.{Ura}
 use mir.Syntax.{Ty, Tys, Width, Args, w8, w16, w32, w128, a_type, dcons, dnil, ty_int, ty_array, tcons, tnil}
@@ -46,8 +47,8 @@ use Rattle.std.specs.Align.{type_align}
 use Rattle.thin_block.specs.Capacity.{block_align, block_bytes}
 use Rattle.thin_block.proofs.SizesLemmas.{fits_none}
 
--- the struct with the given fields and an empty name: what a struct owns does not depend on its
--- name
+-- `plainly Rs` is the struct with the fields Rs and an empty name. What a struct owns does not
+-- depend on its name.
 abbrev pub plainly : List RattleType → RattleType
 plainly Rs = Struct (record { name = []; args = []; types = []; fields = Rs })
 
@@ -55,7 +56,8 @@ plainly Rs = Struct (record { name = []; args = []; types = []; fields = Rs })
 abbrev pub block_val : Ptr → Val
 block_val p = vstruct (vcons (ptr_val p) (vcons (vstruct vnil) (vcons (vstruct vnil) vnil)))
 
--- what the fields of a block own
+-- `block_own p vs` is what the fields of a block with the pointer p own; vs are their machine
+-- values
 abbrev pub block_own : Ptr → List Val → Fml
 block_own p = (plainly (RawPtr ∷ plainly [] ∷ plainly [] ∷ [])).own_val (p, (tt, (tt, tt)))
 
@@ -106,11 +108,11 @@ module _ (R : RattleType) (c : ℕ) where
   abbrev pub items : Ty
   items = raw (ty_array τ c)
 
-  -- the alignment of a whole block
+  -- the type of a whole block has the alignment `block_align`
   pub whole_align : align (whole R c) ≡ block_align (type_align R)
   whole_align = ap (λ (a : ℕ). max 8 (max 8 (max a 1))) (align-raw τ) ∙ (aligned τ).0
 
-  -- the size of a whole block in bytes
+  -- the type of a whole block has the size `block_bytes`
   pub whole_size : size (whole R c) ≡ block_bytes (type_size R) (type_align R) c
   whole_size =
       let ends : up (align items) 16 + size items ≡ max 16 (align τ) + c * size τ =
@@ -120,8 +122,8 @@ module _ (R : RattleType) (c : ℕ) where
 module _ {M : Type 1} {𝓤 : Ura M} (𝓛 : Logic 𝓤) (R : RattleType) where
   open 𝓛 use {H}
 
-  -- splits the memory of a whole block into the capacity, the length and the slots, and keeps the
-  -- way back from these parts to the whole
+  -- splits the memory of a whole block into the capacity, the length and the slots, and keeps what
+  -- turns these parts back into the whole
   pub carve : (c b o : ℕ) → ent 𝓤 (H.room (whole R c) b o)
       (sep 𝓤 (H.room (ty_int w64) b o)
       (sep 𝓤 (H.room (ty_int w64) b (o + 8))
@@ -211,12 +213,12 @@ module _ (E : El) (Y : Al) where
   abbrev pub Br : RattleType
   Br = block.the_row (param 0 E.row) (param 1 Y.row) Y.g
 
-  -- the right to free memory that the given allocator has allocated
+  -- `t a` is the right to free memory that the allocator a has allocated
   abbrev pub t : Y.row.Denot → Ty → Ptr → Fml
   t = Y.g.dealloc_token
 
-  -- what the block x owns without its slots: its header and the rest of its allocation, or its
-  -- share of the static header
+  -- What the block x owns without its slots. If x has an allocator, this is the header and the rest
+  -- of the allocation; otherwise it is a share of the static header.
   abbrev pub Header : Br.Denot → ℕ → ℕ → Fml
   Header x b o = header t (R E) x.len (length x.slots) x.alloc b o
 
@@ -255,8 +257,8 @@ module _ (E : El) (Y : Al) {M : Type 1} {𝓤 : Ura M} {𝓛 : Logic 𝓤} {K : 
 
 module _ (E : El) (Y : Al) {M : Type 1} {𝓤 : Ura M} {𝓛 : Logic 𝓤} {K : Type 0}
     {Γ : List (Item 𝓤)} {G : Goal 𝓤 𝓛.H} where
-  -- opens the block behind a `&mut`; the resources at this point: [the header; the slots; the
-  -- block's cell; three entries for the open borrow]
+  -- Opens the block behind a `&mut`. After it the context holds, in this order: [the header; the
+  -- slots; the cell with the block's pointer; three entries for the open borrow of the block].
   pub block_opens : K → Soaks G → {κ : Lft} {q : Share} {γ : GName} (x : (Br E Y).Denot) (rb ro : ℕ)
       → ((b o : ℕ) → x.at ≡ block_ptr b o → fits_block (R E) (length x.slots) ≡ true
       → Seq K 𝓛 (‵ (Header E Y x b o) ∷ ‵ (Slots E Y x b o) ∷ ‵

@@ -1,4 +1,4 @@
--- The lemma files. Other crates may use those that are `pub`.
+-- The lemma files of this crate. Other crates may use the files that are `pub`.
 mod SizesLemmas
 mod PowersLemmas
 mod GrowthLemmas

@@ -1,15 +1,14 @@
 -- How a walk of a method on a `&mut Block` begins and ends. Assumes `Logic`.
---     dropped, all_go          the method returns none of the given parameters, and the contract
---                              allows that
+--     dropped, all_go          no parameter is returned, and the contract allows that
 --     heard_all                splits a `requires` of several facts
---     block_stays, goes        the method returns the `&mut`, and drops the other parameters
---     arrives                  the context on entry
---     starts, begins, begins_with   the context on entry, with the `&mut` taken apart
---     token_out                takes the first token out of a row of tokens
---     enters                   enters the body, with the values of the arguments written out
+--     block_stays, goes        the `&mut` is returned, and the other parameters are dropped
+--     arrives                  begins a walk
+--     starts, begins, begins_with   begin the walk of a method on a `&mut Block`
+--     token_out                takes the first lifetime token out of a row of tokens
+--     enters                   enters the body of a function, with its arguments written out
 --     opens_self, closes_over  open the block behind the `&mut`, and close it with other slots
 --     continues                continues after the first statements of a body
---     seen                     the context on entry of a method on a `&Block`
+--     seen                     begins the walk of a method on a `&Block`
 --     leaves, leaves_with, leaves_unit  join all that the method must return
 use Rattle.std.proofs.Common.{◌≡◌, true, ℕ, zero, suc, ◌+◌, ◌^◌, ◌<◌, List, [], ◌∷◌, length, refl, sym, w64}
 use lib.Dec.{T}
@@ -94,7 +93,7 @@ abbrev pub word : {n : ℕ} → n < 2 ^ 64 → T (has_ty (ty_int w64) (vint w64 
 word fits = (tt, record { fits = fits })
 
 module _ {M : Type 1} {𝓤 : Ura M} {𝓛 : Logic 𝓤} {K : Type 0} {Γ : List (Item 𝓤)} where
-  -- enters the body of a function, with the values of the arguments written out
+  -- enters the body of the function f; its arguments us equal the values vs, which are written out
   pub enters : K → {C : Calls 𝓤 𝓛.H} {Λ : Loops 𝓤 𝓛.H} (f : Fn) {us : List Val}
       {P : Val → SProp 𝓤} (vs : List Val) → us ≡ vs
       → Step K 𝓛 Γ (allocs f.locals (λ E. params' E vs (runs C Λ E f.body (at_ret E P))))
@@ -111,7 +110,7 @@ item {T} L = record { row = T; laws = L }
 abbrev pub source : {A : RattleType} → Laws A → Ghosts A.Denot → Dict → Dict → Al
 source {A} L g d drops = record { row = A; laws = L; g = g; d = d; drops = drops }
 
--- the type arguments of a function that also has a const parameter
+-- the type arguments of a function: the item type, the allocator type and a const parameter
 abbrev pub args_at : El → Al → ℕ → Args
 args_at E Y N = bounded (a_type ∷ a_type ∷ a_number ∷ []) (E.row, (Y.row, (number N, tt)))
     (dcons Y.d (dcons Y.drops dnil))
@@ -144,18 +143,19 @@ module _ {M : Type 1} {𝓤 : Ura M} {𝓛 : Logic 𝓤} {K : Type 0} {Γ : List
       (env f.locals l) (after k f.body) (at_ret (env f.locals l) P)
 
 module _ {n : ℕ} (s : Slot (suc n)) (ss : List (Slot (suc n))) where
-  -- what a function is passed: lifetimes, shares, bounds, arguments and their machine values
+  -- what a function is passed: lifetimes, shares, bounds, and the arguments with their machine
+  -- values
   abbrev Passed : (Lfts (suc n) → Type 0) → Type 0
   Passed Bd = (κs : Lfts (suc n)) × Shares (suc n) × Bd κs × Denots (types_at (s ∷ ss) κs)
       × Valss (types_at (s ∷ ss) κs)
 
-  -- the context on entry, without the `requires`
+  -- `Entry 𝓛 x` is the context on entry to a function that is passed x, without the `requires`
   abbrev Entry : {M : Type 1} {𝓤 : Ura M} (𝓛 : Logic 𝓤) {Bd : Lfts (suc n) → Type 0} → Passed Bd
       → SProp 𝓤
   Entry {𝓤 = 𝓤} 𝓛 x = sep 𝓤 (toks 𝓛 (suc n) x.0 x.1) (sem 𝓛 (owns (types_at (s ∷ ss) x.0) x.3 x.4))
 
-  -- begins a walk; the resources at this point: [what the first argument owns; the first token; the
-  -- other tokens; what the other arguments own; the `requires`]
+  -- Begins a walk. After it the context holds, in this order: [what the first argument owns; the
+  -- first lifetime token; the other lifetime tokens; what the other arguments own; the `requires`].
   pub arrives : {M : Type 1} {𝓤 : Ura M} (𝓛 : Logic 𝓤) {Bd : Lfts (suc n) → Type 0} {P : SProp 𝓤}
       (x : Passed Bd) (Q : SProp 𝓤)
       → Sq 𝓛 (‵ ((s.row x.0).own_val x.3.0 x.4.0) ∷ ‵ (flft x.0.0 x.1.0)
@@ -175,8 +175,9 @@ module _ (E : El) (Y : Al) {M : Type 1} {𝓤 : Ura M} (𝓛 : Logic 𝓤) {n : 
   abbrev shared : Slot (suc n)
   shared = shr_ref_to (0 ∷ []) tt (plain (λ _. Br E Y))
 
-  -- the resources at this point: [two entries for the `&mut`; its token; the other tokens; what the
-  -- other arguments own], followed by the entries of Γ
+  -- the context on entry to a method on a `&mut Block`: [two entries for the `&mut`; the lifetime
+  -- token of this `&mut`; the other lifetime tokens; what the other arguments own], followed by the
+  -- entries of Γ
   abbrev Entered : {Bd : Lfts (suc n) → Type 0} → Passed lent ss Bd → List (Item 𝓤) → List (Item 𝓤)
   Entered x Γ = ‵ (fobs x.3.0.ghost_name ((Br E Y).coded.code x.3.0.now)) ∷ ‵
       (fbor x.0.0 (Body (mem (Br E Y)) x.3.0.ref_ptr.0 x.3.0.ref_ptr.1 x.3.0.ghost_name))
@@ -188,15 +189,16 @@ module _ (E : El) (Y : Al) {M : Type 1} {𝓤 : Ura M} (𝓛 : Logic 𝓤) {n : 
       → Sq 𝓛 (Entered x (raw Q ∷ [])) (prop P) → ent 𝓤 (sep 𝓤 (Entry lent ss 𝓛 x) Q) P
   starts x Q next = arrives lent ss 𝓛 x Q (fsplit3 ! $ drop ! $ next)
 
-  -- begins the walk of a method on a `&mut Block`, whose `requires` says the facts φs
+  -- begins the walk of a method on a `&mut Block` whose `requires` consists of the facts φs
   pub begins_with : {Bd : Lfts (suc n) → Type 0} {P : SProp 𝓤} (x : Passed lent ss Bd)
       (φs : List (Type 0)) → (Shown φs → Sq 𝓛 (Entered x []) (prop P))
       → ent 𝓤 (sep 𝓤 (Entry lent ss 𝓛 x) (Facts 𝓤 φs)) P
   begins_with x φs next = starts x (Facts 𝓤 φs)
       (move ! (5 ∷ []) $ heard_all ! φs (λ said. next said))
 
-  -- begins the walk of a method on a `&mut Block` if what the other arguments own is not needed;
-  -- the resources at this point: [two entries for the `&mut`; its token; the other tokens]
+  -- Begins the walk of a method on a `&mut Block` that does not need what the other arguments own.
+  -- After it the context holds, in this order: [two entries for the `&mut`; the lifetime token of
+  -- this `&mut`; the other lifetime tokens].
   pub begins : {Bd : Lfts (suc n) → Type 0} {P : SProp 𝓤} (x : Passed lent ss Bd)
       (φs : List (Type 0))
       → (Shown φs → Sq 𝓛 (‵ (fobs x.3.0.ghost_name ((Br E Y).coded.code x.3.0.now)) ∷ ‵
@@ -205,8 +207,9 @@ module _ (E : El) (Y : Al) {M : Type 1} {𝓤 : Ura M} (𝓛 : Logic 𝓤) {n : 
       → ent 𝓤 (sep 𝓤 (Entry lent ss 𝓛 x) (Facts 𝓤 φs)) P
   begins x φs next = begins_with x φs (λ said. keep ! (0 ∷ 1 ∷ 2 ∷ 3 ∷ []) $ next said)
 
-  -- begins the walk of a method on a `&Block`; the resources at this point: [what the `&` shows;
-  -- its token; the other tokens; what the other arguments own; the `requires`]
+  -- Begins the walk of a method on a `&Block`. After it the context holds, in this order: [what the
+  -- `&` shows; the lifetime token of this `&`; the other lifetime tokens; what the other arguments
+  -- own; the `requires`].
   pub seen : {Bd : Lfts (suc n) → Type 0} {P : SProp 𝓤} (x : Passed shared ss Bd) (Q : SProp 𝓤)
       → Sq 𝓛 (‵ (hidden_shr (Br E Y) x.0.0 x.3.0.now x.3.0.ref_ptr.0 x.3.0.ref_ptr.1)
       ∷ ‵ (flft x.0.0 x.1.0) ∷ raw (toks 𝓛 n x.0.1 x.1.1) ∷ ‵
@@ -216,29 +219,29 @@ module _ (E : El) (Y : Al) {M : Type 1} {𝓤 : Ura M} (𝓛 : Logic 𝓤) {n : 
 
 module _ {M : Type 1} {𝓤 : Ura M} {𝓛 : Logic 𝓤} {K : Type 0} {Γ : List (Item 𝓤)}
     {G : Goal 𝓤 𝓛.H} where
-  -- splits the token of the first lifetime off from the tokens of the lifetimes κs
+  -- splits the tokens of the lifetimes κs into the token of the first lifetime and the other tokens
   pub token_out : K → (n : ℕ) (κs : Lfts (suc n)) (qs : Shares (suc n))
       → Step K 𝓛 (‵ (flft κs.0 qs.0) ∷ raw (toks 𝓛 n κs.1 qs.1) ∷ Γ) G
       (raw (toks 𝓛 (suc n) κs qs) ∷ Γ) G
   token_out k n κs qs = step (λ s.
       use1 𝓛 (‵ (flft κs.0 qs.0) ⊛ raw (toks 𝓛 n κs.1 qs.1)) (id⊢ 𝓤 _) $ split k $ s)
 
--- what parameters that are not returned must leave: nothing, once for each of them
+-- `blanks m` is what m parameters that are not returned must leave: nothing for each of them
 abbrev pub blanks : ℕ → Fml
 blanks zero = ftrue
 blanks (suc m) = fsep ftrue (blanks m)
 
 module _ {M : Type 1} {𝓤 : Ura M} {𝓛 : Logic 𝓤} {K : Type 0} {Γ : List (Item 𝓤)}
     {G : Goal 𝓤 𝓛.H} where
-  -- adds to the context what m parameters that are not returned must leave. This is nothing, so no
-  -- resource is needed
+  -- Adds to the context what m parameters that are not returned must leave. This is nothing, so no
+  -- resource is needed.
   pub blank : K → (m : ℕ) → Step K 𝓛 (‵ (blanks m) ∷ Γ) G Γ G
   blank k zero = nothing k
   blank k (suc m) = step (λ s. blank k m $ nothing k $ fjoin k $ s)
 
 module _ {M : Type 1} {𝓤 : Ura M} {𝓛 : Logic 𝓤} {K : Type 0} {G : Goal 𝓤 𝓛.H} where
-  -- for a function that returns none of its m parameters: joins the context [a token; the result;
-  -- the other tokens] into what the function must return
+  -- joins the context [a lifetime token; the result; the other lifetime tokens] into what a
+  -- function that returns none of its m parameters must return
   pub leaves : K → {Q F : Fml} {T : Item 𝓤} (m : ℕ)
       → Step K 𝓛 (((‵ Q ⊛ T) ⊛ ‵ (blanks m) ⊛ ‵ F) ∷ []) G (‵ Q ∷ ‵ F ∷ T ∷ []) G
   leaves k m = step (λ s. move k (0 ∷ 2 ∷ []) $ join k $ blank k m $ move k (0 ∷ 2 ∷ []) $ join k $
@@ -246,7 +249,7 @@ module _ {M : Type 1} {𝓤 : Ura M} {𝓛 : Logic 𝓤} {K : Type 0} {G : Goal 
 
 module _ (E : El) (Y : Al) {M : Type 1} {𝓤 : Ura M} {𝓛 : Logic 𝓤} {K : Type 0}
     {G : Goal 𝓤 𝓛.H} where
-  -- opens the block behind a `&mut`, as `block_opens` does
+  -- opens the block behind the `&mut` r, as `block_opens` does
   pub opens_self : K → Soaks G → {Γ : List (Item 𝓤)} {κ : Lft} {q : Share}
       (r : MutBor (Br E Y).Denot)
       → ((b o : ℕ) → r.now.at ≡ block_ptr b o → fits_block (R E) (length r.now.slots) ≡ true
@@ -259,8 +262,9 @@ module _ (E : El) (Y : Al) {M : Type 1} {𝓤 : Ura M} {𝓛 : Logic 𝓤} {K : 
       (fbor κ (Body (mem (Br E Y)) r.ref_ptr.0 r.ref_ptr.1 r.ghost_name)) ∷ ‵ (flft κ q) ∷ Γ) G
   opens_self k z r next = block_opens E Y k z r.now r.ref_ptr.0 r.ref_ptr.1 next
 
-  -- closes the block behind a `&mut` again; the context before is [the slots as they now are; the
-  -- header; the block's cell; three entries for the open borrow]
+  -- Closes the block behind a `&mut` again. Before it the context holds, in this order: [the slots
+  -- as they now are; the header; the cell with the block's pointer; three entries for the open
+  -- borrow of the block].
   pub closes_over : K → Soaks G → {Γ : List (Item 𝓤)} {κ : Lft} {q : Share} {u v : Gv} {c : ℕ}
       (r : MutBor (Br E Y).Denot) (y : (Br E Y).Denot) (b o : ℕ) → y.at ≡ block_ptr b o
       → length y.slots ≡ c
@@ -274,8 +278,8 @@ module _ (E : El) (Y : Al) {M : Type 1} {𝓤 : Ura M} {𝓛 : Logic 𝓤} {K : 
       rewrite k 1 (λ (c : ℕ). ‵ (header (t E Y) (R E) y.len c y.alloc b o)) (sym long) refl $
       move k (1 ∷ 0 ∷ []) $ block_closes E Y k z y b o r.ref_ptr.0 r.ref_ptr.1 at $ s)
 
-  -- joins the context [two entries for the `&mut`; its token; the result; the other tokens] into
-  -- what a method with m further parameters must return
+  -- joins the context [two entries for the `&mut`; the lifetime token of this `&mut`; the result;
+  -- the other lifetime tokens] into what a method with m further parameters must return
   pub leaves_with : K → {κ : Lft} {q : Share} {us : List Val} {F : Fml} {T : Item 𝓤}
       (r : MutBor (Br E Y).Denot) (y : (Br E Y).Denot) (m : ℕ) → us ≡ mut_vals r
       → Step K 𝓛 (((‵ (flft κ q) ⊛ T) ⊛ ‵
@@ -287,8 +291,8 @@ module _ (E : El) (Y : Al) {M : Type 1} {𝓤 : Ura M} {𝓛 : Logic 𝓤} {K : 
       feq_i k (List Val) us (mut_vals r) e $ fjoin3 k $ blank k m $ move k (1 ∷ 0 ∷ []) $ fjoin k $
       move k (0 ∷ 2 ∷ []) $ join k $ move k (1 ∷ 2 ∷ []) $ join k $ join k $ s)
 
-  -- joins the context [two entries for the `&mut`; its token; the other tokens] into what a method
-  -- with m further parameters and the result `()` must return
+  -- joins the context [two entries for the `&mut`; the lifetime token of this `&mut`; the other
+  -- lifetime tokens] into what a method with m further parameters and the result `()` must return
   pub leaves_unit : K → {κ : Lft} {q : Share} {us : List Val} {T : Item 𝓤}
       (r : MutBor (Br E Y).Denot) (y : (Br E Y).Denot) (m : ℕ) → us ≡ mut_vals r
       → Step K 𝓛 (((‵ (flft κ q) ⊛ T) ⊛ ‵

@@ -21,11 +21,11 @@ at-some {P = P} e p = subst (λ o. OnSome o P) e p
 pub ok-err : {X E P : Type 0} (x : X) (e : E) → Ok x ≡ Err e → P
 ok-err x e h = cc
 
--- two results that are `Err` and equal have equal causes
+-- if two `Err` results are equal, their errors are equal
 pub err-same : {X E : Type 0} {d e : E} → (let r : Result X E = Err d in r) ≡ Err e → d ≡ e
 err-same h = cc
 
--- two options that are `Some` and equal have equal values
+-- if two `Some` options are equal, their values are equal
 pub some-same : {X : Type 0} {x y : X} → Some x ≡ Some y → x ≡ y
 some-same e = cc
 

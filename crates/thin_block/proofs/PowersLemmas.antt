@@ -30,8 +30,8 @@ capped_le s = elim (cases_lt s (2 ^ 64)) [
 takes_some : (s size : ℕ) → size ≡ capped s → 0 < size → 0 < s
 takes_some s size is some = omega (arith, is, some, capped_le s)
 
--- for items of at least one byte, each capacity that `power_bytes` chooses fills a power of two
--- bytes
+-- if an item takes at least one byte, each capacity that `power_bytes` chooses fills a power of two
+-- bytes, as `FillsPower` defines
 pub each_fills : (s a c w : ℕ) (r : Option ℕ) → r ≡ power_bytes s a c w → 0 < s
     → IfSome r (FillsPower s a)
 each_fills s a c w None e some = tt

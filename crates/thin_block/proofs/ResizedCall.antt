@@ -21,8 +21,8 @@ use Rattle.core.proofs.alloc.Resizes.{Sizes, Flagged, by_flag}
 use Rattle.core.proofs.mem.Param.{El, R, el_x}
 use Rattle.thin_block.specs.contracts.in_place.resized as F
 
--- what both `grow` and `shrink` of the allocator require of the number of items, and of the old and
--- the new number of places
+-- what both `grow` and `shrink` of the allocator require of the number of items, the old number of
+-- places and the new number of places
 abbrev pub Sized : El → Sizes
 Sized E len held wanted = (len ≤ held) × ((len ≤ wanted)
     × (FitsBlock (R E) held × FitsBlock (R E) wanted))
@@ -59,7 +59,7 @@ module _ (E : El) (Y : Al) {M : Type 1} {𝓤 : Ura M} (𝓛 : Logic 𝓤) (at_m
     abbrev Block : Fml
     Block = block_with_items (token Y a) (R E) (block_ptr b o) len held xs
 
-    -- the resources that the caller has after the call, which depend on its result
+    -- `leaves r`: the resources that the caller has after the call of `resized` has returned r
     abbrev pub leaves : Answer.Denot → Fml
     leaves = resized_if_ok (token Y a) (R E) (block_ptr b o) len held wanted xs
 
@@ -83,7 +83,8 @@ module _ (E : El) (Y : Al) {M : Type 1} {𝓤 : Ura M} (𝓛 : Logic 𝓤) (at_m
         feq_i ! (List Val) (vint w64 len ∷ []) (vint w64 len ∷ []) refl $ fjoin ! $ fjoin ! $
         feq_i ! (List Val) (vptr b o ∷ []) (vptr b o ∷ []) refl $ fjoin ! $ move ! (2 ∷ []) $
         feq_i ! (List Val) (vptr p.0 p.1 ∷ []) (vptr p.0 p.1 ∷ []) refl $ fjoin ! $ fjoin ! $
-        -- the resources at this point: [the arguments; the facts, with the block; the three tokens]
+        -- The arguments are joined. The context holds, in this order: [the arguments; the facts and
+        -- the block; the three lifetime tokens].
         nothing ! $ move ! (5 ∷ 0 ∷ []) $ join ! $ move ! (4 ∷ 0 ∷ []) $ join ! $
         move ! (3 ∷ 0 ∷ []) $ join ! $ join ! $ join ! $ done !
 

@@ -1,8 +1,9 @@
--- A block may be sent to another thread, and shared between threads, if its items may be, and if
--- the right to free its memory may be. The lemmas prove that what a block owns, and what a `&` to
--- it shows, does not depend on the thread. The logic calls this `Keyless`, and `Common` if it is
--- true for every lifetime of a `&`.
---     block_send, block_sync    a block may be sent, and shared
+-- A block may be sent to another thread if its items, its allocator and the right to free its
+-- memory may be sent. It may be shared between threads if its items and its allocator may be
+-- shared. The lemmas prove that what a block owns does not depend on the thread (`Keyless`), and
+-- that what a `&` to a block shows does not depend on the thread, for every lifetime of the `&`
+-- (`Common`).
+--     block_send, block_sync    a block may be sent, and may be shared
 use Rattle.std.specs.Prelude.{ℕ, zero, suc, ◌+◌, List, [], ◌∷◌, length, Option}
 use Rattle.std.specs.declared.option.Option.TheVariants.{Some, None}
 use Rattle.std.specs.Int.{div_ceil}
@@ -65,7 +66,7 @@ module _ (R : RattleType) where
       (place_Common y x (block_ptr b o) κ, places_Common y xs b (o + type_size R) κ)
 
   module _ (Z : RattleType) (g : Ghosts Z.Denot) where
-    -- if items may be sent, and the right to free memory does not depend on the thread, then what a
+    -- if items may be sent and the right to free memory does not depend on the thread, then what a
     -- block owns does not depend on the thread
     block_Keyless : IsSend R → Frees g g.dealloc_token → (p : Ptr) (n : ℕ)
         (xs : List (Option R.Denot)) (a : Option Z.Denot)
@@ -108,8 +109,7 @@ module _ (R : RattleType) where
       places_Common y xs b (o + 16) κ,
     )
 
-    -- if items may be sent, and so may the allocator and the right to free memory, a block may be
-    -- sent
+    -- if the items, the allocator and the right to free memory may be sent, a block may be sent
     pub block_send : IsSend R → IsSend Z → Frees g g.dealloc_token → IsSend (C.the_row R Z g)
     block_send s z f =
         let O = C.the_type R Z g in

@@ -2,9 +2,8 @@
 -- move. Assumes `Logic`.
 --     Moves     how the memory that a copy needs is taken out of the row, and how the memory that
 --               the copy leaves is put back
---     apart     if the two runs of slots do not overlap: the items, and memory for them
---     slides    if the slots through which the run moves are empty: the items, and memory as wide
---               as the distance of the move
+--     apart     `Moves` for two runs of slots that do not overlap
+--     slides    `Moves` for a run that moves through empty slots
 use Rattle.std.proofs.Common.{◌≡◌, ◌⊎◌, Bool, true, false, ℕ, Some, None, ◌+◌, ◌-◌, ◌*◌, ◌<◌, ◌≤◌, List, [], ◌∷◌, ◌++◌, length, refl, sym, ap, ◌∙◌, arith, append_assoc}
 use Rattle.std.proofs.lemmas.List.{length-map, length-replicate, length-append, length-take}
 use mathlib.Core.Logic.{inl, inr, ⊎_elim}
@@ -28,12 +27,13 @@ use Rattle.thin_block.specs.Shifts.{IsShifted}
 use Rattle.thin_block.proofs.SlotsLemmas.{empty-run, parted-run, run-split, length-run, moved_left, moved_right, moved_over, moved_back}
 use Rattle.thin_block.proofs.SlotMemory.{Slot, sz, cut, glue, around, run_out, run_in, to_items, of_items, to_room, of_room}
 
--- if c is d + a, the offset of the slot c is a slots after the offset of the slot d
+-- if c is d + a, the offset of the slot c is d slots after the offset of the slot a
 pub further : (a d c s o : ℕ) → c ≡ d + a → c * s + o ≡ d * s + (a * s + o)
 further a d c s o e = let sum = add_times d a s in
     let same : c * s ≡ (d + a) * s = ap (λ (k : ℕ). k * s) e in omega arith
 
--- laying slots over a run of a row replaces that run, and keeps what is before it and after it
+-- laying n slots over a row from i on replaces the n slots there, and keeps the slots before and
+-- after them
 laid-over : {T : Type 0} (s new : List (Option T)) (i n : ℕ) → length new ≡ n
     → laid i new s ≡ take i s ++ (new ++ drop (i + n) s)
 laid-over s new i n long = ap (λ (k : ℕ). take i s ++ (new ++ drop (i + k) s)) long
@@ -62,8 +62,8 @@ module _ (E : El) {M : Type 1} {𝓤 : Ura M} (𝓛 : Logic 𝓤) (b o : ℕ) (s
   abbrev Room : ℕ → ℕ → Fml
   Room n at = froom (ty_array (elτ E) n) b at
 
-  -- the memory Was can be taken out of the row; if the memory Is is put back instead, it is the row
-  -- after the move
+  -- `Moves Was Is`: the memory `Was` can be taken out of the row. If the memory `Is` is put back in
+  -- its place, the result is the row after the move.
   pub record Moves (Was Is : Fml) : Type 1 where
     pub Rest : Fml
     pub out : ent 𝓤 (sem 𝓛 (Row o slots)) (sep 𝓤 (sem 𝓛 Was) (sem 𝓛 Rest))
@@ -75,8 +75,8 @@ module _ (E : El) {M : Type 1} {𝓤 : Ura M} (𝓛 : Logic 𝓤) (b o : ℕ) (s
   empty-long : (n : ℕ) → length (empty {T = el_x E} n) ≡ n
   empty-long n = length-replicate n None
 
-  -- a run and the d empty slots before it can be taken out of the row, and put back after the run
-  -- has moved down by d slots
+  -- if the d slots before a run are empty, the run and these slots can be taken out of the row, and
+  -- put back after the run has moved down by d slots
   pub slides_down : (d : ℕ) → from ≡ to + d → from + k ≤ length slots → run to d slots ≡ empty d
       → Moves (memory_before_copy (R E) false d k (block_ptr b src) (block_ptr b dst) xs)
       (memory_after_copy (R E) false d k (block_ptr b src) (block_ptr b dst) xs)
@@ -126,8 +126,8 @@ module _ (E : El) {M : Type 1} {𝓤 : Ura M} (𝓛 : Logic 𝓤) (b o : ℕ) (s
             rewrite ! 0 (λ (l : S). ‵ (Row o l)) result refl $ done !;
       }
 
-  -- a run and the d empty slots after it can be taken out of the row, and put back after the run
-  -- has moved up by d slots
+  -- if the d slots after a run are empty, the run and these slots can be taken out of the row, and
+  -- put back after the run has moved up by d slots
   pub slides_up : (d : ℕ) → to ≡ from + d → to + k ≤ length slots → run (from + k) d slots ≡ empty d
       → Moves (memory_before_copy (R E) true d k (block_ptr b src) (block_ptr b dst) xs)
       (memory_after_copy (R E) true d k (block_ptr b src) (block_ptr b dst) xs)
@@ -175,7 +175,7 @@ module _ (E : El) {M : Type 1} {𝓤 : Ura M} (𝓛 : Logic 𝓤) (b o : ℕ) (s
             rewrite ! 0 (λ (l : S). ‵ (Row o l)) result refl $ done !;
       }
 
-  -- splits a row into three runs; the first and the last run have k slots
+  -- splits a row into the runs ys, mid and zs, where ys has k slots
   cut3 : (ys mid zs : S) (lo hi : ℕ) → length ys ≡ k → hi ≡ length mid * s + (k * s + lo)
       → ent 𝓤 (sem 𝓛 (Row lo (ys ++ (mid ++ zs))))
       (sep 𝓤 (sem 𝓛 (Row lo ys)) (sep 𝓤 (sem 𝓛 (Row hi zs)) (sem 𝓛 (Row (k * s + lo) mid))))
@@ -213,8 +213,8 @@ module _ (E : El) {M : Type 1} {𝓤 : Ura M} (𝓛 : Logic 𝓤) (b o : ℕ) (s
       let same : length mid * s ≡ m * s = ap (λ (n : ℕ). n * s) count in
       omega arith
 
-  -- a run and k empty slots above it can be taken out of the row, and put back after the run has
-  -- moved up to these slots
+  -- if k slots above a run are empty, the run and these slots can be taken out of the row, and put
+  -- back after the run has moved up to these slots
   goes_over : (m : ℕ) → to ≡ from + k + m → to + k ≤ length slots
       → run to k slots ≡ empty k → Moves Was Is
   goes_over m apart within gap =
@@ -272,8 +272,8 @@ module _ (E : El) {M : Type 1} {𝓤 : Ura M} (𝓛 : Logic 𝓤) (b o : ℕ) (s
             rewrite ! 0 (λ (l : S). ‵ (Row o l)) result refl $ done !;
       }
 
-  -- a run and k empty slots below it can be taken out of the row, and put back after the run has
-  -- moved down to these slots
+  -- if k slots below a run are empty, the run and these slots can be taken out of the row, and put
+  -- back after the run has moved down to these slots
   goes_back : (m : ℕ) → from ≡ to + k + m → from + k ≤ length slots
       → run to k slots ≡ empty k → Moves Was Is
   goes_back m apart within gap =
@@ -331,8 +331,8 @@ module _ (E : El) {M : Type 1} {𝓤 : Ura M} (𝓛 : Logic 𝓤) (b o : ℕ) (s
             rewrite ! 0 (λ (l : S). ‵ (Row o l)) result refl $ done !;
       }
 
-  -- the precondition `empty` of `move_run`: the slots to which the run moves are empty, except
-  -- those of the run itself
+  -- the precondition `empty` of `move_run`: each slot to which the run moves is empty, or is a slot
+  -- of the run itself
   abbrev pub Bare : Type 0
   Bare = (i : ℕ) → to ≤ i → i < to + k → (i < from) ⊎ (from + k ≤ i) → slot slots i ≡ None
 
@@ -357,11 +357,11 @@ module _ (E : El) {M : Type 1} {𝓤 : Ura M} (𝓛 : Logic 𝓤) (b o : ℕ) (s
   Way up = Moves (memory_before_copy (R E) up (distance up) k (block_ptr b src) (block_ptr b dst)
       xs) (memory_after_copy (R E) up (distance up) k (block_ptr b src) (block_ptr b dst) xs)
 
-  -- if the run moves up, the slots after it, up to the new end of the run, are empty
+  -- if the run moves up, the slots between its old end and its new end are empty
   abbrev pub GapAbove : Bool → Type 0
   GapAbove up = up ≡ true → (from ≤ to) × AreEmpty slots (from + k) (to - from)
 
-  -- if the run moves down, the slots before it, from its new place on, are empty
+  -- if the run moves down, the slots between its new start and its old start are empty
   abbrev pub GapBelow : Bool → Type 0
   GapBelow up = up ≡ false → (to ≤ from) × AreEmpty slots to (from - to)
 

@@ -86,13 +86,13 @@ align_known R = (align_w (layout R), align-bytes (layout R))
 pub rounded_at : (a x : ℕ) → IsAlign a → Rounded a x
 rounded_at a x is = subst (λ (k : ℕ). Rounded k x) (sym is.1) (rounded_to is.0 x)
 
--- `Rounded` holds for the alignment of each item type, and every size x
+-- `Rounded` holds for the alignment of every item type and every size x
 pub rounded : (R : RattleType) (x : ℕ) → Rounded (type_align R) x
 rounded R x = rounded_at (type_align R) x (align_known R)
 
 -- ---- sizes that exceed `usize::MAX`, which the code replaces by `usize::MAX`
 
--- if the product of c and the capped number s is less than 2 ^ 63, it is the product of c and s
+-- if the product of c and `capped s` is less than 2 ^ 63, it equals the product of c and s
 pub whole_product : (c s : ℕ) → c * capped s < 2 ^ 63 → c * s ≡ c * capped s
 whole_product zero s h = zero-mul s ∙ sym (zero-mul (capped s))
 whole_product (suc c) s h =
@@ -100,7 +100,7 @@ whole_product (suc c) s h =
     let low : s < 2 ^ 63 = capped_small s (omega arith) in
     ap (λ (k : ℕ). suc c * k) (sym (capped_is s (omega arith)))
 
--- if the product of c and s is less than 2 ^ 63, it is the product of c and the capped number s
+-- if the product of c and s is less than 2 ^ 63, it equals the product of c and `capped s`
 pub capped_product : (c s : ℕ) → c * s < 2 ^ 63 → c * capped s ≡ c * s
 capped_product zero s h = zero-mul (capped s) ∙ sym (zero-mul s)
 capped_product (suc c) s h = let more = suc-mul c s in
@@ -130,26 +130,27 @@ lt_of_not a b never = omega arith
 
 -- ---- when a block fits
 
--- `Small s a c`: c items of s bytes leave room for the header and the padding, within 2 ^ 63 bytes
+-- `Small s a c`: c items of s bytes, the header, and `block_align a` bytes for the padding take at
+-- most 2 ^ 63 bytes in total
 abbrev pub Small : ℕ → ℕ → ℕ → Type 0
 Small s a c = c * s + 16 + block_align a ≤ 2 ^ 63
 
--- what follows if the capacity c fits
+-- `Told s a c` is what is known about a capacity c that fits, for items of size s and alignment a
 pub record Told (s a c : ℕ) : Type 0 where
   pub few : c < 2 ^ 63
   pub room : Small s a c
   pub short : block_bytes s a c < 2 ^ 63
 
 module _ (s a c : ℕ) (is : IsAlign a) where
-  -- if c is less than 2 ^ 63, and c items leave room for header and padding, then c is a small
-  -- capacity
+  -- if c is less than 2 ^ 63 and `Small s a c` holds, then c is a small capacity
   pub small_yes : c < 2 ^ 63 → Small s a c → is_small s a c ≡ true
   small_yes few room =
       let whole : block_bytes s a c < 2 ^ 63 = (rounded_at a (c * s) is).short room in
       both_true (ltb c (2 ^ 63)) (ltb (block_bytes s a c) (2 ^ 63)) (lt-ltb c (2 ^ 63) few)
       (lt-ltb (block_bytes s a c) (2 ^ 63) whole)
 
-  -- if c is a small capacity, it is less than 2 ^ 63, and c items leave room for header and padding
+  -- if c is a small capacity, then c is less than 2 ^ 63, `Small s a c` holds, and the block takes
+  -- less than 2 ^ 63 bytes
   pub small_tells : is_small s a c ≡ true → Told s a c
   small_tells e =
       let few : c < 2 ^ 63 =
@@ -163,13 +164,12 @@ module _ (R : RattleType) (c : ℕ) where
   abbrev IsSmall : Type 0
   IsSmall = is_small (type_size R) (type_align R) c ≡ true
 
-  -- if c is less than 2 ^ 63, and c items of R leave room for header and padding, then c is a small
-  -- capacity
+  -- if c is less than 2 ^ 63 and `Small` holds for c items of R, then c is a small capacity
   pub fits_yes : c < 2 ^ 63 → Small (type_size R) (type_align R) c → IsSmall
   fits_yes few room = small_yes (type_size R) (type_align R) c (align_known R) few room
 
-  -- if c is a small capacity for items of R, it is less than 2 ^ 63, and c items of R leave room
-  -- for header and padding
+  -- if c is a small capacity for items of R, then c is less than 2 ^ 63, `Small` holds for c items
+  -- of R, and their block takes less than 2 ^ 63 bytes
   pub fits_tells : IsSmall → Told (type_size R) (type_align R) c
   fits_tells e = small_tells (type_size R) (type_align R) c (align_known R) e
 
@@ -183,8 +183,7 @@ module _ (R : RattleType) (c : ℕ) where
   unfolding fits
   closed e = e
 
-  -- if c is at most the quotient that the code computes, then c items of R leave room for header
-  -- and padding
+  -- if c is at most the quotient that the code computes, then `Small` holds for c items of R
   pub divided : (size : ℕ) → size ≡ capped (type_size R) → 0 < size
       → c ≤ (2 ^ 63 - block_align (type_align R) - 16) / size → Small (type_size R) (type_align R) c
   divided size is some few =
@@ -198,8 +197,7 @@ module _ (R : RattleType) (c : ℕ) where
       ∙ ap (λ (k : ℕ). c * k) (sym is) in
       omega arith
 
-  -- if c items of R leave room for header and padding, then c is at most the quotient that the code
-  -- computes
+  -- if `Small` holds for c items of R, then c is at most the quotient that the code computes
   pub dividing : (size : ℕ) → size ≡ capped (type_size R) → 0 < size
       → Small (type_size R) (type_align R) c → c ≤ (2 ^ 63 - block_align (type_align R) - 16) / size
   dividing size is some room =
@@ -263,8 +261,8 @@ pub fitting_past : (s a n : ℕ) → 2 ^ 63 ≤ n → fitting s a n ≡ None
 unfolding fitting
 fitting_past s a n many = λ i. if fits_no s a n many i then Some n else None
 
--- the code chooses the same capacity as the rule, although it computes with `usize::MAX` in place
--- of each number that exceeds `usize::MAX`
+-- the code of doubling chooses the same capacity as the rule, although the code replaces each
+-- number that exceeds `usize::MAX` by `usize::MAX`
 pub doubling_is : (s a c w d : ℕ) → c < w → (c ≡ 0 → d ≡ first s)
     → ((c ≡ 0 → ⊥) → d ≡ min (c * 2) (2 ^ 64 - 1)) → fitting s a (max w d) ≡ doubling s a c w
 unfolding doubling

@@ -1,11 +1,13 @@
 -- How slots are taken out of a block's row of slots, and put back. Assumes `Logic`.
---     slot_out, slot_in    one slot
---     run_out, run_in      the k slots from i on
---     two_slots            two different slots, in either order
+--     slot_out, slot_in    take one slot out of the row, and put it back
+--     run_out, run_in      take the k slots from i on out of the row, and put them back
+--     two_slots            takes two different slots, in either order, out of the row, and puts
+--                          them back
 --     to_items, of_items   turn slots that hold the items xs into an array of xs, and back
 --     to_cells, of_cells   turn slots that hold the items xs into the cells of a slice, and back
 --     to_room, of_room     turn empty slots into uninitialized memory for an array, and back
---     to_raw, of_raw       the same for memory of the bare type, whose fields have no names
+--     to_raw, of_raw       turn empty slots into uninitialized memory for the bare type of an array
+--                          (the fields of a bare type have no names), and back
 --     reach                the distance in bytes from the first slot to a slot fits into a word
 use Rattle.std.proofs.Common.{◌≡◌, true, ℕ, zero, suc, None, ◌+◌, ◌*◌, ◌^◌, ◌<◌, ◌≤◌, List, [], ◌∷◌, ◌++◌, length, refl, sym, ap, ◌∙◌, arith}
 use native.Mathlib.Nat.{zero-mul, suc-mul}
@@ -36,8 +38,8 @@ use Rattle.thin_block.specs.Ownership.{fits_block, place, places}
 use Rattle.thin_block.specs.Slots.{full, empty, run, laid}
 use Rattle.thin_block.proofs.SizesLemmas.{fits_tells}
 
--- if a block of c slots fits, the distance in bytes from the first slot to the slot i is less than
--- 2 ^ 63
+-- if a block of c slots fits and i is at most c, then the distance in bytes from the first slot to
+-- the slot i is less than 2 ^ 63
 pub reach : (Rw : RattleType) (i c : ℕ) → fits_block Rw c ≡ true → i ≤ c → i * type_size Rw < 2 ^ 63
 reach Rw i c fits le =
     let small = (fits_tells Rw c fits).room in
@@ -189,13 +191,13 @@ module _ (E : El) {M : Type 1} {𝓤 : Ura M} (𝓛 : Logic 𝓤) (b : ℕ) wher
       (arrays.apart E' 𝓛 full_share k xs b o) $
       learn ! (λ long. check ! long $ by ! (arrays.whole E' 𝓛 full_share k xs b o long))
 
-  -- slots that hold the items xs may be used as the cells of xs in a slice
+  -- slots that hold the items xs may be used as the cells of a slice of xs
   pub to_cells : (xs : List (el_x E)) (o : ℕ) → ent 𝓤 (sem 𝓛 (Row o (full xs)))
       (sem 𝓛 (cells (mem (R E)) xs b o))
   to_cells [] o = id⊢ 𝓤 (emp 𝓤)
   to_cells (x ∷ xs) o = mono_r 𝓤 (sem 𝓛 (part_at (R E) full_share x b o)) (to_cells xs (o + s))
 
-  -- the cells of the items xs in a slice may be used as slots that hold xs
+  -- the cells of a slice of xs may be used as slots that hold the items xs
   pub of_cells : (xs : List (el_x E)) (o : ℕ) → ent 𝓤 (sem 𝓛 (cells (mem (R E)) xs b o))
       (sem 𝓛 (Row o (full xs)))
   of_cells [] o = id⊢ 𝓤 (emp 𝓤)
@@ -228,7 +230,7 @@ module _ (E : El) {M : Type 1} {𝓤 : Ura M} (𝓛 : Logic 𝓤) (b : ℕ) wher
   to_raw k o = via 𝓤 (H.room (ty_array (elτ E) k) b o) (to_room k o)
       (𝓛.laws.room-raw (ty_array (elτ E) k) b o)
 
-  -- all slots of the row except the slots i and j, if i is less than j
+  -- `Others o xs i j` is all slots of the row xs except the slots i and j, for i less than j
   abbrev Others : ℕ → List (Slot E) → ℕ → ℕ → Fml
   Others o xs i j = fsep (besides o (take j xs) i) (Row (j * s + o + s) (drop (suc j) xs))
 
@@ -267,7 +269,8 @@ module _ (E : El) {M : Type 1} {𝓤 : Ura M} (𝓛 : Logic 𝓤) (b : ℕ) wher
       (sym (drop-set-lt (suc j) xs i x (omega arith))) refl $ fjoin ! $ move ! (1 ∷ 0 ∷ []) $
       by ! (slot_in o (set xs i x) j low' y)
 
-  -- the slots i and j can be taken out of the row xs, and can be put back with any content
+  -- `Two o xs i j`: the slots i and j can be taken out of the row xs, and can be put back with any
+  -- content
   pub record Two (o : ℕ) (xs : List (Slot E)) (i j : ℕ) : Type 1 where
     pub Rest : Fml
     pub out : ent 𝓤 (sem 𝓛 (Row o xs))
@@ -302,7 +305,8 @@ module _ (E : El) {M : Type 1} {𝓤 : Ura M} (𝓛 : Logic 𝓤) (b : ℕ) wher
             done !;
       }
 
-  -- two different slots can be taken out of the row xs, and can be put back with any content
+  -- if i and j differ, the slots i and j can be taken out of the row xs, and can be put back with
+  -- any content
   pub two_slots : (o : ℕ) (xs : List (Slot E)) (i j : ℕ) → (i ≡ j → ⊥) → i < length xs
       → j < length xs → Two o xs i j
   two_slots o xs i j apart low low' = ⊎_elim (λ (p : i < j). in_order o xs i j p low')

@@ -36,7 +36,7 @@ module _ {T : Type 0} where
   filled-within (x ∷ s) zero is = omega arith
   filled-within (x ∷ s) (suc i) is = let low = filled-within s i is in omega arith
 
-  -- if each slot of a run is filled, the run holds a list of items
+  -- if each slot of a run is filled, there is a list of items that the run holds
   pub full-run : (s : List (Option T)) (i k : ℕ) → i + k ≤ length s
       → ((j : ℕ) → i ≤ j → j < i + k → IsSome (slot s j)) → (xs : List T) × (run i k s ≡ full xs)
   full-run [] zero zero le filled = ([], refl)
@@ -64,7 +64,7 @@ module _ {T : Type 0} where
       λ n. bare zero (omega arith) (omega arith) n ∷ empty-run s zero k (omega arith)
       (λ j p q. bare (suc j) (omega arith) (omega arith)) n
 
-  -- if the row s has k slots from i on, then `run i k s` has k slots
+  -- if the row s has at least i + k slots, `run i k s` has k slots
   pub length-run : (s : List (Option T)) (i k : ℕ) → i + k ≤ length s → length (run i k s) ≡ k
   length-run s i k le = omega (arith, length-take k (drop i s), length-drop i s)
 
@@ -81,7 +81,8 @@ module _ {T : Type 0} where
         length-drop (i + length ys) s,
       )
 
-  -- if the slots from i on are filled, writing ws over their items lays ws over the row
+  -- if the slots from i on are filled, replacing their items by ws is the same as laying filled
+  -- slots with the items ws over the row
   pub over-laid : (s : List (Option T)) (i : ℕ) (ws : List T) → i + length ws ≤ length s
       → ((j : ℕ) → i ≤ j → j < i + length ws → IsSome (slot s j)) → over s i ws ≡ laid i (full ws) s
   over-laid [] zero [] le held = refl
@@ -150,7 +151,7 @@ module _ {T : Type 0} where
   run-split s i a k = take-add a k (drop i s)
       ∙ ap (λ (l : List (Option T)). run i a s ++ take k l) (drop-drop a i s)
 
-  -- if the part `old` of a row begins at the index i and has as many slots as ys, then laying ys at
+  -- if the part `old` of a row begins at the index i and ys has the same length, then laying ys at
   -- i replaces this part
   pub laid-at : (i : ℕ) (pre ys old post : List (Option T)) → i ≡ length pre
       → length ys ≡ length old → laid i ys (pre ++ (old ++ post)) ≡ pre ++ (ys ++ post)
@@ -161,16 +162,16 @@ module _ {T : Type 0} where
       ∙ drop_at (pre ++ old) post (i + length ys) (length-append pre old ∙ omega arith) in
       λ m. take_at pre (old ++ post) i (sym e) m ++ (ys ++ rest m)
 
-  -- if the part ys of a row begins at the index i and has k slots, then it is the run of k slots
-  -- from i on
+  -- if the part ys of a row begins at the index i and has k slots, then the run of k slots from i
+  -- on is ys
   pub run-at : (i k : ℕ) (pre ys post : List (Option T)) → i ≡ length pre → k ≡ length ys
       → run i k (pre ++ (ys ++ post)) ≡ ys
   run-at i k pre ys post e n = ap (λ (l : List (Option T)). take k l)
       (drop_at pre (ys ++ post) i (sym e)) ∙ take_at ys post k (sym n)
 
   module _ (from to k : ℕ) where
-    -- if ys is the run, `bare` is the row with the run emptied, and `result` is `bare` with ys laid
-    -- over it from `to` on, then moving the run yields `result`
+    -- if the run is ys, the row with the run emptied is `bare`, and laying ys over `bare` from `to`
+    -- on yields `result`, then moving the run yields `result`
     moved-by : (s ys bare result : List (Option T)) → run from k s ≡ ys → emptied from k s ≡ bare
         → laid to ys bare ≡ result → moved from to k s ≡ result
     unfolding moved
@@ -248,8 +249,8 @@ module _ {T : Type 0} where
         ∙ append_assoc pre (empty d) (ys ++ post))
 
   module _ (from to k : ℕ) where
-    -- if a run is moved up past the slots mid to k empty slots, its old slots are empty, and mid
-    -- does not change
+    -- if a run moves up past the slots `mid` to k empty slots, the old slots of the run become
+    -- empty, and `mid` does not change
     pub moved_over : (pre ys mid post : List (Option T)) → from ≡ length pre
         → to ≡ from + k + length mid → k ≡ length ys
         → moved from to k (pre ++ (ys ++ (mid ++ (empty k ++ post))))
@@ -271,8 +272,8 @@ module _ {T : Type 0} where
         (laid-at to front ys (empty k) post l (sym m) ∙ joined (ys ++ post))
 
   module _ (from to k : ℕ) where
-    -- if a run is moved down past the slots mid to k empty slots, its old slots are empty, and mid
-    -- does not change
+    -- if a run moves down past the slots `mid` to k empty slots, the old slots of the run become
+    -- empty, and `mid` does not change
     pub moved_back : (pre ys mid post : List (Option T)) → to ≡ length pre
         → from ≡ to + k + length mid → k ≡ length ys
         → moved from to k (pre ++ (empty k ++ (mid ++ (ys ++ post))))
@@ -300,7 +301,7 @@ module _ {T : Type 0} where
   slot-empty (suc k) zero = refl
   slot-empty (suc k) (suc i) = slot-empty k i
 
-  -- if a row begins with the items xs, its first slots are filled
+  -- if a row begins with the n items of xs, each of its first n slots is filled
   full-filled : (xs : List T) (rest : List (Option T)) (i : ℕ) → i < length xs
       → IsSome (slot (full xs ++ rest) i)
   full-filled [] rest i low = absurd (omega arith)
@@ -308,8 +309,8 @@ module _ {T : Type 0} where
   full-filled (x ∷ xs) rest (suc i) low =
       full-filled xs rest i (let low' : suc i < suc (length xs) = low in omega arith)
 
-  -- if c is a + b, the items xs and c empty slots are the items xs and a empty slots, followed by b
-  -- empty slots
+  -- if c is a + b, a row of the items xs and c empty slots is a row of the items xs and a empty
+  -- slots, followed by b empty slots
   tail-split : (xs : List T) (a b c : ℕ) → c ≡ a + b
       → full xs ++ empty c ≡ (full xs ++ empty a) ++ empty b
   tail-split xs a b c e =
@@ -332,21 +333,21 @@ module _ {T : Type 0} (s : List (Option T)) (n : ℕ) (packed : IsPacked s n) wh
   parted : s ≡ full xs ++ empty (length s - n)
   parted = packed.row ∙ ap (λ (k : ℕ). full xs ++ empty (length s - k)) (sym packed.len)
 
-  -- there are at most as many items as slots
+  -- the number n of items is at most the number of slots
   pub packed-le : n ≤ length s
   packed-le =
       let whole : length s ≡ length (full xs ++ empty {T = T} (length s - n)) = ap length parted in
       let long = full-long in
       omega (arith, length-append (full xs) (empty {T = T} (length s - n)))
 
-  -- the slots below n are filled
+  -- each of the first n slots is filled
   pub packed-filled : (i : ℕ) → i < n → IsSome (slot s i)
   packed-filled i low =
       let len = packed.len in
       subst (λ (l : Row). IsSome (slot l i)) (sym packed.row)
       (full-filled xs (empty (length s - length xs)) i (omega arith))
 
-  -- the run of the first n slots holds the items
+  -- the first n slots hold the items of the row, in order
   pub packed-run : run 0 n s ≡ full xs
   packed-run = ap (λ (l : Row). take n l) parted
       ∙ take_at (full xs) (empty (length s - n)) n full-long

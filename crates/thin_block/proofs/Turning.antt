@@ -1,10 +1,11 @@
 -- A block as an array of words from its start: the last words are kept in the place of the header
 -- until the allocator returns. Assumes `Logic`.
 --     asked_size, asked_align     the size and the alignment for which a block is allocated
---     carve_asked, gather         split the memory of a block into its parts, and join them
---     turn_out, turn_back         split the last k words from the others, and join them
+--     carve_asked, gather         split the memory of a block into its parts, and join them again
+--     turn_out, turn_back         split the last k words from the other words, and join them again
 --     turn_up, turn_down          make the array that an allocator can grow, and split it again
---     units_out                   memory for the words in the header, as memory for its two words
+--     units_out                   turns memory for the k words in the place of the header into
+--                                 memory for the capacity and the length
 --     header_apart, header_whole  split a block without its slots into memory for words, and join
 --                                 it again
 use Rattle.std.proofs.Common.{◌≡◌, true, ℕ, Some, None, ◌+◌, ◌-◌, ◌*◌, List, [], ◌∷◌, ◌++◌, length, refl, sym, ap, ◌∙◌, arith, w64, append_assoc}
@@ -45,7 +46,7 @@ use Rattle.thin_block.proofs.SlotMemory.{cut, glue, to_items, of_items, to_raw, 
 use Rattle.thin_block.proofs.WordsLemmas.{InWords, word_align, word_size, words_told, nameless}
 use Rattle.thin_block.proofs.WordsMemory.{word_el, header_out, header_in, block_out, block_in}
 
--- the type of half of the header: of the capacity, or of the length
+-- the type of half of the header: both the capacity and the length have this type
 abbrev half : Ty
 half = ty_int w64
 
@@ -77,11 +78,11 @@ module _ (Rw : RattleType) (c : ℕ) where
   align_for None e = whole_align Rw c
   align_for (Some w) e = ap word_align (align-raw τ₀) ∙ (words_told Rw w.0 w.1 e).align
 
-  -- the size for which a block is allocated is the size of the block in bytes
+  -- a block is allocated with the size `block_bytes`, whether its items make words or not
   pub asked_size : size (asked Rw c) ≡ block_bytes s₀ a₀ c
   asked_size = size_for (words_of Rw) (sym same_words)
 
-  -- the alignment for which a block is allocated is the alignment of the block
+  -- a block is allocated with the alignment `block_align`, whether its items make words or not
   pub asked_align : align (asked Rw c) ≡ block_align a₀
   asked_align = align_for (words_of Rw) (sym same_words)
 
@@ -119,7 +120,8 @@ module _ {M : Type 1} {𝓤 : Ura M} (𝓛 : Logic 𝓤) (E : El) (b c o : ℕ) 
       let h = known w e in
       block_in 𝓛 (bare (R E)) w.0 w.1 b h (div_ceil c w.0) c o (h.counts.covers c)
 
-  -- splits the memory of a block into its parts, and keeps what turns them back into the whole
+  -- splits the memory of a block into its parts, and keeps what turns these parts back into the
+  -- whole
   pub carve_asked : ent 𝓤 (H.room (asked (R E) c) b o) (Parts (words_of (R E)))
   carve_asked = carve_for (words_of (R E)) (sym (same_words (R E) c))
 
@@ -137,8 +139,9 @@ module _ {M : Type 1} {𝓤 : Ura M} (𝓛 : Logic 𝓤) (E : El) (b c o : ℕ) 
       (uint_out 𝓛 full_share w64 n b (o + 8)) $
       use1 𝓛 (‵ (froom half b (o + 8))) (𝓛.laws.at_room half b (o + 8) (vint w64 n)) $
       move ! (1 ∷ []) $ fsplit ! $ drop ! $ fsplit ! $
-      -- the resources at this point: [the way back; the right to free; the second word; the first
-      -- word; the items]
+      -- The block is split. The context holds, in this order: [what turns the parts back into the
+      -- whole; the right to free the block; memory for the length; memory for the capacity; memory
+      -- for the slots].
       move ! (3 ∷ 2 ∷ 4 ∷ 0 ∷ []) $ group ! 4 $
       use1 𝓛 (‵ (froom (asked (R E) c) b o))
       (gather_for (words_of (R E)) (sym (same_words (R E) c))) $ done !
@@ -154,8 +157,8 @@ module _ {M : Type 1} {𝓤 : Ura M} (𝓛 : Logic 𝓤) (E : El) (b : ℕ) (k :
   abbrev Slots' : ℕ → List (Option (el_x E)) → Fml
   Slots' at xs = places (R E) xs b at
 
-  -- a row that holds the items xs and then the k items ys, which take as many bytes as the header,
-  -- and that ends with m empty slots
+  -- a row of the items xs, the k items ys and m empty slots, in this order; the items ys take as
+  -- many bytes as the header
   module _ (xs ys : List (el_x E)) (long : length ys ≡ k) (n m : ℕ)
       (count : n ≡ length xs + k) where
     abbrev there : ℕ
@@ -194,7 +197,7 @@ module _ {M : Type 1} {𝓤 : Ura M} (𝓛 : Logic 𝓤) (E : El) (b : ℕ) (k :
     abbrev Last : ℕ → Fml
     Last at = part_at (Array (R E) k) full_share ys b at
 
-    -- splits the last k items from the other items and from the empty slots
+    -- splits the last k items ys from the items xs and from the empty slots
     pub turn_out : ent 𝓤 (sem 𝓛 (Slots' (o + 16) All))
         (sep 𝓤 (sem 𝓛 (Slots' (o + 16) (full xs)))
         (sep 𝓤 (sem 𝓛 (Last there)) (sem 𝓛 (Slots' past_all (empty m)))))
@@ -207,8 +210,8 @@ module _ {M : Type 1} {𝓤 : Ura M} (𝓛 : Logic 𝓤) (E : El) (b : ℕ) (k :
         (cut E 𝓛 b (full ys) (empty m) there past_all at_end) $ split ! $
         use1 𝓛 (‵ (Last there)) (to_items E 𝓛 b k ys there long) $ move ! (2 ∷ 0 ∷ 1 ∷ []) $ done !
 
-    -- joins the last k items with the other items and the empty slots, if all are at their old
-    -- places
+    -- joins the items xs, the last k items ys and the empty slots into the row again, if ys is at
+    -- its old place after xs
     pub turn_back : ent 𝓤 (sep 𝓤 (sem 𝓛 (Slots' (o + 16) (full xs)))
         (sep 𝓤 (sem 𝓛 (Last there)) (sem 𝓛 (Slots' past_all (empty m)))))
         (sem 𝓛 (Slots' (o + 16) All))
@@ -249,8 +252,8 @@ module _ {M : Type 1} {𝓤 : Ura M} (𝓛 : Logic 𝓤) (E : El) (b : ℕ) (k :
       counted' : length (ys ++ xs) ≡ n
       counted' = let a = length-append ys xs in omega arith
 
-      -- if the last k items are in the place of the header, they and the other items are an array
-      -- from the start of the block
+      -- if the last k items are in the place of the header, then these and the other items are one
+      -- array from the start of the block
       pub turn_up : ent 𝓤 (sep 𝓤 (sem 𝓛 (Last o)) (sep 𝓤 (sem 𝓛 (Slots' (o + 16) (full xs)))
           (sep 𝓤 (H.room (ty_array τ' k) b there)
           (sep 𝓤 (sem 𝓛 (Slots' past_all (empty m))) (sem 𝓛 Token))))) (sem 𝓛 Whole)
@@ -273,7 +276,7 @@ module _ {M : Type 1} {𝓤 : Ura M} (𝓛 : Logic 𝓤) (E : El) (b : ℕ) (k :
           move ! (1 ∷ 0 ∷ 2 ∷ []) $ fjoin3 ! $ done !
 
       -- splits an array from the start of the block into its first k items, which are in the place
-      -- of the header, and the others
+      -- of the header, the other items, and the memory after these
       pub turn_down : ent 𝓤 (sem 𝓛 Whole) (sep 𝓤 (sem 𝓛 (Last o))
           (sep 𝓤 (sem 𝓛 (Slots' (o + 16) (full xs))) (sep 𝓤 (H.room (ty_array τ' k) b there)
           (sep 𝓤 (sem 𝓛 (Slots' past_all (empty m))) (sem 𝓛 Token)))))
@@ -311,16 +314,16 @@ module _ {M : Type 1} {𝓤 : Ura M} (𝓛 : Logic 𝓤) (T : RattleType) (L : L
   hd : InWords (size (bare (R Item))) (align (bare (R Item))) m k
   hd = nameless (elτ Item) m k (words_told (R Item) m k is)
 
-  -- splits uninitialized memory for k words into uninitialized memory for the two words of the
-  -- header, and the way back
+  -- splits uninitialized memory for k words into uninitialized memory for the capacity and the
+  -- length, and what turns this memory back
   pub units_out : ent 𝓤 (H.room units b o)
       (sep 𝓤 (H.room half b o)
       (sep 𝓤 (H.room half b (o + 8)) (sem 𝓛 (header_way (bare (R Item)) m k b o))))
   units_out = via 𝓤 (H.room (array_of (R W) k) b o) (𝓛.laws.room-raw units b o)
       (header_out 𝓛 (bare (R Item)) m k b hd o)
 
-  -- joins uninitialized memory for the two words of the header and the way back into uninitialized
-  -- memory for k words
+  -- turns uninitialized memory for the capacity and the length back into uninitialized memory for k
+  -- words
   pub units_in : ent 𝓤 (sep 𝓤 (H.room half b o) (sep 𝓤 (H.room half b (o + 8))
       (sem 𝓛 (header_way (bare (R Item)) m k b o)))) (H.room units b o)
   units_in = via 𝓤 (H.room (array_of (R W) k) b o) (header_in 𝓛 (bare (R Item)) m k b hd o)
@@ -336,8 +339,8 @@ module _ {M : Type 1} {𝓤 : Ura M} (𝓛 : Logic 𝓤) (T : RattleType) (L : L
     asked_words : words_of (R Item) ≡ Some (m, k)
     asked_words = same_words (R Item) c ∙ is
 
-    -- splits a block without its slots into uninitialized memory for the k words of the header, the
-    -- way back from the slots to words, and the right to free the block
+    -- splits a block without its slots into uninitialized memory for the k words in the place of
+    -- the header, what turns the slots back into words, and the right to free the block
     pub header_apart : ent 𝓤 (sem 𝓛 (frame t (R Item) n c b o))
         (sep 𝓤 (H.room units b o) (sep 𝓤 (sem 𝓛 Rest) (sem 𝓛 Right)))
     header_apart =
@@ -353,14 +356,15 @@ module _ {M : Type 1} {𝓤 : Ura M} (𝓛 : Logic 𝓤) (T : RattleType) (L : L
         rewrite ! 0 (λ (w : Option (ℕ × ℕ)). ‵ (backing_for t w (bare (R Item)) c b o)) asked_words
         refl $
         fsplit ! $ fsplit ! $
-        -- the resources at this point: [the way back from the header to words; the way back from
-        -- the slots to words; the right to free; the second word; the first word]
+        -- The block is split. The context holds, in this order: [what turns the header back into
+        -- words; what turns the slots back into words; the right to free the block; memory for the
+        -- length; memory for the capacity].
         move ! (4 ∷ 3 ∷ 0 ∷ []) $ use3 𝓛 (‵ (froom units b o)) units_in $ move ! (2 ∷ []) $
         rewrite ! 0 (λ (j : ℕ). ‵ (t (array_of (R W) j) (block_ptr b o))) (sym total) refl $
         move ! (1 ∷ 2 ∷ 0 ∷ []) $ done !
 
-    -- joins the capacity, the length, the ways back and the right to free into a block without its
-    -- slots
+    -- makes a block without its slots from the capacity, the length, what turns the header back
+    -- into words, what turns the slots back into words, and the right to free the block
     pub header_whole : fits_block (R Item) c ≡ true
         → ent 𝓤 (sep 𝓤 (sem 𝓛 (lies_at usize full_share (block_ptr b o) c))
         (sep 𝓤 (sem 𝓛 (lies_at usize full_share (block_ptr b (o + 8)) n))

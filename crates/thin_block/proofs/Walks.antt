@@ -21,7 +21,8 @@ use denote.Laws.{Is, Typed}
 use denote.Builtin.{unit}
 use denote.Signature.{Slot, plain}
 
--- the parameter with the index k, or one of the type `()` if there are not so many
+-- `slot_at k ss` is the parameter of ss with the index k, or a parameter of the type `()` if ss is
+-- too short
 abbrev pub slot_at : {n : ℕ} → ℕ → List (Slot n) → Slot n
 slot_at k [] = plain (λ _. unit)
 slot_at zero (s ∷ ss) = s
@@ -30,7 +31,7 @@ slot_at (suc k) (s ∷ ss) = slot_at k ss
 module _ {M : Type 1} {𝓤 : Ura M} (𝓛 : Logic 𝓤) where
   open 𝓛 use {H}
 
-  -- what must hold before the given rest of a body runs
+  -- `then_runs C Λ E b q` is what must hold before the rest b of a body runs
   abbrev pub then_runs : Calls 𝓤 H → Loops 𝓤 H → Env 𝓤 H → Body → Post 𝓤 H → Post 𝓤 H
   then_runs C Λ E b q = any_q (after_seq 𝓤 H (Wp 𝓤 H C Λ E b (post 𝓤 H q)) (post 𝓤 H q))
 
@@ -76,15 +77,14 @@ refused_made 𝓛 = qed 𝓛 [] ∵
     (Struct-Makes 𝓛 (Declared.shape AE.the_type) tt) tt (vstruct vnil ∷ []) (tt, (refl, tt)) $
     done !
 
--- if a list of machine values has the type τ alone, then it consists of one value of this type
+-- if a list of machine values is typed by τ alone, it consists of one value of the type τ
 pub alone : (τ : Ty) (vs : List Val) → Typed (τ ∷ []) vs → (v : Val)
     × ((vs ≡ v ∷ []) × (T (has_ty τ v) × WT v))
 alone τ [] t = absurd t
 alone τ (v ∷ []) t = (v, (refl, t.0))
 alone τ (v ∷ w ∷ vs) t = absurd t.1
 
--- when the function returns, an array that was passed as an argument leaves no resource in the
--- context
+-- an array that was passed as an argument leaves no resource when the function returns
 pub nothing_left : {M : Type 1} {𝓤 : Ura M} (𝓛 : Logic 𝓤) {X : Type 0} (xs : List X)
     (fs : Entries (λ _. Unit {0}) xs)
     → ent 𝓤 (sem 𝓛 ftrue) (sem 𝓛 (all_last (λ _. Unit {0}) (λ _ _. ftrue) xs fs))

@@ -21,7 +21,7 @@ use denote.RattleType.{RattleType}
 use Rattle.thin_block.specs.Capacity.{in_words, block_align, block_bytes}
 use Rattle.std.specs.Option.{is_some}
 
--- the alignment of a word whose items have the given alignment
+-- `word_align a` is the alignment of a word whose items have the alignment a
 abbrev pub word_align : ℕ → ℕ
 word_align a = max a (max 8 1)
 
@@ -79,7 +79,8 @@ counts_8 = record {
   few = λ c. omega arith;
 }
 
--- what is known about words: their size and alignment, and the size in bytes of a block of words
+-- `Laid s a m k` is what is known about words of m items with the size s and the alignment a: their
+-- size and alignment, and the size in bytes of a block of such words
 abbrev Laid : ℕ → ℕ → ℕ → ℕ → Type 0
 Laid s a m k = (word_size s a m ≡ m * s) × ((word_align a ≡ block_align a)
     × (Dv 8 (word_align a) × (Dv a (word_align a)
@@ -121,7 +122,8 @@ laid_16 w32 d = (refl, (refl, (tt, (tt, λ c. omega arith))))
 laid_16 w64 d = (refl, (refl, (tt, (tt, λ c. omega arith))))
 laid_16 w128 d = (refl, (refl, (tt, (tt, λ c. omega arith))))
 
--- m items of s bytes, aligned to a, make a word, and the header takes as many bytes as k words
+-- `InWords s a m k`: m items of s bytes with the alignment a make a word, and k words take as many
+-- bytes as the header
 pub record InWords (s a m k : ℕ) : Type 0 where
   pub counts : Counts m
   pub size : word_size s a m ≡ m * s
@@ -145,7 +147,7 @@ in_words_by s a m k c any room l = record {
   any = any;
 }
 
--- `AtAny s m k`: `InWords` holds for items of s bytes and each alignment that divides s
+-- `AtAny s m k`: `InWords` holds for items of s bytes and every alignment that divides s
 abbrev AtAny : ℕ → ℕ → ℕ → Type 0
 AtAny s m k = (w : Width) → Dv (bytes w) s → InWords s (bytes w) m k
 
@@ -154,15 +156,15 @@ abbrev pair : Option (ℕ × ℕ) → ℕ × ℕ
 pair None = (0, 0)
 pair (Some p) = p
 
--- if s equals t, and p equals q, then what is known about words of items of t bytes holds for items
--- of s bytes
+-- if s equals t and p equals q, then `AtAny` for items of t bytes and the pair p implies `AtAny`
+-- for items of s bytes and the pair q
 at_size : (s t : ℕ) (p q : ℕ × ℕ) → s ≡ t → ◌≡◌ {A = Option (ℕ × ℕ)} (Some p) (Some q)
     → AtAny t p.0 p.1 → AtAny s q.0 q.1
 at_size s t p q es e all =
     subst (λ (x : ℕ × (ℕ × ℕ)). AtAny x.0 x.1.0 x.1.1) (λ i. (sym es i, pair (e i))) all
 
--- how many items make a word, and how many words make the header, computed from five tests of the
--- size of an item
+-- the number of items that make a word, and the number of words that take as many bytes as the
+-- header, computed from five tests of the size of an item
 abbrev tested : Bool → Bool → Bool → Bool → Bool → Option (ℕ × ℕ)
 tested x y z u v = if x then Some (8, 2) else (if y then Some (4, 2) else
     (if z then Some (2, 2) else (if u then Some (1, 2) else (if v then Some (1, 1) else None))))

@@ -1,10 +1,11 @@
 -- Turning the items of a block into words, and back. Assumes `Logic`.
 --     ways_out, ways_in      turn memory for words into memory for their items, and back
 --     header_out, header_in  turn memory for the words that take as many bytes as the header into
---                            memory for its two words, and back
+--                            memory for the capacity and the length, and back
 --     block_out, block_in    turn memory for a block of words into memory for its parts, and back
 --     word_el                words as the items of a block
---     word_out               splits a word into its items and the way back
+--     word_out               splits a word into its items, and what turns their memory back into
+--                            memory for the word
 --     words_in, words_back   turn filled slots into items that can be made words, and empty slots
 --                            into empty words, and back
 use Rattle.std.proofs.Common.{◌≡◌, ℕ, zero, suc, Some, ◌+◌, ◌-◌, ◌*◌, ◌≤◌, List, [], ◌∷◌, ◌++◌, length, map, take, drop as rest, refl, sym, ap, subst, ◌∙◌, arith, zero-mul, suc-mul}
@@ -73,7 +74,7 @@ module _ {M : Type 1} {𝓤 : Ura M} (𝓛 : Logic 𝓤) (τ : Ty) (m k b : ℕ)
   abbrev run : Ty
   run = ty_array τ m
 
-  -- the type of half of the header: of the capacity, or of the length
+  -- the type of half of the header: both the capacity and the length have this type
   abbrev half : Ty
   half = ty_int w64
 
@@ -91,7 +92,8 @@ module _ {M : Type 1} {𝓤 : Ura M} (𝓛 : Logic 𝓤) (τ : Ty) (m k b : ℕ)
   one_more : (w : ℕ) → m + w * m ≡ suc w * m
   one_more w = omega (arith, suc-mul w m)
 
-  -- splits memory for w words into memory for their items, and `ways` back to the words
+  -- splits memory for w words into memory for their items, and the `ways` that turn this memory
+  -- back into memory for the words
   pub ways_out : (w o : ℕ) → ent 𝓤 (H.room (ty_array ω w) b o)
       (sep 𝓤 (H.room (ty_array τ (w * m)) b o) (sem 𝓛 (ways τ m w b o)))
   ways_out zero o =
@@ -107,15 +109,16 @@ module _ {M : Type 1} {𝓤 : Ura M} (𝓛 : Logic 𝓤) (τ : Ty) (m k b : ℕ)
       split ! $ move ! (2 ∷ []) $
       use1 𝓛 (‵ (froom (ty_array τ (w * m)) b (o + u)) ⊛ ‵ (ways τ m w b (o + u)))
       (ways_out w (o + u)) $ split ! $
-      -- the resources at this point: [memory for the other items; the other ways; memory for the
-      -- first items; the way of the first items]
+      -- The memory is split. The context holds, in this order: [memory for the items of the other
+      -- words; the `ways` of the other words; memory for the items of the first word; the `way` of
+      -- the first word].
       rewrite ! 0 (λ (n : ℕ). ‵ (froom (ty_array τ (w * m)) b n)) (sym (after_run o)) refl $
       move ! (2 ∷ 0 ∷ []) $ use2 𝓛 (‵ (froom (ty_array τ (m + w * m)) b o))
       (room_glue 𝓛 τ m (w * m) b o) $
       rewrite ! 0 (λ (n : ℕ). ‵ (froom (ty_array τ n) b o)) (one_more w) refl $
       move ! (2 ∷ 1 ∷ 0 ∷ []) $ fjoin ! $ move ! (1 ∷ 0 ∷ []) $ done !
 
-  -- joins memory for the items of w words and the `ways` back into memory for the words
+  -- joins memory for the items of w words and their `ways` into memory for the words
   pub ways_in : (w o : ℕ) → ent 𝓤 (sep 𝓤 (H.room (ty_array τ (w * m)) b o) (sem 𝓛 (ways τ m w b o)))
       (H.room (ty_array ω w) b o)
   ways_in zero o = qed 𝓛 (‵ (froom (ty_array τ (0 * m)) b o) ∷ ‵ ftrue ∷ []) ∵ keep ! [] $
@@ -125,8 +128,9 @@ module _ {M : Type 1} {𝓤 : Ura M} (𝓛 : Logic 𝓤) (τ : Ty) (m k b : ℕ)
       rewrite ! 0 (λ (n : ℕ). ‵ (froom (ty_array τ n) b o)) (sym (one_more w)) refl $
       use1 𝓛 (‵ (froom run b o) ⊛ ‵ (froom (ty_array τ (w * m)) b (past τ m o)))
       (room_cut 𝓛 τ m (w * m) b o) $ split ! $ move ! (2 ∷ []) $ fsplit ! $
-      -- the resources at this point: [the first way; the other ways; memory for the first items;
-      -- memory for the other items]
+      -- The memory is split. The context holds, in this order: [the `way` of the first word; the
+      -- `ways` of the other words; memory for the items of the first word; memory for the items of
+      -- the other words].
       move ! (2 ∷ 0 ∷ []) $ use2 𝓛 (‵ (froom ω b o)) (apply∗ 𝓤 (H.room run b o) (H.room ω b o)) $
       move ! (2 ∷ 1 ∷ []) $
       rewrite ! 0 (λ (n : ℕ). ‵ (froom (ty_array τ (w * m)) b n)) (after_run o) refl $
@@ -140,7 +144,8 @@ module _ {M : Type 1} {𝓤 : Ura M} (𝓛 : Logic 𝓤) (τ : Ty) (m k b : ℕ)
   after_header : (o : ℕ) → past ω k o ≡ o + 16
   after_header o = past_is ω k o ∙ ap (λ (n : ℕ). o + n) header_bytes
 
-  -- splits memory for k words into memory for the two words of the header, and the way back
+  -- splits memory for k words into memory for the capacity and the length, and the `header_way`
+  -- that turns this memory back into memory for the words
   pub header_out : (o : ℕ) → ent 𝓤 (H.room units b o)
       (sep 𝓤 (H.room half b o) (sep 𝓤 (H.room half b (o + 8)) (sem 𝓛 (header_way τ m k b o))))
   header_out o =
@@ -159,14 +164,15 @@ module _ {M : Type 1} {𝓤 : Ura M} (𝓛 : Logic 𝓤) (τ : Ty) (m k b : ℕ)
       move ! (1 ∷ 0 ∷ []) $ use2 𝓛 (‵ (froom two b o)) (𝓛.laws.room_cons half 1 b o) $
       by ! (apply∗ 𝓤 (H.room two b o) (H.room units b o))
 
-  -- joins memory for the two words of the header and the way back into memory for k words
+  -- joins memory for the capacity and the length, and their `header_way`, into memory for k words
   pub header_in : (o : ℕ) → ent 𝓤 (sep 𝓤 (H.room half b o) (sep 𝓤 (H.room half b (o + 8))
       (sem 𝓛 (header_way τ m k b o)))) (H.room units b o)
   header_in o =
       qed 𝓛 (‵ (froom half b o) ∷ ‵ (froom half b (o + 8)) ∷ ‵ (header_way τ m k b o) ∷ []) ∵
       fjoin ! $ by ! (apply∗ 𝓤 (sem 𝓛 (header_room b o)) (H.room units b o))
 
-  -- splits memory for w words into memory for c slots, and the way back
+  -- splits memory for w words into memory for c slots, and the `slots_way` that turns this memory
+  -- back into memory for the words
   slots_out : (w c o : ℕ) → c ≤ w * m → ent 𝓤 (H.room (ty_array ω w) b o)
       (sep 𝓤 (H.room (ty_array τ c) b o) (sem 𝓛 (slots_way τ m w c b o)))
   slots_out w c o le =
@@ -180,7 +186,7 @@ module _ {M : Type 1} {𝓤 : Ura M} (𝓛 : Logic 𝓤) (τ : Ty) (m k b : ℕ)
       rewrite ! 0 (λ (n : ℕ). ‵ (froom (ty_array τ pad) b n)) (past_is τ c o) refl $
       move ! (2 ∷ 0 ∷ []) $ fjoin ! $ move ! (1 ∷ 0 ∷ []) $ done !
 
-  -- joins memory for c slots and the way back into memory for w words
+  -- joins memory for c slots and their `slots_way` into memory for w words
   slots_in : (w c o : ℕ) → c ≤ w * m → ent 𝓤 (sep 𝓤 (H.room (ty_array τ c) b o)
       (sem 𝓛 (slots_way τ m w c b o))) (H.room (ty_array ω w) b o)
   slots_in w c o le =
@@ -197,7 +203,8 @@ module _ {M : Type 1} {𝓤 : Ura M} (𝓛 : Logic 𝓤) (τ : Ty) (m k b : ℕ)
     abbrev Back : Fml
     Back = fsep (header_way τ m k b o) (slots_way τ m w c b (o + 16))
 
-    -- splits memory for a block of words into memory for its parts, and the way back
+    -- splits memory for a block of words into memory for the capacity, the length and the slots,
+    -- and `Back`, which turns these back into the whole
     pub block_out : ent 𝓤 (H.room (ty_array ω (k + w)) b o)
         (sep 𝓤 (H.room half b o) (sep 𝓤 (H.room half b (o + 8))
         (sep 𝓤 (H.room (ty_array τ c) b (o + 16)) (sem 𝓛 Back))))
@@ -212,7 +219,8 @@ module _ {M : Type 1} {𝓤 : Ura M} (𝓛 : Logic 𝓤) (τ : Ty) (m k b : ℕ)
         (slots_out w c (o + 16) le) $ split ! $ move ! (4 ∷ 1 ∷ []) $ fjoin ! $
         move ! (2 ∷ 3 ∷ 1 ∷ 0 ∷ []) $ done !
 
-    -- joins memory for the parts of a block and the way back into memory for a block of words
+    -- joins memory for the capacity, the length and the slots, and `Back`, into memory for a block
+    -- of words
     pub block_in : ent 𝓤 (sep 𝓤 (H.room half b o) (sep 𝓤 (H.room half b (o + 8))
         (sep 𝓤 (H.room (ty_array τ c) b (o + 16)) (sem 𝓛 Back)))) (H.room (ty_array ω (k + w)) b o)
     block_in =
@@ -229,11 +237,12 @@ module _ {M : Type 1} {𝓤 : Ura M} (𝓛 : Logic 𝓤) (τ : Ty) (m k b : ℕ)
 abbrev pub number_of_items : ℕ → RattleType
 number_of_items m = param 1 (number m)
 
--- the type of words, for the given item type and the given number of items of a word
+-- `word_row T m` is the type of words of m items of T
 abbrev pub word_row : RattleType → ℕ → RattleType
 word_row T m = the_row (param 0 T) (number_of_items m)
 
--- the type of words as the item type of a block, in the form that walks use
+-- `word_el T L m` is the type of words of m items of T, as the item type of a block; it has the
+-- form that walks use
 abbrev pub word_el : (T : RattleType) → Laws T → ℕ → El
 word_el T L m = record {
   row = word_row T m;
@@ -252,7 +261,8 @@ zero_at w128 = refl
 zero_up : (τ : Ty) → up (align τ) 0 ≡ 0
 zero_up τ = subst (λ (a : ℕ). up a 0 ≡ 0) (sym (align-bytes τ)) (zero_at (align_w τ))
 
--- `words_made T m n xs` is the first n words that the items xs make
+-- `words_made T m n xs` is the list of the first n words that the items xs make; each word takes m
+-- items
 abbrev pub words_made : (T : RattleType) (m n : ℕ) → List T.Denot → List (word_row T m).Denot
 words_made T m n xs = map (word (param 0 T) (number_of_items m)) (first_chunks m n xs)
 
@@ -261,7 +271,7 @@ pub chunks_long : {X : Type 0} (m n : ℕ) (xs : List X) → length (first_chunk
 chunks_long m zero xs = refl
 chunks_long m (suc n) xs = ap suc (chunks_long m n (rest m xs))
 
--- the first n words that the items xs make are n words
+-- `words_made T m n xs` is a list of n words
 pub words_long : (T : RattleType) (m n : ℕ) (xs : List T.Denot)
     → length (words_made T m n xs) ≡ n
 words_long T m n xs = length-map (first_chunks m n xs) (word (param 0 T) (number_of_items m))
@@ -298,7 +308,7 @@ module _ {M : Type 1} {𝓤 : Ura M} (𝓛 : Logic 𝓤) (T : RattleType) (L : L
   hd' : InWords (size τ') (align τ') m k
   hd' = nameless σ m k hd
 
-  -- the size of a word is the size of its items, and is the same for the bare type of a word
+  -- the size of the bare type of a word is m times the size of an item
   wide : u' ≡ m * s
   wide = hd'.size ∙ ap (λ (n : ℕ). m * n) (size-raw σ)
 
@@ -346,7 +356,8 @@ module _ {M : Type 1} {𝓤 : Ura M} (𝓛 : Logic 𝓤) (T : RattleType) (L : L
         use2 𝓛 (‵ (froom (layout W.row) b o)) (apply∗ 𝓤 Rooms (H.room (layout W.row) b o)) $
         by ! (𝓛.laws.room-raw (layout W.row) b o)
 
-    -- splits a word in memory into its items, and the way back to memory for a word
+    -- splits a word in memory into its items, and the `way` that turns their memory back into
+    -- memory for the word
     pub word_out : (xs : List X) → ent 𝓤 (sem 𝓛 (part_at (R W) full_share (word (R E) N xs) b o))
         (sep 𝓤 (sem 𝓛 (part_at (Array (R E) m) full_share xs b o)) (sem 𝓛 (way τ' m b o)))
     word_out xs =
@@ -391,7 +402,8 @@ module _ {M : Type 1} {𝓤 : Ura M} (𝓛 : Logic 𝓤) (T : RattleType) (L : L
         ap (λ (n : ℕ). n * s) (length-map (take m xs) Some ∙ first_long) in
         let e = wide in omega arith
 
-  -- turns filled slots, and `ways` to n + j words, into the items of n words, and `ways` to j words
+  -- turns slots that hold the items of n words, with the `ways` of n + j words, into the items of
+  -- these n words, with the `ways` of the other j words
   to_runs : (n w j : ℕ) (xs : List X) (o at : ℕ) → length xs ≡ n * m → w ≡ j + n → at ≡ n * u' + o
       → ent 𝓤 (sep 𝓤 (sem 𝓛 (places (R E) (full xs) b o)) (sem 𝓛 (ways τ' m w b o)))
       (sep 𝓤 (sem 𝓛 (runs_at (R E) N (chunks n xs) b o)) (sem 𝓛 (ways τ' m j b at)))
@@ -412,14 +424,16 @@ module _ {M : Type 1} {𝓤 : Ura M} (𝓛 : Logic 𝓤) (T : RattleType) (L : L
       (to_items E 𝓛 b m c o (first_long n xs o long)) $ move ! (2 ∷ []) $
       rewrite ! 0 (λ (n : ℕ). ‵ (ways τ' m n b o)) {x = suc (j + n)} (omega (arith, ew)) refl $
       fsplit ! $
-      -- the resources at this point: [the first way; the other ways; the first items; the other
-      -- items]
+      -- The slots and the `ways` are split. The context holds, in this order: [the `way` of the
+      -- first word; the `ways` of the other words; the items of the first word; the slots with the
+      -- items of the other words].
       move ! (2 ∷ 0 ∷ []) $ fjoin ! $ move ! (2 ∷ 1 ∷ []) $
       use2 𝓛 (‵ (runs_at (R E) N (chunks n (rest m xs)) b far) ⊛ ‵ (ways τ' m j b at))
       (to_runs n (j + n) j (rest m xs) far at (rest_long n xs o long) refl
       (omega (arith, ea, suc-mul n u'))) $ split ! $ move ! (2 ∷ 0 ∷ []) $ fjoin ! $ done !
 
-  -- turns n words in a row, and `ways` to j words, into filled slots, and `ways` to n + j words
+  -- turns n words in a row, with the `ways` of j words after them, into slots that hold the items
+  -- of these n words, with the `ways` of n + j words
   of_runs : (n w j : ℕ) (xs : List X) (o at : ℕ) → length xs ≡ n * m → w ≡ j + n → at ≡ n * u' + o
       → ent 𝓤 (sep 𝓤 (sem 𝓛 (places (R W) (full (words n xs)) b o)) (sem 𝓛 (ways τ' m j b at)))
       (sep 𝓤 (sem 𝓛 (places (R E) (full xs) b o)) (sem 𝓛 (ways τ' m w b o)))
@@ -441,8 +455,9 @@ module _ {M : Type 1} {𝓤 : Ura M} (𝓛 : Logic 𝓤) (T : RattleType) (L : L
       use2 𝓛 (‵ (places (R E) (full (rest m xs)) b far) ⊛ ‵ (ways τ' m (j + n) b far))
       (of_runs n (j + n) j (rest m xs) far at (rest_long n xs o long) refl
       (omega (arith, ea, suc-mul n u'))) $ split ! $
-      -- the resources at this point: [the other items; the other ways; the first items; the way of
-      -- the first items]
+      -- The other words are turned into slots. The context holds, in this order: [the slots with
+      -- the items of the other words; the `ways` of the other words; the slots with the items of
+      -- the first word; the `way` of the first word].
       move ! (2 ∷ 0 ∷ []) $ use2 𝓛 (‵ (places (R E) (full c ++ full (rest m xs)) b o))
       (glue E 𝓛 b (full c) (full (rest m xs)) o far (next n xs o long)) $
       rewrite ! 0 (λ (l : List (Option X)). ‵ (places (R E) l b o)) (sym (parted xs)) refl $
@@ -458,7 +473,8 @@ module _ {M : Type 1} {𝓤 : Ura M} (𝓛 : Logic 𝓤) (T : RattleType) (L : L
     end_at : far ≡ past τ' j at
     end_at = end ∙ sym (past_is τ' j at)
 
-    -- turns empty slots, `ways` to words, and the memory that no slot takes into empty words
+    -- turns empty slots, the `ways` of their words, and the memory that belongs to no slot into
+    -- empty words
     spare_words : ent 𝓤 (sep 𝓤 (sem 𝓛 (places (R E) (empty j) b at))
         (sep 𝓤 (sem 𝓛 (ways τ' m v b at)) (sem 𝓛 Spare)))
         (sem 𝓛 (places (R W) (empty v) b at))
@@ -472,7 +488,8 @@ module _ {M : Type 1} {𝓤 : Ura M} (𝓛 : Logic 𝓤) (T : RattleType) (L : L
         use2 𝓛 (‵ (froom (ty_array (word_of τ' m) v) b at)) (ways_in 𝓛 τ' m k b hd' v at) $
         by ! (of_raw W 𝓛 b v at)
 
-    -- turns empty words into empty slots, `ways` to words, and the memory that no slot takes
+    -- turns empty words into empty slots, the `ways` of these words, and the memory that belongs to
+    -- no slot
     spare_slots : ent 𝓤 (sem 𝓛 (places (R W) (empty v) b at))
         (sep 𝓤 (sem 𝓛 (places (R E) (empty j) b at))
         (sep 𝓤 (sem 𝓛 (ways τ' m v b at)) (sem 𝓛 Spare)))
@@ -530,8 +547,8 @@ module _ {M : Type 1} {𝓤 : Ura M} (𝓛 : Logic 𝓤) (T : RattleType) (L : L
         qed 𝓛 (‵ (places (R E) (full xs ++ empty j) b o) ∷ ‵ (slots_way τ' m w c b o) ∷ []) ∵
         use1 𝓛 (‵ (places (R E) (full xs) b o) ⊛ ‵ (places (R E) (empty j) b after))
         (cut E 𝓛 b (full xs) (empty j) o after last) $ split ! $ move ! (2 ∷ []) $ fsplit ! $
-        -- the resources at this point: [the ways; the memory that no slot takes; the items; the
-        -- empty slots]
+        -- The slots and their `slots_way` are split. The context holds, in this order: [the `ways`
+        -- of all words; the memory that belongs to no slot; the filled slots; the empty slots].
         move ! (2 ∷ 0 ∷ []) $
         use2 𝓛 (‵ (runs_at (R E) N (chunks n xs) b o) ⊛ ‵ (ways τ' m v b after))
         (to_runs n w v xs o after long total at_after) $ split ! $ move ! (3 ∷ 1 ∷ 2 ∷ []) $
@@ -548,7 +565,8 @@ module _ {M : Type 1} {𝓤 : Ura M} (𝓛 : Logic 𝓤) (T : RattleType) (L : L
         (sem 𝓛 (places (R W) (full (words n xs) ++ empty v) b o))
     words_joined = glue W 𝓛 b (full (words n xs)) (empty v) o after last_word
 
-    -- turns words into filled slots, and empty words into empty slots, with the way back
+    -- turns words into filled slots, and empty words into empty slots, and keeps the `slots_way`
+    -- that turns the slots back into words
     pub words_back : ent 𝓤 (sem 𝓛 (places (R W) (full (words n xs) ++ empty v) b o))
         (sep 𝓤 (sem 𝓛 (places (R E) (full xs ++ empty j) b o)) (sem 𝓛 (slots_way τ' m w c b o)))
     words_back =
@@ -558,8 +576,8 @@ module _ {M : Type 1} {𝓤 : Ura M} (𝓛 : Logic 𝓤) (T : RattleType) (L : L
         use1 𝓛 (‵ (places (R E) (empty j) b after) ⊛ ‵ (ways τ' m v b after) ⊛ ‵
         (froom (ty_array τ' pad') b (o + c * size τ')))
         (spare_slots j v pad' after (o + c * size τ') whole end) $ split3 ! $
-        -- the resources at this point: [the empty slots; their ways; the memory that no slot takes;
-        -- the words]
+        -- The empty words are turned into empty slots. The context holds, in this order: [the empty
+        -- slots; the `ways` of the empty words; the memory that belongs to no slot; the words].
         move ! (3 ∷ 1 ∷ []) $
         use2 𝓛 (‵ (places (R E) (full xs) b o) ⊛ ‵ (ways τ' m w b o))
         (of_runs n w v xs o after long total at_after) $ split ! $ move ! (0 ∷ 2 ∷ []) $

@@ -1,5 +1,5 @@
--- The first i places hold copies of the first i items, and the places are the same as before the
--- loop.
+-- After i turns of the loop, the first i places of the row hold copies of the first i items. The
+-- row still has the same places.
 use Rattle.std.proofs.Common.{◌≡◌, take}
 use Rattle.core.specs.Mem.Slots.{SamePlaces, slots_filled, slots_items}
 use Rattle.core.specs.Mem.Slots.Ownership.{Filled}

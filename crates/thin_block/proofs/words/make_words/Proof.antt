@@ -165,7 +165,7 @@ module _ (E : El) (m : ℕ) {M : Type 1} {𝓤 : Ura M} (𝓛 : Logic 𝓤) (at_
     abbrev To : Fml
     To = Made g o
 
-    -- what turns the remaining words, once they are made, into the row of all words
+    -- what turns the row of the remaining words, once these are made, into the row of all words
     abbrev Then : Runs E m → ℕ → SProp 𝓤
     Then xss at = wand 𝓤 (sem 𝓛 (Made xss at)) (sem 𝓛 To)
 
@@ -244,8 +244,10 @@ module _ (E : El) (m : ℕ) {M : Type 1} {𝓤 : Ura M} (𝓛 : Logic 𝓤) (at_
           sets ! (bin ! (get ! refl) (size_lit ! (record { fits = fs })) (record { fits = fm }))
           refl (tt, record { fits = fm }) $
           sets ! (bin ! (get ! refl) (get ! refl) tt) refl (tt, tt) $ fsplit ! $ fsplit ! $
-          -- the resources at this point: [the items of the next word; the way to that word; the
-          -- items of the other words; what turns these into all words; the tokens]
+          -- The next word is split off. The context holds, in this order: [the items of the next
+          -- word; what turns the memory of these items into memory for the word; the items of the
+          -- other words; what turns the row of the other words into the row of all words; the
+          -- lifetime tokens].
           use1 𝓛 (exists (λ (v : Val). ‵ (fat full_share σ b at v) ⊛ ‵
           ((Arr E m).own_val xs (v ∷ [])))) (part_out 𝓛 (Arr E m) refl full_share xs b at) $
           pick ! (λ v. split ! $ move ! (1 ∷ []) $

@@ -83,7 +83,8 @@ allocate_block_spec 𝓤 𝓛 𝓜 𝓡 wired T A LT LA g d dd met md =
     let bytes_are : bytes ≡ size_of_block = said.1.1.1.1.0 in
     let align_is : al ≡ align_of_block = said.1.1.1.1.1 in
     fsplit ! $ drop ! $ keep ! (0 ∷ 1 ∷ 2 ∷ []) $
-    -- the resources at this point: [the `&` to the allocator; its token; the other tokens]
+    -- The walk has read the `requires`. The context holds, in this order: [the `&` to the
+    -- allocator; the lifetime token of this `&`; the other lifetime tokens].
     let fits : fits_block Rt cap ≡ true = opened Rt cap small in
     let short = (fits_tells Rt cap fits).short in
     let sixteen = (rounded Rt 0).most in
@@ -138,8 +139,9 @@ allocate_block_spec 𝓤 𝓛 𝓜 𝓡 wired T A LT LA g d dd met md =
     use1 𝓛 (‵ (froom (ty_int w64) b o) ⊛ ‵ (froom (ty_int w64) b (o + 8)) ⊛ ‵
     (froom (items Rt cap) b (o + 16)) ⊛ ‵ (way_back (words_of Rt) (bare Rt) cap b o))
     (carve_asked 𝓛 E b cap o) $ split3 ! $ move ! (2 ∷ []) $ split ! $ move ! (2 ∷ 3 ∷ []) $
-    -- the resources at this point: [memory for the two words; memory for the items; the way back;
-    -- the right to free; the tokens]
+    -- The new memory is split into its parts. The context holds, in this order: [memory for the two
+    -- words of the header; memory for the slots; what turns these parts back into the whole; the
+    -- right to free the block; the lifetime tokens].
     rewrite ! 1 (λ (k : ℕ). ‵ (froom (ty_int w64) b k))
     (let turned : o + 8 ≡ 8 + o = omega arith in turned) refl $
     first ! $ blocks ! $

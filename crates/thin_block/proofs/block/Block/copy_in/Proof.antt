@@ -104,8 +104,9 @@ copy_in_spec 𝓤 𝓛 𝓜 𝓡 wired T A LT LA copies gc dc g d dd metc met md
     use1 𝓛 (‵ (all V b here xs (replicate n false))) (of_space E 𝓛 b here n xs refl) $
     move ! (7 ∷ []) $ token_out ! 2 z.0.0.1 z.0.1.1 $ move ! (1 ∷ []) $
     token_out ! 1 z.0.0.1.1 z.0.1.1.1 $ move ! (3 ∷ 0 ∷ 2 ∷ 1 ∷ []) $
-    -- the resources at this point: [the run; the token of T; the token of the items; the last
-    -- token; the other slots; the header; the cell; three entries for the open borrow; the slice]
+    -- The run of empty slots is out of the row. The context holds, in this order: [the run; the
+    -- lifetime tokens of T, of the slice `items` and of A; the other slots; the header; the cell
+    -- with the block's pointer; three entries for the open borrow of the block; the slice `items`].
     let y₁ = at_from V 𝓛 𝓜.mem 𝓡.returns κ₂ q₂ b here n xs (replicate n false) in
     use2 𝓛 (raw ((From V 𝓛 𝓜.mem 𝓡.returns).pre y₁))
     (from_goes V 𝓛 𝓜.mem 𝓡.returns κ₂ q₂ b here n xs (replicate n false) lives refl
@@ -122,9 +123,10 @@ copy_in_spec 𝓤 𝓛 𝓜 𝓡 wired T A LT LA copies gc dc g d dd metc met md
     let words : WT (row_val b here n) = (tt, (record { fits = fk }, tt)) in
     lands_as ! made.0 refl (tt, words) $
     sets ! (of_opd ! (get ! refl)) refl (tt, words) $
-    -- the resources at this point: [the row of core's `Slots`; the token of T; the token of the
-    -- items; the last token; the other slots; the header; the cell; three entries for the open
-    -- borrow; the slice]
+    -- `from_raw_parts` has made the run a row of core's `Slots`. The context holds, in this order:
+    -- [this row; the lifetime tokens of T, of the slice `items` and of A; the other slots; the
+    -- header; the cell with the block's pointer; three entries for the open borrow of the block;
+    -- the slice `items`].
     move ! (2 ∷ 1 ∷ []) $ join ! $ move ! (1 ∷ 9 ∷ 0 ∷ []) $
     let Cp = Copied V gc dc 𝓛 𝓜.mem 𝓡.returns in
     let y₂ : Cp.Ghost = at_copied V gc dc 𝓛 𝓜.mem 𝓡.returns κ₁ κ₂ q₁ q₂
@@ -146,8 +148,9 @@ copy_in_spec 𝓤 𝓛 𝓜 𝓡 wired T A LT LA copies gc dc g d dd metc met md
     let copy = is_copy.2 in
     let fz : slots_len f < 2 ^ 64 = slots_small f in
     lands_as ! is_copy.0 refl (tt, (tt, (record { fits = fz }, tt))) $
-    -- the resources at this point: [the row of core's `Slots`; the token of the items; the token of
-    -- T; the last token; the other slots; the header; the cell; three entries for the open borrow]
+    -- `copied` has filled the row of core's `Slots`. The context holds, in this order: [this row;
+    -- the lifetime tokens of the slice `items`, of T and of A; the other slots; the header; the
+    -- cell with the block's pointer; three entries for the open borrow of the block].
     let y₃ = at_into V 𝓛 𝓜.mem 𝓡.returns κ₂ q₂ f b here in
     move ! (0 ∷ 2 ∷ []) $
     use2 𝓛 (raw ((Into V 𝓛 𝓜.mem 𝓡.returns).pre y₃))
@@ -162,8 +165,10 @@ copy_in_spec 𝓤 𝓛 𝓜 𝓡 wired T A LT LA copies gc dc g d dd metc met md
     lands_last ! refl (parts_typed v₃ b here (slots_len f) e₃ fz) $
     continues ! 𝓜 𝓡 fn l 2 ((walk_of 𝓛 En₀ hs c).post z) $
     sets ! (of_opd ! (unit_lit !)) refl (tt, tt) $
-    -- the resources at this point: [the run; the token of T; the token of the items; the last
-    -- token; the other slots; the header; the cell; three entries for the open borrow]
+    -- `into_raw_parts` has turned the row of core's `Slots` into a run of slots again. The context
+    -- holds, in this order: [this run; the lifetime tokens of T, of the slice `items` and of A; the
+    -- other slots; the header; the cell with the block's pointer; three entries for the open borrow
+    -- of the block].
     let many : slots_len f ≡ n = copy.same.count ∙ made.1.1 in
     let flags : length (slots_filled f) ≡ n = sym (slots_counts f).1 ∙ many in
     let filled : Filled (slots_filled f) 0 n =
@@ -178,12 +183,13 @@ copy_in_spec 𝓤 𝓛 𝓜 𝓡 wired T A LT LA copies gc dc g d dd metc met md
     use1 𝓛 (‵ (places (R E) (full xs) b here)) (of_items E 𝓛 b n xs here) $ move ! (0 ∷ 4 ∷ []) $
     use2 𝓛 (‵ (places (R E) laid_in b (o + 16)))
     (run_in E 𝓛 b (o + 16) x.slots i n within (full xs) long_full) $
-    -- the resources at this point: [the slots; the token of T; the token of the items; the last
-    -- token; the header; the cell; three entries for the open borrow]
+    -- The filled run is back in the row. The context holds, in this order: [the slots of the block;
+    -- the lifetime tokens of T, of the slice `items` and of A; the header; the cell with the
+    -- block's pointer; three entries for the open borrow of the block].
     move ! (0 ∷ 4 ∷ 5 ∷ 6 ∷ 7 ∷ 8 ∷ []) $
     closes_over E Y ! tt self y b o at long $
-    -- the resources at this point: [two entries for the `&mut`; its token; the token of T; the
-    -- token of the items; the last token]
+    -- The block is closed. The context holds, in this order: [two entries for the `&mut` to the
+    -- block; the lifetime tokens of this `&mut`, of T, of the slice `items` and of A].
     returns ! (look_at ! 0 refl) $ free_all ! refl $
     move ! (3 ∷ 5 ∷ []) $ join ! $ move ! (4 ∷ 0 ∷ []) $ join ! $
     move ! (1 ∷ 2 ∷ 3 ∷ 0 ∷ []) $ leaves_unit E Y ! self y 2 are.0.0 $

@@ -1,4 +1,5 @@
--- The cost of the other block after the call is its old cost, plus one move for each item.
+-- The ghost argument of `move_run_charging`: the cost of `to_block` before the call, plus one move
+-- for each item.
 use Rattle.thin_block.specs.Cost.{moving}
 use Rattle.thin_block.proofs.block.Block.move_run_to.Given as goal
 

@@ -51,8 +51,9 @@ put_spec 𝓤 𝓛 𝓜 𝓡 wired T A LT LA g d dd met md =
     let here : ℕ = i * sz E + (o + 16) in
     takes_slot E ! b (o + 16) x.slots i within empty $
     use1 𝓛 (‵ (froom (layout T) b here)) (𝓛.laws.raw-room (layout T) b here) $
-    -- the resources at this point: [memory for the item; the other slots; the header; the cell;
-    -- three entries for the open borrow; the other tokens; what the item owns]
+    -- The empty slot is out of the row. The context holds, in this order: [memory for the item; the
+    -- other slots; the header; the cell with the block's pointer; three entries for the open borrow
+    -- of the block; the other lifetime tokens; what the item owns].
     sets ! (of_opd ! (get ! refl)) refl good $
     assigns_last ! (of_opd ! (get ! refl)) (through ! refl (stop !)) (init ! 0 refl good) $
     continues ! 𝓜 𝓡 fn l 2 ((walk_of 𝓛 En₀ hs c).post z) $

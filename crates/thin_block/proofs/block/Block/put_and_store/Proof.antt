@@ -1,4 +1,4 @@
--- The walk of `put_and_store` is the walk of `put`, followed by that of `store_len`. Assumes
+-- The walk of `put_and_store` is the walk of `put`, followed by the walk of `store_len`. Assumes
 -- `Logic`.
 use Rattle.std.proofs.Common.{◌≡◌, ℕ, Some, ◌+◌, ◌*◌, ◌<◌, ◌≤◌, List, ◌∷◌, [], ◌++◌, length, refl, sym, subst, arith, w64}
 use lib.ListN.{set, length-set}
@@ -62,8 +62,9 @@ put_and_store_spec 𝓤 𝓛 𝓜 𝓡 wired T A LT LA g d dd met md =
     slot_found E ! b o i fm refl ((tt, tt), (tt, tt)) $
     takes_slot E ! b (o + 16) x.slots i within said.1.1.1.0 $
     use1 𝓛 (‵ (froom (layout T) b here)) (𝓛.laws.raw-room (layout T) b here) $
-    -- the resources at this point: [memory for the item; the other slots; the header; the cell;
-    -- three entries for the open borrow; the other tokens; what the item owns]
+    -- The empty slot is out of the row. The context holds, in this order: [memory for the item; the
+    -- other slots; the header; the cell with the block's pointer; three entries for the open borrow
+    -- of the block; the other lifetime tokens; what the item owns].
     sets ! (of_opd ! (get ! refl)) refl good $
     assigns ! (of_opd ! (get ! refl)) (through ! refl (stop !)) (init ! 0 refl good) $
     move ! (0 ∷ 8 ∷ []) $ use2 𝓛 (‵ (place (R E) (Some value) b here)) (el_in E 𝓛 b value here v) $
@@ -77,8 +78,9 @@ put_and_store_spec 𝓤 𝓛 𝓜 𝓡 wired T A LT LA g d dd met md =
     (uint_out 𝓛 full_share w64 x.len b (o + 8)) $
     rewrite ! 0 (λ (k : ℕ). ‵ (fat full_share (ty_int w64) b k (vint w64 x.len)))
     (let turned : o + 8 ≡ 8 + o = omega arith in turned) refl $
-    -- the resources at this point: [the length; the rest of the header; the capacity; the slots;
-    -- the block's cell; three entries for the open borrow; the other tokens]
+    -- The filled slot is back in the row, and the header is split. The context holds, in this
+    -- order: [the length; the rest of the header; the capacity; the slots; the cell with the
+    -- block's pointer; three entries for the open borrow of the block; the other lifetime tokens].
     sets ! (bin ! (get ! refl) (lit ! tt) tt) refl (tt, tt) $
     assigns_last ! (of_opd ! (get ! refl)) (through ! refl (stop !))
     (store ! 0 refl (tt, record { fits = fl })) $

@@ -7,7 +7,8 @@ use Rattle.thin_block.proofs.SlotsLemmas.{packed-filled, packed-le, packed-empti
 use Rattle.thin_block.proofs.block.Block.remake.Goals as goal
 use Rattle.thin_block.proofs.block.Block.remake.Goals.{then-len-gt0, else-len-gt0}
 
--- the items are in the first slots of the old block, and all slots of the new block are empty
+-- the precondition of `move_run_charging` holds: the items are in the first slots of the old block,
+-- and all slots of the new block are empty
 pub move_run_charging-requires : goal.move_run_charging-requires
 move_run_charging-requires g c κs within =
     let old = c.args.self.now.slots in
@@ -34,7 +35,7 @@ move_run_charging-requires g c κs within =
       ),
     )
 
--- the old block is empty after its items were moved, and also if it had no items
+-- the old block is empty when `release` frees it, because its items were moved or it had none
 pub release-requires-clause-empty : goal.release-requires-clause-empty
 release-requires-clause-empty g c =
     let old = c.args.self.now.slots in

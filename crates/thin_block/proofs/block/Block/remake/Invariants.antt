@@ -1,4 +1,5 @@
--- The cost of the new block after its items were moved to it.
+-- The ghost argument of `move_run_charging`: the cost of the new block after the items of the old
+-- block were moved to it.
 use Rattle.thin_block.specs.Cost.{growing}
 use Rattle.thin_block.proofs.block.Block.remake.Given as goal
 

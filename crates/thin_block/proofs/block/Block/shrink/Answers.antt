@@ -7,14 +7,14 @@ use Rattle.thin_block.proofs.SlotsLemmas.{packed-shrunk}
 use Rattle.thin_block.proofs.Outcomes.{on-ok}
 use Rattle.thin_block.proofs.block.Block.shrink.Goals as goal
 
--- if the old capacity fits, a smaller capacity fits too
+-- the new capacity fits, because it is less than the old capacity, which fits
 pub resize-requires-clause-fits : goal.resize-requires-clause-fits
 resize-requires-clause-fits g c =
     let smaller = c.requires.smaller in
     let whole = c.cap-whole.ensures.value in
     fits-less (param 0 g.row.T) c.args.cap c.cap-whole.result c.cap-whole.ensures.fits (omega arith)
 
--- laying the items over a smaller row of empty slots gives the first slots of the old row
+-- if `shrink` succeeds, the slots are the first slots of the old block
 pub returns-clause-ok : goal.returns-clause-ok
 returns-clause-ok g c =
     let smaller = c.requires.smaller in

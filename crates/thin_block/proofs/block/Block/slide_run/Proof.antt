@@ -121,8 +121,9 @@ slide_run_spec 𝓤 𝓛 𝓜 𝓡 wired T A LT LA g d dd met md =
     let fits_k : Fits = omega arith in
     move ! (1 ∷ []) $ use1 𝓛 (‵ Before ⊛ ‵ p.Rest) p.out $ split ! $ move ! (7 ∷ []) $
     token_out ! 1 z.0.0.1 z.0.1.1 $ move ! (2 ∷ 0 ∷ []) $
-    -- the resources at this point: [the items and the gap; the token of T; the last token; the other
-    -- slots; the header; the cell; three entries for the open borrow]
+    -- The run and the gap are out of the row. The context holds, in this order: [the items and the
+    -- gap; the lifetime tokens of T and A; the other slots; the header; the cell with the block's
+    -- pointer; three entries for the open borrow of the block].
     let G = triple_of 𝓛 (slide.signature T) (slide.spec T 𝓛 𝓜.mem 𝓡.returns) in
     let y₀ : G.Ghost = (
       (
@@ -153,8 +154,8 @@ slide_run_spec 𝓤 𝓛 𝓜 𝓡 wired T A LT LA g d dd met md =
     feq_l ! (λ e. move ! (1 ∷ []) $
     pick ! (λ ws. split ! $ drop ! $ move ! (1 ∷ []) $ split ! $ move ! (1 ∷ []) $
     drop ! $ move ! (1 ∷ 0 ∷ []) $
-    -- the resources at this point: [the moved items and the new gap; the token of T; the last
-    -- token; ..]
+    -- `slide` has moved the items. The context begins with [the moved items and the new gap; the
+    -- lifetime tokens of T and A].
     lands_last ! refl (subst (λ (u : Val). Holds (has_ty ty_unit u) × WT u)
     (sym (ap only e)) (tt, tt)) $
     continues ! 𝓜 𝓡 fn l 2 ((walk_of 𝓛 En₀ hs c).post z) $

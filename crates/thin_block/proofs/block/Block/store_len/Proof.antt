@@ -46,8 +46,9 @@ store_len_spec 𝓤 𝓛 𝓜 𝓡 wired T A LT LA g d dd met md =
     (uint_out 𝓛 full_share w64 x.len b (o + 8)) $
     rewrite ! 0 (λ (k : ℕ). ‵ (fat full_share (ty_int w64) b k (vint w64 x.len)))
     (let turned : o + 8 ≡ 8 + o = omega arith in turned) refl $
-    -- the resources at this point: [the length; the rest of the header; the capacity; the slots;
-    -- the block's cell; three entries for the open borrow; the other tokens]
+    -- The header is split. The context holds, in this order: [the length; the rest of the header;
+    -- the capacity; the slots; the cell with the block's pointer; three entries for the open borrow
+    -- of the block; the other lifetime tokens].
     sets ! (of_opd ! (load ! (through ! refl (fld ! refl (stop !)))
     (look_in ! 4 (sub ! 0 refl (whole !))))) refl (tt, tt) $
     first ! $ blocks ! $

@@ -72,8 +72,9 @@ take_array_spec 𝓤 𝓛 𝓜 𝓡 wired T A N LT LA fits_N g d dd met md =
     let good = (((array_at_laws 2 (R E) (param_laws 0 T LT) N).lawful 𝓛).typed xs (v ∷ [])
     is_v).0 in
     move ! (1 ∷ []) $
-    -- the resources at this point: [the array's bytes; what the array owns; the other slots; the
-    -- header; the cell; three entries for the open borrow; the other tokens]
+    -- The run of items is out of the row, as one array. The context holds, in this order: [the
+    -- bytes of the array; what the array owns; the other slots; the header; the cell with the
+    -- block's pointer; three entries for the open borrow of the block; the other lifetime tokens].
     sets_last ! (of_opd ! (load ! (through ! refl (stop !)) (look ! 0 refl))) refl good $
     continues ! 𝓜 𝓡 fn l 2 ((walk_of 𝓛 En₀ hs c).post z) $
     sets ! (of_opd ! (get ! refl)) refl good $

@@ -1,4 +1,5 @@
--- The size that the code reads exceeds the bound if and only if the size of the type does.
+-- The code reads the size of an item, capped at `usize::MAX`. This size exceeds the bound if and
+-- only if the size of the item type does.
 use Rattle.std.proofs.Common.{arith}
 use Rattle.std.specs.Mem.{type_size}
 use Rattle.thin_block.proofs.SizesLemmas.{first_one, first_many}

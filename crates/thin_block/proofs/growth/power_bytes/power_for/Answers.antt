@@ -1,5 +1,5 @@
--- If the header and the items take at most 2 ^ 63 bytes, no number that the code computes exceeds
--- `usize::MAX`.
+-- If the header and the items take at most 2 ^ 63 bytes, the result is the least power of two that
+-- is at least that number of bytes.
 use Rattle.std.proofs.Common.{◌≡◌, ◌+◌, ◌*◌, ◌∙◌, ap, arith}
 use Rattle.thin_block.specs.Growth.{least_power}
 use Rattle.thin_block.specs.PowerLaws.{least_power_is, one_least_power}

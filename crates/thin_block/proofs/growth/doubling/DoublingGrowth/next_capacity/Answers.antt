@@ -1,5 +1,5 @@
--- In each branch, the code tries the same capacity as the rule, or both try a capacity that does
--- not fit.
+-- The code returns the capacity that the rule chooses: both try the same capacity, or both try one
+-- that does not fit.
 use Rattle.std.proofs.Common.{◌≡◌, ℕ, ◌*◌, ◌-◌, ◌^◌, ◌∙◌, ap, min}
 use Rattle.std.specs.Mem.{type_size}
 use Rattle.std.specs.Align.{type_align}

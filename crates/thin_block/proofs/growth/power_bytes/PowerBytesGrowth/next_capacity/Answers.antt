@@ -1,4 +1,5 @@
--- The code and the rule compute the same capacity, or both compute a capacity that does not fit.
+-- The code returns the capacity that the rule chooses: both compute the same capacity, or both
+-- compute one that does not fit.
 use Rattle.std.proofs.Common.{◌≡◌, ◌+◌, ◌*◌, ◌^◌, ◌<◌, ◌≤◌, ◌∙◌, ap, max, subst, sym}
 use Rattle.std.specs.Mem.{type_size}
 use Rattle.std.specs.Align.{type_align}
