@@ -1,4 +1,4 @@
-//! Loops over a block: items are put into its empty slots, or taken out to be dropped.
+//! Loops that put items into the empty slots of a block, or take them out and drop them.
 ghost use Rattle.std.specs.Iterator.{IsFinite};
 ghost use Rattle.std.specs.List.{FoldsTo};
 ghost use Rattle.std.specs.Prelude.{◌≡◌, ℕ, ◌+◌, ◌-◌, ◌<◌, ◌≤◌, List, HoldsAt, length, replicate};
@@ -12,7 +12,7 @@ use std::alloc::Allocator;
 use std::iter::Iterator;
 use thin_block::Block;
 
-/// What is left of an iterator whose items were placed in empty slots, in order.
+/// The result of moving items of an iterator into empty slots, in order.
 pub(crate) struct Filled<I> {
     /// The iterator, which yields the items that were not placed.
     pub(crate) rest: I,
@@ -22,7 +22,7 @@ pub(crate) struct Filled<I> {
     pub(crate) ended: bool,
 }
 
-// Drops all items of a block. They are in its first `len` slots.
+// Drops all items of `block`, which are in its first `len` slots.
 pub(crate) fn drop_items<T: Drop, A: Allocator>(block: &mut Block<T, A>, len: usize)
     requires packed { IsPacked block.old.slots len }
     ensures changes { seen block.new
@@ -138,9 +138,9 @@ pub(crate) fn put_results<T, A: Allocator, F: FnMut() -> T>(
     }
 }
 
-// Puts the items that `iter` yields into the empty slots from `start` up to `end`, and returns the
-// block. Stops if the iterator returns `None` or the slots are full. The block is passed by value,
-// so that its pointer stays in a register and LLVM vectorizes the loop.
+// Moves items of `iter` into the empty slots from `start` up to, but not including, `end`, until
+// the slots are full or `iter` returns `None`. The block is passed by value and returned, so that
+// its pointer stays in a register and LLVM vectorizes the loop.
 pub(crate) fn put_iter<T, A: Allocator, I: Iterator<Item = T>>(
     block: Block<T, A>,
     start: usize,

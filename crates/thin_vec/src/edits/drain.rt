@@ -35,8 +35,8 @@ pub struct Drain<
 
 impl<'a, T: Drop, A: Allocator, G: Growth, H: Holds<Inner = OpenBlock<T, A>>> Drop
     for Drain<'a, T, A, G, H> {
-    // Drops the items that were not yielded, and moves the items after the range to its start, as
-    // one run.
+    // Drops the items that were not yielded. Moves the items after the range, as one run, to the
+    // start of the range, and puts the block back into the list.
     #[inline(always)]
     fn drop(self)
         ensures items { self.exit.0.now.items ≡ (H.inner self.entry.holder).front
@@ -48,7 +48,8 @@ impl<'a, T: Drop, A: Allocator, G: Growth, H: Holds<Inner = OpenBlock<T, A>>> Dr
         let Drain { list, holder } = self;
         let mut block = holder.into_inner();
         block.drop_rest();
-        // The list is empty already. This call is for the prover: `close` requires an empty list.
+        // The list is empty already. This call is only for the prover: `close` requires an empty
+        // list.
         list.clear();
         list.close(block);
     }
@@ -76,7 +77,8 @@ impl<T: Drop, A: Allocator, G: Growth> ThinVec<T, A, G> {
         ensures runs { DrainsInOrder result }
         ensures runs_back { DrainsInReverse result }
 
-        // What the list will be once the `Drain` is dropped, by the contract of its `drop`.
+        // Once the `Drain` is dropped, the list has these items, this capacity, this allocator and
+        // this cost.
         ensures kept { drain_kept result ≡ remove_range self.old.items start end }
         ensures capacity { drain_capacity result ≡ self.old.capacity }
         ensures alloc { drain_alloc result ≡ self.old.alloc }
@@ -99,14 +101,15 @@ impl<T: Drop, A: Allocator, G: Growth> ThinVec<T, A, G> {
 impl<'a, T, A: Allocator, G: Growth> Drain<'a, T, A, G> {
     ghost use Rattle.thin_vec.specs.Edits.Drain.{DrainSteps, DrainStepsBack, drain_rest};
 
-    /// Returns how many items were not yet yielded.
+    /// Returns the number of items that were not yet yielded.
     pub fn len(&self) -> usize
         ensures value { result ≡ length (drain_rest self.now) }
     {
         self.holder.value.rest_len()
     }
 
-    /// Returns how many items were not yet yielded, as both the lower and the upper bound.
+    /// Returns the number of items that were not yet yielded, as both the lower and the upper
+    /// bound.
     pub fn size_hint(&self) -> (usize, Option<usize>)
         ensures value { result
             ≡ (length (drain_rest self.now), Some (length (drain_rest self.now))) }

@@ -80,7 +80,8 @@ impl<'a, T: Drop, F: Drop, A: Allocator, G: Growth, H: Holds<Inner = Extracting<
         let ExtractIf { list, holder } = self;
         let Extracting { block, picks } = holder.into_inner();
         let Picks { pick } = picks;
-        // The list is empty already. This call tells the prover so: `close` requires an empty list.
+        // The list is empty already. This call is only for the prover: `close` requires an empty
+        // list.
         list.clear();
         list.close(block);
         drop(pick);
@@ -90,8 +91,9 @@ impl<'a, T: Drop, F: Drop, A: Allocator, G: Growth, H: Holds<Inner = Extracting<
 impl<T, F: FnMut(&mut T) -> bool, A: Allocator> Extracting<T, F, A> {
     ghost use Rattle.thin_vec.specs.Edits.ExtractIf.{Extracts};
 
-    // Tests items up to the first that is removed, and returns that item, or `None` if every item
-    // of the middle run is kept. If there is a gap, the kept items are moved to the front.
+    // Tests the items of the middle run, in order, until one is to be removed. Removes that item
+    // and returns it, or returns `None` if all items are kept. The tested items that are kept
+    // become a part of the front; if there is a gap, they are moved down.
     fn next_picked(&mut self) -> Option<T>
         requires callable { F.IsAlwaysCallable self.old.picks.pick }
         ensures extracts { Extracts (CalledAtMut F.FnMut) self.old result self.new }
@@ -108,12 +110,12 @@ impl<T, F: FnMut(&mut T) -> bool, A: Allocator> Extracting<T, F, A> {
 impl<T: Drop, A: Allocator, G: Growth> ThinVec<T, A, G> {
     ghost use Rattle.thin_vec.specs.Edits.ExtractIf.{extract_alloc, extract_callee, extract_capacity, extract_cost, extract_front, extract_gone, extract_lender, extract_rest, extract_tail};
 
-    /// Returns an iterator that removes the items from index `start` up to, but not including,
-    /// `end` for which `pick` returns true. It yields these items in order, as `pick` left them,
-    /// and the caller owns them.
+    /// Returns an iterator that removes those items of a range for which `pick` returns true. The
+    /// range begins at index `start` and ends before index `end`. The iterator yields the removed
+    /// items in order, as `pick` left them, and the caller owns them.
     ///
-    /// `extract_if` itself does not call `pick`. The calls of `next` do: they call `pick` once for
-    /// each item of the range, in order. `pick` may write to the item.
+    /// `extract_if` itself does not call `pick`. The calls of `next` call it once for each item of
+    /// the range, in order. `pick` may write to the item.
     ///
     /// When the `ExtractIf` is dropped, the list has every item that was not yielded, and its old
     /// capacity and allocator. If the `ExtractIf` is dropped before `next` has returned `None`, the
@@ -133,14 +135,16 @@ impl<T: Drop, A: Allocator, G: Growth> ThinVec<T, A, G> {
         requires start_le_end { start ≤ end }
         requires in_bounds { end ≤ length self.old.items }
 
-        // The parts of the `ExtractIf`.
+        // The `ExtractIf` has the items before the range, the items of the range, the items after
+        // the range, and the closure. No item is removed yet.
         ensures front { extract_front result ≡ take start self.old.items }
         ensures rest { extract_rest result ≡ slice_range self.old.items start end }
         ensures tail { extract_tail result ≡ drop end self.old.items }
         ensures gone { extract_gone result ≡ 0 }
         ensures callee { extract_callee result ≡ pick }
 
-        // The list that the `ExtractIf` borrows.
+        // The `ExtractIf` borrows this list, and keeps the capacity, the allocator and the cost of
+        // the list.
         ensures same_reference { extract_lender result ≡ self.entry.ghost_name }
         ensures capacity { extract_capacity result ≡ self.old.capacity }
         ensures alloc { extract_alloc result ≡ self.old.alloc }
@@ -172,9 +176,9 @@ impl<'a, T, F, A: Allocator, G: Growth> ExtractIf<'a, T, F, A, G> {
 impl<'a, T, F: FnMut(&mut T) -> bool, A: Allocator, G: Growth> ExtractIf<'a, T, F, A, G> {
     ghost use Rattle.thin_vec.specs.Edits.ExtractIf.{ExtractSteps, extract_callee};
 
-    /// Calls the closure with the items that were not tested yet, in order, until it returns true.
-    /// Then removes that item and returns it. If the closure returns true for none of them, returns
-    /// `None`, and so does each later call.
+    /// Calls the closure with the items that were not tested yet, in order, until it returns true
+    /// for one of them. Then removes that item and returns it. If the closure returns true for none
+    /// of these items, this call and each later call return `None`.
     pub fn next(&mut self) -> Option<T>
         requires callable { F.IsAlwaysCallable (extract_callee self.old) }
         ensures steps { ExtractSteps (CalledAtMut F.FnMut) self.old result self.new }

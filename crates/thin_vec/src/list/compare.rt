@@ -1,6 +1,6 @@
 //! Comparing, hashing and printing lists. A list is compared, hashed and printed as the slice of
-//! its items: its capacity and its cost have no effect. The traits `Emptied` and `MadeWith`
-//! make empty lists.
+//! its items: its capacity and its cost have no effect. The file also implements the traits
+//! `Emptied` and `MadeWith`, which make empty lists.
 ghost use Rattle.std.specs.Cmp.{on_equiv, on_per, on_po, on_total};
 ghost use Rattle.std.specs.Cmp.Lexicographic.{lists_agrees, lists_equiv, lists_per, lists_po, lists_ties, lists_total, pointwise, slice_cmp, slice_partial_cmp};
 ghost use Rattle.std.specs.Hash as fed;

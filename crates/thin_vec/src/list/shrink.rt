@@ -51,8 +51,8 @@ impl<T, A: Allocator, G: Growth> ThinVec<T, A, G> {
         self.shrink_block(wanted)
     }
 
-    /// Shrinks the capacity to the length. If the list is full, nothing changes. If it is empty,
-    /// its block is freed, and the cost that contracts see becomes 0.
+    /// Shrinks the capacity to the length. If the list is full, nothing changes. If the list is
+    /// empty, its block is freed, and the cost that contracts see becomes 0.
     ///
     /// # Errors
     ///
