@@ -11,7 +11,8 @@ use std::io::ErrorKind;
 use std::{fmt, io};
 use thin_block::ThinVecError;
 
-/// The error of a call that takes one argument by value and returns it on failure, such as `push`.
+/// The error of a call, such as `push`, that takes one argument by value. On failure, such a call
+/// returns the argument in this error.
 #[derive(Drop)]
 pub struct Rejected<S> {
     /// The argument, unchanged. The caller owns it again.

@@ -138,8 +138,8 @@ impl<T, A: Allocator, G: Growth> ThinVec<T, A, G> {
     }
 
     // Puts the block back into the list. If there is a gap, all items after the gap are first moved
-    // down, as one run, or in a loop without a call if the gap has one or two slots. If the list
-    // has another block, that block is freed.
+    // down, as one run; the code for a gap of one or two slots is inlined. If the list has another
+    // block, that block is freed.
     #[inline(always)]
     pub(crate) fn close(&mut self, block: OpenBlock<T, A>)
         requires empty { self.old.items ≡ [] }

@@ -56,7 +56,7 @@ pub(crate) fn put_vec<T, A: Allocator, B: Allocator>(
 }
 
 // Puts clones of `items` into the empty slots from `start` on, in order, until a clone fails.
-// Returns the number of clones.
+// Returns the number of clones made.
 pub(crate) fn put_clones<T: Clone, A: Allocator>(
     block: &mut Block<T, A>,
     start: usize,
@@ -85,7 +85,7 @@ pub(crate) fn put_clones<T: Clone, A: Allocator>(
 }
 
 // Puts clones of `value` into the `count` empty slots from `start` on, until a clone fails. Returns
-// the number of clones.
+// the number of clones made.
 pub(crate) fn put_repeated<T: Clone, A: Allocator>(
     block: &mut Block<T, A>,
     start: usize,

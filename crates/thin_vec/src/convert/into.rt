@@ -41,7 +41,7 @@ impl<T, A: Allocator, G: Growth> ThinVec<T, A, G> {
         }
     }
 
-    // Moves the items of the list, in order, into `vec`, and returns `vec`. It must be empty and
+    // Moves the items of the list, in order, into `vec`, and returns `vec`, which must be empty and
     // have room for the items. The block of the list is freed.
     fn moved_to(self, mut vec: Vec<T, A>) -> Vec<T, A>
         requires empty { vec.items ≡ [] }

@@ -17,10 +17,10 @@ use thin_block::{Doubling, Growth};
 
 /// An iterator over the items of a range of a list, which yields them from either end.
 ///
-/// When it is dropped, it drops the items that were not yielded, and the list keeps the items
-/// before and after the range. Until then it owns the list's block, and the list is empty and has
-/// no block. So a `Drain` that is leaked leaves an empty list, and the items of the old list are
-/// leaked.
+/// When a `Drain` is dropped, it drops the items that were not yielded, and the list keeps the
+/// items before and after the range. Until then, the `Drain` owns the block of the list, and the
+/// list is empty and has no block. So a `Drain` that is leaked leaves an empty list, and the items
+/// of the old list are leaked.
 pub struct Drain<
     'a,
     T,
@@ -63,7 +63,7 @@ impl<T: Drop, A: Allocator, G: Growth> ThinVec<T, A, G> {
     ///
     /// When the iterator is dropped, it drops the items that were not yielded. Then the list has
     /// the items before and after the range, whichever items were yielded. Until then, the list is
-    /// empty and has no block; so it stays empty if the iterator is leaked.
+    /// empty and has no block. So if the iterator is leaked, the list stays empty.
     ///
     /// Neither the call nor the drop allocates memory, and neither can fail. The call moves no
     /// item. The drop moves each item after the range once, or none if the range is empty. The

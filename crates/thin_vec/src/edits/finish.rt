@@ -1,4 +1,4 @@
-//! The steps of `finish`, the method that ends a `Splice`: it inserts the items of an iterator in
+//! The steps of `finish`, the method that ends a `Splice`. It inserts the items of an iterator in
 //! the place of a removed range. First, `fill_gap` fills the gap that the range left. Then
 //! `insert_hinted` reserves room for the lower bound of the iterator's size hint, and fills this
 //! room. Last, `insert_held` collects the remaining items in a vector, and moves them from there
@@ -77,8 +77,8 @@ impl<T, A: Allocator, G: Growth> ThinVec<T, A, G> {
         ensures cause { IfErr result
             (λ rejected. FailsAtHint G.rule T.row self.new (I.remaining iter) rejected.cause) }
 
-        // In any case. Each item from index `at` on moves at most twice, or at most once if the gap
-        // was filled.
+        // In any case. Each item from index `at` on moves at most twice, or at most once if the
+        // reserved room was filled.
         ensures taken { HasTaken G.rule T.row self.old self.new
             (2 * (length self.old.items - at)) (I.remaining iter) }
         ensures taken_full { IfOk result (λ filled. filled.ended ≡ false
@@ -323,8 +323,8 @@ fn draw<T, A: Allocator, I: Iterator<Item = T>>(first: T, iter: I, alloc: A) -> 
     }
 }
 
-// Draws items of `iter` into `held` until its spare capacity is full, and then one item more, which
-// becomes `in_hand`. Stops when `iter` returns `None`. `held` is passed by value, so that its
+// Draws items of `iter` into the spare capacity of `held` until it is full, and then one item more,
+// which becomes `in_hand`. Stops when `iter` returns `None`. `held` is passed by value, so that its
 // length can stay in a register.
 fn draw_spare<T, A: Allocator, I: Iterator<Item = T>>(held: Vec<T, A>, iter: I) -> Drawn<T, I, A>
     requires can_next { I.can_next iter }

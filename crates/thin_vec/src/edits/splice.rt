@@ -39,10 +39,12 @@ impl<T, A: Allocator, G: Growth> ThinVec<T, A, G> {
     ghost use Rattle.thin_vec.specs.Edits.Splice.{splice_alloc, splice_block, splice_iter, splice_lender, splice_range, splice_rest};
 
     /// Begins to replace the items with the indices `start..end` by the items of `iter`. The
-    /// `Splice` yields the old items from either end, and its `finish` places the new ones.
+    /// `Splice` yields the old items from either end, and its method `finish` puts the items of
+    /// `iter` in their place.
     ///
-    /// The call allocates nothing, moves no item, and draws no item of `iter`. It cannot fail. The
-    /// function `bounds(start, end, len)` of this crate checks a range that may be out of bounds.
+    /// The call allocates nothing, moves no item, and draws no item of `iter`. The call cannot
+    /// fail. The function `bounds(start, end, len)` of this crate checks a range that may be out of
+    /// bounds.
     pub fn splice<I: Iterator<Item = T>>(
         &mut self,
         start: usize,
@@ -126,10 +128,9 @@ impl<
     ghost use Rattle.thin_vec.specs.Edits.Splice.{FailsAsExtend, HasPlacesFor, IsStopCause, Stopped, splice_block, splice_iter, splice_left, splice_range, splice_replaced};
 
     /// Drops the items of the range that were not yielded, and puts the items of the iterator in
-    /// the place of the range. The call asks the iterator for items until `next` returns `None` for
-    /// the first time, and not again after that. So the iterator must not be endless. Afterwards,
-    /// the list has the items before the range, the items of the iterator, and the items after the
-    /// range.
+    /// the place of the range. `next` of the iterator is called until it first returns `None`, and
+    /// not again after that. So the iterator must not be endless. Afterwards, the list has the
+    /// items before the range, the items of the iterator, and the items after the range.
     ///
     /// If items follow the range, `finish` takes three steps:
     ///

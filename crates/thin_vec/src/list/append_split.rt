@@ -101,7 +101,7 @@ impl<T, A: Allocator, G: Growth> ThinVec<T, A, G> {
     }
 
     // Moves the items of `other` from index `start` on to the end of this list, as one run. This
-    // list must have room for them.
+    // list must have room for these items.
     fn append_from(&mut self, other: &mut ThinVec<T, A, G>, start: usize)
         requires in_bounds { start ≤ length other.old.items }
         requires room { HasRoomFor self.old (length other.old.items - start) }

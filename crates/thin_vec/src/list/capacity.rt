@@ -16,8 +16,8 @@ impl<T, A: Allocator, G: Growth> ThinVec<T, A, G> {
     ghost use Rattle.thin_vec.specs.ThinVec.{HasRoomFor, IsCause, IsWithin, capacity_for, cost_at, cost_new, exact_for};
 
     /// Reserves room for at least `additional` more items. If there is not enough room, the list
-    /// grows to the capacity that the growth rule chooses, which is at least twice the old one.
-    /// Otherwise, nothing changes.
+    /// grows to the capacity that the growth rule chooses, which is at least twice the old
+    /// capacity. Otherwise, nothing changes.
     ///
     /// A growth may move the block to another address, which copies every item.
     ///
@@ -56,7 +56,7 @@ impl<T, A: Allocator, G: Growth> ThinVec<T, A, G> {
     /// becomes the length plus `additional`. Otherwise, nothing changes.
     ///
     /// A list that grows only by this call may copy all its items at each call. `reserve` avoids
-    /// this, because it at least doubles the capacity.
+    /// this: whenever it grows the list, it at least doubles the capacity.
     ///
     /// # Errors
     ///
@@ -102,8 +102,8 @@ impl<T, A: Allocator, G: Growth> ThinVec<T, A, G> {
         requires none { self.old.capacity ≡ 0 }
         requires within { IsWithin T.row self.old }
 
-        // The call succeeds if `capacity` is 0. Otherwise, it fails with `CapacityOverflow` if
-        // `capacity` is too large, and can fail with `OutOfMemory` if not.
+        // The call succeeds if `capacity` is 0, and fails with `CapacityOverflow` if `capacity` is
+        // too large. Any other failure is `OutOfMemory`.
         ensures succeeds_empty { capacity ≡ 0 → IsOk result }
         ensures overflow { exact_capacity T.row 0 capacity ≡ None
             → IsErrOf result ThinVecError.CapacityOverflow }
@@ -221,8 +221,8 @@ impl<T, A: Allocator, G: Growth> ThinVec<T, A, G> {
     }
 
     // Grows the list to the capacity `cap`. No other function grows a list. This function is
-    // inlined, as `Block::grow` is: if the caller has just made the list, there is no test for an
-    // old block.
+    // inlined, as `Block::grow` is, so that the compiled first growth of a new list does not test
+    // for an old block.
     #[inline(always)]
     pub(crate) fn grow_to(&mut self, cap: usize) -> Result<(), ThinVecError>
         requires larger { self.old.capacity < cap }

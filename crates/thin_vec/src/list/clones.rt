@@ -154,8 +154,8 @@ impl<T: Clone, A: Allocator, G: Growth> ThinVec<T, A, G> {
         Ok(())
     }
 
-    // Appends clones of `items`, in order, until a clone fails, and returns the number of clones.
-    // The list must have room for a clone of every item.
+    // Appends clones of `items`, in order, until a clone fails, and returns the number of clones
+    // made. The list must have room for a clone of each item.
     fn push_clones_reserved(&mut self, items: &[T]) -> usize
         requires room { HasRoomFor self.old (length items.now) }
         ensures in_bounds { result ≤ length items.now }
@@ -263,9 +263,9 @@ impl<T: Clone, A: Allocator, G: Growth> ThinVec<T, A, G> {
     }
 
     // Appends clones of the items from index `start` up to, but not including, `end`, in order,
-    // until a clone fails, and returns the number of clones. The list must have room for all these
-    // clones. The items are read from the same list to which the clones are appended, so the stored
-    // length is updated after each clone.
+    // until a clone fails, and returns the number of clones made. The list must have room for all
+    // these clones. The items are read from the same list to which the clones are appended, so the
+    // stored length is updated after each clone.
     fn push_clones_within(&mut self, start: usize, end: usize) -> usize
         requires start_le_end { start ≤ end }
         requires in_bounds { end ≤ length self.old.items }

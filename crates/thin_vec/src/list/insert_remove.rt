@@ -71,9 +71,10 @@ impl<T, A: Allocator, G: Growth> ThinVec<T, A, G> {
         self.block.put_and_store(index, value, len + 1);
     }
 
-    /// Appends `value`, which the list then owns, and returns a mutable reference to it. What the
-    /// caller writes through the reference is written to the item of the list. If there is no spare
-    /// capacity, the list first grows to the capacity that the growth rule chooses.
+    /// Appends `value`, which the list then owns, and returns a mutable reference to `value` in the
+    /// list. What the caller writes through the reference is written to the item of the list. If
+    /// there is no spare capacity, the list first grows to the capacity that the growth rule
+    /// chooses.
     ///
     /// Rust's `Vec` has a method of this name, and the Rust crate thin-vec has none.
     ///

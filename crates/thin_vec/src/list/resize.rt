@@ -107,7 +107,7 @@ impl<T: Clone, A: Allocator, G: Growth> ThinVec<T, A, G> {
     }
 
     // Appends up to `count` clones of `value`, until a clone fails, and returns the number of
-    // clones. The list must have room for `count` clones.
+    // clones made. The list must have room for `count` clones.
     fn push_repeated_reserved(&mut self, value: &T, count: usize) -> usize
         requires room { HasRoomFor self.old count }
         ensures in_bounds { result ≤ count }

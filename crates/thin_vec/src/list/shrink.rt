@@ -108,7 +108,7 @@ impl<T, A: Allocator, G: Growth> ThinVec<T, A, G> {
         Ok(())
     }
 
-    // Frees the block of an empty list, which then has capacity 0 and no cost.
+    // Frees the block of an empty list. The capacity and the cost of the list are then 0.
     fn give_block_back(&mut self)
         requires empty { self.old.items ≡ [] }
         ensures changes { self.new ≡ record self.old { items = []; capacity = 0; cost = no_cost } }

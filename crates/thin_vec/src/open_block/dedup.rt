@@ -143,10 +143,11 @@ impl<T: Drop, A: Allocator> OpenBlock<T, A> {
         self.dedup_last(test);
     }
 
-    // Tests the items of the middle run, which must be at least two, up to the first that is
-    // removed. Drops that item, and moves the items before it to the front. The first item of the
-    // middle run is taken out of the block before its test, because empty slots lie between it and
-    // the last item of the front: the block cannot lend both items at the same time.
+    // Tests the items of the middle run, in order, up to the first that is removed. Drops that
+    // item, and moves the items before it to the front. The middle run must have at least two
+    // items. The first of them is taken out of the block before its test. The reason is that the
+    // block cannot lend this item and the last item of the front at the same time, because empty
+    // slots lie between the two items.
     fn dedup_two<J: PairTest<T>>(&mut self, test: &mut J)
         requires some { 0 < length self.old.front }
         requires two { 1 < length self.old.rest }

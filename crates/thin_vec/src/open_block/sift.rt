@@ -154,8 +154,8 @@ impl<T, A: Allocator> OpenBlock<T, A> {
     ghost use Rattle.thin_vec.specs.OpenBlock.Sift.{Advances};
 
     // Tests the items of the middle run up to the first that is to be removed, and returns whether
-    // there is such an item. It is then the first item of the middle run. The items before it
-    // become a part of the front; if there is a gap, they are moved down.
+    // there is such an item. The items before that item become a part of the front; if there is a
+    // gap, they are moved down. The item to be removed is then the first of the middle run.
     pub(crate) fn advance<J: Test<T>>(&mut self, test: &mut J) -> bool
         requires ready { J.ready test.old }
         ensures advances { Advances J.tests test.old self.old test.new self.new }
@@ -259,8 +259,9 @@ impl<T: Drop, A: Allocator> OpenBlock<T, A> {
         self.sift_last(test);
     }
 
-    // Tests the items of the middle run, which must be at least two, up to the first that is
-    // removed. Drops that item, and moves the items before it to the front.
+    // Tests the items of the middle run, in order, up to the first that is removed. Drops that
+    // item, and moves the items before it to the front. The middle run must have at least two
+    // items.
     fn sift_two<J: Test<T>>(&mut self, test: &mut J)
         requires two { 1 < length self.old.rest }
         requires gap { 0 < self.old.gap }
