@@ -131,7 +131,7 @@ impl<T, A: Allocator, G: Growth> ThinVec<T, A, G> {
         self.block.cap()
     }
 
-    /// Returns whether the list has a block. It has one if and only if its capacity is not 0.
+    /// Returns whether the list has a block, that is, whether its capacity is not 0.
     pub fn has_capacity(&self) -> bool
         ensures value { IsTrue result ↔ (0 < self.now.capacity) }
         ensures within { IsWithin T.row self.now }

@@ -35,8 +35,8 @@ use thin_block::{Block, Growth};
 /// - The *front* has the items before the range, and the items that were kept or inserted so far.
 ///   They do not move again while the block is open.
 /// - The *gap* has the empty slots between the front and the middle run.
-/// - The *middle run* has the items of the range that were not yet yielded or tested. In names of
-///   fields and in contracts, it is called `rest`.
+/// - The *middle run* has the items of the range not yet yielded or tested. In names of fields and
+///   in contracts, it is called `rest`.
 /// - `gap_after` has the empty slots between the middle run and the tail. There are such slots only
 ///   after items were removed from the end of the middle run, or the tail was moved up.
 /// - The *tail* has the items after the range.

@@ -47,7 +47,7 @@ pub(crate) fn put_vec<T, A: Allocator, B: Allocator>(
       cost = moving (length items.items) block.old.cost;
     } }
 {
-    // This call tells the prover that the number of slots is below 2 ^ 63, so each index is, too.
+    // This call tells the prover that the number of slots, and so each index, is below 2 ^ 63.
     let _whole = block.cap();
     while let Some(item) = items.pop() {
         block.put(start + items.len(), item);
@@ -73,7 +73,7 @@ pub(crate) fn put_clones<T: Clone, A: Allocator>(
     ensures refused { result < length items.now
         → HoldsAt (λ x. ¬ (T.is_infallible x)) items.now result }
 {
-    // This call tells the prover that the number of slots is below 2 ^ 63, so each index is, too.
+    // This call tells the prover that the number of slots, and so each index, is below 2 ^ 63.
     let _whole = block.cap();
     for i in 0..items.len() {
         match items[i].clone() {
@@ -103,7 +103,7 @@ pub(crate) fn put_repeated<T: Clone, A: Allocator>(
     } }
     ensures refused { result < count → ¬ (T.is_infallible value.now) }
 {
-    // This call tells the prover that the number of slots is below 2 ^ 63, so each index is, too.
+    // This call tells the prover that the number of slots, and so each index, is below 2 ^ 63.
     let _whole = block.cap();
     for i in 0..count {
         match value.clone() {
@@ -131,7 +131,7 @@ pub(crate) fn put_results<T, A: Allocator, F: FnMut() -> T>(
       cost = moving count block.old.cost;
     } }
 {
-    // This call tells the prover that the number of slots is below 2 ^ 63, so each index is, too.
+    // This call tells the prover that the number of slots, and so each index, is below 2 ^ 63.
     let _whole = block.cap();
     for i in 0..count {
         block.put(start + i, make());

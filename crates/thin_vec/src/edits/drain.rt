@@ -101,15 +101,14 @@ impl<T: Drop, A: Allocator, G: Growth> ThinVec<T, A, G> {
 impl<'a, T, A: Allocator, G: Growth> Drain<'a, T, A, G> {
     ghost use Rattle.thin_vec.specs.Edits.Drain.{DrainSteps, DrainStepsBack, drain_rest};
 
-    /// Returns the number of items that were not yet yielded.
+    /// Returns the number of items not yet yielded.
     pub fn len(&self) -> usize
         ensures value { result ≡ length (drain_rest self.now) }
     {
         self.holder.value.rest_len()
     }
 
-    /// Returns the number of items that were not yet yielded, as both the lower and the upper
-    /// bound.
+    /// Returns the number of items not yet yielded, as both the lower and the upper bound.
     pub fn size_hint(&self) -> (usize, Option<usize>)
         ensures value { result
             ≡ (length (drain_rest self.now), Some (length (drain_rest self.now))) }
@@ -118,21 +117,21 @@ impl<'a, T, A: Allocator, G: Growth> Drain<'a, T, A, G> {
         (len, Some(len))
     }
 
-    /// Yields the first item that was not yet yielded, or returns `None` if there is none.
+    /// Yields the first item not yet yielded, or returns `None` if all items were yielded.
     pub fn next(&mut self) -> Option<T>
         ensures steps { DrainSteps self.old result self.new }
     {
         self.holder.value.next()
     }
 
-    /// Yields the last item that was not yet yielded, or returns `None` if there is none.
+    /// Yields the last item not yet yielded, or returns `None` if all items were yielded.
     pub fn next_back(&mut self) -> Option<T>
         ensures steps { DrainStepsBack self.old result self.new }
     {
         self.holder.value.next_back()
     }
 
-    /// Returns the items that were not yet yielded, in order.
+    /// Returns the items not yet yielded, in order.
     pub fn as_slice(&self) -> &[T]
         ensures value { result.now ≡ drain_rest self.now }
     {

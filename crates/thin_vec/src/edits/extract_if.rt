@@ -23,9 +23,9 @@ use thin_block::{Doubling, Growth};
 ///
 /// While an `ExtractIf` lives, it owns the block of the list, and the list is empty and has no
 /// block. When it is dropped, it puts the block back. Then the list has every item that was not
-/// yielded: the closure is not called for the items that it has not tested yet, and they are kept.
-/// If an `ExtractIf` is passed to `mem::forget`, the list remains empty and without a block, and
-/// the items and their block are leaked.
+/// yielded. The items not yet tested are kept, and the closure is not called for them. If an
+/// `ExtractIf` is passed to `mem::forget`, the list remains empty and without a block, and the
+/// items and their block are leaked.
 pub struct ExtractIf<
     'a,
     T,
@@ -40,8 +40,8 @@ pub struct ExtractIf<
     ghost from: { IsFrom (H.inner holder).block.alloc list.now.alloc },
 }
 
-/// What an `ExtractIf` owns: the open block, whose middle run has the items that were not tested
-/// yet, and the closure.
+/// What an `ExtractIf` owns: the open block, whose middle run has the items not yet tested, and the
+/// closure.
 pub struct Extracting<T, F, A: Allocator> {
     block: OpenBlock<T, A>,
     picks: Picks<F>,
@@ -69,8 +69,8 @@ impl<T, F: FnMut(&mut T) -> bool> Test<T> for Picks<F> {
 
 impl<'a, T: Drop, F: Drop, A: Allocator, G: Growth, H: Holds<Inner = Extracting<T, F, A>>> Drop
     for ExtractIf<'a, T, F, A, G, H> {
-    // Moves the items that were not tested, and the items after the range, down to the start of the
-    // gap, as one run. Then puts the block back into the list, and drops the closure.
+    // Moves the items not yet tested, and the items after the range, down to the start of the gap,
+    // as one run. Then puts the block back into the list, and drops the closure.
     fn drop(self)
         ensures items { self.exit.0.now.items ≡ items_of (H.inner self.entry.holder).block }
         ensures capacity { self.exit.0.now.capacity ≡ (H.inner self.entry.holder).block.capacity }
@@ -119,11 +119,11 @@ impl<T: Drop, A: Allocator, G: Growth> ThinVec<T, A, G> {
     ///
     /// When the `ExtractIf` is dropped, the list has every item that was not yielded, and its old
     /// capacity and allocator. If the `ExtractIf` is dropped before `next` has returned `None`, the
-    /// items that were not tested yet are kept, as with Rust's `Vec::extract_if`.
+    /// items not yet tested are kept, as with Rust's `Vec::extract_if`.
     ///
-    /// No memory is requested. Once the `ExtractIf` is dropped, each item that follows the first
-    /// removed item and is kept has moved once, including the items after the range. No other item
-    /// moves.
+    /// No memory is requested. Each kept item after the first removed item moves once, at the
+    /// latest when the `ExtractIf` is dropped. This includes the items after the range. No other
+    /// item moves.
     ///
     /// The function `bounds` converts a Rust range into `start` and `end`, and checks them.
     pub fn extract_if<F: FnMut(&mut T) -> bool>(
@@ -164,8 +164,8 @@ impl<T: Drop, A: Allocator, G: Growth> ThinVec<T, A, G> {
 impl<'a, T, F, A: Allocator, G: Growth> ExtractIf<'a, T, F, A, G> {
     ghost use Rattle.thin_vec.specs.Edits.ExtractIf.{extract_rest};
 
-    /// Returns a lower and an upper bound for the number of items that are still to be yielded: 0,
-    /// and the number of items that were not tested yet.
+    /// Returns a lower and an upper bound for the number of items still to be yielded: 0, and the
+    /// number of items not yet tested.
     pub fn size_hint(&self) -> (usize, Option<usize>)
         ensures value { result ≡ (0, Some (length (extract_rest self.now))) }
     {
@@ -176,9 +176,9 @@ impl<'a, T, F, A: Allocator, G: Growth> ExtractIf<'a, T, F, A, G> {
 impl<'a, T, F: FnMut(&mut T) -> bool, A: Allocator, G: Growth> ExtractIf<'a, T, F, A, G> {
     ghost use Rattle.thin_vec.specs.Edits.ExtractIf.{ExtractSteps, extract_callee};
 
-    /// Calls the closure with the items that were not tested yet, in order, until it returns true
-    /// for one of them. Then removes that item and returns it. If the closure returns true for none
-    /// of these items, this call and each later call return `None`.
+    /// Calls the closure with the items not yet tested, in order, until it returns true for one of
+    /// them. Then removes that item and returns it. If the closure returns true for none of these
+    /// items, this call and each later call return `None`.
     pub fn next(&mut self) -> Option<T>
         requires callable { F.IsAlwaysCallable (extract_callee self.old) }
         ensures steps { ExtractSteps (CalledAtMut F.FnMut) self.old result self.new }

@@ -4,7 +4,7 @@
 //! room. Last, `insert_held` collects the remaining items in a vector, and moves them from there
 //! into the list.
 //!
-//! These steps are inlined into the caller of `finish`, so that the list and the iterator are not
+//! The steps are inlined into the caller of `finish`, so that the list and the iterator are not
 //! passed through memory from one step to the next.
 ghost use Rattle.std.specs.Prelude.{◌≡◌, ◌+◌, ◌-◌, ◌*◌, ◌<◌, ◌≤◌, [], ◌++◌, ◌∷◌, IfErr, IfOk, IsOk, IsSome, List, MatchOption, None, OnErr, OnOk, OnSome, Some, drop, false, length, take, ℕ};
 ghost use Rattle.std.specs.Iterator.{Drains, IsFinite, Yields, YieldsThen, size};
@@ -157,7 +157,8 @@ impl<T: Drop, A: Allocator, G: Growth> ThinVec<T, A, G> {
         Ok(())
     }
 
-    // Inserts the items of `held` before the item at index `at`. The list must have room for them.
+    // Inserts the items of `held` before the item at index `at`. The list must have room for these
+    // items.
     fn insert_vec(&mut self, at: usize, held: Vec<T, A>)
         requires in_bounds { at ≤ length self.old.items }
         requires room { HasRoomFor self.old (length held.items) }

@@ -83,15 +83,15 @@ impl<T, A: Allocator, G: Growth> ThinVec<T, A, G> {
 impl<'a, T, I, A: Allocator, G: Growth> Splice<'a, I, T, A, G> {
     ghost use Rattle.thin_vec.specs.Edits.Splice.{SpliceSteps, SpliceStepsBack, splice_rest};
 
-    /// Returns the number of items of the range that were not yet yielded.
+    /// Returns the number of items of the range not yet yielded.
     pub fn len(&self) -> usize
         ensures value { result ≡ length (splice_rest self.now) }
     {
         self.holder.value.rest_len()
     }
 
-    /// Returns the number of items of the range that were not yet yielded, as both the lower and
-    /// the upper bound.
+    /// Returns the number of items of the range not yet yielded, as both the lower and the upper
+    /// bound.
     pub fn size_hint(&self) -> (usize, Option<usize>)
         ensures value { result
             ≡ (length (splice_rest self.now), Some (length (splice_rest self.now))) }
@@ -100,16 +100,14 @@ impl<'a, T, I, A: Allocator, G: Growth> Splice<'a, I, T, A, G> {
         (len, Some(len))
     }
 
-    /// Yields the first item of the range that was not yet yielded, or returns `None` if there is
-    /// none.
+    /// Yields the first item of the range not yet yielded, or returns `None` if all were yielded.
     pub fn next(&mut self) -> Option<T>
         ensures steps { SpliceSteps self.old result self.new }
     {
         self.holder.value.next()
     }
 
-    /// Yields the last item of the range that was not yet yielded, or returns `None` if there is
-    /// none.
+    /// Yields the last item of the range not yet yielded, or returns `None` if all were yielded.
     pub fn next_back(&mut self) -> Option<T>
         ensures steps { SpliceStepsBack self.old result self.new }
     {

@@ -221,8 +221,8 @@ impl<T, A: Allocator, G: Growth> ThinVec<T, A, G> {
     }
 
     // Grows the list to the capacity `cap`. No other function grows a list. This function is
-    // inlined, as `Block::grow` is, so that the compiled first growth of a new list does not test
-    // for an old block.
+    // inlined, as `Block::grow` is, so that growing a new list needs no test for an old block at
+    // run time.
     #[inline(always)]
     pub(crate) fn grow_to(&mut self, cap: usize) -> Result<(), ThinVecError>
         requires larger { self.old.capacity < cap }

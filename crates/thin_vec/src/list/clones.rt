@@ -27,7 +27,7 @@ impl<T: Clone, A: Allocator, G: Growth> ThinVec<T, A, G> {
     /// - `OutOfMemory`: there is not enough spare capacity, and the allocator failed. The list is
     ///   unchanged.
     /// - `OutOfMemory`: a clone failed. The clones already made are dropped, and the list has its
-    ///   old items. If it has grown, it keeps the new capacity.
+    ///   old items. If the list has grown, it keeps the new capacity.
     pub fn extend_from_slice(&mut self, items: &[T]) -> Result<(), ThinVecError>
         // On success.
         ensures items { OnOk result
@@ -188,7 +188,7 @@ impl<T: Clone, A: Allocator, G: Growth> ThinVec<T, A, G> {
     /// - `OutOfMemory`: there is not enough spare capacity, and the allocator failed. The list is
     ///   unchanged.
     /// - `OutOfMemory`: a clone failed. The clones already made are dropped, and the list has its
-    ///   old items. If it has grown, it keeps the new capacity.
+    ///   old items. If the list has grown, it keeps the new capacity.
     pub fn extend_from_within(&mut self, start: usize, end: usize) -> Result<(), ThinVecError>
         requires start_le_end { start ≤ end }
         requires in_bounds { end ≤ length self.old.items }

@@ -28,7 +28,7 @@ impl<T: Clone, A: Allocator, G: Growth> ThinVec<T, A, G> {
     /// - `OutOfMemory`: there is not enough spare capacity, and the allocator failed. The list is
     ///   unchanged.
     /// - `OutOfMemory`: a clone failed. The clones already made are dropped, and the list has its
-    ///   old items. If it has grown, it keeps the new capacity.
+    ///   old items. If the list has grown, it keeps the new capacity.
     pub fn resize(&mut self, len: usize, value: T) -> Result<(), ThinVecError>
         // On success.
         ensures items { OnOk result (IsResized T.is_clone self.old.items len value self.new.items) }
@@ -175,7 +175,8 @@ impl<T: Drop, A: Allocator, G: Growth> ThinVec<T, A, G> {
         Ok(())
     }
 
-    // Appends the results of `count` calls of `make`, in order. The list must have room for them.
+    // Appends the results of `count` calls of `make`, in order. The list must have room for `count`
+    // more items.
     fn push_results_reserved<F: FnMut() -> T>(&mut self, count: usize, make: F)
         requires room { HasRoomFor self.old count }
         requires callable { F.IsAlwaysCallable make }

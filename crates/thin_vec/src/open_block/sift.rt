@@ -8,7 +8,7 @@ use std::alloc::Allocator;
 use std::mem;
 use thin_block::Block;
 
-// From this number of items on, moving them as one run is faster than moving them one by one.
+// Moving at least this number of items as one run is faster than moving them one by one.
 const MANY: usize = 8;
 
 /// A test of one item. It decides whether the item is kept, and may write to it.
