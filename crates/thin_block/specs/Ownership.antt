@@ -1,14 +1,14 @@
 -- What a block owns in memory, and what a `&` to a block lends, as formulas. R is the type of an
 -- item with its layout; b and o are the allocation and the offset of an address. No public clause
 -- cites this module.
---     place, places   one slot, and a row of slots: each slot is an item in memory, or uninitialized
---                     memory for an item
+--     place, places   one slot, and a row of slots: each slot is an item in memory, or
+--                     uninitialized memory for an item
 --     frame           a block without its slots: the two words of the header, the fact that the
 --                     block fits, and the backing
 --     word_of, way    if items make words: the type of a word, and the conversion of memory for the
 --                     items of a word into memory for the word
---     backing         the conversion of the parts of a block back into the memory that was allocated,
---                     and the right to free that memory
+--     backing         the conversion of the parts of a block back into the memory that was
+--                     allocated, and the right to free that memory
 --     block_owns      what a block owns: all of its allocation; if it has none, it only shares the
 --                     static header
 --     .._lent         what a `&` to a slot, to slots, to a header or to a block shows

@@ -1,7 +1,7 @@
 -- The memory of items as memory of words. A word is a value of the struct `Words`, which holds m
 -- items of T; M is the const parameter m. No public clause cites this module.
---     run_at, runs_from    the items of one word, and the items of several adjacent words, with what
---                          converts them into words
+--     run_at, runs_from    the items of one word, and the items of several adjacent words, with
+--                          what converts them into words
 --     words_from           several adjacent words
 use Rattle.std.specs.Prelude.{ℕ, ◌+◌, List, [], ◌∷◌, map}
 use base.Fraction.{full_share}

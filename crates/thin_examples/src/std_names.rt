@@ -1,5 +1,5 @@
-//! Callers of methods that std's `Vec` and `ThinVec` have, and that the Rust crate thin-vec does
-//! not have.
+//! Callers of methods that `ThinVec` has in common with std's `Vec`, and that the Rust crate
+//! thin-vec does not have.
 ghost use Rattle.std.specs.Prelude.{◌≡◌, ◌-◌, ◌≤◌, [], ◌∷◌, ◌++◌, IfNone, IfSome, IsOk, OnErr, OnOk, insert, length, max, slice_range};
 ghost use Rattle.thin_vec.specs.ThinVec.{HasRoomFor};
 

@@ -22,8 +22,8 @@ pub fn row_3<A: Allocator + Copy>(alloc: A) -> Outcome {
     Ok(checks)
 }
 
-/// Checks that `into_array` returns the list if the array has another length, and that the clone of
-/// an empty list has no block.
+/// Checks that `into_array` returns the list if the array does not have the length of the list, and
+/// that the clone of an empty list has no block.
 pub fn row_20<A: Allocator + Copy>(alloc: A) -> Outcome {
     let mut checks = Checks::new();
     let digits = [0, 1, 2, 3, 4, 5, 6, 7, 8, 9];
@@ -87,7 +87,8 @@ pub fn row_30<A: Allocator + Copy>(alloc: A) -> Outcome {
     Ok(checks)
 }
 
-// Writes bytes to the end of a list, and checks the returned numbers and the list.
+// Writes bytes to the end of the list `bytes`, and checks the returned numbers of bytes and the
+// list.
 fn check_writes<A: Allocator>(checks: &mut Checks, bytes: &mut ThinVec<u8, A>) -> io::Result<()> {
     bytes.write_all(&[3, 4, 5])?;
     checks.holds(bytes, &[1, 2, 3, 4, 5], 5);
