@@ -14,8 +14,8 @@ use denote.RattleType.{RattleType}
 abbrev pub IsAlign : ℕ → Type 0
 IsAlign a = (w : Width) × (a ≡ bytes w)
 
--- `items_offset a` is the offset in bytes of the first item in a block, if a is the alignment of an
--- item: two words of 8 bytes, and padding, come before the first item
+-- `items_offset a` is the offset in bytes of the first item in a block, after two words of 8 bytes
+-- and padding; a is the alignment of an item
 abbrev pub items_offset : ℕ → ℕ
 items_offset a = max 16 a
 

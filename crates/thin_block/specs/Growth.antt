@@ -50,7 +50,7 @@ unfoldable pub least_power : ℕ → ℕ
 least_power n = doubled_to n n 1
 
 -- The rule `PowerBytes`. Let p be the least power of two such that p bytes have room for the header
--- and for the wanted items, or for twice the old capacity if that is more. The rule chooses the
+-- and either the wanted items or twice the old capacity, whichever is more. The rule chooses the
 -- number of items that have room in p bytes after the header. If items take no bytes, the rule is
 -- `doubling`.
 unfoldable pub power_bytes : Rule

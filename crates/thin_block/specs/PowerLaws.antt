@@ -55,7 +55,7 @@ not_more n (suc j) k enough half = elim (cases_lt j k) [
       let some = pow_pos j in absurd (omega (arith, half, enough, under, twice, some)))
 ]
 
--- two numbers that are both the least power of two that is at least n are equal
+-- if p and q are both the least power of two that is at least n, then p equals q
 pub one_least_power : (n p q : ℕ) → IsNextPowerOfTwo n p → IsNextPowerOfTwo n q → p ≡ q
 one_least_power n p q first second =
     let under = not_more n first.0.0 second.0.0 (subst (λ x. n ≤ x) second.0.1 second.1)

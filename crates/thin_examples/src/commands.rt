@@ -37,9 +37,9 @@ pub fn one_and_two<A: Allocator + Copy, J: Judge<u64>>(
 ///
 /// # Errors
 ///
-/// If a command fails, the call fails with the cause of the first failure. The commands after the
-/// failed command are carried out nevertheless. The call also fails if there is no room for the
-/// replies, and then no command is carried out.
+/// If calls on the list fail, `carry_out` fails with the cause of the first failed call. The
+/// commands after the failed call are carried out nevertheless. `carry_out` also fails if there is
+/// no room for the replies, and then no command is carried out.
 pub fn carry_out<T: Clone + Eq, A: Allocator + Copy, G: Growth, J: Judge<T>>(
     alloc: A,
     list: &mut ThinVec<T, A, G>,

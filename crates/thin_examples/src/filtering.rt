@@ -18,7 +18,8 @@ pub fn keep_even<A: Allocator, G: Growth>(list: &mut ThinVec<u32, A, G>)
     list.retain(|number| number % 2 == 0);
 }
 
-/// Removes the repeated numbers from a sorted list. Then each number is less than the next one.
+/// Removes the repeated numbers from a sorted list. Afterwards, each number is less than the next
+/// one.
 pub fn keep_distinct<A: Allocator, G: Growth>(list: &mut ThinVec<u32, A, G>)
     requires sorted { IsSorted nat_cmp list.old.items }
     ensures distinct { IsStrictlyIncreasing list.new.items }

@@ -119,8 +119,8 @@ pub fn divide<A: Allocator, G: Growth>(
     Ok(())
 }
 
-/// Appends the double of each number. If the call fails, it appends nothing. It requests memory at
-/// most once.
+/// Appends the doubles of `numbers` to `list`, in order. If the call fails, it appends nothing. It
+/// requests memory at most once.
 ///
 /// # Errors
 ///

@@ -56,12 +56,13 @@ pub fn set_to_zero<A: Allocator, G: Growth>(list: &mut ThinVec<u32, A, G>)
     list.as_mut_slice().fill(0);
 }
 
-/// Inserts `value` at `index`, removes it again, and returns it. By the lemma `undone`, the items
-/// are then as before.
+/// Inserts `value` at `index`, removes it again, and returns it. By the lemma `undone`, the list
+/// then has the same items as before the call.
 ///
 /// # Errors
 ///
-/// Fails if there is no room for `value`. The error holds `value`, and the items are as before.
+/// Fails if there is no room for `value`. The error holds `value`, and the items of the list do not
+/// change.
 #[tactic(auto, using(thin_vec::proofs::UndoLemmas::undone))]
 pub fn insert_and_remove<T: Drop, A: Allocator, G: Growth>(
     list: &mut ThinVec<T, A, G>,

@@ -6,8 +6,7 @@ ghost use Rattle.std.specs.Prelude.{◌≡◌, ◌≤◌, ◌++◌, OnOk, drop, 
 use std::alloc::{AllocError, Allocator};
 use thin_vec::{Growth, SpliceRefused, ThinVec};
 
-/// Replaces the items from index `range.0` up to, but not including, `range.1` with the items that
-/// `iter` yields.
+/// Replaces the items at the indices `range.0..range.1` with the items that `iter` yields.
 ///
 /// A splice with an iterator that borrows, such as an iterator over a slice, is proved in a
 /// function like this one, which is generic in the iterator.
@@ -33,7 +32,7 @@ pub fn splice_by<T: Drop, A: Allocator, G: Growth, I: Iterator<Item = T>>(
     list.splice(range.0, range.1, iter).finish(alloc)
 }
 
-/// Replaces the items from `start` up to, but not including, `end` with `numbers`.
+/// Replaces the items at the indices `start..end` with `numbers`.
 ///
 /// # Errors
 ///

@@ -50,7 +50,7 @@ pub fn set_length<A: Allocator, G: Growth>(
     list.resize_with(len, || 0)
 }
 
-/// Appends copies of the numbers from `start` up to, but not including, `end`.
+/// Appends copies of the numbers at the indices `start..end`.
 ///
 /// # Errors
 ///

@@ -9,8 +9,8 @@ use crate::growth::{Growth, fitting};
 use crate::sizes::{HEADER, item_size};
 
 /// A growth rule by which each block fills a power of two bytes. Let p be the least power of two
-/// such that p bytes have room for the header and the wanted items, or for the header and twice the
-/// old capacity if that is more. The rule chooses the number of items that have room in p bytes
+/// such that p bytes have room for the header and either the wanted items or twice the old
+/// capacity, whichever is more. The rule chooses the number of items that have room in p bytes
 /// after the header. If an allocator rounds requests up to powers of two, a block then wastes less
 /// than the size of one item. For items of size 0, the rule is the same as `Doubling`.
 ///

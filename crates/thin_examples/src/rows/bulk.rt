@@ -37,7 +37,7 @@ pub fn row_15<A: Allocator + Copy>(alloc: A) -> Outcome {
     Ok(checks)
 }
 
-/// Checks the items and the capacity after `extend` by an iterator of five items that claims the
+/// Checks the items and the capacity after `extend` with an iterator of five items that claims the
 /// lower bound 0, 3, 5 or 9.
 pub fn row_24<A: Allocator + Copy>(alloc: A) -> Outcome {
     let mut checks = Checks::new();
@@ -77,8 +77,7 @@ pub fn row_25<A: Allocator + Copy>(alloc: A) -> Outcome {
     Ok(checks)
 }
 
-/// Checks that the capacity of a list that `from_iter` makes is the number of items that the
-/// iterator yields.
+/// Checks that `from_iter` makes a list without spare capacity.
 pub fn row_27<A: Allocator + Copy>(alloc: A) -> Outcome {
     let mut checks = Checks::new();
     for count in 0..20 {

@@ -1,5 +1,5 @@
-//! The worked rows of lists that are made by `thin_vec!`, iterated over, compared, hashed, written
-//! to, or converted.
+//! The worked rows of `thin_vec!`, and of iterating over, comparing, hashing, writing to and
+//! converting lists.
 use crate::checks::Checks;
 use crate::rows::{Outcome, listed};
 use std::alloc::Allocator;
@@ -59,7 +59,7 @@ fn hash_of<A: Allocator>(list: &ThinVec<i32, A>) -> u64 {
     hasher.finish()
 }
 
-// Checks that comparing a list of the items `left` with one of the items `right` returns `order`.
+// Checks that `cmp` of a list of the items `left` with a list of the items `right` returns `order`.
 fn check_order<A: Allocator + Copy>(
     checks: &mut Checks,
     alloc: A,
