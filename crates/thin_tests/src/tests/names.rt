@@ -1,4 +1,4 @@
-//! Uses each public name of the crate, and each trait that programs rely on, once.
+//! Uses each public name of the crate `thin_vec` once, and each trait that programs rely on.
 use crate::tests::support::assertions::assert_same;
 use std::alloc::{AllocError, Allocator, Global};
 use std::convert::AsSlice;
@@ -33,7 +33,7 @@ where
     E: Error + Copy + Eq + From<AllocError> + From<Rejected<u8>>,
 {}
 
-// A struct that derives `Clone`. The items of its list allocate memory when they are cloned.
+// A struct that derives `Clone`. Cloning its list clones the strings, which allocates memory.
 #[derive(Clone, Drop)]
 struct Names {
     all: ThinVec<String>,

@@ -7,8 +7,8 @@ use std::process::Abort;
 use thin_testing::Refusing;
 use thin_vec::{Growth, ThinVec};
 
-/// Returns an allocator that refuses the request with this number, or none if `number` is 0. It is
-/// leaked, so that no test has to own it.
+/// Returns an allocator that refuses the request with the number `number`, or no request if
+/// `number` is 0. The allocator is leaked, so that no test has to own it.
 pub fn refusing_nth(rt: &impl Abort, alloc: Global, number: u64) -> &'static Refusing<Global> {
     let refusing = Refusing::new(alloc, number);
     Box::leak(Box::new(alloc, refusing).ok().expect(rt, "memory"))
