@@ -127,8 +127,7 @@ module _ {T : Type 0} (test : T → Bool) where
         part x xs item t e.1 e.2 kept rest e.0 answer.0 answer.1
         (λ ks n. parts e.1 xs item t ks rest n) e.4
 
--- in this module, `test` is a test of one item, and each `ExtractIf` is of the type that users get,
--- whose holder is `Holder`
+-- in this module, `test` is a test of one item, and every `ExtractIf` has the type that users get
 module _ {T F A G : Type 0} {g : Ghosts G}
     {h : HoldsGhosts (Holder (Extracting T F A)) (Extracting T F A)} (test : T → Bool) where
   -- A loop appends each item that an `ExtractIf` yields to a sequence. When the loop began, the
@@ -144,7 +143,7 @@ module _ {T F A G : Type 0} {g : Ghosts G}
     pub count : length held + length (extract_rest now)
         ≤ length old + length (extract_rest start)
 
-  -- `IsExtracting` holds when the loop begins
+  -- before any item is yielded, `IsExtracting` holds
   pub extract_start : (e : ExtractIf T F A G (Holder (Extracting T F A)) g h) (old : List T)
       → IsExtracting e e old old
   extract_start e old =
@@ -153,8 +152,8 @@ module _ {T F A G : Type 0} {g : Ghosts G}
   module _ (R : F → T → Bool → F → T → Type 0)
       (says : (s : F) (x : T) (b : Bool) (t : F) (y : T) → R s x b t y
       → (b ≡ test x) × (y ≡ x)) where
-    -- if `IsExtracting` holds, and `next` yields an item, then `IsExtracting` holds again after
-    -- this item was appended to the sequence
+    -- If `IsExtracting` holds and `next` yields an item, then `IsExtracting` holds again after this
+    -- item is appended to the sequence.
     pub extract_step : {start now new : ExtractIf T F A G (Holder (Extracting T F A)) g h}
         {old held more : List T} {item : Option T} {x : T} → IsExtracting start now old held
         → ExtractSteps R now item new → item ≡ Some x → more ≡ held ++ x ∷ []

@@ -453,8 +453,8 @@ module _ {T A : Type 0} where
     abbrev all-after : List T
     all-after = (open_of h).rest ++ (open_of h).tail
 
-    -- if there is no gap before the tail, the slots are the front, the gap, the middle run directly
-    -- followed by the tail, and the empty slots after the tail
+    -- if there is no gap before the tail, the slots are, in order: the front, the gap before the
+    -- middle run, the middle run directly followed by the tail, and the empty slots after the tail
     side-by-side : (open_of h).gap_after ≡ 0 → h.block.slots ≡ full (open_of h).front
         ++ (empty (open_of h).gap ++ (full all-after ++ past_tail (open_of h)))
     side-by-side none =
@@ -521,7 +521,7 @@ module _ {T A : Type 0} where
         (replicate-append-replicate w.gap (w.capacity - reach w) None
         ∙ ap (λ (k : ℕ). empty k) left))))
 
-    -- if there is no gap at all, all items are already in the first slots
+    -- if an open block has no gap, all its items are in the first slots
     pub closed-row : (open_of h).gap_after ≡ 0 → h.front_end ≡ h.rest_start
         → h.block.slots ≡ front (items_of (open_of h)) (length h.block.slots)
     closed-row none here =
@@ -716,8 +716,8 @@ module _ {T A : Type 0} where
           cost = b.cost;
         }
 
-    -- the slots of h are the slots before the tail, the tail, `count` empty slots, and further
-    -- empty slots
+    -- the slots of h are, in order: the slots before the tail, the tail, `count` empty slots, and
+    -- further empty slots
     spare : h.block.slots ≡ to_tail (open_of h)
         ++ (full (open_of h).tail
         ++ (empty count ++ empty ((open_of h).capacity - reach (open_of h) - count)))

@@ -15,7 +15,7 @@ use Rattle.thin_vec.specs.Open.{Open}
 use Rattle.thin_vec.specs.ThinVec.{Thin}
 use Rattle.thin_vec.specs.OpenBlock.Sift.{Advances, IsAskedAt, IsSifted, AskedUpTo, Sifts, Stops}
 
--- adding b moves to a cost, and then `a` moves, adds b + a moves
+-- adding b moves and then `a` moves to a cost is the same as adding b + a moves
 pub moving-more : (a b : ℕ) (c : Cost) → moving a (moving b c) ≡ moving (b + a) c
 moving-more a b c = let e : c.moves + b + a ≡ c.moves + (b + a) = omega arith in
     λ i. record { blocks = c.blocks; grown = c.grown; moves = e i }
@@ -32,7 +32,7 @@ moving-after gap k c some =
     ap (λ (b : Bool). if b then c else moving k c)
     (ne_eqb gap 0 (λ (e : gap ≡ 0). omega (arith, e)))
 
--- if there is no gap, k items stay in their slots, which costs no move
+-- if there is no gap, k items stay in their slots, and the cost does not change
 pub moving-before : (gap k : ℕ) (c : Cost) → (0 < gap → ⊥)
     → (if gap == 0 then c else moving k c) ≡ c
 moving-before zero k c none = refl
@@ -62,15 +62,13 @@ none-left [] none = refl
 none-left (x ∷ xs) none = absurd (none (omega arith))
 
 module _ {T : Type 0} where
-  -- by the verdicts a followed by b, the items kept are the items kept by a, followed by the items
-  -- kept by b
+  -- the verdicts `a ++ b` keep the items that a keeps, followed by the items that b keeps
   pub left_at-append : (a b : Verdicts T) → left_at true (a ++ b) ≡ left_at true a ++ left_at true b
   left_at-append [] b = refl
   left_at-append ((true, x) ∷ a) b = ap (λ (l : List T). x ∷ l) (left_at-append a b)
   left_at-append ((false, x) ∷ a) b = left_at-append a b
 
-  -- by the verdicts a followed by b, the number of items kept is the sum of the numbers for a and
-  -- for b
+  -- the number of items that the verdicts `a ++ b` keep is the sum of the numbers for a and for b
   pub trues-append : (a b : Verdicts T) → trues (flags_of (a ++ b)) ≡ trues
       (flags_of a) + trues (flags_of b)
   trues-append [] b = omega arith
@@ -87,8 +85,8 @@ module _ {T : Type 0} where
   trues-stay [] = refl
   trues-stay (x ∷ xs) = ap suc (trues-stay xs)
 
-  -- If all items of xs are kept, none of them moves. The number of items that move is then the
-  -- number for the verdicts a on the later items.
+  -- if all items of xs are kept, none of them moves, so the number of items that move is the number
+  -- for the verdicts a on the later items
   pub moved_down-stay : (xs : List T) (a : Verdicts T) → moved_down (flags_of (stay xs ++ a))
       ≡ moved_down (flags_of a)
   moved_down-stay [] a = refl
@@ -363,7 +361,7 @@ module _ {S T : Type 0} (R : S → T → Bool → S → T → Type 0) where
     pub run-was : xs ≡ r.run ++ r.after
     run-was = r.was ∙ ap (λ (l : List T). l ++ (r.run ++ r.after)) run-none
 
-    -- the first m items of ys are those of the run, as the tests left them
+    -- the first m items of ys are the items of the run, as the tests left them
     pub run-kept : take m ys ≡ r.left
     run-kept = ap (take m) run-now ∙ take_at r.left r.end m run-long
 

@@ -1,5 +1,5 @@
-//! Tests that a call which takes an allocator makes its result on that allocator, and not on the
-//! allocator of the list. This holds even if the list is empty.
+//! Tests that a call with an allocator as an argument allocates its result there, and not on the
+//! allocator of the list, even if the list is empty.
 use crate::tests::support::assertions::{assert_counts, assert_len, assert_same};
 use crate::tests::support::claims::Claims;
 use crate::tests::support::items::{list_of, refusing_nth};

@@ -48,8 +48,8 @@ const COUNTS: &str = "\
     40: 15, 2\n\
     41: 6, 5\n";
 
-// Runs a row. Asserts that it is ok and that all its blocks are freed. Returns how many values it
-// compares, and how many requests it makes.
+// Runs the row `number`. Asserts that the row is ok, and that all its blocks are freed. Returns how
+// many values the row compares, and how many requests it makes.
 fn run_and_count<R: Abort>(rt: &R, alloc: Global, number: u32) -> (u32, u64) {
     let refusing = Refusing::new(alloc, 0);
     let checks = row(&refusing, number).ok().expect(rt, "no refusal");

@@ -21,7 +21,8 @@ fn assert_row<V, A: Allocator>(rt: &impl Abort, table: &Rows<V, A>, row: usize)
     assert!(rt; row < table.rows());
 }
 
-// Asserts that the row has these entries, and that it has a block if and only if it is not empty.
+// Asserts that the row has exactly `entries`, and that the row has a block if and only if it has an
+// entry.
 fn assert_entries<A: Allocator>(
     rt: &impl Abort,
     table: &Rows<u32, A>,

@@ -49,7 +49,7 @@ module _ {T : Type 0} where
   before-last start xs =
       omega (arith, length-append (empty start) (full xs), length-empty T start, length-full xs)
 
-  -- in the row of `start` empty slots, the items xs and x, and k empty slots, the slot after xs
+  -- in a row of `start` empty slots, the items xs, the item x and k empty slots, the slot after xs
   -- holds x
   slot-last : (start k : ℕ) (xs : List T) (x : T)
       → slot (empty start ++ (full (xs ++ x ∷ []) ++ empty k)) (start + length xs) ≡ Some x
@@ -78,8 +78,8 @@ module _ {T : Type 0} where
       all : (ys : List T) (n : ℕ) → n ≡ length ys → take n ys ≡ ys
       all ys n same = ap (take n) (sym (append-nil ys)) ∙ take_at ys [] n (sym same)
 
-  -- in the row of `start` empty slots and the slots s, writing ws from the slot `start` on writes
-  -- ws over s
+  -- in a row of `start` empty slots, followed by the slots s, writing ws from the slot `start` on
+  -- writes ws over s
   over-after : (start : ℕ) (s : List (Option T)) (ws : List T)
       → over (empty start ++ s) start ws ≡ empty start ++ over s 0 ws
   over-after zero s ws = refl

@@ -33,7 +33,7 @@ pub fn assert_len<T, A: Allocator, G: Growth>(rt: &impl Abort, list: &ThinVec<T,
     assert_eq!(rt; list.len(), len);
 }
 
-/// Asserts that the list has these items and this capacity.
+/// Asserts that the list has the items `items` and the capacity `capacity`.
 pub fn assert_list<A: Allocator, G: Growth>(
     rt: &impl Abort,
     list: &ThinVec<i32, A, G>,

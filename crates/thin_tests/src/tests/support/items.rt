@@ -14,7 +14,7 @@ pub fn refusing_nth(rt: &impl Abort, alloc: Global, number: u64) -> &'static Ref
     Box::leak(Box::new(alloc, refusing).ok().expect(rt, "memory"))
 }
 
-/// Returns a list of these items, without spare room.
+/// Returns a list of `items`, without spare capacity.
 pub fn list_of<T: Copy + Drop, A: Allocator>(
     rt: &impl Abort,
     alloc: A,
