@@ -80,15 +80,14 @@ module _ {S T A : Type 0} {steps : S → Option T → S → Type 0} {can : S →
     filled-drains done = (f.rest, subst (λ b. Gives steps s p.0.items b f.rest) done p.0.gave)
 
     module _ (rule : Rule) (R : RattleType) (n : ℕ) (left : Count) where
-      -- if closing the gap took at most n moves, `HasTaken` holds with at most n moves of other
-      -- items, in addition to the moves of the placed items
+      -- if closing the gap took at most n moves, `HasTaken` holds with at most n moves of old items
       pub filled-taken : p.1.cost.0 ≤ n → HasTaken rule R (left_of v a) w n left
       filled-taken few =
           taken-spare rule R (left_of v a) w (length p.0.items) p.1.cost.0 n left p.1.cost.1
           p.1.capacity (omega (arith, filled-long, length-append v.front v.tail)) few p.1.alloc
 
-      -- If a gap was opened in the list u, filled, and closed, and opening and closing it took at
-      -- most n moves, then `HasTaken` holds for u and the new list, with at most n moves of other
+      -- If a gap was opened in the list u, filled, and closed, and opening and closing the gap took
+      -- at most n moves, then `HasTaken` holds for u and the new list, with at most n moves of old
       -- items.
       pub wide-taken : (u : Thin T A) (at count : ℕ) → IsWide v u at count → a ≡ u.alloc
           → p.1.cost.0 + (length u.items - at) ≤ n → HasTaken rule R u w n left
@@ -127,8 +126,9 @@ module _ {S T A : Type 0} {steps : S → Option T → S → Type 0} {can : S →
       nearer = p.nearer;
     }
 
-    -- If the steps so far satisfy `HasTaken` with m moves of other items, the later steps, up to
-    -- the list w, satisfy it with n, and m + n ≤ k, then all steps together satisfy it with k.
+    -- If the steps so far satisfy `HasTaken` with at most m moves of old items, and the later
+    -- steps, up to the list w, satisfy it with at most n, then all steps together satisfy it with
+    -- at most k, where k is at least m + n.
     pub reached-taken : (rule : Rule) (R : RattleType) → KeepsLaw rule → (a : A) (w : Thin T A)
         (m n k : ℕ) → m + n ≤ k → HasTaken rule R (left_of v a) u m (remaining s)
         → HasTaken rule R u w n (remaining t) → HasTaken rule R (left_of v a) w k (remaining s)

@@ -123,7 +123,7 @@ module _ {S X : Type 0} (steps : S → Option X → S → Type 0) where
 
 module _ {T A : Type 0} where
   -- if k items were placed into spare capacity, with k + m moves, and m ≤ n, then v and w satisfy
-  -- `CostsAdding` with n moves of other items
+  -- `CostsAdding` with at most n moves of old items
   pub adding-run : (v w : Thin T A) (k m n : ℕ) → w.cost ≡ moving (k + m) v.cost
       → w.capacity ≡ v.capacity → length w.items ≡ length v.items + k → m ≤ n → CostsAdding v w n
   adding-run v w k m n e same long few = record {
@@ -315,7 +315,7 @@ module _ {T A : Type 0} where
 -- in this module, the steps of `finish` work on lists of items of R, under the growth rule `rule`
 module _ (rule : Rule) (R : RattleType) {T A : Type 0} where
   -- if k items were placed into spare capacity, with k + m moves, and m ≤ n, then v and w satisfy
-  -- `HasTaken` with n moves of other items
+  -- `HasTaken` with at most n moves of old items
   pub taken-spare : (v w : Thin T A) (k m n : ℕ) (left : Count) → w.cost ≡ moving (k + m) v.cost
       → w.capacity ≡ v.capacity → length w.items ≡ length v.items + k → m ≤ n → w.alloc ≡ v.alloc
       → HasTaken rule R v w n left
@@ -339,7 +339,7 @@ module _ (rule : Rule) (R : RattleType) {T A : Type 0} where
     };
   }
 
-  -- if nothing changed, v and w satisfy `HasTaken`
+  -- if w equals v, `HasTaken` holds for v and w
   pub taken-none : (v w : Thin T A) (n : ℕ) (left : Count) → w ≡ v → HasTaken rule R v w n left
   taken-none v w n left e =
       taken-spare v w 0 0 n left (ap (λ z. z.cost) e ∙ moving-zero v.cost)
@@ -348,7 +348,7 @@ module _ (rule : Rule) (R : RattleType) {T A : Type 0} where
 
   module _ (law : KeepsLaw rule) where
     -- if v grew to the ruled capacity for h more items, and h is at most the number of items that
-    -- the iterator has left, then v and w satisfy `HasTaken` with no move of other items
+    -- the iterator has left, then v and w satisfy `HasTaken` with no move of old items
     pub taken-reserved : (v w : Thin T A) (h : ℕ) (left : Count)
         → capacity_for rule R v h ≡ Some w.capacity → w.items ≡ v.items → w.alloc ≡ v.alloc
         → w.cost ≡ cost_at v w.capacity → (IsCheap v → IsCheap w) → h ≤ size left
@@ -362,8 +362,8 @@ module _ (rule : Rule) (R : RattleType) {T A : Type 0} where
       cheap = cheap;
     }
 
-    -- If v and u satisfy `HasTaken` with m moves of other items, u and w satisfy it with n, and m +
-    -- n ≤ k, then v and w satisfy it with k.
+    -- If v and u satisfy `HasTaken` with at most m moves of old items, and u and w satisfy it with
+    -- at most n, then v and w satisfy it with at most k, where k is at least m + n.
     pub taken-join : (v u w : Thin T A) (m n k : ℕ) (left more : Count) → m + n ≤ k
         → length v.items ≤ length u.items
         → (HasRoomFor v (size left) → u.capacity ≡ v.capacity → HasRoomFor u (size more))
