@@ -2,8 +2,8 @@
 //!
 //! Pass it by reference, as `&Refusing<Global>`: a reference to an allocator is itself an
 //! allocator, and it is `Copy`. A request is a call of `allocate`, `grow` or `shrink`, so each
-//! growth of a list is one request. `grow` and `shrink` call those of `inner`, which may resize a
-//! block in place.
+//! growth of a list is one request. `grow` and `shrink` call the same methods of `inner`, which may
+//! resize a block in place.
 //!
 //! `blocks` counts the blocks that are allocated and not yet freed. So a test can detect a leak,
 //! although no contract says that a list frees its block. A block that is grown or shrunk still
@@ -16,9 +16,9 @@
 use std::alloc::{AllocError, Allocator};
 use std::cell::Cell;
 
-// What a `Refusing` counts: `requests` made so far, and `blocks` allocated and not yet freed.
-// `refused` is the number of the request that is refused, counting from 1. If `refused` is 0, no
-// request is refused.
+// What a `Refusing` counts: the `requests` since it was made, or since the last call of `refuse`,
+// and the `blocks` that are allocated and not yet freed. `refused` is the number of the request
+// that is refused, counting from 1. If `refused` is 0, no request is refused.
 #[derive(Drop)]
 struct Counts {
     requests: Cell<u64>,

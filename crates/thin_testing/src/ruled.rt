@@ -1,6 +1,6 @@
 //! The growth rules written a second time, as functions on numbers. Tests use these functions to
-//! compute the capacities that they expect. Unlike a rule, a function never refuses a capacity as
-//! too large.
+//! compute the capacities that they expect. Unlike a rule, such a function has no upper limit: it
+//! never refuses a capacity as too large.
 use crate::multiples::{Fourfold, Threefold};
 use thin_vec::{Doubling, Growth, PowerBytes};
 

@@ -1,4 +1,4 @@
--- Lemmas about which items stay after each was tested against the last item kept so far, and about
+-- Lemmas about which items stay if each item is tested against the last item kept so far, and about
 -- how the results of consecutive tests combine. Throughout, R is the relation of the closure, and
 -- s, t and u are states of the closure.
 use Rattle.std.proofs.Common.{◌≡◌, ℕ, zero, suc, ◌+◌, ◌<◌, ◌≤◌, Bool, true, false, List, [], ◌∷◌, ◌++◌, length, take, drop, refl, sym, ap, subst, ◌∙◌, arith, inl, inr, append_assoc}
@@ -297,7 +297,8 @@ module _ {S T : Type 0} (R : OnPairs S T) where
   -- ---- open blocks
 
   module _ {A : Type 0} (v w : Open T A) where
-    -- w is v with this front and this cost; in addition, only the gap and the middle run may differ
+    -- `Moved front cost` holds if w is v with this front and this cost. In addition, only the gap
+    -- and the middle run of w may differ from those of v.
     abbrev Moved : List T → Cost → Type 0
     Moved front cost = w ≡ record v
         { front = front; gap = w.gap; rest = w.rest; cost = cost }

@@ -57,8 +57,8 @@ all-repeated {T} clones x n m ys cloned = All-from_recursion (clones x) ys (each
     each (suc n) (suc m) (y ∷ ys) e = (e.0, each n m ys e.1)
 
 module _ {T : Type 0} (clones : T → T → Type 0) where
-  -- if every clone of x equals x, then appending n clones of x and x itself to xs is appending n +
-  -- 1 repetitions of x
+  -- if every clone of x equals x, then appending n clones of x and x itself to xs is the same as
+  -- appending n + 1 repetitions of x
   pub equal-repeated : (n m : ℕ) {x : T} {xs ys zs : List T} → CloneEquals clones x
       → AppendsRepeats clones x n xs ys → zs ≡ ys ++ x ∷ [] → m ≡ n + 1 → zs ≡ xs ++ replicate m x
   equal-repeated n m {x} {xs} equal repeats last one =
@@ -76,8 +76,8 @@ module _ {T : Type 0} (clones : T → T → Type 0) where
       each [] e = refl
       each (y ∷ ys) e = λ i. equal y e.0 i ∷ each ys e.1 i
 
--- if v is a new list, the capacity that the rule chooses for v to reach the length k is its choice
--- for k items and the old capacity 0
+-- if v is a new list, the rule chooses the same capacity for v to reach the length k as for a list
+-- of capacity 0 to hold k items
 pub capacity-new : {T A : Type 0} (rule : Rule) (R : RattleType) (v : Thin T A) (a : A) (k : ℕ)
     → IsNew v a → capacity_for rule R v (k - length v.items) ≡ ruled_capacity rule R 0 k
 capacity-new rule R v a k new =

@@ -56,8 +56,8 @@ module _ {S X : Type 0} (steps : S → Option X → S → Type 0) where
       → WholeRun steps s (λ p. P p.items)
   run_of s P all = (run steps s all.0 true (to_end steps s all.0 all.1), refl, refl, all.2)
 
-  -- If `Ok` implies that calls of `next` yielded items for which P holds, and then `None`, then
-  -- `Ok` implies that there is a whole run (`WholeRun`) for whose items P holds.
+  -- for a result that is `Ok`: if calls of `next` yielded items for which P holds, and then `None`,
+  -- there is a whole run (`WholeRun`) for whose items P holds
   pub run_of_ok : {E : Type 0} (s : S) (P : List X → Type 0) (r : Result (Unit {0}) E)
       → OnOk r ((xs : List X) × Drains steps s xs × P xs)
       → OnOk r (WholeRun steps s (λ p. P p.items))
@@ -73,7 +73,7 @@ module _ {S X : Type 0} (steps : S → Option X → S → Type 0) (s : S) where
   run_given xs o t P gave h =
       (run steps s (xs ++ option_to_list o) false (t, gave, λ e. absurd (false≢true e)), refl, h)
 
-  -- if a result is an error, and calls of `next` yielded the placed items and then the item in
+  -- for a result that is an error: if calls of `next` yielded the placed items and then the item in
   -- hand, if there is one, these calls are a run of the iterator (`SomeRun`)
   pub run_given_err : {E : Type 0} (can : S → Type 0) (remaining : S → Count)
       (hand : E → Option X) (rest : E → S) (P : List X → Type 0) (r : Result (Unit {0}) E)
@@ -97,8 +97,8 @@ match-some P Q None some p = absurd (false≢true some)
 pub hand-empty : {X : Type 0} {o : Option X} → IsSome o → o ≡ None → ⊥
 hand-empty some none = false≢true (subst IsSome none some)
 
--- if a result that is an error has an item in hand, and P holds if the result is an error, then
--- `MatchOption error.in_hand (Q error) (λ _. P)` holds for the error
+-- for a result that is an error: if the error has an item in hand, and P holds, then `MatchOption
+-- error.in_hand (Q error) (λ _. P)` holds
 pub full-in-hand : {T S : Type 0} (P : Type 0) (Q : ExtendRefused T S → Type 0)
     (r : Result (Unit {0}) (ExtendRefused T S)) → IfErr r (λ error. IsSome error.in_hand)
     → OnErr r P → IfErr r (λ error. MatchOption error.in_hand (Q error) (λ _. P))

@@ -17,7 +17,8 @@ use Rattle.thin_block.proofs.Outcomes.{some-same}
 use Rattle.thin_vec.proofs.OpenBlockLemmas.{Found, at_rest, by_rest, empty-more, first-of, found, past_rest, to_rest}
 use Rattle.thin_vec.proofs.ListLemmas.{length-full}
 
--- a list with more than k items consists of k items, the item at k, and the items after it
+-- a list with more than k items consists of its first k items, the item at index k, and the items
+-- after that item
 pub split-at : {X : Type 0} (xs : List X) (k : ℕ) → k < length xs → (pre : List X) × (x : X)
     × (post : List X) × (length pre ≡ k) × (xs ≡ pre ++ x ∷ post)
 split-at [] k low = absurd (omega arith)

@@ -45,7 +45,7 @@ returns-then-rest_len-gt0-clause-dedups g c =
     c.test_pairs-kept.new.self.rest r goes.0 (run-count R _ _ _ _ _ r (false ∷ []) refl goes.1)
     (search rules) (search rules)
 
--- if all items stay, `Dedups` holds: they are all moved to the front
+-- if all items stay, `Dedups` holds: all items are moved to the front
 pub returns-else-rest_len-gt0-clause-dedups : goal.returns-else-rest_len-gt0-clause-dedups
 returns-else-rest_len-gt0-clause-dedups g c =
     let R = g.J.PairTest.tests in

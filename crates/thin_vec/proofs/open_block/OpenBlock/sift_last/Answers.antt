@@ -21,7 +21,7 @@ returns-else-advance_last-clause-sifts g c =
     (none-left c.advance_last.new.self.rest
     (λ some. false≢true (sym c.if-advance_last.false ∙ c.advance_last.ensures.goes.1 some)))
 
--- if an item is removed, it was the only one, so no item is left to test
+-- if an item is removed, it was the last item of the middle run, so no item is left to test
 pub returns-then-advance_last-clause-rest : goal.returns-then-advance_last-clause-rest
 returns-then-advance_last-clause-rest g c =
     let few = advanced-count g.J.Test.tests c.args.test.now c.advance_last.new.test c.args.self.now

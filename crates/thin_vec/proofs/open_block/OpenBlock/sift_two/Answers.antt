@@ -27,7 +27,7 @@ returns-then-advance_two-clause-less g c =
     c.advance_two.new.self c.requires.gap c.advance_two.ensures.advances in
     omega (arith, few, ap length c.take_first.ensures.rest)
 
--- if no item is removed, fewer items are left to test than before: none of at least two
+-- if no item is removed, no item is left to test, and at least two were left before
 pub returns-else-advance_two-clause-less : goal.returns-else-advance_two-clause-less
 returns-else-advance_two-clause-less g c =
     let none = none-left c.advance_two.new.self.rest
