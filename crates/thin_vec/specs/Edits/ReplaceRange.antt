@@ -32,7 +32,7 @@ pub record MovesAtMost (n : ℕ) (before after : Cost) : Type 0 where
   pub few : moves ≤ n
   pub cost : after ≡ moving moves before
 
--- The cost of the list `w` is the cost that the list `v` has after its capacity was changed to that
--- of `w`, with at most `n` more moves.
+-- The cost of the list `w` is the cost of the list `v` after a change to the capacity of `w`, with
+-- at most `n` more moves.
 abbrev pub CostsAtMost : {T A : Type 0} → ℕ → Thin T A → Thin T A → Type 0
 CostsAtMost n v w = MovesAtMost n (cost_at v w.capacity) w.cost
