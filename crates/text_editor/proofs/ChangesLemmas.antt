@@ -26,8 +26,8 @@ module _ (change : Change) (n : ℕ) (text new : List ℕ) (fits : Fits change t
         length-append front change.characters.items,
       )
 
-  -- if `old` are the characters that the change replaced, then replacing the inserted characters
-  -- with `old` restores the text before the change
+  -- if `old` is the list of characters that the change replaced, then replacing the inserted
+  -- characters with `old` restores the text before the change
   pub takes_back : (old : List ℕ) → old ≡ slice_range text change.start change.end
       → text ≡ replace_range new change.start (change.start + n) old
   takes_back old is =

@@ -10,7 +10,7 @@ use Rattle.thin_rows.specs.Entries.{IsGapFor, IsPlaceOf, IsRising}
 use Rattle.thin_rows.proofs.EntriesLemmas.{find_at, find_gap, put_at, put_gap, stays, without_at, without_gap}
 
 -- if the columns q and k compare as equal, then removing the entry of column c keeps the entries of
--- both, or of neither
+-- both q and k, or of neither
 alike : (c q k : ℕ) → nat_cmp q k ≡ Equal → stays c k ≡ stays c q
 alike c q k e = ap (stays c) (sym (ranked q k Equal (sym e)))
 

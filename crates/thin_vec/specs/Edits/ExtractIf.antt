@@ -33,8 +33,8 @@ module _ {T F A : Type 0} (R : F → T → Bool → F → T → Type 0) where
     pub cost : new.block.cost ≡ (if old.block.gap == 0 then old.block.cost else moving
         (length kept) old.block.cost)
 
--- The definitions in this module are about an `ExtractIf` with the default holder, `Holder`. Users
--- get no other.
+-- These definitions are about an `ExtractIf` whose holder is a `Holder`: the method `extract_if`
+-- returns no other.
 module _ {T F A G : Type 0} {g : Ghosts G}
     {h : HoldsGhosts (Holder (Extracting T F A)) (Extracting T F A)} where
   -- the items before the range, and the tested items that were kept, as the closure left them

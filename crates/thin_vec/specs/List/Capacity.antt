@@ -1,12 +1,13 @@
--- What the calls that may grow a list state of its capacity, its cost and their error. Throughout,
--- v is the list before the call, w the list after it, k the number of further items for which the
--- call needs room, R the type of the items, and r the result of the call. (std: `Vec::reserve`)
+-- What the contracts of calls that may grow a list say about its capacity, its cost and the error.
+-- Throughout, v is the list before the call, w is the list after it, k is the number of further
+-- items for which the call needs room, R is the type of the items, and r is the result of the call.
+-- (std: `Vec::reserve`)
 --
 -- The ruled capacity for k further items is `capacity_for rule R v k`. It is the old capacity if v
--- has room for them. Otherwise it is what the growth rule of the list gives: by default, twice the
--- old capacity (4 if the old one is 0), or the number of items if that is more. Every rule gives at
--- least twice the old capacity and at least the number of items (`KeepsLaw`). It is `None` if it
--- would be too large for a block.
+-- has room for k further items. Otherwise it is what the growth rule of the list gives: by default,
+-- twice the old capacity (4 if the old capacity is 0), or the number of items if that is more.
+-- Every rule gives at least twice the old capacity and at least the number of items (`KeepsLaw`).
+-- The ruled capacity is `None` if it would be too large for a block.
 use Rattle.std.specs.Prelude.{◌≡◌, ◌↔◌, ◌⊎◌, ℕ, ◌≤◌, IsErrOf, OnErr, OnOk, Option, Result}
 use Rattle.std.specs.declared.option.Option.TheVariants.{None, Some}
 use Rattle.std.specs.declared.result.Result.TheVariants.{Ok, Err}
@@ -51,10 +52,11 @@ module _ {T A : Type 0} where
       {X : Type 0} (r : Result X ThinVecError) : Type 0 where
     -- if v has room for k further items, the capacity does not change
     pub had_room : HasRoomFor v k → w.capacity ≡ v.capacity
-    -- on success, the capacity is the ruled one for k further items
+    -- on success, the capacity is the ruled capacity for k further items
     pub ok : OnOk r (capacity_for rule R v k ≡ Some w.capacity)
-    -- On failure, the list is unchanged, or it has grown to the ruled capacity for k further items,
-    -- and then a clone failed. (The clause `err` of each call says when the list is unchanged.)
+    -- On failure, the list is unchanged, or a clone failed after the list had grown to the ruled
+    -- capacity for k further items. (The clause `err` of each call says when the list is
+    -- unchanged.)
     pub err : OnErr r ((w ≡ v) ⊎ (capacity_for rule R v k ≡ Some w.capacity))
     -- The error is `CapacityOverflow` if and only if there is no ruled capacity for k further
     -- items. There are only two kinds of error, so any other failure is `OutOfMemory`.

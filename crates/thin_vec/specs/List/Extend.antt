@@ -127,8 +127,8 @@ module _ {T A : Type 0} where
   -- may yield
   pub record IsExtendCause {S : Type 0} (rule : Rule) (R : RattleType) (w : Thin T A)
       (left : Count) (error : ExtendRefused T S) : Type 0 where
-    -- if an item is in hand, the cause is `CapacityOverflow` if and only if there is no ruled
-    -- capacity for one more item
+    -- if an item is in hand (drawn from the iterator, but not added to the list), the cause is
+    -- `CapacityOverflow` if and only if there is no ruled capacity for one more item
     pub by_push : IsSome error.in_hand
         → (error.cause ≡ CapacityOverflow) ↔ (capacity_for rule R w 1 ≡ None)
     -- if no item is in hand, room for the size hint could not be reserved
@@ -137,8 +137,8 @@ module _ {T A : Type 0} where
   -- why `from_iter` failed; `left` bounds how many items the rest of the iterator may yield
   pub record IsCollectCause {S : Type 0} (rule : Rule) (R : RattleType) (left : Count)
       (error : CollectRefused T S A) : Type 0 where
-    -- if an item is in hand, the cause is `CapacityOverflow` if and only if there is no ruled
-    -- capacity for one more item
+    -- if an item is in hand (drawn from the iterator, but not added to the list), the cause is
+    -- `CapacityOverflow` if and only if there is no ruled capacity for one more item
     pub by_push : IsSome error.in_hand
         → (error.cause ≡ CapacityOverflow) ↔ (capacity_for rule R error.list 1 ≡ None)
     -- If no item is in hand, a block whose capacity is exactly the size hint h could not be
